@@ -1,3 +1,4 @@
 pub mod Wholes
 pub mod Readings
 pub mod Prefixes
+pub mod Spelt

@@ -7,3 +7,4 @@ pub mod Stream
 pub mod Route
 pub mod Refusal
 pub mod Record
+pub mod Spelling

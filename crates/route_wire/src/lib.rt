@@ -6,11 +6,13 @@ mod laws;
 mod record;
 mod refusal;
 mod route;
+mod spelling;
 mod stream;
 mod update;
 
 pub use framing::whole;
 pub use laws::{never_equally_new, newest_first};
 pub use record::read_one;
+pub use spelling::write;
 pub use stream::Whole;
 pub use update::{Addr6, Advert, Content, Ip, Key, Register, Update, Value};
