@@ -2,3 +2,4 @@ pub mod Wholes
 pub mod Readings
 pub mod Prefixes
 pub mod Spelt
+pub mod Streams

@@ -1,11 +1,11 @@
 -- What stands behind a record changes nothing of it.
-use Rattle.std.proofs.Common.{◌≡◌, ℕ, ◌+◌, ◌<◌, ◌≤◌, Bool, true, false, not, ◌&&◌, ◌||◌, nat_lt, cond, List, length, get_or, take, drop, slice_index, Option, Some, None, refl, sym, ap, ◌∙◌, arith, lit<}
+use Rattle.std.proofs.Common.{◌≡◌, ℕ, ◌+◌, ◌<◌, ◌≤◌, false, nat_lt, cond, List, length, take, slice_index, None, sym, ap, ◌∙◌, arith, lit<}
 use Rattle.std.proofs.lemmas.Bool.{lt-ltb}
 use Rattle.std.proofs.lemmas.Bool.Decides.{nat_tests}
 use Rattle.std.proofs.lemmas.List.{length-take-le, get_or-take, get_or-drop}
 use Rattle.route_wire.specs.declared.stream.Whole.{Whole}
 use Rattle.route_wire.specs.declared.stream.Whole.TheVariants.{Rest, Fault, Length}
-use Rattle.route_wire.specs.Stream.{first_of, follow_of, fault_of, whole_or_rest, whole_up_to, whole_of, IsWhole, FindsWhole}
+use Rattle.route_wire.specs.Stream.{follow_of, fault_of, whole_or_rest, whole_up_to, whole_of, FindsWhole}
 use Rattle.route_wire.proofs.Wholes.{ends_whole, found_long}
 
 -- two streams that begin with the same six octets show the same fault

@@ -1,5 +1,5 @@
 -- What is written is read again.
-use Rattle.std.proofs.Common.{◌≡◌, ℕ, ◌+◌, ◌%◌, ◌<◌, ◌≤◌, ◌^◌, Bool, true, false, not, ◌&&◌, ◌||◌, ◌==◌, cond, List, [], ◌∷◌, ◌++◌, Option, Some, None, Result, Ok, refl, sym, ap, subst, ◌∙◌, eq-eqb, arith, length, length-append}
+use Rattle.std.proofs.Common.{◌≡◌, ℕ, ◌%◌, ◌<◌, ◌^◌, Bool, true, false, not, ◌||◌, ◌==◌, cond, List, [], ◌∷◌, ◌++◌, Option, Some, None, Ok, refl, sym, ap, subst, ◌∙◌, eq-eqb, arith, length, length-append}
 use Rattle.std.proofs.Math.Seq.{take-append_seam, drop-append_seam}
 use Rattle.std.proofs.Math.ListN.{get_or-append}
 use Rattle.std.proofs.lemmas.Bool.Decides.{nat_tests}
@@ -19,8 +19,8 @@ use Rattle.route_wire.specs.Fields.{Fields, IsUpdate, flood_advert}
 use Rattle.route_wire.specs.Order.{vni_of}
 use Rattle.route_wire.specs.Stream.{first_of, IsWhole}
 use Rattle.route_wire.specs.Refusal.{refusal_tests}
-use Rattle.route_wire.specs.Record.{header_of, route_of, update_of, reading, Spells, Reads}
-use Rattle.route_wire.specs.Spelling.{mac_route, flood_route, community, mobility, route_octets, kind_of, record_octets, IpFits, Label2Fits, RouteFits}
+use Rattle.route_wire.specs.Record.{header_of, update_of, reading, Spells, Reads}
+use Rattle.route_wire.specs.Spelling.{mac_route, flood_route, route_octets, kind_of, record_octets, IpFits, Label2Fits, RouteFits}
 use Rattle.route_wire.proofs.Wholes.{AllUnmet, found_long}
 use Rattle.route_wire.proofs.Prefixes.{whole_again}
 use Rattle.route_wire.proofs.Readings.{spelt}
@@ -61,9 +61,11 @@ module _ (o incarnation counter vni : ℕ) (ho : o < 2 ^ 32) (hi : incarnation <
       λ i. record { version = 3; is_withdrawal = kind == 2; originator = eo i; incarnation = ei i; counter = ec i; vni = ev i }
 
   spells : (kind : ℕ) (route : List ℕ) (u : Fields) → IsWhole (octets kind route) → AllUnmet (refusal_tests (header (kind == 2)) route) → update_of (header (kind == 2)) route ≡ u → Spells (octets kind route) u
-  spells kind route u w unmet e =
-      (w, sym (spelt (octets kind route) route (header (kind == 2)) u (sym (header_again kind route)) refl
-        (sym (none_of (refusal_tests (header (kind == 2)) route) unmet)) (sym e)))
+  spells kind route u w unmet e = (
+    w,
+    sym (spelt (octets kind route) route (header (kind == 2)) u (sym (header_again kind route)) refl
+        (sym (none_of (refusal_tests (header (kind == 2)) route) unmet)) (sym e)),
+  )
 
   same_originator : (big_number 4 (big_bytes 4 o ++ []) == o) ≡ true
   same_originator = let e = big_number-reads_back 4 o [] ho in eq-eqb (big_number 4 (big_bytes 4 o ++ [])) o e

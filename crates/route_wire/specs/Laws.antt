@@ -1,9 +1,11 @@
--- What is promised of newer and older updates.
-use Rattle.std.specs.Prelude.{◌≡◌, false}
+-- What is promised of newer and older updates, and of records that follow each other.
+use Rattle.std.specs.Prelude.{◌≡◌, ℕ, false, List, [], ◌++◌, Result}
 use Rattle.std.specs.Cmp.{IsTotalOrder}
 use Rattle.std.specs.FinMap.{IsAntisymmetric}
 use Rattle.route_wire.specs.Fields.{Fields}
 use Rattle.route_wire.specs.Order.{value_cmp, is_newer}
+use Rattle.route_wire.specs.Stream.{IsWhole}
+use Rattle.route_wire.specs.Record.{AnswersUpTo}
 
 -- two updates of a register of which neither is newer are the same
 abbrev pub NeverEquallyNew : Type 0
@@ -12,3 +14,12 @@ NeverEquallyNew = (u v : Fields) → u.register ≡ v.register → is_newer u.va
 -- values are totally ordered, and equal in that order only where they are the same
 abbrev pub NewestFirst : Type 0
 NewestFirst = IsTotalOrder value_cmp × IsAntisymmetric value_cmp
+
+-- a whole record that begins with a whole record is that record
+abbrev pub NoRecordBeginsAnother : Type 0
+NoRecordBeginsAnother = (bytes more : List ℕ) → IsWhole bytes → IsWhole (bytes ++ more) → more ≡ []
+
+-- two readings of a stream to its end are the same
+abbrev pub OneReading : Type 0
+OneReading = (newest : ℕ) (stream : List ℕ) (answers others : List (Result Fields ℕ)) (rest last : List ℕ)
+    → AnswersUpTo newest stream answers rest → AnswersUpTo newest stream others last → (answers ≡ others) × (rest ≡ last)

@@ -1,4 +1,4 @@
-ghost use Rattle.route_wire.specs.Laws.{NeverEquallyNew, NewestFirst};
+ghost use Rattle.route_wire.specs.Laws.{NeverEquallyNew, NewestFirst, NoRecordBeginsAnother, OneReading};
 
 /// Of two different updates of a register one is newer than the other.
 pub fn never_equally_new()
@@ -8,4 +8,14 @@ pub fn never_equally_new()
 /// Values of a register are totally ordered, and equal in that order only where they are the same.
 pub fn newest_first()
     ensures { NewestFirst }
+{}
+
+/// No whole record is a proper beginning of another one.
+pub fn no_record_begins_another()
+    ensures { NoRecordBeginsAnother }
+{}
+
+/// A stream has one list of answers, and one rest.
+pub fn one_reading()
+    ensures { OneReading }
 {}

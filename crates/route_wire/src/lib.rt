@@ -11,7 +11,7 @@ mod stream;
 mod update;
 
 pub use framing::whole;
-pub use laws::{never_equally_new, newest_first};
+pub use laws::{never_equally_new, newest_first, no_record_begins_another, one_reading};
 pub use record::read_one;
 pub use spelling::write;
 pub use stream::Whole;

@@ -76,13 +76,7 @@ fn ip_len(ip: Option<Ip>) -> u8
 {
     match ip {
         None => 0,
-        Some(ip) => {
-            if ip.version() == 4 {
-                4
-            } else {
-                16
-            }
-        }
+        Some(ip) => { if ip.version() == 4 { 4 } else { 16 } }
     }
 }
 
@@ -117,7 +111,14 @@ fn put_label2(out: &mut Octets, label2: Option<Vni>)
     }
 }
 
-fn put_mac_route(out: &mut Octets, originator: Addr, vni: Vni, mac: Mac, ip: &Option<Ip>, label2: &Option<Vni>)
+fn put_mac_route(
+    out: &mut Octets,
+    originator: Addr,
+    vni: Vni,
+    mac: Mac,
+    ip: &Option<Ip>,
+    label2: &Option<Vni>,
+)
     requires { array_vec_len out.old + 54 ≤ 518 }
     ensures items { out.new.items ≡ out.old.items ++ mac_route originator vni mac ip.now label2.now }
     ensures len { array_vec_len out.new ≤ array_vec_len out.old + 54 }
@@ -187,7 +188,14 @@ fn route(register: &Register, content: &Content) -> Octets
     match register.key {
         Key::Flood(_) => put_flood_route(&mut out, register.originator),
         Key::Mac(vni, mac, ip) => {
-            put_mac_route(&mut out, register.originator, vni, mac, &ip, &label2_in(content));
+            put_mac_route(
+                &mut out,
+                register.originator,
+                vni,
+                mac,
+                &ip,
+                &label2_in(content),
+            );
             put_mobility(&mut out, content);
         }
     }

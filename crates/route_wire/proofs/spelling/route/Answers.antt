@@ -1,6 +1,6 @@
-use Rattle.std.proofs.Common.{rules, ℕ, ◌<◌, ◌^◌, sym, subst}
+use Rattle.std.proofs.Common.{sym, subst}
 use Rattle.route_wire.specs.declared.update.Key.{Key}
-use Rattle.route_wire.specs.Order.{label2_of, sequence_of}
+use Rattle.route_wire.specs.Order.{label2_of}
 use Rattle.route_wire.specs.Spelling.{RouteFits, Label2Fits}
 use Rattle.route_wire.proofs.spelling.route.Goals as goal
 

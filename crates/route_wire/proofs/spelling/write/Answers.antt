@@ -24,7 +24,7 @@ spells_as : (u : Fields) (r : Register) (v : Value) (items : List ℕ) → items
 spells_as u r v items e er ev ho hi hc hv fits good =
     let own : ◌≡◌ {A = Fields} (record { register = r; value = v }) u = (λ i. record { register = er i; value = ev i }) in
     subst (λ (f : Fields). Spells items f) own (subst (λ (bytes : List ℕ). Spells bytes (record { register = r; value = v })) (sym e)
-      (written r.originator v.incarnation v.counter r.key v.content ho hi hc hv fits (subst IsUpdate (sym own) good)))
+    (written r.originator v.incarnation v.counter r.key v.content ho hi hc hv fits (subst IsUpdate (sym own) good)))
 
 pub spelt_items : (c : goal.After-record) → c.record.result.items ≡ record_of c.register-register.result c.value-value.result (own_route c.register-register.result c.value-value.result)
 spelt_items c = c.record.ensures.items ∙ ap (record_of c.register-register.result c.value-value.result) (c.as_slice.ensures.value ∙ c.route-route.ensures.items)
