@@ -16,3 +16,6 @@ pub use record::read_one;
 pub use spelling::write;
 pub use stream::Whole;
 pub use update::{Addr6, Advert, Content, Ip, Key, Register, Update, Value};
+
+#[cfg(test)]
+mod tests;
