@@ -3,3 +3,5 @@ pub mod Readings
 pub mod Prefixes
 pub mod Spelt
 pub mod Streams
+pub mod Unfinished
+pub mod Feeding

@@ -26,7 +26,7 @@ same_follow s t at =
     let d1 = get_or-drop 4 t 1 0 ∙ at 5 (lit< tt) ∙ sym (get_or-drop 4 s 1 0) in
     cc
 
-not_less : (a b : ℕ) → b ≤ a → nat_lt a b ≡ false
+pub not_less : (a b : ℕ) → b ≤ a → nat_lt a b ≡ false
 not_less a b h = grind (arith, nat_tests)
 
 pub is_whole : (newest : ℕ) (t : List ℕ) → fault_of newest t ≡ None → 6 ≤ length t → 6 + follow_of t ≤ length t → whole_up_to newest t ≡ Length (6 + follow_of t)

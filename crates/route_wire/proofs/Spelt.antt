@@ -25,7 +25,7 @@ use Rattle.route_wire.proofs.Wholes.{AllUnmet, found_long}
 use Rattle.route_wire.proofs.Prefixes.{whole_again}
 use Rattle.route_wire.proofs.Readings.{spelt}
 
-none_of : (tests : List (Bool × ℕ)) → AllUnmet tests → first_of tests ≡ None
+pub none_of : (tests : List (Bool × ℕ)) → AllUnmet tests → first_of tests ≡ None
 none_of [] u = refl
 none_of (test ∷ tests) u = ap (λ b. cond b (Some test.1) (first_of tests)) u.0 ∙ none_of tests u.1
 

@@ -8,3 +8,4 @@ pub mod Route
 pub mod Refusal
 pub mod Record
 pub mod Spelling
+pub mod Feed
