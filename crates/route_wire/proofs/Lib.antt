@@ -5,3 +5,4 @@ pub mod Spelt
 pub mod Streams
 pub mod Unfinished
 pub mod Feeding
+pub mod Cuttings

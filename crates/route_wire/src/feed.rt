@@ -100,7 +100,7 @@ fn answer(reading: Result<Update, u8>) -> Next
 }
 
 impl Feed {
-    ghost use Rattle.std.specs.Prelude.{Result};
+    ghost use Rattle.route_wire.specs.declared.stream.Next.TheVariants.{More};
     ghost use Rattle.route_wire.specs.Feed.{shown, Feeds, next_of, after_next, end_of, added, HasRead};
 
     /// A feed of records of all versions.
@@ -128,6 +128,7 @@ impl Feed {
     /// Takes octets from the piece until a record or a fault is whole or the piece ends, and tells
     /// how many. After a fault it takes all. While a whole record is held it takes none.
     pub fn feed(&mut self, piece: &[u8]) -> usize
+        ensures fits { result ≤ length piece.now }
         ensures feeds { Feeds self.old self.new piece.now result }
         ensures read { (stream : List ℕ) (answers : List (Result Fields ℕ)) → HasRead self.old stream answers → HasRead self.new (stream ++ take result piece.now) answers }
     {
@@ -143,6 +144,7 @@ impl Feed {
     pub fn next(&mut self) -> Next
         ensures value { result ≡ next_of self.old }
         ensures after { self.new ≡ after_next self.old }
+        ensures more { result ≡ More → is_rest (shown self.new) ≡ true }
         ensures read { (stream : List ℕ) (answers : List (Result Fields ℕ)) → HasRead self.old stream answers → HasRead self.new stream (answers ++ added result) }
     {
         match whole_in(self.newest, self.held.as_slice()) {

@@ -1,4 +1,4 @@
-ghost use Rattle.route_wire.specs.Laws.{NeverEquallyNew, NewestFirst, NoRecordBeginsAnother, OneReading};
+ghost use Rattle.route_wire.specs.Laws.{NeverEquallyNew, NewestFirst, NoRecordBeginsAnother, OneReading, EveryCutting, CuttingsAgree};
 
 /// Of two different updates of a register one is newer than the other.
 pub fn never_equally_new()
@@ -19,3 +19,15 @@ pub fn no_record_begins_another()
 pub fn one_reading()
     ensures { OneReading }
 {}
+
+/// However a stream is cut into pieces, a feed gives the stream's answers and shows its end.
+pub fn every_cutting()
+    ensures { EveryCutting }
+{
+}
+
+/// All cuttings of a stream give the same answers and the same end.
+pub fn cuttings_agree()
+    ensures { CuttingsAgree }
+{
+}

@@ -13,7 +13,10 @@ mod update;
 
 pub use feed::Feed;
 pub use framing::whole;
-pub use laws::{never_equally_new, newest_first, no_record_begins_another, one_reading};
+pub use laws::{
+    cuttings_agree, every_cutting, never_equally_new, newest_first, no_record_begins_another,
+    one_reading,
+};
 pub use record::read_one;
 pub use spelling::write;
 pub use stream::{Next, Truncated, Whole};
