@@ -16,15 +16,9 @@ use Rattle.route_join.specs.declared.table.TakeError.{TakeError}
 use Rattle.route_join.specs.declared.table.TakeError.TheVariants.{UnknownOriginator, NoMemory}
 use Rattle.route_join.specs.Taken.{taken_of}
 use Rattle.route_join.specs.Place.{place_of}
+use Rattle.route_join.proofs.Orders.{to_T, from_T}
 use Rattle.route_join.proofs.Tables.{same_or_other, at_same, at_other}
 use Rattle.route_join.proofs.Places.{IsPlace, IsGap, placed, gapped}
-
-pub to_T : (b : Bool) → b ≡ true → T b
-to_T b e = subst T (sym e) tt
-
-pub from_T : (b : Bool) → T b → b ≡ true
-from_T true t = refl
-from_T false t = absurd t
 
 -- what a table finds among its updates
 pub found : (os : List ℕ) (us : List Fields) (q : Register) → IsOrdered us → value_at (table_from os us) q ≡ find register_cmp q (entries_of us)
@@ -42,7 +36,7 @@ module _ (os : List ℕ) (us new : List Fields) (u : Fields) (s : IsOrdered us) 
   -- and the table has the value
   pub table_put : table_from os new ≡ with_value (table_from os us) u.register u.value
   table_put = ap (λ m. record { originators = os; registers = m }) (map.same_entries_map _ _ (listed_as os new ordered_put ∙ e
-    ∙ ap (put register_cmp u.register u.value) (sym (listed_as os us s)) ∙ sym (map.entries-insert register_total (table_from os us).registers u.register u.value)))
+      ∙ ap (put register_cmp u.register u.value) (sym (listed_as os us s)) ∙ sym (map.entries-insert register_total (table_from os us).registers u.register u.value)))
 
 -- a value of a listed originator keeps all registers to listed ones
 listed_put : (t : Table) (r : Register) (v : Value) → is_listed t r.originator ≡ true → IsListed t → IsListed (with_value t r v)

@@ -37,7 +37,7 @@ at_front v us q at z e = subst (IsPlace (v ∷ us) q) z record {
   register = λ d. sym (register_exact q v.register e);
   value = λ d. ap (λ o. cond (is_eq o) (Some v.value) (find register_cmp q (entries_of us))) e;
   write = λ u r. ap (λ k. (k, u.value) ∷ entries_of us) (r ∙ register_exact q v.register e)
-    ∙ sym (ap (λ o. by_order o ((q, u.value) ∷ (v.register, v.value) ∷ entries_of us) ((v.register, u.value) ∷ entries_of us) ((v.register, v.value) ∷ put register_cmp q u.value (entries_of us))) e);
+      ∙ sym (ap (λ o. by_order o ((q, u.value) ∷ (v.register, v.value) ∷ entries_of us) ((v.register, u.value) ∷ entries_of us) ((v.register, v.value) ∷ put register_cmp q u.value (entries_of us))) e);
 }
 
 at_next : (v : Fields) (us : List Fields) (q : Register) (n at : ℕ) → at ≡ 1 + n → register_cmp q v.register ≡ Greater → IsPlace us q n → IsPlace (v ∷ us) q at
@@ -49,7 +49,7 @@ at_next v us q n at z e g =
       register = g.register;
       value = λ d. ap (λ o. cond (is_eq o) (Some v.value) (find register_cmp q (entries_of us))) e ∙ g.value d;
       write = λ u r. ap (λ x. (v.register, v.value) ∷ x) (g.write u r)
-        ∙ sym (ap (λ o. by_order o ((q, u.value) ∷ (v.register, v.value) ∷ entries_of us) ((v.register, u.value) ∷ entries_of us) ((v.register, v.value) ∷ put register_cmp q u.value (entries_of us))) e);
+          ∙ sym (ap (λ o. by_order o ((q, u.value) ∷ (v.register, v.value) ∷ entries_of us) ((v.register, u.value) ∷ entries_of us) ((v.register, v.value) ∷ put register_cmp q u.value (entries_of us))) e);
     }
 
 pub placed : (us : List Fields) (q : Register) (at : ℕ) → place_of us q ≡ Ok at → IsPlace us q at
@@ -91,7 +91,7 @@ gap_front v us q at z e s = subst (IsGap (v ∷ us) q) z record {
   within = omega arith;
   value = ap (λ o. cond (is_eq o) (Some v.value) (find register_cmp q (entries_of us))) e ∙ not_found q v.register (entries_of us) e (both (below_all register_cmp v.register (entries_of us)) (is_sorted register_cmp (entries_of us)) s).0;
   write = λ u r. ap (λ k. (k, u.value) ∷ (v.register, v.value) ∷ entries_of us) r
-    ∙ sym (ap (λ o. by_order o ((q, u.value) ∷ (v.register, v.value) ∷ entries_of us) ((v.register, u.value) ∷ entries_of us) ((v.register, v.value) ∷ put register_cmp q u.value (entries_of us))) e);
+      ∙ sym (ap (λ o. by_order o ((q, u.value) ∷ (v.register, v.value) ∷ entries_of us) ((v.register, u.value) ∷ entries_of us) ((v.register, v.value) ∷ put register_cmp q u.value (entries_of us))) e);
 }
 
 gap_next : (v : Fields) (us : List Fields) (q : Register) (n at : ℕ) → at ≡ 1 + n → register_cmp q v.register ≡ Greater → IsGap us q n → IsGap (v ∷ us) q at
@@ -102,7 +102,7 @@ gap_next v us q n at z e g =
       within = omega arith;
       value = ap (λ o. cond (is_eq o) (Some v.value) (find register_cmp q (entries_of us))) e ∙ g.value;
       write = λ u r. ap (λ x. (v.register, v.value) ∷ x) (g.write u r)
-        ∙ sym (ap (λ o. by_order o ((q, u.value) ∷ (v.register, v.value) ∷ entries_of us) ((v.register, u.value) ∷ entries_of us) ((v.register, v.value) ∷ put register_cmp q u.value (entries_of us))) e);
+          ∙ sym (ap (λ o. by_order o ((q, u.value) ∷ (v.register, v.value) ∷ entries_of us) ((v.register, u.value) ∷ entries_of us) ((v.register, v.value) ∷ put register_cmp q u.value (entries_of us))) e);
     }
 
 pub gapped : (us : List Fields) (q : Register) (at : ℕ) → IsOrdered us → place_of us q ≡ Err at → IsGap us q at

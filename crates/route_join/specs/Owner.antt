@@ -47,7 +47,7 @@ pub record IsOwner (t : Table) (vni mac o : ℕ) : Type 0 where
   pub advert : Advert
   pub own : advert_at t o (Mac vni mac ip) ≡ Some advert
   pub best : (p : ℕ) (j : Option Ip) (b : Advert) → register_of p (Mac vni mac j) ≢ register_of o (Mac vni mac ip) → advert_at t p (Mac vni mac j) ≡ Some b
-    → IsBetter advert (register_of o (Mac vni mac ip)) b (register_of p (Mac vni mac j))
+      → IsBetter advert (register_of o (Mac vni mac ip)) b (register_of p (Mac vni mac j))
 
 -- nobody advertises the address
 abbrev pub IsUnowned : Table → ℕ → ℕ → Type 0
@@ -82,6 +82,9 @@ abbrev pub best_among : ℕ → ℕ → List (Register × Value) → Option (Reg
 best_among vni mac [] best = best
 best_among vni mac (e ∷ es) best = best_among vni mac es (better_of e.0 (said_of vni mac e.0 e.1) best)
 
+abbrev pub owner_among : ℕ → ℕ → List (Register × Value) → Option ℕ
+owner_among vni mac es = option_map (λ (best : Register × Advert). best.0.originator) (best_among vni mac es None)
+
 -- the owner of the address, if anyone advertises it
 abbrev pub owner : Table → ℕ → ℕ → Option ℕ
-owner t vni mac = option_map (λ (best : Register × Advert). best.0.originator) (best_among vni mac (entries t.registers) None)
+owner t vni mac = owner_among vni mac (entries t.registers)

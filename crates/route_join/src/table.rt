@@ -6,7 +6,7 @@ ghost use Rattle.route_join.specs.Flood.{flood_of, IsFloodList};
 ghost use Rattle.route_join.specs.Taken.{taken_of, number_of};
 
 use crate::flood::flood_of;
-use crate::owner::best_of;
+use crate::owner::owner_of;
 use crate::place::place;
 use arrayvec::ArrayVec;
 use ether_wire::{Addr, Mac, Vni};
@@ -53,7 +53,6 @@ pub struct Table {
 
 impl Model for Table {
     ghost use Rattle.route_join.specs.Table.{Table as Registered, IsKept, table_from};
-
     ghost use Rattle.std.specs.Coded.{codes};
     ghost use Rattle.std.specs.FinMap.{code};
 
@@ -140,10 +139,7 @@ impl Table {
         ensures value { result ≡ owner self.now vni mac }
         ensures best { MatchOption result (IsUnowned self.now vni mac) (IsOwner self.now vni mac) }
     {
-        match best_of(&self.updates, vni, mac) {
-            None => None,
-            Some((register, _)) => Some(register.originator),
-        }
+        owner_of(&self.updates, vni, mac)
     }
 
     /// The originators that advertise a network's flood list (RFC 7432, section 7.3), ascending.
