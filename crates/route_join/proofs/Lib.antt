@@ -4,3 +4,4 @@ pub mod Places
 pub mod Edits
 pub mod Owners
 pub mod Floods
+pub mod Joins
