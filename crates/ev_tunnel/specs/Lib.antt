@@ -1,0 +1,4 @@
+pub mod Datagram
+pub mod Decision
+pub mod Place
+pub mod Ports

@@ -1,0 +1,5 @@
+pub mod Fields
+pub mod Order
+pub mod Totals
+pub mod Ties
+pub mod Laws

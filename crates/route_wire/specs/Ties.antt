@@ -1,0 +1,80 @@
+-- Registers that `==` tells apart are those that report order tells apart.
+use Rattle.std.proofs.Common.{◌≡◌, ◌==◌, ◌&&◌, Bool, true, false, Some, None, refl, sym, ap, ◌∙◌, eq-eqb}
+use Rattle.std.specs.Cmp.{both_ways, tied_itself}
+use Rattle.std.proofs.lemmas.Map.Views.{exact_unsigned_eq}
+use Rattle.std.specs.declared.cmp.Ordering.{Ordering}
+use Rattle.std.specs.declared.cmp.Ordering.TheVariants.{Less, Equal, Greater}
+use Rattle.std.specs.Ordering.{is_eq, eq_by_cmp}
+use Rattle.route_wire.specs.declared.update.Ip.{Ip}
+use Rattle.route_wire.specs.declared.update.Ip.TheVariants.{V4, V6}
+use Rattle.route_wire.specs.declared.update.Key.{Key}
+use Rattle.route_wire.specs.declared.update.Key.TheVariants.{Flood, Mac}
+use Rattle.route_wire.specs.declared.update.Register.{Register}
+use Rattle.route_wire.specs.contracts.update.IpPartialEq.TheImpl as ip
+use Rattle.route_wire.specs.contracts.update.KeyPartialEq.TheImpl as key
+use Rattle.route_wire.specs.contracts.update.RegisterPartialEq.TheImpl as register
+use Rattle.route_wire.specs.Order.{register_cmp}
+use Rattle.route_wire.specs.Totals.{register_total, register_exact}
+
+each : (a b : Bool) → a && b ≡ true → (a ≡ true) × (b ≡ true)
+each true b e = (refl, e)
+each false b e = cc
+
+all : (a b : Bool) → a ≡ true → b ≡ true → a && b ≡ true
+all true b e f = f
+all false b e f = cc
+
+ip_itself : (i : Ip) → ip.eq-value.it i i ≡ true
+ip_itself (V4 n) = eq-eqb n n refl
+ip_itself (V6 n) = eq-eqb n n refl
+
+ip_same : (i j : Ip) → ip.eq-value.it i j ≡ true → i ≡ j
+ip_same (V4 m) (V4 n) e = ap V4 (exact_unsigned_eq m n e)
+ip_same (V4 m) (V6 n) e = cc
+ip_same (V6 m) (V4 n) e = cc
+ip_same (V6 m) (V6 n) e = ap V6 (exact_unsigned_eq m n e)
+
+key_itself : (k : Key) → key.eq-value.it k k ≡ true
+key_itself (Flood v) = eq-eqb v v refl
+key_itself (Mac v m None) = all (v == v) (m == m && true) (eq-eqb v v refl) (all (m == m) true (eq-eqb m m refl) refl)
+key_itself (Mac v m (Some i)) = all (v == v) (m == m && ip.eq-value.it i i) (eq-eqb v v refl) (all (m == m) (ip.eq-value.it i i) (eq-eqb m m refl) (ip_itself i))
+
+key_same : (k l : Key) → key.eq-value.it k l ≡ true → k ≡ l
+key_same (Flood v) (Flood w) e = ap Flood (exact_unsigned_eq v w e)
+key_same (Flood v) (Mac w n j) e = cc
+key_same (Mac v m i) (Flood w) e = cc
+key_same (Mac v m None) (Mac w n None) e =
+    let h = each (v == w) (m == n && true) e in
+    let vnis = exact_unsigned_eq v w h.0 in
+    let macs = exact_unsigned_eq m n (each (m == n) true h.1).0 in
+    λ k. Mac (vnis k) (macs k) None
+key_same (Mac v m (Some i)) (Mac w n None) e = let h = each (m == n) false (each (v == w) (m == n && false) e).1 in cc
+key_same (Mac v m None) (Mac w n (Some j)) e = let h = each (m == n) false (each (v == w) (m == n && false) e).1 in cc
+key_same (Mac v m (Some i)) (Mac w n (Some j)) e =
+    let h = each (v == w) (m == n && ip.eq-value.it i j) e in
+    let g = each (m == n) (ip.eq-value.it i j) h.1 in
+    let vnis = exact_unsigned_eq v w h.0 in
+    let macs = exact_unsigned_eq m n g.0 in
+    let ips = ip_same i j g.1 in
+    λ k. Mac (vnis k) (macs k) (Some (ips k))
+
+itself : (r : Register) → register.eq-value.it r r ≡ true
+itself r = all (r.originator == r.originator) (key.eq-value.it r.key r.key) (eq-eqb r.originator r.originator refl) (key_itself r.key)
+
+same : (q r : Register) → register.eq-value.it q r ≡ true → q ≡ r
+same q r e =
+    let h = each (q.originator == r.originator) (key.eq-value.it q.key r.key) e in
+    let names = exact_unsigned_eq q.originator r.originator h.0 in
+    let keys = key_same q.key r.key h.1 in
+    λ k. record { originator = names k; key = keys k }
+
+equal_from : (o : Ordering) → is_eq o ≡ true → o ≡ Equal
+equal_from Less e = cc
+equal_from Equal e = refl
+equal_from Greater e = cc
+
+pub tied_registers : (q r : Register) → register.eq-value.it q r ≡ eq_by_cmp register_cmp q r
+tied_registers q r =
+    both_ways (register.eq-value.it q r) (eq_by_cmp register_cmp q r)
+    (λ e. ap (λ x. eq_by_cmp register_cmp q x) (sym (same q r e)) ∙ ap is_eq (tied_itself register_total q))
+    (λ e. ap (λ x. register.eq-value.it q x) (sym (register_exact q r (equal_from (register_cmp q r) e))) ∙ itself q)

@@ -1,0 +1,266 @@
+ghost use Rattle.std.specs.Prelude.{◌≡◌, ℕ, ◌<◌, ◌^◌, Some, refl};
+
+use ether_wire::{Addr, Mac, Vni};
+use std::cmp::Ordering;
+use std::marker::Model;
+
+/// An IPv6 address, as the number of its sixteen octets, the first one highest.
+#[derive(Clone, Copy, Debug, PartialEq, Eq, Hash, PartialOrd, Ord)]
+pub struct Addr6 {
+    number: u128,
+}
+
+impl Model for Addr6 {
+    ghost Value = { ℕ };
+
+    ghost view = { λ a. a.number };
+
+    ghost invariant = { λ a. a.number < 2 ^ 128 };
+
+    ghost inverse = { λ n. record { number = n } };
+}
+
+impl Addr6 {
+    pub fn new(number: u128) -> Self
+        ensures { result ≡ number }
+    {
+        Addr6 { number }
+    }
+
+    pub fn number(self) -> u128
+        ensures { result ≡ self }
+    {
+        self.number
+    }
+}
+
+/// An IP address. All of version 4 come before those of version 6, and in one version the order of
+/// numbers is that of the octets.
+#[derive(Clone, Copy, Debug, PartialEq, Eq, Hash, PartialOrd, Ord)]
+pub enum Ip {
+    V4(Addr),
+    V6(Addr6),
+}
+
+impl Ip {
+    ghost use Rattle.route_wire.specs.Order.{ip_version, ip_number};
+
+    /// 4 or 6.
+    pub fn version(self) -> u8
+        ensures { result ≡ ip_version (Some self) }
+    {
+        match self {
+            Ip::V4(_) => 4,
+            Ip::V6(_) => 6,
+        }
+    }
+
+    /// The number of the address's octets.
+    pub fn number(self) -> u128
+        ensures { result ≡ ip_number (Some self) }
+    {
+        match self {
+            Ip::V4(address) => u128::from(address.number()),
+            Ip::V6(address) => address.number(),
+        }
+    }
+}
+
+/// What a route is about (RFC 7432, section 7): the flood list of a network, or an address in it,
+/// with or without the IP address that it goes with.
+#[derive(Clone, Copy, Debug, PartialEq, Eq, Hash)]
+pub enum Key {
+    Flood(Vni),
+    Mac(Vni, Mac, Option<Ip>),
+}
+
+impl Key {
+    ghost use Rattle.route_wire.specs.Order.{vni_of, place_of, ip_of, ip_version, ip_number};
+
+    /// The network that the key is in.
+    pub fn vni(&self) -> Vni
+        ensures { result ≡ vni_of self.now }
+    {
+        match self {
+            Key::Flood(vni) => *vni,
+            Key::Mac(vni, _, _) => *vni,
+        }
+    }
+
+    /// The IP address of the key, if it has one.
+    pub fn ip(&self) -> Option<Ip>
+        ensures { result ≡ ip_of self.now }
+    {
+        match self {
+            Key::Flood(_) => None,
+            Key::Mac(_, _, ip) => *ip,
+        }
+    }
+
+    // Where the key stands among those of its network: the flood list first, then the addresses.
+    fn place(&self) -> u64
+        ensures { result ≡ place_of self.now }
+    {
+        match self {
+            Key::Flood(_) => 0,
+            Key::Mac(_, mac, _) => mac.number() + 1,
+        }
+    }
+
+    // The version of the key's IP address, 0 for none.
+    fn ip_version(&self) -> u8
+        ensures { result ≡ ip_version (ip_of self.now) }
+    {
+        match self.ip() {
+            None => 0,
+            Some(ip) => ip.version(),
+        }
+    }
+
+    // The number of the key's IP address, 0 for none.
+    fn ip_number(&self) -> u128
+        ensures { result ≡ ip_number (ip_of self.now) }
+    {
+        match self.ip() {
+            None => 0,
+            Some(ip) => ip.number(),
+        }
+    }
+}
+
+/// The place of an update in a table: who says it, and about what. The order is that of a report:
+/// by network, the flood list before the addresses, then by MAC, by originator, and by IP address,
+/// none first.
+#[derive(Clone, Copy, Debug, PartialEq, Eq, Hash)]
+pub struct Register {
+    pub originator: Addr,
+    pub key: Key,
+}
+
+impl Ord for Register {
+    ghost use Rattle.route_wire.specs.Order.{register_cmp};
+    ghost use Rattle.route_wire.specs.Totals.{register_total};
+    ghost use Rattle.route_wire.specs.Ties.{tied_registers};
+
+    ghost cmp = { register_cmp };
+
+    ghost total = { register_total };
+
+    ghost matches_partial_cmp = { λ x y. refl };
+
+    ghost matches_eq = { tied_registers };
+
+    fn cmp(&self, other: &Register) -> Ordering {
+        let (a, b) = (self.key, other.key);
+        a.vni()
+            .cmp(&b.vni())
+            .then(a.place().cmp(&b.place()))
+            .then(self.originator.cmp(&other.originator))
+            .then(a.ip_version().cmp(&b.ip_version()))
+            .then(a.ip_number().cmp(&b.ip_number()))
+    }
+}
+
+impl PartialOrd for Register {
+    ghost use Rattle.std.specs.Cmp.{po};
+    ghost use Rattle.route_wire.specs.Order.{register_cmp};
+    ghost use Rattle.route_wire.specs.Totals.{register_total};
+    ghost use Rattle.route_wire.specs.Ties.{tied_registers};
+
+    ghost partial_cmp = { λ x y. Some (register_cmp x y) };
+
+    ghost laws = { po register_total tied_registers };
+
+    fn partial_cmp(&self, other: &Register) -> Option<Ordering> {
+        Some(self.cmp(other))
+    }
+}
+
+/// What is advertised (RFC 7432, sections 7.2 and 7.7). Of two adverts the static one is greater,
+/// then the one of the higher sequence number, then the one of the higher second label.
+#[derive(Clone, Copy, Debug, PartialEq, Eq, PartialOrd, Ord)]
+pub struct Advert {
+    pub is_static: bool,
+    pub sequence: u32,
+    pub label2: Option<Vni>,
+}
+
+/// What is said of a key. Withdrawn comes before each advert.
+#[derive(Clone, Copy, Debug, PartialEq, Eq, PartialOrd, Ord)]
+pub enum Content {
+    Withdrawn,
+    Advert(Advert),
+}
+
+/// What is said of a register, and when: the life of its originator, the number of the update in
+/// that life, and the content. The order of values is that of their fields.
+#[derive(Clone, Copy, Debug, PartialEq, Eq, PartialOrd, Ord)]
+pub struct Value {
+    pub incarnation: u32,
+    pub counter: u64,
+    pub content: Content,
+}
+
+impl Value {
+    ghost use Rattle.route_wire.specs.Order.{is_newer};
+
+    /// Whether this value of a register replaces the other one.
+    pub fn is_newer(&self, other: &Value) -> bool
+        ensures { result ≡ is_newer self.now other.now }
+    {
+        other.cmp(self).is_lt()
+    }
+}
+
+/// A route update. Its counter is at least 1, its key's MAC is individual, and an advert of a
+/// flood list says nothing more.
+#[derive(Clone, Copy, Debug, PartialEq, Eq)]
+pub struct Update {
+    register: Register,
+    value: Value,
+}
+
+impl Model for Update {
+    ghost use Rattle.route_wire.specs.Fields.{Fields, IsUpdate};
+
+    ghost Value = { Fields };
+
+    ghost view = { λ u. record { register = u.register; value = u.value } };
+
+    ghost invariant = { λ u. IsUpdate record { register = u.register; value = u.value } };
+
+    ghost inverse = { λ f. record { register = f.register; value = f.value } };
+}
+
+impl Update {
+    ghost use Rattle.route_wire.specs.Fields.{IsUpdate};
+    ghost use Rattle.route_wire.specs.Order.{is_newer};
+
+    pub fn new(register: Register, value: Value) -> Self
+        requires { IsUpdate record { register = register; value = value } }
+        ensures { result ≡ record { register = register; value = value } }
+    {
+        Update { register, value }
+    }
+
+    /// Who says it, and about what.
+    pub fn register(&self) -> Register
+        ensures { result ≡ self.now.register }
+    {
+        self.register
+    }
+
+    /// What is said, and when.
+    pub fn value(&self) -> Value
+        ensures { result ≡ self.now.value }
+    {
+        self.value
+    }
+
+    /// Whether this update of a register is newer than the other one of that register.
+    pub fn is_newer(&self, other: &Update) -> bool
+        ensures { result ≡ is_newer self.now.value other.now.value }
+    {
+        self.value.is_newer(&other.value)
+    }
+}
