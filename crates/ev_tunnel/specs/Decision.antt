@@ -5,6 +5,10 @@ use Rattle.ev_tunnel.specs.declared.decision.Source.{Source}
 use Rattle.ev_tunnel.specs.declared.decision.Source.TheVariants.{Port, Tunnel}
 use Rattle.ev_tunnel.specs.declared.place.Place.{Place}
 use Rattle.ev_tunnel.specs.declared.place.Place.TheVariants.{Everywhere, AtPort, AtEdge}
+use Rattle.route_join.specs.Table.{Table}
+use Rattle.route_join.specs.Owner.{owner}
+use Rattle.route_join.specs.Flood.{flood_of}
+use Rattle.ev_tunnel.specs.Place.{place_of}
 use Rattle.ev_tunnel.specs.Ports.{IsPort, only, in_both, without}
 
 -- the port that a frame came from is one
@@ -39,3 +43,12 @@ remote_of place Tunnel flood own = []
 remote_of Everywhere (Port p) flood own = others_of own flood
 remote_of (AtPort port) (Port p) flood own = []
 remote_of (AtEdge edge) (Port p) flood own = edge ∷ []
+
+-- the same for a frame of this network and destination, at this edge with this table
+abbrev pub local_for : Table → ℕ → ℕ → Option ℕ → ℕ → Source → ℕ → ℕ → ℕ
+local_for t vni destination entry own from members passing =
+    local_of (place_of destination entry (owner t vni destination) own) from members passing
+
+abbrev pub remote_for : Table → ℕ → ℕ → Option ℕ → ℕ → Source → List ℕ
+remote_for t vni destination entry own from =
+    remote_of (place_of destination entry (owner t vni destination) own) from (flood_of t vni) own

@@ -4,7 +4,7 @@ ghost use Rattle.vxlan_wire.specs.Vxlan.{instance_of};
 ghost use Rattle.ev_tunnel.specs.Datagram.{datagram_of};
 
 use ether_wire::Vni;
-use vxlan_wire::{Refusal, header, read};
+use vxlan_wire::{Refusal, header, read, written_header_is_read};
 
 /// Writes the datagram that carries a frame of at most 9,018 octets, and answers its length. The
 /// octets of the buffer after it stay as they were.
@@ -34,5 +34,5 @@ pub fn unwrap_datagram(datagram: &[u8]) -> Result<(Vni, &[u8]), Refusal>
 pub fn wrapped_frame_is_unwrapped(vni: Vni, frame: &[u8])
     ensures { instance_of (datagram_of vni frame.now) ≡ Ok (vni, frame.now) }
 {
-    let _in_range = vni.number();
+    written_header_is_read(vni, frame);
 }

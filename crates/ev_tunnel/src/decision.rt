@@ -1,10 +1,10 @@
-ghost use Rattle.std.specs.Prelude.{◌≡◌};
+ghost use Rattle.std.specs.Prelude.{◌≡◌, [], ◌∷◌};
 ghost use Rattle.std.specs.Option.{ForSome};
 ghost use Rattle.route_join.specs.Owner.{owner};
 ghost use Rattle.route_join.specs.Flood.{flood_of};
 ghost use Rattle.ev_tunnel.specs.Ports.{IsPort};
 ghost use Rattle.ev_tunnel.specs.Place.{place_of};
-ghost use Rattle.ev_tunnel.specs.Decision.{IsFrom, IsPlace, open_ports, local_of, others_of, remote_of};
+ghost use Rattle.ev_tunnel.specs.Decision.{IsFrom, IsPlace, open_ports, local_of, others_of, remote_of, local_for, remote_for};
 
 use crate::place::{Place, place_of};
 use crate::ports::{only, without};
@@ -41,14 +41,14 @@ fn open_ports(from: Source, members: u64, passing: u64) -> u64
     }
 }
 
-fn local_of(place: Place, from: Source, members: u64, passing: u64) -> u64
+fn local_of(place: &Place, from: Source, members: u64, passing: u64) -> u64
     requires from { IsFrom from }
-    requires place { IsPlace place }
-    ensures { result ≡ local_of place from members passing }
+    requires place { IsPlace place.now }
+    ensures { result ≡ local_of place.now from members passing }
 {
     match place {
         Place::Everywhere => open_ports(from, members, passing),
-        Place::AtPort(port) => open_ports(from, members, passing) & only(port),
+        Place::AtPort(port) => open_ports(from, members, passing) & only(*port),
         Place::AtEdge(_) => 0,
     }
 }
@@ -57,7 +57,8 @@ fn others_of(own: Addr, edges: &ArrayVec<Addr, 64>) -> ArrayVec<Addr, 64>
     ensures { result.items ≡ others_of own edges.now.items }
 {
     let mut others = ArrayVec::new();
-    for edge in edges.as_slice() {
+    let edges = edges.as_slice();
+    for edge in edges {
         if *edge != own {
             others.push(*edge);
         }
@@ -65,16 +66,22 @@ fn others_of(own: Addr, edges: &ArrayVec<Addr, 64>) -> ArrayVec<Addr, 64>
     others
 }
 
-fn remote_of(place: Place, from: Source, vni: Vni, table: &Table, own: Addr) -> ArrayVec<Addr, 64>
-    ensures { result.items ≡ remote_of place from (flood_of table.now vni) own }
+fn one_edge(edge: Addr) -> ArrayVec<Addr, 64>
+    ensures { result.items ≡ edge ∷ [] }
 {
-    let mut remote = ArrayVec::new();
+    let mut edges = ArrayVec::new();
+    edges.push(edge);
+    edges
+}
+
+fn remote_of(place: &Place, from: Source, vni: Vni, table: &Table, own: Addr) -> ArrayVec<Addr, 64>
+    ensures { result.items ≡ remote_of place.now from (flood_of table.now vni) own }
+{
     match (from, place) {
-        (Source::Port(_), Place::Everywhere) => remote = others_of(own, &table.flood(vni)),
-        (Source::Port(_), Place::AtEdge(edge)) => remote.push(edge),
-        _ => {}
+        (Source::Port(_), Place::Everywhere) => others_of(own, &table.flood(vni)),
+        (Source::Port(_), Place::AtEdge(edge)) => one_edge(*edge),
+        _ => ArrayVec::new(),
     }
-    remote
 }
 
 /// Decides where a frame of network `vni` goes. `entry` is the port where its destination was
@@ -97,12 +104,11 @@ pub fn decide(
 ) -> Decision
     requires from { IsFrom from }
     requires entry { ForSome entry IsPort }
-    ensures local { result.local ≡ local_of (place_of destination entry (owner table.now vni destination) own) from members passing }
-    ensures remote { result.remote.items ≡ remote_of (place_of destination entry (owner table.now vni destination) own) from (flood_of table.now vni) own }
+    ensures local { result.local ≡ local_for table.now vni destination entry own from members passing }
+    ensures remote { result.remote.items ≡ remote_for table.now vni destination entry own from }
 {
     let place = place_of(destination, vni, entry, table, own);
-    Decision {
-        local: local_of(place, from, members, passing),
-        remote: remote_of(place, from, vni, table, own),
-    }
+    let local = local_of(&place, from, members, passing);
+    let remote = remote_of(&place, from, vni, table, own);
+    Decision { local, remote }
 }
