@@ -1,0 +1,142 @@
+//! An Ethernet frame, without preamble and check sequence:
+//!
+//! | Octets | Field |
+//! |---|---|
+//! | 6 | destination |
+//! | 6 | source |
+//! | 2 | type or length: at most 1500 is a length, any other value a type |
+//! | the rest | the payload; after as many octets as a length says, padding |
+ghost use Rattle.std.specs.Prelude.{◌≡◌, ◌≤◌, length};
+ghost use Rattle.ether_wire.specs.Frame.{frame_of, IsFrame, destination_of, source_of, type_or_length, kind_of, payload_of, refusal_number};
+
+use crate::names::Mac;
+use byteorder::{BigEndian, ByteOrder};
+use std::marker::Model;
+
+/// Why octets are no frame.
+#[derive(Clone, Copy, Debug, PartialEq, Eq)]
+pub enum FrameRefusal {
+    /// Below 14 octets.
+    Short,
+    /// Above 9,018 octets.
+    Long,
+    /// The length field says more than the octets after it.
+    BadLength,
+}
+
+impl FrameRefusal {
+    /// The number by which it is told: 1 to 3.
+    pub fn number(self) -> u8
+        ensures { result ≡ refusal_number self }
+    {
+        match self {
+            FrameRefusal::Short => 1,
+            FrameRefusal::Long => 2,
+            FrameRefusal::BadLength => 3,
+        }
+    }
+}
+
+/// What the two octets after the addresses are.
+#[derive(Clone, Copy, Debug, PartialEq, Eq)]
+pub enum Kind {
+    /// The payload's length in octets, at most 1500 (IEEE 802.3).
+    Length(u16),
+    /// The payload's protocol.
+    EtherType(u16),
+}
+
+/// Octets that are a frame. Its parts are lent from them.
+#[derive(Drop)]
+pub struct Frame<'a> {
+    octets: &'a [u8],
+}
+
+impl<'a> Model for Frame<'a> {
+    ghost use Rattle.std.specs.Prelude.{ℕ, List};
+
+    ghost Value = { List ℕ };
+
+    ghost use Rattle.ether_wire.specs.Frame.{IsFrame};
+
+    ghost view = { λ f. f.octets.now };
+
+    ghost invariant = { λ f. IsFrame f.octets.now };
+}
+
+fn type_or_length(octets: &[u8]) -> u16
+    requires { 14 ≤ length octets.now }
+    ensures { result ≡ type_or_length octets.now }
+{
+    let (_, rest) = octets.split_at(12);
+    BigEndian::read_u16(rest)
+}
+
+impl<'a> Frame<'a> {
+    /// The frame that these octets are.
+    #[tactic(auto, unfolding(crate::specs::Frame::frame_of))]
+    pub fn read(octets: &'a [u8]) -> Result<Frame<'a>, FrameRefusal>
+        ensures { result ≡ frame_of octets.now }
+    {
+        if octets.len() < 14 {
+            return Err(FrameRefusal::Short);
+        }
+        if octets.len() > 9018 {
+            return Err(FrameRefusal::Long);
+        }
+        let number = type_or_length(octets);
+        if number <= 1500 && usize::from(number) > octets.len() - 14 {
+            return Err(FrameRefusal::BadLength);
+        }
+        Ok(Frame { octets })
+    }
+
+    /// All octets, padding among them.
+    pub fn octets(&self) -> &'a [u8]
+        ensures value { result.now ≡ self.now }
+        ensures frame { IsFrame self.now }
+    {
+        self.octets
+    }
+
+    /// The address that it is for.
+    pub fn destination(&self) -> Mac
+        ensures { result ≡ destination_of self.now }
+    {
+        Mac::from_octets(self.octets)
+    }
+
+    /// The address that it is from.
+    pub fn source(&self) -> Mac
+        ensures { result ≡ source_of self.now }
+    {
+        let (_, rest) = self.octets.split_at(6);
+        Mac::from_octets(rest)
+    }
+
+    /// Whether the payload has a length or a type, and which.
+    pub fn kind(&self) -> Kind
+        ensures { result ≡ kind_of self.now }
+    {
+        let number = type_or_length(self.octets);
+        if number <= 1500 {
+            Kind::Length(number)
+        } else {
+            Kind::EtherType(number)
+        }
+    }
+
+    /// As many octets as the length says, or all that follows a type.
+    pub fn payload(&self) -> &'a [u8]
+        ensures { result.now ≡ payload_of self.now }
+    {
+        let number = type_or_length(self.octets);
+        let (_, rest) = self.octets.split_at(14);
+        if number <= 1500 {
+            let (payload, _) = rest.split_at(usize::from(number));
+            payload
+        } else {
+            rest
+        }
+    }
+}

@@ -1,0 +1,3 @@
+pub mod DatagramLemmas
+pub mod PortLemmas
+pub mod DecisionLemmas

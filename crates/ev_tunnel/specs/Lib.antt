@@ -1,0 +1,5 @@
+pub mod Datagram
+pub mod Decision
+pub mod Laws
+pub mod Place
+pub mod Ports

@@ -1,0 +1,15 @@
+//! Where a frame goes, and the datagrams that carry frames between edges.
+#![tactic(auto)]
+
+mod datagram;
+mod decision;
+mod laws;
+mod place;
+mod ports;
+
+pub use datagram::{unwrap_datagram, wrap, wrapped_frame_is_unwrapped};
+pub use decision::{Decision, Source, decide};
+pub use laws::{known_goes_to_one_place, members_that_pass, never_back, never_from_tunnel_to_tunnel, others_that_advertise};
+
+#[cfg(test)]
+mod tests;
