@@ -6,6 +6,8 @@ mod laws;
 mod owner;
 mod place;
 mod table;
+#[cfg(test)]
+mod tests;
 
 pub use laws::{
     all_taken, join_associates, join_commutes, join_is, join_of_tables, join_repeats, none_taken,
