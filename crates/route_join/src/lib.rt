@@ -1,0 +1,4 @@
+//! Tables of route updates.
+#![tactic(auto)]
+
+mod report;
