@@ -1,1 +1,4 @@
+pub mod Table
+pub mod Owner
 pub mod Report
+pub mod Walk

@@ -1,14 +1,20 @@
 -- The octets of a report: a line for each register, and one for the owner of each station.
 use Rattle.std.specs.Prelude.{ℕ, ◌/◌, ◌%◌, ◌^◌, Bool, true, false, ◌&&◌, ◌==◌, if◌then◌else◌, List, [], ◌∷◌, ◌++◌, codes, decimal, Option, Some, None}
+use Rattle.std.specs.Option.{option_map}
+use Rattle.std.specs.FinMap.{entries}
 use Rattle.ether_wire.specs.Names.{hex_group, mac_text, addr_text}
 use Rattle.route_wire.specs.declared.update.Ip.{Ip}
 use Rattle.route_wire.specs.declared.update.Ip.TheVariants.{V4, V6}
 use Rattle.route_wire.specs.declared.update.Key.{Key}
 use Rattle.route_wire.specs.declared.update.Key.TheVariants.{Flood, Mac}
 use Rattle.route_wire.specs.declared.update.Register.{Register}
+use Rattle.route_wire.specs.declared.update.Advert.{Advert}
 use Rattle.route_wire.specs.declared.update.Content.{Content}
 use Rattle.route_wire.specs.declared.update.Content.TheVariants.{Withdrawn, Advert as Advertised}
 use Rattle.route_wire.specs.declared.update.Value.{Value}
+use Rattle.route_wire.specs.Order.{label2_of}
+use Rattle.route_join.specs.Table.{Table}
+use Rattle.route_join.specs.Owner.{is_about, owner, best_among}
 
 -- ---- words
 
@@ -51,10 +57,6 @@ abbrev pub label2_words : Option ℕ → List ℕ
 label2_words None = []
 label2_words (Some label) = codes " label2 " ++ decimal label
 
-abbrev pub label2_of : Content → Option ℕ
-label2_of Withdrawn = None
-label2_of (Advertised a) = a.label2
-
 abbrev pub station_text : ℕ → ℕ → List ℕ
 station_text vni mac = decimal vni ++ spaced (mac_text mac)
 
@@ -91,15 +93,10 @@ owner_line vni mac owner = codes "owner " ++ station_text vni mac ++ spaced (own
 
 -- ---- the report
 
--- the key is of this station: the MAC address in this network
-abbrev pub is_of : ℕ → ℕ → Key → Bool
-is_of vni mac (Flood v) = false
-is_of vni mac (Mac v m ip) = v == vni && m == mac
-
 -- the first of these registers is of the station
 abbrev pub goes_on : ℕ → ℕ → List (Register × Value) → Bool
 goes_on vni mac [] = false
-goes_on vni mac (e ∷ rest) = is_of vni mac e.0.key
+goes_on vni mac (e ∷ rest) = is_about vni mac e.0.key
 
 -- after the last register of a station, its owner
 abbrev pub after_register : (ℕ → ℕ → Option ℕ) → Key → List (Register × Value) → List ℕ
@@ -107,6 +104,18 @@ after_register owner_of (Flood vni) rest = []
 after_register owner_of (Mac vni mac ip) rest = if goes_on vni mac rest then [] else owner_line vni mac (owner_of vni mac)
 
 -- the lines of these registers, in their order, where the owners of stations are these
-abbrev pub report_lines : (ℕ → ℕ → Option ℕ) → List (Register × Value) → List ℕ
-report_lines owner_of [] = []
-report_lines owner_of (e ∷ rest) = register_line e.0 e.1 ++ after_register owner_of e.0.key rest ++ report_lines owner_of rest
+abbrev pub lines_of : (ℕ → ℕ → Option ℕ) → List (Register × Value) → List ℕ
+lines_of owner_of [] = []
+lines_of owner_of (e ∷ rest) = register_line e.0 e.1 ++ after_register owner_of e.0.key rest ++ lines_of owner_of rest
+
+-- the owner of a station among these registers
+abbrev pub owner_among : List (Register × Value) → ℕ → ℕ → Option ℕ
+owner_among all vni mac = option_map (λ (best : Register × Advert). best.0.originator) (best_among vni mac all None)
+
+-- the report of these registers
+abbrev pub report_lines : List (Register × Value) → List ℕ
+report_lines all = lines_of (owner_among all) all
+
+-- the report of a table
+abbrev pub report_of : Table → List ℕ
+report_of t = lines_of (owner t) (entries t.registers)

@@ -1,4 +1,5 @@
 //! Tables of route updates.
 #![tactic(auto)]
 
+mod owner;
 mod report;
