@@ -49,7 +49,7 @@ module _ (xs : List (Register × Value)) (best : Best) (e : Register × Value) (
       about = ap (is_about v m) is ∙ about_itself v m (Mac v m ip) refl refl
 
       go : (b : Bool) → goes_on v m rest ≡ b
-        → cond b [] (owner_line v m (named (best_with v m e.0 e.1 best))) ≡ cond b [] (owner_line v m (owner_among (xs ++ e ∷ rest) v m))
+          → cond b [] (owner_line v m (named (best_with v m e.0 e.1 best))) ≡ cond b [] (owner_line v m (owner_among (xs ++ e ∷ rest) v m))
       go true n = refl
       go false n = ap (λ b. owner_line v m (named b)) (best_of_all v m about n)
 
@@ -81,8 +81,8 @@ module _ (xs : List (Register × Value)) (best : Best) (e : Register × Value) (
           let same = one_next v m w n rest p q in
           ap (λ x. best_among x m (xs ++ e ∷ []) None) same.0 ∙ ap (λ x. best_among w x (xs ++ e ∷ []) None) same.1 ∙ best_more w n about
       go false q = begins v m (false_unless _ (λ a.
-        let same = one_address v m w n e.0.key a about in
-        let on : goes_on w n rest ≡ true = subst (λ x. goes_on x n rest ≡ true) same.0 (subst (λ x. goes_on v x rest ≡ true) same.1 p) in cc)) p
+          let same = one_address v m w n e.0.key a about in
+          let on : goes_on w n rest ≡ true = subst (λ x. goes_on x n rest ≡ true) same.0 (subst (λ x. goes_on v x rest ≡ true) same.1 p) in cc)) p
 
   next_before : NoneAfterFirst (xs ++ e ∷ []) rest
   next_before = go rest h.sorted
@@ -99,8 +99,8 @@ walked_lines xs best [] h = refl
 walked_lines xs best (e ∷ rest) h =
     ap (λ a. register_line e.0 e.1 ++ a ++ walked (best_after e.0.key e.0 e.1 best rest) rest) (after_same xs best e rest h e.0.key refl)
     ∙ ap (λ w. register_line e.0 e.1 ++ after_register (owner_among (xs ++ e ∷ rest)) e.0.key rest ++ w)
-      (walked_lines (xs ++ e ∷ []) (best_after e.0.key e.0 e.1 best rest) rest (midway_more xs best e rest h)
-      ∙ ap (λ all. lines_of (owner_among all) rest) (append_assoc xs (e ∷ []) rest))
+    (walked_lines (xs ++ e ∷ []) (best_after e.0.key e.0 e.1 best rest) rest (midway_more xs best e rest h)
+    ∙ ap (λ all. lines_of (owner_among all) rest) (append_assoc xs (e ∷ []) rest))
 
 -- from the front
 pub walked_all : (es : List (Register × Value)) → is_sorted register_cmp es ≡ true → walked None es ≡ report_lines es
@@ -117,8 +117,8 @@ one_more k0 k1 k2 k3 text line after a b c =
     ∙ append_known_twice (append_known k0 text) line after ∙ append_known_twice k0 text (line ++ after)
 
 pub walked_more : (text : List ℕ) (best next : Best) (u : Fields) (us vs : List Fields) (whole : List ℕ)
-  → text ++ walked best (entries_of us) ≡ whole → us ≡ u ∷ vs → next ≡ best_after u.register.key u.register u.value best (entries_of vs)
-  → (text ++ (register_line u.register u.value ++ after_line u.register.key u.register u.value best (entries_of vs))) ++ walked next (entries_of vs) ≡ whole
+    → text ++ walked best (entries_of us) ≡ whole → us ≡ u ∷ vs → next ≡ best_after u.register.key u.register u.value best (entries_of vs)
+    → (text ++ (register_line u.register u.value ++ after_line u.register.key u.register u.value best (entries_of vs))) ++ walked next (entries_of vs) ≡ whole
 walked_more text best next u us vs whole w is n =
     append_assoc text (register_line u.register u.value ++ after_line u.register.key u.register u.value best (entries_of vs)) (walked next (entries_of vs))
     ∙ ap (λ b. text ++ (register_line u.register u.value ++ after_line u.register.key u.register u.value best (entries_of vs) ++ walked b (entries_of vs))) n
@@ -126,7 +126,7 @@ walked_more text best next u us vs whole w is n =
 
 -- no register is left
 pub none_left : (k0 k1 : Option (List ℕ)) (text : List ℕ) (best : Best) (us all : List Fields)
-  → k1 ≡ append_known k0 text → text ++ walked best (entries_of us) ≡ walked None (entries_of all) → us ≡ [] → IsOrdered all → k1 ≡ append_known k0 (report_lines (entries_of all))
+    → k1 ≡ append_known k0 text → text ++ walked best (entries_of us) ≡ walked None (entries_of all) → us ≡ [] → IsOrdered all → k1 ≡ append_known k0 (report_lines (entries_of all))
 none_left k0 k1 text best us all written whole is s =
     written ∙ ap (append_known k0) (sym (append-nil text) ∙ ap (λ x. text ++ walked best (entries_of x)) (sym is) ∙ whole ∙ walked_all (entries_of all) s)
 

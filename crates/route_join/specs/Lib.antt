@@ -2,3 +2,8 @@ pub mod Table
 pub mod Owner
 pub mod Report
 pub mod Walk
+pub mod Place
+pub mod Taken
+pub mod Flood
+pub mod Joins
+pub mod Laws
