@@ -16,15 +16,9 @@ use Rattle.route_join.specs.declared.table.TakeError.{TakeError}
 use Rattle.route_join.specs.declared.table.TakeError.TheVariants.{UnknownOriginator, NoMemory}
 use Rattle.route_join.specs.Taken.{taken_of}
 use Rattle.route_join.specs.Place.{place_of}
+use Rattle.route_join.proofs.Orders.{to_T, from_T}
 use Rattle.route_join.proofs.Tables.{same_or_other, at_same, at_other}
 use Rattle.route_join.proofs.Places.{IsPlace, IsGap, placed, gapped}
-
-pub to_T : (b : Bool) → b ≡ true → T b
-to_T b e = subst T (sym e) tt
-
-pub from_T : (b : Bool) → T b → b ≡ true
-from_T true t = refl
-from_T false t = absurd t
 
 -- what a table finds among its updates
 pub found : (os : List ℕ) (us : List Fields) (q : Register) → IsOrdered us → value_at (table_from os us) q ≡ find register_cmp q (entries_of us)

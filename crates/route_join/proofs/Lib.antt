@@ -1,6 +1,10 @@
 pub mod Appending
 pub mod Stations
 pub mod Reporting
+pub mod Orders
 pub mod Tables
 pub mod Places
 pub mod Edits
+pub mod Owners
+pub mod Floods
+pub mod Joins

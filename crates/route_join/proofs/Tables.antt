@@ -11,6 +11,8 @@ use Rattle.route_wire.specs.Fields.{Fields}
 use Rattle.route_wire.specs.Order.{register_cmp, is_newer}
 use Rattle.route_wire.specs.Totals.{register_total, register_exact, value_total, neither_newer}
 use Rattle.route_join.specs.Table.{Table, value_at, with_value, IsTableOf}
+use Rattle.std.specs.FinMap.Entries.{find, below_all}
+use Rattle.route_join.proofs.Orders.{less, both}
 use Rattle.route_join.specs.Laws.{HaveSame, OneTable}
 
 -- ---- registers
@@ -45,6 +47,12 @@ at_same t r v = get-insert register_total t.registers r v r ∙ ap (λ b. cond b
 
 pub at_other : (t : Table) (r : Register) (v : Value) (q : Register) → q ≢ r → value_at (with_value t r v) q ≡ value_at t q
 at_other t r v q ne = get-insert register_total t.registers r v q ∙ ap (λ b. cond b (Some v) (get t.registers q)) (other_register q r ne)
+
+-- a register below all others is not among them
+pub below_none : (q : Register) (es : List (Register × Value)) → below_all register_cmp q es ≡ true → find register_cmp q es ≡ None
+below_none q [] h = refl
+below_none q (e ∷ es) h = let parts = both (is_lt (register_cmp q e.0)) (below_all register_cmp q es) h in
+    ap (λ o. cond (is_eq o) (Some e.1) (find register_cmp q es)) (less (register_cmp q e.0) parts.0) ∙ below_none q es parts.1
 
 pub not_newer_itself : (v : Value) → is_newer v v ≡ false
 not_newer_itself v = ap is_lt (tied_itself value_total v)

@@ -82,6 +82,9 @@ abbrev pub best_among : ℕ → ℕ → List (Register × Value) → Option (Reg
 best_among vni mac [] best = best
 best_among vni mac (e ∷ es) best = best_among vni mac es (better_of e.0 (said_of vni mac e.0 e.1) best)
 
+abbrev pub owner_among : ℕ → ℕ → List (Register × Value) → Option ℕ
+owner_among vni mac es = option_map (λ (best : Register × Advert). best.0.originator) (best_among vni mac es None)
+
 -- the owner of the address, if anyone advertises it
 abbrev pub owner : Table → ℕ → ℕ → Option ℕ
-owner t vni mac = option_map (λ (best : Register × Advert). best.0.originator) (best_among vni mac (entries t.registers) None)
+owner t vni mac = owner_among vni mac (entries t.registers)

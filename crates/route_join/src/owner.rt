@@ -1,9 +1,8 @@
 ghost use Rattle.std.specs.Prelude.{◌≡◌, None};
-ghost use Rattle.std.specs.Option.{option_map};
 ghost use Rattle.route_join.specs.Table.{entries_of};
-ghost use Rattle.route_join.specs.Owner.{advert_in, is_about, is_better, said_of, better_of, best_among};
+ghost use Rattle.route_join.specs.Owner.{advert_in, is_about, is_better, said_of, better_of, best_among, owner_among};
 
-use ether_wire::{Mac, Vni};
+use ether_wire::{Addr, Mac, Vni};
 use route_wire::{Advert, Content, Key, Register, Update};
 
 /// Whether a key is of the address, with whatever IP address or none.
@@ -71,7 +70,7 @@ pub(crate) fn better(
 }
 
 /// The best advert of an address, with its register.
-pub(crate) fn best_of(updates: &[Update], vni: Vni, mac: Mac) -> Option<(Register, Advert)>
+fn best_of(updates: &[Update], vni: Vni, mac: Mac) -> Option<(Register, Advert)>
     ensures { result ≡ best_among vni mac (entries_of updates.now) None }
 {
     let mut best = None;
@@ -79,4 +78,14 @@ pub(crate) fn best_of(updates: &[Update], vni: Vni, mac: Mac) -> Option<(Registe
         best = better(update, vni, mac, best);
     }
     best
+}
+
+/// The originator of the best advert of an address.
+pub(crate) fn owner_of(updates: &[Update], vni: Vni, mac: Mac) -> Option<Addr>
+    ensures { result ≡ owner_among vni mac (entries_of updates.now) }
+{
+    match best_of(updates, vni, mac) {
+        None => None,
+        Some((register, _)) => Some(register.originator),
+    }
 }

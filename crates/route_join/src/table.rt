@@ -9,7 +9,7 @@ ghost use Rattle.route_join.specs.Flood.{flood_of, IsFloodList};
 ghost use Rattle.route_join.specs.Taken.{taken_of, number_of};
 
 use crate::flood::flood_of;
-use crate::owner::best_of;
+use crate::owner::owner_of;
 use crate::place::place;
 use crate::report::put_report;
 use arrayvec::ArrayVec;
@@ -143,10 +143,7 @@ impl Table {
         ensures value { result ≡ owner self.now vni mac }
         ensures best { MatchOption result (IsUnowned self.now vni mac) (IsOwner self.now vni mac) }
     {
-        match best_of(&self.updates, vni, mac) {
-            None => None,
-            Some((register, _)) => Some(register.originator),
-        }
+        owner_of(&self.updates, vni, mac)
     }
 
     /// The originators that advertise a network's flood list (RFC 7432, section 7.3), ascending.
