@@ -5,6 +5,7 @@ mod flood;
 mod laws;
 mod owner;
 mod place;
+mod report;
 mod table;
 #[cfg(test)]
 mod tests;

@@ -3,3 +3,7 @@ pub mod Order
 pub mod Totals
 pub mod Ties
 pub mod Laws
+pub mod Stream
+pub mod Route
+pub mod Refusal
+pub mod Record
