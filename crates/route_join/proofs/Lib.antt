@@ -1,3 +1,6 @@
+pub mod Appending
+pub mod Stations
+pub mod Reporting
 pub mod Orders
 pub mod Tables
 pub mod Places
