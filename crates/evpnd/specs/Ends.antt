@@ -1,5 +1,5 @@
 -- What became of a reader and of a writer.
-use Rattle.std.specs.Prelude.{◌≡◌, ℕ, ◌+◌, ◌^◌, ◌≤◌, Bool, true, false, ◌⊎◌, nat_lt, List, [], length, Option}
+use Rattle.std.specs.Prelude.{◌≡◌, ℕ, ◌+◌, ◌^◌, ◌≤◌, Bool, true, false, ◌⊎◌, nat_lt, if◌then◌else◌, List, [], length, Option}
 use Rattle.std.specs.Io.KnownBytes.{append_known, prepend_known, IsAtEnd}
 
 -- the octets that an end tells of itself, left or written, and how many of its calls have failed
@@ -26,3 +26,10 @@ pub record GaveSome (old new : End) : Type 0 where
 pub record Holds (old new : End) (octets : List ℕ) : Type 0 where
   pub written : new.failures ≡ old.failures → new.octets ≡ append_known old.octets octets
   pub failures : (new.failures ≡ old.failures) ⊎ (new.failures ≡ old.failures + 1)
+
+-- The writer took this text, or a call failed and `after` is false. Where `before` is false a call has failed already, and
+-- none was made.
+pub record Tells (old new : End) (before after : Bool) (text : List ℕ) : Type 0 where
+  pub kept : before ≡ false → (after ≡ false) × (new ≡ old)
+  pub written : after ≡ true → new.octets ≡ append_known old.octets text
+  pub failures : before ≡ true → new.failures ≡ old.failures + (if after then 0 else 1)

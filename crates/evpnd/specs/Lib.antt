@@ -1,3 +1,4 @@
 pub mod Notes
 pub mod Ends
 pub mod Runs
+pub mod Progressing

@@ -1,5 +1,5 @@
 -- What is noted of a stream of records: each record that wasn't taken, and what ended the stream.
-use Rattle.std.specs.Prelude.{ℕ, ◌+◌, Bool, true, false, not, ◌&&◌, ◌==◌, if◌then◌else◌, List, [], ◌∷◌, ◌++◌, length, codes, decimal, Result, Ok, Err}
+use Rattle.std.specs.Prelude.{ℕ, ◌+◌, Bool, true, false, not, ◌&&◌, ◌||◌, ◌==◌, if◌then◌else◌, List, [], ◌∷◌, ◌++◌, length, codes, decimal, Result, Ok, Err}
 use Rattle.route_wire.specs.declared.stream.Whole.{Whole}
 use Rattle.route_wire.specs.declared.stream.Whole.TheVariants.{Rest, Fault, Length}
 use Rattle.route_wire.specs.Fields.{Fields}
@@ -59,7 +59,7 @@ is_broken is_ended rest = is_broken_at (whole_of rest) is_ended rest
 abbrev pub has_starved : List (Result Fields ℕ) → Bool
 has_starved [] = false
 has_starved (Ok update ∷ outcomes) = has_starved outcomes
-has_starved (Err refusal ∷ outcomes) = if refusal == 15 then true else has_starved outcomes
+has_starved (Err refusal ∷ outcomes) = refusal == 15 || has_starved outcomes
 
 -- the greatest that applies: 4 where a device failed, 3 where memory was refused, 1 for a broken stream, else 0
 abbrev pub status_of : Bool → Bool → Bool → ℕ
