@@ -1,21 +1,23 @@
 -- One record more, and the table of all that were taken.
-use Rattle.std.proofs.Common.{◌≡◌, ◌≢◌, ◌⊎◌, inl, inr, ℕ, ◌+◌, ◌≤◌, Bool, true, false, cond, not, ◌||◌, ◌==◌, nat_lt, List, [], ◌∷◌, ◌++◌, take, drop, length, Option, Some, None, Result, Ok, Err, refl, sym, ap, subst, ◌∙◌, append_assoc, arith}
+use Rattle.std.proofs.Common.{◌≡◌, ◌≢◌, ◌⊎◌, inl, inr, ℕ, ◌+◌, ◌≤◌, Bool, true, false, cond, not, ◌||◌, ◌==◌, nat_lt, List, [], ◌∷◌, ◌++◌, take, drop, length, Option, Some, None, Result, Ok, Err, OnOk, is_ok, refl, sym, ap, subst, ◌∙◌, append_assoc, arith}
 use Rattle.std.proofs.lemmas.List.{append-nil, length_push}
 use Rattle.std.proofs.lemmas.Bool.Decides.{nat_tests}
 use Rattle.std.specs.Io.KnownBytes.{append_known}
+use Rattle.ether_wire.specs.declared.ends.Device.{Device}
+use Rattle.ether_wire.specs.Ends.{failures_after}
 use Rattle.ether_wire.proofs.Appending.{append_known_twice}
 use Rattle.route_wire.specs.declared.stream.Whole.TheVariants.{Length}
 use Rattle.route_wire.specs.Fields.{Fields}
 use Rattle.route_wire.specs.Stream.{whole_of}
-use Rattle.route_wire.specs.Record.{reading, Reads}
+use Rattle.route_wire.specs.Record.{reading, Reads, is_length}
 use Rattle.route_join.specs.Table.{Table, with_update, with_updates, table_from, IsTableOf}
 use Rattle.route_join.proofs.Edits.{new_table}
 use Rattle.route_join.proofs.Joins.{all_taken, none_taken}
 use Rattle.evpnd.specs.declared.report.Progress.{Progress}
-use Rattle.evpnd.specs.Notes.{refused_line, refusals_from, has_starved}
+use Rattle.evpnd.specs.Notes.{refused_line, refusals_from, end_note, is_broken, has_starved, status_of}
 use Rattle.evpnd.specs.Ends.{End, has_failed, Holds, Tells}
 use Rattle.evpnd.specs.Runs.{Becomes, BecomeAll, table_after, table_after_all, taken_of, fresh}
-use Rattle.evpnd.specs.Progressing.{TakesNext, TakesRecords}
+use Rattle.evpnd.specs.Progressing.{TakesNext, TakesRecords, TakesStream}
 
 -- ---- notes
 
@@ -116,3 +118,39 @@ pub table_of_all : (originators : List ℕ) (outcomes : List (Result Fields ℕ)
 table_of_all originators outcomes =
     subst (λ t. IsTableOf (taken_of outcomes) t) (sym (with_all (fresh originators) outcomes))
     (all_taken [] (taken_of outcomes) (fresh originators) (subst (λ t. IsTableOf [] t) (new_table originators) (none_taken originators)))
+
+-- the whole input
+pub takes_stream : (t t' : Table) (input rest : List ℕ) (is_ended : Bool) (notes mid notes' : End) (p : Progress) (q broken : Bool) → t ≡ fresh t.originators
+  → TakesRecords t t' input rest notes mid p → is_length (whole_of rest) ≡ false → Tells mid notes' p.is_told q (end_note is_ended (p.count + 1) rest) → broken ≡ is_broken is_ended rest
+  → TakesStream t t' input is_ended notes notes' record { is_starved = p.is_starved; is_broken = broken; is_told = q }
+takes_stream t t' input rest is_ended notes mid notes' p q broken new h e k b = record {
+  outcomes = h.outcomes;
+  rest = rest;
+  taken = record {
+    answers = h.answers;
+    answered = record { reads = h.reads; ended = e };
+    became = subst (λ x. BecomeAll x h.answers h.outcomes) new h.became;
+    table_of = subst (λ x. IsTableOf (taken_of h.outcomes) x) (sym (h.table_is ∙ ap (λ x. table_after_all x h.outcomes) new)) (table_of_all t.originators h.outcomes);
+  };
+  told = tells_more notes mid notes' p.is_told q (refusals_from 1 h.outcomes) (end_note is_ended (length h.outcomes + 1) rest) h.told
+    (subst (λ n. Tells mid notes' p.is_told q (end_note is_ended (n + 1) rest)) h.count k);
+  starved = h.starved;
+  broken = b;
+}
+
+-- ---- writers
+
+pub put_holds : (a b : End) (r : Result (Unit {0}) Device) (text : List ℕ) → OnOk r (b.octets ≡ append_known a.octets text) → b.failures ≡ failures_after a.failures r → Holds a b text
+put_holds a b (Ok x) text h f = record { written = λ _. h; failures = inl (f ∙ grind arith) }
+put_holds a b (Err e) text h f = record { written = λ same. absurd (omega arith); failures = inr f }
+
+pub put_failed : (a b : End) (r : Result (Unit {0}) Device) → b.failures ≡ failures_after a.failures r → has_failed a b ≡ not (is_ok r)
+put_failed a b (Ok x) f = grind (arith, nat_tests)
+put_failed a b (Err e) f = grind (arith, nat_tests)
+
+-- ---- statuses
+
+pub same_status : (e p q s k x y t l : Bool) → x ≡ not p → y ≡ not q → s ≡ t → k ≡ l → status_of (not e || (not p || not q)) s k ≡ status_of (not e || (x || y)) t l
+same_status e p q s k x y t l hx hy hs hk =
+    ap (λ z. status_of (not e || (z || not q)) s k) (sym hx) ∙ ap (λ z. status_of (not e || (x || z)) s k) (sym hy)
+    ∙ ap (λ z. status_of (not e || (x || y)) z k) hs ∙ ap (λ z. status_of (not e || (x || y)) t z) hk
