@@ -3,6 +3,7 @@
 
 mod input;
 mod notes;
+mod originators;
 mod report;
 
 fn main() {}
