@@ -1,0 +1,4 @@
+pub mod Appending
+pub mod Reading
+pub mod Taking
+pub mod Listing

@@ -1,0 +1,9 @@
+//! EVPN edge bridges: the program.
+#![tactic(auto)]
+
+mod input;
+mod notes;
+mod originators;
+mod report;
+
+fn main() {}
