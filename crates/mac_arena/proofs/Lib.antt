@@ -1,0 +1,3 @@
+pub mod OrderSteps
+pub mod Entries
+pub mod Steps

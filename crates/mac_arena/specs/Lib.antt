@@ -1,0 +1,4 @@
+pub mod Station
+pub mod Orders
+pub mod Learning
+pub mod Nodes
