@@ -1,3 +1,4 @@
 pub mod OrderSteps
 pub mod Entries
 pub mod Steps
+pub mod Tables

@@ -186,7 +186,7 @@ pub lists_same : (slots : Slots) (lists : List (List ℕ)) (n : ℕ) (a x : Lear
 lists_same slots lists n a x is same = maps_same (station_in (set slots n (Some x))) (station_in slots) lists (λ k m on. same_station slots n a x is same m)
 
 -- a node at the end is its station at the end
-stations_of : (f : ℕ → Station) (lists : List (List ℕ)) (l : ℕ) → stations_at (map (map f) lists) l ≡ map f (list_at lists l)
+pub stations_of : (f : ℕ → Station) (lists : List (List ℕ)) (l : ℕ) → stations_at (map (map f) lists) l ≡ map f (list_at lists l)
 stations_of f [] l = refl
 stations_of f (xs ∷ lists) zero = refl
 stations_of f (xs ∷ lists) (suc l) = stations_of f lists l

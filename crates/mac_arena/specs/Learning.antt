@@ -9,6 +9,7 @@ use Rattle.mac_arena.specs.declared.station.Learned.{Learned}
 use Rattle.mac_arena.specs.declared.table.Learnt.{Learnt}
 use Rattle.mac_arena.specs.declared.table.Learnt.TheVariants.{New, Moved, Refreshed, Pinned, Full}
 use Rattle.mac_arena.specs.Station.{station_cmp, is_same, bucket_of}
+use Rattle.mac_arena.specs.Entry.{pinned_at, heard_at}
 
 -- What is known of each station; the unpinned stations in the order in which they were last heard; the stations of
 -- each port, port 1 first, in the order in which they came to it; the stations of each bucket; and the nodes: which
@@ -88,14 +89,6 @@ is_at (Some x) s = is_same x s
 abbrev pub place_of : List (Option Station) → Station → ℕ
 place_of [] s = 0
 place_of (p ∷ places) s = if is_at p s then 0 else suc (place_of places s)
-
--- ---- what is known of a station
-
-abbrev pub pinned_at : ℕ → Entry
-pinned_at port = record { port = port; last = 0; pinned = true }
-
-abbrev pub heard_at : ℕ → ℕ → Entry
-heard_at port second = record { port = port; last = second; pinned = false }
 
 -- ---- steps on one station
 

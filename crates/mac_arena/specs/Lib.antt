@@ -1,4 +1,5 @@
 pub mod Station
+pub mod Entry
 pub mod Orders
 pub mod Learning
 pub mod Nodes

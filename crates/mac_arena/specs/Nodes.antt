@@ -75,6 +75,7 @@ pub record IsTable (o : Orders) (slots : List (Option Learned)) (count buckets s
   pub free_apart : Apart o.free
   pub alone : (n m : ℕ) (x y : Learned) → slot_at slots n ≡ Some x → slot_at slots m ≡ Some y → x.station ≡ y.station → n ≡ m
   pub timeless : (n : ℕ) (x : Learned) → slot_at slots n ≡ Some x → x.entry.pinned ≡ true → x.entry.last ≡ 0
+  pub based : (n : ℕ) (x : Learned) → slot_at slots n ≡ Some x → 0 < x.entry.port
   pub rising : NeverFalls slots o.ageing
   pub counted : count ≡ len (entries_of slots)
   pub filled : count ≡ count_by is_some slots
