@@ -1,5 +1,5 @@
 -- stations told apart, and the map that the nodes hold
-use Rattle.std.proofs.Common.{ℕ, zero, suc, ◌+◌, ◌-◌, ◌<◌, ◌≤◌, ◌≡◌, ◌≢◌, ◌⊎◌, inl, inr, Bool, true, false, cond, Option, Some, None, List, [], ◌∷◌, length, get_or, set, map, nat_cmp, refl, ap, sym, ◌∙◌, subst, arith}
+use Rattle.std.proofs.Common.{ℕ, zero, suc, ◌+◌, ◌-◌, ◌<◌, ◌≤◌, ◌≡◌, ◌≢◌, ◌⊎◌, inl, inr, Bool, true, false, cond, eqb, ◌&&◌, Option, Some, None, List, [], ◌∷◌, length, get_or, set, map, nat_cmp, refl, ap, sym, ◌∙◌, subst, arith}
 use Rattle.std.specs.Option.{is_some}
 use Rattle.std.specs.Cmp.{IsTotalOrder, nat_cmp_total, tied_itself}
 use Rattle.std.specs.Ordering.{eq_by_cmp, is_eq}
@@ -9,7 +9,7 @@ use Rattle.std.specs.FinMap.{FinMap, empty, get, insert, remove, len, IsAntisymm
 use Rattle.std.proofs.lemmas.Cmp.{on_total, then_total}
 use Rattle.std.proofs.lemmas.Map.Lookups.{exact_pairs, exact_unsigned}
 use Rattle.std.proofs.lemmas.List.{get_or_past, get_or-set_same, get_or-set_other, length-set}
-use Rattle.std.proofs.lemmas.Bool.{cases_eq, cases_lt, false≢true}
+use Rattle.std.proofs.lemmas.Bool.{eq-eqb, cases_eq, cases_lt, false≢true}
 use Rattle.mac_arena.specs.declared.station.Station.{Station}
 use Rattle.mac_arena.specs.declared.station.Entry.{Entry}
 use Rattle.mac_arena.specs.declared.station.Learned.{Learned}
@@ -49,6 +49,10 @@ same_or_other a b = go (is_same a b) refl
     go : (v : Bool) → is_same a b ≡ v → (a ≡ b) ⊎ (a ≢ b)
     go true e = inl (same_true a b e)
     go false e = inr (λ s. false≢true (sym e ∙ eq_same a b s))
+
+-- what the derived test of two stations says where it fails
+pub differs : (a b : Station) → false ≡ (eqb a.vni b.vni && eqb a.mac b.mac) → a ≢ b
+differs a b h e = false≢true (h ∙ (λ i. eqb (e i).vni b.vni && eqb (e i).mac b.mac) ∙ rw (eq-eqb b.vni b.vni refl, eq-eqb b.mac b.mac refl) refl)
 
 -- ---- one entry of a map
 

@@ -2,3 +2,4 @@ pub mod OrderSteps
 pub mod Entries
 pub mod Steps
 pub mod Tables
+pub mod Values

@@ -11,13 +11,13 @@ use Rattle.std.proofs.lemmas.Option.{slice_get-map}
 use Rattle.std.proofs.lemmas.List.Sums.{count_by-le-length, sum_by-cons}
 use Rattle.std.proofs.lemmas.Bool.Decides.{nat_tests}
 use Rattle.idx_links.specs.Links.{has, without, Apart, list_at, IsFree, IsLinked}
-use Rattle.idx_links.proofs.Paths.{has-at, has-without, apart-push, apart-without}
+use Rattle.idx_links.proofs.Paths.{has-at, has-without, apart-push, apart-without, without-absent}
 use Rattle.mac_arena.specs.declared.station.Station.{Station}
 use Rattle.mac_arena.specs.declared.station.Entry.{Entry}
 use Rattle.mac_arena.specs.declared.station.Learned.{Learned}
 use Rattle.mac_arena.specs.Station.{station_cmp, is_same, bucket_of}
 use Rattle.mac_arena.specs.Orders.{Orders, joined}
-use Rattle.mac_arena.specs.Learning.{Learning, nothing_learnt, left, joined_by, stations_at, place_of, entry_at, is_full, is_pinned, first_unpinned, learned_of, learned_at, IsLatest, entered, heard, held, shifted, dropped}
+use Rattle.mac_arena.specs.Learning.{Learning, nothing_learnt, bucket_in, left, joined_by, stations_at, place_of, entry_at, is_full, is_pinned, first_unpinned, learned_of, learned_at, IsLatest, entered, heard, held, shifted, dropped}
 use Rattle.mac_arena.specs.Entry.{pinned_at, heard_at}
 use Rattle.mac_arena.specs.Nodes.{slot_at, station_of, station_in, last_of, entries_of, learning_of, in_chain, in_port, in_ageing, NeverFalls, IsTable}
 use Rattle.mac_arena.proofs.Entries.{Slots, AreAlone, IsOff, slot_here, slot_there, slot_below, node_of, entry_is, entries_set, entries_unset, len_new, len_known, len_gone}
@@ -723,3 +723,40 @@ module _ {o : Orders} {slots : Slots} {count buckets salt : ℕ} {v : Learning} 
 -- what was read at a node
 pub read_slot : (slots : Slots) (n : ℕ) (v : Option Learned) → n < length slots → v ≡ get_or slots n v → v ≡ slot_at slots n
 read_slot slots n v h is = is ∙ get_or_default slots n v None h
+
+-- a pinned station isn't on the ageing list
+pub not_ageing : {o : Orders} {slots : Slots} {count buckets salt : ℕ} {v : Learning} (found : Found o slots count buckets salt v) (n : ℕ) (a : Learned) → slot_at slots n ≡ Some a → a.entry.pinned ≡ true → left a.station v.ageing ≡ v.ageing
+not_ageing {o} {slots} found n a is pinned =
+    let off : has o.ageing n ≡ false = found.table.aged n ∙ ap in_ageing is ∙ ap not pinned in
+    let here : map (station_in slots) o.ageing ≡ left a.station (map (station_in slots) o.ageing) = ap (map (station_in slots)) (sym (without-absent o.ageing n off)) ∙ ageing_left found.table n a is in
+    let seen = ap (λ w. w.ageing) found.seen in
+    ap (left a.station) (sym seen) ∙ sym here ∙ seen
+
+pub bucket_is : {o : Orders} {slots : Slots} {count buckets salt : ℕ} {v : Learning} (found : Found o slots count buckets salt v) (s : Station) → bucket_in v s ≡ bucket_of buckets salt s
+bucket_is {salt = salt} {v = v} found s = (let salts : v.salt ≡ salt = ap (λ w. w.salt) (sym found.seen) in λ i. bucket_of (chains_in found i) (salts i) s)
+
+-- the node that a new station takes
+module _ {o : Orders} {slots : Slots} {count buckets salt : ℕ} {v : Learning} (found : Found o slots count buckets salt v) (n : ℕ) (first : slice_get v.free 0 ≡ Some n) where
+  pub first_is : slice_get o.free 0 ≡ Some n
+  first_is = ap (λ xs. slice_get xs 0) (free_is found) ∙ first
+
+  pub takes : (n < length slots) × (slot_at slots n ≡ None)
+  takes = free_slot found.table n (first_out o.free n first_is).2
+
+  pub takes_free : has o.free n ≡ true
+  takes_free = (first_out o.free n first_is).2
+
+  pub takes_ageless : has o.ageing n ≡ false
+  takes_ageless = found.table.aged n ∙ ap in_ageing takes.1
+
+  pub takes_unchained : IsFree o.chains n
+  takes_unchained l = found.table.chained l n ∙ ap (λ w. in_chain buckets salt w l) takes.1
+
+  pub takes_unported : IsFree o.ports n
+  takes_unported l = found.table.ported l n ∙ ap (λ w. in_port w l) takes.1
+
+  pub takes_node : n < o.nodes
+  takes_node = rw found.table.nodes takes.0
+
+pub new_in : {o : Orders} {slots : Slots} {count buckets salt : ℕ} {v : Learning} (found : Found o slots count buckets salt v) (s : Station) → entry_at v s ≡ None → get (entries_of slots) s ≡ None
+new_in found s none = ap (λ w. entry_at w s) found.seen ∙ none

@@ -1,6 +1,6 @@
 ghost use Rattle.std.specs.Prelude.{◌≡◌, ℕ, ◌+◌, ◌<◌, ◌≤◌, ◌^◌, true, false, Some, None, length, slice_get, IfOk, IfSome, IfNone, MatchOption};
 ghost use Rattle.std.specs.FinMap.{len};
-ghost use Rattle.mac_arena.specs.Learning.{Learning, nothing_learnt, entry_at, is_full, bucket_in, stations_at, learned_at, first_unpinned, IsLatest, entered, heard, held, shifted, dropped, learnt_of, after_learn, can_pin, after_pin, after_removal};
+ghost use Rattle.mac_arena.specs.Learning.{Learning, nothing_learnt, entry_at, is_full, bucket_in, stations_at, learned_at, left, first_unpinned, IsLatest, entered, heard, held, shifted, dropped, learnt_of, after_learn, can_pin, after_pin, after_removal};
 ghost use Rattle.std.specs.Prelude.{◌-◌, is_some, replicate};
 ghost use Rattle.mac_arena.specs.Entry.{pinned_at};
 
@@ -130,6 +130,7 @@ impl MacTable {
         ensures found { IfSome result (λ f. learned_at self.now f.0 ≡ Some f.1) }
         ensures same { IfSome result (λ f. f.1.station ≡ key) }
         ensures timeless { IfSome result (λ f. f.1.entry.pinned ≡ true → f.1.entry.last ≡ 0) }
+        ensures still { IfSome result (λ f. f.1.entry.pinned ≡ true → left key self.now.ageing ≡ self.now.ageing) }
         ensures missing { IfNone result (entry_at self.now key ≡ None) }
     {
         let bucket = self.bucket(key);
@@ -276,6 +277,7 @@ impl MacTable {
         requires port { port ≤ length self.old.ports }
         requires at { learned_at self.old node ≡ Some learned.now }
         requires timeless { learned.now.entry.pinned ≡ true → learned.now.entry.last ≡ 0 }
+        requires still { learned.now.entry.pinned ≡ true → left learned.now.station self.old.ageing ≡ self.old.ageing }
         ensures { self.new ≡ after_pin self.old learned.now.station port }
     {
         if learned.entry.pinned {
