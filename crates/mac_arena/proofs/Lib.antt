@@ -3,3 +3,4 @@ pub mod Entries
 pub mod Steps
 pub mod Tables
 pub mod Values
+pub mod Naming

@@ -230,7 +230,7 @@ held_table {o} {slots} {count} {buckets} {salt} t n a is =
     }
 
 -- a list of the table has a node's station once
-only_one : {o : Orders} {slots : Slots} {count buckets salt : ℕ} (t : IsTable o slots count buckets salt) (n : ℕ) (a : Learned) → slot_at slots n ≡ Some a → (xs : List ℕ) → ((m : ℕ) → has xs m ≡ true → (y : Learned) × (slot_at slots m ≡ Some y)) → IsOnly (station_in slots) n xs
+pub only_one : {o : Orders} {slots : Slots} {count buckets salt : ℕ} (t : IsTable o slots count buckets salt) (n : ℕ) (a : Learned) → slot_at slots n ≡ Some a → (xs : List ℕ) → ((m : ℕ) → has xs m ≡ true → (y : Learned) × (slot_at slots m ≡ Some y)) → IsOnly (station_in slots) n xs
 only_one {o} {slots} t n a is xs used m on same =
     let there = used m on in
     t.alone m n there.0 a there.1 is (ap station_of (sym there.1) ∙ same ∙ ap station_of is)

@@ -2,4 +2,5 @@ pub mod Station
 pub mod Entry
 pub mod Orders
 pub mod Learning
+pub mod ListsName
 pub mod Nodes

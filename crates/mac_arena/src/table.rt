@@ -3,6 +3,7 @@ ghost use Rattle.std.specs.FinMap.{len};
 ghost use Rattle.mac_arena.specs.Learning.{Learning, nothing_learnt, entry_at, is_full, bucket_in, stations_at, learned_at, left, first_unpinned, IsLatest, entered, heard, held, shifted, dropped, learnt_of, after_learn, can_pin, after_pin, after_removal};
 ghost use Rattle.std.specs.Prelude.{◌-◌, is_some, replicate};
 ghost use Rattle.mac_arena.specs.Entry.{pinned_at};
+ghost use Rattle.mac_arena.specs.ListsName.{ListsName};
 
 use crate::orders::NodeOrders;
 use crate::station::{Entry, Learned, Station};
@@ -73,9 +74,10 @@ impl MacTable {
         })
     }
 
-    /// How many stations are known.
+    /// How many stations are known. The table's lists name exactly these.
     pub fn len(&self) -> usize
-        ensures { result ≡ len self.now.entries }
+        ensures value { result ≡ len self.now.entries }
+        ensures lists { ListsName self.now }
     {
         self.count
     }
