@@ -1,0 +1,124 @@
+ghost use Rattle.std.specs.Prelude.{◌≡◌, ℕ, ◌+◌, ◌^◌, ◌<◌, ◌∷◌, ◌++◌, List, [], All, length, map, replicate, slice_get, slice_set, slice_index_or, IfOk, IfSome, IfNone, Some, true, OnOk, OnErr};
+ghost use Rattle.idx_links.specs.Links.{has, without, Apart, list_at, IsFree, IsLinked};
+ghost use Rattle.idx_links.specs.Families.{Families, lists_of, families_of, IsFamily};
+
+use crate::chains::Chains;
+use std::alloc::{AllocError, Global};
+use std::marker::Model;
+
+/// `K` independent families of doubly linked lists over one arena of nodes.
+///
+/// A node is a number below the arena's size. In each family it is on one list at most, and on which
+/// one says nothing about the other families. Families, and the lists of a family, are numbered from 0.
+/// Only `new` and `grow` take memory; every other call does a constant number of steps.
+#[derive(Drop)]
+pub struct Family<const K: usize> {
+    nodes: usize,
+    chains: Vec<Chains>,
+}
+
+impl<const K: usize> Model for Family<K> {
+    ghost use Rattle.std.specs.Prelude.{◌≡◌};
+    ghost use Rattle.idx_links.specs.Families.{Families, families_of, IsFamily};
+
+    ghost Value = { Families };
+
+    ghost view = { λ f. families_of f.nodes f.chains.items };
+
+    ghost invariant = { λ f. IsFamily K f.nodes f.chains.items };
+}
+
+impl<const K: usize> Family<K> {
+    /// Empty lists, so many in each family, over nodes that are on none of them.
+    pub fn new(alloc: Global, lists: [usize; K], nodes: usize) -> Result<Self, AllocError>
+        requires { All (λ count. count + nodes < 2 ^ 64) lists }
+        ensures nodes { IfOk result (λ f. f.nodes ≡ nodes) }
+        ensures lists { IfOk result (λ f. f.families ≡ map (λ count. replicate count []) lists.entry) }
+    {
+        let lists = Vec::from_array(alloc, lists)?;
+        let mut chains = Vec::with_capacity(alloc, K)?;
+        for count in lists.iter() {
+            chains.push(Chains::new(alloc, *count, nodes)?)?;
+        }
+        Ok(Family { nodes, chains })
+    }
+
+    /// Adds nodes, which are on no list. Where memory is refused, all stays as it was.
+    pub fn grow(&mut self, more: usize) -> Result<(), AllocError>
+        requires nodes { self.old.nodes + more < 2 ^ 64 }
+        requires places { (k : ℕ) → k < K → length (lists_of self.old k) + (self.old.nodes + more) < 2 ^ 64 }
+        ensures ok { OnOk result (self.new ≡ record self.old { nodes = self.old.nodes + more }) }
+        ensures err { OnErr result (self.new ≡ self.old) }
+    {
+        let nodes = self.nodes + more;
+        for family in 0..K {
+            self.chains[family].grow(nodes)?;
+        }
+        self.nodes = nodes;
+        Ok(())
+    }
+
+    /// The first node of the list.
+    pub fn front(&self, family: usize, list: usize) -> Option<usize>
+        requires family { family < K }
+        requires list { list < length (lists_of self.now family) }
+        ensures { result ≡ slice_get (list_at (lists_of self.now family) list) 0 }
+    {
+        self.chains[family].front(list)
+    }
+
+    /// The node that stands behind the node on its list of the family.
+    pub fn next(&self, family: usize, node: usize) -> Option<usize>
+        requires family { family < K }
+        requires node { node < self.now.nodes }
+        requires linked { IsLinked (lists_of self.now family) node }
+        ensures { (l i : ℕ) → slice_get (list_at (lists_of self.now family) l) i ≡ Some node → result ≡ slice_get (list_at (lists_of self.now family) l) (i + 1) }
+    {
+        self.chains[family].next(node)
+    }
+
+    /// How many nodes the list has. No node stands on a list twice.
+    pub fn len(&self, family: usize, list: usize) -> usize
+        requires family { family < K }
+        requires list { list < length (lists_of self.now family) }
+        ensures value { result ≡ length (list_at (lists_of self.now family) list) }
+        ensures apart { (l : ℕ) → Apart (list_at (lists_of self.now family) l) }
+    {
+        self.chains[family].len(list)
+    }
+
+    /// Which list of the family the node is on.
+    pub fn list_of(&self, family: usize, node: usize) -> Option<usize>
+        requires family { family < K }
+        requires node { node < self.now.nodes }
+        ensures on { IfSome result (λ l. has (list_at (lists_of self.now family) l) node ≡ true) }
+        ensures only { IfSome result (λ l. (k : ℕ) → has (list_at (lists_of self.now family) k) node ≡ true → k ≡ l) }
+        ensures within { IfSome result (λ l. l < length (lists_of self.now family)) }
+        ensures off { IfNone result (IsFree (lists_of self.now family) node) }
+    {
+        self.chains[family].list_of(node)
+    }
+
+    /// Puts the node at the end of the list.
+    pub fn push_back(&mut self, family: usize, list: usize, node: usize)
+        requires family { family < K }
+        requires list { list < length (lists_of self.old family) }
+        requires node { node < self.old.nodes }
+        requires free { IsFree (lists_of self.old family) node }
+        ensures nodes { self.new.nodes ≡ self.old.nodes }
+        ensures families { let lists = lists_of self.old family in self.new.families ≡ slice_set self.old.families family (slice_set lists list (list_at lists list ++ node ∷ [])) }
+    {
+        self.chains[family].push_back(list, node);
+    }
+
+    /// Takes the node out of its list of the family.
+    pub fn unlink(&mut self, family: usize, node: usize)
+        requires family { family < K }
+        requires node { node < self.old.nodes }
+        requires linked { IsLinked (lists_of self.old family) node }
+        ensures nodes { self.new.nodes ≡ self.old.nodes }
+        ensures families { self.new.families ≡ slice_set self.old.families family (map (without node) (lists_of self.old family)) }
+    {
+        self.chains[family].unlink(node);
+    }
+}

@@ -1,0 +1,6 @@
+pub mod OrderSteps
+pub mod Entries
+pub mod Steps
+pub mod Tables
+pub mod Values
+pub mod Naming

@@ -1,0 +1,13 @@
+//! The learning table of an edge (IEEE 802.1D-2004, clause 7.8 and 7.9): which station is behind
+//! which port, who was heard longest ago, and who goes when a port is flushed.
+//!
+//! All memory is taken once, when the table is made. A look-up goes along one chain of a hash table,
+//! and every change takes a constant number of steps.
+#![tactic(auto)]
+
+pub mod orders;
+pub mod station;
+pub mod table;
+
+pub use station::{Entry, Learned, Station};
+pub use table::{Learnt, MacTable};

@@ -1,0 +1,76 @@
+ghost use Rattle.std.specs.Prelude.{◌≡◌};
+ghost use Rattle.mac_arena.specs.Entry.{pinned_at, heard_at};
+
+use ether_wire::{Mac, Vni};
+
+/// Who is learnt: a MAC address within a VXLAN network.
+#[derive(Clone, Copy, Debug, PartialEq, Eq, Hash, PartialOrd, Ord)]
+pub struct Station {
+    pub vni: Vni,
+    pub mac: Mac,
+}
+
+/// What is known of a station.
+#[derive(Clone, Copy, Debug, PartialEq, Eq)]
+pub struct Entry {
+    /// The port that the station is behind, from 1.
+    pub port: u8,
+    /// The second at which the station was last heard; 0 while it is pinned.
+    pub last: u64,
+    /// Whether the entry was set by hand. It then stays on its port until it is removed.
+    pub pinned: bool,
+}
+
+/// A station with what is known of it.
+#[derive(Clone, Copy, Debug, PartialEq, Eq)]
+pub struct Learned {
+    pub station: Station,
+    pub entry: Entry,
+}
+
+impl Learned {
+    // Pinned on the port where it is.
+    pub(crate) fn held(&self) -> Learned
+        ensures { result ≡ record { station = self.now.station; entry = pinned_at self.now.entry.port } }
+    {
+        let entry = Entry {
+            port: self.entry.port,
+            last: 0,
+            pinned: true,
+        };
+        Learned {
+            station: self.station,
+            entry,
+        }
+    }
+
+    // Heard on the port where it is.
+    pub(crate) fn heard(&self, second: u64) -> Learned
+        ensures { result ≡ record { station = self.now.station; entry = heard_at self.now.entry.port second } }
+    {
+        let entry = Entry {
+            port: self.entry.port,
+            last: second,
+            pinned: false,
+        };
+        Learned {
+            station: self.station,
+            entry,
+        }
+    }
+
+    // On another port.
+    pub(crate) fn shifted(&self, port: u8) -> Learned
+        ensures { result ≡ record { station = self.now.station; entry = record self.now.entry { port = port } } }
+    {
+        let entry = Entry {
+            port,
+            last: self.entry.last,
+            pinned: self.entry.pinned,
+        };
+        Learned {
+            station: self.station,
+            entry,
+        }
+    }
+}

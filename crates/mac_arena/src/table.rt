@@ -1,0 +1,380 @@
+ghost use Rattle.std.specs.Prelude.{◌≡◌, ℕ, ◌+◌, ◌<◌, ◌≤◌, ◌^◌, true, false, Some, None, length, slice_get, IfOk, IfSome, IfNone, MatchOption};
+ghost use Rattle.std.specs.FinMap.{len};
+ghost use Rattle.mac_arena.specs.Learning.{Learning, nothing_learnt, entry_at, is_full, bucket_in, stations_at, learned_at, left, first_unpinned, IsLatest, entered, heard, held, shifted, dropped, learnt_of, after_learn, can_pin, after_pin, after_removal};
+ghost use Rattle.std.specs.Prelude.{◌-◌, is_some, replicate};
+ghost use Rattle.mac_arena.specs.Entry.{pinned_at};
+ghost use Rattle.mac_arena.specs.ListsName.{ListsName};
+
+use crate::orders::NodeOrders;
+use crate::station::{Entry, Learned, Station};
+use std::alloc::{AllocError, Global};
+use std::marker::Model;
+
+/// What came of learning a station on a port.
+#[derive(Clone, Copy, Debug, PartialEq, Eq)]
+pub enum Learnt {
+    /// It wasn't known, and is learnt.
+    New,
+    /// It was behind another port, and is behind this one now.
+    Moved,
+    /// It was behind this port; it is heard again.
+    Refreshed,
+    /// It is pinned. Nothing changed.
+    Pinned,
+    /// It isn't known, and there is no room. Nothing changed.
+    Full,
+}
+
+/// A learning table: a map from stations to their ports, with the orders that ageing and flushing need.
+///
+/// Each station stands at one of as many nodes as the table has room for. A node is on the chain of its
+/// station's bucket, on the list of its port and, unless it is pinned, on the ageing list; or it is free.
+#[derive(Drop)]
+pub struct MacTable {
+    orders: NodeOrders,
+    slots: Vec<Option<Learned>>,
+    count: usize,
+    buckets: u64,
+    salt: u64,
+}
+
+impl Model for MacTable {
+    ghost use Rattle.std.specs.Coded.{codes};
+    ghost use Rattle.std.specs.FinMap.{code};
+    ghost use Rattle.mac_arena.specs.Learning.{Learning};
+
+    ghost Value = { Learning };
+
+    ghost coded = { Prim.hlevel (codes, code) };
+
+    ghost use Rattle.mac_arena.specs.Nodes.{learning_of, IsTable};
+
+    ghost view = { λ t. learning_of t.orders t.slots.items t.salt };
+
+    ghost invariant = { λ t. IsTable t.orders t.slots.items t.count t.buckets t.salt };
+}
+
+impl MacTable {
+    /// A table with room for so many stations, for ports from 1 on, with so many buckets.
+    /// `salt` keeps a stranger from choosing stations that all fall into one bucket.
+    pub fn new(alloc: Global, capacity: usize, ports: u8, buckets: usize, salt: u64) -> Result<Self, AllocError>
+        requires capacity { capacity ≤ 65536 }
+        requires some { 0 < buckets }
+        requires buckets { buckets ≤ 65536 }
+        ensures { IfOk result (λ t. t ≡ nothing_learnt capacity ports buckets salt) }
+    {
+        let orders = NodeOrders::new(alloc, buckets, ports as usize, capacity)?;
+        let slots = nobody(alloc, capacity)?;
+        Ok(MacTable {
+            orders,
+            slots,
+            count: 0,
+            buckets: buckets as u64,
+            salt,
+        })
+    }
+
+    /// How many stations are known. The table's lists name exactly these.
+    pub fn len(&self) -> usize
+        ensures value { result ≡ len self.now.entries }
+        ensures lists { ListsName self.now }
+    {
+        self.count
+    }
+
+    /// The bucket of a station: network and address as one number of 64 bits, mixed with the salt by
+    /// one multiplication, of whose product the upper half counts.
+    pub fn bucket(&self, key: Station) -> usize
+        ensures { result ≡ bucket_in self.now key }
+    {
+        let number = (key.vni.number() as u64).wrapping_mul(0x1_0000_0000_0000).wrapping_add(key.mac.number());
+        let hash = (number ^ self.salt).wrapping_mul(0x9E37_79B9_7F4A_7C15) >> 32;
+        (hash % self.buckets) as usize
+    }
+
+    /// How many stations the bucket's chain holds.
+    pub fn chain(&self, bucket: usize) -> usize
+        requires { bucket < length self.now.chains }
+        ensures { result ≡ length (stations_at self.now.chains bucket) }
+    {
+        self.orders.chain_len(bucket)
+    }
+
+    /// Who stands at a node, with what is known of it.
+    pub fn walk(&self, node: usize) -> Option<Learned>
+        requires { node < length self.now.places }
+        ensures { result ≡ learned_at self.now node }
+    {
+        self.slots[node]
+    }
+
+    /// What is known of a station.
+    pub fn look(&self, key: Station) -> Option<Entry>
+        ensures { result ≡ entry_at self.now key }
+    {
+        match self.find(key) {
+            Some((_node, learned)) => Some(learned.entry),
+            None => None,
+        }
+    }
+
+    /// The station that was heard longest ago, of those that aren't pinned.
+    pub fn oldest(&self) -> Option<Station>
+        ensures { result ≡ slice_get self.now.ageing 0 }
+    {
+        let Some(node) = self.orders.oldest() else { return None };
+        let Some(learned) = self.slots[node] else { return None };
+        Some(learned.station)
+    }
+
+    // The node where a station stands, with what stands there.
+    fn find(&self, key: Station) -> Option<(usize, Learned)>
+        ensures found { IfSome result (λ f. learned_at self.now f.0 ≡ Some f.1) }
+        ensures same { IfSome result (λ f. f.1.station ≡ key) }
+        ensures timeless { IfSome result (λ f. f.1.entry.pinned ≡ true → f.1.entry.last ≡ 0) }
+        ensures still { IfSome result (λ f. f.1.entry.pinned ≡ true → left key self.now.ageing ≡ self.now.ageing) }
+        ensures missing { IfNone result (entry_at self.now key ≡ None) }
+    {
+        let bucket = self.bucket(key);
+        let mut at = self.orders.first_in_chain(bucket);
+        for _ in 0..self.orders.chain_len(bucket) {
+            let Some(node) = at else { return None };
+            if let Some(learned) = self.slots[node] {
+                if learned.station == key {
+                    return Some((node, learned));
+                }
+            }
+            at = self.orders.next_in_chain(node);
+        }
+        None
+    }
+
+    /// The first station of the port's list that isn't pinned.
+    pub fn first_of(&self, port: u8) -> Option<Station>
+        requires some { 0 < port }
+        requires port { port ≤ length self.now.ports }
+        ensures { result ≡ first_unpinned self.now (stations_at self.now.ports (port - 1)) }
+    {
+        let list = port as usize - 1;
+        let mut at = self.orders.first_at_port(list);
+        for _ in 0..self.orders.port_len(list) {
+            let Some(node) = at else { return None };
+            if let Some(learned) = self.slots[node] {
+                if !learned.entry.pinned {
+                    return Some(learned.station);
+                }
+            }
+            at = self.orders.next_at_port(node);
+        }
+        None
+    }
+
+    /// Learns a station on a port, at a second that isn't below an earlier one.
+    pub fn learn(&mut self, key: Station, port: u8, second: u64) -> Learnt
+        requires some { 0 < port }
+        requires port { port ≤ length self.old.ports }
+        requires latest { IsLatest self.old second }
+        ensures answer { result ≡ learnt_of self.old key port }
+        ensures after { self.new ≡ after_learn self.old key port second result }
+    {
+        match self.find(key) {
+            Some((node, learned)) => self.learn_again(node, &learned, port, second),
+            None => self.learn_new(&key, port, second),
+        }
+    }
+
+    /// Pins a station on a port, whether it is known or not. Answers false, and changes nothing, where
+    /// it isn't known and there is no room.
+    pub fn pin(&mut self, key: Station, port: u8) -> bool
+        requires some { 0 < port }
+        requires port { port ≤ length self.old.ports }
+        ensures answer { result ≡ can_pin self.old key }
+        ensures after { self.new ≡ after_pin self.old key port }
+    {
+        match self.find(key) {
+            Some((node, learned)) => {
+                self.pin_known(node, &learned, port);
+                true
+            }
+            None => match self.place() {
+                Some(node) => {
+                    self.enter(node, &key, port);
+                    true
+                }
+                None => false,
+            },
+        }
+    }
+
+    /// Removes a station, and answers whether it was known.
+    pub fn remove(&mut self, key: Station) -> bool
+        ensures answer { result ≡ is_some (entry_at self.old key) }
+        ensures after { self.new ≡ after_removal self.old key }
+    {
+        let Some((node, learned)) = self.find(key) else { return false };
+        if learned.entry.pinned {
+            self.leave(node, &learned);
+        } else {
+            let held = learned.held();
+            self.hold(node, &learned);
+            self.leave(node, &held);
+        }
+        true
+    }
+
+    // The node that a new station takes, if there is room.
+    fn place(&self) -> Option<usize>
+        ensures some { IfSome result (λ n. slice_get self.now.free 0 ≡ Some n) }
+        ensures room { IfSome result (λ n. is_full self.now ≡ false) }
+        ensures none { IfNone result (is_full self.now ≡ true) }
+    {
+        self.orders.first_free()
+    }
+
+    // Learns a station that isn't known.
+    fn learn_new(&mut self, key: &Station, port: u8, second: u64) -> Learnt
+        requires some { 0 < port }
+        requires port { port ≤ length self.old.ports }
+        requires latest { IsLatest self.old second }
+        requires new { entry_at self.old key.now ≡ None }
+        ensures answer { result ≡ learnt_of self.old key.now port }
+        ensures after { self.new ≡ after_learn self.old key.now port second result }
+    {
+        let Some(node) = self.place() else { return Learnt::Full };
+        self.enter(node, key, port);
+        let entered = pinned_on(key, port);
+        self.hear(node, &entered, second);
+        Learnt::New
+    }
+
+    // Learns a station that is known.
+    fn learn_again(&mut self, node: usize, learned: &Learned, port: u8, second: u64) -> Learnt
+        requires some { 0 < port }
+        requires port { port ≤ length self.old.ports }
+        requires latest { IsLatest self.old second }
+        requires at { learned_at self.old node ≡ Some learned.now }
+        ensures answer { result ≡ learnt_of self.old learned.now.station port }
+        ensures after { self.new ≡ after_learn self.old learned.now.station port second result }
+    {
+        if learned.entry.pinned {
+            return Learnt::Pinned;
+        }
+        if learned.entry.port == port {
+            let held = learned.held();
+            self.hold(node, learned);
+            self.hear(node, &held, second);
+            return Learnt::Refreshed;
+        }
+        let shifted = learned.shifted(port);
+        self.shift(node, learned, port);
+        let held = shifted.held();
+        self.hold(node, &shifted);
+        self.hear(node, &held, second);
+        Learnt::Moved
+    }
+
+    // Pins a station that is known.
+    fn pin_known(&mut self, node: usize, learned: &Learned, port: u8)
+        requires some { 0 < port }
+        requires port { port ≤ length self.old.ports }
+        requires at { learned_at self.old node ≡ Some learned.now }
+        requires timeless { learned.now.entry.pinned ≡ true → learned.now.entry.last ≡ 0 }
+        requires still { learned.now.entry.pinned ≡ true → left learned.now.station self.old.ageing ≡ self.old.ageing }
+        ensures { self.new ≡ after_pin self.old learned.now.station port }
+    {
+        if learned.entry.pinned {
+            if learned.entry.port != port {
+                self.shift(node, learned, port);
+            }
+            return;
+        }
+        let held = learned.held();
+        self.hold(node, learned);
+        if held.entry.port != port {
+            self.shift(node, &held, port);
+        }
+    }
+
+    // A new station takes the first free node, pinned on the port.
+    fn enter(&mut self, node: usize, key: &Station, port: u8)
+        requires some { 0 < port }
+        requires port { port ≤ length self.old.ports }
+        requires free { slice_get self.old.free 0 ≡ Some node }
+        requires new { entry_at self.old key.now ≡ None }
+        ensures after { self.new ≡ entered self.old key.now port }
+        ensures at { learned_at self.new node ≡ Some (record { station = key.now; entry = pinned_at port }) }
+    {
+        let bucket = self.bucket(*key);
+        self.orders.enter(node, bucket, port as usize - 1);
+        let entered = pinned_on(key, port);
+        self.slots[node] = Some(entered);
+        self.count += 1;
+    }
+
+    // A pinned station is heard on its port, and ages from then on.
+    fn hear(&mut self, node: usize, learned: &Learned, second: u64)
+        requires at { learned_at self.old node ≡ Some learned.now }
+        requires pinned { learned.now.entry.pinned ≡ true }
+        requires latest { IsLatest self.old second }
+        ensures { self.new ≡ heard self.old learned.now.station learned.now.entry.port second }
+    {
+        self.orders.age(node);
+        self.slots[node] = Some(learned.heard(second));
+    }
+
+    // An ageing station is pinned on its port.
+    fn hold(&mut self, node: usize, learned: &Learned)
+        requires at { learned_at self.old node ≡ Some learned.now }
+        requires ageing { learned.now.entry.pinned ≡ false }
+        ensures after { self.new ≡ held self.old learned.now.station learned.now.entry.port }
+        ensures at { learned_at self.new node ≡ Some (record { station = learned.now.station; entry = pinned_at learned.now.entry.port }) }
+    {
+        self.orders.hold(node);
+        self.slots[node] = Some(learned.held());
+    }
+
+    // A station goes to another port.
+    fn shift(&mut self, node: usize, learned: &Learned, port: u8)
+        requires some { 0 < port }
+        requires port { port ≤ length self.old.ports }
+        requires at { learned_at self.old node ≡ Some learned.now }
+        ensures after { self.new ≡ shifted self.old learned.now.station learned.now.entry port }
+        ensures at { learned_at self.new node ≡ Some (record { station = learned.now.station; entry = record learned.now.entry { port = port } }) }
+    {
+        self.orders.shift(node, port as usize - 1);
+        self.slots[node] = Some(learned.shifted(port));
+    }
+
+    // A pinned station leaves the table.
+    fn leave(&mut self, node: usize, learned: &Learned)
+        requires at { learned_at self.old node ≡ Some learned.now }
+        requires pinned { learned.now.entry.pinned ≡ true }
+        ensures { self.new ≡ dropped self.old learned.now.station }
+    {
+        self.orders.leave(node);
+        self.slots[node] = None;
+        self.count -= 1;
+    }
+}
+
+// So many places with nobody.
+fn nobody(alloc: Global, places: usize) -> Result<Vec<Option<Learned>>, AllocError>
+    ensures { IfOk result (λ v. v.items ≡ replicate places None) }
+{
+    vec![in alloc; None; places]
+}
+
+// A station that is pinned on a port.
+fn pinned_on(station: &Station, port: u8) -> Learned
+    ensures { result ≡ record { station = station.now; entry = pinned_at port } }
+{
+    let entry = Entry {
+        port,
+        last: 0,
+        pinned: true,
+    };
+    Learned {
+        station: *station,
+        entry,
+    }
+}
