@@ -1,12 +1,21 @@
 use crate::id::{BridgeId, PortId};
 
-/// What a configuration message says (IEEE 802.1D-2004, 9.3.1 and 9.3.3). The fields are as they
-/// stand in the octets: times are in 1/256 of a second.
+/// The role that a Rapid Spanning Tree BPDU says its sender's port has (IEEE 802.1D-2004, 9.3.3).
+#[derive(Clone, Copy, Debug, PartialEq, Eq)]
+pub enum SenderRole {
+    Unknown,
+    AlternateOrBackup,
+    Root,
+    Designated,
+}
+
+/// What a Configuration or a Rapid Spanning Tree BPDU says (IEEE 802.1D-2004, 9.3.1 and 9.3.3). The
+/// fields are as they stand in the octets: times are in 1/256 of a second.
 #[derive(Clone, Copy, Debug, PartialEq, Eq)]
 pub struct Message {
-    /// 0x01 topology change, 0x02 proposal, 0x0c role (0 unknown, 1 alternate or backup, 2 root,
-    /// 3 designated), 0x10 learning, 0x20 forwarding, 0x40 agreement, 0x80 topology change
-    /// acknowledgement.
+    /// 0x01 topology change, 0x02 proposal, 0x0c role (0x00 unknown, 0x04 alternate or backup, 0x08
+    /// root, 0x0c designated), 0x10 learning, 0x20 forwarding, 0x40 agreement, 0x80 topology change
+    /// acknowledgement. A Configuration BPDU has the first and the last alone.
     pub flags: u8,
     /// The bridge that the sender takes for the root.
     pub root: BridgeId,
@@ -16,10 +25,80 @@ pub struct Message {
     pub bridge: BridgeId,
     /// The sender's port.
     pub port: PortId,
+    /// How old the root's message is.
     pub message_age: u16,
+    /// The age at which the message is to be forgotten.
     pub max_age: u16,
+    /// How often the root sends.
     pub hello: u16,
+    /// How long a port waits before it learns, and before it forwards.
     pub forward_delay: u16,
+}
+
+impl Message {
+    ghost use Rattle.std.specs.Prelude.{◌≡◌};
+    ghost use Rattle.bpdu_wire.specs.Bpdu.{has_topology_change, has_proposal, role_of, has_learning, has_forwarding, has_agreement, has_acknowledgement, is_expired};
+
+    /// Whether the topology change flag is set.
+    pub fn has_topology_change(&self) -> bool
+        ensures { result ≡ has_topology_change self.now.flags }
+    {
+        self.flags & 0x01 != 0
+    }
+
+    /// Whether the proposal flag is set.
+    pub fn has_proposal(&self) -> bool
+        ensures { result ≡ has_proposal self.now.flags }
+    {
+        self.flags & 0x02 != 0
+    }
+
+    /// The role that the flags say.
+    pub fn role(&self) -> SenderRole
+        ensures { result ≡ role_of self.now.flags }
+    {
+        match self.flags & 0x0c {
+            0x00 => SenderRole::Unknown,
+            0x04 => SenderRole::AlternateOrBackup,
+            0x08 => SenderRole::Root,
+            _ => SenderRole::Designated,
+        }
+    }
+
+    /// Whether the learning flag is set.
+    pub fn has_learning(&self) -> bool
+        ensures { result ≡ has_learning self.now.flags }
+    {
+        self.flags & 0x10 != 0
+    }
+
+    /// Whether the forwarding flag is set.
+    pub fn has_forwarding(&self) -> bool
+        ensures { result ≡ has_forwarding self.now.flags }
+    {
+        self.flags & 0x20 != 0
+    }
+
+    /// Whether the agreement flag is set.
+    pub fn has_agreement(&self) -> bool
+        ensures { result ≡ has_agreement self.now.flags }
+    {
+        self.flags & 0x40 != 0
+    }
+
+    /// Whether the topology change acknowledgement flag is set.
+    pub fn has_acknowledgement(&self) -> bool
+        ensures { result ≡ has_acknowledgement self.now.flags }
+    {
+        self.flags & 0x80 != 0
+    }
+
+    /// Whether the message is as old as it may get.
+    pub(crate) fn is_expired(&self) -> bool
+        ensures { result ≡ is_expired self.now }
+    {
+        self.max_age <= self.message_age
+    }
 }
 
 /// A BPDU (IEEE 802.1D-2004, 9.3).
@@ -31,4 +110,23 @@ pub enum Bpdu {
     Rst(Message),
     /// A Topology Change Notification BPDU, of the older protocol.
     Tcn,
+}
+
+impl Bpdu {
+    ghost use Rattle.std.specs.Prelude.{◌≡◌};
+    ghost use Rattle.bpdu_wire.specs.Bpdu.{is_aged};
+
+    /// Whether the BPDU is refused for its age: it speaks for the root, as a Configuration BPDU or
+    /// a designated port's Rapid Spanning Tree BPDU, and its message age isn't below its max age.
+    pub fn is_aged(&self) -> bool
+        ensures { result ≡ is_aged self.now }
+    {
+        match self {
+            Bpdu::Config(message) => message.is_expired(),
+            Bpdu::Rst(message) => {
+                message.role() == SenderRole::Designated && message.is_expired()
+            }
+            Bpdu::Tcn => false,
+        }
+    }
 }

@@ -3,6 +3,14 @@
 
 mod bpdu;
 mod id;
+mod reading;
+mod refusal;
+#[cfg(test)]
+mod tests;
+mod writing;
 
-pub use bpdu::{Bpdu, Message};
+pub use bpdu::{Bpdu, Message, SenderRole};
 pub use id::{BridgeId, PortId};
+pub use reading::read;
+pub use refusal::Refusal;
+pub use writing::write;
