@@ -1,3 +1,4 @@
 pub mod Direct
 pub mod Port
 pub mod Start
+pub mod Vector
