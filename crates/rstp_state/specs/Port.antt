@@ -5,6 +5,12 @@ use Rattle.rstp_state.specs.declared.port.PortState.{PortState}
 use Rattle.rstp_state.specs.declared.port.Timing.{Timing}
 use Rattle.rstp_state.specs.declared.port.Role.{Role}
 use Rattle.rstp_state.specs.declared.port.Role.TheVariants as role
+use Rattle.rstp_state.specs.declared.port.Migration.{Migration}
+use Rattle.rstp_state.specs.declared.port.Migration.TheVariants as migration
+use Rattle.rstp_state.specs.declared.port.Information.{Information}
+use Rattle.rstp_state.specs.declared.port.Information.TheVariants as information
+use Rattle.rstp_state.specs.declared.port.Topology.{Topology}
+use Rattle.rstp_state.specs.declared.port.Topology.TheVariants as topology
 use Rattle.rstp_state.specs.declared.port.InfoIs.{InfoIs}
 use Rattle.rstp_state.specs.declared.port.InfoIs.TheVariants as info_is
 
@@ -40,6 +46,40 @@ same_role role.Alternate role.Alternate = true
 same_role role.Backup role.Backup = true
 same_role _ _ = false
 
+-- machine states
+
+abbrev pub is_checking : Migration → Bool
+is_checking migration.Checking = true
+is_checking _ = false
+
+abbrev pub is_selecting : Migration → Bool
+is_selecting migration.Selecting = true
+is_selecting _ = false
+
+abbrev pub is_sensing : Migration → Bool
+is_sensing migration.Sensing = true
+is_sensing _ = false
+
+abbrev pub is_out : Information → Bool
+is_out information.Disabled = true
+is_out _ = false
+
+abbrev pub is_current : Information → Bool
+is_current information.Current = true
+is_current _ = false
+
+abbrev pub is_inactive : Topology → Bool
+is_inactive topology.Inactive = true
+is_inactive _ = false
+
+abbrev pub is_learning : Topology → Bool
+is_learning topology.Learning = true
+is_learning _ = false
+
+abbrev pub is_active : Topology → Bool
+is_active topology.Active = true
+is_active _ = false
+
 abbrev pub is_received : InfoIs → Bool
 is_received info_is.Received = true
 is_received _ = false
@@ -47,6 +87,8 @@ is_received _ = false
 abbrev pub is_mine : InfoIs → Bool
 is_mine info_is.Mine = true
 is_mine _ = false
+
+-- tests of a port
 
 -- the roles are chosen, and nothing waits to be taken over: the table's 'selected, not updtInfo'
 abbrev pub may_act : PortState → Bool

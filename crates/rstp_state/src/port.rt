@@ -169,6 +169,67 @@ impl Role {
     }
 }
 
+impl Migration {
+    ghost use Rattle.rstp_state.specs.Port.{is_checking, is_selecting, is_sensing};
+
+    pub fn is_checking(self) -> bool
+        ensures { result ≡ is_checking self }
+    {
+        matches!(self, Migration::Checking)
+    }
+
+    pub fn is_selecting(self) -> bool
+        ensures { result ≡ is_selecting self }
+    {
+        matches!(self, Migration::Selecting)
+    }
+
+    pub fn is_sensing(self) -> bool
+        ensures { result ≡ is_sensing self }
+    {
+        matches!(self, Migration::Sensing)
+    }
+}
+
+impl Information {
+    ghost use Rattle.rstp_state.specs.Port.{is_out, is_current};
+
+    /// Whether the machine is in its state Disabled.
+    pub fn is_out(self) -> bool
+        ensures { result ≡ is_out self }
+    {
+        matches!(self, Information::Disabled)
+    }
+
+    pub fn is_current(self) -> bool
+        ensures { result ≡ is_current self }
+    {
+        matches!(self, Information::Current)
+    }
+}
+
+impl Topology {
+    ghost use Rattle.rstp_state.specs.Port.{is_inactive, is_learning, is_active};
+
+    pub fn is_inactive(self) -> bool
+        ensures { result ≡ is_inactive self }
+    {
+        matches!(self, Topology::Inactive)
+    }
+
+    pub fn is_learning(self) -> bool
+        ensures { result ≡ is_learning self }
+    {
+        matches!(self, Topology::Learning)
+    }
+
+    pub fn is_active(self) -> bool
+        ensures { result ≡ is_active self }
+    {
+        matches!(self, Topology::Active)
+    }
+}
+
 impl InfoIs {
     ghost use Rattle.rstp_state.specs.Port.{is_received, is_mine};
 
