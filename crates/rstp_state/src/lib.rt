@@ -4,5 +4,6 @@
 
 pub mod direct;
 pub mod port;
+pub mod selection;
 pub mod start;
 pub mod vector;
