@@ -3,6 +3,7 @@
 ghost use Rattle.std.specs.Prelude.{◌≡◌, map};
 ghost use Rattle.std.specs.List.{enumerate_from};
 ghost use Rattle.rstp_state.specs.Selection.{
+  own_root,
   own_path,
   is_told,
   path_through,
@@ -26,12 +27,27 @@ use crate::start::Settings;
 use crate::vector::{Times, Vector};
 use bpdu_wire::PortId;
 
+#[cfg(test)]
+mod tests;
+
 /// What a bridge takes for its root: the vector of its way there, and the root's times as they are
 /// to be given on, in seconds.
 #[derive(Clone, Copy, Debug, PartialEq, Eq)]
 pub struct Root {
     pub priority: Vector,
     pub times: Times,
+}
+
+impl Root {
+    /// The root of a bridge that takes itself for it.
+    pub fn own(settings: &Settings) -> Self
+        ensures { result ≡ own_root settings.now }
+    {
+        Root {
+            priority: settings.own_vector(PortId::new(0)),
+            times: settings.own_times(),
+        }
+    }
 }
 
 /// A way to the root that a bridge may choose. The lesser is the better one: vectors decide, then
