@@ -2,7 +2,7 @@
 
 ghost use Rattle.std.specs.Prelude.{◌≡◌, ◌<◌, length};
 ghost use Rattle.rstp_state.specs.Port.{test_at};
-ghost use Rattle.rstp_roles.specs.Rules.{role_guard, role_effect, state_guard, state_effect};
+ghost use Rattle.rstp_roles.specs.Rules.{role_asks, role_does, state_asks, state_does};
 
 use crate::all_ports::{all_synced, re_rooted};
 use crate::role_transitions::*;
@@ -13,7 +13,7 @@ use rstp_state::port::{PortState, Timing};
 /// Whether the rule's guard holds at the port at place `p`.
 pub fn role_is_enabled(timing: &Timing, ports: &[PortState], rule: RoleRule, p: usize) -> bool
     requires { p < length ports.now }
-    ensures { result ≡ test_at p (role_guard rule timing.now ports.now p) ports.now }
+    ensures { result ≡ test_at p (role_asks rule timing.now ports.now p) ports.now }
 {
     let port = &ports[p];
     match rule {
@@ -44,7 +44,7 @@ pub fn role_is_enabled(timing: &Timing, ports: &[PortState], rule: RoleRule, p: 
 /// Fires the rule at the port at place `p`.
 pub fn fire_role(timing: &Timing, ports: &mut [PortState], rule: RoleRule, p: usize)
     requires { p < length ports.old }
-    ensures { ports.new ≡ role_effect rule timing.now ports.old p }
+    ensures { ports.new ≡ role_does rule timing.now ports.old p }
 {
     match rule {
         RoleRule::Disable => disable(&mut ports[p]),
@@ -73,7 +73,7 @@ pub fn fire_role(timing: &Timing, ports: &mut [PortState], rule: RoleRule, p: us
 
 /// Whether the rule's guard holds at the port.
 pub fn state_is_enabled(port: &PortState, rule: StateRule) -> bool
-    ensures { result ≡ state_guard rule port.now }
+    ensures { result ≡ state_asks rule port.now }
 {
     match rule {
         StateRule::ToLearning => to_learning_guard(port),
@@ -84,7 +84,7 @@ pub fn state_is_enabled(port: &PortState, rule: StateRule) -> bool
 
 /// Fires the rule at the port.
 pub fn fire_state(port: &mut PortState, rule: StateRule)
-    ensures { port.new ≡ state_effect rule port.old }
+    ensures { port.new ≡ state_does rule port.old }
 {
     match rule {
         StateRule::ToLearning => to_learning(port),
