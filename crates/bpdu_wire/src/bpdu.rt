@@ -102,13 +102,14 @@ impl Message {
 }
 
 /// A BPDU (IEEE 802.1D-2004, 9.3).
-#[derive(Clone, Copy, Debug, PartialEq, Eq)]
+#[derive(Clone, Copy, Debug, PartialEq, Eq, Default)]
 pub enum Bpdu {
     /// A Configuration BPDU, of the older protocol.
     Config(Message),
     /// A Rapid Spanning Tree BPDU.
     Rst(Message),
     /// A Topology Change Notification BPDU, of the older protocol.
+    #[default]
     Tcn,
 }
 
