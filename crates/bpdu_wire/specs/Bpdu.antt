@@ -1,32 +1,10 @@
--- What a BPDU's flags say, and when it is too old (IEEE 802.1D-2004, 9.3.1, 9.3.3 and 9.3.4).
-use Rattle.std.specs.Prelude.{ℕ, Bool, true, false, not, ◌&&◌, ◌==◌, nat_le, if◌then◌else◌, bit_and}
+-- The role that a BPDU says its sender's port has, and when it is too old (IEEE 802.1D-2004, 9.3.3 and 9.3.4).
+use Rattle.std.specs.Prelude.{ℕ, Bool, true, false, ◌&&◌, ◌==◌, nat_le, if◌then◌else◌, bit_and}
 use Rattle.bpdu_wire.specs.declared.bpdu.SenderRole.{SenderRole}
 use Rattle.bpdu_wire.specs.declared.bpdu.SenderRole.TheVariants.{Unknown, AlternateOrBackup, Root, Designated}
 use Rattle.bpdu_wire.specs.declared.bpdu.Message.{Message}
 use Rattle.bpdu_wire.specs.declared.bpdu.Bpdu.{Bpdu}
 use Rattle.bpdu_wire.specs.declared.bpdu.Bpdu.TheVariants.{Config, Rst, Tcn}
-
--- one of these bits is set
-abbrev pub has_flag : ℕ → ℕ → Bool
-has_flag flags bits = not (bit_and flags bits == 0)
-
-abbrev pub has_topology_change : ℕ → Bool
-has_topology_change flags = has_flag flags 0x01
-
-abbrev pub has_proposal : ℕ → Bool
-has_proposal flags = has_flag flags 0x02
-
-abbrev pub has_learning : ℕ → Bool
-has_learning flags = has_flag flags 0x10
-
-abbrev pub has_forwarding : ℕ → Bool
-has_forwarding flags = has_flag flags 0x20
-
-abbrev pub has_agreement : ℕ → Bool
-has_agreement flags = has_flag flags 0x40
-
-abbrev pub has_acknowledgement : ℕ → Bool
-has_acknowledgement flags = has_flag flags 0x80
 
 -- the two bits of the role
 abbrev pub role_of : ℕ → SenderRole

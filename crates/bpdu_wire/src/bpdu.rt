@@ -37,21 +37,7 @@ pub struct Message {
 
 impl Message {
     ghost use Rattle.std.specs.Prelude.{◌≡◌};
-    ghost use Rattle.bpdu_wire.specs.Bpdu.{has_topology_change, has_proposal, role_of, has_learning, has_forwarding, has_agreement, has_acknowledgement, is_expired};
-
-    /// Whether the topology change flag is set.
-    pub fn has_topology_change(&self) -> bool
-        ensures { result ≡ has_topology_change self.now.flags }
-    {
-        self.flags & 0x01 != 0
-    }
-
-    /// Whether the proposal flag is set.
-    pub fn has_proposal(&self) -> bool
-        ensures { result ≡ has_proposal self.now.flags }
-    {
-        self.flags & 0x02 != 0
-    }
+    ghost use Rattle.bpdu_wire.specs.Bpdu.{role_of, is_expired};
 
     /// The role that the flags say.
     pub fn role(&self) -> SenderRole
@@ -63,34 +49,6 @@ impl Message {
             0x08 => SenderRole::Root,
             _ => SenderRole::Designated,
         }
-    }
-
-    /// Whether the learning flag is set.
-    pub fn has_learning(&self) -> bool
-        ensures { result ≡ has_learning self.now.flags }
-    {
-        self.flags & 0x10 != 0
-    }
-
-    /// Whether the forwarding flag is set.
-    pub fn has_forwarding(&self) -> bool
-        ensures { result ≡ has_forwarding self.now.flags }
-    {
-        self.flags & 0x20 != 0
-    }
-
-    /// Whether the agreement flag is set.
-    pub fn has_agreement(&self) -> bool
-        ensures { result ≡ has_agreement self.now.flags }
-    {
-        self.flags & 0x40 != 0
-    }
-
-    /// Whether the topology change acknowledgement flag is set.
-    pub fn has_acknowledgement(&self) -> bool
-        ensures { result ≡ has_acknowledgement self.now.flags }
-    {
-        self.flags & 0x80 != 0
     }
 
     /// Whether the message is as old as it may get.
