@@ -1,10 +1,9 @@
 -- The mask has the ports at which the flush rule fired.
-use Rattle.std.proofs.Common.{◌≡◌, ℕ, ◌≤◌, ◌<◌, ◌^◌, ◌&&◌, ◌||◌, ◌==◌, Bool, true, false, List, [], ◌∷◌, length, refl, sym, ◌∙◌, ap, arith, if◌then◌else◌, bit_or, max, ◌≢◌, ◌+◌, subst}
+use Rattle.std.proofs.Common.{◌≡◌, ℕ, ◌≤◌, ◌<◌, ◌^◌, ◌&&◌, ◌||◌, ◌==◌, Bool, true, false, List, [], ◌∷◌, length, refl, sym, arith, if◌then◌else◌, bit_or, max, ◌≢◌, ◌+◌, subst}
 use Rattle.std.specs.Int.{bit_at}
 use Rattle.std.proofs.lemmas.Bool.{eqb-true, eqb-false}
 use Rattle.std.proofs.lemmas.Nat.Bits.{bit_at_or, bit_at-pow_same, bit_at-pow_other, bit_at-zero, bit_at-lt}
-use Rattle.rstp_run.specs.declared.rule.Rule.{Rule}
-use Rattle.rstp_run.specs.Runs.{Firing, Run, Goes, flushed, flush_after, is_flush}
+use Rattle.rstp_run.specs.Runs.{Firing, Run, Goes, flushed, is_flush}
 use Rattle.rstp_run.specs.Rules.{Tree}
 use Rattle.rstp_run.specs.Events.{flushes, direct, Happens}
 use Rattle.rstp_run.specs.declared.count.Count.{Count}

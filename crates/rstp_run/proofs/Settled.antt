@@ -1,5 +1,5 @@
 -- A bridge is settled where no rule of the two tables is enabled at a port that is there.
-use Rattle.std.proofs.Common.{◌≡◌, ℕ, ◌≤◌, ◌<◌, Bool, true, false, Option, Some, None, List, [], ◌∷◌, length, slice_get, refl, sym, ◌∙◌, ap, ◌⊎◌, inl, inr, ◌↔◌, arith, IsTrue, not}
+use Rattle.std.proofs.Common.{◌≡◌, ℕ, ◌≤◌, Bool, true, false, Some, List, [], ◌∷◌, length, slice_get, refl, ◌⊎◌, inl, inr, ◌↔◌, IsTrue, not}
 use Rattle.std.specs.List.{list_any}
 use Rattle.std.proofs.lemmas.Bool.{cases_lt}
 use Rattle.std.proofs.lemmas.Option.{slice_get_past}
@@ -16,7 +16,7 @@ use Rattle.rstp_run.specs.declared.rule.TopologyRule.TheVariants as topology_rul
 use Rattle.rstp_run.specs.declared.rule.TransmitRule.TheVariants as transmit_rule
 use Rattle.rstp_run.specs.declared.rule.TheConstants.{MAIN, SENDS}
 use Rattle.rstp_run.specs.Rules.{Tree, guard}
-use Rattle.rstp_run.specs.Runs.{IsOff, AreOffAt, AreOff, IsSettled}
+use Rattle.rstp_run.specs.Runs.{AreOffAt, AreOff, IsSettled}
 
 -- each rule stands in one of the tables
 pub covered : (rule : Rule) → ((k : ℕ) × (slice_get MAIN k ≡ Some rule)) ⊎ ((k : ℕ) × (slice_get SENDS k ≡ Some rule))

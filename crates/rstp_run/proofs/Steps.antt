@@ -1,8 +1,8 @@
 -- Lemmas on single firings and on runs.
-use Rattle.std.proofs.Common.{◌≡◌, ℕ, ◌+◌, ◌≤◌, ◌<◌, Bool, true, false, Option, Some, None, List, [], ◌∷◌, ◌++◌, length, map, take, get_or, slice_get, slice_set, refl, subst, sym, ◌∙◌, ap, IsTrue, arith}
+use Rattle.std.proofs.Common.{◌≡◌, ℕ, ◌+◌, ◌≤◌, ◌<◌, true, Some, None, List, [], ◌∷◌, ◌++◌, length, map, take, get_or, slice_get, slice_set, refl, subst, sym, ◌∙◌, ap, arith}
 use Rattle.std.proofs.lemmas.List.{length-set, length-map, length-append}
 use Rattle.std.specs.Option.{option_map_or}
-use Rattle.std.specs.List.{list_any, enumerate_from}
+use Rattle.std.specs.List.{enumerate_from}
 use Rattle.std.proofs.lemmas.List.Folds.{list_any_more}
 use Rattle.std.proofs.lemmas.List.FromFn.{length-enumerate_from}
 use Rattle.rstp_state.specs.declared.port.PortState.{PortState}
@@ -18,7 +18,7 @@ use Rattle.rstp_run.specs.declared.rule.TopologyRule.TheVariants as topology_rul
 use Rattle.rstp_run.specs.declared.count.Count.{Count}
 use Rattle.rstp_run.specs.TopologyChange.{telling_others, with_propagation}
 use Rattle.rstp_run.specs.Rules.{Tree, guard, after, ports_after}
-use Rattle.rstp_run.specs.Runs.{Goes, Sweeps, IsIdle, IsOff, AreOffAt, AreOffBelow, Run, Fires, Firing, flushed, flush_after, counted}
+use Rattle.rstp_run.specs.Runs.{Goes, Sweeps, IsIdle, IsOff, AreOffAt, Run, Firing, flushed, flush_after, counted}
 
 pub length-change_at : (p : ℕ) (change : PortState → PortState) (ports : List PortState) → length (change_at p change ports) ≡ length ports
 length-change_at p change ports =

@@ -8,7 +8,7 @@ use Rattle.rstp_state.specs.declared.start.PortSettings.{PortSettings}
 use Rattle.rstp_state.specs.declared.start.Settings.{Settings}
 use Rattle.rstp_state.specs.Direct.{with_enabled, with_message, with_migration_check, with_second, without_slot}
 use Rattle.rstp_state.specs.Port.{change_at, test_at}
-use Rattle.rstp_state.specs.Start.{own_times, own_vector, start_port}
+use Rattle.rstp_state.specs.Start.{own_times, own_vector, ports_from}
 use Rattle.rstp_run.specs.Rules.{Tree}
 use Rattle.rstp_run.specs.Runs.{Firing, Run, IsSettled, is_flush}
 use Rattle.rstp_run.specs.declared.event.Event.{Event}
@@ -72,11 +72,6 @@ Passes s p = IsSettled s × IsTrue (test_at (p - 1) (λ port. port.enabled && po
 -- addresses are learnt at port p: the bridge is settled, and the port enabled and learning
 abbrev pub Learns : Tree → ℕ → Type 0
 Learns s p = IsSettled s × IsTrue (test_at (p - 1) (λ port. port.enabled && port.learning) s.ports)
-
--- the ports as they start, of which the first has this number
-abbrev pub ports_from : ℕ → Settings → List PortSettings → List PortState
-ports_from p settings [] = []
-ports_from p settings (port ∷ ports) = start_port settings port p ∷ ports_from (p + 1) settings ports
 
 -- a bridge before its first event, its own root
 abbrev pub start : Settings → List PortSettings → Tree

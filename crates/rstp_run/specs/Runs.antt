@@ -1,5 +1,5 @@
 -- Runs of a bridge, and what an event may answer.
-use Rattle.std.specs.Prelude.{ℕ, Bool, true, false, ◌≡◌, ◌+◌, ◌≤◌, ◌<◌, ◌^◌, IsTrue, if◌then◌else◌, List, [], ◌∷◌, length, bit_or}
+use Rattle.std.specs.Prelude.{ℕ, Bool, true, false, ◌≡◌, ◌+◌, ◌≤◌, ◌<◌, ◌^◌, if◌then◌else◌, List, [], ◌∷◌, length, bit_or}
 use Rattle.std.specs.List.{list_any}
 use Rattle.rstp_run.specs.Rules.{Tree, guard, after}
 use Rattle.rstp_run.specs.declared.rule.Rule.{Rule}

@@ -3,7 +3,7 @@
 ghost use Rattle.std.specs.Prelude.{◌≡◌, ◌≤◌, ◌<◌, ◌-◌, length, map, slice_get, IfOk, true, false};
 ghost use Rattle.std.specs.List.{list_any};
 ghost use Rattle.rstp_state.specs.Direct.{with_second, without_slot};
-ghost use Rattle.rstp_run.specs.Events.{direct, Happens, IsAt, ports_at, ports_from, sent_from, start};
+ghost use Rattle.rstp_run.specs.Events.{direct, Happens, IsAt, ports_at, sent_from, start};
 ghost use Rattle.rstp_run.specs.Rules.{
   Tree,
   after,
@@ -25,8 +25,8 @@ use rstp_roles::firing::{fire_role, fire_state, role_is_enabled, state_is_enable
 use rstp_state::direct::{ask_migration_check, clear_slot, pass_second, set_enabled, store};
 use rstp_state::port::{PortState, Timing};
 use rstp_state::selection::{Root, select_roles};
-use rstp_state::start::{PortSettings, Settings, start_port};
-use std::alloc::AllocError;
+use rstp_state::start::{PortSettings, Settings, start_ports};
+use std::alloc::{AllocError, Global};
 use std::marker::Model;
 
 /// A bridge that doesn't know whether it is settled.
@@ -107,24 +107,14 @@ fn sent(ports: &[PortState]) -> ArrayVec<(u8, Bpdu), 64>
     out
 }
 
-/// The ports as they start.
-fn start_ports(
-    alloc: Global,
-    settings: &Settings,
-    ports: &[PortSettings],
-) -> Result<Vec<PortState>, AllocError>
-    requires { length ports.now ≤ 64 }
-    ensures { IfOk result (λ started. started.items ≡ ports_from 1 settings.now ports.now) }
-{
-    let mut started = Vec::with_capacity(alloc, ports.len())?;
-    for (i, port) in ports.iter().enumerate() {
-        started.push(start_port(settings, port, (i + 1) as u8))?;
-    }
-    Ok(started)
-}
-
 /// Whether the rule's guard holds at the port at place `p`.
-fn is_enabled_in(settings: &Settings, root: &Root, ports: &[PortState], rule: Rule, p: usize) -> bool
+fn is_enabled_in(
+    settings: &Settings,
+    root: &Root,
+    ports: &[PortState],
+    rule: Rule,
+    p: usize,
+) -> bool
     requires { p < length ports.now }
     ensures { result ≡ guard rule (record { settings = settings.now; root = root.now; ports = ports.now }) p }
 {
@@ -176,8 +166,13 @@ impl Engine {
     };
 
     /// A bridge before its first event.
-    pub fn new(alloc: Global, settings: Settings, ports: &[PortSettings]) -> Result<Self, AllocError>
-        requires { length ports.now ≤ 64 }
+    pub fn new(
+        alloc: Global,
+        settings: Settings,
+        ports: &[PortSettings],
+    ) -> Result<Self, AllocError>
+        requires some { 1 ≤ length ports.now }
+        requires few { length ports.now ≤ 64 }
         ensures { IfOk result (λ engine. engine ≡ start settings ports.now) }
     {
         let started = start_ports(alloc, &settings, ports)?;

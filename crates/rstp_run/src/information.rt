@@ -192,10 +192,10 @@ fn note_proposal(port: &mut PortState)
 fn note_change_flags(port: &mut PortState)
     ensures { port.new ≡ with_change_flags port.old }
 {
-    port.received_topology_change =
-        port.received_topology_change || message_has(0x01, port.message);
-    port.received_acknowledgement =
-        port.received_acknowledgement || message_has(0x80, port.message);
+    port.received_topology_change = port.received_topology_change
+        || message_has(0x01, port.message);
+    port.received_acknowledgement = port.received_acknowledgement
+        || message_has(0x80, port.message);
 }
 
 /// How long information of these times is kept, in seconds (17.21.23, updtRcvdInfoWhile).
@@ -299,9 +299,7 @@ pub fn update_guard(port: &PortState) -> bool
 fn keeps_agreed(port: &PortState) -> bool
     ensures { result ≡ keeps_agreed port.now }
 {
-    port.agreed
-        && port.info_is.is_mine()
-        && !port.port_priority.is_less(&port.designated_priority)
+    port.agreed && port.info_is.is_mine() && !port.port_priority.is_less(&port.designated_priority)
 }
 
 /// The port takes over its designated vector and times.

@@ -2,6 +2,7 @@
 //! the machines that are not of the roles, and the sweep that fires all rules in their order.
 #![tactic(auto)]
 
+pub mod bridge;
 pub mod bridge_detection;
 pub mod count;
 pub mod engine;

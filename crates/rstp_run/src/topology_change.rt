@@ -70,8 +70,8 @@ fn start_change_timer(timing: &Timing, port: &mut PortState)
             port.topology_change_while = u32::from(timing.hello) + 1;
             port.new_info = true;
         } else {
-            port.topology_change_while =
-                u32::from(timing.max_age) + u32::from(timing.forward_delay);
+            port.topology_change_while = u32::from(timing.max_age)
+                + u32::from(timing.forward_delay);
         }
     }
 }
@@ -187,8 +187,8 @@ fn note(port: &mut PortState)
 {
     port.received_notification = false;
     port.received_topology_change = false;
-    port.acknowledge_topology_change =
-        port.acknowledge_topology_change || port.role.is_designated();
+    port.acknowledge_topology_change = port.acknowledge_topology_change
+        || port.role.is_designated();
 }
 
 fn note_notification(timing: &Timing, port: &mut PortState)

@@ -1,5 +1,5 @@
 -- The state in which a port starts.
-use Rattle.std.specs.Prelude.{ℕ, true, false, ◌+◌, ◌*◌, ◌/◌, None}
+use Rattle.std.specs.Prelude.{ℕ, true, false, ◌+◌, ◌*◌, ◌/◌, None, List, [], ◌∷◌}
 use Rattle.rstp_state.specs.declared.port.PortState.{PortState}
 use Rattle.rstp_state.specs.declared.port.Migration.TheVariants as migration
 use Rattle.rstp_state.specs.declared.port.Information.TheVariants as information
@@ -92,3 +92,8 @@ start_port settings port number = record {
   message = None;
   slot = None;
 }
+
+-- the ports as they start, of which the first has this number
+abbrev pub ports_from : ℕ → Settings → List PortSettings → List PortState
+ports_from p settings [] = []
+ports_from p settings (port ∷ ports) = start_port settings port p ∷ ports_from (p + 1) settings ports

@@ -1,11 +1,12 @@
 //! What a bridge is configured with, and the state in which its ports start.
 
-ghost use Rattle.std.specs.Prelude.{◌≡◌, ◌<◌, ◌≤◌, ◌^◌};
-ghost use Rattle.rstp_state.specs.Start.{own_times, own_vector, port_identifier, start_port};
+ghost use Rattle.std.specs.Prelude.{◌≡◌, ◌≤◌, length, IfOk};
+ghost use Rattle.rstp_state.specs.Start.{own_times, own_vector, port_identifier, ports_from, start_port};
 
 use crate::port::{InfoIs, Information, Migration, PortState, Role, Topology};
 use crate::vector::{Times, Vector};
 use bpdu_wire::{BridgeId, PortId};
+use std::alloc::{AllocError, Global};
 
 /// What a bridge is configured with. Times are in seconds.
 #[derive(Clone, Copy, Debug, PartialEq, Eq)]
@@ -136,4 +137,32 @@ pub fn start_port(settings: &Settings, port: &PortSettings, number: u8) -> PortS
         message: None,
         slot: None,
     }
+}
+
+/// Sets each port as it starts, the first as port 1.
+fn set_ports(settings: &Settings, ports: &[PortSettings], started: &mut [PortState])
+    requires few { length ports.now ≤ 64 }
+    requires same { length started.old ≡ length ports.now }
+    ensures { started.new ≡ ports_from 1 settings.now ports.now }
+{
+    for (i, port) in ports.iter().enumerate() {
+        started[i] = start_port(settings, port, (i + 1) as u8);
+    }
+}
+
+/// The ports before their first event, numbered from 1. Only a refused memory makes it fail.
+pub fn start_ports(
+    alloc: Global,
+    settings: &Settings,
+    ports: &[PortSettings],
+) -> Result<Vec<PortState>, AllocError>
+    requires some { 1 ≤ length ports.now }
+    requires few { length ports.now ≤ 64 }
+    ensures value { IfOk result (λ started. started.items ≡ ports_from 1 settings.now ports.now) }
+    ensures count { IfOk result (λ started. length started.items ≡ length ports.now) }
+{
+    let first = start_port(settings, &ports[0], 1);
+    let mut started = vec![in alloc; first; ports.len()]?;
+    set_ports(settings, ports, &mut started);
+    Ok(started)
 }

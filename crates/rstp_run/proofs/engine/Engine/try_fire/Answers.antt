@@ -1,5 +1,5 @@
 use Rattle.std.proofs.Common.{sym, ◌∙◌}
-use Rattle.rstp_run.proofs.Steps.{fires-one, fires-none}
+use Rattle.rstp_run.proofs.Steps.{fires-one}
 use Rattle.rstp_run.proofs.engine.Engine.try_fire.Goals as goal
 
 pub returns-then-is_enabled : goal.returns-then-is_enabled
