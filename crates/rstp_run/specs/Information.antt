@@ -1,8 +1,11 @@
 -- The information rules (IEEE 802.1D-2004, 17.27, in this project's own table).
-use Rattle.std.specs.Prelude.{ℕ, Bool, true, false, not, ◌&&◌, ◌||◌, ◌==◌, ◌*◌, ◌/◌, ◌%◌, nat_lt, if◌then◌else◌, Option, Some, None}
+use Rattle.std.specs.Prelude.{ℕ, Bool, true, false, not, ◌&&◌, ◌||◌, ◌==◌, ◌*◌, nat_lt, if◌then◌else◌, Option, Some, None}
 use Rattle.bpdu_wire.specs.declared.bpdu.Message.{Message}
 use Rattle.bpdu_wire.specs.declared.bpdu.Bpdu.{Bpdu}
 use Rattle.bpdu_wire.specs.declared.bpdu.Bpdu.TheVariants.{Config, Rst, Tcn}
+use Rattle.bpdu_wire.specs.declared.bpdu.SenderRole.{SenderRole}
+use Rattle.bpdu_wire.specs.declared.bpdu.SenderRole.TheVariants as sender
+use Rattle.bpdu_wire.specs.Bpdu.{role_of}
 use Rattle.rstp_state.specs.declared.port.PortState.{PortState}
 use Rattle.rstp_state.specs.declared.port.Information.TheVariants as information
 use Rattle.rstp_state.specs.declared.port.InfoIs.TheVariants as info_is
@@ -28,15 +31,15 @@ abbrev pub answering_class : PortState → Message → Class
 answering_class port message =
     if is_less (vector_of message) port.port_priority then class.Other else class.NotDesignated
 
--- the two role bits say alternate or backup (1) or root (2), not unknown (0) or designated (3)
-abbrev pub is_answer : Message → Bool
-is_answer message = has_role_bits (message.flags / 4 % 4)
-  where
-    has_role_bits : ℕ → Bool
-    has_role_bits bits = bits == 1 || bits == 2
+-- the sender's role is Alternate, Backup or Root, not unknown or Designated
+abbrev pub is_answer : SenderRole → Bool
+is_answer sender.AlternateOrBackup = true
+is_answer sender.Root = true
+is_answer _ = false
 
 abbrev pub rst_class : PortState → Message → Class
-rst_class port message = if is_answer message then answering_class port message else designated_class port message
+rst_class port message =
+    if is_answer (role_of message.flags) then answering_class port message else designated_class port message
 
 abbrev pub bpdu_class : PortState → Option Bpdu → Class
 bpdu_class port None = class.Other

@@ -47,7 +47,7 @@ ghost use Rattle.rstp_run.specs.Information.{
   other_effect,
 };
 
-use bpdu_wire::{Bpdu, Message};
+use bpdu_wire::{Bpdu, Message, SenderRole};
 use rstp_state::port::{InfoIs, Information, PortState, has_flag};
 use rstp_state::vector::{Times, Vector, superior as is_superior_to};
 
@@ -135,18 +135,17 @@ fn answering_class(port: &PortState, message: &Message) -> Class
     }
 }
 
-/// Whether the two role bits say alternate, backup or root.
-fn is_answer(message: &Message) -> bool
-    ensures { result ≡ is_answer message.now }
+/// Whether the sender's role is Alternate, Backup or Root.
+fn is_answer(role: SenderRole) -> bool
+    ensures { result ≡ is_answer role }
 {
-    let role = message.flags / 4 % 4;
-    role == 1 || role == 2
+    matches!(role, SenderRole::AlternateOrBackup | SenderRole::Root)
 }
 
 fn rst_class(port: &PortState, message: &Message) -> Class
     ensures { result ≡ rst_class port.now message.now }
 {
-    if is_answer(message) {
+    if is_answer(message.role()) {
         answering_class(port, message)
     } else {
         designated_class(port, message)

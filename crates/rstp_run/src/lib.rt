@@ -12,5 +12,7 @@ pub mod information;
 pub mod migration;
 pub mod receive;
 pub mod rule;
+#[cfg(test)]
+mod tests;
 pub mod topology_change;
 pub mod transmit;
