@@ -1,0 +1,5 @@
+pub mod Bpdu
+pub mod Id
+pub mod Reading
+pub mod Refusal
+pub mod Writing

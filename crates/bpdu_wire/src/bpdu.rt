@@ -1,0 +1,91 @@
+use crate::id::{BridgeId, PortId};
+
+/// The role that a Rapid Spanning Tree BPDU says its sender's port has (IEEE 802.1D-2004, 9.3.3).
+#[derive(Clone, Copy, Debug, PartialEq, Eq)]
+pub enum SenderRole {
+    Unknown,
+    AlternateOrBackup,
+    Root,
+    Designated,
+}
+
+/// What a Configuration or a Rapid Spanning Tree BPDU says (IEEE 802.1D-2004, 9.3.1 and 9.3.3). The
+/// fields are as they stand in the octets: times are in 1/256 of a second.
+#[derive(Clone, Copy, Debug, PartialEq, Eq)]
+pub struct Message {
+    /// 0x01 topology change, 0x02 proposal, 0x0c role (0x00 unknown, 0x04 alternate or backup, 0x08
+    /// root, 0x0c designated), 0x10 learning, 0x20 forwarding, 0x40 agreement, 0x80 topology change
+    /// acknowledgement. A Configuration BPDU has the first and the last alone.
+    pub flags: u8,
+    /// The bridge that the sender takes for the root.
+    pub root: BridgeId,
+    /// The cost of the sender's path to the root.
+    pub cost: u32,
+    /// The sender.
+    pub bridge: BridgeId,
+    /// The sender's port.
+    pub port: PortId,
+    /// How old the root's message is.
+    pub message_age: u16,
+    /// The age at which the message is to be forgotten.
+    pub max_age: u16,
+    /// How often the root sends.
+    pub hello: u16,
+    /// How long a port waits before it learns, and before it forwards.
+    pub forward_delay: u16,
+}
+
+impl Message {
+    ghost use Rattle.std.specs.Prelude.{◌≡◌};
+    ghost use Rattle.bpdu_wire.specs.Bpdu.{role_of, is_expired};
+
+    /// The role that the flags say.
+    pub fn role(&self) -> SenderRole
+        ensures { result ≡ role_of self.now.flags }
+    {
+        match self.flags & 0x0c {
+            0x00 => SenderRole::Unknown,
+            0x04 => SenderRole::AlternateOrBackup,
+            0x08 => SenderRole::Root,
+            _ => SenderRole::Designated,
+        }
+    }
+
+    /// Whether the message is as old as it may get.
+    pub(crate) fn is_expired(&self) -> bool
+        ensures { result ≡ is_expired self.now }
+    {
+        self.max_age <= self.message_age
+    }
+}
+
+/// A BPDU (IEEE 802.1D-2004, 9.3).
+#[derive(Clone, Copy, Debug, PartialEq, Eq, Default)]
+pub enum Bpdu {
+    /// A Configuration BPDU, of the older protocol.
+    Config(Message),
+    /// A Rapid Spanning Tree BPDU.
+    Rst(Message),
+    /// A Topology Change Notification BPDU, of the older protocol.
+    #[default]
+    Tcn,
+}
+
+impl Bpdu {
+    ghost use Rattle.std.specs.Prelude.{◌≡◌};
+    ghost use Rattle.bpdu_wire.specs.Bpdu.{is_aged};
+
+    /// Whether the BPDU is refused for its age: it speaks for the root, as a Configuration BPDU or
+    /// a designated port's Rapid Spanning Tree BPDU, and its message age isn't below its max age.
+    pub fn is_aged(&self) -> bool
+        ensures { result ≡ is_aged self.now }
+    {
+        match self {
+            Bpdu::Config(message) => message.is_expired(),
+            Bpdu::Rst(message) => {
+                message.role() == SenderRole::Designated && message.is_expired()
+            }
+            Bpdu::Tcn => false,
+        }
+    }
+}

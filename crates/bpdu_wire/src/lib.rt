@@ -1,0 +1,16 @@
+//! BPDUs: the messages by which bridges agree on a spanning tree (IEEE 802.1D-2004, clause 9).
+#![tactic(auto)]
+
+mod bpdu;
+mod id;
+mod reading;
+mod refusal;
+#[cfg(test)]
+mod tests;
+mod writing;
+
+pub use bpdu::{Bpdu, Message, SenderRole};
+pub use id::{BridgeId, PortId};
+pub use reading::read;
+pub use refusal::Refusal;
+pub use writing::write;

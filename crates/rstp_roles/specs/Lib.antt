@@ -1,0 +1,4 @@
+pub mod AllPorts
+pub mod RoleTransitions
+pub mod Rules
+pub mod StateTransitions

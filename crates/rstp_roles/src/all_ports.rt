@@ -1,0 +1,71 @@
+//! What a rule of one port asks of, or sets at, the other ports.
+
+ghost use Rattle.std.specs.Prelude.{◌≡◌, ◌<◌, length, map};
+ghost use Rattle.std.specs.List.{list_all};
+ghost use Rattle.rstp_roles.specs.AllPorts.{
+  all_synced,
+  is_in_step,
+  is_not_recent,
+  re_rooted,
+  with_re_root,
+  with_sync,
+};
+
+use rstp_state::port::PortState;
+
+fn want_sync(port: &mut PortState)
+    ensures { port.new ≡ with_sync port.old }
+{
+    port.sync = true;
+}
+
+fn want_re_root(port: &mut PortState)
+    ensures { port.new ≡ with_re_root port.old }
+{
+    port.re_root = true;
+}
+
+/// Every port is to be synced (17.21.14, setSyncTree).
+pub fn set_sync(ports: &mut [PortState])
+    ensures { ports.new ≡ map with_sync ports.old }
+{
+    for port in ports.iter_mut() {
+        want_sync(port);
+    }
+}
+
+/// Every port is to leave the old root (17.21.15, setReRootTree).
+pub fn set_re_root(ports: &mut [PortState])
+    ensures { ports.new ≡ map with_re_root ports.old }
+{
+    for port in ports.iter_mut() {
+        want_re_root(port);
+    }
+}
+
+fn is_in_step(port: &PortState) -> bool
+    ensures { result ≡ is_in_step port.now }
+{
+    port.may_act() && port.has_role() && (port.role.is_root() || port.synced)
+}
+
+/// Whether every port has taken its role and is, unless it is the root port, synced (17.20.3).
+pub fn all_synced(ports: &[PortState]) -> bool
+    ensures { result ≡ all_synced ports.now }
+{
+    ports.iter().all(|port| is_in_step(port))
+}
+
+fn are_not_recent(ports: &[PortState]) -> bool
+    ensures { result ≡ list_all is_not_recent ports.now }
+{
+    ports.iter().all(|port| port.recent_root_while == 0)
+}
+
+/// Whether no other port was the root port lately (17.20.10).
+pub fn re_rooted(ports: &[PortState], p: usize) -> bool
+    requires { p < length ports.now }
+    ensures { result ≡ re_rooted p ports.now }
+{
+    are_not_recent(&ports[..p]) && are_not_recent(&ports[p + 1..])
+}

@@ -1,0 +1,94 @@
+//! The rules by their names: whether one is enabled at a port, and its firing.
+
+ghost use Rattle.std.specs.Prelude.{◌≡◌, ◌<◌, length};
+ghost use Rattle.rstp_state.specs.Port.{test_at};
+ghost use Rattle.rstp_roles.specs.Rules.{role_asks, role_does, state_asks, state_does};
+
+use crate::all_ports::{all_synced, re_rooted};
+use crate::role_transitions::*;
+use crate::rule::{RoleRule, StateRule};
+use crate::state_transitions::*;
+use rstp_state::port::{PortState, Timing};
+
+/// Whether the rule's guard holds at the port at place `p`.
+pub fn role_is_enabled(timing: &Timing, ports: &[PortState], rule: RoleRule, p: usize) -> bool
+    requires { p < length ports.now }
+    ensures { result ≡ test_at p (role_asks rule timing.now ports.now p) ports.now }
+{
+    let port = &ports[p];
+    match rule {
+        RoleRule::Disable => disable_guard(port),
+        RoleRule::DisabledPort => disabled_port_guard(timing, port),
+        RoleRule::Root => root_guard(timing, port),
+        RoleRule::RootProposed => root_proposed_guard(port),
+        RoleRule::RootAgreed => root_agreed_guard(port, all_synced(ports)),
+        RoleRule::Reroot => reroot_guard(port),
+        RoleRule::Rerooted => rerooted_guard(port),
+        RoleRule::RootLearn => root_learn_guard(port, re_rooted(ports, p)),
+        RoleRule::RootForward => root_forward_guard(port, re_rooted(ports, p)),
+        RoleRule::Designated => designated_guard(port),
+        RoleRule::Propose => propose_guard(port),
+        RoleRule::Synced => synced_guard(port),
+        RoleRule::Retired => retired_guard(port),
+        RoleRule::DesignatedDiscard => designated_discard_guard(port),
+        RoleRule::DesignatedLearn => designated_learn_guard(port),
+        RoleRule::DesignatedForward => designated_forward_guard(port),
+        RoleRule::Block => block_guard(port),
+        RoleRule::Alternate => alternate_guard(timing, port),
+        RoleRule::AlternateProposed => alternate_proposed_guard(port),
+        RoleRule::AlternateAgreed => alternate_agreed_guard(port, all_synced(ports)),
+        RoleRule::Backup => backup_guard(timing, port),
+    }
+}
+
+/// Fires the rule at the port at place `p`.
+pub fn fire_role(timing: &Timing, ports: &mut [PortState], rule: RoleRule, p: usize)
+    requires { p < length ports.old }
+    ensures { ports.new ≡ role_does rule timing.now ports.old p }
+{
+    match rule {
+        RoleRule::Disable => disable(&mut ports[p]),
+        RoleRule::DisabledPort => disabled_port(timing, &mut ports[p]),
+        RoleRule::Root => root(timing, &mut ports[p]),
+        RoleRule::RootProposed => root_proposed(ports, p),
+        RoleRule::RootAgreed => root_agreed(&mut ports[p]),
+        RoleRule::Reroot => reroot(ports),
+        RoleRule::Rerooted => rerooted(&mut ports[p]),
+        RoleRule::RootLearn => root_learn(timing, &mut ports[p]),
+        RoleRule::RootForward => root_forward(&mut ports[p]),
+        RoleRule::Designated => designated(&mut ports[p]),
+        RoleRule::Propose => propose(timing, &mut ports[p]),
+        RoleRule::Synced => synced(&mut ports[p]),
+        RoleRule::Retired => retired(&mut ports[p]),
+        RoleRule::DesignatedDiscard => designated_discard(timing, &mut ports[p]),
+        RoleRule::DesignatedLearn => designated_learn(timing, &mut ports[p]),
+        RoleRule::DesignatedForward => designated_forward(&mut ports[p]),
+        RoleRule::Block => block(&mut ports[p]),
+        RoleRule::Alternate => alternate(timing, &mut ports[p]),
+        RoleRule::AlternateProposed => alternate_proposed(ports, p),
+        RoleRule::AlternateAgreed => alternate_agreed(&mut ports[p]),
+        RoleRule::Backup => backup(timing, &mut ports[p]),
+    }
+}
+
+/// Whether the rule's guard holds at the port.
+pub fn state_is_enabled(port: &PortState, rule: StateRule) -> bool
+    ensures { result ≡ state_asks rule port.now }
+{
+    match rule {
+        StateRule::ToLearning => to_learning_guard(port),
+        StateRule::ToForwarding => to_forwarding_guard(port),
+        StateRule::ToDiscarding => to_discarding_guard(port),
+    }
+}
+
+/// Fires the rule at the port.
+pub fn fire_state(port: &mut PortState, rule: StateRule)
+    ensures { port.new ≡ state_does rule port.old }
+{
+    match rule {
+        StateRule::ToLearning => to_learning(port),
+        StateRule::ToForwarding => to_forwarding(port),
+        StateRule::ToDiscarding => to_discarding(port),
+    }
+}

@@ -1,0 +1,448 @@
+//! The role transitions: a port takes its selected role and does what comes with it (17.29). For
+//! each rule, in the table's order, its guard and then what it does.
+
+ghost use Rattle.std.specs.Prelude.{◌≡◌, ◌<◌, length};
+ghost use Rattle.rstp_roles.specs.RoleTransitions.{
+  acts_as_disabled,
+  acts_as_root,
+  acts_as_designated,
+  acts_as_blocked,
+  acts_as_backup,
+  is_unrested,
+  may_agree,
+  may_go_on_as_root,
+  may_be_synced,
+  must_discard,
+  may_go_on,
+};
+ghost use Rattle.rstp_roles.specs.RoleTransitions.{
+  disable_guard,
+  disable_effect,
+  disabled_port_guard,
+  disabled_port_effect,
+  root_guard,
+  root_effect,
+  root_proposed_guard,
+  root_proposed_effect,
+  root_agreed_guard,
+  root_agreed_effect,
+  reroot_guard,
+  reroot_effect,
+  rerooted_guard,
+  rerooted_effect,
+  root_learn_guard,
+  root_learn_effect,
+  root_forward_guard,
+  root_forward_effect,
+  designated_guard,
+  designated_effect,
+  propose_guard,
+  propose_effect,
+  synced_guard,
+  synced_effect,
+  retired_guard,
+  retired_effect,
+  designated_discard_guard,
+  designated_discard_effect,
+  designated_learn_guard,
+  designated_learn_effect,
+  designated_forward_guard,
+  designated_forward_effect,
+  block_guard,
+  block_effect,
+  alternate_guard,
+  alternate_effect,
+  alternate_proposed_guard,
+  alternate_proposed_effect,
+  alternate_agreed_guard,
+  alternate_agreed_effect,
+  backup_guard,
+  backup_effect,
+};
+
+use crate::all_ports::{set_re_root, set_sync};
+use rstp_state::port::{PortState, Role, Timing};
+
+fn acts_as_disabled(port: &PortState) -> bool
+    ensures { result ≡ acts_as_disabled port.now }
+{
+    port.may_act() && port.role.is_disabled() && port.selected_role.is_disabled()
+}
+
+fn acts_as_root(port: &PortState) -> bool
+    ensures { result ≡ acts_as_root port.now }
+{
+    port.may_act() && port.role.is_root() && port.selected_role.is_root()
+}
+
+fn acts_as_designated(port: &PortState) -> bool
+    ensures { result ≡ acts_as_designated port.now }
+{
+    port.may_act() && port.role.is_designated() && port.selected_role.is_designated()
+}
+
+fn acts_as_blocked(port: &PortState) -> bool
+    ensures { result ≡ acts_as_blocked port.now }
+{
+    port.may_act() && port.has_role() && port.role.is_blocked()
+}
+
+fn acts_as_backup(port: &PortState) -> bool
+    ensures { result ≡ acts_as_backup port.now }
+{
+    port.may_act() && port.role.is_backup() && port.selected_role.is_backup()
+}
+
+fn is_unrested(port: &PortState, delay: u32) -> bool
+    ensures { result ≡ is_unrested port.now delay }
+{
+    port.forward_delay_while != delay
+        || port.sync
+        || port.re_root
+        || !port.synced
+        || port.recent_root_while != 0
+}
+
+fn may_agree(port: &PortState, all_synced: bool) -> bool
+    ensures { result ≡ may_agree port.now all_synced }
+{
+    (all_synced && !port.agree) || (port.proposed && port.agree)
+}
+
+fn may_go_on_as_root(port: &PortState, re_rooted: bool) -> bool
+    ensures { result ≡ may_go_on_as_root port.now re_rooted }
+{
+    port.forward_delay_while == 0 || (re_rooted && port.recent_backup_while == 0)
+}
+
+fn may_be_synced(port: &PortState) -> bool
+    ensures { result ≡ may_be_synced port.now }
+{
+    !port.synced && (port.is_discarding() || port.agreed || port.oper_edge)
+}
+
+fn must_discard(port: &PortState) -> bool
+    ensures { result ≡ must_discard port.now }
+{
+    (port.sync && !port.synced) || (port.re_root && port.recent_root_while != 0) || port.disputed
+}
+
+fn may_go_on(port: &PortState) -> bool
+    ensures { result ≡ may_go_on port.now }
+{
+    !port.sync
+        && (port.forward_delay_while == 0 || port.agreed || port.oper_edge)
+        && (port.recent_root_while == 0 || !port.re_root)
+}
+
+pub fn disable_guard(port: &PortState) -> bool
+    ensures { result ≡ disable_guard port.now }
+{
+    port.may_act() && port.selected_role.is_disabled() && !port.role.is_disabled()
+}
+
+/// The port becomes Disabled.
+pub fn disable(port: &mut PortState)
+    ensures { port.new ≡ disable_effect port.old }
+{
+    port.role = Role::Disabled;
+    port.learn = false;
+    port.forward = false;
+}
+
+pub fn disabled_port_guard(timing: &Timing, port: &PortState) -> bool
+    ensures { result ≡ disabled_port_guard timing.now port.now }
+{
+    acts_as_disabled(port) && port.is_discarding() && is_unrested(port, u32::from(timing.max_age))
+}
+
+/// A Disabled port comes to rest.
+pub fn disabled_port(timing: &Timing, port: &mut PortState)
+    ensures { port.new ≡ disabled_port_effect timing.now port.old }
+{
+    port.forward_delay_while = u32::from(timing.max_age);
+    port.synced = true;
+    port.recent_root_while = 0;
+    port.sync = false;
+    port.re_root = false;
+}
+
+pub fn root_guard(timing: &Timing, port: &PortState) -> bool
+    ensures { result ≡ root_guard timing.now port.now }
+{
+    port.may_act()
+        && port.selected_role.is_root()
+        && (!port.role.is_root() || port.recent_root_while != u32::from(timing.forward_delay))
+}
+
+/// The port becomes the root port, or is so still.
+pub fn root(timing: &Timing, port: &mut PortState)
+    ensures { port.new ≡ root_effect timing.now port.old }
+{
+    port.role = Role::Root;
+    port.recent_root_while = u32::from(timing.forward_delay);
+}
+
+pub fn root_proposed_guard(port: &PortState) -> bool
+    ensures { result ≡ root_proposed_guard port.now }
+{
+    acts_as_root(port) && port.proposed && !port.agree
+}
+
+/// The designated bridge proposes: every port is to be synced.
+pub fn root_proposed(ports: &mut [PortState], p: usize)
+    requires { p < length ports.old }
+    ensures { ports.new ≡ root_proposed_effect p ports.old }
+{
+    set_sync(ports);
+    ports[p].proposed = false;
+}
+
+pub fn root_agreed_guard(port: &PortState, all_synced: bool) -> bool
+    ensures { result ≡ root_agreed_guard port.now all_synced }
+{
+    acts_as_root(port) && may_agree(port, all_synced)
+}
+
+/// The root port agrees.
+pub fn root_agreed(port: &mut PortState)
+    ensures { port.new ≡ root_agreed_effect port.old }
+{
+    port.proposed = false;
+    port.sync = false;
+    port.agree = true;
+    port.new_info = true;
+}
+
+pub fn reroot_guard(port: &PortState) -> bool
+    ensures { result ≡ reroot_guard port.now }
+{
+    acts_as_root(port) && !port.forward && !port.re_root
+}
+
+/// Every port is to leave the old root.
+pub fn reroot(ports: &mut [PortState])
+    ensures { ports.new ≡ reroot_effect ports.old }
+{
+    set_re_root(ports);
+}
+
+pub fn rerooted_guard(port: &PortState) -> bool
+    ensures { result ≡ rerooted_guard port.now }
+{
+    acts_as_root(port) && port.forward && port.re_root
+}
+
+/// The root port forwards, so it leaves nothing.
+pub fn rerooted(port: &mut PortState)
+    ensures { port.new ≡ rerooted_effect port.old }
+{
+    port.re_root = false;
+}
+
+pub fn root_learn_guard(port: &PortState, re_rooted: bool) -> bool
+    ensures { result ≡ root_learn_guard port.now re_rooted }
+{
+    acts_as_root(port) && !port.learn && may_go_on_as_root(port, re_rooted)
+}
+
+/// The root port is to learn.
+pub fn root_learn(timing: &Timing, port: &mut PortState)
+    ensures { port.new ≡ root_learn_effect timing.now port.old }
+{
+    port.forward_delay_while = port.forward_delay(timing);
+    port.learn = true;
+}
+
+pub fn root_forward_guard(port: &PortState, re_rooted: bool) -> bool
+    ensures { result ≡ root_forward_guard port.now re_rooted }
+{
+    acts_as_root(port) && port.learn && !port.forward && may_go_on_as_root(port, re_rooted)
+}
+
+/// The root port is to forward.
+pub fn root_forward(port: &mut PortState)
+    ensures { port.new ≡ root_forward_effect port.old }
+{
+    port.forward_delay_while = 0;
+    port.forward = true;
+}
+
+pub fn designated_guard(port: &PortState) -> bool
+    ensures { result ≡ designated_guard port.now }
+{
+    port.may_act() && port.selected_role.is_designated() && !port.role.is_designated()
+}
+
+/// The port becomes Designated.
+pub fn designated(port: &mut PortState)
+    ensures { port.new ≡ designated_effect port.old }
+{
+    port.role = Role::Designated;
+}
+
+pub fn propose_guard(port: &PortState) -> bool
+    ensures { result ≡ propose_guard port.now }
+{
+    acts_as_designated(port) && !port.forward && !port.agreed && !port.proposing && !port.oper_edge
+}
+
+/// A designated port asks to be agreed to.
+pub fn propose(timing: &Timing, port: &mut PortState)
+    ensures { port.new ≡ propose_effect timing.now port.old }
+{
+    port.proposing = true;
+    port.new_info = true;
+    port.edge_delay_while = port.edge_delay(timing);
+}
+
+pub fn synced_guard(port: &PortState) -> bool
+    ensures { result ≡ synced_guard port.now }
+{
+    acts_as_designated(port) && (may_be_synced(port) || (port.sync && port.synced))
+}
+
+/// A designated port is synced.
+pub fn synced(port: &mut PortState)
+    ensures { port.new ≡ synced_effect port.old }
+{
+    port.recent_root_while = 0;
+    port.synced = true;
+    port.sync = false;
+}
+
+pub fn retired_guard(port: &PortState) -> bool
+    ensures { result ≡ retired_guard port.now }
+{
+    acts_as_designated(port) && port.recent_root_while == 0 && port.re_root
+}
+
+/// A designated port is no longer a recent root port.
+pub fn retired(port: &mut PortState)
+    ensures { port.new ≡ retired_effect port.old }
+{
+    port.re_root = false;
+}
+
+pub fn designated_discard_guard(port: &PortState) -> bool
+    ensures { result ≡ designated_discard_guard port.now }
+{
+    acts_as_designated(port)
+        && !port.oper_edge
+        && (port.learn || port.forward)
+        && must_discard(port)
+}
+
+/// A designated port goes back to discarding.
+pub fn designated_discard(timing: &Timing, port: &mut PortState)
+    ensures { port.new ≡ designated_discard_effect timing.now port.old }
+{
+    port.learn = false;
+    port.forward = false;
+    port.disputed = false;
+    port.forward_delay_while = port.forward_delay(timing);
+}
+
+pub fn designated_learn_guard(port: &PortState) -> bool
+    ensures { result ≡ designated_learn_guard port.now }
+{
+    acts_as_designated(port) && !port.learn && may_go_on(port)
+}
+
+/// A designated port is to learn.
+pub fn designated_learn(timing: &Timing, port: &mut PortState)
+    ensures { port.new ≡ designated_learn_effect timing.now port.old }
+{
+    port.learn = true;
+    port.forward_delay_while = port.forward_delay(timing);
+}
+
+pub fn designated_forward_guard(port: &PortState) -> bool
+    ensures { result ≡ designated_forward_guard port.now }
+{
+    acts_as_designated(port) && port.learn && !port.forward && may_go_on(port)
+}
+
+/// A designated port is to forward.
+pub fn designated_forward(port: &mut PortState)
+    ensures { port.new ≡ designated_forward_effect port.old }
+{
+    port.forward = true;
+    port.forward_delay_while = 0;
+    port.agreed = port.send_rstp;
+}
+
+pub fn block_guard(port: &PortState) -> bool
+    ensures { result ≡ block_guard port.now }
+{
+    port.may_act() && port.selected_role.is_blocked() && !port.has_role()
+}
+
+/// The port becomes Alternate or Backup.
+pub fn block(port: &mut PortState)
+    ensures { port.new ≡ block_effect port.old }
+{
+    port.role = port.selected_role;
+    port.learn = false;
+    port.forward = false;
+}
+
+pub fn alternate_guard(timing: &Timing, port: &PortState) -> bool
+    ensures { result ≡ alternate_guard timing.now port.now }
+{
+    acts_as_blocked(port) && port.is_discarding() && is_unrested(port, port.forward_delay(timing))
+}
+
+/// An Alternate or Backup port comes to rest.
+pub fn alternate(timing: &Timing, port: &mut PortState)
+    ensures { port.new ≡ alternate_effect timing.now port.old }
+{
+    port.forward_delay_while = port.forward_delay(timing);
+    port.synced = true;
+    port.recent_root_while = 0;
+    port.sync = false;
+    port.re_root = false;
+}
+
+pub fn alternate_proposed_guard(port: &PortState) -> bool
+    ensures { result ≡ alternate_proposed_guard port.now }
+{
+    acts_as_blocked(port) && port.proposed && !port.agree
+}
+
+/// The designated bridge proposes: every port is to be synced.
+pub fn alternate_proposed(ports: &mut [PortState], p: usize)
+    requires { p < length ports.old }
+    ensures { ports.new ≡ alternate_proposed_effect p ports.old }
+{
+    set_sync(ports);
+    ports[p].proposed = false;
+}
+
+pub fn alternate_agreed_guard(port: &PortState, all_synced: bool) -> bool
+    ensures { result ≡ alternate_agreed_guard port.now all_synced }
+{
+    acts_as_blocked(port) && may_agree(port, all_synced)
+}
+
+/// The blocked port agrees.
+pub fn alternate_agreed(port: &mut PortState)
+    ensures { port.new ≡ alternate_agreed_effect port.old }
+{
+    port.proposed = false;
+    port.agree = true;
+    port.new_info = true;
+}
+
+pub fn backup_guard(timing: &Timing, port: &PortState) -> bool
+    ensures { result ≡ backup_guard timing.now port.now }
+{
+    acts_as_backup(port) && port.recent_backup_while != 2 * u32::from(timing.hello)
+}
+
+/// A Backup port was one lately.
+pub fn backup(timing: &Timing, port: &mut PortState)
+    ensures { port.new ≡ backup_effect timing.now port.old }
+{
+    port.recent_backup_while = 2 * u32::from(timing.hello);
+}

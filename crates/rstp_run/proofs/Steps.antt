@@ -1,0 +1,160 @@
+-- Lemmas on single firings and on runs.
+use Rattle.std.proofs.Common.{◌≡◌, ℕ, ◌+◌, ◌≤◌, ◌<◌, true, Some, None, List, [], ◌∷◌, ◌++◌, length, map, take, get_or, slice_get, slice_set, refl, subst, sym, ◌∙◌, ap, arith}
+use Rattle.std.proofs.lemmas.List.{length-set, length-map, length-append}
+use Rattle.std.specs.Option.{option_map_or}
+use Rattle.std.specs.List.{enumerate_from}
+use Rattle.std.proofs.lemmas.List.Folds.{list_any_more}
+use Rattle.std.proofs.lemmas.List.FromFn.{length-enumerate_from}
+use Rattle.rstp_state.specs.declared.port.PortState.{PortState}
+use Rattle.rstp_state.specs.declared.start.Settings.{Settings}
+use Rattle.rstp_state.specs.Port.{change_at}
+use Rattle.rstp_state.specs.Selection.{selected_ports}
+use Rattle.rstp_roles.specs.AllPorts.{with_sync, with_re_root}
+use Rattle.rstp_roles.specs.RoleTransitions.{without_proposal}
+use Rattle.rstp_run.specs.declared.rule.Rule.{Rule}
+use Rattle.rstp_run.specs.declared.rule.Rule.TheVariants.{Select, Receive, Migration, Detection, Information, Role, State as InState, Topology, Transmit}
+use Rattle.rstp_roles.specs.declared.rule.RoleRule.TheVariants as role_rule
+use Rattle.rstp_run.specs.declared.rule.TopologyRule.TheVariants as topology_rule
+use Rattle.rstp_run.specs.declared.count.Count.{Count}
+use Rattle.rstp_run.specs.TopologyChange.{telling_others, with_propagation}
+use Rattle.rstp_run.specs.Rules.{Tree, guard, after, ports_after}
+use Rattle.rstp_run.specs.Runs.{Goes, Sweeps, IsIdle, IsOff, AreOffAt, Run, Firing, flushed, flush_after, counted}
+
+pub length-change_at : (p : ℕ) (change : PortState → PortState) (ports : List PortState) → length (change_at p change ports) ≡ length ports
+length-change_at p change ports =
+    elim (slice_get ports p) as (λ o. length (option_map_or (λ port. slice_set ports p (change port)) o ports) ≡ length ports)
+    [ None ↦ refl | Some port ↦ length-set ports p (change port) ]
+
+pub length-telling_others : (p : ℕ) (change : PortState → PortState) (ports : List PortState) → length (telling_others p change ports) ≡ length ports
+length-telling_others p change ports =
+    elim (slice_get ports p) as
+    (λ o. length (option_map_or (λ port. slice_set (map with_propagation ports) p (change port)) o ports) ≡ length ports)
+    [ None ↦ refl | Some port ↦ length-set (map with_propagation ports) p (change port) ∙ length-map ports with_propagation ]
+
+pub length-proposed : (p : ℕ) (ports : List PortState) → length (change_at p without_proposal (map with_sync ports)) ≡ length ports
+length-proposed p ports = length-change_at p without_proposal (map with_sync ports) ∙ length-map ports with_sync
+
+pub length-selected_ports : (settings : Settings) (ports : List PortState) → length (selected_ports settings ports) ≡ length ports
+unfolding selected_ports
+length-selected_ports settings ports = length-map (enumerate_from 0 ports) _ ∙ length-enumerate_from 0 ports
+
+pub length-ports_after : (rule : Rule) (s : Tree) (p : ℕ) → length (ports_after rule s p) ≡ length s.ports
+length-ports_after Select s p = length-selected_ports s.settings s.ports
+length-ports_after (Receive rule) s p = length-change_at p _ s.ports
+length-ports_after (Migration rule) s p = length-change_at p _ s.ports
+length-ports_after (Detection rule) s p = length-change_at p _ s.ports
+length-ports_after (Information rule) s p = length-change_at p _ s.ports
+length-ports_after (Role role_rule.Disable) s p = length-change_at p _ s.ports
+length-ports_after (Role role_rule.DisabledPort) s p = length-change_at p _ s.ports
+length-ports_after (Role role_rule.Root) s p = length-change_at p _ s.ports
+length-ports_after (Role role_rule.RootProposed) s p = length-proposed p s.ports
+length-ports_after (Role role_rule.RootAgreed) s p = length-change_at p _ s.ports
+length-ports_after (Role role_rule.Reroot) s p = length-map s.ports with_re_root
+length-ports_after (Role role_rule.Rerooted) s p = length-change_at p _ s.ports
+length-ports_after (Role role_rule.RootLearn) s p = length-change_at p _ s.ports
+length-ports_after (Role role_rule.RootForward) s p = length-change_at p _ s.ports
+length-ports_after (Role role_rule.Designated) s p = length-change_at p _ s.ports
+length-ports_after (Role role_rule.Propose) s p = length-change_at p _ s.ports
+length-ports_after (Role role_rule.Synced) s p = length-change_at p _ s.ports
+length-ports_after (Role role_rule.Retired) s p = length-change_at p _ s.ports
+length-ports_after (Role role_rule.DesignatedDiscard) s p = length-change_at p _ s.ports
+length-ports_after (Role role_rule.DesignatedLearn) s p = length-change_at p _ s.ports
+length-ports_after (Role role_rule.DesignatedForward) s p = length-change_at p _ s.ports
+length-ports_after (Role role_rule.Block) s p = length-change_at p _ s.ports
+length-ports_after (Role role_rule.Alternate) s p = length-change_at p _ s.ports
+length-ports_after (Role role_rule.AlternateProposed) s p = length-proposed p s.ports
+length-ports_after (Role role_rule.AlternateAgreed) s p = length-change_at p _ s.ports
+length-ports_after (Role role_rule.Backup) s p = length-change_at p _ s.ports
+length-ports_after (InState rule) s p = length-change_at p _ s.ports
+length-ports_after (Topology topology_rule.TcLearning) s p = length-change_at p _ s.ports
+length-ports_after (Topology topology_rule.Detected) s p = length-telling_others p _ s.ports
+length-ports_after (Topology topology_rule.TcClear) s p = length-change_at p _ s.ports
+length-ports_after (Topology topology_rule.TcInactive) s p = length-change_at p _ s.ports
+length-ports_after (Topology topology_rule.TcBack) s p = length-change_at p _ s.ports
+length-ports_after (Topology topology_rule.NotifiedTcn) s p = length-telling_others p _ s.ports
+length-ports_after (Topology topology_rule.NotifiedTc) s p = length-telling_others p _ s.ports
+length-ports_after (Topology topology_rule.Propagating) s p = length-change_at p _ s.ports
+length-ports_after (Topology topology_rule.Acknowledged) s p = length-change_at p _ s.ports
+length-ports_after (Topology topology_rule.Flush) s p = length-change_at p _ s.ports
+length-ports_after (Transmit rule) s p = length-change_at p _ s.ports
+
+-- one firing goes on from a state
+pub goes-one : (s t : Tree) (a : Count) (rule : Rule) (p : ℕ) → guard rule s p ≡ true → t ≡ after rule s p → a.fired < a.limit → Goes s a t (counted a rule p)
+goes-one s t a rule p holds is below = record {
+  firings = record { rule = rule; place = p } ∷ [];
+  run = (s, refl, (holds, is));
+  fired = refl;
+  flush = refl;
+  limit = refl;
+  within = omega arith;
+}
+
+pub goes-none : (s t : Tree) (a : Count) → t ≡ s → a.fired ≤ a.limit → Goes s a t a
+goes-none s t a same within = record {
+  firings = [];
+  run = same;
+  fired = omega arith;
+  flush = refl;
+  limit = refl;
+  within = within;
+}
+
+pub run-append : (fs gs : List Firing) (s t u : Tree) → Run fs s t → Run gs t u → Run (gs ++ fs) s u
+run-append fs [] s t u first second =
+    let P : Tree → Type 0 = λ v. Run fs s v in subst P (sym second) first
+run-append fs (g ∷ gs) s t u first (mid, second, fires) = (mid, run-append fs gs s t mid first second, fires)
+
+pub flushed-append : (fs gs : List Firing) (before : ℕ) → flushed (gs ++ fs) before ≡ flushed gs (flushed fs before)
+flushed-append fs [] before = refl
+flushed-append fs (g ∷ gs) before = ap (flush_after g.rule g.place) (flushed-append fs gs before)
+
+-- two goes make one
+pub goes-both : (s t u : Tree) (a b c : Count) → Goes s a t b → Goes t b u c → Goes s a u c
+goes-both s t u a b c first second = record {
+  firings = second.firings ++ first.firings;
+  run = run-append first.firings second.firings s t u first.run second.run;
+  fired = omega (arith, length-append {A = Firing});
+  flush = second.flush ∙ ap (flushed second.firings) first.flush ∙ sym (flushed-append first.firings second.firings a.flush);
+  limit = second.limit ∙ first.limit;
+  within = second.within;
+}
+
+pub fires-one : (s t : Tree) (a : Count) (rule : Rule) (p : ℕ) → guard rule s p ≡ true → t ≡ after rule s p → a.fired < a.limit → Sweeps (IsOff rule p) s a t (counted a rule p)
+fires-one s t a rule p holds is below = record {
+  goes = goes-one s t a rule p holds is below;
+  idle = λ none. absurd (omega (arith, none.same));
+  ports = ap (λ (v : Tree). length v.ports) is ∙ length-ports_after rule s p;
+}
+
+pub fires-none : (P : Tree → Type 0) (s : Tree) (a : Count) → a.fired ≤ a.limit → (a.fired < a.limit → P s) → Sweeps P s a s a
+fires-none P s a within off = record {
+  goes = goes-none s s a refl within;
+  idle = λ none. (off none.below, refl);
+  ports = refl;
+}
+
+-- two sweeps make one
+pub sweeps-both : (P Q R : Tree → Type 0) (s t u : Tree) (a b c : Count) → Sweeps P s a t b → Sweeps Q t b u c → (P s → Q s → R s) → Sweeps R s a u c
+sweeps-both P Q R s t u a b c first second joins =
+    let goes : Goes s a u c = goes-both s t u a b c first.goes second.goes in
+    record {
+      goes = goes;
+      idle = λ none.
+          let f₁ : b.fired ≡ a.fired + length first.goes.firings = first.goes.fired in
+          let f₂ : c.fired ≡ b.fired + length second.goes.firings = second.goes.fired in
+          let l₁ : b.limit ≡ a.limit = first.goes.limit in
+          let l₂ : c.limit ≡ b.limit = second.goes.limit in
+          let h₁ : c.fired ≡ a.fired = none.same in
+          let h₂ : c.fired < c.limit = none.below in
+          let idle₁ : IsIdle a b = record { same = omega arith; below = omega arith } in
+          let idle₂ : IsIdle b c = record { same = omega arith; below = omega arith } in
+          let same₁ : t ≡ s = (first.idle idle₁).1 in
+          let q : Q s = subst Q same₁ (second.idle idle₂).0 in
+          (joins (first.idle idle₁).0 q, (second.idle idle₂).1 ∙ same₁);
+      ports = second.ports ∙ first.ports;
+    }
+
+-- one more rule is tried
+pub are_off-more : (rules : List Rule) (s : Tree) (p i : ℕ) (d : Rule) → i < length rules → AreOffAt (take i rules) p s → IsOff (get_or rules i d) p s → AreOffAt (take (i + 1) rules) p s
+are_off-more rules s p i d within before here =
+    rw (list_any_more (λ rule. guard rule s p) rules i d within, before) here

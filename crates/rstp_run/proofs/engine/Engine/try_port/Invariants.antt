@@ -1,0 +1,6 @@
+use Rattle.std.proofs.Common.{take}
+use Rattle.rstp_run.specs.Runs.{Sweeps, AreOffAt}
+use Rattle.rstp_run.proofs.engine.Engine.try_port.Given as goal
+
+abbrev pub invariant-loop-rule : goal.invariant-loop-rule
+invariant-loop-rule l = Sweeps (AreOffAt (take l.rule-index l.rules) l.p) l.fn.self l.fn.count l.self l.count

@@ -1,0 +1,82 @@
+-- What an event may do to a bridge, and what it answers.
+use Rattle.std.specs.Prelude.{ℕ, Bool, true, false, ◌≡◌, ◌+◌, ◌-◌, ◌*◌, ◌≤◌, ◌&&◌, ◌==◌, if◌then◌else◌, List, [], ◌∷◌, length, map, Option, Some, None, IsTrue}
+use Rattle.std.specs.List.{list_any}
+use Rattle.std.specs.Int.{bit_at}
+use Rattle.bpdu_wire.specs.declared.bpdu.Bpdu as bpdu
+use Rattle.rstp_state.specs.declared.port.PortState.{PortState}
+use Rattle.rstp_state.specs.declared.start.PortSettings.{PortSettings}
+use Rattle.rstp_state.specs.declared.start.Settings.{Settings}
+use Rattle.rstp_state.specs.Direct.{with_enabled, with_message, with_migration_check, with_second, without_slot}
+use Rattle.rstp_state.specs.Port.{change_at, test_at}
+use Rattle.rstp_state.specs.Start.{own_times, own_vector, ports_from}
+use Rattle.rstp_run.specs.Rules.{Tree}
+use Rattle.rstp_run.specs.Runs.{Firing, Run, IsSettled, is_flush}
+use Rattle.rstp_run.specs.declared.event.Event.{Event}
+use Rattle.rstp_run.specs.declared.event.Event.TheVariants as events
+
+-- Port p stands at place p - 1 of the list.
+
+-- there is a port of this number
+abbrev pub IsPort : ℕ → ℕ → Type 0
+IsPort p ports = (1 ≤ p) × (p ≤ ports)
+
+-- the event is at a port that is there, of so many
+abbrev pub IsAt : Event → ℕ → Type 0
+IsAt (events.Bpdu p message) ports = IsPort p ports
+IsAt events.Second ports = Unit {0}
+IsAt (events.PortUp p) ports = IsPort p ports
+IsAt (events.PortDown p) ports = IsPort p ports
+IsAt (events.Mcheck p) ports = IsPort p ports
+
+-- the ports right after the event, before any rule fires
+abbrev pub ports_at : Event → List PortState → List PortState
+ports_at (events.Bpdu p message) ports = change_at (p - 1) (with_message message) ports
+ports_at events.Second ports = map with_second ports
+ports_at (events.PortUp p) ports = change_at (p - 1) (with_enabled true) ports
+ports_at (events.PortDown p) ports = change_at (p - 1) (with_enabled false) ports
+ports_at (events.Mcheck p) ports = change_at (p - 1) with_migration_check ports
+
+-- the event's direct effect, with every slot empty
+abbrev pub direct : Event → Tree → Tree
+direct event s = record s { ports = ports_at event (map without_slot s.ports) }
+
+-- the flush rule fired at place p
+abbrev pub flushes : ℕ → List Firing → Bool
+flushes p firings = list_any (λ f. is_flush f.rule && f.place == p) firings
+
+-- the bridge goes from s to t by the event and at most limit firings
+pub record Happens (event : Event) (limit : ℕ) (s t : Tree) (settled : Bool) (mask : ℕ) : Type 0 where
+  pub firings : List Firing
+  pub run : Run firings (direct event s) t
+  pub few : length firings ≤ limit
+  pub unsettled : settled ≡ false → length firings ≡ limit
+  pub flush : (p : ℕ) → bit_at mask p ≡ (if flushes p firings then 1 else 0)
+
+-- the greatest number of firings at an event
+abbrev pub firings_at : Tree → ℕ
+firings_at s = 64 * (length s.ports + 1)
+
+abbrev pub with_sent : ℕ → Option bpdu.Bpdu → List (ℕ × bpdu.Bpdu) → List (ℕ × bpdu.Bpdu)
+with_sent p None rest = rest
+with_sent p (Some message) rest = (p, message) ∷ rest
+
+-- what lies in the slots of the ports, of which the first has this number
+abbrev pub sent_from : ℕ → List PortState → List (ℕ × bpdu.Bpdu)
+sent_from p [] = []
+sent_from p (port ∷ ports) = with_sent p port.slot (sent_from (p + 1) ports)
+
+-- frames pass at port p: the bridge is settled, and the port enabled and forwarding
+abbrev pub Passes : Tree → ℕ → Type 0
+Passes s p = IsSettled s × IsTrue (test_at (p - 1) (λ port. port.enabled && port.forwarding) s.ports)
+
+-- addresses are learnt at port p: the bridge is settled, and the port enabled and learning
+abbrev pub Learns : Tree → ℕ → Type 0
+Learns s p = IsSettled s × IsTrue (test_at (p - 1) (λ port. port.enabled && port.learning) s.ports)
+
+-- a bridge before its first event, its own root
+abbrev pub start : Settings → List PortSettings → Tree
+start settings ports = record {
+  settings = settings;
+  root = record { priority = own_vector settings 0; times = own_times settings };
+  ports = ports_from 1 settings ports;
+}

@@ -1,0 +1,277 @@
+-- The information rules (IEEE 802.1D-2004, 17.27, in this project's own table).
+use Rattle.std.specs.Prelude.{ℕ, Bool, true, false, not, ◌&&◌, ◌||◌, ◌==◌, ◌*◌, nat_lt, if◌then◌else◌, Option, Some, None}
+use Rattle.bpdu_wire.specs.declared.bpdu.Message.{Message}
+use Rattle.bpdu_wire.specs.declared.bpdu.Bpdu.{Bpdu}
+use Rattle.bpdu_wire.specs.declared.bpdu.Bpdu.TheVariants.{Config, Rst, Tcn}
+use Rattle.bpdu_wire.specs.declared.bpdu.SenderRole.{SenderRole}
+use Rattle.bpdu_wire.specs.declared.bpdu.SenderRole.TheVariants as sender
+use Rattle.bpdu_wire.specs.Bpdu.{role_of}
+use Rattle.rstp_state.specs.declared.port.PortState.{PortState}
+use Rattle.rstp_state.specs.declared.port.Information.TheVariants as information
+use Rattle.rstp_state.specs.declared.port.InfoIs.TheVariants as info_is
+use Rattle.rstp_state.specs.declared.vector.Vector.{Vector}
+use Rattle.rstp_state.specs.declared.vector.Times.{Times}
+use Rattle.rstp_state.specs.Vector.{is_less, same_vector, same_times, vector_of, times_of, superior}
+use Rattle.rstp_state.specs.Port.{is_out, is_current, is_received, is_mine, has_flag}
+use Rattle.rstp_run.specs.declared.information.Class.{Class}
+use Rattle.rstp_run.specs.declared.information.Class.TheVariants as class
+
+-- the class of the stored message
+
+-- a designated port's message
+abbrev pub designated_class : PortState → Message → Class
+designated_class port message =
+    if superior (vector_of message) (times_of message) port.port_priority port.port_times then class.Superior
+    else (if same_vector (vector_of message) port.port_priority && (same_times (times_of message) port.port_times && is_received port.info_is)
+    then class.Repeated
+    else (if is_less port.port_priority (vector_of message) then class.Inferior else class.Other))
+
+-- the message of a root, alternate or backup port
+abbrev pub answering_class : PortState → Message → Class
+answering_class port message =
+    if is_less (vector_of message) port.port_priority then class.Other else class.NotDesignated
+
+-- the sender's role is Alternate, Backup or Root, not unknown or Designated
+abbrev pub is_answer : SenderRole → Bool
+is_answer sender.AlternateOrBackup = true
+is_answer sender.Root = true
+is_answer _ = false
+
+abbrev pub rst_class : PortState → Message → Class
+rst_class port message =
+    if is_answer (role_of message.flags) then answering_class port message else designated_class port message
+
+abbrev pub bpdu_class : PortState → Option Bpdu → Class
+bpdu_class port None = class.Other
+bpdu_class port (Some Tcn) = class.Other
+bpdu_class port (Some (Config message)) = designated_class port message
+bpdu_class port (Some (Rst message)) = rst_class port message
+
+abbrev pub class_of : PortState → Class
+class_of port = bpdu_class port port.message
+
+abbrev pub is_superior : Class → Bool
+is_superior class.Superior = true
+is_superior _ = false
+
+abbrev pub is_repeated : Class → Bool
+is_repeated class.Repeated = true
+is_repeated _ = false
+
+abbrev pub is_inferior : Class → Bool
+is_inferior class.Inferior = true
+is_inferior _ = false
+
+abbrev pub is_not_designated : Class → Bool
+is_not_designated class.NotDesignated = true
+is_not_designated _ = false
+
+abbrev pub is_other : Class → Bool
+is_other class.Other = true
+is_other _ = false
+
+-- parts of the effects
+
+-- a Config or RST message is stored, and has a flag of the mask
+abbrev pub message_has : ℕ → Option Bpdu → Bool
+message_has mask (Some (Config message)) = has_flag message.flags mask
+message_has mask (Some (Rst message)) = has_flag message.flags mask
+message_has mask _ = false
+
+-- an RST message is stored, and has a flag of the mask
+abbrev pub rst_has : ℕ → Option Bpdu → Bool
+rst_has mask (Some (Rst message)) = has_flag message.flags mask
+rst_has mask _ = false
+
+abbrev pub is_tcn : Option Bpdu → Bool
+is_tcn (Some Tcn) = true
+is_tcn _ = false
+
+-- the vector of the stored message, or this one
+abbrev pub vector_or : Vector → Option Bpdu → Vector
+vector_or vector (Some (Config message)) = vector_of message
+vector_or vector (Some (Rst message)) = vector_of message
+vector_or vector _ = vector
+
+-- the message proposes
+abbrev pub with_proposal : PortState → PortState
+with_proposal port = record port { proposed = port.proposed || rst_has 0x02 port.message }
+
+-- the message tells of a topology change, or acknowledges one
+abbrev pub with_change_flags : PortState → PortState
+with_change_flags port = record port {
+  received_topology_change = port.received_topology_change || message_has 0x01 port.message;
+  received_acknowledgement = port.received_acknowledgement || message_has 0x80 port.message;
+}
+
+-- how long information of these times is kept: three Hello times, unless it is too old
+abbrev pub info_time : Times → ℕ
+info_time times = if nat_lt times.message_age times.max_age then 3 * times.hello else 0
+
+abbrev pub with_info_time : PortState → PortState
+with_info_time port = record port { received_info_while = info_time port.port_times }
+
+abbrev pub with_info : Message → PortState → PortState
+with_info message port = record port { port_priority = vector_of message; port_times = times_of message }
+
+-- the message's vector and times are the port's
+abbrev pub with_info_of : Option Bpdu → PortState → PortState
+with_info_of (Some (Config message)) port = with_info message port
+with_info_of (Some (Rst message)) port = with_info message port
+with_info_of _ port = port
+
+abbrev pub with_message_info : PortState → PortState
+with_message_info port = with_info_of port.message port
+
+abbrev pub handled : PortState → PortState
+handled port = record port { received_message = false }
+
+-- a port whose information is too old, or was none, asks for roles anew
+abbrev pub aging : PortState → PortState
+aging port = record port {
+  information = information.Aged;
+  info_is = info_is.Aged;
+  reselect = true;
+  selected = false;
+}
+
+-- Disabled: the port went down
+
+abbrev pub disabled_guard : PortState → Bool
+disabled_guard port = not port.enabled && not (is_out port.information)
+
+abbrev pub disabled_effect : PortState → PortState
+disabled_effect port = record port {
+  information = information.Disabled;
+  received_message = false;
+  proposing = false;
+  proposed = false;
+  agree = false;
+  agreed = false;
+  received_info_while = 0;
+  info_is = info_is.Disabled;
+  reselect = true;
+  selected = false;
+}
+
+-- Drop: a message at a port that is down
+
+abbrev pub drop_guard : PortState → Bool
+drop_guard port = is_out port.information && port.received_message
+
+abbrev pub drop_effect : PortState → PortState
+drop_effect port = record port { received_message = false }
+
+-- Enabled: the port came up
+
+abbrev pub enabled_guard : PortState → Bool
+enabled_guard port = is_out port.information && port.enabled
+
+abbrev pub enabled_effect : PortState → PortState
+enabled_effect port = aging port
+
+-- Update: the port takes over its designated vector and times
+
+abbrev pub update_guard : PortState → Bool
+update_guard port = not (is_out port.information) && port.selected && port.update_info
+
+-- the port is still agreed to: what it had said is no worse than what it says now
+abbrev pub keeps_agreed : PortState → Bool
+keeps_agreed port =
+    port.agreed && (is_mine port.info_is && not (is_less port.port_priority port.designated_priority))
+
+abbrev pub update_effect : PortState → PortState
+update_effect port = record port {
+  proposing = false;
+  proposed = false;
+  agreed = keeps_agreed port;
+  synced = port.synced && keeps_agreed port;
+  port_priority = port.designated_priority;
+  port_times = port.designated_times;
+  update_info = false;
+  info_is = info_is.Mine;
+  new_info = true;
+  information = information.Current;
+}
+
+-- Aged: what was received is too old
+
+abbrev pub aged_guard : PortState → Bool
+aged_guard port =
+    is_current port.information && is_received port.info_is && port.received_info_while == 0
+    && not port.update_info && not port.received_message
+
+abbrev pub aged_effect : PortState → PortState
+aged_effect port = aging port
+
+-- a message waits, and may be taken
+abbrev pub may_take : PortState → Bool
+may_take port = is_current port.information && port.received_message && not port.update_info
+
+-- Superior: better information of a designated port
+
+abbrev pub superior_guard : PortState → Bool
+superior_guard port = may_take port && is_superior (class_of port)
+
+-- the port still agrees: the new vector is no worse than the received one before
+abbrev pub keeps_agree : PortState → Bool
+keeps_agree port =
+    port.agree && (is_received port.info_is && not (is_less port.port_priority (vector_or port.port_priority port.message)))
+
+abbrev pub with_superior_flags : PortState → PortState
+with_superior_flags port = record port {
+  agreed = false;
+  proposing = false;
+  agree = keeps_agree port;
+  info_is = info_is.Received;
+  reselect = true;
+  selected = false;
+}
+
+abbrev pub superior_effect : PortState → PortState
+superior_effect port =
+    handled (with_info_time (with_message_info (with_superior_flags (with_change_flags (with_proposal port)))))
+
+-- Repeated: the information that the port has already
+
+abbrev pub repeated_guard : PortState → Bool
+repeated_guard port = may_take port && is_repeated (class_of port)
+
+abbrev pub repeated_effect : PortState → PortState
+repeated_effect port = handled (with_info_time (with_change_flags (with_proposal port)))
+
+-- Inferior: worse information of a designated port, which is disputed if that port learns
+
+abbrev pub inferior_guard : PortState → Bool
+inferior_guard port = may_take port && is_inferior (class_of port)
+
+abbrev pub inferior_effect : PortState → PortState
+inferior_effect port =
+    if rst_has 0x10 port.message
+    then record port { disputed = true; agreed = false; received_message = false }
+    else record port { received_message = false }
+
+-- NotDesignated: the answer of a root, alternate or backup port, which may be an agreement
+
+abbrev pub not_designated_guard : PortState → Bool
+not_designated_guard port = may_take port && is_not_designated (class_of port)
+
+abbrev pub with_answer : PortState → PortState
+with_answer port =
+    if port.point_to_point && message_has 0x40 port.message
+    then record port { agreed = true; proposing = false }
+    else record port { agreed = false }
+
+abbrev pub not_designated_effect : PortState → PortState
+not_designated_effect port = handled (with_change_flags (with_answer port))
+
+-- Other: any other message, of which a TCN is noted
+
+abbrev pub other_guard : PortState → Bool
+other_guard port = may_take port && is_other (class_of port)
+
+abbrev pub other_effect : PortState → PortState
+other_effect port = record port {
+  received_notification = port.received_notification || is_tcn port.message;
+  received_message = false;
+}

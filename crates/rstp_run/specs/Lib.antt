@@ -1,0 +1,10 @@
+pub mod BridgeDetection
+pub mod Events
+pub mod Information
+pub mod Machines
+pub mod Migration
+pub mod Receive
+pub mod Rules
+pub mod Runs
+pub mod TopologyChange
+pub mod Transmit

@@ -1,0 +1,107 @@
+-- The transmit rules (IEEE 802.1D-2004, 17.26, in this project's own table).
+use Rattle.std.specs.Prelude.{ℕ, Bool, false, not, ◌&&◌, ◌||◌, ◌==◌, ◌+◌, ◌*◌, nat_lt, if◌then◌else◌, Some, is_none}
+use Rattle.bpdu_wire.specs.declared.bpdu.Message.{Message}
+use Rattle.bpdu_wire.specs.declared.bpdu.Bpdu.{Bpdu}
+use Rattle.bpdu_wire.specs.declared.bpdu.Bpdu.TheVariants.{Config, Rst, Tcn}
+use Rattle.rstp_state.specs.declared.port.PortState.{PortState}
+use Rattle.rstp_state.specs.declared.port.Timing.{Timing}
+use Rattle.rstp_state.specs.declared.port.Role.{Role}
+use Rattle.rstp_state.specs.declared.port.Role.TheVariants as role
+use Rattle.rstp_state.specs.Port.{may_act, is_disabled, is_root, is_designated}
+
+-- seconds in 1/256 second; what does not fit the field is written as its greatest number
+abbrev pub field_of : ℕ → ℕ
+field_of seconds = if nat_lt seconds 256 then seconds * 256 else 65535
+
+-- the port's designated vector and times, with these flags
+abbrev pub message_with : ℕ → PortState → Message
+message_with flags port = record {
+  flags = flags;
+  root = port.designated_priority.root;
+  cost = port.designated_priority.cost;
+  bridge = port.designated_priority.bridge;
+  port = port.designated_priority.port;
+  message_age = field_of port.designated_times.message_age;
+  max_age = field_of port.designated_times.max_age;
+  hello = field_of port.designated_times.hello;
+  forward_delay = field_of port.designated_times.forward_delay;
+}
+
+-- the flag, where it is wanted
+abbrev pub flag_if : Bool → ℕ → ℕ
+flag_if wanted flag = if wanted then flag else 0
+
+abbrev pub config_flags : PortState → ℕ
+config_flags port =
+    flag_if (not (port.topology_change_while == 0)) 0x01 + flag_if port.acknowledge_topology_change 0x80
+
+-- a port's role as two bits of the flags
+abbrev pub role_flags : Role → ℕ
+role_flags role.Root = 0x08
+role_flags role.Designated = 0x0c
+role_flags _ = 0x04
+
+abbrev pub rst_flags : PortState → ℕ
+rst_flags port =
+    flag_if (not (port.topology_change_while == 0)) 0x01 + flag_if port.proposing 0x02
+    + role_flags port.role + flag_if port.learning 0x10 + flag_if port.forwarding 0x20
+    + flag_if port.agree 0x40
+
+abbrev pub may_send : Timing → PortState → Bool
+may_send timing port =
+    may_act port && port.new_info && not (port.hello_when == 0) && nat_lt port.transmit_count timing.hold
+
+abbrev pub is_ready : Timing → PortState → Bool
+is_ready timing port =
+    may_send timing port && is_none port.slot && port.enabled && not (is_disabled port.role)
+
+-- a message lies in the slot, and is counted
+abbrev pub sending : Timing → Bpdu → PortState → PortState
+sending timing bpdu port = record port {
+  slot = Some bpdu;
+  new_info = false;
+  transmit_count = port.transmit_count + 1;
+  hello_when = timing.hello;
+}
+
+-- Periodic: a Hello time passed
+
+abbrev pub periodic_guard : PortState → Bool
+periodic_guard port = may_act port && port.hello_when == 0
+
+abbrev pub periodic_effect : Timing → PortState → PortState
+periodic_effect timing port = record port {
+  hello_when = timing.hello;
+  new_info = port.new_info || is_designated port.role
+      || (is_root port.role && not (port.topology_change_while == 0));
+}
+
+-- SendConfig: a designated port sends a message of the older protocol
+
+abbrev pub send_config_guard : Timing → PortState → Bool
+send_config_guard timing port = is_ready timing port && not port.send_rstp && is_designated port.role
+
+abbrev pub send_config_effect : Timing → PortState → PortState
+send_config_effect timing port =
+    record (sending timing (Config (message_with (config_flags port) port)) port) {
+      acknowledge_topology_change = false;
+    }
+
+-- SendTcn: the root port tells a bridge of the older protocol of a change
+
+abbrev pub send_tcn_guard : Timing → PortState → Bool
+send_tcn_guard timing port = is_ready timing port && not port.send_rstp && is_root port.role
+
+abbrev pub send_tcn_effect : Timing → PortState → PortState
+send_tcn_effect timing port = sending timing Tcn port
+
+-- SendRst: the port sends a message of the rapid protocol
+
+abbrev pub send_rst_guard : Timing → PortState → Bool
+send_rst_guard timing port = is_ready timing port && port.send_rstp
+
+abbrev pub send_rst_effect : Timing → PortState → PortState
+send_rst_effect timing port =
+    record (sending timing (Rst (message_with (rst_flags port) port)) port) {
+      acknowledge_topology_change = false;
+    }

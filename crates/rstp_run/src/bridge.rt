@@ -1,0 +1,125 @@
+//! A bridge of the spanning tree.
+
+ghost use Rattle.std.specs.Prelude.{◌≡◌, ◌≤◌, ◌-◌, ◌↔◌, length, slice_get, IsTrue, IfOk, true, false};
+ghost use Rattle.rstp_run.specs.Events.{
+  firings_at,
+  Happens,
+  IsAt,
+  IsPort,
+  Learns,
+  Passes,
+  sent_from,
+  start,
+};
+ghost use Rattle.rstp_run.specs.Rules.{Tree};
+ghost use Rattle.rstp_run.specs.Runs.{IsSettled};
+
+use crate::engine::Engine;
+use crate::event::{Event, Outcome};
+use rstp_state::port::PortState;
+use rstp_state::start::{PortSettings, Settings};
+use std::alloc::{AllocError, Global};
+use std::marker::Model;
+
+/// What a bridge is made from.
+#[derive(Clone, Copy)]
+pub struct BridgeConfig<'a> {
+    pub settings: Settings,
+    /// The ports, numbered from 1.
+    pub ports: &'a [PortSettings],
+}
+
+/// A bridge of 1 to 64 ports, numbered from 1, with the rules of the rapid spanning tree. Events
+/// come one after the other; each fires rules until none is enabled, or until there were as many
+/// firings as an event may have. In the latter case the bridge isn't settled, no port passes or
+/// learns, and the next event goes on.
+#[derive(Drop)]
+pub struct Bridge {
+    engine: Engine,
+    settled: bool,
+}
+
+impl Model for Bridge {
+    ghost Value = { Tree };
+
+    ghost view = { λ b. b.engine };
+
+    ghost invariant = { λ b. IsTrue b.settled ↔ IsSettled b.engine };
+}
+
+impl Bridge {
+    /// A bridge before its first event: no port is up, and no rule is enabled. Only a refused
+    /// memory makes it fail.
+    pub fn new(alloc: Global, config: BridgeConfig) -> Result<Self, AllocError>
+        requires some { 1 ≤ length config.ports.now }
+        requires few { length config.ports.now ≤ 64 }
+        ensures { IfOk result (λ bridge. bridge ≡ start config.entry.settings config.entry.ports.now) }
+    {
+        let engine = Engine::new(alloc, config.settings, config.ports)?;
+        let settled = engine.is_settled();
+        Ok(Bridge { engine, settled })
+    }
+
+    /// How many ports there are.
+    pub fn len(&self) -> usize
+        ensures value { result ≡ length self.now.ports }
+        ensures few { result ≤ 64 }
+    {
+        self.engine.len()
+    }
+
+    /// The event's direct effect, and then rules that fire one after the other, up to the limit.
+    /// It takes no memory.
+    pub fn event_within(&mut self, event: Event, limit: usize) -> Outcome
+        requires at { IsAt event (length self.old.ports) }
+        requires some { 1 ≤ limit }
+        requires most { limit ≤ firings_at self.old }
+        ensures happens { Happens event limit self.old self.new result.settled result.flush }
+        ensures settled { IsTrue result.settled ↔ IsSettled self.new }
+        ensures out { result.out.items ≡ sent_from 1 self.new.ports }
+        ensures ports { length self.new.ports ≡ length self.old.ports }
+    {
+        let outcome = self.engine.event_within(event, limit);
+        self.settled = outcome.settled;
+        outcome
+    }
+
+    /// The event, with as many firings as an event may have: 64 for each port and 64 more.
+    pub fn event(&mut self, event: Event) -> Outcome
+        requires { IsAt event (length self.old.ports) }
+        ensures happens { Happens event (firings_at self.old) self.old self.new result.settled result.flush }
+        ensures settled { IsTrue result.settled ↔ IsSettled self.new }
+        ensures out { result.out.items ≡ sent_from 1 self.new.ports }
+        ensures ports { length self.new.ports ≡ length self.old.ports }
+    {
+        let limit = 64 * (self.len() + 1);
+        self.event_within(event, limit)
+    }
+
+    /// Whether frames pass at the port: the bridge is settled, and the port enabled and forwarding.
+    pub fn passes(&self, p: u8) -> bool
+        requires { IsPort p (length self.now.ports) }
+        ensures { IsTrue result ↔ Passes self.now p }
+    {
+        let port = self.engine.port(p);
+        self.settled && port.enabled && port.forwarding
+    }
+
+    /// Whether addresses are learnt at the port: the bridge is settled, and the port enabled and
+    /// learning.
+    pub fn learns(&self, p: u8) -> bool
+        requires { IsPort p (length self.now.ports) }
+        ensures { IsTrue result ↔ Learns self.now p }
+    {
+        let port = self.engine.port(p);
+        self.settled && port.enabled && port.learning
+    }
+
+    /// The state of the port.
+    pub fn port(&self, p: u8) -> &PortState
+        requires { IsPort p (length self.now.ports) }
+        ensures { slice_get self.now.ports (p - 1) ≡ Some result.now }
+    {
+        self.engine.port(p)
+    }
+}

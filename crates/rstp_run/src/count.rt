@@ -1,0 +1,36 @@
+//! How many rules fired in an event, and which ports were flushed.
+
+ghost use Rattle.std.specs.Prelude.{◌≡◌, ◌<◌, ◌≤◌, ◌^◌, bit_or};
+
+use crate::rule::Rule;
+
+/// How many firings there were, of how many at most, and which ports were flushed.
+#[derive(Clone, Copy)]
+pub struct Count {
+    pub fired: usize,
+    pub limit: usize,
+    pub flush: u64,
+}
+
+fn with_bit(mask: u64, p: usize) -> u64
+    requires { p < 64 }
+    ensures { result ≡ bit_or mask (2 ^ p) }
+{
+    mask | 1 << p
+}
+
+impl Count {
+    ghost use Rattle.rstp_run.specs.Runs.{counted};
+
+    /// One more firing, of this rule at the port at place `p`.
+    pub fn add(&mut self, rule: Rule, p: usize)
+        requires bit { p < 64 }
+        requires below { self.old.fired < self.old.limit }
+        ensures { self.new ≡ counted self.old rule p }
+    {
+        self.fired += 1;
+        if rule.is_flush() {
+            self.flush = with_bit(self.flush, p);
+        }
+    }
+}

@@ -1,0 +1,355 @@
+//! The sweep: rules fire in the table's order until none is enabled, or the limit is reached.
+
+ghost use Rattle.std.specs.Prelude.{◌≡◌, ◌≤◌, ◌<◌, ◌-◌, length, map, slice_get, IfOk, true, false};
+ghost use Rattle.std.specs.List.{list_any};
+ghost use Rattle.rstp_state.specs.Direct.{with_second, without_slot};
+ghost use Rattle.rstp_run.specs.Events.{direct, Happens, IsAt, ports_at, sent_from, start};
+ghost use Rattle.rstp_run.specs.Rules.{
+  Tree,
+  after,
+  asks,
+  guard,
+  ports_after,
+  root_after,
+  timing_of,
+  wants_selection,
+};
+
+use crate::count::Count;
+use crate::event::{Event, Outcome};
+use crate::firing::*;
+use crate::rule::{MAIN, Rule, SENDS};
+use arrayvec::ArrayVec;
+use bpdu_wire::{Bpdu, PortId};
+use rstp_roles::firing::{fire_role, fire_state, role_is_enabled, state_is_enabled};
+use rstp_state::direct::{ask_migration_check, clear_slot, pass_second, set_enabled, store};
+use rstp_state::port::{PortState, Timing};
+use rstp_state::selection::{Root, select_roles};
+use rstp_state::start::{PortSettings, Settings, start_ports};
+use std::alloc::{AllocError, Global};
+use std::marker::Model;
+
+/// A bridge that doesn't know whether it is settled.
+#[derive(Drop)]
+pub struct Engine {
+    settings: Settings,
+    root: Root,
+    ports: Vec<PortState>,
+}
+
+impl Model for Engine {
+    ghost Value = { Tree };
+
+    ghost view = { λ b. record { settings = b.settings; root = b.root; ports = b.ports.items } };
+
+    ghost invariant = { λ b. length b.ports.items ≤ 64 };
+}
+
+/// What the rules of a port read of the bridge.
+fn timing_of(settings: &Settings, root: &Root) -> Timing
+    ensures { result ≡ timing_of settings.now root.now }
+{
+    Timing {
+        hello: settings.hello,
+        hold: settings.hold,
+        max_age: root.times.max_age,
+        forward_delay: root.times.forward_delay,
+    }
+}
+
+fn wants_selection(ports: &[PortState]) -> bool
+    ensures { result ≡ list_any wants_selection ports.now }
+{
+    ports.iter().any(|port| port.reselect)
+}
+
+fn clear_slots(ports: &mut [PortState])
+    ensures { ports.new ≡ map without_slot ports.old }
+{
+    for port in ports.iter_mut() {
+        clear_slot(port);
+    }
+}
+
+fn pass_seconds(ports: &mut [PortState])
+    ensures { ports.new ≡ map with_second ports.old }
+{
+    for port in ports.iter_mut() {
+        pass_second(port);
+    }
+}
+
+/// The event's direct effect on the ports.
+fn take_in(ports: &mut [PortState], event: Event)
+    requires { IsAt event (length ports.old) }
+    ensures { ports.new ≡ ports_at event ports.old }
+{
+    match event {
+        Event::Bpdu(p, message) => store(&mut ports[usize::from(p) - 1], message),
+        Event::Second => pass_seconds(ports),
+        Event::PortUp(p) => set_enabled(&mut ports[usize::from(p) - 1], true),
+        Event::PortDown(p) => set_enabled(&mut ports[usize::from(p) - 1], false),
+        Event::Mcheck(p) => ask_migration_check(&mut ports[usize::from(p) - 1]),
+    }
+}
+
+/// What lies in the slots.
+fn sent(ports: &[PortState]) -> ArrayVec<(u8, Bpdu), 64>
+    requires { length ports.now ≤ 64 }
+    ensures { result.items ≡ sent_from 1 ports.now }
+{
+    let mut out = ArrayVec::new();
+    for (i, port) in ports.iter().enumerate() {
+        if let Some(bpdu) = port.slot {
+            out.push(((i + 1) as u8, bpdu));
+        }
+    }
+    out
+}
+
+/// Whether the rule's guard holds at the port at place `p`.
+fn is_enabled_in(
+    settings: &Settings,
+    root: &Root,
+    ports: &[PortState],
+    rule: Rule,
+    p: usize,
+) -> bool
+    requires { p < length ports.now }
+    ensures { result ≡ guard rule (record { settings = settings.now; root = root.now; ports = ports.now }) p }
+{
+    let port = &ports[p];
+    match rule {
+        Rule::Select => p == 0 && wants_selection(ports),
+        Rule::Receive(rule) => receive_is_enabled(port, rule),
+        Rule::Migration(rule) => migration_is_enabled(port, rule),
+        Rule::Detection(rule) => detection_is_enabled(port, rule),
+        Rule::Information(rule) => information_is_enabled(port, rule),
+        Rule::Role(rule) => role_is_enabled(&timing_of(settings, root), ports, rule, p),
+        Rule::State(rule) => state_is_enabled(port, rule),
+        Rule::Topology(rule) => topology_is_enabled(port, rule),
+        Rule::Transmit(rule) => transmit_is_enabled(&timing_of(settings, root), port, rule),
+    }
+}
+
+/// Fires the rule at the port at place `p`.
+fn fire_in(settings: &Settings, root: &mut Root, ports: &mut [PortState], rule: Rule, p: usize)
+    requires there { p < length ports.old }
+    requires guard { guard rule (record { settings = settings.now; root = root.old; ports = ports.old }) p ≡ true }
+    ensures root { root.new ≡ root_after rule (record { settings = settings.now; root = root.old; ports = ports.old }) }
+    ensures ports { ports.new ≡ ports_after rule (record { settings = settings.now; root = root.old; ports = ports.old }) p }
+{
+    let timing = timing_of(settings, root);
+    match rule {
+        Rule::Select => *root = select_roles(settings, ports),
+        Rule::Receive(rule) => fire_receive(&mut ports[p], rule),
+        Rule::Migration(rule) => fire_migration(&mut ports[p], rule),
+        Rule::Detection(rule) => fire_detection(&mut ports[p], rule),
+        Rule::Information(rule) => fire_information(&mut ports[p], rule),
+        Rule::Role(rule) => fire_role(&timing, ports, rule, p),
+        Rule::State(rule) => fire_state(&mut ports[p], rule),
+        Rule::Topology(rule) => fire_topology(&timing, ports, rule, p),
+        Rule::Transmit(rule) => fire_transmit(&timing, &mut ports[p], rule),
+    }
+}
+
+impl Engine {
+    ghost use Rattle.rstp_run.specs.Events.{IsPort};
+    ghost use Rattle.rstp_run.specs.Runs.{
+      Goes,
+      Sweeps,
+      IsOff,
+      AreOffAt,
+      AreOffBelow,
+      AreOff,
+      IsSettled,
+    };
+
+    /// A bridge before its first event.
+    pub fn new(
+        alloc: Global,
+        settings: Settings,
+        ports: &[PortSettings],
+    ) -> Result<Self, AllocError>
+        requires some { 1 ≤ length ports.now }
+        requires few { length ports.now ≤ 64 }
+        ensures { IfOk result (λ engine. engine ≡ start settings ports.now) }
+    {
+        let started = start_ports(alloc, &settings, ports)?;
+        let root = Root {
+            priority: settings.own_vector(PortId::new(0)),
+            times: settings.own_times(),
+        };
+        Ok(Engine {
+            settings,
+            root,
+            ports: started,
+        })
+    }
+
+    /// How many ports there are.
+    pub fn len(&self) -> usize
+        ensures value { result ≡ length self.now.ports }
+        ensures few { result ≤ 64 }
+    {
+        self.ports.len()
+    }
+
+    /// Whether the rule's guard holds at the port at place `p`.
+    fn is_enabled(&self, rule: Rule, p: usize) -> bool
+        requires { p < length self.now.ports }
+        ensures { result ≡ guard rule self.now p }
+    {
+        is_enabled_in(&self.settings, &self.root, &self.ports, rule, p)
+    }
+
+    /// Fires the rule at the port at place `p`.
+    fn fire(&mut self, rule: Rule, p: usize)
+        requires there { p < length self.old.ports }
+        requires guard { guard rule self.old p ≡ true }
+        ensures { self.new ≡ after rule self.old p }
+    {
+        fire_in(&self.settings, &mut self.root, &mut self.ports, rule, p);
+    }
+
+    /// Fires the rule at the port, if it is enabled and the limit is not reached.
+    fn try_fire(&mut self, rule: Rule, p: usize, count: &mut Count)
+        requires there { p < length self.old.ports }
+        requires bit { p < 64 }
+        requires within { count.old.fired ≤ count.old.limit }
+        ensures { Sweeps (IsOff rule p) self.old count.old self.new count.new }
+    {
+        if count.fired < count.limit && self.is_enabled(rule, p) {
+            self.fire(rule, p);
+            count.add(rule, p);
+        }
+    }
+
+    /// Tries each rule once at the port, in their order.
+    fn try_port(&mut self, rules: &[Rule], p: usize, count: &mut Count)
+        requires there { p < length self.old.ports }
+        requires bit { p < 64 }
+        requires within { count.old.fired ≤ count.old.limit }
+        ensures { Sweeps (AreOffAt rules.now p) self.old count.old self.new count.new }
+    {
+        for rule in rules {
+            self.try_fire(*rule, p, count);
+        }
+    }
+
+    /// Tries each rule once at each port.
+    fn pass(&mut self, rules: &[Rule], count: &mut Count)
+        requires { count.old.fired ≤ count.old.limit }
+        ensures { Sweeps (AreOff rules.now) self.old count.old self.new count.new }
+    {
+        for p in 0..self.len() {
+            self.try_port(rules, p, count);
+        }
+    }
+
+    /// Passes go on until one fires nothing, or the limit is reached.
+    fn settle(&mut self, rules: &[Rule], count: &mut Count)
+        requires { count.old.fired ≤ count.old.limit }
+        ensures goes { Goes self.old count.old self.new count.new }
+        ensures off { count.new.fired < count.new.limit → AreOff rules.now self.new }
+        ensures idle { count.new.fired ≡ count.old.fired → self.new ≡ self.old }
+        ensures ports { length self.new.ports ≡ length self.old.ports }
+    {
+        'passes: loop {
+            let before = count.fired;
+            self.pass(rules, count);
+            if count.fired == before || count.fired == count.limit {
+                return;
+            }
+        }
+    }
+
+    fn has_enabled_at(&self, rules: &[Rule], p: usize) -> bool
+        requires { p < length self.now.ports }
+        ensures { result ≡ list_any (λ rule. guard rule self.now p) rules.now }
+    {
+        rules.iter().any(|rule| self.is_enabled(*rule, p))
+    }
+
+    fn has_enabled(&self, rules: &[Rule]) -> bool
+        ensures off { result ≡ false → AreOff rules.now self.now }
+        ensures on { result ≡ true → ¬ AreOff rules.now self.now }
+    {
+        for p in 0..self.len() {
+            if self.has_enabled_at(rules, p) {
+                return true;
+            }
+        }
+        false
+    }
+
+    /// Whether no rule is enabled.
+    pub fn is_settled(&self) -> bool
+        ensures yes { result ≡ true → IsSettled self.now }
+        ensures no { result ≡ false → ¬ IsSettled self.now }
+    {
+        !self.has_enabled(&MAIN) && !self.has_enabled(&SENDS)
+    }
+
+    /// Fires rules until none is enabled, or the limit is reached.
+    fn run(&mut self, count: &mut Count) -> bool
+        requires { count.old.fired ≤ count.old.limit }
+        ensures goes { Goes self.old count.old self.new count.new }
+        ensures yes { result ≡ true → IsSettled self.new }
+        ensures no { result ≡ false → ¬ IsSettled self.new }
+        ensures unsettled { result ≡ false → count.new.fired ≡ count.new.limit }
+        ensures ports { length self.new.ports ≡ length self.old.ports }
+    {
+        'rounds: loop {
+            self.settle(&MAIN, count);
+            let before = count.fired;
+            self.settle(&SENDS, count);
+            if count.fired == count.limit {
+                return self.is_settled();
+            }
+            if count.fired == before {
+                return true;
+            }
+        }
+    }
+
+    /// The event's direct effect.
+    fn start(&mut self, event: Event)
+        requires { IsAt event (length self.old.ports) }
+        ensures { self.new ≡ direct event self.old }
+    {
+        clear_slots(&mut self.ports);
+        take_in(&mut self.ports, event);
+    }
+
+    /// The event, and at most so many firings.
+    pub fn event_within(&mut self, event: Event, limit: usize) -> Outcome
+        requires { IsAt event (length self.old.ports) }
+        ensures happens { Happens event limit self.old self.new result.settled result.flush }
+        ensures yes { result.settled ≡ true → IsSettled self.new }
+        ensures no { result.settled ≡ false → ¬ IsSettled self.new }
+        ensures out { result.out.items ≡ sent_from 1 self.new.ports }
+        ensures ports { length self.new.ports ≡ length self.old.ports }
+    {
+        self.start(event);
+        let mut count = Count {
+            fired: 0,
+            limit,
+            flush: 0,
+        };
+        let settled = self.run(&mut count);
+        Outcome {
+            settled,
+            flush: count.flush,
+            out: sent(&self.ports),
+        }
+    }
+
+    /// The port of this number.
+    pub fn port(&self, p: u8) -> &PortState
+        requires { IsPort p (length self.now.ports) }
+        ensures { slice_get self.now.ports (p - 1) ≡ Some result.now }
+    {
+        &self.ports[usize::from(p) - 1]
+    }
+}

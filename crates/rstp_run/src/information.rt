@@ -1,0 +1,462 @@
+//! The information rules (17.27): what a received message says of the tree.
+
+ghost use Rattle.std.specs.Prelude.{◌≡◌};
+ghost use Rattle.rstp_state.specs.Vector.{is_less};
+ghost use Rattle.rstp_run.specs.Information.{
+  designated_class,
+  answering_class,
+  is_answer,
+  rst_class,
+  class_of,
+  message_has,
+  rst_has,
+  vector_or,
+  with_proposal,
+  with_change_flags,
+  info_time,
+  with_info_time,
+  with_message_info,
+  with_info,
+  aging,
+  keeps_agreed,
+  keeps_agree,
+  may_take,
+  with_superior_flags,
+  with_answer,
+};
+ghost use Rattle.rstp_run.specs.Information.{
+  disabled_guard,
+  disabled_effect,
+  drop_guard,
+  drop_effect,
+  enabled_guard,
+  enabled_effect,
+  update_guard,
+  update_effect,
+  aged_guard,
+  aged_effect,
+  superior_guard,
+  superior_effect,
+  repeated_guard,
+  repeated_effect,
+  inferior_guard,
+  inferior_effect,
+  not_designated_guard,
+  not_designated_effect,
+  other_guard,
+  other_effect,
+};
+
+use bpdu_wire::{Bpdu, Message, SenderRole};
+use rstp_state::port::{InfoIs, Information, PortState, has_flag};
+use rstp_state::vector::{Times, Vector, superior as is_superior_to};
+
+/// What a received message is to the port (17.21.8).
+#[derive(Clone, Copy, Debug, PartialEq, Eq)]
+pub enum Class {
+    /// Better information of a designated port.
+    Superior,
+    /// The information that the port has already.
+    Repeated,
+    /// Worse information of a designated port.
+    Inferior,
+    /// The answer of a root, alternate or backup port.
+    NotDesignated,
+    Other,
+}
+
+impl Class {
+    ghost use Rattle.rstp_run.specs.Information.{
+      is_superior,
+      is_repeated,
+      is_inferior,
+      is_not_designated,
+      is_other,
+    };
+
+    pub fn is_superior(self) -> bool
+        ensures { result ≡ is_superior self }
+    {
+        matches!(self, Class::Superior)
+    }
+
+    pub fn is_repeated(self) -> bool
+        ensures { result ≡ is_repeated self }
+    {
+        matches!(self, Class::Repeated)
+    }
+
+    pub fn is_inferior(self) -> bool
+        ensures { result ≡ is_inferior self }
+    {
+        matches!(self, Class::Inferior)
+    }
+
+    pub fn is_not_designated(self) -> bool
+        ensures { result ≡ is_not_designated self }
+    {
+        matches!(self, Class::NotDesignated)
+    }
+
+    pub fn is_other(self) -> bool
+        ensures { result ≡ is_other self }
+    {
+        matches!(self, Class::Other)
+    }
+}
+
+/// The class of a designated port's message.
+fn designated_class(port: &PortState, message: &Message) -> Class
+    ensures { result ≡ designated_class port.now message.now }
+{
+    let vector = Vector::of_message(message);
+    let times = Times::of_message(message);
+    if is_superior_to(&vector, &times, &port.port_priority, &port.port_times) {
+        return Class::Superior;
+    }
+    if vector == port.port_priority && times == port.port_times && port.info_is.is_received() {
+        return Class::Repeated;
+    }
+    if port.port_priority.is_less(&vector) {
+        Class::Inferior
+    } else {
+        Class::Other
+    }
+}
+
+/// The class of a root, alternate or backup port's message.
+fn answering_class(port: &PortState, message: &Message) -> Class
+    ensures { result ≡ answering_class port.now message.now }
+{
+    if Vector::of_message(message).is_less(&port.port_priority) {
+        Class::Other
+    } else {
+        Class::NotDesignated
+    }
+}
+
+/// Whether the sender's role is Alternate, Backup or Root.
+fn is_answer(role: SenderRole) -> bool
+    ensures { result ≡ is_answer role }
+{
+    matches!(role, SenderRole::AlternateOrBackup | SenderRole::Root)
+}
+
+fn rst_class(port: &PortState, message: &Message) -> Class
+    ensures { result ≡ rst_class port.now message.now }
+{
+    if is_answer(message.role()) {
+        answering_class(port, message)
+    } else {
+        designated_class(port, message)
+    }
+}
+
+/// The class of the stored message.
+pub fn class_of(port: &PortState) -> Class
+    ensures { result ≡ class_of port.now }
+{
+    match &port.message {
+        Some(Bpdu::Config(message)) => designated_class(port, message),
+        Some(Bpdu::Rst(message)) => rst_class(port, message),
+        _ => Class::Other,
+    }
+}
+
+fn message_has(mask: u8, message: Option<Bpdu>) -> bool
+    ensures { result ≡ message_has mask message }
+{
+    match message {
+        Some(Bpdu::Config(message)) => has_flag(message.flags, mask),
+        Some(Bpdu::Rst(message)) => has_flag(message.flags, mask),
+        _ => false,
+    }
+}
+
+fn rst_has(mask: u8, message: Option<Bpdu>) -> bool
+    ensures { result ≡ rst_has mask message }
+{
+    match message {
+        Some(Bpdu::Rst(message)) => has_flag(message.flags, mask),
+        _ => false,
+    }
+}
+
+fn note_proposal(port: &mut PortState)
+    ensures { port.new ≡ with_proposal port.old }
+{
+    port.proposed = port.proposed || rst_has(0x02, port.message);
+}
+
+fn note_change_flags(port: &mut PortState)
+    ensures { port.new ≡ with_change_flags port.old }
+{
+    port.received_topology_change = port.received_topology_change
+        || message_has(0x01, port.message);
+    port.received_acknowledgement = port.received_acknowledgement
+        || message_has(0x80, port.message);
+}
+
+/// How long information of these times is kept, in seconds (17.21.23, updtRcvdInfoWhile).
+fn info_time(times: &Times) -> u32
+    ensures { result ≡ info_time times.now }
+{
+    if times.message_age < times.max_age {
+        3 * u32::from(times.hello)
+    } else {
+        0
+    }
+}
+
+fn start_info_time(port: &mut PortState)
+    ensures { port.new ≡ with_info_time port.old }
+{
+    port.received_info_while = info_time(&port.port_times);
+}
+
+/// The message's vector and times are the port's (17.21.11, recordPriority, recordTimes).
+fn take_message_info(port: &mut PortState)
+    ensures { port.new ≡ with_message_info port.old }
+{
+    match port.message {
+        Some(Bpdu::Config(message)) => set_info(port, &message),
+        Some(Bpdu::Rst(message)) => set_info(port, &message),
+        _ => (),
+    }
+}
+
+fn set_info(port: &mut PortState, message: &Message)
+    ensures { port.new ≡ with_info message.now port.old }
+{
+    port.port_priority = Vector::of_message(message);
+    port.port_times = Times::of_message(message);
+}
+
+fn age(port: &mut PortState)
+    ensures { port.new ≡ aging port.old }
+{
+    port.information = Information::Aged;
+    port.info_is = InfoIs::Aged;
+    port.reselect = true;
+    port.selected = false;
+}
+
+pub fn disabled_guard(port: &PortState) -> bool
+    ensures { result ≡ disabled_guard port.now }
+{
+    !port.enabled && !port.information.is_out()
+}
+
+/// The port went down.
+pub fn disabled(port: &mut PortState)
+    ensures { port.new ≡ disabled_effect port.old }
+{
+    port.information = Information::Disabled;
+    port.received_message = false;
+    port.proposing = false;
+    port.proposed = false;
+    port.agree = false;
+    port.agreed = false;
+    port.received_info_while = 0;
+    port.info_is = InfoIs::Disabled;
+    port.reselect = true;
+    port.selected = false;
+}
+
+pub fn drop_guard(port: &PortState) -> bool
+    ensures { result ≡ drop_guard port.now }
+{
+    port.information.is_out() && port.received_message
+}
+
+/// A message at a port that is down is dropped.
+pub fn drop_message(port: &mut PortState)
+    ensures { port.new ≡ drop_effect port.old }
+{
+    port.received_message = false;
+}
+
+pub fn enabled_guard(port: &PortState) -> bool
+    ensures { result ≡ enabled_guard port.now }
+{
+    port.information.is_out() && port.enabled
+}
+
+/// The port came up.
+pub fn enabled(port: &mut PortState)
+    ensures { port.new ≡ enabled_effect port.old }
+{
+    age(port);
+}
+
+pub fn update_guard(port: &PortState) -> bool
+    ensures { result ≡ update_guard port.now }
+{
+    !port.information.is_out() && port.selected && port.update_info
+}
+
+fn keeps_agreed(port: &PortState) -> bool
+    ensures { result ≡ keeps_agreed port.now }
+{
+    port.agreed && port.info_is.is_mine() && !port.port_priority.is_less(&port.designated_priority)
+}
+
+/// The port takes over its designated vector and times.
+pub fn update(port: &mut PortState)
+    ensures { port.new ≡ update_effect port.old }
+{
+    port.agreed = keeps_agreed(port);
+    port.synced = port.synced && port.agreed;
+    port.proposing = false;
+    port.proposed = false;
+    port.port_priority = port.designated_priority;
+    port.port_times = port.designated_times;
+    port.update_info = false;
+    port.info_is = InfoIs::Mine;
+    port.new_info = true;
+    port.information = Information::Current;
+}
+
+pub fn aged_guard(port: &PortState) -> bool
+    ensures { result ≡ aged_guard port.now }
+{
+    port.information.is_current()
+        && port.info_is.is_received()
+        && port.received_info_while == 0
+        && !port.update_info
+        && !port.received_message
+}
+
+/// What was received is too old.
+pub fn aged(port: &mut PortState)
+    ensures { port.new ≡ aged_effect port.old }
+{
+    age(port);
+}
+
+fn may_take(port: &PortState) -> bool
+    ensures { result ≡ may_take port.now }
+{
+    port.information.is_current() && port.received_message && !port.update_info
+}
+
+pub fn superior_guard(port: &PortState) -> bool
+    ensures { result ≡ superior_guard port.now }
+{
+    may_take(port) && class_of(port).is_superior()
+}
+
+fn keeps_agree(port: &PortState) -> bool
+    ensures { result ≡ keeps_agree port.now }
+{
+    port.agree && port.info_is.is_received() && !is_worse(port, port.message)
+}
+
+/// Whether the message's vector is worse than the port's.
+fn is_worse(port: &PortState, message: Option<Bpdu>) -> bool
+    ensures { result ≡ is_less port.now.port_priority (vector_or port.now.port_priority message) }
+{
+    match message {
+        Some(Bpdu::Config(message)) => port.port_priority.is_less(&Vector::of_message(&message)),
+        Some(Bpdu::Rst(message)) => port.port_priority.is_less(&Vector::of_message(&message)),
+        _ => port.port_priority.is_less(&port.port_priority),
+    }
+}
+
+fn set_superior_flags(port: &mut PortState)
+    ensures { port.new ≡ with_superior_flags port.old }
+{
+    port.agree = keeps_agree(port);
+    port.agreed = false;
+    port.proposing = false;
+    port.info_is = InfoIs::Received;
+    port.reselect = true;
+    port.selected = false;
+}
+
+/// Better information of a designated port is taken over.
+pub fn superior(port: &mut PortState)
+    ensures { port.new ≡ superior_effect port.old }
+{
+    note_proposal(port);
+    note_change_flags(port);
+    set_superior_flags(port);
+    take_message_info(port);
+    start_info_time(port);
+    port.received_message = false;
+}
+
+pub fn repeated_guard(port: &PortState) -> bool
+    ensures { result ≡ repeated_guard port.now }
+{
+    may_take(port) && class_of(port).is_repeated()
+}
+
+/// The information that the port has already is kept on.
+pub fn repeated(port: &mut PortState)
+    ensures { port.new ≡ repeated_effect port.old }
+{
+    note_proposal(port);
+    note_change_flags(port);
+    start_info_time(port);
+    port.received_message = false;
+}
+
+pub fn inferior_guard(port: &PortState) -> bool
+    ensures { result ≡ inferior_guard port.now }
+{
+    may_take(port) && class_of(port).is_inferior()
+}
+
+/// Worse information of a designated port is disputed if that port learns.
+pub fn inferior(port: &mut PortState)
+    ensures { port.new ≡ inferior_effect port.old }
+{
+    if rst_has(0x10, port.message) {
+        port.disputed = true;
+        port.agreed = false;
+    }
+    port.received_message = false;
+}
+
+pub fn not_designated_guard(port: &PortState) -> bool
+    ensures { result ≡ not_designated_guard port.now }
+{
+    may_take(port) && class_of(port).is_not_designated()
+}
+
+fn take_answer(port: &mut PortState)
+    ensures { port.new ≡ with_answer port.old }
+{
+    if port.point_to_point && message_has(0x40, port.message) {
+        port.agreed = true;
+        port.proposing = false;
+    } else {
+        port.agreed = false;
+    }
+}
+
+/// The answer of a root, alternate or backup port may be an agreement.
+pub fn not_designated(port: &mut PortState)
+    ensures { port.new ≡ not_designated_effect port.old }
+{
+    take_answer(port);
+    note_change_flags(port);
+    port.received_message = false;
+}
+
+pub fn other_guard(port: &PortState) -> bool
+    ensures { result ≡ other_guard port.now }
+{
+    may_take(port) && class_of(port).is_other()
+}
+
+/// Of any other message a notification is noted.
+pub fn other(port: &mut PortState)
+    ensures { port.new ≡ other_effect port.old }
+{
+    if let Some(Bpdu::Tcn) = port.message {
+        port.received_notification = true;
+    }
+    port.received_message = false;
+}

@@ -1,0 +1,80 @@
+//! The protocol migration rules (17.24): which protocol the port sends.
+
+ghost use Rattle.std.specs.Prelude.{◌≡◌};
+ghost use Rattle.rstp_run.specs.Migration.{
+  enter_checking,
+  enter_selecting,
+  enter_sensing,
+  recheck_guard,
+  checked_guard,
+  selected_guard,
+  to_rstp_guard,
+  to_stp_guard,
+};
+
+use rstp_state::port::{Migration, PortState};
+
+/// The port sends the rapid protocol, and waits before it listens for the other.
+pub fn enter_checking(port: &mut PortState)
+    ensures { port.new ≡ enter_checking port.old }
+{
+    port.migration = Migration::Checking;
+    port.check_migration = false;
+    port.send_rstp = true;
+    port.migration_delay_while = 3;
+}
+
+/// The port sends the older protocol, and waits before it listens for the rapid one.
+pub fn enter_selecting(port: &mut PortState)
+    ensures { port.new ≡ enter_selecting port.old }
+{
+    port.migration = Migration::Selecting;
+    port.send_rstp = false;
+    port.migration_delay_while = 3;
+}
+
+/// The port listens for the other protocol.
+pub fn enter_sensing(port: &mut PortState)
+    ensures { port.new ≡ enter_sensing port.old }
+{
+    port.migration = Migration::Sensing;
+    port.received_rstp = false;
+    port.received_stp = false;
+}
+
+/// A port that is not enabled goes on checking.
+pub fn recheck_guard(port: &PortState) -> bool
+    ensures { result ≡ recheck_guard port.now }
+{
+    port.migration.is_checking() && port.migration_delay_while != 3 && !port.enabled
+}
+
+/// Checking is over.
+pub fn checked_guard(port: &PortState) -> bool
+    ensures { result ≡ checked_guard port.now }
+{
+    port.migration.is_checking() && port.migration_delay_while == 0 && port.enabled
+}
+
+/// Selecting is over.
+pub fn selected_guard(port: &PortState) -> bool
+    ensures { result ≡ selected_guard port.now }
+{
+    port.migration.is_selecting()
+        && (port.migration_delay_while == 0 || !port.enabled || port.check_migration)
+}
+
+/// The port goes back to the rapid protocol.
+pub fn to_rstp_guard(port: &PortState) -> bool
+    ensures { result ≡ to_rstp_guard port.now }
+{
+    port.migration.is_sensing()
+        && (!port.enabled || port.check_migration || (!port.send_rstp && port.received_rstp))
+}
+
+/// The port goes over to the older protocol.
+pub fn to_stp_guard(port: &PortState) -> bool
+    ensures { result ≡ to_stp_guard port.now }
+{
+    port.migration.is_sensing() && port.send_rstp && port.received_stp
+}

@@ -1,0 +1,45 @@
+//! The receive rules (17.23): a stored message goes to the other machines.
+
+ghost use Rattle.std.specs.Prelude.{◌≡◌};
+ghost use Rattle.rstp_run.specs.Receive.{discard_guard, discard_effect, receive_guard, receive_effect};
+
+use bpdu_wire::Bpdu;
+use rstp_state::port::PortState;
+
+pub fn discard_guard(port: &PortState) -> bool
+    ensures { result ≡ discard_guard port.now }
+{
+    (port.received_bpdu || port.edge_delay_while != 3) && !port.enabled
+}
+
+/// A port that is not enabled forgets what came.
+pub fn discard(port: &mut PortState)
+    ensures { port.new ≡ discard_effect port.old }
+{
+    port.received_bpdu = false;
+    port.received_rstp = false;
+    port.received_stp = false;
+    port.received_message = false;
+    port.edge_delay_while = 3;
+}
+
+pub fn receive_guard(port: &PortState) -> bool
+    ensures { result ≡ receive_guard port.now }
+{
+    port.received_bpdu && port.enabled && !port.received_message
+}
+
+/// The stored message goes to the other machines, and the port is no edge.
+pub fn receive(port: &mut PortState)
+    ensures { port.new ≡ receive_effect port.old }
+{
+    if let Some(Bpdu::Rst(_)) = port.message {
+        port.received_rstp = true;
+    } else {
+        port.received_stp = true;
+    }
+    port.oper_edge = false;
+    port.received_bpdu = false;
+    port.received_message = true;
+    port.edge_delay_while = 3;
+}

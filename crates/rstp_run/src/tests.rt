@@ -1,0 +1,95 @@
+//! What the definitions don't show by themselves: whole runs, with the octets that are sent.
+
+mod lone_port;
+mod order;
+mod root_port;
+
+use crate::bridge::{Bridge, BridgeConfig};
+use crate::event::{Event, Outcome};
+use arrayvec::ArrayVec;
+use bpdu_wire::{BridgeId, read, write};
+use rstp_state::start::{PortSettings, Settings};
+use std::alloc::{AllocError, Global};
+
+/// What a designated port of bridge 8000.02:aa:00:00:00:01 first sends: it takes itself for the root,
+/// and proposes.
+const FIRST_PROPOSAL: [u8; 36] = [
+    0x00, 0x00, 0x02, 0x02, 0x0e, 0x80, 0x00, 0x02, 0xaa, 0x00, 0x00, 0x00, 0x01, 0x00, 0x00, 0x00,
+    0x00, 0x80, 0x00, 0x02, 0xaa, 0x00, 0x00, 0x00, 0x01, 0x80, 0x01, 0x00, 0x00, 0x14, 0x00, 0x02,
+    0x00, 0x0f, 0x00, 0x00,
+];
+
+/// A port with the usual settings.
+const USUAL_PORT: PortSettings = PortSettings {
+    priority: 128,
+    cost: 20000,
+    admin_edge: false,
+    auto_edge: true,
+    point_to_point: true,
+};
+
+/// A bridge of the usual priority and times, and of one port.
+fn bridge_of_one(alloc: Global, address: u64, port: PortSettings) -> Result<Bridge, AllocError> {
+    let settings = Settings {
+        identifier: BridgeId::new(0x8000_0000_0000_0000 | address),
+        hello: 2,
+        max_age: 20,
+        forward_delay: 15,
+        hold: 6,
+    };
+    Bridge::new(
+        alloc,
+        BridgeConfig {
+            settings,
+            ports: &[port],
+        },
+    )
+}
+
+/// The event at a bridge whose first port is there.
+fn happen(bridge: &mut Bridge, event: Event) -> Option<Outcome> {
+    let ports = bridge.len();
+    let is_there = match event {
+        Event::Second => true,
+        Event::Bpdu(p, _) | Event::PortUp(p) | Event::PortDown(p) | Event::Mcheck(p) => {
+            1 <= p && usize::from(p) <= ports
+        }
+    };
+    if is_there {
+        Some(bridge.event(event))
+    } else {
+        None
+    }
+}
+
+/// The octets that came of the event at port 1: none where nothing was sent.
+fn sent_by(outcome: Option<Outcome>) -> ArrayVec<u8, 36> {
+    match outcome {
+        Some(outcome) => match outcome.out.first() {
+            Some((1, bpdu)) => write(bpdu),
+            _ => ArrayVec::new(),
+        },
+        None => ArrayVec::new(),
+    }
+}
+
+/// The octets that the bridge sends at port 1 as this many seconds pass, one after the other.
+fn sent_in_second(bridge: &mut Bridge) -> ArrayVec<u8, 36> {
+    sent_by(happen(bridge, Event::Second))
+}
+
+/// The message of these octets comes at port 1.
+fn receive(bridge: &mut Bridge, octets: &[u8]) -> Option<Outcome> {
+    match read(octets) {
+        Ok(bpdu) => happen(bridge, Event::Bpdu(1, bpdu)),
+        Err(_) => None,
+    }
+}
+
+fn passes(bridge: &Bridge) -> bool {
+    1 <= bridge.len() && bridge.passes(1)
+}
+
+fn learns(bridge: &Bridge) -> bool {
+    1 <= bridge.len() && bridge.learns(1)
+}

@@ -1,0 +1,174 @@
+//! The transmit rules (17.26): what a port sends, and when.
+
+ghost use Rattle.std.specs.Prelude.{◌≡◌, ◌<◌, ◌≤◌};
+ghost use Rattle.rstp_run.specs.Transmit.{
+  field_of,
+  message_with,
+  flag_if,
+  config_flags,
+  role_flags,
+  rst_flags,
+  may_send,
+  is_ready,
+  sending,
+};
+ghost use Rattle.rstp_run.specs.Transmit.{
+  periodic_guard,
+  periodic_effect,
+  send_config_guard,
+  send_config_effect,
+  send_tcn_guard,
+  send_tcn_effect,
+  send_rst_guard,
+  send_rst_effect,
+};
+
+use bpdu_wire::{Bpdu, Message};
+use rstp_state::port::{PortState, Role, Timing};
+
+/// Seconds in 1/256 second. What doesn't fit the field is written as its greatest number.
+fn field_of(seconds: u16) -> u16
+    ensures { result ≡ field_of seconds }
+{
+    if seconds < 256 { seconds * 256 } else { 65535 }
+}
+
+/// The port's designated vector and times, with these flags.
+fn message_with(flags: u8, port: &PortState) -> Message
+    ensures { result ≡ message_with flags port.now }
+{
+    Message {
+        flags,
+        root: port.designated_priority.root,
+        cost: port.designated_priority.cost,
+        bridge: port.designated_priority.bridge,
+        port: port.designated_priority.port,
+        message_age: field_of(port.designated_times.message_age),
+        max_age: field_of(port.designated_times.max_age),
+        hello: field_of(port.designated_times.hello),
+        forward_delay: field_of(port.designated_times.forward_delay),
+    }
+}
+
+fn flag_if(wanted: bool, flag: u8) -> u8
+    ensures value { result ≡ flag_if wanted flag }
+    ensures small { result ≤ flag }
+{
+    if wanted { flag } else { 0 }
+}
+
+fn config_flags(port: &PortState) -> u8
+    ensures { result ≡ config_flags port.now }
+{
+    flag_if(port.topology_change_while != 0, 0x01) + flag_if(port.acknowledge_topology_change, 0x80)
+}
+
+/// The role as two bits of the flags (9.3.3).
+fn role_flags(role: Role) -> u8
+    ensures value { result ≡ role_flags role }
+    ensures small { result < 0x10 }
+{
+    match role {
+        Role::Root => 0x08,
+        Role::Designated => 0x0c,
+        _ => 0x04,
+    }
+}
+
+fn rst_flags(port: &PortState) -> u8
+    ensures { result ≡ rst_flags port.now }
+{
+    flag_if(port.topology_change_while != 0, 0x01)
+        + flag_if(port.proposing, 0x02)
+        + role_flags(port.role)
+        + flag_if(port.learning, 0x10)
+        + flag_if(port.forwarding, 0x20)
+        + flag_if(port.agree, 0x40)
+}
+
+fn may_send(timing: &Timing, port: &PortState) -> bool
+    ensures { result ≡ may_send timing.now port.now }
+{
+    port.may_act() && port.new_info && port.hello_when != 0 && port.transmit_count < timing.hold
+}
+
+fn is_ready(timing: &Timing, port: &PortState) -> bool
+    ensures { result ≡ is_ready timing.now port.now }
+{
+    may_send(timing, port) && port.slot.is_none() && port.enabled && !port.role.is_disabled()
+}
+
+/// A message is put into the slot, and counted.
+fn send(timing: &Timing, bpdu: Bpdu, port: &mut PortState)
+    requires { port.old.transmit_count < timing.now.hold }
+    ensures { port.new ≡ sending timing.now bpdu port.old }
+{
+    prove!(port.transmit_count < timing.hold);
+    port.slot = Some(bpdu);
+    port.new_info = false;
+    port.transmit_count += 1;
+    port.hello_when = u32::from(timing.hello);
+}
+
+pub fn periodic_guard(port: &PortState) -> bool
+    ensures { result ≡ periodic_guard port.now }
+{
+    port.may_act() && port.hello_when == 0
+}
+
+/// A Hello time passed, so a designated port says again what it says, and a root port that it
+/// knows of a change.
+pub fn periodic(timing: &Timing, port: &mut PortState)
+    ensures { port.new ≡ periodic_effect timing.now port.old }
+{
+    port.hello_when = u32::from(timing.hello);
+    port.new_info = port.new_info
+        || port.role.is_designated()
+        || (port.role.is_root() && port.topology_change_while != 0);
+}
+
+pub fn send_config_guard(timing: &Timing, port: &PortState) -> bool
+    ensures { result ≡ send_config_guard timing.now port.now }
+{
+    is_ready(timing, port) && !port.send_rstp && port.role.is_designated()
+}
+
+/// A designated port sends a message of the older protocol.
+pub fn send_config(timing: &Timing, port: &mut PortState)
+    requires { port.old.transmit_count < timing.now.hold }
+    ensures { port.new ≡ send_config_effect timing.now port.old }
+{
+    let bpdu = Bpdu::Config(message_with(config_flags(port), port));
+    send(timing, bpdu, port);
+    port.acknowledge_topology_change = false;
+}
+
+pub fn send_tcn_guard(timing: &Timing, port: &PortState) -> bool
+    ensures { result ≡ send_tcn_guard timing.now port.now }
+{
+    is_ready(timing, port) && !port.send_rstp && port.role.is_root()
+}
+
+/// The root port tells a bridge of the older protocol of a change.
+pub fn send_tcn(timing: &Timing, port: &mut PortState)
+    requires { port.old.transmit_count < timing.now.hold }
+    ensures { port.new ≡ send_tcn_effect timing.now port.old }
+{
+    send(timing, Bpdu::Tcn, port);
+}
+
+pub fn send_rst_guard(timing: &Timing, port: &PortState) -> bool
+    ensures { result ≡ send_rst_guard timing.now port.now }
+{
+    is_ready(timing, port) && port.send_rstp
+}
+
+/// The port sends a message of the rapid protocol.
+pub fn send_rst(timing: &Timing, port: &mut PortState)
+    requires { port.old.transmit_count < timing.now.hold }
+    ensures { port.new ≡ send_rst_effect timing.now port.old }
+{
+    let bpdu = Bpdu::Rst(message_with(rst_flags(port), port));
+    send(timing, bpdu, port);
+    port.acknowledge_topology_change = false;
+}

@@ -1,0 +1,5 @@
+pub mod Direct
+pub mod Port
+pub mod Selection
+pub mod Start
+pub mod Vector

@@ -1,0 +1,77 @@
+//! Vectors and times of the spanning tree.
+
+ghost use Rattle.std.specs.Prelude.{◌≡◌};
+ghost use Rattle.rstp_state.specs.Vector.{is_less, vector_of, times_of, superior};
+
+use bpdu_wire::{BridgeId, Message, PortId};
+
+/// A priority vector: what a bridge says of its way to the root. Vectors are compared field by
+/// field in this order, and the lesser one is the better (IEEE 802.1D-2004, 17.5).
+#[derive(Clone, Copy, Debug, PartialEq, Eq, PartialOrd, Ord)]
+pub struct Vector {
+    /// The bridge that is taken for the root.
+    pub root: BridgeId,
+    /// The cost of the path to the root.
+    pub cost: u32,
+    /// The designated bridge, which says so.
+    pub bridge: BridgeId,
+    /// That bridge's port.
+    pub port: PortId,
+}
+
+/// The times that a root gives out, in seconds.
+#[derive(Clone, Copy, Debug, PartialEq, Eq)]
+pub struct Times {
+    /// How many bridges a message has come through.
+    pub message_age: u16,
+    pub max_age: u16,
+    pub hello: u16,
+    pub forward_delay: u16,
+}
+
+impl Vector {
+    /// What the message says of its sender's way to the root.
+    pub fn of_message(message: &Message) -> Self
+        ensures { result ≡ vector_of message.now }
+    {
+        Vector {
+            root: message.root,
+            cost: message.cost,
+            bridge: message.bridge,
+            port: message.port,
+        }
+    }
+
+    /// Whether this vector is better than the other.
+    pub fn is_less(&self, other: &Vector) -> bool
+        ensures { result ≡ is_less self.now other.now }
+    {
+        self.cmp(other).is_lt()
+    }
+}
+
+impl Times {
+    /// The times that the message says, in seconds: each is rounded up, and Hello is at least 1.
+    pub fn of_message(message: &Message) -> Self
+        ensures { result ≡ times_of message.now }
+    {
+        Times {
+            message_age: message.message_age.div_ceil(256),
+            max_age: message.max_age.div_ceil(256),
+            hello: message.hello.div_ceil(256).max(1),
+            forward_delay: message.forward_delay.div_ceil(256),
+        }
+    }
+}
+
+/// Whether a message of this vector and these times is superior to a port's: its vector is the
+/// better one, or it comes from the very bridge and port that the port's vector names, and says
+/// something else (IEEE 802.1D-2004, 17.6).
+pub fn superior(vector: &Vector, times: &Times, port_vector: &Vector, port_times: &Times) -> bool
+    ensures { result ≡ superior vector.now times.now port_vector.now port_times.now }
+{
+    let is_same_sender = vector.bridge.address() == port_vector.bridge.address()
+        && vector.port.port_number() == port_vector.port.port_number();
+    vector.is_less(port_vector)
+        || is_same_sender && (*vector != *port_vector || *times != *port_times)
+}
