@@ -1,5 +1,5 @@
 -- Octets that are taken from a piece, and the answers of a stream that goes on.
-use Rattle.std.proofs.Common.{◌≡◌, ℕ, ◌+◌, ◌-◌, ◌<◌, ◌≤◌, Bool, true, false, nat_lt, cond, List, [], ◌∷◌, ◌++◌, length, take, drop, slice_index, get_or, Result, refl, sym, ap, subst, ◌∙◌, arith, length-append, append_assoc, append-nil, add-one, min, Ok, Err}
+use Rattle.std.proofs.Common.{◌≡◌, ℕ, ◌+◌, ◌-◌, ◌<◌, ◌≤◌, Bool, true, false, nat_lt, List, [], ◌∷◌, ◌++◌, length, take, drop, slice_index, Result, refl, sym, ap, subst, ◌∙◌, arith, length-append, append_assoc, append-nil, add-one, min, Ok, Err}
 use Rattle.std.specs.Bool.{OnTrue, OnFalse}
 use Rattle.std.proofs.Math.Seq.{take-add, take-suc, take-length, take-append-add, drop-append_seam}
 use Rattle.std.proofs.lemmas.Bool.Decides.{nat_tests}
@@ -56,15 +56,18 @@ held_more newest held piece n le old new k less =
     front : (j : ℕ) → j < n → held ++ take j piece ≡ take (length held + j) (held ++ take n piece)
     front j lt =
         sym (take-append-add held (take n piece) j ∙ ap (λ (t : List ℕ). held ++ t)
-          (sym (take-append-le j (take n piece) (drop n piece) (omega (arith, length-take-le n piece le))) ∙ ap (take j) (take-append-drop n piece)))
+        (sym (take-append-le j (take n piece) (drop n piece) (omega (arith, length-take-le n piece le))) ∙ ap (take j) (take-append-drop n piece)))
 
 -- ---- answers
 pub reads_more : (newest : ℕ) (s : List ℕ) (xs : List (Result Fields ℕ)) (r more : List ℕ) → ReadsUpTo newest s xs r → ReadsUpTo newest (s ++ more) xs (r ++ more)
 reads_more newest s [] r more h = ap (λ (t : List ℕ). t ++ more) h
 reads_more newest s (x ∷ xs) r more h =
-    let l = found_long newest s h.0 h.1 in
-    (h.0, whole_followed newest s more h.0 h.1, ap reading (take-append-le h.0 s more l.3) ∙ h.2,
-    subst (λ (t : List ℕ). ReadsUpTo newest t xs (r ++ more)) (sym (drop-append-le h.0 s more l.3)) (reads_more newest (drop h.0 s) xs r more h.3))
+    let l = found_long newest s h.0 h.1 in (
+      h.0,
+      whole_followed newest s more h.0 h.1,
+      ap reading (take-append-le h.0 s more l.3) ∙ h.2,
+      subst (λ (t : List ℕ). ReadsUpTo newest t xs (r ++ more)) (sym (drop-append-le h.0 s more l.3)) (reads_more newest (drop h.0 s) xs r more h.3),
+    )
 
 pub reads_one_more : (newest : ℕ) (s : List ℕ) (xs : List (Result Fields ℕ)) (r : List ℕ) (n : ℕ) (x : Result Fields ℕ) → ReadsUpTo newest s xs r → whole_up_to newest r ≡ Length n → reading (take n r) ≡ x → ReadsUpTo newest s (xs ++ x ∷ []) (drop n r)
 reads_one_more newest s [] r n x h w a = (n, ap (whole_up_to newest) h ∙ w, ap (λ (t : List ℕ). reading (take n t)) h ∙ a, ap (drop n) h)
@@ -76,7 +79,7 @@ read_skipping h stream piece answers f r = record {
   skipped = r.skipped ++ piece;
   reads = subst (λ (t : List ℕ). ReadsUpTo h.newest (stream ++ t) answers (h.rest ++ (r.skipped ++ piece))) (sym (take-length piece))
       (subst (λ (t : List ℕ). ReadsUpTo h.newest (stream ++ piece) answers t) (append_assoc h.rest r.skipped piece) (reads_more h.newest stream answers (h.rest ++ r.skipped) piece r.reads));
-  faulty = λ e. absurd (never f e)
+  faulty = λ e. absurd (never f e);
 }
   where
     never : {b : Bool} → b ≡ true → b ≡ false → ⊥
@@ -87,7 +90,7 @@ pub read_taking : (newest : ℕ) (rest more stream : List ℕ) (answers : List (
 read_taking newest rest more stream answers f r = record {
   skipped = [];
   reads = subst (λ (t : List ℕ). ReadsUpTo newest (stream ++ more) answers t) whole (reads_more newest stream answers (rest ++ r.skipped) more r.reads);
-  faulty = λ e. refl
+  faulty = λ e. refl;
 }
   where
     whole : (rest ++ r.skipped) ++ more ≡ (rest ++ more) ++ []
@@ -99,7 +102,7 @@ pub read_answer : (newest : ℕ) (rest stream : List ℕ) (answers : List (Resul
 read_answer newest rest stream answers w r = record {
   skipped = [];
   reads = subst (λ (t : List ℕ). ReadsUpTo newest stream (answers ++ reading rest ∷ []) t) gone (reads_one_more newest stream answers rest (length rest) (reading rest) kept w (ap reading (take-length rest)));
-  faulty = λ e. refl
+  faulty = λ e. refl;
 }
   where
     kept : ReadsUpTo newest stream answers rest
@@ -144,7 +147,7 @@ module _ (h : Held) (newest : ℕ) (rest piece : List ℕ) (w : Whole) (view : h
   after_rest e new n le taken unfinished ended =
       subst (λ (g : Held). Feeds g (held_as newest new) piece n) (sym view)
       (by_cases (Skips (held_as newest rest) (held_as newest new) piece n) (Takes (held_as newest rest) (held_as newest new) piece n) (is_fault (whole_up_to newest rest)) (ap is_fault (sym is ∙ e))
-        (record { version = refl; fits = le; taken = taken; unfinished = unfinished; ended = ended }))
+      (record { version = refl; fits = le; taken = taken; unfinished = unfinished; ended = ended }))
     where
       by_cases : (A B : Type 0) (b : Bool) → b ≡ false → B → OnTrue b A × OnFalse b B
       by_cases A B true g x = cc

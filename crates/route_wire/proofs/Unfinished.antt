@@ -1,14 +1,13 @@
 -- What the beginning of a stream shows stays, whatever follows it.
-use Rattle.std.proofs.Common.{◌≡◌, ℕ, ◌+◌, ◌<◌, ◌≤◌, Bool, true, false, not, ◌&&◌, ◌||◌, ◌==◌, nat_lt, cond, List, ◌++◌, length, get_or, take, drop, slice_index, Option, Some, None, refl, sym, ap, subst, ◌∙◌, arith, length-append, lit<}
+use Rattle.std.proofs.Common.{◌≡◌, ℕ, ◌+◌, ◌<◌, ◌≤◌, Bool, true, false, not, ◌&&◌, ◌||◌, ◌==◌, nat_lt, cond, List, ◌++◌, length, slice_index, Option, Some, None, refl, sym, ap, ◌∙◌, arith, length-append}
 use Rattle.std.proofs.Math.ListN.{get_or-append}
 use Rattle.std.proofs.lemmas.Bool.{lt-ltb}
 use Rattle.std.proofs.lemmas.Bool.Decides.{nat_tests}
-use Rattle.std.proofs.lemmas.List.{get_or-drop}
 use Rattle.route_wire.specs.declared.stream.Whole.{Whole}
 use Rattle.route_wire.specs.declared.stream.Whole.TheVariants.{Rest, Fault, Length}
-use Rattle.route_wire.specs.Stream.{first_of, follow_of, least_of, fault_tests, fault_of, whole_or_rest, whole_up_to}
+use Rattle.route_wire.specs.Stream.{follow_of, least_of, fault_tests, fault_of, whole_or_rest, whole_up_to}
 use Rattle.route_wire.specs.Feed.{is_rest, is_fault, IsHeld}
-use Rattle.route_wire.proofs.Wholes.{AllUnmet, unmet, ends_whole, found_long}
+use Rattle.route_wire.proofs.Wholes.{unmet, ends_whole, found_long}
 use Rattle.route_wire.proofs.Prefixes.{same_fault, same_follow, is_whole, not_less, whole_front}
 use Rattle.route_wire.proofs.Streams.{whole_followed}
 use Rattle.route_wire.proofs.Spelt.{none_of}

@@ -130,7 +130,8 @@ impl Feed {
     pub fn feed(&mut self, piece: &[u8]) -> usize
         ensures fits { result ≤ length piece.now }
         ensures feeds { Feeds self.old self.new piece.now result }
-        ensures read { (stream : List ℕ) (answers : List (Result Fields ℕ)) → HasRead self.old stream answers → HasRead self.new (stream ++ take result piece.now) answers }
+        ensures read { (stream : List ℕ) (answers : List (Result Fields ℕ)) → HasRead self.old stream answers
+            → HasRead self.new (stream ++ take result piece.now) answers }
     {
         match whole_in(self.newest, self.held.as_slice()) {
             Whole::Fault(_) => piece.len(),
@@ -145,7 +146,8 @@ impl Feed {
         ensures value { result ≡ next_of self.old }
         ensures after { self.new ≡ after_next self.old }
         ensures more { result ≡ More → is_rest (shown self.new) ≡ true }
-        ensures read { (stream : List ℕ) (answers : List (Result Fields ℕ)) → HasRead self.old stream answers → HasRead self.new stream (answers ++ added result) }
+        ensures read { (stream : List ℕ) (answers : List (Result Fields ℕ)) → HasRead self.old stream answers
+            → HasRead self.new stream (answers ++ added result) }
     {
         match whole_in(self.newest, self.held.as_slice()) {
             Whole::Rest => Next::More,

@@ -23,11 +23,9 @@ pub fn one_reading()
 /// However a stream is cut into pieces, a feed gives the stream's answers and shows its end.
 pub fn every_cutting()
     ensures { EveryCutting }
-{
-}
+{}
 
 /// All cuttings of a stream give the same answers and the same end.
 pub fn cuttings_agree()
     ensures { CuttingsAgree }
-{
-}
+{}

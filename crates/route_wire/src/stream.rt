@@ -27,5 +27,6 @@ pub enum Next {
 /// The stream ended within a record, of which there are this many octets.
 #[derive(Clone, Copy, Debug, PartialEq, Eq)]
 pub struct Truncated {
+    /// How many octets of the record there are, at least 1.
     pub octets: usize,
 }

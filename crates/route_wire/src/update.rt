@@ -21,12 +21,14 @@ impl Model for Addr6 {
 }
 
 impl Addr6 {
+    /// The address of a number: each number of 128 bits is one.
     pub fn new(number: u128) -> Self
         ensures { result ≡ number }
     {
         Addr6 { number }
     }
 
+    /// The number of the sixteen octets.
     pub fn number(self) -> u128
         ensures { result ≡ self }
     {
@@ -38,7 +40,9 @@ impl Addr6 {
 /// numbers is that of the octets.
 #[derive(Clone, Copy, Debug, PartialEq, Eq, Hash, PartialOrd, Ord)]
 pub enum Ip {
+    /// Four octets.
     V4(Addr),
+    /// Sixteen octets.
     V6(Addr6),
 }
 
@@ -70,7 +74,9 @@ impl Ip {
 /// with or without the IP address that it goes with.
 #[derive(Clone, Copy, Debug, PartialEq, Eq, Hash)]
 pub enum Key {
+    /// The flood list of a network: a route of type 3.
     Flood(Vni),
+    /// A MAC address in a network, and its IP address: a route of type 2.
     Mac(Vni, Mac, Option<Ip>),
 }
 
@@ -133,7 +139,9 @@ impl Key {
 /// none first.
 #[derive(Clone, Copy, Debug, PartialEq, Eq, Hash)]
 pub struct Register {
+    /// The edge that says it.
     pub originator: Addr,
+    /// What it is about.
     pub key: Key,
 }
 
@@ -180,15 +188,20 @@ impl PartialOrd for Register {
 /// then the one of the higher sequence number, then the one of the higher second label.
 #[derive(Clone, Copy, Debug, PartialEq, Eq, PartialOrd, Ord)]
 pub struct Advert {
+    /// Whether the address can't move.
     pub is_static: bool,
+    /// How often the address has moved.
     pub sequence: u32,
+    /// The second label, which is kept and not used.
     pub label2: Option<Vni>,
 }
 
 /// What is said of a key. Withdrawn comes before each advert.
 #[derive(Clone, Copy, Debug, PartialEq, Eq, PartialOrd, Ord)]
 pub enum Content {
+    /// The key is no longer advertised.
     Withdrawn,
+    /// The key is advertised.
     Advert(Advert),
 }
 
@@ -196,8 +209,11 @@ pub enum Content {
 /// that life, and the content. The order of values is that of their fields.
 #[derive(Clone, Copy, Debug, PartialEq, Eq, PartialOrd, Ord)]
 pub struct Value {
+    /// The life of the originator, from 0.
     pub incarnation: u32,
+    /// The number of the update in that life, from 1.
     pub counter: u64,
+    /// What is said.
     pub content: Content,
 }
 
@@ -236,6 +252,8 @@ impl Update {
     ghost use Rattle.route_wire.specs.Fields.{IsUpdate};
     ghost use Rattle.route_wire.specs.Order.{is_newer};
 
+    /// The update of a register and a value that go together: the counter is at least 1, the MAC no
+    /// group address, and an advert of a flood list says nothing more.
     pub fn new(register: Register, value: Value) -> Self
         requires { IsUpdate record { register = register; value = value } }
         ensures { result ≡ record { register = register; value = value } }

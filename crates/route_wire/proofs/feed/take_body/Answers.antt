@@ -1,4 +1,4 @@
-use Rattle.std.proofs.Common.{◌≡◌, ℕ, ◌+◌, ◌-◌, List, ◌++◌, length, take, min, true, sym, ap, subst, ◌∙◌}
+use Rattle.std.proofs.Common.{◌≡◌, ℕ, ◌+◌, ◌-◌, List, length, min, true, ap, subst, ◌∙◌}
 use Rattle.byteorder.specs.Endian.{big_number}
 use Rattle.route_wire.specs.Stream.{whole_up_to, follow_of}
 use Rattle.route_wire.specs.Feed.{is_rest}

@@ -1,4 +1,4 @@
-use Rattle.std.proofs.Common.{◌≡◌, ◌≤◌, ◌<◌, ◌++◌, ℕ, true, take}
+use Rattle.std.proofs.Common.{◌≡◌, ◌<◌, ◌++◌, ℕ, true, take}
 use Rattle.route_wire.specs.Stream.{whole_up_to}
 use Rattle.route_wire.specs.Feed.{is_rest}
 use Rattle.route_wire.proofs.feed.take_head.Given as goal

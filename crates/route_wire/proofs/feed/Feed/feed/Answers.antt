@@ -1,13 +1,15 @@
-use Rattle.std.proofs.Common.{◌≡◌, ℕ, List, ◌++◌, take, ap, sym, subst, ◌∙◌}
+use Rattle.std.proofs.Common.{ap, sym, subst, ◌∙◌}
 use Rattle.route_wire.specs.Stream.{whole_up_to}
 use Rattle.route_wire.specs.Feed.{IsHeld}
 use Rattle.route_wire.proofs.Feeding.{after_fault, after_rest, read_rest, held_more}
 use Rattle.route_wire.proofs.feed.Feed.feed.Goals as goal
 
 pub invariant_of-self : goal.invariant_of-self
-invariant_of-self c =
-    (c.self.invariant.0, subst (IsHeld c.self.inside.newest) (sym c.take_octets.ensures.taken)
-      (held_more c.self.inside.newest c.self.inside.held.items c.args.piece.now c.take_octets.result c.take_octets.ensures.fits c.self.invariant.1 c.take_octets.ensures.unfinished))
+invariant_of-self c = (
+  c.self.invariant.0,
+  subst (IsHeld c.self.inside.newest) (sym c.take_octets.ensures.taken)
+      (held_more c.self.inside.newest c.self.inside.held.items c.args.piece.now c.take_octets.result c.take_octets.ensures.fits c.self.invariant.1 c.take_octets.ensures.unfinished),
+)
 
 pub returns-in-Fault-clause-read : goal.returns-in-Fault-clause-read
 returns-in-Fault-clause-read c =
