@@ -122,7 +122,7 @@ update_other t r v q ne = go (is_news (value_at t r) v)
     go false = refl
 
 -- ---- a join has each register's newer value
-entries_at : (es : List (Register × Value)) → is_sorted register_cmp es ≡ true → (t : Table) (q : Register) → value_at (with_entries t es) q ≡ newer_of (value_at t q) (find register_cmp q es)
+pub entries_at : (es : List (Register × Value)) → is_sorted register_cmp es ≡ true → (t : Table) (q : Register) → value_at (with_entries t es) q ≡ newer_of (value_at t q) (find register_cmp q es)
 entries_at [] h t q = sym (newer_of-none (value_at t q))
 entries_at (e ∷ es) h t q =
     let parts = both (below_all register_cmp e.0 es) (is_sorted register_cmp es) h in

@@ -1,24 +1,26 @@
 -- A merge, register by register.
-use Rattle.std.proofs.Common.{◌≡◌, ℕ, zero, suc, ◌+◌, ◌<◌, ◌↔◌, Bool, true, false, cond, eqb, List, [], ◌∷◌, ◌++◌, length, get_or, take, map, Option, Some, None, Result, Ok, Err, refl, sym, ap, subst, ◌∙◌, OnErr, OnOk, arith}
+use Rattle.std.proofs.Common.{◌≡◌, ℕ, zero, suc, ◌+◌, ◌<◌, ◌↔◌, Bool, true, false, cond, eqb, ◌&&◌, List, [], ◌∷◌, ◌++◌, length, get_or, take, map, Option, Some, None, Result, Ok, Err, refl, sym, ap, subst, ◌∙◌, OnErr, OnOk, arith}
 use Rattle.std.proofs.lemmas.List.{take_more, take_all, get_or-map, length-map}
 use Rattle.std.specs.declared.cmp.Ordering.TheVariants.{Less, Equal, Greater}
 use Rattle.std.specs.List.{list_any}
 use Rattle.std.specs.Result.{is_err}
-use Rattle.std.specs.Ordering.{is_lt, is_eq, ordering_reverse}
-use Rattle.std.specs.FinMap.{entries, entries_sorted, get-entries}
+use Rattle.std.specs.Ordering.{is_lt, is_eq, eq_by_cmp, ordering_reverse}
+use Rattle.std.specs.FinMap.{entries, entries_sorted, get-entries, same_map}
 use Rattle.std.specs.FinMap.Entries.{find, is_sorted, below_all}
 use Rattle.route_wire.specs.declared.update.Register.{Register}
 use Rattle.route_wire.specs.declared.update.Value.{Value}
 use Rattle.route_wire.specs.Fields.{Fields}
 use Rattle.route_wire.specs.Order.{register_cmp}
-use Rattle.route_wire.specs.Totals.{register_total}
+use Rattle.route_wire.specs.Totals.{register_total, register_exact}
 use Rattle.route_join.specs.declared.table.Taken.{Taken}
 use Rattle.route_join.specs.declared.table.TakeError.{TakeError}
 use Rattle.route_join.specs.declared.table.TakeError.TheVariants.{UnknownOriginator, NoMemory}
 use Rattle.route_join.specs.Table.{Table, is_listed, IsListed, is_news, value_at, with_value, with_update, entries_of}
-use Rattle.route_join.specs.Joins.{with_entries, join, IsPartJoin}
+use Rattle.route_join.specs.Joins.{newer_of, with_entries, join, IsPartJoin}
+use Rattle.route_join.specs.Laws.{MergeCompletes}
 use Rattle.route_join.proofs.Orders.{less, both, from_T}
 use Rattle.route_join.proofs.Tables.{itself_register}
+use Rattle.route_join.proofs.Joins.{newer_of-same, newer_of-assoc, entries_at, join_is}
 
 -- an entry is found at its register
 above : (e : Register × Value) (es : List (Register × Value)) (i : ℕ) (d : Register × Value) → below_all register_cmp e.0 es ≡ true → i < length es → register_cmp e.0 (get_or es i d).0 ≡ Less
@@ -35,7 +37,7 @@ found_at_place (e ∷ es) (suc i) d s h =
     let turned : register_cmp (get_or es i d).0 e.0 ≡ Greater = register_total.antisymm (get_or es i d).0 e.0 ∙ ap ordering_reverse later in
     ap (λ o. cond (is_eq o) (Some e.1) (find register_cmp (get_or es i d).0 es)) turned ∙ found_at_place es i d parts.1 (omega arith)
 
-update_originators : (t : Table) (u : Fields) → (with_update t u).originators ≡ t.originators
+pub update_originators : (t : Table) (u : Fields) → (with_update t u).originators ≡ t.originators
 update_originators t u = go (is_news (value_at t u.register) u.value)
   where
     go : (b : Bool) → (cond b (with_value t u.register u.value) t).originators ≡ t.originators
@@ -97,3 +99,44 @@ on_err (Err x) P h e = h
 pub on_ok : {X E : Type 0} (r : Result X E) (P : Type 0) → OnOk r P → is_err r ≡ false → P
 on_ok (Ok x) P h e = h
 on_ok (Err x) P h e = cc
+
+-- ---- a second merge completes the first
+below_front : (q : Register) (k : ℕ) (es : List (Register × Value)) → below_all register_cmp q es ≡ true → below_all register_cmp q (take k es) ≡ true
+below_front q zero es h = refl
+below_front q (suc k) [] h = refl
+below_front q (suc k) (e ∷ es) h =
+    let parts = both (is_lt (register_cmp q e.0)) (below_all register_cmp q es) h in
+    ap (λ b. b && below_all register_cmp q (take k es)) parts.0 ∙ below_front q k es parts.1
+
+sorted_front : (k : ℕ) (es : List (Register × Value)) → is_sorted register_cmp es ≡ true → is_sorted register_cmp (take k es) ≡ true
+sorted_front zero es h = refl
+sorted_front (suc k) [] h = refl
+sorted_front (suc k) (e ∷ es) h =
+    let parts = both (below_all register_cmp e.0 es) (is_sorted register_cmp es) h in
+    ap (λ b. b && is_sorted register_cmp (take k es)) (below_front e.0 k es parts.0) ∙ sorted_front k es parts.1
+
+-- what the first entries have, all of them have
+front_known : (r : Register) (k : ℕ) (es : List (Register × Value)) → newer_of (find register_cmp r (take k es)) (find register_cmp r es) ≡ find register_cmp r es
+front_known r zero es = refl
+front_known r (suc k) [] = refl
+front_known r (suc k) (e ∷ es) = go (eq_by_cmp register_cmp r e.0) (front_known r k es)
+  where
+    go : (b : Bool) → newer_of (find register_cmp r (take k es)) (find register_cmp r es) ≡ find register_cmp r es
+        → newer_of (cond b (Some e.1) (find register_cmp r (take k es))) (cond b (Some e.1) (find register_cmp r es)) ≡ cond b (Some e.1) (find register_cmp r es)
+    go true rest = newer_of-same (Some e.1)
+    go false rest = rest
+
+pub merge_completes : MergeCompletes
+merge_completes s t j k h = same_map register_total register_exact _ _ (λ r.
+    let es = entries t.registers in
+    let all : value_at t r ≡ find register_cmp r es = get-entries t.registers r in
+    join_is j t r ∙ ap (λ (x : Table). newer_of (value_at x r) (value_at t r)) h.joined
+    ∙ ap (λ x. newer_of x (value_at t r)) (entries_at (take k es) (sorted_front k es (from_T _ (entries_sorted t.registers))) s r)
+    ∙ newer_of-assoc (value_at s r) (find register_cmp r (take k es)) (value_at t r)
+    ∙ ap (newer_of (value_at s r)) (ap (newer_of (find register_cmp r (take k es))) all ∙ front_known r k es ∙ sym all)
+    ∙ sym (join_is s t r))
+
+-- a take keeps the originators
+pub kept_originators : (r : Result Taken TakeError) (old new : Table) (u : Fields) → OnOk r (new ≡ with_update old u) → OnErr r (new ≡ old) → new.originators ≡ old.originators
+kept_originators (Ok taken) old new u ok err = ap (λ (t : Table). t.originators) ok ∙ update_originators old u
+kept_originators (Err refusal) old new u ok err = ap (λ (t : Table). t.originators) err
