@@ -1,4 +1,4 @@
-use Rattle.std.proofs.Common.{◌≡◌, ◌<◌, length, refl, sym, ap, subst, ◌∙◌, arith}
+use Rattle.std.proofs.Common.{◌≡◌, refl, sym, ap, subst, ◌∙◌, arith}
 use Rattle.std.specs.FinMap.{entries}
 use Rattle.route_join.specs.Table.{Table, IsListed, with_update, entries_of}
 use Rattle.route_join.proofs.Edits.{listed_as}
