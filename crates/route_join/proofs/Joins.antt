@@ -1,5 +1,5 @@
 -- Joins of tables, and the tables of growing sets.
-use Rattle.std.proofs.Common.{◌≡◌, ◌≢◌, ◌⊎◌, inl, inr, Bool, true, false, cond, ◌&&◌, T, Option, Some, None, List, [], ◌∷◌, ◌++◌, Contains, refl, sym, ap, subst, ◌∙◌, append_assoc, append-nil, arith}
+use Rattle.std.proofs.Common.{◌≡◌, ◌≢◌, ◌⊎◌, inl, inr, Bool, true, false, cond, Option, Some, None, List, [], ◌∷◌, ◌++◌, Contains, refl, sym, ap, subst, ◌∙◌, append_assoc, append-nil, arith}
 use Rattle.std.proofs.lemmas.List.Elements.{Contains-append_left, Contains-append_right, Contains-append_cases, Contains-push, Contains-push_cases}
 use Rattle.std.specs.declared.cmp.Ordering.{Ordering}
 use Rattle.std.specs.declared.cmp.Ordering.TheVariants.{Less, Equal, Greater}
@@ -12,9 +12,9 @@ use Rattle.route_wire.specs.declared.update.Value.{Value}
 use Rattle.route_wire.specs.Fields.{Fields}
 use Rattle.route_wire.specs.Order.{register_cmp, value_cmp, is_newer}
 use Rattle.route_wire.specs.Totals.{register_total, register_exact, value_total, neither_newer}
-use Rattle.route_join.specs.Table.{Table, value_at, is_news, with_value, with_update, with_updates, entries_of, table_from, IsTableOf}
+use Rattle.route_join.specs.Table.{Table, value_at, is_news, with_value, with_update, with_updates, table_from, IsTableOf}
 use Rattle.route_join.specs.Joins.{newer_of, IsJoin, with_entries, join}
-use Rattle.route_join.specs.Laws.{HaveSame, NoneTaken, OneTaken, AllTaken, OneJoined, JoinIs, JoinCommutes, JoinAssociates, JoinRepeats, JoinOfTables}
+use Rattle.route_join.specs.Laws.{NoneTaken, OneTaken, AllTaken, OneJoined, JoinIs, JoinCommutes, JoinAssociates, JoinRepeats, JoinOfTables}
 use Rattle.route_join.proofs.Orders.{less, both, from_T}
 use Rattle.route_join.proofs.Tables.{same_register, itself_register, same_or_other, other_register, below_none, at_same, at_other, not_newer_itself, one_table}
 use Rattle.route_join.proofs.Edits.{found}
@@ -122,7 +122,7 @@ update_other t r v q ne = go (is_news (value_at t r) v)
     go false = refl
 
 -- ---- a join has each register's newer value
-entries_at : (es : List (Register × Value)) → is_sorted register_cmp es ≡ true → (t : Table) (q : Register) → value_at (with_entries t es) q ≡ newer_of (value_at t q) (find register_cmp q es)
+pub entries_at : (es : List (Register × Value)) → is_sorted register_cmp es ≡ true → (t : Table) (q : Register) → value_at (with_entries t es) q ≡ newer_of (value_at t q) (find register_cmp q es)
 entries_at [] h t q = sym (newer_of-none (value_at t q))
 entries_at (e ∷ es) h t q =
     let parts = both (below_all register_cmp e.0 es) (is_sorted register_cmp es) h in

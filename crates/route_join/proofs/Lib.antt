@@ -8,3 +8,4 @@ pub mod Edits
 pub mod Owners
 pub mod Floods
 pub mod Joins
+pub mod Merging

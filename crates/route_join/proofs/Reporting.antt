@@ -1,5 +1,5 @@
 -- What is written register by register is the report.
-use Rattle.std.proofs.Common.{◌≡◌, ℕ, ◌+◌, Bool, true, false, cond, T, List, [], ◌∷◌, ◌++◌, Option, Some, None, refl, sym, ap, subst, ◌∙◌, append_assoc}
+use Rattle.std.proofs.Common.{◌≡◌, ℕ, Bool, true, false, cond, T, List, [], ◌∷◌, ◌++◌, Option, None, refl, sym, ap, subst, ◌∙◌, append_assoc}
 use Rattle.std.proofs.lemmas.List.{append-nil}
 use Rattle.std.specs.Io.KnownBytes.{append_known}
 use Rattle.std.specs.FinMap.{is_sorted, entries-from_sorted}
@@ -8,15 +8,14 @@ use Rattle.ether_wire.proofs.Appending.{append_known_twice}
 use Rattle.route_wire.specs.declared.update.Key.{Key}
 use Rattle.route_wire.specs.declared.update.Key.TheVariants.{Flood, Mac}
 use Rattle.route_wire.specs.declared.update.Register.{Register}
-use Rattle.route_wire.specs.declared.update.Advert.{Advert}
 use Rattle.route_wire.specs.declared.update.Value.{Value}
 use Rattle.route_wire.specs.Fields.{Fields}
 use Rattle.route_wire.specs.Order.{register_cmp}
 use Rattle.route_join.specs.Table.{entries_of, IsOrdered, table_from}
-use Rattle.route_join.specs.Owner.{is_about, said_of, better_of, best_among}
+use Rattle.route_join.specs.Owner.{is_about, best_among}
 use Rattle.route_join.specs.Report.{register_line, owner_line, goes_on, after_register, lines_of, owner_among, report_lines, report_of}
 use Rattle.route_join.specs.Walk.{Best, named, best_with, after_line, best_after, walked}
-use Rattle.route_join.proofs.Stations.{NotAfter, NoneAbout, NoneAfter, and_both, false_unless, about_itself, one_address, none_after_push, next_after, none_follows, none_before, best_skip, best_append, best_none}
+use Rattle.route_join.proofs.Stations.{NoneAfter, and_both, false_unless, about_itself, one_address, none_after_push, next_after, none_follows, none_before, best_skip, best_append, best_none}
 
 -- no register of the first list stands after the first of the second
 abbrev pub NoneAfterFirst : List (Register × Value) → List (Register × Value) → Type 0

@@ -1,5 +1,5 @@
 -- The join of two tables: each register of either, with the newer of its values.
-use Rattle.std.specs.Prelude.{◌≡◌, Option, Some, None, List, [], ◌∷◌, if◌then◌else◌}
+use Rattle.std.specs.Prelude.{◌≡◌, ℕ, ◌<◌, length, take, slice_index_or, Option, Some, None, List, [], ◌∷◌, if◌then◌else◌}
 use Rattle.std.specs.FinMap.{entries}
 use Rattle.route_wire.specs.declared.update.Register.{Register}
 use Rattle.route_wire.specs.declared.update.Value.{Value}
@@ -24,3 +24,9 @@ with_entries t (e ∷ es) = with_entries (with_update t (record { register = e.0
 -- both tables' registers, each with the newer of its values
 abbrev pub join : Table → Table → Table
 join s t = with_entries s (entries t.registers)
+
+-- The first k registers of t are joined to s, and there was no memory for the next one, which is new.
+pub record IsPartJoin (s t : Table) (k : ℕ) (j : Table) : Type 0 where
+  pub within : k < length (entries t.registers)
+  pub joined : j ≡ with_entries s (take k (entries t.registers))
+  pub fresh : (d : Register × Value) → value_at j (slice_index_or (entries t.registers) k d).0 ≡ None

@@ -3,7 +3,7 @@ use Rattle.std.specs.Prelude.{◌≡◌, ℕ, List, [], ◌∷◌, ◌++◌, Con
 use Rattle.route_wire.specs.Fields.{Fields}
 use Rattle.route_join.specs.Table.{Table, with_update, with_updates, table_from, IsTableOf}
 use Rattle.route_join.specs.Owner.{IsOwner}
-use Rattle.route_join.specs.Joins.{IsJoin, join}
+use Rattle.route_join.specs.Joins.{IsJoin, IsPartJoin, join}
 
 -- two lists have the same updates, in whatever order and however often
 pub record HaveSame (us vs : List Fields) : Type 0 where
@@ -45,6 +45,10 @@ JoinRepeats = (s : Table) → (join s s).registers ≡ s.registers
 -- the join of two sets' tables is the table of both sets together
 abbrev pub JoinOfTables : Type 0
 JoinOfTables = (us vs : List Fields) (s t : Table) → IsTableOf us s → IsTableOf vs t → IsTableOf (us ++ vs) (join s t)
+
+-- a merge that stopped is completed by another one
+abbrev pub MergeCompletes : Type 0
+MergeCompletes = (s t j : Table) (k : ℕ) → IsPartJoin s t k j → (join j t).registers ≡ (join s t).registers
 
 -- an address has at most one owner
 abbrev pub OneOwner : Type 0

@@ -1,4 +1,4 @@
-ghost use Rattle.route_join.specs.Laws.{OneTable, NoneTaken, OneTaken, AllTaken, OneJoined, JoinIs, JoinCommutes, JoinAssociates, JoinRepeats, JoinOfTables, OneOwner};
+ghost use Rattle.route_join.specs.Laws.{OneTable, NoneTaken, OneTaken, AllTaken, OneJoined, JoinIs, JoinCommutes, JoinAssociates, JoinRepeats, JoinOfTables, MergeCompletes, OneOwner};
 
 /// A set of updates has one table: tables of lists with the same updates have equal registers, in
 /// whatever order the updates came and however often.
@@ -50,6 +50,11 @@ pub fn join_repeats()
 /// The join of the tables of two sets of updates is the table of both sets together.
 pub fn join_of_tables()
     ensures { JoinOfTables }
+{}
+
+/// A merge for which memory was refused is completed by a second one.
+pub fn merge_completes()
+    ensures { MergeCompletes }
 {}
 
 /// An address has at most one owner.

@@ -1,10 +1,11 @@
-ghost use Rattle.std.specs.Prelude.{◌≡◌, ◌+◌, ◌<◌, ◌^◌, ◌↔◌, false, None, Err, IfOk, OnOk, OnErr, MatchOption};
+ghost use Rattle.std.specs.Prelude.{◌≡◌, ◌+◌, ◌<◌, ◌^◌, ◌↔◌, false, None, Err, IfOk, OnOk, OnErr, IfErr, MatchOption, ℕ, true};
 ghost use Rattle.std.specs.FinMap.{empty};
 ghost use Rattle.std.specs.Io.KnownBytes.{append_known};
 ghost use Rattle.ether_wire.specs.Ends.{failures_after};
 ghost use Rattle.route_join.specs.Report.{report_of};
 ghost use Rattle.route_join.specs.Table.{AreOriginators, IsListed, register_of, value_at, update_at, is_listed, with_update, IsKept};
 ghost use Rattle.route_join.specs.Owner.{owner, IsOwner, IsUnowned};
+ghost use Rattle.route_join.specs.Joins.{join, IsPartJoin};
 ghost use Rattle.route_join.specs.Flood.{flood_of, IsFloodList};
 ghost use Rattle.route_join.specs.Taken.{taken_of, number_of};
 
@@ -34,6 +35,22 @@ pub enum TakeError {
     UnknownOriginator,
     /// The register is new, and there is no memory for it.
     NoMemory,
+}
+
+/// A merge that stopped at a register for which there was no memory.
+#[derive(Clone, Copy, Debug, PartialEq, Eq)]
+pub struct Unmerged {
+    /// How many registers of the other table, the first in the order of a report, were joined.
+    pub joined: usize,
+}
+
+impl Unmerged {
+    /// The refusal's number, as notes give it: 15.
+    pub fn number(self) -> u8
+        ensures { result ≡ number_of TakeError.NoMemory }
+    {
+        TakeError::NoMemory.number()
+    }
 }
 
 impl TakeError {
@@ -134,6 +151,26 @@ impl Table {
                 Ok(Taken::Newer)
             }
         }
+    }
+
+    /// Joins another table to this one, register by register in the order of a report: each register
+    /// of either has then the newer of its values. Each originator of the other has to be listed.
+    ///
+    /// # Errors
+    ///
+    /// `Unmerged` where there was no memory for a register: those before it were joined. A second
+    /// merge completes the first.
+    pub fn merge(&mut self, other: &Table) -> Result<(), Unmerged>
+        requires { (o : ℕ) → is_listed other.now o ≡ true → is_listed self.old o ≡ true }
+        ensures merged { OnOk result (self.new ≡ join self.old other.now) }
+        ensures part { IfErr result (λ stopped. IsPartJoin self.old other.now stopped.joined self.new) }
+    {
+        for (joined, update) in other.updates.iter().enumerate() {
+            if self.take(update).is_err() {
+                return Err(Unmerged { joined });
+            }
+        }
+        Ok(())
     }
 
     /// The owner of a MAC address in a network, none exactly where nobody advertises it: of those

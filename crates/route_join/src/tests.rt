@@ -1,4 +1,4 @@
-ghost use Rattle.std.specs.Prelude.{◌≡◌, ◌<◌, None};
+ghost use Rattle.std.specs.Prelude.{◌≡◌, ◌<◌, ◌∷◌, [], None};
 ghost use Rattle.route_wire.specs.Fields.{FitsKey};
 
 use crate::{Table, TakeError, Taken};
@@ -27,7 +27,9 @@ fn plain() -> Key {
 }
 
 // A table that listens to 10.0.0.1 to 10.0.0.4 and 10.0.0.9.
-fn new_table(alloc: Global) -> Table {
+fn new_table(alloc: Global) -> Table
+    ensures { result.originators ≡ 167772161 ∷ 167772162 ∷ 167772163 ∷ 167772164 ∷ 167772169 ∷ [] }
+{
     let mut originators = ArrayVec::new();
     originators.push(Addr::new(0x0a00_0001));
     originators.push(Addr::new(0x0a00_0002));
@@ -256,4 +258,39 @@ fn refused_growth_is_made_up_for(rt: HostRuntime) -> Result<(), Fail> {
     }
     assert_eq!(rt; owner(&table), Some(addr(1)));
     Ok(())
+}
+
+// Whether an update was taken.
+fn is_taken(table: &mut Table, update: &Update) -> bool
+    ensures { table.new.originators ≡ table.old.originators }
+{
+    table.take(update).is_ok()
+}
+
+// A table that has taken two updates.
+fn holding(alloc: Global, one: &Update, two: &Update) -> Table
+    ensures { result.originators ≡ 167772161 ∷ 167772162 ∷ 167772163 ∷ 167772164 ∷ 167772169 ∷ [] }
+{
+    let mut table = new_table(alloc);
+    let _ = is_taken(&mut table, one);
+    let _ = is_taken(&mut table, two);
+    table
+}
+
+fn is_merged(mut table: Table, other: &Table) -> bool
+    requires { table.originators ≡ other.now.originators }
+{
+    table.merge(other).is_ok()
+        && has(&table, 1, valued(2, advert(false, 0)))
+        && has(&table, 2, valued(2, Content::Withdrawn))
+        && owner(&table) == Some(addr(1))
+}
+
+#[test]
+fn merged_tables_are_the_same_either_way(rt: HostRuntime) {
+    let alloc = rt.alloc();
+    let right = holding(alloc, &dynamic(2, 1, 3), &dynamic(1, 2, 0));
+    let left = holding(alloc, &dynamic(1, 1, 1), &withdrawn(2, 2));
+    assert!(rt; is_merged(holding(alloc, &dynamic(1, 1, 1), &withdrawn(2, 2)), &right));
+    assert!(rt; is_merged(right, &left));
 }

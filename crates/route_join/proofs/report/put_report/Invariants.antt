@@ -1,4 +1,4 @@
-use Rattle.std.proofs.Common.{◌≡◌, ◌+◌, ◌++◌, ℕ, List, length, None}
+use Rattle.std.proofs.Common.{◌≡◌, ◌++◌, ℕ, List, length, None}
 use Rattle.std.specs.Io.KnownBytes.{append_known}
 use Rattle.route_join.specs.Table.{entries_of}
 use Rattle.route_join.specs.Walk.{walked}

@@ -1,4 +1,4 @@
-use Rattle.std.proofs.Common.{◌≡◌, ◌≤◌, length, ap, sym, subst, ◌∙◌}
+use Rattle.std.proofs.Common.{◌≤◌, length, ap, sym, subst, ◌∙◌}
 use Rattle.route_join.specs.Table.{Table, table_from, entries_of}
 use Rattle.route_join.specs.Flood.{IsFloodList, flooding, flood_of}
 use Rattle.route_join.proofs.Edits.{listed_as}

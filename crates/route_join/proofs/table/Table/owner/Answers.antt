@@ -1,4 +1,4 @@
-use Rattle.std.proofs.Common.{◌≡◌, ◌∙◌, ap, sym, subst, MatchOption}
+use Rattle.std.proofs.Common.{◌∙◌, ap, sym, subst, MatchOption}
 use Rattle.route_join.specs.Table.{Table, entries_of}
 use Rattle.route_join.specs.Owner.{owner, owner_among, IsOwner, IsUnowned}
 use Rattle.route_join.proofs.Edits.{listed_as}

@@ -1,4 +1,4 @@
-use Rattle.std.proofs.Common.{◌≡◌, ◌↔◌, ◌<◌, ◌≤◌, true, false, length, ap, refl, sym, subst, ◌∙◌, arith}
+use Rattle.std.proofs.Common.{◌≡◌, ◌↔◌, ◌<◌, ◌≤◌, false, length, ap, refl, sym, subst, ◌∙◌, arith}
 use Rattle.route_join.specs.Table.{Table, is_listed, value_at, with_update, entries_of}
 use Rattle.route_join.specs.Taken.{taken_of}
 use Rattle.route_join.proofs.Edits.{found_at, gap_at, kept_put, newer_there, known_there, took_there, stays_there, no_value, newer_gap, took_gap, listed_by, not_unknown, inserted}
