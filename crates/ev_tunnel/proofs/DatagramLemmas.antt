@@ -11,5 +11,5 @@ two_parts old header body n header_len =
     let back : drop 8 (header ++ drop 8 old) ≡ drop 8 old = rw header_len at (drop-append_seam header (drop 8 old)) in
     let size : 8 + n - 8 ≡ n = omega arith in
     let rest : drop (8 + n - 8) (drop 8 (header ++ drop 8 old)) ≡ drop (8 + n) old =
-        (λ i. drop (size i) (back i)) ∙ drop-drop n 8 old in
+    (λ i. drop (size i) (back i)) ∙ drop-drop n 8 old in
     λ i. front i ++ (body ++ rest i)

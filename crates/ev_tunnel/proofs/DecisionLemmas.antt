@@ -58,27 +58,27 @@ pub one_copy : (place : Place) (from : Source) (flood : List ℕ) (own members p
 one_copy Everywhere from flood own members passing port known = absurd (known refl)
 one_copy (AtPort q) (Port p) flood own members passing port known = record {
   one_port = λ a b ha hb in_a in_b.
-    has_port-only q a port ha (has_port-in_both (open_ports (Port p) members passing) (only q) a in_a).1
-    ∙ sym (has_port-only q b port hb (has_port-in_both (open_ports (Port p) members passing) (only q) b in_b).1);
+      has_port-only q a port ha (has_port-in_both (open_ports (Port p) members passing) (only q) a in_a).1
+      ∙ sym (has_port-only q b port hb (has_port-in_both (open_ports (Port p) members passing) (only q) b in_b).1);
   one_edge = omega arith;
-  not_both = λ a ha in_a. refl
+  not_both = λ a ha in_a. refl;
 }
 one_copy (AtPort q) Tunnel flood own members passing port known = record {
   one_port = λ a b ha hb in_a in_b.
-    has_port-only q a port ha (has_port-in_both (open_ports Tunnel members passing) (only q) a in_a).1
-    ∙ sym (has_port-only q b port hb (has_port-in_both (open_ports Tunnel members passing) (only q) b in_b).1);
+      has_port-only q a port ha (has_port-in_both (open_ports Tunnel members passing) (only q) a in_a).1
+      ∙ sym (has_port-only q b port hb (has_port-in_both (open_ports Tunnel members passing) (only q) b in_b).1);
   one_edge = omega arith;
-  not_both = λ a ha in_a. refl
+  not_both = λ a ha in_a. refl;
 }
 one_copy (AtEdge o) (Port p) flood own members passing port known = record {
   one_port = λ a b ha hb in_a in_b. none_there a in_a;
   one_edge = omega arith;
-  not_both = λ a ha in_a. none_there a in_a
+  not_both = λ a ha in_a. none_there a in_a;
 }
 one_copy (AtEdge o) Tunnel flood own members passing port known = record {
   one_port = λ a b ha hb in_a in_b. none_there a in_a;
   one_edge = omega arith;
-  not_both = λ a ha in_a. refl
+  not_both = λ a ha in_a. refl;
 }
 
 Contains-filter : (p : ℕ → Bool) (xs : List ℕ) (o : ℕ) → Contains xs o → p o ≡ true → Contains (filter p xs) o
@@ -101,9 +101,9 @@ others_advertise t vni own flood list =
       ascending = IsStrictlyIncreasing-filter other flood list.ascending;
       exact = λ o. (
         λ there.
-          let passes : other o ≡ true = All-contains (λ x. other x ≡ true) (filter other flood) o (filter_passes other flood) there in
-          let listed = All-contains (Contains flood) (filter other flood) o (All-filter other (Contains flood) flood (All-contains_itself flood)) there in
-          (λ same. let is = eq-eqb o own same in grind (arith, nat_tests), (list.exact o).0 listed),
-        λ is. Contains-filter other flood o ((list.exact o).1 is.1) (grind (arith, nat_tests))
-      )
+            let passes : other o ≡ true = All-contains (λ x. other x ≡ true) (filter other flood) o (filter_passes other flood) there in
+            let listed = All-contains (Contains flood) (filter other flood) o (All-filter other (Contains flood) flood (All-contains_itself flood)) there in
+            (λ same. let is = eq-eqb o own same in grind (arith, nat_tests), (list.exact o).0 listed),
+        λ is. Contains-filter other flood o ((list.exact o).1 is.1) (grind (arith, nat_tests)),
+      );
     }

@@ -64,7 +64,10 @@ fn page_with_too_little_room_fails(rt: HostRuntime) {
 
 #[test]
 fn reader_counts_the_errors_of_the_inner_one(rt: HostRuntime) {
-    let mut reader = Reader::new(Failing { calls: 0, fails_at: 1 });
+    let mut reader = Reader::new(Failing {
+        calls: 0,
+        fails_at: 1,
+    });
     let mut buffer = [0; 3];
     assert_eq!(rt; reader.read(&mut buffer), Ok(1));
     assert_eq!(rt; reader.failures(), 0);
@@ -76,7 +79,10 @@ fn reader_counts_the_errors_of_the_inner_one(rt: HostRuntime) {
 
 #[test]
 fn writer_counts_the_errors_of_the_inner_one(rt: HostRuntime) {
-    let mut writer = Writer::new(Failing { calls: 0, fails_at: 1 });
+    let mut writer = Writer::new(Failing {
+        calls: 0,
+        fails_at: 1,
+    });
     assert_eq!(rt; writer.put(b"ab"), Ok(()));
     assert_eq!(rt; writer.put(b"cd"), Err(Device));
     assert_eq!(rt; writer.failures(), 1);

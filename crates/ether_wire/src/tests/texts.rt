@@ -1,6 +1,8 @@
 ghost use Rattle.std.specs.Prelude.{◌≡◌};
 
-use crate::{Addr, Mac, Page, Vni, parted, put_addr, put_decimal, put_hex_group, put_mac, read_decimal};
+use crate::{
+    Addr, Mac, Page, Vni, parted, put_addr, put_decimal, put_hex_group, put_mac, read_decimal,
+};
 use std::test::Fail;
 
 fn is_mac(text: &[u8], number: u64) -> bool {
@@ -19,11 +21,23 @@ fn is_addr(text: &[u8], number: u32) -> bool {
 
 #[test]
 fn names_are_printed_in_one_spelling(rt: HostRuntime) -> Result<(), Fail> {
-    assert_eq!(rt; Mac::new(0x0200_0000_000a).to_string(rt.alloc())?.as_str(), "02:00:00:00:00:0a");
-    assert_eq!(rt; Mac::new(0xff00_a9b8_c7de).to_string(rt.alloc())?.as_str(), "ff:00:a9:b8:c7:de");
+    assert_eq!(rt;
+        Mac::new(0x0200_0000_000a).to_string(rt.alloc())?.as_str(),
+        "02:00:00:00:00:0a"
+    );
+    assert_eq!(rt;
+        Mac::new(0xff00_a9b8_c7de).to_string(rt.alloc())?.as_str(),
+        "ff:00:a9:b8:c7:de"
+    );
     assert_eq!(rt; Vni::new(5001).to_string(rt.alloc())?.as_str(), "5001");
-    assert_eq!(rt; Addr::new(0x0a00_0001).to_string(rt.alloc())?.as_str(), "10.0.0.1");
-    assert_eq!(rt; Addr::new(0xc000_02ff).to_string(rt.alloc())?.as_str(), "192.0.2.255");
+    assert_eq!(rt;
+        Addr::new(0x0a00_0001).to_string(rt.alloc())?.as_str(),
+        "10.0.0.1"
+    );
+    assert_eq!(rt;
+        Addr::new(0xc000_02ff).to_string(rt.alloc())?.as_str(),
+        "192.0.2.255"
+    );
     Ok(())
 }
 
@@ -85,8 +99,20 @@ fn decimal_number_has_no_leading_zeros_and_is_in_its_range(rt: HostRuntime) {
     assert_eq!(rt; read_decimal(b"0", 64), Some(0));
     assert_eq!(rt; read_decimal(b"64", 64), Some(64));
     assert_eq!(rt; read_decimal(b"65", 64), None);
-    assert_eq!(rt; read_decimal(b"18446744073709551615", u64::MAX), Some(u64::MAX));
-    for text in [b"".as_slice(), b"00", b"01", b"+1", b"-1", b"1a", b" 1", b"18446744073709551616"] {
+    assert_eq!(rt;
+        read_decimal(b"18446744073709551615", u64::MAX),
+        Some(u64::MAX)
+    );
+    for text in [
+        b"".as_slice(),
+        b"00",
+        b"01",
+        b"+1",
+        b"-1",
+        b"1a",
+        b" 1",
+        b"18446744073709551616",
+    ] {
         assert_eq!(rt; read_decimal(text, u64::MAX), None);
     }
     assert!(rt; Vni::read_text(b"16777215") == Some(Vni::new(0xff_ffff)));
