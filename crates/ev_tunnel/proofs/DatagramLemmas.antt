@@ -1,5 +1,5 @@
 -- A datagram that is written in two parts: the header of 8 octets, and a frame of n.
-use Rattle.std.proofs.Common.{◌≡◌, ℕ, ◌+◌, ◌-◌, ◌≤◌, List, ◌++◌, length, take, drop, refl, sym, ap, ◌∙◌, arith}
+use Rattle.std.proofs.Common.{◌≡◌, ℕ, ◌+◌, ◌-◌, List, ◌++◌, length, take, drop, ◌∙◌, arith}
 use Rattle.std.proofs.lemmas.List.{drop-drop}
 use Rattle.std.proofs.Math.Seq.{take-append_seam, drop-append_seam}
 use borrow.Rule.Slice.PartMut.{put_mid, post_of}

@@ -1,15 +1,13 @@
 -- What holds of each decision.
-use Rattle.std.proofs.Common.{◌≡◌, ◌≢◌, ℕ, ◌-◌, ◌<◌, ◌≤◌, zero, suc, Bool, true, false, not, cond, ◌==◌, ◌↔◌, Option, Some, None, List, [], ◌∷◌, ◌++◌, length, filter, Contains, refl, sym, ap, subst, ◌∙◌, arith}
-use Rattle.std.proofs.lemmas.Bool.{eqb-true, eqb-false, eq-eqb, false_from_ne_true, true≢false}
+use Rattle.std.proofs.Common.{◌≡◌, ◌≢◌, ℕ, ◌<◌, zero, suc, Bool, true, false, not, cond, ◌==◌, Option, Some, None, List, [], ◌∷◌, length, filter, Contains, refl, sym, ap, ◌∙◌, arith}
+use Rattle.std.proofs.lemmas.Bool.{eq-eqb, false_from_ne_true, true≢false}
 use Rattle.std.proofs.lemmas.Bool.Decides.{nat_tests}
 use Rattle.std.proofs.lemmas.List.Elements.{All-contains, All-contains_itself, All-filter, filter_passes, Contains-append_right}
 use Rattle.std.proofs.lemmas.List.Kept.{IsStrictlyIncreasing-filter}
 use Rattle.std.specs.Option.{ForSome}
 use Rattle.ether_wire.specs.Names.{is_group}
-use Rattle.route_wire.specs.declared.update.Key.TheVariants.{Flood}
 use Rattle.route_join.specs.Table.{Table}
-use Rattle.route_join.specs.Owner.{advert_at}
-use Rattle.route_join.specs.Flood.{IsFloodList, flood_of}
+use Rattle.route_join.specs.Flood.{IsFloodList}
 use Rattle.ev_tunnel.specs.declared.decision.Source.{Source}
 use Rattle.ev_tunnel.specs.declared.decision.Source.TheVariants.{Port, Tunnel}
 use Rattle.ev_tunnel.specs.declared.place.Place.{Place}
