@@ -1,4 +1,4 @@
--- The frame that carries a BPDU (IEEE 802.1D-2004, sections 9.2 and 7.12.3; LLC of IEEE 802.2).
+-- The frame that carries a BPDU (IEEE 802.1D-2004, sections 7.12 and 9; LLC of IEEE 802.2).
 use Rattle.std.specs.Prelude.{ℕ, ◌+◌, ◌-◌, List, [], ◌∷◌, ◌++◌, length, replicate}
 use Rattle.byteorder.specs.Endian.{big_bytes}
 

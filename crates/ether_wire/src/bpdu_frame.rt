@@ -1,4 +1,4 @@
-//! The frame that carries a BPDU (IEEE 802.1D-2004, section 9.2):
+//! The frame that carries a BPDU (IEEE 802.1D-2004, sections 7.12 and 9):
 //!
 //! | Octets | Field |
 //! |---|---|

@@ -1,15 +1,13 @@
 -- What holds of each decision.
-use Rattle.std.proofs.Common.{◌≡◌, ◌≢◌, ℕ, ◌-◌, ◌<◌, ◌≤◌, zero, suc, Bool, true, false, not, cond, ◌==◌, ◌↔◌, Option, Some, None, List, [], ◌∷◌, ◌++◌, length, filter, Contains, refl, sym, ap, subst, ◌∙◌, arith}
-use Rattle.std.proofs.lemmas.Bool.{eqb-true, eqb-false, eq-eqb, false_from_ne_true, true≢false}
+use Rattle.std.proofs.Common.{◌≡◌, ◌≢◌, ℕ, ◌<◌, zero, suc, Bool, true, false, not, cond, ◌==◌, Option, Some, None, List, [], ◌∷◌, length, filter, Contains, refl, sym, ap, ◌∙◌, arith}
+use Rattle.std.proofs.lemmas.Bool.{eq-eqb, false_from_ne_true, true≢false}
 use Rattle.std.proofs.lemmas.Bool.Decides.{nat_tests}
 use Rattle.std.proofs.lemmas.List.Elements.{All-contains, All-contains_itself, All-filter, filter_passes, Contains-append_right}
 use Rattle.std.proofs.lemmas.List.Kept.{IsStrictlyIncreasing-filter}
 use Rattle.std.specs.Option.{ForSome}
 use Rattle.ether_wire.specs.Names.{is_group}
-use Rattle.route_wire.specs.declared.update.Key.TheVariants.{Flood}
 use Rattle.route_join.specs.Table.{Table}
-use Rattle.route_join.specs.Owner.{advert_at}
-use Rattle.route_join.specs.Flood.{IsFloodList, flood_of}
+use Rattle.route_join.specs.Flood.{IsFloodList}
 use Rattle.ev_tunnel.specs.declared.decision.Source.{Source}
 use Rattle.ev_tunnel.specs.declared.decision.Source.TheVariants.{Port, Tunnel}
 use Rattle.ev_tunnel.specs.declared.place.Place.{Place}
@@ -58,27 +56,27 @@ pub one_copy : (place : Place) (from : Source) (flood : List ℕ) (own members p
 one_copy Everywhere from flood own members passing port known = absurd (known refl)
 one_copy (AtPort q) (Port p) flood own members passing port known = record {
   one_port = λ a b ha hb in_a in_b.
-    has_port-only q a port ha (has_port-in_both (open_ports (Port p) members passing) (only q) a in_a).1
-    ∙ sym (has_port-only q b port hb (has_port-in_both (open_ports (Port p) members passing) (only q) b in_b).1);
+      has_port-only q a port ha (has_port-in_both (open_ports (Port p) members passing) (only q) a in_a).1
+      ∙ sym (has_port-only q b port hb (has_port-in_both (open_ports (Port p) members passing) (only q) b in_b).1);
   one_edge = omega arith;
-  not_both = λ a ha in_a. refl
+  not_both = λ a ha in_a. refl;
 }
 one_copy (AtPort q) Tunnel flood own members passing port known = record {
   one_port = λ a b ha hb in_a in_b.
-    has_port-only q a port ha (has_port-in_both (open_ports Tunnel members passing) (only q) a in_a).1
-    ∙ sym (has_port-only q b port hb (has_port-in_both (open_ports Tunnel members passing) (only q) b in_b).1);
+      has_port-only q a port ha (has_port-in_both (open_ports Tunnel members passing) (only q) a in_a).1
+      ∙ sym (has_port-only q b port hb (has_port-in_both (open_ports Tunnel members passing) (only q) b in_b).1);
   one_edge = omega arith;
-  not_both = λ a ha in_a. refl
+  not_both = λ a ha in_a. refl;
 }
 one_copy (AtEdge o) (Port p) flood own members passing port known = record {
   one_port = λ a b ha hb in_a in_b. none_there a in_a;
   one_edge = omega arith;
-  not_both = λ a ha in_a. none_there a in_a
+  not_both = λ a ha in_a. none_there a in_a;
 }
 one_copy (AtEdge o) Tunnel flood own members passing port known = record {
   one_port = λ a b ha hb in_a in_b. none_there a in_a;
   one_edge = omega arith;
-  not_both = λ a ha in_a. refl
+  not_both = λ a ha in_a. refl;
 }
 
 Contains-filter : (p : ℕ → Bool) (xs : List ℕ) (o : ℕ) → Contains xs o → p o ≡ true → Contains (filter p xs) o
@@ -101,9 +99,9 @@ others_advertise t vni own flood list =
       ascending = IsStrictlyIncreasing-filter other flood list.ascending;
       exact = λ o. (
         λ there.
-          let passes : other o ≡ true = All-contains (λ x. other x ≡ true) (filter other flood) o (filter_passes other flood) there in
-          let listed = All-contains (Contains flood) (filter other flood) o (All-filter other (Contains flood) flood (All-contains_itself flood)) there in
-          (λ same. let is = eq-eqb o own same in grind (arith, nat_tests), (list.exact o).0 listed),
-        λ is. Contains-filter other flood o ((list.exact o).1 is.1) (grind (arith, nat_tests))
-      )
+            let passes : other o ≡ true = All-contains (λ x. other x ≡ true) (filter other flood) o (filter_passes other flood) there in
+            let listed = All-contains (Contains flood) (filter other flood) o (All-filter other (Contains flood) flood (All-contains_itself flood)) there in
+            (λ same. let is = eq-eqb o own same in grind (arith, nat_tests), (list.exact o).0 listed),
+        λ is. Contains-filter other flood o ((list.exact o).1 is.1) (grind (arith, nat_tests)),
+      );
     }

@@ -1,6 +1,6 @@
 -- Where a frame goes (RFC 7432, section 11, and RFC 8365, section 5, for flooding by ingress replication and for split
 -- horizon: what came out of a tunnel goes into none).
-use Rattle.std.specs.Prelude.{◌≡◌, ◌≢◌, ℕ, ◌==◌, not, Bool, ◌&&◌, true, false, List, [], ◌∷◌, filter, Option, Some, None}
+use Rattle.std.specs.Prelude.{ℕ, ◌==◌, not, List, [], ◌∷◌, filter, Option}
 use Rattle.ev_tunnel.specs.declared.decision.Source.{Source}
 use Rattle.ev_tunnel.specs.declared.decision.Source.TheVariants.{Port, Tunnel}
 use Rattle.ev_tunnel.specs.declared.place.Place.{Place}

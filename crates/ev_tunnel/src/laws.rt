@@ -14,35 +14,71 @@ use ether_wire::{Addr, Mac, Vni};
 use route_join::Table;
 
 /// A frame from a tunnel never goes into a tunnel.
-pub fn never_from_tunnel_to_tunnel(destination: Mac, vni: Vni, entry: Option<u8>, table: &Table, own: Addr)
+pub fn never_from_tunnel_to_tunnel(
+    destination: Mac,
+    vni: Vni,
+    entry: Option<u8>,
+    table: &Table,
+    own: Addr,
+)
     ensures { remote_for table.now vni destination entry own Tunnel ≡ [] }
-{
-}
+{}
 
 /// A frame never goes back out of the port that it came from.
-pub fn never_back(destination: Mac, vni: Vni, port: u8, entry: Option<u8>, table: &Table, own: Addr, members: u64, passing: u64)
+pub fn never_back(
+    destination: Mac,
+    vni: Vni,
+    port: u8,
+    entry: Option<u8>,
+    table: &Table,
+    own: Addr,
+    members: u64,
+    passing: u64,
+)
     requires { IsPort port }
     ensures { has_port (local_for table.now vni destination entry own (Port port) members passing) port ≡ false }
-{
-}
+{}
 
 /// Only members that pass get a frame.
-pub fn members_that_pass(destination: Mac, vni: Vni, from: Source, entry: Option<u8>, table: &Table, own: Addr, members: u64, passing: u64)
+pub fn members_that_pass(
+    destination: Mac,
+    vni: Vni,
+    from: Source,
+    entry: Option<u8>,
+    table: &Table,
+    own: Addr,
+    members: u64,
+    passing: u64,
+)
     ensures { ArePassing members passing (local_for table.now vni destination entry own from members passing) }
-{
-}
+{}
 
 /// A frame for an individual address that is learnt or owned by another edge goes to one place at most.
-pub fn known_goes_to_one_place(destination: Mac, vni: Vni, from: Source, entry: Option<u8>, table: &Table, own: Addr, members: u64, passing: u64)
+pub fn known_goes_to_one_place(
+    destination: Mac,
+    vni: Vni,
+    from: Source,
+    entry: Option<u8>,
+    table: &Table,
+    own: Addr,
+    members: u64,
+    passing: u64,
+)
     requires entry { ForSome entry IsPort }
     requires known { place_of destination entry (owner table.now vni destination) own ≢ Everywhere }
     ensures { IsOneCopy (local_for table.now vni destination entry own from members passing) (remote_for table.now vni destination entry own from) }
-{
-}
+{}
 
 /// A frame from a port that is flooded goes to exactly the other edges that advertise the network's
 /// flood list, in ascending order.
-pub fn others_that_advertise(destination: Mac, vni: Vni, port: u8, entry: Option<u8>, table: &Table, own: Addr)
+pub fn others_that_advertise(
+    destination: Mac,
+    vni: Vni,
+    port: u8,
+    entry: Option<u8>,
+    table: &Table,
+    own: Addr,
+)
     requires { place_of destination entry (owner table.now vni destination) own ≡ Everywhere }
     ensures { AreOthers table.now vni own (remote_for table.now vni destination entry own (Port port)) }
 {

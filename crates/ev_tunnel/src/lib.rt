@@ -9,7 +9,10 @@ mod ports;
 
 pub use datagram::{unwrap_datagram, wrap, wrapped_frame_is_unwrapped};
 pub use decision::{Decision, Source, decide};
-pub use laws::{known_goes_to_one_place, members_that_pass, never_back, never_from_tunnel_to_tunnel, others_that_advertise};
+pub use laws::{
+    known_goes_to_one_place, members_that_pass, never_back, never_from_tunnel_to_tunnel,
+    others_that_advertise,
+};
 
 #[cfg(test)]
 mod tests;

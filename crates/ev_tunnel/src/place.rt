@@ -18,7 +18,13 @@ pub(crate) enum Place {
 
 /// Where a destination is: a group address is everywhere, a learnt one at its port, and one whose
 /// owner is another edge there; any other is unknown.
-pub(crate) fn place_of(destination: Mac, vni: Vni, entry: Option<u8>, table: &Table, own: Addr) -> Place
+pub(crate) fn place_of(
+    destination: Mac,
+    vni: Vni,
+    entry: Option<u8>,
+    table: &Table,
+    own: Addr,
+) -> Place
     ensures { result ≡ place_of destination entry (owner table.now vni destination) own }
 {
     if destination.is_group() {

@@ -104,7 +104,9 @@ fn goes(decision: &Decision, local: u64, remote: &[Addr]) -> bool {
 }
 
 #[test]
-fn broadcast_from_a_port_goes_to_the_other_passing_ports_and_edges(rt: HostRuntime) -> Result<(), Fail> {
+fn broadcast_from_a_port_goes_to_the_other_passing_ports_and_edges(
+    rt: HostRuntime,
+) -> Result<(), Fail> {
     let table = flooded(rt.alloc())?;
     let decision = decided(broadcast(), Source::Port(1), None, &table);
     assert!(rt; goes(&decision, 4, &[addr(2), addr(3)]));
@@ -146,7 +148,13 @@ fn learnt_address_on_a_blocked_or_its_own_port_goes_nowhere(rt: HostRuntime) -> 
 fn address_of_another_edge_goes_there_alone(rt: HostRuntime) -> Result<(), Fail> {
     let mut table = flooded(rt.alloc())?;
     table.take(&host_at(3))?;
-    assert!(rt; goes(&decided(host(), Source::Port(1), None, &table), 0, &[addr(3)]));
+    assert!(rt;
+        goes(
+            &decided(host(), Source::Port(1), None, &table),
+            0,
+            &[addr(3)]
+        )
+    );
     assert!(rt; goes(&decided(host(), Source::Tunnel, None, &table), 0, &[]));
     Ok(())
 }
@@ -162,12 +170,21 @@ fn carried(datagram: &[u8]) -> Option<(Vni, Mac)> {
 #[test]
 fn broadcast_of_a_remote_edge_goes_to_the_passing_ports(rt: HostRuntime) -> Result<(), Fail> {
     let datagram: [u8; 22] = [
-        0x08, 0x00, 0x00, 0x00, 0x00, 0x13, 0x89, 0x00, 0xff, 0xff, 0xff, 0xff, 0xff, 0xff, 0x02, 0x00, 0x00, 0x00,
-        0x00, 0x0b, 0x08, 0x00,
+        0x08, 0x00, 0x00, 0x00, 0x00, 0x13, 0x89, 0x00, 0xff, 0xff, 0xff, 0xff, 0xff, 0xff, 0x02,
+        0x00, 0x00, 0x00, 0x00, 0x0b, 0x08, 0x00,
     ];
     assert!(rt; carried(&datagram) == Some((vni(), broadcast())));
     let table = flooded(rt.alloc())?;
-    let decision = decide(broadcast(), vni(), Source::Tunnel, None, &table, addr(1), 3, 3);
+    let decision = decide(
+        broadcast(),
+        vni(),
+        Source::Tunnel,
+        None,
+        &table,
+        addr(1),
+        3,
+        3,
+    );
     assert!(rt; goes(&decision, 3, &[]));
     Ok(())
 }
@@ -176,7 +193,9 @@ fn broadcast_of_a_remote_edge_goes_to_the_passing_ports(rt: HostRuntime) -> Resu
 fn frame_is_wrapped_behind_its_header(rt: HostRuntime) {
     let mut buffer = [0xee; 9026];
     let size = wrap(&mut buffer, vni(), &[0xaa, 0xbb, 0xcc]);
-    let expected: [u8; 12] = [0x08, 0x00, 0x00, 0x00, 0x00, 0x13, 0x89, 0x00, 0xaa, 0xbb, 0xcc, 0xee];
+    let expected: [u8; 12] = [
+        0x08, 0x00, 0x00, 0x00, 0x00, 0x13, 0x89, 0x00, 0xaa, 0xbb, 0xcc, 0xee,
+    ];
     assert_eq!(rt; size, 11);
     assert_eq!(rt; &buffer[..12], expected.as_slice());
 }

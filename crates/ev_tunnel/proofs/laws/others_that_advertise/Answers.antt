@@ -1,4 +1,3 @@
-use Rattle.std.proofs.Common.{◌≡◌}
 use Rattle.route_join.specs.Flood.{IsFloodList, flood_of}
 use Rattle.ev_tunnel.proofs.DecisionLemmas.{others_advertise}
 use Rattle.ev_tunnel.proofs.laws.others_that_advertise.Goals as goal
