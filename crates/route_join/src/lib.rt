@@ -7,6 +7,8 @@ mod owner;
 mod place;
 mod report;
 mod table;
+#[cfg(test)]
+mod tests;
 
 pub use laws::{
     all_taken, join_associates, join_commutes, join_is, join_of_tables, join_repeats, none_taken,

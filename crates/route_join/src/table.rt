@@ -70,7 +70,7 @@ impl Model for Table {
 }
 
 impl Table {
-    /// A table that listens to these originators, 1 to 64 that all differ, and has taken nothing.
+    /// A table that listens to these originators (1 to 64 that all differ) and has taken nothing.
     /// It takes no memory; `take` gets what it needs from `alloc`.
     pub fn new(alloc: Global, originators: ArrayVec<Addr, 64>) -> Self
         requires { AreOriginators originators.items }
