@@ -1,3 +1,8 @@
 pub mod Wholes
 pub mod Readings
 pub mod Prefixes
+pub mod Spelt
+pub mod Streams
+pub mod Unfinished
+pub mod Feeding
+pub mod Cuttings

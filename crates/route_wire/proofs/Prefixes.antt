@@ -1,11 +1,11 @@
 -- What stands behind a record changes nothing of it.
-use Rattle.std.proofs.Common.{◌≡◌, ℕ, ◌+◌, ◌<◌, ◌≤◌, Bool, true, false, not, ◌&&◌, ◌||◌, nat_lt, cond, List, length, get_or, take, drop, slice_index, Option, Some, None, refl, sym, ap, ◌∙◌, arith, lit<}
+use Rattle.std.proofs.Common.{◌≡◌, ℕ, ◌+◌, ◌<◌, ◌≤◌, false, nat_lt, cond, List, length, take, slice_index, None, sym, ap, ◌∙◌, arith, lit<}
 use Rattle.std.proofs.lemmas.Bool.{lt-ltb}
 use Rattle.std.proofs.lemmas.Bool.Decides.{nat_tests}
 use Rattle.std.proofs.lemmas.List.{length-take-le, get_or-take, get_or-drop}
 use Rattle.route_wire.specs.declared.stream.Whole.{Whole}
 use Rattle.route_wire.specs.declared.stream.Whole.TheVariants.{Rest, Fault, Length}
-use Rattle.route_wire.specs.Stream.{first_of, follow_of, fault_of, whole_or_rest, whole_up_to, whole_of, IsWhole, FindsWhole}
+use Rattle.route_wire.specs.Stream.{follow_of, fault_of, whole_or_rest, whole_up_to, whole_of, FindsWhole}
 use Rattle.route_wire.proofs.Wholes.{ends_whole, found_long}
 
 -- two streams that begin with the same six octets show the same fault
@@ -26,7 +26,7 @@ same_follow s t at =
     let d1 = get_or-drop 4 t 1 0 ∙ at 5 (lit< tt) ∙ sym (get_or-drop 4 s 1 0) in
     cc
 
-not_less : (a b : ℕ) → b ≤ a → nat_lt a b ≡ false
+pub not_less : (a b : ℕ) → b ≤ a → nat_lt a b ≡ false
 not_less a b h = grind (arith, nat_tests)
 
 pub is_whole : (newest : ℕ) (t : List ℕ) → fault_of newest t ≡ None → 6 ≤ length t → 6 + follow_of t ≤ length t → whole_up_to newest t ≡ Length (6 + follow_of t)

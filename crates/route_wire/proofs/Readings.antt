@@ -1,5 +1,5 @@
 -- The answer to a record, from the refusal and the update of its parts.
-use Rattle.std.proofs.Common.{◌≡◌, ℕ, List, drop, Option, Some, None, Result, Ok, Err, ap, ◌∙◌, sym}
+use Rattle.std.proofs.Common.{◌≡◌, ℕ, List, Option, Some, None, Ok, Err, ap, ◌∙◌}
 use Rattle.route_wire.specs.declared.record.Header.{Header}
 use Rattle.route_wire.specs.Fields.{Fields}
 use Rattle.route_wire.specs.Refusal.{refusal_of}

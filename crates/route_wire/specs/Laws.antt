@@ -1,9 +1,12 @@
--- What is promised of newer and older updates.
-use Rattle.std.specs.Prelude.{◌≡◌, false}
+-- What is promised of newer and older updates, and of records that follow each other.
+use Rattle.std.specs.Prelude.{◌≡◌, ℕ, true, false, List, [], ◌++◌, Result}
 use Rattle.std.specs.Cmp.{IsTotalOrder}
 use Rattle.std.specs.FinMap.{IsAntisymmetric}
 use Rattle.route_wire.specs.Fields.{Fields}
 use Rattle.route_wire.specs.Order.{value_cmp, is_newer}
+use Rattle.route_wire.specs.Stream.{whole_up_to, IsWhole}
+use Rattle.route_wire.specs.Record.{is_length, AnswersUpTo}
+use Rattle.route_wire.specs.Feed.{Held, is_rest, shown, HasRead}
 
 -- two updates of a register of which neither is newer are the same
 abbrev pub NeverEquallyNew : Type 0
@@ -12,3 +15,22 @@ NeverEquallyNew = (u v : Fields) → u.register ≡ v.register → is_newer u.va
 -- values are totally ordered, and equal in that order only where they are the same
 abbrev pub NewestFirst : Type 0
 NewestFirst = IsTotalOrder value_cmp × IsAntisymmetric value_cmp
+
+-- a whole record that begins with a whole record is that record
+abbrev pub NoRecordBeginsAnother : Type 0
+NoRecordBeginsAnother = (bytes more : List ℕ) → IsWhole bytes → IsWhole (bytes ++ more) → more ≡ []
+
+-- two readings of a stream to its end are the same
+abbrev pub OneReading : Type 0
+OneReading = (newest : ℕ) (stream : List ℕ) (answers others : List (Result Fields ℕ)) (rest last : List ℕ)
+    → AnswersUpTo newest stream answers rest → AnswersUpTo newest stream others last → (answers ≡ others) × (rest ≡ last)
+
+-- Where a feed that was given a stream in any pieces holds no whole record, it gave the stream's answers, and shows how the stream ends.
+abbrev pub EveryCutting : Type 0
+EveryCutting = (h : Held) (stream : List ℕ) (answers : List (Result Fields ℕ)) → HasRead h stream answers → is_length (shown h) ≡ false
+    → (rest : List ℕ) × AnswersUpTo h.newest stream answers rest × (whole_up_to h.newest rest ≡ shown h) × (is_rest (shown h) ≡ true → rest ≡ h.rest)
+
+-- two feeds that were given one stream in any pieces gave the same answers, and show the same
+abbrev pub CuttingsAgree : Type 0
+CuttingsAgree = (h g : Held) (stream : List ℕ) (answers others : List (Result Fields ℕ)) → h.newest ≡ g.newest → HasRead h stream answers → HasRead g stream others
+    → is_length (shown h) ≡ false → is_length (shown g) ≡ false → (answers ≡ others) × (shown h ≡ shown g) × (is_rest (shown h) ≡ true → h.rest ≡ g.rest)

@@ -7,3 +7,5 @@ pub mod Stream
 pub mod Route
 pub mod Refusal
 pub mod Record
+pub mod Spelling
+pub mod Feed

@@ -1,5 +1,5 @@
 -- Update records: the update that one spells, and the answers of a stream of them.
-use Rattle.std.specs.Prelude.{◌≡◌, ℕ, ◌%◌, Bool, true, false, not, ◌&&◌, ◌==◌, if◌then◌else◌, List, [], ◌∷◌, length, take, drop, slice_index, Option, Some, None, Result, Ok, Err}
+use Rattle.std.specs.Prelude.{◌≡◌, ℕ, ◌%◌, Bool, true, false, not, ◌&&◌, ◌==◌, if◌then◌else◌, List, [], ◌∷◌, take, drop, slice_index, Option, Some, None, Result, Ok, Err}
 use Rattle.byteorder.specs.Endian.{big_number}
 use Rattle.route_wire.specs.declared.record.Header.{Header}
 use Rattle.route_wire.specs.declared.stream.Whole.{Whole}
@@ -10,7 +10,7 @@ use Rattle.route_wire.specs.declared.update.Content.{Content}
 use Rattle.route_wire.specs.declared.update.Content.TheVariants.{Withdrawn, Advert as Advertised}
 use Rattle.route_wire.specs.declared.update.Advert.{Advert}
 use Rattle.route_wire.specs.Fields.{Fields, flood_advert}
-use Rattle.route_wire.specs.Stream.{whole_up_to, whole_of, IsWhole}
+use Rattle.route_wire.specs.Stream.{whole_up_to, IsWhole}
 use Rattle.route_wire.specs.Route.{is_mac_route, tail_of, ip_in, label2_in}
 use Rattle.route_wire.specs.Refusal.{refusal_of}
 

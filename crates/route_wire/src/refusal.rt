@@ -26,7 +26,11 @@ fn is_followed_well(header: &Header, route: &[u8]) -> bool
     ensures { result ≡ may_follow header.now route.now }
 {
     let end = 2 + route[1] as usize;
-    let after = if end <= route.len() { &route[end..] } else { &[] };
+    let after = if end <= route.len() {
+        &route[end..]
+    } else {
+        &[]
+    };
     after.is_empty() || route[0] == 2 && !header.is_withdrawal && is_mobility(after)
 }
 

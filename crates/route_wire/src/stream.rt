@@ -1,3 +1,5 @@
+use crate::update::Update;
+
 /// What the beginning of a stream shows.
 #[derive(Clone, Copy, Debug, PartialEq, Eq)]
 pub enum Whole {
@@ -7,4 +9,23 @@ pub enum Whole {
     Fault(u8),
     /// Its first octets, this many, are a whole record.
     Length(usize),
+}
+
+/// What a feed has next.
+#[derive(Clone, Copy, Debug, PartialEq, Eq)]
+pub enum Next {
+    /// Nothing, until it is fed more.
+    More,
+    /// The update of a whole record.
+    Record(Update),
+    /// The refusal of a whole record: 5 to 11 or 14.
+    Refused(u8),
+    /// The stream's fault, 1 to 4, for good.
+    Fault(u8),
+}
+
+/// The stream ended within a record, of which there are this many octets.
+#[derive(Clone, Copy, Debug, PartialEq, Eq)]
+pub struct Truncated {
+    pub octets: usize,
 }

@@ -257,6 +257,13 @@ impl Update {
         self.value
     }
 
+    /// A law, which does nothing: each update is well formed.
+    pub fn always_well_formed(&self)
+        ensures { IsUpdate self.now }
+    {
+        let _ = &self.register;
+    }
+
     /// Whether this update of a register is newer than the other one of that register.
     pub fn is_newer(&self, other: &Update) -> bool
         ensures { result ≡ is_newer self.now.value other.now.value }

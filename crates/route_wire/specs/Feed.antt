@@ -1,0 +1,90 @@
+-- A feed: what it holds of a stream that comes in pieces.
+use Rattle.std.specs.Prelude.{◌≡◌, ℕ, ◌+◌, ◌<◌, ◌≤◌, Bool, true, false, ◌==◌, if◌then◌else◌, List, [], ◌∷◌, ◌++◌, length, take, Result, Ok, Err}
+use Rattle.std.specs.Bool.{OnTrue, OnFalse}
+use Rattle.route_wire.specs.declared.stream.Whole.{Whole}
+use Rattle.route_wire.specs.declared.stream.Whole.TheVariants.{Rest, Fault, Length}
+use Rattle.route_wire.specs.declared.stream.Next.{Next}
+use Rattle.route_wire.specs.declared.stream.Next.TheVariants.{More, Record, Refused, Fault as Faulty}
+use Rattle.route_wire.specs.declared.stream.Truncated.{Truncated}
+use Rattle.route_wire.specs.Fields.{Fields}
+use Rattle.route_wire.specs.Stream.{whole_up_to}
+use Rattle.route_wire.specs.Record.{reading, ReadsUpTo}
+
+-- the newest version that it reads, and the octets of its record so far
+pub record Held : Type 0 where
+  pub newest : ℕ
+  pub rest : List ℕ
+
+abbrev pub is_rest : Whole → Bool
+is_rest Rest = true
+is_rest (Fault fault) = false
+is_rest (Length n) = false
+
+abbrev pub is_fault : Whole → Bool
+is_fault Rest = false
+is_fault (Fault fault) = true
+is_fault (Length n) = false
+
+-- what the octets that are held show
+abbrev pub shown : Held → Whole
+shown h = whole_up_to h.newest h.rest
+
+-- no octet is held after a record or a fault is whole
+abbrev pub IsHeld : ℕ → List ℕ → Type 0
+IsHeld newest rest = (k : ℕ) → k < length rest → is_rest (whole_up_to newest (take k rest)) ≡ true
+
+-- Of a piece the next n octets are taken: until a record or a fault is whole, or the piece ends.
+pub record Takes (old new : Held) (piece : List ℕ) (n : ℕ) : Type 0 where
+  pub version : new.newest ≡ old.newest
+  pub fits : n ≤ length piece
+  pub taken : new.rest ≡ old.rest ++ take n piece
+  pub unfinished : (k : ℕ) → k < n → is_rest (whole_up_to old.newest (old.rest ++ take k piece)) ≡ true
+  pub ended : is_rest (shown new) ≡ true → n ≡ length piece
+
+-- after a fault all octets are taken, and none is held
+pub record Skips (old new : Held) (piece : List ℕ) (n : ℕ) : Type 0 where
+  pub unchanged : new ≡ old
+  pub all : n ≡ length piece
+
+abbrev pub Feeds : Held → Held → List ℕ → ℕ → Type 0
+Feeds old new piece n = OnTrue (is_fault (shown old)) (Skips old new piece n) × OnFalse (is_fault (shown old)) (Takes old new piece n)
+
+-- what comes next: nothing yet, the answer of a whole record, or the fault
+abbrev pub answer_of : Result Fields ℕ → Next
+answer_of (Ok u) = Record u
+answer_of (Err refusal) = Refused refusal
+
+abbrev pub next_by : Whole → List ℕ → Next
+next_by Rest rest = More
+next_by (Fault fault) rest = Faulty fault
+next_by (Length n) rest = answer_of (reading rest)
+
+abbrev pub next_of : Held → Next
+next_of h = next_by (shown h) h.rest
+
+-- a whole record is given once
+abbrev pub rest_by : Whole → List ℕ → List ℕ
+rest_by Rest rest = rest
+rest_by (Fault fault) rest = rest
+rest_by (Length n) rest = []
+
+abbrev pub after_next : Held → Held
+after_next h = record { newest = h.newest; rest = rest_by (shown h) h.rest }
+
+-- where the stream ends
+abbrev pub end_of : Held → Result (Unit {0}) Truncated
+end_of h = if length h.rest == 0 then Ok tt else Err (record { octets = length h.rest })
+
+-- ---- the stream so far
+-- the answers that an answer of `next` adds
+abbrev pub added : Next → List (Result Fields ℕ)
+added More = []
+added (Record u) = Ok u ∷ []
+added (Refused refusal) = Err refusal ∷ []
+added (Faulty fault) = []
+
+-- Of the stream that was taken so far these answers were given, and the rest is held; of what came after a fault nothing is.
+pub record HasRead (h : Held) (stream : List ℕ) (answers : List (Result Fields ℕ)) : Type 0 where
+  pub skipped : List ℕ
+  pub reads : ReadsUpTo h.newest stream answers (h.rest ++ skipped)
+  pub faulty : is_fault (shown h) ≡ false → skipped ≡ []

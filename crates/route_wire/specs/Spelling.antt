@@ -1,0 +1,82 @@
+-- The octets that are written for an update: a record of version 3.
+use Rattle.std.specs.Prelude.{ℕ, ◌+◌, ◌*◌, ◌^◌, ◌<◌, Bool, not, ◌||◌, ◌==◌, if◌then◌else◌, List, [], ◌∷◌, ◌++◌, length, Option, Some, None}
+use Rattle.byteorder.specs.Endian.{big_bytes}
+use Rattle.route_wire.specs.declared.update.Ip.{Ip}
+use Rattle.route_wire.specs.declared.update.Ip.TheVariants.{V4, V6}
+use Rattle.route_wire.specs.declared.update.Key.{Key}
+use Rattle.route_wire.specs.declared.update.Key.TheVariants.{Flood, Mac}
+use Rattle.route_wire.specs.declared.update.Content.{Content}
+use Rattle.route_wire.specs.declared.update.Content.TheVariants.{Withdrawn, Advert as Advertised}
+use Rattle.route_wire.specs.Fields.{Fields}
+use Rattle.route_wire.specs.Order.{vni_of, label2_of, sequence_of}
+
+-- a route distinguisher of type 1, with the originator's address and the number 1
+abbrev pub distinguisher : ℕ → List ℕ
+distinguisher o = 0 ∷ 1 ∷ (big_bytes 4 o ++ (0 ∷ 1 ∷ []))
+
+abbrev pub ip_octets : Option Ip → List ℕ
+ip_octets None = []
+ip_octets (Some (V4 n)) = big_bytes 4 n
+ip_octets (Some (V6 n)) = big_bytes 16 n
+
+abbrev pub label2_octets : Option ℕ → List ℕ
+label2_octets None = []
+label2_octets (Some n) = big_bytes 3 n
+
+-- an Ethernet segment identifier of zeros, and the Ethernet Tag 0
+abbrev pub no_segment : List ℕ → List ℕ
+no_segment rest = 0 ∷ 0 ∷ 0 ∷ 0 ∷ 0 ∷ 0 ∷ 0 ∷ 0 ∷ 0 ∷ 0 ∷ 0 ∷ 0 ∷ 0 ∷ 0 ∷ rest
+
+-- type 2: the MAC has 48 bits, the IP address 0, 32 or 128, and the first label is the VNI
+abbrev pub mac_route : ℕ → ℕ → ℕ → Option Ip → Option ℕ → List ℕ
+mac_route o vni mac ip label2 =
+    2 ∷ (33 + length (ip_octets ip) + length (label2_octets label2)) ∷ (distinguisher o ++ no_segment (48 ∷ (big_bytes 6 mac ++
+    ((8 * length (ip_octets ip)) ∷ (ip_octets ip ++ (big_bytes 3 vni ++ label2_octets label2))))))
+
+-- type 3: the Ethernet Tag 0, and the originator as the router
+abbrev pub flood_route : ℕ → List ℕ
+flood_route o = 3 ∷ 17 ∷ (distinguisher o ++ (0 ∷ 0 ∷ 0 ∷ 0 ∷ 32 ∷ big_bytes 4 o))
+
+-- a MAC Mobility community, where there is something to tell
+abbrev pub community : Bool → ℕ → List ℕ
+community is_static sequence =
+    if is_static || not (sequence == 0) then 6 ∷ 0 ∷ (if is_static then 1 else 0) ∷ 0 ∷ big_bytes 4 sequence else []
+
+-- what stands after the route of a MAC: a withdrawal has no community
+abbrev pub mobility : Content → List ℕ
+mobility Withdrawn = []
+mobility (Advertised a) = community a.is_static a.sequence
+
+-- the route and what stands after it
+abbrev pub route_octets : ℕ → Key → Content → List ℕ
+route_octets o (Flood vni) content = flood_route o
+route_octets o (Mac vni mac ip) content = mac_route o vni mac ip (label2_of content) ++ mobility content
+
+-- advertise or withdraw
+abbrev pub kind_of : Content → ℕ
+kind_of Withdrawn = 2
+kind_of (Advertised a) = 1
+
+abbrev pub record_octets : ℕ → ℕ → ℕ → ℕ → ℕ → List ℕ → List ℕ
+record_octets kind o incarnation counter vni route =
+    69 ∷ 86 ∷ 3 ∷ kind ∷ (big_bytes 2 (19 + length route) ++ (big_bytes 4 o ++ (big_bytes 4 incarnation ++ (big_bytes 8 counter ++ (big_bytes 3 vni ++ route)))))
+
+unfoldable pub spelling_of : Fields → List ℕ
+spelling_of u =
+    record_octets (kind_of u.value.content) u.register.originator u.value.incarnation u.value.counter (vni_of u.register.key)
+    (route_octets u.register.originator u.register.key u.value.content)
+
+-- ---- numbers that fit their octets
+abbrev pub IpFits : Option Ip → Type 0
+IpFits None = Unit {0}
+IpFits (Some (V4 n)) = n < 2 ^ 32
+IpFits (Some (V6 n)) = n < 2 ^ 128
+
+abbrev pub Label2Fits : Option ℕ → Type 0
+Label2Fits None = Unit {0}
+Label2Fits (Some n) = n < 2 ^ 24
+
+-- of a flood list nothing but its network is written
+abbrev pub RouteFits : Key → Content → Type 0
+RouteFits (Flood vni) content = Unit {0}
+RouteFits (Mac vni mac ip) content = (mac < 2 ^ 48) × IpFits ip × Label2Fits (label2_of content) × (sequence_of content < 2 ^ 32)

@@ -1,0 +1,171 @@
+ghost use Rattle.std.specs.Prelude.{◌≡◌, ◌+◌, ◌≤◌, ◌<◌, ◌++◌, ℕ, List, [], true, false, length, take, Result};
+ghost use Rattle.arrayvec.specs.ArrayVec.{array_vec_len};
+ghost use Rattle.route_wire.specs.Fields.{Fields};
+ghost use Rattle.route_wire.specs.Stream.{whole_up_to};
+ghost use Rattle.route_wire.specs.Feed.{is_rest, answer_of};
+
+use crate::framing::{NEWEST, whole_in};
+use crate::record::read_one;
+use crate::stream::{Next, Truncated, Whole};
+use crate::update::Update;
+use arrayvec::ArrayVec;
+use byteorder::{BigEndian, ByteOrder};
+use std::marker::Model;
+
+/// A reader of records from a stream that comes in pieces, however it is cut. It holds the octets
+/// of one record at most, and takes no memory.
+#[derive(Drop)]
+pub struct Feed {
+    newest: u8,
+    held: ArrayVec<u8, 518>,
+}
+
+impl Model for Feed {
+    ghost use Rattle.std.specs.Prelude.{◌≤◌};
+    ghost use Rattle.route_wire.specs.Feed.{Held, IsHeld};
+
+    ghost Value = { Held };
+
+    ghost view = { λ f. record { newest = f.newest; rest = f.held.items } };
+
+    ghost invariant = { λ f. (f.newest ≤ 3) × IsHeld f.newest f.held.items };
+}
+
+// Whether the octets are a proper beginning of a record.
+fn is_unfinished(newest: u8, octets: &[u8]) -> bool
+    ensures { result ≡ is_rest (whole_up_to newest octets.now) }
+{
+    matches!(whole_in(newest, octets), Whole::Rest)
+}
+
+// Moves octets from the piece until six are held or they show a fault. How many it moves.
+fn take_head(newest: u8, held: &mut ArrayVec<u8, 518>, piece: &[u8]) -> usize
+    requires { is_rest (whole_up_to newest held.old.items) ≡ true }
+    ensures fits { result ≤ length piece.now }
+    ensures taken { held.new.items ≡ held.old.items ++ take result piece.now }
+    ensures unfinished { (k : ℕ) → k < result → is_rest (whole_up_to newest (held.old.items ++ take k piece.now)) ≡ true }
+    ensures ended { length held.new.items < 6 → is_rest (whole_up_to newest held.new.items) ≡ true → result ≡ length piece.now }
+{
+    for i in 0..piece.len() {
+        if 6 <= held.len() || !is_unfinished(newest, held.as_slice()) {
+            return i;
+        }
+        held.push(piece[i]);
+    }
+    piece.len()
+}
+
+// Moves octets of a record whose length is known from the piece. How many it moves.
+fn take_body(newest: u8, held: &mut ArrayVec<u8, 518>, piece: &[u8]) -> usize
+    requires six { 6 ≤ length held.old.items }
+    requires rest { is_rest (whole_up_to newest held.old.items) ≡ true }
+    ensures fits { result ≤ length piece.now }
+    ensures taken { held.new.items ≡ held.old.items ++ take result piece.now }
+    ensures unfinished { (k : ℕ) → k < result → is_rest (whole_up_to newest (held.old.items ++ take k piece.now)) ≡ true }
+    ensures ended { is_rest (whole_up_to newest held.new.items) ≡ true → result ≡ length piece.now }
+{
+    let (_, length) = held.as_slice().split_at(4);
+    let len = 6 + BigEndian::read_u16(length) as usize;
+    let count = piece.len().min(len - held.len());
+    match held.try_extend_from_slice(&piece[..count]) {
+        Ok(()) => count,
+        Err(_) => unreachable!(),
+    }
+}
+
+// Moves octets from the piece until a record or a fault is whole. How many it moves.
+fn take_octets(newest: u8, held: &mut ArrayVec<u8, 518>, piece: &[u8]) -> usize
+    requires { is_rest (whole_up_to newest held.old.items) ≡ true }
+    ensures fits { result ≤ length piece.now }
+    ensures taken { held.new.items ≡ held.old.items ++ take result piece.now }
+    ensures unfinished { (k : ℕ) → k < result → is_rest (whole_up_to newest (held.old.items ++ take k piece.now)) ≡ true }
+    ensures ended { is_rest (whole_up_to newest held.new.items) ≡ true → result ≡ length piece.now }
+{
+    let head = take_head(newest, held, piece);
+    if held.len() < 6 || !is_unfinished(newest, held.as_slice()) {
+        return head;
+    }
+    let (_, rest) = piece.split_at(head);
+    head + take_body(newest, held, rest)
+}
+
+// What a whole record says.
+fn answer(reading: Result<Update, u8>) -> Next
+    ensures { result ≡ answer_of reading }
+{
+    match reading {
+        Ok(update) => Next::Record(update),
+        Err(refusal) => Next::Refused(refusal),
+    }
+}
+
+impl Feed {
+    ghost use Rattle.route_wire.specs.declared.stream.Next.TheVariants.{More};
+    ghost use Rattle.route_wire.specs.Feed.{shown, Feeds, next_of, after_next, end_of, added, HasRead};
+
+    /// A feed of records of all versions.
+    pub fn new() -> Self
+        ensures value { result ≡ record { newest = 3; rest = [] } }
+        ensures read { HasRead result [] [] }
+    {
+        Feed {
+            newest: NEWEST,
+            held: ArrayVec::new(),
+        }
+    }
+
+    /// A feed of records of versions 1 and 2 alone: version 3 is fault 2.
+    pub fn old() -> Self
+        ensures value { result ≡ record { newest = 2; rest = [] } }
+        ensures read { HasRead result [] [] }
+    {
+        Feed {
+            newest: 2,
+            held: ArrayVec::new(),
+        }
+    }
+
+    /// Takes octets from the piece until a record or a fault is whole or the piece ends, and tells
+    /// how many. After a fault it takes all. While a whole record is held it takes none.
+    pub fn feed(&mut self, piece: &[u8]) -> usize
+        ensures fits { result ≤ length piece.now }
+        ensures feeds { Feeds self.old self.new piece.now result }
+        ensures read { (stream : List ℕ) (answers : List (Result Fields ℕ)) → HasRead self.old stream answers → HasRead self.new (stream ++ take result piece.now) answers }
+    {
+        match whole_in(self.newest, self.held.as_slice()) {
+            Whole::Fault(_) => piece.len(),
+            Whole::Length(_) => 0,
+            Whole::Rest => take_octets(self.newest, &mut self.held, piece),
+        }
+    }
+
+    /// What comes next: the answer of the record that is held whole, which is then let go, or the
+    /// fault, or nothing yet.
+    pub fn next(&mut self) -> Next
+        ensures value { result ≡ next_of self.old }
+        ensures after { self.new ≡ after_next self.old }
+        ensures more { result ≡ More → is_rest (shown self.new) ≡ true }
+        ensures read { (stream : List ℕ) (answers : List (Result Fields ℕ)) → HasRead self.old stream answers → HasRead self.new stream (answers ++ added result) }
+    {
+        match whole_in(self.newest, self.held.as_slice()) {
+            Whole::Rest => Next::More,
+            Whole::Fault(fault) => Next::Fault(fault),
+            Whole::Length(_) => {
+                let reading = read_one(self.held.as_slice());
+                self.held.clear();
+                answer(reading)
+            }
+        }
+    }
+
+    /// Whether the stream may end here, where `next` would tell `More`.
+    pub fn end(&self) -> Result<(), Truncated>
+        requires { is_rest (shown self.now) ≡ true }
+        ensures { result ≡ end_of self.now }
+    {
+        match self.held.len() {
+            0 => Ok(()),
+            octets => Err(Truncated { octets }),
+        }
+    }
+}
