@@ -5,6 +5,8 @@ mod input;
 mod notes;
 mod originators;
 mod report;
+#[cfg(test)]
+mod tests;
 mod words;
 
 use crate::originators::read_originators;
@@ -55,13 +57,20 @@ fn refused_words(rt: &HostRuntime, error: &io::Error) -> u8 {
 
 /// Tells what is wrong with the words.
 fn usage(rt: &HostRuntime, text: impl Display + Drop) -> u8 {
-    if rt.eprint(text).is_ok() { USAGE } else { DEVICE }
+    if rt.eprint(text).is_ok() {
+        USAGE
+    } else {
+        DEVICE
+    }
 }
 
 /// Reports the records on standard input.
 fn run_report(rt: &HostRuntime, list: &str) -> u8 {
     let Some(originators) = read_originators(list.as_bytes()) else {
-        return usage(rt, "error: --originators takes 1 to 64 different IPv4 addresses with commas\n");
+        return usage(
+            rt,
+            "error: --originators takes 1 to 64 different IPv4 addresses with commas\n",
+        );
     };
     let mut reader = Reader::new(rt.stdin());
     let (stdout, stderr) = (rt.stdout(), rt.stderr());
