@@ -143,17 +143,10 @@ fn status(is_ended: bool, is_reported: bool, stream: Stream) -> u8
     if !(is_ended && is_reported && stream.is_told) {
         return 4;
     }
-    match stream {
-        Stream {
-            is_starved: true,
-            ..
-        } => 3,
-        Stream {
-            is_broken: true,
-            ..
-        } => 1,
-        _ => 0,
+    if stream.is_starved {
+        return 3;
     }
+    if stream.is_broken { 1 } else { 0 }
 }
 
 /// Reads update records up to the reader's end, and writes the report of the table of those that
@@ -166,7 +159,7 @@ fn status(is_ended: bool, is_reported: bool, stream: Stream) -> u8
 /// reach the end, 3 where there was no memory for an update, 1 where the stream ends with a fault
 /// or a cut record, else 0. Where there is no memory for the input itself, nothing is taken,
 /// reported or noted, and the status is 3.
-pub(crate) fn report_run<R: In, W: Out, N: Out>(
+pub fn report_run<R: In, W: Out, N: Out>(
     alloc: Global,
     originators: ArrayVec<Addr, 64>,
     reader: &mut R,
