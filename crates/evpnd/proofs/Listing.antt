@@ -44,7 +44,7 @@ shorter_after s front after h =
     omega arith
 
 uncut_more : (x : ℕ) (s : List ℕ) (b : Bool) → (x == 44) ≡ b → nat_lt (position_or_len (λ y. y == 44) (x ∷ s)) (length (x ∷ s)) ≡ false
-  → (nat_lt (position_or_len (λ y. y == 44) s) (length s) ≡ false → commas s ≡ s ∷ []) → commas (x ∷ s) ≡ (x ∷ s) ∷ []
+    → (nat_lt (position_or_len (λ y. y == 44) s) (length s) ≡ false → commas s ≡ s ∷ []) → commas (x ∷ s) ≡ (x ∷ s) ∷ []
 uncut_more x s true e h rest =
     let at : nat_lt (cond (not true) (1 + position_or_len (λ y. y == 44) s) 0) (length (x ∷ s)) ≡ false = subst (λ b. nat_lt (cond (not b) (1 + position_or_len (λ y. y == 44) s) 0) (length (x ∷ s)) ≡ false) e h in
     absurd (grind (arith, nat_tests))
@@ -93,7 +93,7 @@ pub text_some : (before next : List ℕ) (text : List ℕ) (texts : List (List �
 text_some before next text texts h = go (addr_of_text text) h
   where
     go : (o : Option ℕ) → Some next ≡ option_and_then (with_originator before) o
-      → option_and_then (λ a. option_and_then (λ os. originators_from os texts) (with_originator before a)) o ≡ originators_from next texts
+        → option_and_then (λ a. option_and_then (λ os. originators_from os texts) (with_originator before a)) o ≡ originators_from next texts
     go None h = cc
     go (Some a) h = ap (option_and_then (λ os. originators_from os texts)) (sym h)
 

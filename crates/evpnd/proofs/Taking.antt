@@ -86,12 +86,18 @@ refusals_more n (Err e ∷ outcomes) o =
 
 pub takes_none : (t : Table) (input : List ℕ) (notes : End) (p : Progress) → p.count ≡ 0 → p.is_starved ≡ false → p.is_told ≡ true → TakesRecords t t input input notes notes p
 takes_none t input notes p c s q = record {
-  answers = []; outcomes = []; reads = refl; became = tt; table_is = refl; count = c; starved = s;
+  answers = [];
+  outcomes = [];
+  reads = refl;
+  became = tt;
+  table_is = refl;
+  count = c;
+  starved = s;
   told = subst (λ b. Tells notes notes true b []) (sym q) (tells_none notes);
 }
 
 pub takes_more : (t l t' : Table) (input rest : List ℕ) (notes mid notes' : End) (p p' : Progress) (n : ℕ) → TakesRecords t l input rest notes mid p → whole_of rest ≡ Length n
-  → TakesNext l t' (reading (take n rest)) mid notes' p p' → TakesRecords t t' input (drop n rest) notes notes' p'
+    → TakesNext l t' (reading (take n rest)) mid notes' p p' → TakesRecords t t' input (drop n rest) notes notes' p'
 takes_more t l t' input rest notes mid notes' p p' n h w k = record {
   answers = h.answers ++ reading (take n rest) ∷ [];
   outcomes = h.outcomes ++ k.outcome ∷ [];
@@ -101,8 +107,8 @@ takes_more t l t' input rest notes mid notes' p p' n h w k = record {
   count = k.count ∙ ap (λ x. x + 1) h.count ∙ sym (length_push h.outcomes k.outcome);
   starved = k.starved ∙ ap (λ b. b || has_starved (k.outcome ∷ [])) h.starved ∙ sym (starved_more h.outcomes k.outcome);
   told = subst (λ text. Tells notes notes' true p'.is_told text) (sym (refusals_more 1 h.outcomes k.outcome))
-    (tells_more notes mid notes' p.is_told p'.is_told (refusals_from 1 h.outcomes) (refusals_from (1 + length h.outcomes) (k.outcome ∷ [])) h.told
-    (subst (λ x. Tells mid notes' p.is_told p'.is_told (refusals_from x (k.outcome ∷ []))) number k.told));
+      (tells_more notes mid notes' p.is_told p'.is_told (refusals_from 1 h.outcomes) (refusals_from (1 + length h.outcomes) (k.outcome ∷ [])) h.told
+      (subst (λ x. Tells mid notes' p.is_told p'.is_told (refusals_from x (k.outcome ∷ []))) number k.told));
 }
   where
     number : p'.count ≡ 1 + length h.outcomes
@@ -121,8 +127,8 @@ table_of_all originators outcomes =
 
 -- the whole input
 pub takes_stream : (t t' : Table) (input rest : List ℕ) (is_ended : Bool) (notes mid notes' : End) (p : Progress) (q broken : Bool) → t ≡ fresh t.originators
-  → TakesRecords t t' input rest notes mid p → is_length (whole_of rest) ≡ false → Tells mid notes' p.is_told q (end_note is_ended (p.count + 1) rest) → broken ≡ is_broken is_ended rest
-  → TakesStream t t' input is_ended notes notes' record { is_starved = p.is_starved; is_broken = broken; is_told = q }
+    → TakesRecords t t' input rest notes mid p → is_length (whole_of rest) ≡ false → Tells mid notes' p.is_told q (end_note is_ended (p.count + 1) rest) → broken ≡ is_broken is_ended rest
+    → TakesStream t t' input is_ended notes notes' record { is_starved = p.is_starved; is_broken = broken; is_told = q }
 takes_stream t t' input rest is_ended notes mid notes' p q broken new h e k b = record {
   outcomes = h.outcomes;
   rest = rest;
@@ -133,7 +139,7 @@ takes_stream t t' input rest is_ended notes mid notes' p q broken new h e k b = 
     table_of = subst (λ x. IsTableOf (taken_of h.outcomes) x) (sym (h.table_is ∙ ap (λ x. table_after_all x h.outcomes) new)) (table_of_all t.originators h.outcomes);
   };
   told = tells_more notes mid notes' p.is_told q (refusals_from 1 h.outcomes) (end_note is_ended (length h.outcomes + 1) rest) h.told
-    (subst (λ n. Tells mid notes' p.is_told q (end_note is_ended (n + 1) rest)) h.count k);
+      (subst (λ n. Tells mid notes' p.is_told q (end_note is_ended (n + 1) rest)) h.count k);
   starved = h.starved;
   broken = b;
 }

@@ -1,5 +1,6 @@
 pub mod Notes
 pub mod Ends
 pub mod Runs
-pub mod Originators
 pub mod Progressing
+pub mod Originators
+pub mod Words

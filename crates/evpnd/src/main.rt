@@ -5,5 +5,76 @@ mod input;
 mod notes;
 mod originators;
 mod report;
+#[cfg(test)]
+mod tests;
+mod words;
 
-fn main() {}
+use crate::originators::read_originators;
+use crate::report::report_run;
+use crate::words::{Order, Refusal, order_of};
+use ether_wire::{Reader, Writer};
+use std::fmt::Display;
+use std::io;
+use std::io::Eprint;
+use std::process::ExitCode;
+
+/// The status of words that aren't the program's.
+const USAGE: u8 = 2;
+
+/// The status where memory was refused.
+const MEMORY: u8 = 3;
+
+/// The status where a device failed.
+const DEVICE: u8 = 4;
+
+fn main(rt: HostRuntime) -> ExitCode {
+    ExitCode::from(run(&rt))
+}
+
+fn run(rt: &HostRuntime) -> u8 {
+    let words = match std::env::args(rt) {
+        Ok(words) => words,
+        Err(error) => return refused_words(rt, &error),
+    };
+    let Ok(words) = words.collect::<Vec<String>>(rt.alloc()) else {
+        return MEMORY;
+    };
+    match order_of(rt.alloc(), words.as_slice()) {
+        Ok(Order::Report(list)) => run_report(rt, list),
+        Err(Refusal::NoMemory) => MEMORY,
+        Err(Refusal::Usage(error)) => usage(rt, &error),
+    }
+}
+
+/// The status of words that can't be had: there is no memory for them, or one isn't UTF-8.
+fn refused_words(rt: &HostRuntime, error: &io::Error) -> u8 {
+    if error.kind() == io::ErrorKind::OutOfMemory {
+        MEMORY
+    } else {
+        usage(rt, "error: a word isn't UTF-8\n")
+    }
+}
+
+/// Tells what is wrong with the words.
+fn usage(rt: &HostRuntime, text: impl Display + Drop) -> u8 {
+    if rt.eprint(text).is_ok() {
+        USAGE
+    } else {
+        DEVICE
+    }
+}
+
+/// Reports the records on standard input.
+fn run_report(rt: &HostRuntime, list: &str) -> u8 {
+    let Some(originators) = read_originators(list.as_bytes()) else {
+        return usage(
+            rt,
+            "error: --originators takes 1 to 64 different IPv4 addresses with commas\n",
+        );
+    };
+    let mut reader = Reader::new(rt.stdin());
+    let (stdout, stderr) = (rt.stdout(), rt.stderr());
+    let mut out = Writer::new(io::writer(&stdout));
+    let mut notes = Writer::new(io::writer(&stderr));
+    report_run(rt.alloc(), originators, &mut reader, &mut out, &mut notes)
+}

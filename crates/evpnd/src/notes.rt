@@ -62,7 +62,12 @@ pub(crate) fn is_broken(is_ended: bool, rest: &[u8]) -> bool
 
 /// Writes what ended the stream, a fault or a cut record, if one did.
 #[tactic(auto, using(crate::proofs::Appending::append_known_none))]
-pub(crate) fn put_end_note<N: Out>(notes: &mut N, is_ended: bool, number: u64, rest: &[u8]) -> Result<(), Device>
+pub(crate) fn put_end_note<N: Out>(
+    notes: &mut N,
+    is_ended: bool,
+    number: u64,
+    rest: &[u8],
+) -> Result<(), Device>
     requires { N.failed notes.old + 1 < 2 ^ 64 }
     ensures appends { OnOk result (N.written notes.new ≡ append_known (N.written notes.old) (end_note is_ended number rest.now)) }
     ensures failures { N.failed notes.new ≡ failures_after (N.failed notes.old) result }

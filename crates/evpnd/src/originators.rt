@@ -10,7 +10,10 @@ use ether_wire::{Addr, parted};
 
 /// One originator more, of at most 64 that all differ.
 #[tactic(auto, using(crate::proofs::Listing::distinct_more))]
-fn with_originator(mut originators: ArrayVec<Addr, 64>, originator: Addr) -> Option<ArrayVec<Addr, 64>>
+fn with_originator(
+    mut originators: ArrayVec<Addr, 64>,
+    originator: Addr,
+) -> Option<ArrayVec<Addr, 64>>
     requires { IsDistinct eqb originators.items }
     ensures value { option_map (λ o. o.items) result ≡ with_originator originators.items originator }
     ensures some { IfSome result (λ o. AreOriginators o.items) }

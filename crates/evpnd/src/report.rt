@@ -94,7 +94,11 @@ impl Progress {
 }
 
 /// Takes the records at the front of an input, up to a rest that holds no whole one.
-fn take_records<'a, N: Out>(table: &mut Table, input: &'a [u8], notes: &mut N) -> (Progress, &'a [u8])
+fn take_records<'a, N: Out>(
+    table: &mut Table,
+    input: &'a [u8],
+    notes: &mut N,
+) -> (Progress, &'a [u8])
     requires { N.failed notes.old + 1 < 2 ^ 64 }
     ensures taken { TakesRecords table.old table.new input.entry.now result.1.now
         record { octets = N.written notes.old; failures = N.failed notes.old }
@@ -139,11 +143,10 @@ fn status(is_ended: bool, is_reported: bool, stream: Stream) -> u8
     if !(is_ended && is_reported && stream.is_told) {
         return 4;
     }
-    match stream {
-        Stream { is_starved: true, .. } => 3,
-        Stream { is_broken: true, .. } => 1,
-        _ => 0,
+    if stream.is_starved {
+        return 3;
     }
+    if stream.is_broken { 1 } else { 0 }
 }
 
 /// Reads update records up to the reader's end, and writes the report of the table of those that
@@ -156,7 +159,13 @@ fn status(is_ended: bool, is_reported: bool, stream: Stream) -> u8
 /// reach the end, 3 where there was no memory for an update, 1 where the stream ends with a fault
 /// or a cut record, else 0. Where there is no memory for the input itself, nothing is taken,
 /// reported or noted, and the status is 3.
-pub(crate) fn report_run<R: In, W: Out, N: Out>(alloc: Global, originators: ArrayVec<Addr, 64>, reader: &mut R, out: &mut W, notes: &mut N) -> u8
+pub fn report_run<R: In, W: Out, N: Out>(
+    alloc: Global,
+    originators: ArrayVec<Addr, 64>,
+    reader: &mut R,
+    out: &mut W,
+    notes: &mut N,
+) -> u8
     requires originators { AreOriginators originators.items }
     requires reader { R.failed reader.old + 1 < 2 ^ 64 }
     requires out { W.failed out.old + 1 < 2 ^ 64 }

@@ -28,7 +28,7 @@ loop-text-preserved c =
     let items = c.loop-text.originators.items in
     record {
       value = sym (text_some items c.in_ok-originators.originators.items c.in-Some.text.now (commas c.in-Some.after.now) c.in_ok-originators.ensures.value)
-        ∙ ap (originators_from items) (sym (split_some c.loop-text.rest.now c.in-Some.text.now c.in-Some.after.now (sym c.in-Some.ensures))) ∙ c.loop-text.invariant.value;
+          ∙ ap (originators_from items) (sym (split_some c.loop-text.rest.now c.in-Some.text.now c.in-Some.after.now (sym c.in-Some.ensures))) ∙ c.loop-text.invariant.value;
       distinct = c.in_ok-originators.ensures.some.distinct;
     }
 

@@ -25,10 +25,10 @@ returns g c =
       table = table;
       gave = c.in-Ok.ensures.gave;
       taken = subst (λ (x : List ℕ). IsTaken x c.read_all.new.input.items s.outcomes s.rest table) (ap (λ (t : Table). t.originators) c.new-table.ensures)
-        (subst (λ (x : List ℕ). IsTaken c.new-table.result.originators x s.outcomes s.rest table) c.as_slice.ensures.value s.taken);
+          (subst (λ (x : List ℕ). IsTaken c.new-table.result.originators x s.outcomes s.rest table) c.as_slice.ensures.value s.taken);
       reported = put_holds out out' c.write_report.result (report_of table) c.write_report.ensures.appends c.write_report.ensures.failures;
       noted = tells_holds notes notes' c.take_stream-stream.result.is_told text s.told;
       status_is = c.status.ensures ∙ same_status ended c.is_ok-is_reported.result c.take_stream-stream.result.is_told _ _ (has_failed out out') (has_failed notes notes') _ _
-        (put_failed out out' c.write_report.result c.write_report.ensures.failures ∙ ap not (sym c.is_ok-is_reported.ensures.value))
-        (tells_failed notes notes' c.take_stream-stream.result.is_told text s.told) s.starved s.broken;
+          (put_failed out out' c.write_report.result c.write_report.ensures.failures ∙ ap not (sym c.is_ok-is_reported.ensures.value))
+          (tells_failed notes notes' c.take_stream-stream.result.is_told text s.told) s.starved s.broken;
     }

@@ -1,0 +1,11 @@
+use Rattle.std.proofs.Common.{rules, ap, ap₂, refl, codes, true, List, ◌≡◌, ◌∙◌}
+use Rattle.clap.specs.Words.{App, Text, app_of, new_app, with_subcommand}
+use Rattle.evpnd.specs.Words.{program, order_app}
+use Rattle.evpnd.proofs.words.program.Goals as goal
+
+pub returns : goal.returns
+returns c =
+    let report_is : app_of c.in_ok-report.report ≡ order_app (codes "report") (codes "originators") = c.in_ok-report.ensures.app in
+    let one = c.in_ok-command.ensures.shape c.in_ok-report.ensures.local ∙ ap₂ with_subcommand c.new.ensures.app (ap (λ (a : App). a.top) report_is) in
+    let required : app_of c.subcommand_required.result ≡ (let a = app_of c.in_ok-command.command in record a { top = record a.top { subcommand_required = true } }) = search rules in
+    required ∙ ap (λ (a : App). record a { top = record a.top { subcommand_required = true } }) one

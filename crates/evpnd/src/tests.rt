@@ -1,0 +1,6 @@
+//! Streams of records, and the reports and notes that they give.
+mod ends;
+mod lists;
+mod records;
+mod refusals;
+mod reports;
