@@ -1,5 +1,5 @@
 -- steps that follow each other, as callers see them
-use Rattle.std.proofs.Common.{ℕ, ◌+◌, ◌-◌, ◌<◌, ◌≤◌, ◌≡◌, ◌≢◌, ◌⊎◌, inl, inr, Bool, true, false, cond, eqb, Option, Some, None, List, [], ◌∷◌, ◌++◌, length, set, map, drop, refl, ap, sym, ◌∙◌, subst, arith}
+use Rattle.std.proofs.Common.{ℕ, ◌-◌, ◌≤◌, ◌≡◌, ◌≢◌, inl, inr, Bool, true, false, cond, eqb, Option, Some, None, [], ◌∷◌, ◌++◌, length, set, map, drop, refl, ap, sym, ◌∙◌, subst, arith}
 use Rattle.std.specs.Prelude.{slice_index}
 use Rattle.std.specs.Option.{option_map}
 use Rattle.std.specs.FinMap.{get, get-empty, insert, remove}
@@ -12,7 +12,7 @@ use Rattle.mac_arena.specs.declared.table.Learnt.{Learnt}
 use Rattle.mac_arena.specs.declared.table.Learnt.TheVariants.{New, Moved, Refreshed, Pinned, Full}
 use Rattle.mac_arena.specs.Station.{station_cmp}
 use Rattle.mac_arena.specs.Entry.{pinned_at, heard_at}
-use Rattle.mac_arena.specs.Learning.{Learning, nothing_learnt, left, joined_by, stations_at, place_of, entry_at, learned_of, learned_at, bucket_in, is_full, IsLatest, entered, heard, held, shifted, dropped, after_learn, after_pin, after_pin_at, after_removal, after_removal_at}
+use Rattle.mac_arena.specs.Learning.{Learning, nothing_learnt, left, joined_by, place_of, entry_at, learned_of, learned_at, bucket_in, is_full, IsLatest, entered, heard, held, shifted, dropped, after_learn, after_pin, after_pin_at, after_removal, after_removal_at}
 use Rattle.mac_arena.proofs.Entries.{same_or_other, get_here, get_there, gone_here, gone_there, insert_twice, insert_same, remove_inserted}
 
 -- who stands at a place is in the table

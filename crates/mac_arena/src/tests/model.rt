@@ -1,6 +1,6 @@
 ghost use Rattle.std.specs.Prelude.{◌<◌, ◌≤◌};
 
-use super::{station, Run, PORTS};
+use super::{PORTS, Run, station};
 use crate::{Entry, Learned, Learnt, Station};
 use std::alloc::Global;
 use std::test::Fail;
@@ -23,7 +23,9 @@ struct Plain {
 
 impl Plain {
     fn place(&self, key: &Station) -> Option<usize> {
-        self.known.iter().position(|known| known.learned.station == *key)
+        self.known
+            .iter()
+            .position(|known| known.learned.station == *key)
     }
 
     fn look(&self, key: &Station) -> Option<Entry> {
@@ -35,7 +37,15 @@ impl Plain {
         self.turn = self.turn.wrapping_add(1);
         let turn = self.turn;
         let Some(place) = self.place(key) else {
-            return self.add(key, Entry { port, last: second, pinned: false }, Learnt::New);
+            return self.add(
+                key,
+                Entry {
+                    port,
+                    last: second,
+                    pinned: false,
+                },
+                Learnt::New,
+            );
         };
         let known = self.known.get_mut(place)?;
         Some(known.hear(port, second, turn))
@@ -45,7 +55,15 @@ impl Plain {
         self.turn = self.turn.wrapping_add(1);
         let turn = self.turn;
         let Some(place) = self.place(key) else {
-            let added = self.add(key, Entry { port, last: 0, pinned: true }, Learnt::New)?;
+            let added = self.add(
+                key,
+                Entry {
+                    port,
+                    last: 0,
+                    pinned: true,
+                },
+                Learnt::New,
+            )?;
             return Some(added == Learnt::New);
         };
         let known = self.known.get_mut(place)?;
@@ -57,7 +75,14 @@ impl Plain {
         if self.known.len() >= self.capacity {
             return Some(Learnt::Full);
         }
-        let known = Known { learned: Learned { station: *station, entry }, heard: self.turn, came: self.turn };
+        let known = Known {
+            learned: Learned {
+                station: *station,
+                entry,
+            },
+            heard: self.turn,
+            came: self.turn,
+        };
         match self.known.push(known) {
             Ok(()) => Some(answer),
             Err(_refused) => None,
@@ -102,7 +127,11 @@ impl Known {
             return Learnt::Pinned;
         }
         let moved = self.learned.entry.port != port;
-        self.learned.entry = Entry { port, last: second, pinned: false };
+        self.learned.entry = Entry {
+            port,
+            last: second,
+            pinned: false,
+        };
         self.heard = turn;
         if moved {
             self.came = turn;
@@ -115,7 +144,11 @@ impl Known {
         if self.learned.entry.port != port {
             self.came = turn;
         }
-        self.learned.entry = Entry { port, last: 0, pinned: true };
+        self.learned.entry = Entry {
+            port,
+            last: 0,
+            pinned: true,
+        };
     }
 }
 
@@ -161,8 +194,12 @@ fn runs_alike(alloc: Global, capacity: usize, buckets: usize, seed: u64) -> bool
     requires some { 0 < buckets }
     requires buckets { buckets ≤ 65536 }
 {
-    let Ok(mut run) = Run::new(alloc, capacity, buckets) else { return false };
-    let Ok(known) = Vec::with_capacity(alloc, capacity) else { return false };
+    let Ok(mut run) = Run::new(alloc, capacity, buckets) else {
+        return false
+    };
+    let Ok(known) = Vec::with_capacity(alloc, capacity) else {
+        return false
+    };
     let mut plain = Plain {
         known,
         capacity,

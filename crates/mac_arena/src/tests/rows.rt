@@ -1,11 +1,14 @@
-use super::{station, Run};
+use super::{Run, station};
 use crate::{Entry, Learnt};
 use std::alloc::Global;
 use std::test::Fail;
 
 const A: u64 = 0x0200_0000_000a;
+
 const B: u64 = 0x0200_0000_000b;
+
 const C: u64 = 0x0200_0000_000c;
+
 const D: u64 = 0x0200_0000_000d;
 
 fn heard(port: u8, last: u64) -> Option<Entry> {

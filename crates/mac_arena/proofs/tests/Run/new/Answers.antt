@@ -1,4 +1,4 @@
-use Rattle.std.proofs.Common.{ap, sym, subst, ◌∙◌, length, replicate, []}
+use Rattle.std.proofs.Common.{ap, sym, subst, ◌∙◌, length, []}
 use Rattle.std.proofs.lemmas.List.{length-replicate}
 use Rattle.std.proofs.Common.{List}
 use Rattle.mac_arena.specs.declared.station.Station.{Station}
