@@ -1,6 +1,6 @@
 -- a change of one family, as callers see it
-use Rattle.std.proofs.Common.{ℕ, ◌<◌, ◌≤◌, ◌+◌, ◌≡◌, inl, inr, List, [], ◌∷◌, ◌++◌, length, map, replicate, take, get_or, set, ap, sym, ◌∙◌, arith}
-use Rattle.std.proofs.lemmas.List.{length-set, get_or-set_same, get_or-set_other, get_or-map, get_or_default, map-set, map-append, take_more, get_or_append_left}
+use Rattle.std.proofs.Common.{ℕ, ◌<◌, ◌≤◌, ◌+◌, ◌≡◌, inl, inr, List, [], ◌∷◌, ◌++◌, length, map, replicate, take, get_or, set, ap, sym, ◌∙◌, arith, zero, suc, refl}
+use Rattle.std.proofs.lemmas.List.{length-set, get_or-set_same, get_or-set_other, get_or-map, get_or_default, map-set, map-append, take_more, get_or_append_left, get_or_past}
 use Rattle.std.proofs.lemmas.Bool.{cases_lt, cases_eq}
 use Rattle.std.proofs.Math.Seq.{get_or-append_seam, map-set_same}
 use Rattle.idx_links.specs.Links.{Links}
@@ -54,3 +54,22 @@ family_more count nodes chains i wanted c new family low is kept more grown =
         | inr e ↦ (let h' : k < i = omega arith in rw (get_or-set_other chains i k new nothing e) (grown k h'))
       ],
     )
+
+-- how many lists a family has, after a change of one family that keeps its number
+pub lengths_kept : (f g : Families) (k : ℕ) (lists : List (List ℕ)) → g.families ≡ set f.families k lists → length lists ≡ length (lists_of f k) → (j : ℕ) → length (lists_of g j) ≡ length (lists_of f j)
+lengths_kept f g k lists is same j =
+    ap (λ fs. length (get_or fs j [])) is ∙ elim (cases_eq j k) [
+      | inl e ↦ rw e (go (length f.families) refl)
+      | inr e ↦ ap length (get_or-set_other f.families k j lists [] e)
+    ]
+  where
+    go : (n : ℕ) → length f.families ≡ n → length (get_or (set f.families k lists) k []) ≡ length (get_or f.families k [])
+    go n e = elim (cases_lt k (length f.families)) [
+      | inl h ↦ ap length (get_or-set_same f.families k lists [] h) ∙ same
+      | inr h ↦ (let far : length (set f.families k lists) ≤ k = rw length-set h in ap length (get_or_past (set f.families k lists) k [] far) ∙ sym (ap length (get_or_past f.families k [] h)))
+    ]
+
+pub lengths_new : (f : Families) → f.families ≡ replicate 3 [] ∷ replicate 3 [] ∷ [] → (k : ℕ) → k < 2 → length (lists_of f k) ≡ 3
+lengths_new f is zero h = ap (λ fs. length (get_or fs 0 [])) is
+lengths_new f is (suc zero) h = ap (λ fs. length (get_or fs 1 [])) is
+lengths_new f is (suc (suc k)) h = absurd (omega arith)

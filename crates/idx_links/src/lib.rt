@@ -8,3 +8,6 @@ mod chains;
 mod family;
 
 pub use family::Family;
+
+#[cfg(test)]
+mod tests;

@@ -1,14 +1,14 @@
 -- stations told apart, and the map that the nodes hold
-use Rattle.std.proofs.Common.{ℕ, zero, suc, ◌+◌, ◌-◌, ◌<◌, ◌≤◌, ◌≡◌, ◌≢◌, ◌⊎◌, inl, inr, Bool, true, false, cond, eqb, ◌&&◌, Option, Some, None, List, [], ◌∷◌, length, get_or, set, map, nat_cmp, refl, ap, sym, ◌∙◌, subst, arith}
+use Rattle.std.proofs.Common.{ℕ, zero, suc, ◌+◌, ◌-◌, ◌<◌, ◌≡◌, ◌≢◌, ◌⊎◌, inl, inr, Bool, true, false, cond, eqb, ◌&&◌, Option, Some, None, List, [], ◌∷◌, length, set, nat_cmp, refl, ap, sym, ◌∙◌, arith}
 use Rattle.std.specs.Option.{is_some}
 use Rattle.std.specs.Cmp.{IsTotalOrder, nat_cmp_total, tied_itself}
-use Rattle.std.specs.Ordering.{eq_by_cmp, is_eq}
+use Rattle.std.specs.Ordering.{is_eq}
 use Rattle.std.specs.declared.cmp.Ordering.{Ordering}
 use Rattle.std.specs.declared.cmp.Ordering.TheVariants.{Less, Equal, Greater}
-use Rattle.std.specs.FinMap.{FinMap, empty, get, insert, remove, len, IsAntisymmetric, get-empty, get-insert, get-remove, same_map, len-insert, len-remove, contains_key}
+use Rattle.std.specs.FinMap.{FinMap, get, insert, remove, len, IsAntisymmetric, get-empty, get-insert, get-remove, same_map, len-insert, len-remove}
 use Rattle.std.proofs.lemmas.Cmp.{on_total, then_total}
 use Rattle.std.proofs.lemmas.Map.Lookups.{exact_pairs, exact_unsigned}
-use Rattle.std.proofs.lemmas.List.{get_or_past, get_or-set_same, get_or-set_other, length-set}
+use Rattle.std.proofs.lemmas.List.{get_or_past, get_or-set_same, get_or-set_other}
 use Rattle.std.proofs.lemmas.Bool.{eq-eqb, cases_eq, cases_lt, false≢true}
 use Rattle.mac_arena.specs.declared.station.Station.{Station}
 use Rattle.mac_arena.specs.declared.station.Entry.{Entry}
@@ -140,9 +140,12 @@ node_of [] s e is = absurd (let none = get-empty {X = Entry} station_cmp s in cc
 node_of (None ∷ slots) s e is = let r = node_of slots s e is in (suc r.0, r.1)
 node_of (Some x ∷ slots) s e is =
     elim (same_or_other s x.station) [
-      | inl same ↦ (0, (let at : Some x.entry ≡ Some e = sym (get_here (entries_of slots) x.station x.entry) ∙ ap (get (insert (entries_of slots) x.station x.entry)) (sym same) ∙ is in
-        let same_entry : x.entry ≡ e = cc in
-        λ i. Some (record { station = sym same i; entry = same_entry i })))
+      | inl same ↦ (
+        0,
+        (let at : Some x.entry ≡ Some e = sym (get_here (entries_of slots) x.station x.entry) ∙ ap (get (insert (entries_of slots) x.station x.entry)) (sym same) ∙ is in
+            let same_entry : x.entry ≡ e = cc in
+            λ i. Some (record { station = sym same i; entry = same_entry i })),
+      )
       | inr ne ↦ (let r = node_of slots s e (sym (get_there (entries_of slots) x.station x.entry s ne) ∙ is) in (suc r.0, r.1))
     ]
 

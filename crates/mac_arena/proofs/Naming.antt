@@ -1,5 +1,5 @@
 -- the lists of stations name the table's stations, since the lists of nodes do
-use Rattle.std.proofs.Common.{ℕ, zero, suc, ◌+◌, ◌-◌, ◌<◌, ◌≤◌, ◌≡◌, ◌≢◌, ◌⊎◌, inl, inr, Bool, true, false, not, cond, eqb, ◌||◌, ◌&&◌, Option, Some, None, List, [], ◌∷◌, length, get_or, map, refl, ap, sym, ◌∙◌, subst, arith}
+use Rattle.std.proofs.Common.{ℕ, ◌+◌, ◌≤◌, ◌≡◌, ◌≢◌, inl, inr, Bool, true, false, eqb, ◌&&◌, Option, Some, None, List, [], ◌∷◌, length, get_or, map, refl, ap, sym, ◌∙◌, subst}
 use Rattle.std.specs.Prelude.{nat_lt, is_some, is_none}
 use Rattle.std.specs.Option.{option_map}
 use Rattle.std.specs.FinMap.{get}
@@ -11,12 +11,12 @@ use Rattle.mac_arena.specs.declared.station.Entry.{Entry}
 use Rattle.mac_arena.specs.declared.station.Learned.{Learned}
 use Rattle.mac_arena.specs.Station.{is_same, bucket_of}
 use Rattle.mac_arena.specs.Orders.{Orders}
-use Rattle.mac_arena.specs.Learning.{Learning, entry_at, bucket_in, stations_at}
+use Rattle.mac_arena.specs.Learning.{Learning}
 use Rattle.mac_arena.specs.Nodes.{slot_at, station_of, station_in, last_of, entries_of, learning_of, in_chain, in_port, in_ageing, NeverFalls, IsTable}
 use Rattle.mac_arena.specs.ListsName.{stands, AreOnce, is_on, ages, last_at, Rises, ListsName}
-use Rattle.mac_arena.proofs.Entries.{Slots, eq_same, ne_same, same_true, entry_is, node_of, slot_below}
+use Rattle.mac_arena.proofs.Entries.{Slots, eq_same, ne_same, same_true, entry_is, node_of}
 use Rattle.mac_arena.proofs.Steps.{IsOnly, stations_of, places_of}
-use Rattle.mac_arena.proofs.Tables.{Found, slot_seen, stands_nowhere, only_one, ageing_used, ports_used, chains_used}
+use Rattle.mac_arena.proofs.Tables.{Found, stands_nowhere, only_one, ageing_used, ports_used, chains_used}
 
 stands_is : (f : ℕ → Station) (xs : List ℕ) (n : ℕ) → IsOnly f n xs → stands (map f xs) (f n) ≡ has xs n
 stands_is f [] n only = refl
@@ -33,9 +33,10 @@ stands_none f (x ∷ xs) s off = rw (ne_same (f x) s (off x (rw (eq-eqb x x refl
 
 once : (f : ℕ → Station) (xs : List ℕ) → Apart xs → ((n : ℕ) → has xs n ≡ true → IsOnly f n xs) → AreOnce (map f xs)
 once f [] apart only = tt
-once f (x ∷ xs) apart only =
-    (stands_is f xs x (λ m on. only x (rw (eq-eqb x x refl) refl) m (or_right (eqb x m) (has xs m) on)) ∙ apart.0,
-      once f xs apart.1 (λ n on m on'. only n (or_right (eqb x n) (has xs n) on) m (or_right (eqb x m) (has xs m) on')))
+once f (x ∷ xs) apart only = (
+  stands_is f xs x (λ m on. only x (rw (eq-eqb x x refl) refl) m (or_right (eqb x m) (has xs m) on)) ∙ apart.0,
+  once f xs apart.1 (λ n on m on'. only n (or_right (eqb x n) (has xs n) on) m (or_right (eqb x m) (has xs m) on')),
+)
 
 -- a station that stands on the list of stations is that of a node on the list
 from_stands : (f : ℕ → Station) (xs : List ℕ) (s : Station) → stands (map f xs) s ≡ true → (m : ℕ) × (has xs m ≡ true) × (f m ≡ s)
@@ -57,8 +58,8 @@ module _ {o : Orders} {slots : Slots} {count buckets salt : ℕ} (t : IsTable o 
     where
       go : (a : Option Entry) → get (entries_of slots) s ≡ a → stands (map (station_in slots) xs) s ≡ G (get (entries_of slots) s) s
       go None e = stands_none (station_in slots) xs s (λ m on is.
-            let y = used m on in
-            stands_nowhere slots s t.alone e m y.0 y.1 (ap station_of (sym y.1) ∙ is))
+          let y = used m on in
+          stands_nowhere slots s t.alone e m y.0 y.1 (ap station_of (sym y.1) ∙ is))
           ∙ sym (ap (λ a. G a s) e ∙ G_none s)
       go (Some a) e =
           let at = node_of slots s a e in
@@ -76,13 +77,14 @@ module _ {o : Orders} {slots : Slots} {count buckets salt : ℕ} (t : IsTable o 
   rises_listed [] used h = tt
   rises_listed (x ∷ xs) used h =
       let used' : (m : ℕ) → has xs m ≡ true → (y : Learned) × (slot_at slots m ≡ Some y) = λ m on. used m (or_right (eqb x m) (has xs m) on) in
-      let first = used x (rw (eq-eqb x x refl) refl) in
-      (λ s on.
-        (let r = from_stands (station_in slots) xs s on in
-        let y = used' r.0 r.1 in
-        let low = h.0 r.0 r.1 in
-        rw (last_seen x first.0 first.1, ap (λ q. last_at (get (entries_of slots) q)) (sym r.2) ∙ last_seen r.0 y.0 y.1) low),
-        rises_listed xs used' h.1)
+      let first = used x (rw (eq-eqb x x refl) refl) in (
+        λ s on.
+            (let r = from_stands (station_in slots) xs s on in
+            let y = used' r.0 r.1 in
+            let low = h.0 r.0 r.1 in
+            rw (last_seen x first.0 first.1, ap (λ q. last_at (get (entries_of slots) q)) (sym r.2) ∙ last_seen r.0 y.0 y.1) low),
+        rises_listed xs used' h.1,
+      )
 
   place_seen : (n : ℕ) → get_or (places_of slots) n None ≡ option_map (λ (x : Learned). x.station) (slot_at slots n)
   place_seen n = elim (cases_lt n (length slots)) [
@@ -108,7 +110,7 @@ module _ {o : Orders} {slots : Slots} {count buckets salt : ℕ} (t : IsTable o 
   names_lists = record {
     chains = λ b s. ap (λ xs. stands xs s) (stations_of (station_in slots) o.chains b)
         ∙ listed (λ v. in_chain buckets salt v b) (list_at o.chains b) refl (t.chained b) (chains_used t b)
-            (λ a s. is_some a && eqb (bucket_of buckets salt s) b) (λ s. refl) (λ s e. refl) s
+        (λ a s. is_some a && eqb (bucket_of buckets salt s) b) (λ s. refl) (λ s e. refl) s
         ∙ ap (λ k. is_some (get (entries_of slots) s) && eqb (bucket_of k salt s) b) (sym (length-map o.chains (map (station_in slots)) ∙ t.buckets_are));
     chains_once = λ b. subst AreOnce (sym (stations_of (station_in slots) o.chains b)) (once_listed (list_at o.chains b) (t.chains_apart b) (chains_used t b));
     ports = λ l s. ap (λ xs. stands xs s) (stations_of (station_in slots) o.ports l)

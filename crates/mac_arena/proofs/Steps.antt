@@ -1,19 +1,16 @@
 -- lists of nodes, and what they say, after one node changes
-use Rattle.std.proofs.Common.{ℕ, zero, suc, ◌+◌, ◌-◌, ◌<◌, ◌≤◌, ◌≡◌, ◌≢◌, ◌⊎◌, inl, inr, Bool, true, false, not, cond, eqb, ◌||◌, ◌&&◌, Option, Some, None, List, [], ◌∷◌, ◌++◌, length, get_or, set, map, drop, slice_get, refl, ap, sym, ◌∙◌, subst, arith}
-use Rattle.std.specs.Prelude.{nat_lt, is_some, is_none, count_by, slice_index}
+use Rattle.std.proofs.Common.{ℕ, zero, suc, ◌+◌, ◌<◌, ◌≤◌, ◌≡◌, ◌≢◌, inl, inr, Bool, true, false, cond, eqb, ◌||◌, ◌&&◌, Option, Some, None, List, [], ◌∷◌, ◌++◌, length, set, map, drop, slice_get, refl, ap, sym, ◌∙◌, subst, arith}
+use Rattle.std.specs.Prelude.{is_some, count_by, slice_index}
 use Rattle.std.specs.Option.{option_map}
-use Rattle.std.proofs.lemmas.List.{get_or_past, get_or-set_same, get_or-set_other, length-set, length-map, get_or-map, map-set, map-append}
+use Rattle.std.proofs.lemmas.List.{get_or-set_same, get_or-set_other, length-map, map-set, map-append}
 use Rattle.std.proofs.lemmas.List.Sums.{sum_by-set}
-use Rattle.std.proofs.lemmas.Bool.{cases_eq, cases_lt, eq-eqb, ne_eqb, false≢true, or_right}
-use Rattle.std.proofs.lemmas.Bool.Decides.{nat_tests}
+use Rattle.std.proofs.lemmas.Bool.{cases_eq, eq-eqb, ne_eqb, false≢true, or_right}
 use Rattle.idx_links.specs.Links.{has, without, Apart, list_at}
-use Rattle.idx_links.proofs.Paths.{has-append, has-without, apart-push, apart-without, without-absent}
+use Rattle.idx_links.proofs.Paths.{has-append, has-without, apart-push, apart-without}
 use Rattle.mac_arena.specs.declared.station.Station.{Station}
-use Rattle.mac_arena.specs.declared.station.Entry.{Entry}
 use Rattle.mac_arena.specs.declared.station.Learned.{Learned}
-use Rattle.mac_arena.specs.Station.{is_same}
 use Rattle.mac_arena.specs.Orders.{joined}
-use Rattle.mac_arena.specs.Learning.{left, joined_by, stations_at, is_at, place_of}
+use Rattle.mac_arena.specs.Learning.{left, joined_by, stations_at, place_of}
 use Rattle.mac_arena.specs.Nodes.{slot_at, station_of, station_in, last_of, NeverFalls}
 use Rattle.mac_arena.proofs.Entries.{Slots, AreAlone, IsOff, eq_same, ne_same, slot_here, slot_there, slot_below}
 
@@ -136,18 +133,20 @@ falls-without slots (x ∷ xs) n h = elim (cases_eq x n) as (λ _. NeverFalls sl
 
 pub falls-same : (slots slots' : Slots) (xs : List ℕ) → NeverFalls slots xs → ((m : ℕ) → has xs m ≡ true → last_of (slot_at slots' m) ≡ last_of (slot_at slots m)) → NeverFalls slots' xs
 falls-same slots slots' [] h same = tt
-falls-same slots slots' (x ∷ xs) h same =
-    (λ m on. rw (same x (rw (eq-eqb x x refl) refl), same m (or_right (eqb x m) (has xs m) on)) (h.0 m on),
-      falls-same slots slots' xs h.1 (λ m on. same m (or_right (eqb x m) (has xs m) on)))
+falls-same slots slots' (x ∷ xs) h same = (
+  λ m on. rw (same x (rw (eq-eqb x x refl) refl), same m (or_right (eqb x m) (has xs m) on)) (h.0 m on),
+  falls-same slots slots' xs h.1 (λ m on. same m (or_right (eqb x m) (has xs m) on)),
+)
 
 pub falls-push : (slots : Slots) (xs : List ℕ) (n : ℕ) → NeverFalls slots xs → ((m : ℕ) → has xs m ≡ true → last_of (slot_at slots m) ≤ last_of (slot_at slots n)) → NeverFalls slots (xs ++ n ∷ [])
 falls-push slots [] n h low = (λ m on. absurd (false≢true on), tt)
-falls-push slots (x ∷ xs) n h low =
-    (λ m on. elim (cases_eq n m) [
-      | inl e ↦ rw (sym e) (low x (rw (eq-eqb x x refl) refl))
-      | inr e ↦ h.0 m (let on' : (eqb n m || has xs m) ≡ true = sym (has-end xs n m) ∙ on in ap (λ b. b || has xs m) (sym (ne_eqb n m e)) ∙ on')
-    ],
-      falls-push slots xs n h.1 (λ m on. low m (or_right (eqb x m) (has xs m) on)))
+falls-push slots (x ∷ xs) n h low = (
+  λ m on. elim (cases_eq n m) [
+    | inl e ↦ rw (sym e) (low x (rw (eq-eqb x x refl) refl))
+    | inr e ↦ h.0 m (let on' : (eqb n m || has xs m) ≡ true = sym (has-end xs n m) ∙ on in ap (λ b. b || has xs m) (sym (ne_eqb n m e)) ∙ on')
+  ],
+  falls-push slots xs n h.1 (λ m on. low m (or_right (eqb x m) (has xs m) on)),
+)
 
 -- ---- lists of nodes as lists of stations
 
@@ -244,11 +243,11 @@ alone_new slots n x h alone off i j y z at_i at_j same =
       | inl e ↦ elim (cases_eq j n) [
         | inl e' ↦ e ∙ sym e'
         | inr e' ↦ absurd (let is : Some x ≡ Some y = sym (slot_here slots n (Some x) h) ∙ ap (slot_at (set slots n (Some x))) (sym e) ∙ at_i in let x_y : x ≡ y = cc in
-          off j e' z (sym (slot_there slots n j (Some x) e') ∙ at_j) (sym same ∙ ap (λ (w : Learned). w.station) (sym x_y)))
+            off j e' z (sym (slot_there slots n j (Some x) e') ∙ at_j) (sym same ∙ ap (λ (w : Learned). w.station) (sym x_y)))
       ]
       | inr e ↦ elim (cases_eq j n) [
         | inl e' ↦ absurd (let is : Some x ≡ Some z = sym (slot_here slots n (Some x) h) ∙ ap (slot_at (set slots n (Some x))) (sym e') ∙ at_j in let x_z : x ≡ z = cc in
-          off i e y (sym (slot_there slots n i (Some x) e) ∙ at_i) (same ∙ ap (λ (w : Learned). w.station) (sym x_z)))
+            off i e y (sym (slot_there slots n i (Some x) e) ∙ at_i) (same ∙ ap (λ (w : Learned). w.station) (sym x_z)))
         | inr e' ↦ alone i j y z (sym (slot_there slots n i (Some x) e) ∙ at_i) (sym (slot_there slots n j (Some x) e') ∙ at_j) same
       ]
     ]

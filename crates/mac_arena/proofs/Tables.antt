@@ -1,12 +1,12 @@
 -- the table's invariant and what callers see, after each step on one node
-use Rattle.std.proofs.Common.{ℕ, zero, suc, ◌+◌, ◌-◌, ◌<◌, ◌≤◌, ◌≡◌, ◌≢◌, ◌⊎◌, inl, inr, Bool, true, false, not, cond, eqb, ◌||◌, ◌&&◌, Option, Some, None, List, [], ◌∷◌, ◌++◌, length, get_or, set, map, drop, replicate, slice_get, refl, ap, sym, ◌∙◌, subst, arith}
-use Rattle.std.specs.Prelude.{nat_lt, nat_le, IfSome, IfNone, is_some, is_none, count_by, slice_index, slice_index_or}
+use Rattle.std.proofs.Common.{ℕ, zero, suc, ◌+◌, ◌-◌, ◌<◌, ◌≤◌, ◌≡◌, ◌≢◌, inl, inr, Bool, true, false, not, cond, eqb, ◌||◌, ◌&&◌, Option, Some, None, List, [], ◌∷◌, ◌++◌, length, get_or, set, map, drop, replicate, slice_get, refl, ap, sym, ◌∙◌, subst, arith}
+use Rattle.std.specs.Prelude.{nat_lt, nat_le, IfSome, IfNone, is_some, is_none, count_by}
 use Rattle.std.specs.List.{range_with_len}
 use Rattle.std.specs.Option.{option_map}
-use Rattle.std.specs.FinMap.{FinMap, empty, get, insert, remove, len, len-empty, get-empty}
+use Rattle.std.specs.FinMap.{empty, get, insert, len, len-empty}
 use Rattle.std.proofs.Math.Seq.{map-set_same}
 use Rattle.std.proofs.lemmas.List.{get_or_past, get_or_default, get_or-replicate, length-replicate, length-set, get_or-map, map-append, length-map}
-use Rattle.std.proofs.lemmas.Bool.{cases_eq, cases_lt, eq-eqb, eqb-true, ne_eqb, false≢true, or_right}
+use Rattle.std.proofs.lemmas.Bool.{cases_eq, cases_lt, eq-eqb, ne_eqb, false≢true}
 use Rattle.std.proofs.lemmas.Option.{slice_get-map}
 use Rattle.std.proofs.lemmas.List.Sums.{count_by-le-length, sum_by-cons}
 use Rattle.std.proofs.lemmas.Bool.Decides.{nat_tests}
@@ -15,11 +15,11 @@ use Rattle.idx_links.proofs.Paths.{has-at, has-without, apart-push, apart-withou
 use Rattle.mac_arena.specs.declared.station.Station.{Station}
 use Rattle.mac_arena.specs.declared.station.Entry.{Entry}
 use Rattle.mac_arena.specs.declared.station.Learned.{Learned}
-use Rattle.mac_arena.specs.Station.{station_cmp, is_same, bucket_of}
+use Rattle.mac_arena.specs.Station.{station_cmp, bucket_of}
 use Rattle.mac_arena.specs.Orders.{Orders, joined}
 use Rattle.mac_arena.specs.Learning.{Learning, nothing_learnt, bucket_in, left, joined_by, stations_at, place_of, entry_at, is_full, is_pinned, first_unpinned, learned_of, learned_at, IsLatest, entered, heard, held, shifted, dropped}
 use Rattle.mac_arena.specs.Entry.{pinned_at, heard_at}
-use Rattle.mac_arena.specs.Nodes.{slot_at, station_of, station_in, last_of, entries_of, learning_of, in_chain, in_port, in_ageing, NeverFalls, IsTable}
+use Rattle.mac_arena.specs.Nodes.{slot_at, station_of, station_in, last_of, entries_of, learning_of, in_chain, in_port, in_ageing, IsTable}
 use Rattle.mac_arena.proofs.Entries.{Slots, AreAlone, IsOff, slot_here, slot_there, slot_below, node_of, entry_is, entries_set, entries_unset, len_new, len_known, len_gone}
 use Rattle.mac_arena.proofs.Steps.{has-end, has-taken, Name, names_kept, names_joined, names_taken, names_rejoined, apart-taken, apart-joined, falls-without, falls-same, falls-push, list_kept, lists_kept, list_same, lists_same, lists_joined, stations_of, list_left, lists_left, IsOnly, places_of, places_set, place_alone, first_out, alone_new, alone_same, alone_less, count_set}
 
@@ -29,7 +29,7 @@ pub slot_seen : (o : Orders) (slots : Slots) (salt : ℕ) → AreAlone slots →
 slot_seen o slots salt alone n = elim (cases_lt n (length slots)) [
   | inl h ↦ ap (learned_of (learning_of o slots salt)) (get_or-map (option_map (λ (x : Learned). x.station)) slots n None None h) ∙ go (slot_at slots n) refl
   | inr h ↦ (let far : length (places_of slots) ≤ n = rw length-map h in
-    ap (learned_of (learning_of o slots salt)) (get_or_past (places_of slots) n None far) ∙ sym (get_or_past slots n None h))
+      ap (learned_of (learning_of o slots salt)) (get_or_past (places_of slots) n None far) ∙ sym (get_or_past slots n None h))
 ]
   where
     go : (v : Option Learned) → slot_at slots n ≡ v → learned_of (learning_of o slots salt) (option_map (λ (x : Learned). x.station) v) ≡ v
@@ -124,16 +124,16 @@ module _ {o : Orders} {slots : Slots} {count buckets salt : ℕ} (t : IsTable o 
   pub timeless_kept : (e.pinned ≡ true → e.last ≡ 0) → (m : ℕ) (x : Learned) → slot_at slots' m ≡ Some x → x.entry.pinned ≡ true → x.entry.last ≡ 0
   timeless_kept time m x at pinned = elim (cases_eq m n) [
     | inl s ↦ (let same : Some changed ≡ Some x = sym (slot_here slots n (Some changed) low) ∙ ap (slot_at slots') (sym s) ∙ at in
-      let x_is : changed ≡ x = cc in
-      ap (λ (w : Learned). w.entry.last) (sym x_is) ∙ time (ap (λ (w : Learned). w.entry.pinned) x_is ∙ pinned))
+        let x_is : changed ≡ x = cc in
+        ap (λ (w : Learned). w.entry.last) (sym x_is) ∙ time (ap (λ (w : Learned). w.entry.pinned) x_is ∙ pinned))
     | inr s ↦ t.timeless m x (sym (slot_there slots n m (Some changed) s) ∙ at) pinned
   ]
 
   pub based_kept : 0 < e.port → (m : ℕ) (x : Learned) → slot_at slots' m ≡ Some x → 0 < x.entry.port
   based_kept some m x at = elim (cases_eq m n) [
     | inl s ↦ (let same : Some changed ≡ Some x = sym (slot_here slots n (Some changed) low) ∙ ap (slot_at slots') (sym s) ∙ at in
-      let x_is : changed ≡ x = cc in
-      let P : Learned → Type 0 = λ w. 0 < w.entry.port in subst P x_is some)
+        let x_is : changed ≡ x = cc in
+        let P : Learned → Type 0 = λ w. 0 < w.entry.port in subst P x_is some)
     | inr s ↦ t.based m x (sym (slot_there slots n m (Some changed) s) ∙ at)
   ]
 
@@ -304,7 +304,7 @@ shifted_table {o} {slots} {count} {buckets} {salt} t n a is port some there =
       timeless = timeless_kept t n a is e (λ p. t.timeless n a is p);
       based = based_kept t n a is e some;
       rising = falls-same slots slots' o.ageing t.rising (λ m on. elim (cases_eq m n) [
-        | inl s ↦ ap (λ z. last_of (slot_at slots' z)) s ∙ ap last_of (slot_here slots n (Some x) h ) ∙ ap last_of (sym is) ∙ ap (λ z. last_of (slot_at slots z)) (sym s)
+        | inl s ↦ ap (λ z. last_of (slot_at slots' z)) s ∙ ap last_of (slot_here slots n (Some x) h) ∙ ap last_of (sym is) ∙ ap (λ z. last_of (slot_at slots z)) (sym s)
         | inr s ↦ last_there t n a is e m s
       ]);
       counted = counted_kept t n a is e;
@@ -320,7 +320,7 @@ shifted_seen {o} {slots} {count} {buckets} {salt} t n a is port =
     let entries = entries_changed t n a is e in
     let ages = list_same slots o.ageing n a x is refl in
     let ports = lists_same slots (joined (port - 1) n (map (without n) o.ports)) n a x is refl ∙ lists_joined (station_in slots) (map (without n) o.ports) (port - 1) n
-        ∙ (λ i. joined_by (port - 1) (station_of (is i)) (ports_left t n a is i)) in
+    ∙ (λ i. joined_by (port - 1) (station_of (is i)) (ports_left t n a is i)) in
     let chains = lists_same slots o.chains n a x is refl in
     let places = places_kept t n a is e in
     λ i. record { entries = entries i; ageing = ages i; ports = ports i; chains = chains i; places = places i; free = o.free; salt = salt }
@@ -418,38 +418,40 @@ dropped_table {o} {slots} {count} {buckets} {salt} t n a is pinned =
     let used : has o.free n ≡ false = (in_use t n a is).2 in
     let change = count_set slots n None h in
     let was : ◌≡◌ {A = ℕ} (cond (is_some (slot_at slots n)) 1 0) 1 = ap (λ (v : Option Learned). cond (is_some v) 1 0) is in
-    let all = t.filled in
-    (omega (arith, change, was, all), record {
-      nodes = t.nodes ∙ sym (length-set slots n None);
-      buckets_are = length-map o.chains (without n) ∙ t.buckets_are;
-      some_bucket = t.some_bucket;
-      chained = names_taken (in_chain buckets salt) slots o.chains n None h t.chains_apart t.chained (λ k. refl);
-      ported = names_taken in_port slots o.ports n None h t.ports_apart t.ported (λ k. refl);
-      aged = λ m. t.aged m ∙ elim (cases_eq m n) [
-        | inl r ↦ rw (r, slot_here slots n None h, is, pinned) refl
-        | inr r ↦ ap in_ageing (sym (slot_there slots n m None r))
-      ];
-      freed = λ m. has-end o.free n m ∙ elim (cases_eq m n) as (λ _. (eqb n m || has o.free m) ≡ (nat_lt m (length slots') && is_none (slot_at slots' m))) [
-        | inl r ↦ rw (r, eq-eqb n n refl, slot_here slots n None h, length-set slots n None, is_below n (length slots) h) refl
-        | inr r ↦ rw (ne_eqb n m (λ z. r (sym z)), slot_there slots n m None r, length-set slots n None) (t.freed m)
-      ];
-      chains_apart = apart-taken o.chains n t.chains_apart;
-      ports_apart = apart-taken o.ports n t.ports_apart;
-      ageing_apart = t.ageing_apart;
-      free_apart = apart-push o.free n t.free_apart used;
-      alone = alone_less slots n h t.alone;
-      timeless = λ m y at p. elim (cases_eq m n) [
-        | inl r ↦ absurd (let bad : None ≡ Some y = sym (slot_here slots n None h) ∙ ap (slot_at slots') (sym r) ∙ at in cc)
-        | inr r ↦ t.timeless m y (sym (slot_there slots n m None r) ∙ at) p
-      ];
-      based = λ m y at. elim (cases_eq m n) [
-        | inl r ↦ absurd (let bad : None ≡ Some y = sym (slot_here slots n None h) ∙ ap (slot_at slots') (sym r) ∙ at in cc)
-        | inr r ↦ t.based m y (sym (slot_there slots n m None r) ∙ at)
-      ];
-      rising = falls-same slots slots' o.ageing t.rising (λ m on. ap last_of (slot_there slots n m None (λ r. false≢true (sym off ∙ ap (has o.ageing) (sym r) ∙ on))));
-      counted = (let entries = ap len (entries_unset slots n a t.alone is) ∙ len_gone (entries_of slots) a.station a.entry (entry_is slots t.alone n a is) in let had = t.counted in omega (arith, entries, had));
-      filled = omega (arith, change, was, all);
-    })
+    let all = t.filled in (
+      omega (arith, change, was, all),
+      record {
+        nodes = t.nodes ∙ sym (length-set slots n None);
+        buckets_are = length-map o.chains (without n) ∙ t.buckets_are;
+        some_bucket = t.some_bucket;
+        chained = names_taken (in_chain buckets salt) slots o.chains n None h t.chains_apart t.chained (λ k. refl);
+        ported = names_taken in_port slots o.ports n None h t.ports_apart t.ported (λ k. refl);
+        aged = λ m. t.aged m ∙ elim (cases_eq m n) [
+          | inl r ↦ rw (r, slot_here slots n None h, is, pinned) refl
+          | inr r ↦ ap in_ageing (sym (slot_there slots n m None r))
+        ];
+        freed = λ m. has-end o.free n m ∙ elim (cases_eq m n) as (λ _. (eqb n m || has o.free m) ≡ (nat_lt m (length slots') && is_none (slot_at slots' m))) [
+          | inl r ↦ rw (r, eq-eqb n n refl, slot_here slots n None h, length-set slots n None, is_below n (length slots) h) refl
+          | inr r ↦ rw (ne_eqb n m (λ z. r (sym z)), slot_there slots n m None r, length-set slots n None) (t.freed m)
+        ];
+        chains_apart = apart-taken o.chains n t.chains_apart;
+        ports_apart = apart-taken o.ports n t.ports_apart;
+        ageing_apart = t.ageing_apart;
+        free_apart = apart-push o.free n t.free_apart used;
+        alone = alone_less slots n h t.alone;
+        timeless = λ m y at p. elim (cases_eq m n) [
+          | inl r ↦ absurd (let bad : None ≡ Some y = sym (slot_here slots n None h) ∙ ap (slot_at slots') (sym r) ∙ at in cc)
+          | inr r ↦ t.timeless m y (sym (slot_there slots n m None r) ∙ at) p
+        ];
+        based = λ m y at. elim (cases_eq m n) [
+          | inl r ↦ absurd (let bad : None ≡ Some y = sym (slot_here slots n None h) ∙ ap (slot_at slots') (sym r) ∙ at in cc)
+          | inr r ↦ t.based m y (sym (slot_there slots n m None r) ∙ at)
+        ];
+        rising = falls-same slots slots' o.ageing t.rising (λ m on. ap last_of (slot_there slots n m None (λ r. false≢true (sym off ∙ ap (has o.ageing) (sym r) ∙ on))));
+        counted = (let entries = ap len (entries_unset slots n a t.alone is) ∙ len_gone (entries_of slots) a.station a.entry (entry_is slots t.alone n a is) in let had = t.counted in omega (arith, entries, had));
+        filled = omega (arith, change, was, all);
+      },
+    )
 
 pub dropped_seen : {o : Orders} {slots : Slots} {count buckets salt : ℕ} (t : IsTable o slots count buckets salt) (n : ℕ) (a : Learned) (is : slot_at slots n ≡ Some a) → a.entry.pinned ≡ true
     → learning_of (record { nodes = o.nodes; chains = map (without n) o.chains; ports = map (without n) o.ports; ageing = o.ageing; free = o.free ++ n ∷ [] }) (set slots n None) salt
@@ -661,11 +663,11 @@ not_there {o} {slots} {count} {buckets} {salt} {v} found s i passed past = ap (�
     go : (e : Option Entry) → get (entries_of slots) s ≡ e → get (entries_of slots) s ≡ None
     go None e = e
     go (Some a) e = absurd (
-      let at = node_of slots s a e in
-      let x : Learned = record { station = s; entry = a } in
-      let place = has_place (list_at o.chains (bucket_of buckets salt s)) at.0 (in_use found.table at.0 x at.1).0 in
-      let low = place.1 in
-      passed place.0 at.0 (omega (arith, low, past)) place.2 x at.1 refl)
+        let at = node_of slots s a e in
+        let x : Learned = record { station = s; entry = a } in
+        let place = has_place (list_at o.chains (bucket_of buckets salt s)) at.0 (in_use found.table at.0 x at.1).0 in
+        let low = place.1 in
+        passed place.0 at.0 (omega (arith, low, past)) place.2 x at.1 refl)
 
 pub list_used : (slots : Slots) (xs : List ℕ) (i n : ℕ) → ((m : ℕ) → has xs m ≡ true → (y : Learned) × (slot_at slots m ≡ Some y)) → slice_get xs i ≡ Some n → (y : Learned) × (slot_at slots n ≡ Some y)
 list_used slots xs i n used at = used n (has-at xs i n at)

@@ -1,16 +1,19 @@
 -- steps that follow each other, as callers see them
-use Rattle.std.proofs.Common.{ℕ, ◌+◌, ◌-◌, ◌<◌, ◌≤◌, ◌≡◌, ◌≢◌, ◌⊎◌, inl, inr, Bool, true, false, cond, eqb, Option, Some, None, List, [], ◌∷◌, ◌++◌, length, set, map, drop, refl, ap, sym, ◌∙◌, subst, arith}
+use Rattle.std.proofs.Common.{ℕ, ◌-◌, ◌≤◌, ◌≡◌, ◌≢◌, inl, inr, Bool, true, false, cond, eqb, Option, Some, None, [], ◌∷◌, ◌++◌, length, set, map, drop, refl, ap, sym, ◌∙◌, subst, arith}
 use Rattle.std.specs.Prelude.{slice_index}
 use Rattle.std.specs.Option.{option_map}
-use Rattle.std.specs.FinMap.{get, insert, remove}
+use Rattle.std.specs.FinMap.{get, get-empty, insert, remove}
 use Rattle.std.proofs.lemmas.Bool.{eq-eqb, ne_eqb}
 use Rattle.mac_arena.specs.declared.station.Station.{Station}
 use Rattle.mac_arena.specs.declared.station.Entry.{Entry}
 use Rattle.mac_arena.specs.declared.station.Learned.{Learned}
-use Rattle.mac_arena.specs.declared.table.Learnt.TheVariants.{New, Moved, Refreshed}
+use Rattle.std.proofs.lemmas.List.{length-set, length-map}
+use Rattle.mac_arena.specs.declared.table.Learnt.{Learnt}
+use Rattle.mac_arena.specs.declared.table.Learnt.TheVariants.{New, Moved, Refreshed, Pinned, Full}
+use Rattle.mac_arena.specs.Station.{station_cmp}
 use Rattle.mac_arena.specs.Entry.{pinned_at, heard_at}
-use Rattle.mac_arena.specs.Learning.{Learning, left, joined_by, stations_at, place_of, entry_at, learned_of, learned_at, bucket_in, IsLatest, entered, heard, held, shifted, dropped, after_learn, after_pin, after_pin_at, after_removal, after_removal_at}
-use Rattle.mac_arena.proofs.Entries.{same_or_other, get_here, get_there, insert_twice, insert_same, remove_inserted}
+use Rattle.mac_arena.specs.Learning.{Learning, nothing_learnt, left, joined_by, place_of, entry_at, learned_of, learned_at, bucket_in, is_full, IsLatest, entered, heard, held, shifted, dropped, after_learn, after_pin, after_pin_at, after_removal, after_removal_at}
+use Rattle.mac_arena.proofs.Entries.{same_or_other, get_here, get_there, gone_here, gone_there, insert_twice, insert_same, remove_inserted}
 
 -- who stands at a place is in the table
 learned_known : (t : Learning) (p : Option Station) (x : Learned) → learned_of t p ≡ Some x → entry_at t x.station ≡ Some x.entry
@@ -119,3 +122,98 @@ pub held_goes : (t : Learning) (s : Station) (e : Entry) → entry_at t s ≡ So
 held_goes t s e known =
     (λ i. record { entries = remove_inserted t.entries s (pinned_at e.port) i; ageing = left s t.ageing; ports = map (left s) t.ports; chains = map (left s) t.chains; places = set t.places (place_of t.places s) None; free = t.free ++ place_of t.places s ∷ []; salt = t.salt })
     ∙ ap (after_removal_at t s) (sym known)
+
+-- ---- what each call keeps, for its callers
+
+latest_less : (t t' : Learning) (s : Station) (second : ℕ) → IsLatest t second → t'.entries ≡ remove t.entries s → IsLatest t' second
+latest_less t t' s second latest is q a at =
+    let at' : get (remove t.entries s) q ≡ Some a = ap (λ m. get m q) (sym is) ∙ at in
+    elim (same_or_other q s) [
+      | inl same ↦ absurd (let bad : None ≡ Some a = sym (gone_here t.entries s) ∙ ap (get (remove t.entries s)) (sym same) ∙ at' in cc)
+      | inr ne ↦ latest q a (sym (gone_there t.entries s q ne) ∙ at')
+    ]
+
+pub latest_learn : (t : Learning) (s : Station) (port second : ℕ) (answer : Learnt) → IsLatest t second → IsLatest (after_learn t s port second answer) second
+latest_learn t s port second New h = latest_with t (after_learn t s port second New) s (heard_at port second) second h (omega arith) refl
+latest_learn t s port second Moved h = latest_with t (after_learn t s port second Moved) s (heard_at port second) second h (omega arith) refl
+latest_learn t s port second Refreshed h = latest_with t (after_learn t s port second Refreshed) s (heard_at port second) second h (omega arith) refl
+latest_learn t s port second Pinned h = h
+latest_learn t s port second Full h = h
+
+pub latest_pin : (t : Learning) (s : Station) (port second : ℕ) → IsLatest t second → IsLatest (after_pin t s port) second
+latest_pin t s port second h = go (entry_at t s)
+  where
+    new : (full : Bool) → IsLatest (cond full t (entered t s port)) second
+    new true = h
+    new false = latest_with t (entered t s port) s (pinned_at port) second h (omega arith) refl
+
+    go : (a : Option Entry) → IsLatest (after_pin_at t s port a) second
+    go None = new (is_full t)
+    go (Some e) = latest_with t (after_pin_at t s port (Some e)) s (pinned_at port) second h (omega arith) refl
+
+pub latest_removal : (t : Learning) (s : Station) (second : ℕ) → IsLatest t second → IsLatest (after_removal t s) second
+latest_removal t s second h = go (entry_at t s)
+  where
+    go : (a : Option Entry) → IsLatest (after_removal_at t s a) second
+    go None = h
+    go (Some e) = latest_less t (after_removal_at t s (Some e)) s second h refl
+
+pub latest_later : (t : Learning) (second later : ℕ) → second ≤ later → IsLatest t second → IsLatest t later
+latest_later t second later more h s e is = (let low = h s e is in omega (arith, low, more))
+
+pub ports_learn : (t : Learning) (s : Station) (port second : ℕ) (answer : Learnt) → length (after_learn t s port second answer).ports ≡ length t.ports
+ports_learn t s port second New = length-set t.ports (port - 1) _
+ports_learn t s port second Moved = length-set (map (left s) t.ports) (port - 1) _ ∙ length-map t.ports (left s)
+ports_learn t s port second Refreshed = refl
+ports_learn t s port second Pinned = refl
+ports_learn t s port second Full = refl
+
+pub ports_pin : (t : Learning) (s : Station) (port : ℕ) → length (after_pin t s port).ports ≡ length t.ports
+ports_pin t s port = go (entry_at t s)
+  where
+    new : (full : Bool) → length (cond full t (entered t s port)).ports ≡ length t.ports
+    new true = refl
+    new false = length-set t.ports (port - 1) _
+
+    known : (here : Bool) → length (cond here t.ports (joined_by (port - 1) s (map (left s) t.ports))) ≡ length t.ports
+    known true = refl
+    known false = length-set (map (left s) t.ports) (port - 1) _ ∙ length-map t.ports (left s)
+
+    go : (a : Option Entry) → length (after_pin_at t s port a).ports ≡ length t.ports
+    go None = new (is_full t)
+    go (Some e) = known (eqb e.port port)
+
+pub ports_removal : (t : Learning) (s : Station) → length (after_removal t s).ports ≡ length t.ports
+ports_removal t s = go (entry_at t s)
+  where
+    go : (a : Option Entry) → length (after_removal_at t s a).ports ≡ length t.ports
+    go None = refl
+    go (Some e) = length-map t.ports (left s)
+
+pub chains_learn : (t : Learning) (s : Station) (port second : ℕ) (answer : Learnt) → length (after_learn t s port second answer).chains ≡ length t.chains
+chains_learn t s port second New = length-set t.chains (bucket_in t s) _
+chains_learn t s port second Moved = refl
+chains_learn t s port second Refreshed = refl
+chains_learn t s port second Pinned = refl
+chains_learn t s port second Full = refl
+
+pub chains_pin : (t : Learning) (s : Station) (port : ℕ) → length (after_pin t s port).chains ≡ length t.chains
+chains_pin t s port = go (entry_at t s)
+  where
+    new : (full : Bool) → length (cond full t (entered t s port)).chains ≡ length t.chains
+    new true = refl
+    new false = length-set t.chains (bucket_in t s) _
+
+    go : (a : Option Entry) → length (after_pin_at t s port a).chains ≡ length t.chains
+    go None = new (is_full t)
+    go (Some e) = refl
+
+pub chains_removal : (t : Learning) (s : Station) → length (after_removal t s).chains ≡ length t.chains
+chains_removal t s = go (entry_at t s)
+  where
+    go : (a : Option Entry) → length (after_removal_at t s a).chains ≡ length t.chains
+    go None = refl
+    go (Some e) = length-map t.chains (left s)
+
+pub latest_nothing : (capacity ports buckets salt second : ℕ) → IsLatest (nothing_learnt capacity ports buckets salt) second
+latest_nothing capacity ports buckets salt second s e is = absurd (let none = get-empty {X = Entry} station_cmp s in let bad : None ≡ Some e = sym none ∙ is in cc)

@@ -11,3 +11,6 @@ pub mod table;
 
 pub use station::{Entry, Learned, Station};
 pub use table::{Learnt, MacTable};
+
+#[cfg(test)]
+mod tests;

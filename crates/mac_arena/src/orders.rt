@@ -8,10 +8,13 @@ use std::alloc::{AllocError, Global};
 use std::marker::Model;
 
 const CHAINS: usize = 0;
+
 const PORTS: usize = 1;
+
 const AGES: usize = 2;
 
 const AGEING: usize = 0;
+
 const FREE: usize = 1;
 
 /// The orders in which the table's nodes stand: a chain for each bucket, a list for each port, the
@@ -33,7 +36,12 @@ impl Model for NodeOrders {
 
 impl NodeOrders {
     /// Every node is free.
-    pub fn new(alloc: Global, buckets: usize, ports: usize, nodes: usize) -> Result<Self, AllocError>
+    pub fn new(
+        alloc: Global,
+        buckets: usize,
+        ports: usize,
+        nodes: usize,
+    ) -> Result<Self, AllocError>
         requires buckets { buckets < 2 ^ 32 }
         requires ports { ports < 2 ^ 32 }
         requires nodes { nodes < 2 ^ 32 }

@@ -57,7 +57,13 @@ impl Model for MacTable {
 impl MacTable {
     /// A table with room for so many stations, for ports from 1 on, with so many buckets.
     /// `salt` keeps a stranger from choosing stations that all fall into one bucket.
-    pub fn new(alloc: Global, capacity: usize, ports: u8, buckets: usize, salt: u64) -> Result<Self, AllocError>
+    pub fn new(
+        alloc: Global,
+        capacity: usize,
+        ports: u8,
+        buckets: usize,
+        salt: u64,
+    ) -> Result<Self, AllocError>
         requires capacity { capacity ≤ 65536 }
         requires some { 0 < buckets }
         requires buckets { buckets ≤ 65536 }
@@ -87,7 +93,9 @@ impl MacTable {
     pub fn bucket(&self, key: Station) -> usize
         ensures { result ≡ bucket_in self.now key }
     {
-        let number = (key.vni.number() as u64).wrapping_mul(0x1_0000_0000_0000).wrapping_add(key.mac.number());
+        let number = (key.vni.number() as u64)
+            .wrapping_mul(0x1_0000_0000_0000)
+            .wrapping_add(key.mac.number());
         let hash = (number ^ self.salt).wrapping_mul(0x9E37_79B9_7F4A_7C15) >> 32;
         (hash % self.buckets) as usize
     }
@@ -122,8 +130,12 @@ impl MacTable {
     pub fn oldest(&self) -> Option<Station>
         ensures { result ≡ slice_get self.now.ageing 0 }
     {
-        let Some(node) = self.orders.oldest() else { return None };
-        let Some(learned) = self.slots[node] else { return None };
+        let Some(node) = self.orders.oldest() else {
+            return None
+        };
+        let Some(learned) = self.slots[node] else {
+            return None
+        };
         Some(learned.station)
     }
 
@@ -211,7 +223,9 @@ impl MacTable {
         ensures answer { result ≡ is_some (entry_at self.old key) }
         ensures after { self.new ≡ after_removal self.old key }
     {
-        let Some((node, learned)) = self.find(key) else { return false };
+        let Some((node, learned)) = self.find(key) else {
+            return false
+        };
         if learned.entry.pinned {
             self.leave(node, &learned);
         } else {
@@ -240,7 +254,9 @@ impl MacTable {
         ensures answer { result ≡ learnt_of self.old key.now port }
         ensures after { self.new ≡ after_learn self.old key.now port second result }
     {
-        let Some(node) = self.place() else { return Learnt::Full };
+        let Some(node) = self.place() else {
+            return Learnt::Full
+        };
         self.enter(node, key, port);
         let entered = pinned_on(key, port);
         self.hear(node, &entered, second);

@@ -1,4 +1,3 @@
-use Rattle.std.proofs.Common.{rules}
 use Rattle.mac_arena.proofs.OrderSteps.{entered_orders}
 use Rattle.mac_arena.proofs.orders.NodeOrders.enter.Goals as goal
 

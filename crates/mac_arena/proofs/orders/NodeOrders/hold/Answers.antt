@@ -1,4 +1,3 @@
-use Rattle.std.proofs.Common.{rules}
 use Rattle.mac_arena.proofs.OrderSteps.{held_orders}
 use Rattle.mac_arena.proofs.orders.NodeOrders.hold.Goals as goal
 

@@ -1,4 +1,4 @@
-use Rattle.std.proofs.Common.{rules, arith, ◌≡◌, ◌<◌, ◌∙◌, ap, length, []}
+use Rattle.std.proofs.Common.{rules, arith, ◌<◌, ◌∙◌, ap, length, []}
 use Rattle.std.specs.List.{range_with_len}
 use Rattle.idx_links.specs.Families.{lists_of}
 use Rattle.std.proofs.Common.{get_or, replicate, sym, subst, List, ℕ}

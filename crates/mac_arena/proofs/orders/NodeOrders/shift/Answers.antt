@@ -1,7 +1,7 @@
-use Rattle.std.proofs.Common.{rules, ◌≡◌, ◌<◌, length, ap, ◌∙◌, false, ℕ, arith, map, List}
+use Rattle.std.proofs.Common.{rules, ◌<◌, length, ℕ, List}
 use Rattle.std.proofs.Common.{subst, sym}
 use Rattle.std.proofs.lemmas.List.{length-map}
-use Rattle.idx_links.specs.Links.{has, list_at, without, IsFree}
+use Rattle.idx_links.specs.Links.{without, IsFree}
 use Rattle.idx_links.specs.Families.{lists_of}
 use Rattle.mac_arena.proofs.OrderSteps.{ports_off}
 use Rattle.mac_arena.proofs.orders.NodeOrders.shift.Goals as goal

@@ -1,11 +1,9 @@
-use Rattle.std.proofs.Common.{rules, arith, sym, ap, ◌∙◌, ◌≡◌, ◌≢◌, ◌<◌, length, Some, None, slice_get, subst}
-use Rattle.std.proofs.lemmas.Bool.{false≢true}
+use Rattle.std.proofs.Common.{rules, arith, sym, ap, ◌∙◌, ◌≡◌, ◌≢◌, length, Some, subst}
 use Rattle.std.proofs.Common.{◌≤◌}
 use Rattle.idx_links.specs.Links.{list_at}
 use Rattle.mac_arena.specs.Station.{bucket_of}
 use Rattle.mac_arena.specs.declared.station.Learned.{Learned}
 use Rattle.mac_arena.specs.Learning.{left}
-use Rattle.mac_arena.specs.Nodes.{slot_at}
 use Rattle.mac_arena.proofs.Entries.{differs}
 use Rattle.mac_arena.proofs.Tables.{Found, at_chain, read_slot, slot_is, not_there, not_ageing, bucket_is, pass_one, IsPassed}
 use Rattle.mac_arena.proofs.table.MacTable.find.Goals as goal
@@ -53,10 +51,10 @@ loop-preserved c =
       passed = pass_one c.self.inside.slots.items _ c.args.key c.loop.counter c.in-Some.node c.loop.invariant.passed (sym c.loop.invariant.at ∙ c.in-Some.is)
           (elim c.match-index.branch [
             | in-Some-index+else-eq w ↦ (λ x at e.
-              let other : w.in-Some-index.learned.station ≢ c.args.key = differs w.in-Some-index.learned.station c.args.key (sym w.if-eq.false ∙ w.eq.ensures) in
-              let both : Some w.in-Some-index.learned ≡ Some x = sym w.in-Some-index.is ∙ is ∙ at in
-              let same : w.in-Some-index.learned ≡ x = cc in
-              other (ap (λ (z : Learned). z.station) same ∙ e))
+                let other : w.in-Some-index.learned.station ≢ c.args.key = differs w.in-Some-index.learned.station c.args.key (sym w.if-eq.false ∙ w.eq.ensures) in
+                let both : Some w.in-Some-index.learned ≡ Some x = sym w.in-Some-index.is ∙ is ∙ at in
+                let same : w.in-Some-index.learned ≡ x = cc in
+                other (ap (λ (z : Learned). z.station) same ∙ e))
             | in_default-index w ↦ (λ x at e. w.in_default-index.not-Some x (is ∙ at))
           ]);
     }
@@ -68,8 +66,8 @@ returns-clause-missing c =
     let passed : IsPassed c.self.inside.slots.items (list_at c.self.inside.orders.chains (bucket_of c.self.inside.buckets c.self.inside.salt c.args.key)) c.args.key c.loop.counter = subst (λ b. IsPassed c.self.inside.slots.items (list_at c.self.inside.orders.chains b) c.args.key c.loop.counter) bucket c.loop.invariant.passed in
     let past : length (list_at c.self.inside.orders.chains (bucket_of c.self.inside.buckets c.self.inside.salt c.args.key)) ≤ c.loop.counter =
     (let long = c.chain_len-end.ensures in let end = c.loop-test.false in
-      let h : length (list_at c.self.inside.orders.chains c.bucket-bucket.result) ≤ c.loop.counter = omega (arith, long, end) in
-      subst (λ b. length (list_at c.self.inside.orders.chains b) ≤ c.loop.counter) bucket h) in
+    let h : length (list_at c.self.inside.orders.chains c.bucket-bucket.result) ≤ c.loop.counter = omega (arith, long, end) in
+    subst (λ b. length (list_at c.self.inside.orders.chains b) ≤ c.loop.counter) bucket h) in
     not_there found c.args.key c.loop.counter passed past
 
 pub returns-then-eq-clause-still : goal.returns-then-eq-clause-still

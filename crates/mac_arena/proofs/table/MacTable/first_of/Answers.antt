@@ -1,9 +1,9 @@
-use Rattle.std.proofs.Common.{rules, arith, sym, ap, ◌∙◌, ◌≡◌, ◌≢◌, ◌<◌, ◌-◌, length, Some, None, slice_get, subst}
+use Rattle.std.proofs.Common.{rules, sym, ap, ◌∙◌, ◌≡◌, ◌-◌, Some}
 use Rattle.std.proofs.Common.{true, false, cond, drop, map, ◌+◌}
 use Rattle.idx_links.specs.Links.{list_at}
 use Rattle.mac_arena.specs.declared.station.Learned.{Learned}
 use Rattle.mac_arena.specs.Learning.{first_unpinned}
-use Rattle.mac_arena.specs.Nodes.{slot_at, station_in}
+use Rattle.mac_arena.specs.Nodes.{station_in}
 use Rattle.mac_arena.proofs.Tables.{Found, at_port, read_slot, unpinned_step}
 use Rattle.mac_arena.proofs.table.MacTable.first_of.Goals as goal
 use Rattle.mac_arena.proofs.table.MacTable.first_of.Goals.{in-Some-index+else-not-learned, in_default-index}

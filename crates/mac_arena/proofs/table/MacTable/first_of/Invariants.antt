@@ -1,4 +1,4 @@
-use Rattle.std.proofs.Common.{◌≡◌, ◌-◌, drop, map}
+use Rattle.std.proofs.Common.{◌≡◌, drop, map}
 use Rattle.std.specs.Prelude.{slice_get}
 use Rattle.idx_links.specs.Links.{list_at}
 use Rattle.mac_arena.specs.Learning.{first_unpinned, stations_at}

@@ -1,5 +1,5 @@
-use Rattle.std.proofs.Common.{arith, ap, sym, ◌∙◌}
-use Rattle.mac_arena.specs.Learning.{heard, held, shifted}
+use Rattle.std.proofs.Common.{arith, ap, ◌∙◌}
+use Rattle.mac_arena.specs.Learning.{heard, held}
 use Rattle.mac_arena.specs.Entry.{pinned_at}
 use Rattle.mac_arena.proofs.Values.{known_at, latest_with, refreshed_is, moved_is}
 use Rattle.mac_arena.proofs.table.MacTable.learn_again.Goals as goal

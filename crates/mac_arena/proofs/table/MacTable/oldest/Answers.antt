@@ -1,4 +1,4 @@
-use Rattle.std.proofs.Common.{rules, arith, sym, ap, ◌∙◌, ◌≡◌, ◌<◌, length, Some, None, slice_get}
+use Rattle.std.proofs.Common.{rules, sym, ap, ◌∙◌, ◌≡◌, Some}
 use Rattle.std.specs.Option.{option_map}
 use Rattle.mac_arena.specs.Nodes.{slot_at, station_of}
 use Rattle.mac_arena.proofs.Tables.{Found, oldest_low, ageing_front, read_slot}

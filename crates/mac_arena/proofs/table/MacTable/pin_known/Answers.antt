@@ -1,5 +1,5 @@
-use Rattle.std.proofs.Common.{rules, ap, sym, ◌∙◌, ◌≡◌, Some}
-use Rattle.mac_arena.specs.Learning.{held, shifted}
+use Rattle.std.proofs.Common.{ap, sym, ◌∙◌, ◌≡◌}
+use Rattle.mac_arena.specs.Learning.{shifted}
 use Rattle.mac_arena.specs.declared.station.Learned.{Learned}
 use Rattle.mac_arena.proofs.Values.{known_at, pinned_stays, pinned_moves, held_is, held_moves}
 use Rattle.mac_arena.proofs.table.MacTable.pin_known.Goals as goal

@@ -1,5 +1,5 @@
 use Rattle.std.proofs.Common.{ap, sym, ◌∙◌, ◌≡◌, Some}
-use Rattle.mac_arena.specs.Learning.{dropped, held, entry_at, left, after_removal}
+use Rattle.mac_arena.specs.Learning.{dropped, held, entry_at}
 use Rattle.mac_arena.proofs.Values.{known_at, pinned_goes, held_goes}
 use Rattle.mac_arena.proofs.table.MacTable.remove.Goals as goal
 
