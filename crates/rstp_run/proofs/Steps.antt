@@ -2,13 +2,10 @@
 use Rattle.std.proofs.Common.{◌≡◌, ℕ, ◌+◌, ◌≤◌, ◌<◌, true, Some, None, List, [], ◌∷◌, ◌++◌, length, map, take, get_or, slice_get, slice_set, refl, subst, sym, ◌∙◌, ap, arith}
 use Rattle.std.proofs.lemmas.List.{length-set, length-map, length-append}
 use Rattle.std.specs.Option.{option_map_or}
-use Rattle.std.specs.List.{enumerate_from}
 use Rattle.std.proofs.lemmas.List.Folds.{list_any_more}
-use Rattle.std.proofs.lemmas.List.FromFn.{length-enumerate_from}
 use Rattle.rstp_state.specs.declared.port.PortState.{PortState}
-use Rattle.rstp_state.specs.declared.start.Settings.{Settings}
 use Rattle.rstp_state.specs.Port.{change_at}
-use Rattle.rstp_state.specs.Selection.{selected_ports}
+use Rattle.rstp_state.specs.Selection.{length-selected_ports}
 use Rattle.rstp_roles.specs.AllPorts.{with_sync, with_re_root}
 use Rattle.rstp_roles.specs.RoleTransitions.{without_proposal}
 use Rattle.rstp_run.specs.declared.rule.Rule.{Rule}
@@ -33,10 +30,6 @@ length-telling_others p change ports =
 
 pub length-proposed : (p : ℕ) (ports : List PortState) → length (change_at p without_proposal (map with_sync ports)) ≡ length ports
 length-proposed p ports = length-change_at p without_proposal (map with_sync ports) ∙ length-map ports with_sync
-
-pub length-selected_ports : (settings : Settings) (ports : List PortState) → length (selected_ports settings ports) ≡ length ports
-unfolding selected_ports
-length-selected_ports settings ports = length-map (enumerate_from 0 ports) _ ∙ length-enumerate_from 0 ports
 
 pub length-ports_after : (rule : Rule) (s : Tree) (p : ℕ) → length (ports_after rule s p) ≡ length s.ports
 length-ports_after Select s p = length-selected_ports s.settings s.ports

@@ -8,7 +8,8 @@ use Rattle.rstp_state.specs.declared.start.PortSettings.{PortSettings}
 use Rattle.rstp_state.specs.declared.start.Settings.{Settings}
 use Rattle.rstp_state.specs.Direct.{with_enabled, with_message, with_migration_check, with_second, without_slot}
 use Rattle.rstp_state.specs.Port.{change_at, test_at}
-use Rattle.rstp_state.specs.Start.{own_times, own_vector, ports_from}
+use Rattle.rstp_state.specs.Selection.{own_root}
+use Rattle.rstp_state.specs.Start.{ports_from}
 use Rattle.rstp_run.specs.Rules.{Tree}
 use Rattle.rstp_run.specs.Runs.{Firing, Run, IsSettled, is_flush}
 use Rattle.rstp_run.specs.declared.event.Event.{Event}
@@ -77,6 +78,6 @@ Learns s p = IsSettled s × IsTrue (test_at (p - 1) (λ port. port.enabled && po
 abbrev pub start : Settings → List PortSettings → Tree
 start settings ports = record {
   settings = settings;
-  root = record { priority = own_vector settings 0; times = own_times settings };
+  root = own_root settings;
   ports = ports_from 1 settings ports;
 }

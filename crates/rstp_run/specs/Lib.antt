@@ -1,6 +1,7 @@
 pub mod BridgeDetection
 pub mod Events
 pub mod Information
+pub mod Laws
 pub mod Machines
 pub mod Migration
 pub mod Receive

@@ -11,6 +11,7 @@ ghost use Rattle.rstp_run.specs.Events.{
   sent_from,
   start,
 };
+ghost use Rattle.rstp_run.specs.Laws.{AreOrderly, IsInTree};
 ghost use Rattle.rstp_run.specs.Rules.{Tree};
 ghost use Rattle.rstp_run.specs.Runs.{IsSettled};
 
@@ -44,16 +45,27 @@ impl Model for Bridge {
 
     ghost view = { λ b. b.engine };
 
-    ghost invariant = { λ b. IsTrue b.settled ↔ IsSettled b.engine };
+    ghost invariant = { λ b. (IsTrue b.settled ↔ IsSettled b.engine) × AreOrderly b.engine };
+}
+
+/// Whether frames pass at the port of a bridge that is or isn't settled.
+fn is_passing(engine: &Engine, settled: bool, p: u8) -> bool
+    requires there { IsPort p (length engine.now.ports) }
+    requires known { IsTrue settled ↔ IsSettled engine.now }
+    ensures { IsTrue result ↔ Passes engine.now p }
+{
+    let port = engine.port(p);
+    settled && port.enabled && port.forwarding
 }
 
 impl Bridge {
-    /// A bridge before its first event: no port is up, and no rule is enabled. Only a refused
-    /// memory makes it fail.
+    /// A bridge before its first event: no port is up and, with a Hello time of at least 1, no rule
+    /// is enabled. Only a refused memory makes it fail.
     pub fn new(alloc: Global, config: BridgeConfig) -> Result<Self, AllocError>
         requires some { 1 ≤ length config.ports.now }
         requires few { length config.ports.now ≤ 64 }
-        ensures { IfOk result (λ bridge. bridge ≡ start config.entry.settings config.entry.ports.now) }
+        ensures value { IfOk result (λ bridge. bridge ≡ start config.entry.settings config.entry.ports.now) }
+        ensures settled { 1 ≤ config.entry.settings.hello → IfOk result (λ bridge. IsSettled bridge) }
     {
         let engine = Engine::new(alloc, config.settings, config.ports)?;
         let settled = engine.is_settled();
@@ -99,10 +111,13 @@ impl Bridge {
     /// Whether frames pass at the port: the bridge is settled, and the port enabled and forwarding.
     pub fn passes(&self, p: u8) -> bool
         requires { IsPort p (length self.now.ports) }
-        ensures { IsTrue result ↔ Passes self.now p }
+        ensures exact { IsTrue result ↔ Passes self.now p }
+
+        // What passes learns, and is the root port or a designated one.
+        ensures learns { IsTrue result → Learns self.now p }
+        ensures in_tree { IsTrue result → IsInTree self.now p }
     {
-        let port = self.engine.port(p);
-        self.settled && port.enabled && port.forwarding
+        is_passing(&self.engine, self.settled, p)
     }
 
     /// Whether addresses are learnt at the port: the bridge is settled, and the port enabled and

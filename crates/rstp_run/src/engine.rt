@@ -20,7 +20,7 @@ use crate::event::{Event, Outcome};
 use crate::firing::*;
 use crate::rule::{MAIN, Rule, SENDS};
 use arrayvec::ArrayVec;
-use bpdu_wire::{Bpdu, PortId};
+use bpdu_wire::Bpdu;
 use rstp_roles::firing::{fire_role, fire_state, role_is_enabled, state_is_enabled};
 use rstp_state::direct::{ask_migration_check, clear_slot, pass_second, set_enabled, store};
 use rstp_state::port::{PortState, Timing};
@@ -176,13 +176,9 @@ impl Engine {
         ensures { IfOk result (λ engine. engine ≡ start settings ports.now) }
     {
         let started = start_ports(alloc, &settings, ports)?;
-        let root = Root {
-            priority: settings.own_vector(PortId::new(0)),
-            times: settings.own_times(),
-        };
         Ok(Engine {
             settings,
-            root,
+            root: Root::own(&settings),
             ports: started,
         })
     }

@@ -3,6 +3,7 @@
 mod lone_port;
 mod order;
 mod root_port;
+mod two_bridges;
 
 use crate::bridge::{Bridge, BridgeConfig};
 use crate::event::{Event, Outcome};

@@ -1,0 +1,187 @@
+-- What every event keeps: each port is sound, and one role at most is selected as root.
+use Rattle.std.proofs.Common.{◌≡◌, ℕ, zero, suc, ◌+◌, Bool, true, false, not, ◌&&◌, ◌||◌, ◌==◌, cond, List, [], ◌∷◌, Option, Some, None, slice_get, map, refl, sym, ap, subst, ◌∙◌, arith}
+use Rattle.std.proofs.lemmas.Bool.Decides.{nat_tests}
+use Rattle.std.specs.List.{enumerate_from}
+use Rattle.std.specs.Option.{option_map_or}
+use Rattle.bpdu_wire.specs.declared.bpdu.Bpdu.{Bpdu}
+use Rattle.rstp_state.specs.declared.port.PortState.{PortState}
+use Rattle.rstp_state.specs.declared.port.InfoIs.{InfoIs}
+use Rattle.rstp_state.specs.declared.port.InfoIs.TheVariants as info_is
+use Rattle.rstp_state.specs.declared.port.Role.{Role}
+use Rattle.rstp_state.specs.declared.selection.Path.{Path}
+use Rattle.rstp_state.specs.declared.selection.Root.{Root}
+use Rattle.rstp_state.specs.declared.start.PortSettings.{PortSettings}
+use Rattle.rstp_state.specs.declared.start.Settings.{Settings}
+use Rattle.rstp_state.specs.Direct.{with_enabled, with_message, with_migration_check, with_second, without_slot}
+use Rattle.rstp_state.specs.Port.{is_root, is_out}
+use Rattle.rstp_state.specs.Selection.{role_by, updates_by, with_choice, is_through, best_path, selected_root, selected_ports, is_better, is_own, is_same}
+use Rattle.rstp_state.specs.Start.{ports_from}
+use Rattle.rstp_run.specs.declared.event.Event.{Event}
+use Rattle.rstp_run.specs.declared.event.Event.TheVariants as events
+use Rattle.rstp_run.specs.declared.rule.Rule.{Rule}
+use Rattle.rstp_run.specs.declared.rule.Rule.TheVariants as rules
+use Rattle.rstp_run.specs.Events.{direct, ports_at, start}
+use Rattle.rstp_run.specs.Machines.{receive_asks, receive_does, migration_asks, migration_does, detection_asks, detection_does, information_asks, information_does, transmit_asks, transmit_does}
+use Rattle.rstp_run.specs.Rules.{Tree, guard, after, timing_in}
+use Rattle.rstp_run.specs.Runs.{Firing, Run}
+use Rattle.rstp_roles.specs.Rules.{state_asks, state_does}
+use Rattle.rstp_laws.specs.Laws.{Comes}
+use Rattle.rstp_laws.proofs.Sound.{IsSound, Keeps, is_down, or_right, receive_keeps, migration_keeps, detection_keeps, information_keeps, state_keeps, transmit_keeps}
+use Rattle.rstp_laws.proofs.Keeping.{EachKeeps, each_map, each_change, each_at, each_then, topology_keeps, role_keeps}
+
+abbrev pub AllSound : List PortState → Type 0
+AllSound [] = Unit {0}
+AllSound (x ∷ xs) = IsSound x × AllSound xs
+
+abbrev pub roles_of : List PortState → List Role
+roles_of ports = map (λ port. port.selected_role) ports
+
+abbrev pub OneRoot : List Role → Type 0
+OneRoot roles = (p q : ℕ) (a b : Role) → slice_get roles p ≡ Some a → slice_get roles q ≡ Some b → is_root a ≡ true → is_root b ≡ true → p ≡ q
+
+pub record IsKept (ports : List PortState) : Type 0 where
+  pub sound : AllSound ports
+  pub roots : OneRoot (roles_of ports)
+
+-- ---- where each port is kept
+
+each_sound : (a b : List PortState) → EachKeeps a b → AllSound a → AllSound b
+each_sound [] [] h s = tt
+each_sound [] (y ∷ ys) h s = absurd h
+each_sound (x ∷ xs) [] h s = absurd h
+each_sound (x ∷ xs) (y ∷ ys) h s = (h.0.0 s.0, each_sound xs ys h.1 s.1)
+
+each_role : (a b : List PortState) → EachKeeps a b → roles_of a ≡ roles_of b
+each_role [] [] h = refl
+each_role [] (y ∷ ys) h = absurd h
+each_role (x ∷ xs) [] h = absurd h
+each_role (x ∷ xs) (y ∷ ys) h = λ i. sym h.0.1 i ∷ each_role xs ys h.1 i
+
+kept_by : (a b : List PortState) → EachKeeps a b → IsKept a → IsKept b
+kept_by a b h k =
+    let P : List Role → Type 0 = λ roles. OneRoot roles in
+    record { sound = each_sound a b h k.sound; roots = subst P (each_role a b h) k.roots }
+
+-- ---- selection
+
+update_at : (i : InfoIs) (out r b s : Bool) → not out || is_down i ≡ true → not (updates_by i r b s) || (false || not out) ≡ true
+update_at info_is.Disabled out r b s h = refl
+update_at info_is.Aged true r b s h = cc
+update_at info_is.Aged false r b s h = refl
+update_at info_is.Mine true r b s h = cc
+update_at info_is.Mine false r b s h = or_right (not (not s)) true refl
+update_at info_is.Received true r b s h = cc
+update_at info_is.Received false r b s h = or_right (not (not r && b)) true refl
+
+choice_sound : (s : Settings) (root : Root) (through : Bool) (port : PortState) → IsSound port → IsSound (with_choice s root through port)
+choice_sound s root through port h =
+    (refl, h.1, update_at port.info_is (is_out port.information) through (is_better s root port) (is_same s root port) h.1)
+
+choices_sound : (s : Settings) (root : Root) (path : Path) (n : ℕ) (ports : List PortState) → AllSound ports
+    → AllSound (map (λ e. with_choice s root (is_through path e.0) e.1) (enumerate_from n ports))
+choices_sound s root path n [] h = tt
+choices_sound s root path n (x ∷ xs) h = (choice_sound s root (is_through path n) x h.0, choices_sound s root path (n + 1) xs h.1)
+
+root_by : (i : InfoIs) (r b o : Bool) → is_root (role_by i r b o) ≡ true → r ≡ true
+root_by info_is.Disabled r b o h = cc
+root_by info_is.Aged r b o h = cc
+root_by info_is.Mine r b o h = cc
+root_by info_is.Received true b o h = refl
+root_by info_is.Received false true o h = cc
+root_by info_is.Received false false true h = cc
+root_by info_is.Received false false false h = cc
+
+-- the port whose selected role is Root is the one at the path's place
+chosen_through : (s : Settings) (root : Root) (path : Path) (n : ℕ) (ports : List PortState) (p : ℕ) (a : Role)
+    → slice_get (roles_of (map (λ e. with_choice s root (is_through path e.0) e.1) (enumerate_from n ports))) p ≡ Some a
+    → is_root a ≡ true → is_through path (n + p) ≡ true
+chosen_through s root path n [] p a at h = cc
+chosen_through s root path n (x ∷ xs) zero a at h =
+    let role : role_by x.info_is (is_through path n) (is_better s root x) (is_own s x) ≡ a = cc in
+    let here : n ≡ n + 0 = omega arith in
+    sym (ap (λ k. is_through path k) here) ∙ root_by x.info_is (is_through path n) (is_better s root x) (is_own s x) (ap is_root role ∙ h)
+chosen_through s root path n (x ∷ xs) (suc p) a at h =
+    let later : n + 1 + p ≡ n + suc p = omega arith in
+    sym (ap (λ k. is_through path k) later) ∙ chosen_through s root path (n + 1) xs p a at h
+
+same_number : (a p q : ℕ) → (a == p) ≡ true → (a == q) ≡ true → p ≡ q
+same_number a p q h k = grind (arith, nat_tests)
+
+same_place : (o : Option ℕ) (p q : ℕ) → option_map_or (λ at. at == p) o false ≡ true → option_map_or (λ at. at == q) o false ≡ true → p ≡ q
+same_place None p q h k = cc
+same_place (Some a) p q h k = same_number a p q h k
+
+choices_one : (s : Settings) (root : Root) (path : Path) (ports : List PortState)
+    → OneRoot (roles_of (map (λ e. with_choice s root (is_through path e.0) e.1) (enumerate_from 0 ports)))
+choices_one s root path ports p q a b at_p at_q ra rb =
+    let same : 0 + p ≡ 0 + q =
+    same_place path.place (0 + p) (0 + q) (chosen_through s root path 0 ports p a at_p ra) (chosen_through s root path 0 ports q b at_q rb) in
+    omega arith
+
+selection_kept : (s : Settings) (ports : List PortState) → IsKept ports → IsKept (selected_ports s ports)
+unfolding selected_ports
+selection_kept s ports k = record {
+  sound = choices_sound s (selected_root s ports) (best_path s ports) 0 ports k.sound;
+  roots = choices_one s (selected_root s ports) (best_path s ports) ports;
+}
+
+-- ---- the rules
+
+rule_kept : (rule : Rule) (s : Tree) (p : ℕ) → guard rule s p ≡ true → IsKept s.ports → IsKept (after rule s p).ports
+rule_kept rules.Select s p g k = selection_kept s.settings s.ports k
+rule_kept (rules.Receive rule) s p g k = kept_by s.ports _ (each_at (receive_asks rule) (receive_does rule) s.ports p (receive_keeps rule) g) k
+rule_kept (rules.Migration rule) s p g k = kept_by s.ports _ (each_at (migration_asks rule) (migration_does rule) s.ports p (migration_keeps rule) g) k
+rule_kept (rules.Detection rule) s p g k = kept_by s.ports _ (each_at (detection_asks rule) (detection_does rule) s.ports p (detection_keeps rule) g) k
+rule_kept (rules.Information rule) s p g k = kept_by s.ports _ (each_at (information_asks rule) (information_does rule) s.ports p (information_keeps rule) g) k
+rule_kept (rules.Role rule) s p g k = kept_by s.ports _ (role_keeps rule (timing_in s) s.ports p) k
+rule_kept (rules.State rule) s p g k = kept_by s.ports _ (each_at (state_asks rule) (state_does rule) s.ports p (state_keeps rule) g) k
+rule_kept (rules.Topology rule) s p g k = kept_by s.ports _ (topology_keeps rule (timing_in s) s.ports p) k
+rule_kept (rules.Transmit rule) s p g k =
+    kept_by s.ports _ (each_at (transmit_asks rule (timing_in s)) (transmit_does rule (timing_in s)) s.ports p (transmit_keeps rule (timing_in s)) g) k
+
+run_kept : (firings : List Firing) (s t : Tree) → Run firings s t → IsKept s.ports → IsKept t.ports
+run_kept [] s t run k = let P : Tree → Type 0 = λ x. IsKept x.ports in subst P (sym run) k
+run_kept (f ∷ earlier) s t run k =
+    let P : Tree → Type 0 = λ x. IsKept x.ports in
+    subst P (sym run.2.1) (rule_kept f.rule run.0 f.place run.2.0 (run_kept earlier s run.0 run.1 k))
+
+-- ---- events
+
+message_at : (b : Bool) (message : Bpdu) (port : PortState) → Keeps port (cond b port (record port { message = Some message; received_bpdu = true }))
+message_at true message port = (λ h. h, refl)
+message_at false message port = (λ h. h, refl)
+
+event_keeps : (event : Event) (ports : List PortState) → EachKeeps ports (ports_at event ports)
+event_keeps (events.Bpdu p message) ports =
+    each_change (with_message message) ports _ (λ port at. message_at (port.received_bpdu || port.received_message) message port)
+event_keeps events.Second ports = each_map with_second (λ port. (λ h. h, refl)) ports
+event_keeps (events.PortUp p) ports = each_change (with_enabled true) ports _ (λ port at. (λ h. h, refl))
+event_keeps (events.PortDown p) ports = each_change (with_enabled false) ports _ (λ port at. (λ h. h, refl))
+event_keeps (events.Mcheck p) ports = each_change with_migration_check ports _ (λ port at. (λ h. h, refl))
+
+direct_kept : (event : Event) (s : Tree) → IsKept s.ports → IsKept (direct event s).ports
+direct_kept event s k =
+    let cleared = map without_slot s.ports in
+    kept_by s.ports _ (each_then s.ports cleared _ (each_map without_slot (λ port. (λ h. h, refl)) s.ports) (event_keeps event cleared)) k
+
+start_sound : (n : ℕ) (settings : Settings) (ports : List PortSettings) → AllSound (ports_from n settings ports)
+start_sound n settings [] = tt
+start_sound n settings (x ∷ xs) = ((refl, refl, refl), start_sound (n + 1) settings xs)
+
+start_rootless : (n : ℕ) (settings : Settings) (ports : List PortSettings) (p : ℕ) (a : Role)
+    → slice_get (roles_of (ports_from n settings ports)) p ≡ Some a → is_root a ≡ true → ⊥
+start_rootless n settings [] p a at h = cc
+start_rootless n settings (x ∷ xs) zero a at h = cc
+start_rootless n settings (x ∷ xs) (suc p) a at h = start_rootless (n + 1) settings xs p a at h
+
+start_kept : (settings : Settings) (ports : List PortSettings) → IsKept (start settings ports).ports
+start_kept settings ports = record {
+  sound = start_sound 1 settings ports;
+  roots = λ p q a b at_p at_q ra rb. absurd (start_rootless 1 settings ports p a at_p ra);
+}
+
+pub comes_kept : (history : List Event) (settings : Settings) (ports : List PortSettings) (s : Tree) → Comes history (start settings ports) s → IsKept s.ports
+comes_kept [] settings ports s comes = let P : Tree → Type 0 = λ x. IsKept x.ports in subst P (sym comes) (start_kept settings ports)
+comes_kept (event ∷ earlier) settings ports s comes =
+    let happens = comes.5 in
+    run_kept happens.firings (direct event comes.0) s happens.run (direct_kept event comes.0 (comes_kept earlier settings ports comes.0 comes.4))

@@ -1,0 +1,21 @@
+-- What holds of every bridge from its start on, whatever the events.
+use Rattle.std.specs.Prelude.{ℕ, Bool, true, not, ◌≡◌, ◌-◌, ◌&&◌, ◌||◌, All, IsTrue}
+use Rattle.rstp_state.specs.declared.port.PortState.{PortState}
+use Rattle.rstp_state.specs.Port.{test_at}
+use Rattle.rstp_run.specs.Rules.{Tree}
+use Rattle.rstp_run.specs.TopologyChange.{is_in_tree}
+
+-- a port that forwards learns, and a port that is neither Root nor Designated is to do neither
+abbrev pub is_orderly : PortState → Bool
+is_orderly port = (not port.forwarding || port.learning) && (is_in_tree port || (not port.learn && not port.forward))
+
+abbrev pub IsOrderly : PortState → Type 0
+IsOrderly port = is_orderly port ≡ true
+
+-- every port is so
+abbrev pub AreOrderly : Tree → Type 0
+AreOrderly s = All IsOrderly s.ports
+
+-- port p is the root port or a designated one: neither Disabled, Alternate nor Backup
+abbrev pub IsInTree : Tree → ℕ → Type 0
+IsInTree s p = IsTrue (test_at (p - 1) is_in_tree s.ports)

@@ -1,0 +1,138 @@
+use super::{USUAL_PORT, happen};
+use crate::bridge::{Bridge, BridgeConfig};
+use crate::event::{Event, Outcome};
+use arrayvec::ArrayVec;
+use bpdu_wire::{Bpdu, BridgeId};
+use rstp_state::port::Role;
+use rstp_state::start::Settings;
+use std::alloc::{AllocError, Global};
+use std::test::Fail;
+
+fn bridge_of_two(alloc: Global, address: u64) -> Result<Bridge, AllocError> {
+    let settings = Settings {
+        identifier: BridgeId::new(0x8000_0000_0000_0000 | address),
+        hello: 2,
+        max_age: 20,
+        forward_delay: 15,
+        hold: 6,
+    };
+    Bridge::new(
+        alloc,
+        BridgeConfig {
+            settings,
+            ports: &[USUAL_PORT, USUAL_PORT],
+        },
+    )
+}
+
+/// Whether the port has this role, and frames pass there or not.
+fn is_so(bridge: &Bridge, port: u8, role: Role, passes: bool) -> bool {
+    1 <= port
+        && usize::from(port) <= bridge.len()
+        && bridge.port(port).role == role
+        && bridge.passes(port) == passes
+}
+
+/// A message on its way along the link of this number.
+#[derive(Clone, Copy)]
+struct Letter {
+    to_right: bool,
+    link: u8,
+    bpdu: Bpdu,
+}
+
+/// Two bridges. Link n joins their ports n.
+#[derive(Drop)]
+struct Pair {
+    left: Bridge,
+    right: Bridge,
+    /// Whether the first link is cut.
+    is_cut: bool,
+    under_way: ArrayVec<Option<Letter>, 16>,
+}
+
+impl Pair {
+    fn new(alloc: Global) -> Result<Self, AllocError> {
+        Ok(Pair {
+            left: bridge_of_two(alloc, 0x02aa_0000_0001)?,
+            right: bridge_of_two(alloc, 0x02aa_0000_0002)?,
+            is_cut: false,
+            under_way: ArrayVec::new(),
+        })
+    }
+
+    /// Puts what a bridge sent onto the links. Whether there was room, and the bridge has settled.
+    fn post(&mut self, to_right: bool, outcome: &Outcome) -> bool {
+        let mut is_well = outcome.settled;
+        for (link, bpdu) in outcome.out.iter() {
+            if *link != 1 || !self.is_cut {
+                let letter = Letter {
+                    to_right,
+                    link: *link,
+                    bpdu: *bpdu,
+                };
+                is_well = self.under_way.try_push(Some(letter)).is_ok() && is_well;
+            }
+        }
+        is_well
+    }
+
+    /// The event at one bridge. Whether it has settled, and its messages are on their way.
+    fn event(&mut self, at_right: bool, event: Event) -> bool {
+        let outcome = if at_right {
+            happen(&mut self.right, event)
+        } else {
+            happen(&mut self.left, event)
+        };
+        match outcome {
+            Some(outcome) => self.post(!at_right, &outcome),
+            None => false,
+        }
+    }
+
+    /// Delivers what is under way, and what comes of it. Whether the links fall silent.
+    fn deliver(&mut self) -> bool {
+        for _ in 0..16 {
+            if self.under_way.is_empty() {
+                return true;
+            }
+            if let Some(letter) = self.under_way.remove(0) {
+                if !self.event(letter.to_right, Event::Bpdu(letter.link, letter.bpdu)) {
+                    return false;
+                }
+            }
+        }
+        false
+    }
+
+    /// The event at both bridges, and all that comes of it.
+    fn both(&mut self, event: &Event) -> bool {
+        let left = self.event(false, *event);
+        let right = self.event(true, *event);
+        left && right && self.deliver()
+    }
+}
+
+#[test]
+fn second_link_stands_by_for_the_first(rt: HostRuntime) -> Result<(), Fail> {
+    let mut pair = Pair::new(rt.alloc())?;
+    assert!(rt; pair.both(&Event::PortUp(1)));
+    assert!(rt; pair.both(&Event::PortUp(2)));
+    for second in 1u8..61 {
+        assert!(rt; pair.both(&Event::Second), "at {second}");
+        assert!(rt; is_so(&pair.left, 1, Role::Designated, true), "at {second}");
+        assert!(rt; is_so(&pair.left, 2, Role::Designated, true), "at {second}");
+        assert!(rt; is_so(&pair.right, 1, Role::Root, true), "at {second}");
+        assert!(rt;
+            is_so(&pair.right, 2, Role::Alternate, false),
+            "at {second}"
+        );
+    }
+    pair.is_cut = true;
+    assert!(rt; pair.both(&Event::PortDown(1)));
+    assert!(rt; is_so(&pair.left, 1, Role::Disabled, false));
+    assert!(rt; is_so(&pair.left, 2, Role::Designated, true));
+    assert!(rt; is_so(&pair.right, 1, Role::Disabled, false));
+    assert!(rt; is_so(&pair.right, 2, Role::Root, true));
+    Ok(())
+}
