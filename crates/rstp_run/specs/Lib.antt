@@ -5,6 +5,7 @@ pub mod Laws
 pub mod Machines
 pub mod Migration
 pub mod Receive
+pub mod RootPort
 pub mod Rules
 pub mod Runs
 pub mod TopologyChange

@@ -9,6 +9,7 @@ pub mod engine;
 pub mod event;
 pub mod firing;
 pub mod information;
+pub mod laws;
 pub mod migration;
 pub mod receive;
 pub mod rule;

@@ -25,9 +25,9 @@ use Rattle.rstp_run.specs.Machines.{receive_asks, receive_does, migration_asks, 
 use Rattle.rstp_run.specs.Rules.{Tree, guard, after, timing_in}
 use Rattle.rstp_run.specs.Runs.{Firing, Run}
 use Rattle.rstp_roles.specs.Rules.{state_asks, state_does}
-use Rattle.rstp_laws.specs.Laws.{Comes}
-use Rattle.rstp_laws.proofs.Sound.{IsSound, Keeps, is_down, or_right, receive_keeps, migration_keeps, detection_keeps, information_keeps, state_keeps, transmit_keeps}
-use Rattle.rstp_laws.proofs.Keeping.{EachKeeps, each_map, each_change, each_at, each_then, topology_keeps, role_keeps}
+use Rattle.rstp_run.specs.RootPort.{Comes}
+use Rattle.rstp_run.proofs.Sound.{IsSound, Keeps, is_down, or_right, receive_keeps, migration_keeps, detection_keeps, information_keeps, state_keeps, transmit_keeps}
+use Rattle.rstp_run.proofs.Keeping.{EachKeeps, each_map, each_change, each_at, each_then, topology_keeps, role_keeps}
 
 abbrev pub AllSound : List PortState → Type 0
 AllSound [] = Unit {0}

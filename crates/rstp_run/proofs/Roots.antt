@@ -12,8 +12,8 @@ use Rattle.rstp_run.specs.declared.rule.Rule.TheVariants as rules
 use Rattle.rstp_run.specs.declared.rule.InformationRule.TheVariants as information_rule
 use Rattle.rstp_run.specs.Rules.{Tree, asks, wants_selection}
 use Rattle.rstp_run.specs.Runs.{IsSettled}
-use Rattle.rstp_laws.proofs.Sound.{IsSound}
-use Rattle.rstp_laws.proofs.Kept.{AllSound, IsKept, roles_of}
+use Rattle.rstp_run.proofs.Sound.{IsSound}
+use Rattle.rstp_run.proofs.Kept.{AllSound, IsKept, roles_of}
 
 -- ---- lists
 

@@ -15,7 +15,7 @@ use Rattle.rstp_run.specs.declared.rule.TopologyRule.TheVariants as topology_rul
 use Rattle.rstp_run.specs.Machines.{topology_does}
 use Rattle.rstp_run.specs.TopologyChange.{with_change_timer, with_propagation, telling_others}
 use Rattle.rstp_run.specs.TopologyChange as changes
-use Rattle.rstp_laws.proofs.Sound.{Keeps, same_port}
+use Rattle.rstp_run.proofs.Sound.{Keeps, same_port}
 
 -- each port of one list is kept in the other
 abbrev pub EachKeeps : List PortState → List PortState → Type 0

@@ -1,6 +1,6 @@
-use Rattle.rstp_laws.proofs.Kept.{comes_kept}
-use Rattle.rstp_laws.proofs.Roots.{selected_as_root}
-use Rattle.rstp_laws.proofs.one_root_port.Goals as goal
+use Rattle.rstp_run.proofs.Kept.{comes_kept}
+use Rattle.rstp_run.proofs.Roots.{selected_as_root}
+use Rattle.rstp_run.proofs.laws.one_root_port.Goals as goal
 
 pub returns : goal.returns
 returns c = λ settings ports s can settled p q a b at_p at_q root_a root_b.

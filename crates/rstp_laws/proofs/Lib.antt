@@ -1,4 +1,0 @@
-pub mod Keeping
-pub mod Kept
-pub mod Roots
-pub mod Sound
