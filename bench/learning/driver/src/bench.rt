@@ -1,0 +1,85 @@
+ghost use Rattle.std.specs.Prelude.{◌≡◌, ◌<◌, ◌≤◌, length};
+ghost use Rattle.mac_arena.specs.Learning.{IsLatest};
+
+use crate::calls::{Call, PORTS, mixed};
+use mac_arena::{Learnt, MacTable, Station};
+use std::alloc::{AllocError, Global};
+
+/// A table with the greatest second that it was told.
+#[derive(Drop)]
+pub struct Bench {
+    table: MacTable,
+    now: u64,
+    ghost latest: { IsLatest table now },
+    ghost ports: { length table.ports ≡ 16 },
+}
+
+impl Bench {
+    /// A table with room for so many stations, and as many buckets.
+    pub fn new(alloc: Global, stations: usize) -> Result<Bench, AllocError>
+        requires some { 0 < stations }
+        requires few { stations ≤ 65536 }
+    {
+        let table = MacTable::new(alloc, stations, PORTS, stations, 0)?;
+        Ok(Bench { table, now: 0 })
+    }
+
+    /// Learns each station on its port, and answers a checksum over the answers.
+    pub fn learn_all(&mut self, calls: &Vec<Call>, second: u64) -> u64 {
+        let mut sum: u64 = 0;
+        for call in calls.iter() {
+            sum = mixed(sum, self.learn(call.key, call.port, second));
+        }
+        sum
+    }
+
+    /// Looks each station up, and answers a checksum over the answers.
+    pub fn look_all(&self, calls: &Vec<Call>) -> u64 {
+        let mut sum: u64 = 0;
+        for call in calls.iter() {
+            let answer = match self.table.look(call.key) {
+                Some(entry) => entry.last.wrapping_mul(32).wrapping_add(entry.port as u64),
+                None => 0,
+            };
+            sum = mixed(sum, answer);
+        }
+        sum
+    }
+
+    /// Removes each station, and answers a checksum over the answers.
+    pub fn remove_all(&mut self, calls: &Vec<Call>) -> u64 {
+        let mut sum: u64 = 0;
+        for call in calls.iter() {
+            sum = mixed(sum, if self.remove(call.key) { 1 } else { 0 });
+        }
+        sum
+    }
+
+    /// The address of the station that was heard longest ago.
+    pub fn oldest(&self) -> u64 {
+        match self.table.oldest() {
+            Some(station) => station.mac.number(),
+            None => 0,
+        }
+    }
+
+    // 0 where there is no such port, or the second is below an earlier one.
+    fn learn(&mut self, key: Station, port: u8, second: u64) -> u64 {
+        if port == 0 || port > PORTS || second < self.now {
+            return 0;
+        }
+        let learnt = self.table.learn(key, port, second);
+        self.now = second;
+        match learnt {
+            Learnt::New => 1,
+            Learnt::Moved => 2,
+            Learnt::Refreshed => 3,
+            Learnt::Pinned => 4,
+            Learnt::Full => 5,
+        }
+    }
+
+    fn remove(&mut self, key: Station) -> bool {
+        self.table.remove(key)
+    }
+}
