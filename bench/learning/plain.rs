@@ -7,9 +7,6 @@ use std::time::{Duration, Instant};
 
 const PORTS: u8 = 16;
 
-// How many calls of each kind are timed, at the least.
-const CALLS: u64 = 16_000_000;
-
 const NOBODY: u32 = u32::MAX;
 
 #[derive(Clone, Copy, PartialEq, Eq, Hash)]
@@ -347,11 +344,10 @@ fn round(table: &mut MacTable, calls: &Calls, second: u64, times: &mut Times) ->
     mixed(mixed(mixed(learnt, oldest), looked), removed)
 }
 
-fn measure(stations: usize) {
+fn measure(stations: usize, rounds: u64) {
     let calls = Calls::new(stations);
     let mut table = MacTable::new(stations);
     let mut times = Times::default();
-    let rounds = CALLS / stations as u64 + 1;
     let sum = (0..rounds).fold(0, |sum, second| {
         mixed(sum, round(&mut table, &calls, second, &mut times))
     });
@@ -369,6 +365,6 @@ fn measure(stations: usize) {
 }
 
 fn main() {
-    measure(1_000);
-    measure(65_536);
+    measure(1_000, 20_000);
+    measure(65_536, 64);
 }

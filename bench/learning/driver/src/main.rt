@@ -16,9 +16,6 @@ use calls::{Calls, mixed};
 use std::io;
 use std::time::Instant;
 
-// How many calls of each kind are timed, at the least.
-const CALLS: u64 = 16_000_000;
-
 // Nanoseconds that each kind of call took, over all rounds.
 #[derive(Clone, Copy, Drop)]
 struct Times {
@@ -30,11 +27,11 @@ struct Times {
 }
 
 fn main(rt: HostRuntime) -> io::Result<()> {
-    measure(&rt, 1_000)?;
-    measure(&rt, 65_536)
+    measure(&rt, 1_000, 20_000)?;
+    measure(&rt, 65_536, 64)
 }
 
-fn measure(rt: &HostRuntime, stations: usize) -> io::Result<()>
+fn measure(rt: &HostRuntime, stations: usize, rounds: u64) -> io::Result<()>
     requires some { 0 < stations }
     requires few { stations ≤ 65536 }
 {
@@ -47,7 +44,6 @@ fn measure(rt: &HostRuntime, stations: usize) -> io::Result<()>
         look: 0,
         remove: 0,
     };
-    let rounds = CALLS / stations as u64 + 1;
     let mut sum: u64 = 0;
     for second in 0..rounds {
         sum = mixed(sum, round(rt, &mut bench, &calls, second, &mut times)?);
