@@ -365,6 +365,6 @@ fn measure(stations: usize, rounds: u64) {
 }
 
 fn main() {
-    measure(1_000, 20_000);
-    measure(65_536, 64);
+    measure(1_000, 30_000);
+    measure(65_536, 96);
 }
