@@ -1,0 +1,115 @@
+-- What the place of a register says of updates in the order of their registers, and what an edit there does.
+use Rattle.std.proofs.Common.{◌≡◌, ℕ, suc, ◌+◌, ◌<◌, ◌≤◌, Bool, true, false, cond, ◌&&◌, T, List, [], ◌∷◌, length, get_or, set, Option, Some, None, Result, Ok, Err, refl, sym, ap, subst, ◌∙◌, arith}
+use Rattle.std.specs.List.{insert}
+use Rattle.std.specs.declared.cmp.Ordering.{Ordering}
+use Rattle.std.specs.declared.cmp.Ordering.TheVariants.{Less, Equal, Greater}
+use Rattle.std.specs.Ordering.{is_lt, is_eq}
+use Rattle.std.specs.FinMap.Entries.{by_order, put, find, is_sorted, below_all}
+use Rattle.route_wire.specs.declared.update.Register.{Register}
+use Rattle.route_wire.specs.declared.update.Value.{Value}
+use Rattle.route_wire.specs.Fields.{Fields}
+use Rattle.route_wire.specs.Order.{register_cmp}
+use Rattle.route_wire.specs.Totals.{register_total, register_exact}
+use Rattle.route_join.specs.Table.{entries_of, IsOrdered}
+use Rattle.route_join.specs.Place.{place_of, later_by}
+
+-- ---- a register that stands at a place
+
+-- what `later_by 1` came from
+came_ok : (r : Result ℕ ℕ) (at : ℕ) → later_by 1 r ≡ Ok at → (n : ℕ) × (r ≡ Ok n) × (at ≡ 1 + n)
+came_ok (Ok n) at h = (n, refl, cc)
+came_ok (Err n) at h = cc
+
+came_err : (r : Result ℕ ℕ) (at : ℕ) → later_by 1 r ≡ Err at → (n : ℕ) × (r ≡ Err n) × (at ≡ 1 + n)
+came_err (Ok n) at h = cc
+came_err (Err n) at h = (n, refl, cc)
+
+-- the place is in the list, the register's update is there, and a write there is a put
+pub record IsPlace (us : List Fields) (q : Register) (at : ℕ) : Type 0 where
+  pub within : at < length us
+  pub register : (d : Fields) → (get_or us at d).register ≡ q
+  pub value : (d : Fields) → find register_cmp q (entries_of us) ≡ Some (get_or us at d).value
+  pub write : (u : Fields) → u.register ≡ q → entries_of (set us at u) ≡ put register_cmp q u.value (entries_of us)
+
+at_front : (v : Fields) (us : List Fields) (q : Register) (at : ℕ) → 0 ≡ at → register_cmp q v.register ≡ Equal → IsPlace (v ∷ us) q at
+at_front v us q at z e = subst (IsPlace (v ∷ us) q) z record {
+  within = omega arith;
+  register = λ d. sym (register_exact q v.register e);
+  value = λ d. ap (λ o. cond (is_eq o) (Some v.value) (find register_cmp q (entries_of us))) e;
+  write = λ u r. ap (λ k. (k, u.value) ∷ entries_of us) (r ∙ register_exact q v.register e)
+      ∙ sym (ap (λ o. by_order o ((q, u.value) ∷ (v.register, v.value) ∷ entries_of us) ((v.register, u.value) ∷ entries_of us) ((v.register, v.value) ∷ put register_cmp q u.value (entries_of us))) e);
+}
+
+at_next : (v : Fields) (us : List Fields) (q : Register) (n at : ℕ) → at ≡ 1 + n → register_cmp q v.register ≡ Greater → IsPlace us q n → IsPlace (v ∷ us) q at
+at_next v us q n at z e g =
+    let z' : suc n ≡ at = omega arith in
+    let w : n < length us = g.within in
+    subst (IsPlace (v ∷ us) q) z' record {
+      within = omega arith;
+      register = g.register;
+      value = λ d. ap (λ o. cond (is_eq o) (Some v.value) (find register_cmp q (entries_of us))) e ∙ g.value d;
+      write = λ u r. ap (λ x. (v.register, v.value) ∷ x) (g.write u r)
+          ∙ sym (ap (λ o. by_order o ((q, u.value) ∷ (v.register, v.value) ∷ entries_of us) ((v.register, u.value) ∷ entries_of us) ((v.register, v.value) ∷ put register_cmp q u.value (entries_of us))) e);
+    }
+
+pub placed : (us : List Fields) (q : Register) (at : ℕ) → place_of us q ≡ Ok at → IsPlace us q at
+placed [] q at h = cc
+placed (v ∷ us) q at h =
+    elim (register_cmp q v.register) as (λ o. register_cmp q v.register ≡ o → by_order o (Err 0) (Ok 0) (later_by 1 (place_of us q)) ≡ Ok at → IsPlace (v ∷ us) q at) [
+      | Less ↦ λ e p. cc
+      | Equal ↦ λ e p. at_front v us q at (cc) e
+      | Greater ↦ λ e p. let m = came_ok (place_of us q) at p in at_next v us q m.0 at m.2 e (placed us q m.0 m.1)
+    ] refl h
+
+-- ---- a register that stands at no place
+
+-- the place is a gap, the register has no update, and an insertion there is a put
+pub record IsGap (us : List Fields) (q : Register) (at : ℕ) : Type 0 where
+  pub within : at ≤ length us
+  pub value : find register_cmp q (entries_of us) ≡ None
+  pub write : (u : Fields) → u.register ≡ q → entries_of (insert us at u) ≡ put register_cmp q u.value (entries_of us)
+
+both : (a b : Bool) → a && b ≡ true → (a ≡ true) × (b ≡ true)
+both true b p = (refl, p)
+both false b p = cc
+
+less : (o : Ordering) → is_lt o ≡ true → o ≡ Less
+less Less p = refl
+less Equal p = cc
+less Greater p = cc
+
+-- a register below the first of a list in order is not found in it
+not_found : (q k : Register) (es : List (Register × Value)) → register_cmp q k ≡ Less → below_all register_cmp k es ≡ true → find register_cmp q es ≡ None
+not_found q k [] h b = refl
+not_found q k (e ∷ es) h b =
+    let bs = both (is_lt (register_cmp k e.0)) (below_all register_cmp k es) b in
+    let t = register_total.trans q k e.0 h (less _ bs.0) in
+    ap (λ o. cond (is_eq o) (Some e.1) (find register_cmp q es)) t ∙ not_found q k es h bs.1
+
+gap_front : (v : Fields) (us : List Fields) (q : Register) (at : ℕ) → 0 ≡ at → register_cmp q v.register ≡ Less → IsOrdered (v ∷ us) → IsGap (v ∷ us) q at
+gap_front v us q at z e s = subst (IsGap (v ∷ us) q) z record {
+  within = omega arith;
+  value = ap (λ o. cond (is_eq o) (Some v.value) (find register_cmp q (entries_of us))) e ∙ not_found q v.register (entries_of us) e (both (below_all register_cmp v.register (entries_of us)) (is_sorted register_cmp (entries_of us)) s).0;
+  write = λ u r. ap (λ k. (k, u.value) ∷ (v.register, v.value) ∷ entries_of us) r
+      ∙ sym (ap (λ o. by_order o ((q, u.value) ∷ (v.register, v.value) ∷ entries_of us) ((v.register, u.value) ∷ entries_of us) ((v.register, v.value) ∷ put register_cmp q u.value (entries_of us))) e);
+}
+
+gap_next : (v : Fields) (us : List Fields) (q : Register) (n at : ℕ) → at ≡ 1 + n → register_cmp q v.register ≡ Greater → IsGap us q n → IsGap (v ∷ us) q at
+gap_next v us q n at z e g =
+    let z' : suc n ≡ at = omega arith in
+    let w : n ≤ length us = g.within in
+    subst (IsGap (v ∷ us) q) z' record {
+      within = omega arith;
+      value = ap (λ o. cond (is_eq o) (Some v.value) (find register_cmp q (entries_of us))) e ∙ g.value;
+      write = λ u r. ap (λ x. (v.register, v.value) ∷ x) (g.write u r)
+          ∙ sym (ap (λ o. by_order o ((q, u.value) ∷ (v.register, v.value) ∷ entries_of us) ((v.register, u.value) ∷ entries_of us) ((v.register, v.value) ∷ put register_cmp q u.value (entries_of us))) e);
+    }
+
+pub gapped : (us : List Fields) (q : Register) (at : ℕ) → IsOrdered us → place_of us q ≡ Err at → IsGap us q at
+gapped [] q at s h = let z : 0 ≡ at = cc in subst (IsGap [] q) z record { within = omega arith; value = refl; write = λ u r. ap (λ k. (k, u.value) ∷ []) r }
+gapped (v ∷ us) q at s h =
+    elim (register_cmp q v.register) as (λ o. register_cmp q v.register ≡ o → by_order o (Err 0) (Ok 0) (later_by 1 (place_of us q)) ≡ Err at → IsGap (v ∷ us) q at) [
+      | Less ↦ λ e p. gap_front v us q at (cc) e s
+      | Equal ↦ λ e p. cc
+      | Greater ↦ λ e p. let m = came_err (place_of us q) at p in gap_next v us q m.0 at m.2 e (gapped us q m.0 (both (below_all register_cmp v.register (entries_of us)) (is_sorted register_cmp (entries_of us)) s).1 m.1)
+    ] refl h

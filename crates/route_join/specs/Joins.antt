@@ -1,0 +1,26 @@
+-- The join of two tables: each register of either, with the newer of its values.
+use Rattle.std.specs.Prelude.{◌≡◌, Option, Some, None, List, [], ◌∷◌, if◌then◌else◌}
+use Rattle.std.specs.FinMap.{entries}
+use Rattle.route_wire.specs.declared.update.Register.{Register}
+use Rattle.route_wire.specs.declared.update.Value.{Value}
+use Rattle.route_wire.specs.Order.{is_newer}
+use Rattle.route_join.specs.Table.{Table, value_at, with_update}
+
+-- the newer of two values, where there are any
+abbrev pub newer_of : Option Value → Option Value → Option Value
+newer_of None b = b
+newer_of (Some a) None = Some a
+newer_of (Some a) (Some b) = if is_newer b a then Some b else Some a
+
+-- t has at each register the newer of what a and b have
+abbrev pub IsJoin : Table → Table → Table → Type 0
+IsJoin a b t = (r : Register) → value_at t r ≡ newer_of (value_at a r) (value_at b r)
+
+-- the table with the values of these entries, where they are news, one after another
+abbrev pub with_entries : Table → List (Register × Value) → Table
+with_entries t [] = t
+with_entries t (e ∷ es) = with_entries (with_update t (record { register = e.0; value = e.1 })) es
+
+-- both tables' registers, each with the newer of its values
+abbrev pub join : Table → Table → Table
+join s t = with_entries s (entries t.registers)

@@ -1,0 +1,51 @@
+-- Laws on tables.
+use Rattle.std.specs.Prelude.{◌≡◌, ℕ, List, [], ◌∷◌, ◌++◌, Contains}
+use Rattle.route_wire.specs.Fields.{Fields}
+use Rattle.route_join.specs.Table.{Table, with_update, with_updates, table_from, IsTableOf}
+use Rattle.route_join.specs.Owner.{IsOwner}
+use Rattle.route_join.specs.Joins.{IsJoin, join}
+
+-- two lists have the same updates, in whatever order and however often
+pub record HaveSame (us vs : List Fields) : Type 0 where
+  pub there : (w : Fields) → Contains us w → Contains vs w
+  pub back : (w : Fields) → Contains vs w → Contains us w
+
+-- a set of updates has one table, in whatever order they came and however often
+abbrev pub OneTable : Type 0
+OneTable = (us vs : List Fields) (s t : Table) → HaveSame us vs → IsTableOf us s → IsTableOf vs t → s.registers ≡ t.registers
+
+-- a table that has taken no update is that of none
+abbrev pub NoneTaken : Type 0
+NoneTaken = (originators : List ℕ) → IsTableOf [] (table_from originators [])
+
+-- one more update is taken
+abbrev pub OneTaken : Type 0
+OneTaken = (us : List Fields) (t : Table) (u : Fields) → IsTableOf us t → IsTableOf (us ++ u ∷ []) (with_update t u)
+
+-- all are taken, in the order of the list
+abbrev pub AllTaken : Type 0
+AllTaken = (us vs : List Fields) (t : Table) → IsTableOf us t → IsTableOf (us ++ vs) (with_updates t vs)
+
+-- one more update is the join with its table
+abbrev pub OneJoined : Type 0
+OneJoined = (s t : Table) (u : Fields) → IsTableOf (u ∷ []) t → (join s t).registers ≡ (with_update s u).registers
+
+abbrev pub JoinIs : Type 0
+JoinIs = (s t : Table) → IsJoin s t (join s t)
+
+abbrev pub JoinCommutes : Type 0
+JoinCommutes = (s t : Table) → (join s t).registers ≡ (join t s).registers
+
+abbrev pub JoinAssociates : Type 0
+JoinAssociates = (s t u : Table) → (join (join s t) u).registers ≡ (join s (join t u)).registers
+
+abbrev pub JoinRepeats : Type 0
+JoinRepeats = (s : Table) → (join s s).registers ≡ s.registers
+
+-- the join of two sets' tables is the table of both sets together
+abbrev pub JoinOfTables : Type 0
+JoinOfTables = (us vs : List Fields) (s t : Table) → IsTableOf us s → IsTableOf vs t → IsTableOf (us ++ vs) (join s t)
+
+-- an address has at most one owner
+abbrev pub OneOwner : Type 0
+OneOwner = (t : Table) (vni mac o p : ℕ) → IsOwner t vni mac o → IsOwner t vni mac p → o ≡ p

@@ -1,0 +1,39 @@
+ghost use Rattle.std.specs.Prelude.{◌≡◌, ◌≤◌, length};
+ghost use Rattle.route_join.specs.Table.{entries_of};
+ghost use Rattle.route_join.specs.Flood.{is_flood, floods, flooding};
+
+use crate::owner::advert_in;
+use arrayvec::ArrayVec;
+use ether_wire::{Addr, Vni};
+use route_wire::{Key, Update};
+
+/// Whether a key is that of a network's flood list.
+fn is_flood(key: &Key, vni: Vni) -> bool
+    ensures { result ≡ is_flood vni key.now }
+{
+    match key {
+        Key::Flood(v) => *v == vni,
+        Key::Mac(..) => false,
+    }
+}
+
+/// Whether an update advertises a network's flood list.
+fn floods(update: &Update, vni: Vni) -> bool
+    ensures { result ≡ floods vni update.now.register update.now.value }
+{
+    is_flood(&update.register().key, vni) && advert_in(&update.value().content).is_some()
+}
+
+/// The originators that advertise a network's flood list, in the order of the updates.
+pub(crate) fn flood_of(updates: &[Update], vni: Vni) -> ArrayVec<Addr, 64>
+    requires { length (flooding vni (entries_of updates.now)) ≤ 64 }
+    ensures { result.items ≡ flooding vni (entries_of updates.now) }
+{
+    let mut flood = ArrayVec::new();
+    for update in updates {
+        if floods(update, vni) {
+            flood.push(update.register().originator);
+        }
+    }
+    flood
+}

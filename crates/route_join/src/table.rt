@@ -1,0 +1,152 @@
+ghost use Rattle.std.specs.Prelude.{◌≡◌, ◌↔◌, false, None, Err, IfOk, OnOk, OnErr, MatchOption};
+ghost use Rattle.std.specs.FinMap.{empty};
+ghost use Rattle.route_join.specs.Table.{AreOriginators, IsListed, register_of, value_at, update_at, is_listed, with_update, IsKept};
+ghost use Rattle.route_join.specs.Owner.{owner, IsOwner, IsUnowned};
+ghost use Rattle.route_join.specs.Flood.{flood_of, IsFloodList};
+ghost use Rattle.route_join.specs.Taken.{taken_of, number_of};
+
+use crate::flood::flood_of;
+use crate::owner::owner_of;
+use crate::place::place;
+use arrayvec::ArrayVec;
+use ether_wire::{Addr, Mac, Vni};
+use route_wire::{Key, Register, Update};
+use std::alloc::Global;
+use std::marker::Model;
+
+/// What a table made of an update that it took.
+#[derive(Clone, Copy, Debug, PartialEq, Eq)]
+pub enum Taken {
+    /// It is its register's value now: the register is new, or the update is newer than its value was.
+    Newer,
+    /// The register's value is this update or a newer one, and stays.
+    Known,
+}
+
+/// Why a table took no update. The table is as it was.
+#[derive(Clone, Copy, Debug, PartialEq, Eq)]
+pub enum TakeError {
+    /// The update's originator isn't one that the table listens to.
+    UnknownOriginator,
+    /// The register is new, and there is no memory for it.
+    NoMemory,
+}
+
+impl TakeError {
+    /// The refusal's number, as notes give it: 12 or 15.
+    pub fn number(self) -> u8
+        ensures { result ≡ number_of self }
+    {
+        match self {
+            TakeError::UnknownOriginator => 12,
+            TakeError::NoMemory => 15,
+        }
+    }
+}
+
+/// The newest value of each register, of the originators that the table listens to.
+#[derive(Drop)]
+pub struct Table {
+    originators: ArrayVec<Addr, 64>,
+    updates: Vec<Update>,
+}
+
+impl Model for Table {
+    ghost use Rattle.route_join.specs.Table.{Table as Registered, IsKept, table_from};
+    ghost use Rattle.std.specs.Coded.{codes};
+    ghost use Rattle.std.specs.FinMap.{code};
+
+    ghost Value = { Registered };
+
+    ghost coded = { Prim.hlevel (codes, code) };
+
+    ghost view = { λ t. table_from t.originators.items t.updates.items };
+
+    ghost invariant = { λ t. IsKept t.originators.items t.updates.items };
+}
+
+impl Table {
+    /// A table that listens to these originators, 1 to 64 that all differ, and has taken nothing.
+    /// It takes no memory; `take` gets what it needs from `alloc`.
+    pub fn new(alloc: Global, originators: ArrayVec<Addr, 64>) -> Self
+        requires { AreOriginators originators.items }
+        ensures { result ≡ record { originators = originators.items; registers = empty } }
+    {
+        Table {
+            originators,
+            updates: Vec::new(alloc),
+        }
+    }
+
+    /// The originators that the table listens to, as they were given. Each register is of one of them.
+    pub fn originators(&self) -> &[Addr]
+        ensures value { result.now ≡ self.now.originators }
+        ensures listeners { AreOriginators result.now }
+        ensures listed { IsListed self.now }
+    {
+        self.originators.as_slice()
+    }
+
+    /// The newest update of a register, if one was taken.
+    pub fn register(&self, originator: Addr, key: Key) -> Option<Update>
+        ensures { result ≡ update_at self.now (register_of originator key) }
+    {
+        match place(&self.updates, &Register { originator, key }) {
+            Ok(at) => Some(self.updates[at]),
+            Err(_) => None,
+        }
+    }
+
+    /// Takes an update: its register has then the newer of the update and its value so far.
+    ///
+    /// # Errors
+    ///
+    /// `UnknownOriginator` exactly where the update's originator isn't listed. `NoMemory` where the
+    /// register is new and the memory for it was refused; a register that is there already takes none.
+    pub fn take(&mut self, update: &Update) -> Result<Taken, TakeError>
+        ensures taken { IfOk result (λ taken. taken ≡ taken_of self.old update.now) }
+        ensures table { OnOk result (self.new ≡ with_update self.old update.now) }
+        ensures unknown { (result ≡ Err TakeError.UnknownOriginator) ↔ (is_listed self.old update.now.register.originator ≡ false) }
+        ensures no_memory { result ≡ Err TakeError.NoMemory → value_at self.old update.now.register ≡ None }
+        ensures err { OnErr result (self.new ≡ self.old) }
+    {
+        let register = update.register();
+        if !self.originators.contains(&register.originator) {
+            return Err(TakeError::UnknownOriginator);
+        }
+        match place(&self.updates, &register) {
+            Ok(at) => {
+                if update.is_newer(&self.updates[at]) {
+                    self.updates[at] = *update;
+                    Ok(Taken::Newer)
+                } else {
+                    Ok(Taken::Known)
+                }
+            }
+            Err(at) => {
+                if self.updates.insert(at, *update).is_err() {
+                    return Err(TakeError::NoMemory);
+                }
+                Ok(Taken::Newer)
+            }
+        }
+    }
+
+    /// The owner of a MAC address in a network, none exactly where nobody advertises it: of those
+    /// that do, by whatever IP address or none, a static one first, then the one with the higher
+    /// sequence number, then the one with the lower address (RFC 7432, section 15).
+    pub fn owner(&self, vni: Vni, mac: Mac) -> Option<Addr>
+        ensures value { result ≡ owner self.now vni mac }
+        ensures best { MatchOption result (IsUnowned self.now vni mac) (IsOwner self.now vni mac) }
+    {
+        owner_of(&self.updates, vni, mac)
+    }
+
+    /// The originators that advertise a network's flood list (RFC 7432, section 7.3), ascending.
+    pub fn flood(&self, vni: Vni) -> ArrayVec<Addr, 64>
+        ensures value { result.items ≡ flood_of self.now vni }
+        ensures list { IsFloodList self.now vni result.items }
+    {
+        flood_of(&self.updates, vni)
+    }
+}
