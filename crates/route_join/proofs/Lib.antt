@@ -4,3 +4,6 @@ pub mod Places
 pub mod Edits
 pub mod Owners
 pub mod Floods
+pub mod Subjects
+pub mod Groupings
+pub mod Leaders

@@ -5,3 +5,5 @@ pub mod Owner
 pub mod Flood
 pub mod Joins
 pub mod Laws
+pub mod Subject
+pub mod Group

@@ -2,8 +2,10 @@
 #![tactic(auto)]
 
 mod flood;
+mod group;
 mod owner;
 mod place;
+mod subject;
 mod table;
 
 pub use table::{Table, TakeError, Taken};

@@ -39,7 +39,7 @@ fn said(update: &Update, vni: Vni, mac: Mac) -> Option<Advert>
 /// Whether the first of two adverts of an address is better: static first, then the higher sequence
 /// number, then the register that comes first in a report, whose originator is the lower one, or
 /// else its IP address.
-fn is_better(one: &(Register, Advert), other: &(Register, Advert)) -> bool
+pub(crate) fn is_better(one: &(Register, Advert), other: &(Register, Advert)) -> bool
     ensures { result ≡ is_better one.now.1 one.now.0 other.now.1 other.now.0 }
 {
     if one.1.is_static != other.1.is_static {

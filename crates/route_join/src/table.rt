@@ -6,12 +6,13 @@ ghost use Rattle.route_join.specs.Flood.{flood_of, IsFloodList};
 ghost use Rattle.route_join.specs.Taken.{taken_of, number_of};
 
 use crate::flood::flood_of;
-use crate::owner::owner_of;
-use crate::place::place;
+use crate::group::Group;
+use crate::subject::{Subject, subject_of};
 use arrayvec::ArrayVec;
 use ether_wire::{Addr, Mac, Vni};
 use route_wire::{Key, Register, Update};
 use std::alloc::Global;
+use std::collections::BTreeMap;
 use std::marker::Model;
 
 /// What a table made of an update that it took.
@@ -47,12 +48,15 @@ impl TakeError {
 /// The newest value of each register, of the originators that the table listens to.
 #[derive(Drop)]
 pub struct Table {
+    alloc: Global,
     originators: ArrayVec<Addr, 64>,
-    updates: Vec<Update>,
+    groups: BTreeMap<Subject, Group>,
 }
 
 impl Model for Table {
-    ghost use Rattle.route_join.specs.Table.{Table as Registered, IsKept, table_from};
+    ghost use Rattle.route_join.specs.Table.{Table as Registered, table_from};
+
+    ghost use Rattle.route_join.specs.Group.{updates_in, IsGrouped};
     ghost use Rattle.std.specs.Coded.{codes};
     ghost use Rattle.std.specs.FinMap.{code};
 
@@ -60,9 +64,9 @@ impl Model for Table {
 
     ghost coded = { Prim.hlevel (codes, code) };
 
-    ghost view = { λ t. table_from t.originators.items t.updates.items };
+    ghost view = { λ t. table_from t.originators.items (updates_in t.groups.entries) };
 
-    ghost invariant = { λ t. IsKept t.originators.items t.updates.items };
+    ghost invariant = { λ t. IsGrouped t.originators.items t.groups.entries };
 }
 
 impl Table {
@@ -73,8 +77,9 @@ impl Table {
         ensures { result ≡ record { originators = originators.items; registers = empty } }
     {
         Table {
+            alloc,
             originators,
-            updates: Vec::new(alloc),
+            groups: BTreeMap::new(alloc),
         }
     }
 
@@ -91,9 +96,9 @@ impl Table {
     pub fn register(&self, originator: Addr, key: Key) -> Option<Update>
         ensures { result ≡ update_at self.now (register_of originator key) }
     {
-        match place(&self.updates, &Register { originator, key }) {
-            Ok(at) => Some(self.updates[at]),
-            Err(_) => None,
+        match self.groups.get(&subject_of(&key)) {
+            None => None,
+            Some(group) => group.register(&Register { originator, key }),
         }
     }
 
@@ -114,17 +119,17 @@ impl Table {
         if !self.originators.contains(&register.originator) {
             return Err(TakeError::UnknownOriginator);
         }
-        match place(&self.updates, &register) {
-            Ok(at) => {
-                if update.is_newer(&self.updates[at]) {
-                    self.updates[at] = *update;
-                    Ok(Taken::Newer)
-                } else {
-                    Ok(Taken::Known)
-                }
-            }
-            Err(at) => {
-                if self.updates.insert(at, *update).is_err() {
+        let subject = subject_of(&register.key);
+        match self.groups.get_mut(&subject) {
+            Some(group) => match group.take(update) {
+                Ok(taken) => Ok(taken),
+                Err(_) => Err(TakeError::NoMemory),
+            },
+            None => {
+                let Ok(group) = Group::new(self.alloc, update) else {
+                    return Err(TakeError::NoMemory);
+                };
+                if self.groups.insert(subject, group).is_err() {
                     return Err(TakeError::NoMemory);
                 }
                 Ok(Taken::Newer)
@@ -139,7 +144,14 @@ impl Table {
         ensures value { result ≡ owner self.now vni mac }
         ensures best { MatchOption result (IsUnowned self.now vni mac) (IsOwner self.now vni mac) }
     {
-        owner_of(&self.updates, vni, mac)
+        let subject = Subject {
+            vni,
+            mac: Some(mac),
+        };
+        match self.groups.get(&subject) {
+            None => None,
+            Some(group) => group.owner(),
+        }
     }
 
     /// The originators that advertise a network's flood list (RFC 7432, section 7.3), ascending.
@@ -147,6 +159,9 @@ impl Table {
         ensures value { result.items ≡ flood_of self.now vni }
         ensures list { IsFloodList self.now vni result.items }
     {
-        flood_of(&self.updates, vni)
+        match self.groups.get(&Subject { vni, mac: None }) {
+            None => ArrayVec::new(),
+            Some(group) => flood_of(group.updates(), vni),
+        }
     }
 }
