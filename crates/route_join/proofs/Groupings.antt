@@ -101,22 +101,22 @@ group_none s (g ∷ gs) b = ap (λ o. cond (is_eq o) (Some g.1) (group_at s gs))
 
 -- of the first group and the others, the one that the subject is in
 module _ (s : Subject) (g : Subject × List Fields) (gs : Groups) (k : AreGroups (g ∷ gs)) where
-  before_rest : subject_cmp s g.0 ≡ Less → IsBefore s gs
+  pub before_rest : subject_cmp s g.0 ≡ Less → IsBefore s gs
   before_rest h = before_later s g.0 gs h k.2
 
-  same_rest : subject_cmp s g.0 ≡ Equal → IsBefore s gs
+  pub same_rest : subject_cmp s g.0 ≡ Equal → IsBefore s gs
   same_rest h = subst (λ x. IsBefore x gs) (sym (subject_exact s g.0 h)) k.2
 
-  not_before : (us : List Fields) → group_at s (g ∷ gs) ≡ Some us → subject_cmp s g.0 ≡ Less → ⊥
+  pub not_before : (us : List Fields) → group_at s (g ∷ gs) ≡ Some us → subject_cmp s g.0 ≡ Less → ⊥
   not_before us h l = let n = sym (ap (λ o. cond (is_eq o) (Some g.1) (group_at s gs)) l ∙ group_none s gs (before_rest l)) ∙ h in cc
 
-  first_is : (us : List Fields) → group_at s (g ∷ gs) ≡ Some us → subject_cmp s g.0 ≡ Equal → g.1 ≡ us
+  pub first_is : (us : List Fields) → group_at s (g ∷ gs) ≡ Some us → subject_cmp s g.0 ≡ Equal → g.1 ≡ us
   first_is us h e = let n = sym (ap (λ o. cond (is_eq o) (Some g.1) (group_at s gs)) e) ∙ h in cc
 
-  later_is : (o : Option (List Fields)) → group_at s (g ∷ gs) ≡ o → subject_cmp s g.0 ≡ Greater → group_at s gs ≡ o
+  pub later_is : (o : Option (List Fields)) → group_at s (g ∷ gs) ≡ o → subject_cmp s g.0 ≡ Greater → group_at s gs ≡ o
   later_is o h e = sym (ap (λ x. cond (is_eq x) (Some g.1) (group_at s gs)) e) ∙ h
 
-  not_first : group_at s (g ∷ gs) ≡ None → subject_cmp s g.0 ≡ Equal → ⊥
+  pub not_first : group_at s (g ∷ gs) ≡ None → subject_cmp s g.0 ≡ Equal → ⊥
   not_first h e = let n = sym (ap (λ o. cond (is_eq o) (Some g.1) (group_at s gs)) e) ∙ h in cc
 
 pub about_there : (s : Subject) (gs : Groups) (us : List Fields) → AreGroups gs → group_at s gs ≡ Some us → AreAbout s (entries_of us)
@@ -126,6 +126,15 @@ about_there s (g ∷ gs) us k h =
       | Less ↦ λ e. absurd (not_before s g gs k us h e)
       | Equal ↦ λ e. subst (λ x. AreAbout s (entries_of x)) (first_is s g gs k us h e) (subst (λ x. AreAbout x (entries_of g.1)) (sym (subject_exact s g.0 e)) k.0)
       | Greater ↦ λ e. about_there s gs us k.3 (later_is s g gs k (Some us) h e)
+    ] refl
+
+pub some_there : (s : Subject) (gs : Groups) (us : List Fields) → AreGroups gs → group_at s gs ≡ Some us → IsSome (entries_of us)
+some_there s [] us k h = cc
+some_there s (g ∷ gs) us k h =
+    elim (subject_cmp s g.0) as (λ o. subject_cmp s g.0 ≡ o → IsSome (entries_of us)) [
+      | Less ↦ λ e. absurd (not_before s g gs k us h e)
+      | Equal ↦ λ e. subst (λ x. IsSome (entries_of x)) (first_is s g gs k us h e) k.1
+      | Greater ↦ λ e. some_there s gs us k.3 (later_is s g gs k (Some us) h e)
     ] refl
 
 -- a look-up in all groups is one in the register's group

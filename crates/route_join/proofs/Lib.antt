@@ -7,3 +7,5 @@ pub mod Floods
 pub mod Subjects
 pub mod Groupings
 pub mod Leaders
+pub mod Taking
+pub mod Holding

@@ -3,6 +3,7 @@
 
 mod flood;
 mod group;
+mod groups;
 mod owner;
 mod place;
 mod subject;

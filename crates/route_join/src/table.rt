@@ -7,6 +7,7 @@ ghost use Rattle.route_join.specs.Taken.{taken_of, number_of};
 
 use crate::flood::flood_of;
 use crate::group::Group;
+use crate::groups::take_in;
 use crate::subject::{Subject, subject_of};
 use arrayvec::ArrayVec;
 use ether_wire::{Addr, Mac, Vni};
@@ -115,26 +116,13 @@ impl Table {
         ensures no_memory { result ≡ Err TakeError.NoMemory → value_at self.old update.now.register ≡ None }
         ensures err { OnErr result (self.new ≡ self.old) }
     {
-        let register = update.register();
-        if !self.originators.contains(&register.originator) {
+        if !self.originators.contains(&update.register().originator) {
             return Err(TakeError::UnknownOriginator);
         }
-        let subject = subject_of(&register.key);
-        match self.groups.get_mut(&subject) {
-            Some(group) => match group.take(update) {
-                Ok(taken) => Ok(taken),
-                Err(_) => Err(TakeError::NoMemory),
-            },
-            None => {
-                let Ok(group) = Group::new(self.alloc, update) else {
-                    return Err(TakeError::NoMemory);
-                };
-                if self.groups.insert(subject, group).is_err() {
-                    return Err(TakeError::NoMemory);
-                }
-                Ok(Taken::Newer)
-            }
-        }
+        let Ok(taken) = take_in(&mut self.groups, self.alloc, update) else {
+            return Err(TakeError::NoMemory);
+        };
+        Ok(taken)
     }
 
     /// The owner of a MAC address in a network, none exactly where nobody advertises it: of those

@@ -1,0 +1,38 @@
+use Rattle.route_join.specs.declared.table.Taken.{Taken}
+use Rattle.route_join.specs.declared.table.TakeError.{TakeError}
+use Rattle.route_join.specs.declared.table.TakeError.TheVariants.{UnknownOriginator}
+use Rattle.std.proofs.Common.{Result, Ok, Err, ◌≡◌, ◌↔◌, true, false, ap, sym, subst, ◌∙◌}
+use Rattle.route_join.specs.Table.{Table, is_listed, value_at, table_from, with_update}
+use Rattle.route_join.specs.Taken.{taken_of}
+use Rattle.route_join.specs.Group.{IsGrouped, updates_in}
+use Rattle.route_join.proofs.Edits.{found, listed_by, not_unknown}
+use Rattle.route_join.proofs.Holding.{kept_with, table_with, taken_is, taken_known}
+use Rattle.route_join.proofs.table.Table.take.Goals as goal
+
+pub returns-in_default-clause-unknown : goal.returns-in_default-clause-unknown
+returns-in_default-clause-unknown c =
+    subst (λ (t : Table). _ ↔ (is_listed t c.args.update.now.register.originator ≡ false)) c.self.view_is (not_unknown _ _ (listed_by c.self.inside.originators.items _ c.args.update.now.register _ c.deref.ensures.0 c.register.ensures c.if-not-contains.ensures.value) (λ h. cc))
+
+pub returns-in_default-clause-no_memory : goal.returns-in_default-clause-no_memory
+returns-in_default-clause-no_memory c = λ h.
+    ap (λ (t : Table). value_at t c.args.update.now.register) (sym c.self.view_is)
+    ∙ found c.self.inside.originators.items (updates_in c.self.inside.groups.entries) c.args.update.now.register c.self.invariant.kept.ordered ∙ c.in_default.ensures.new
+
+pub invariant_of-self-2 : goal.invariant_of-self-2
+invariant_of-self-2 c = record {
+  kept = kept_with c.self.inside.originators.items (updates_in c.self.inside.groups.entries) (updates_in c.take_in.new.groups.entries) c.args.update.now c.self.invariant.kept c.in-Ok.ensures.entries
+    (listed_by c.self.inside.originators.items _ c.args.update.now.register _ c.deref.ensures.0 c.register.ensures c.if-not-contains.ensures.value);
+  groups = c.in-Ok.ensures.groups;
+}
+
+pub returns-clause-taken : goal.returns-clause-taken
+returns-clause-taken c = c.in-Ok.ensures.taken ∙ taken_is c.self.inside.originators.items (updates_in c.self.inside.groups.entries) c.args.update.now c.self.invariant.kept ∙ ap (λ t. taken_of t c.args.update.now) c.self.view_is
+
+pub returns-clause-table : goal.returns-clause-table
+returns-clause-table c =
+    table_with c.self.inside.originators.items (updates_in c.self.inside.groups.entries) (updates_in c.take_in.new.groups.entries) c.args.update.now c.self.invariant.kept c.in-Ok.ensures.entries
+    ∙ ap (λ t. with_update t c.args.update.now) c.self.view_is
+
+pub returns-clause-unknown : goal.returns-clause-unknown
+returns-clause-unknown c =
+    subst (λ (t : Table). (◌≡◌ {A = Result Taken TakeError} (Ok c.in-Ok.taken) (Err UnknownOriginator)) ↔ (is_listed t c.args.update.now.register.originator ≡ false)) c.self.view_is (not_unknown _ _ (listed_by c.self.inside.originators.items _ c.args.update.now.register _ c.deref.ensures.0 c.register.ensures c.if-not-contains.ensures.value) (taken_known c.in-Ok.taken))
