@@ -1,5 +1,5 @@
 -- What a table makes of an edit of its updates.
-use Rattle.std.proofs.Common.{◌≡◌, ◌≢◌, inl, inr, ℕ, ◌<◌, ◌≤◌, Bool, true, false, cond, T, List, [], ◌∷◌, length, get_or, set, eqb, ◌↔◌, Option, Some, None, Result, Ok, Err, refl, sym, ap, subst, ◌∙◌}
+use Rattle.std.proofs.Common.{◌≡◌, inl, inr, ℕ, Bool, true, false, cond, List, [], length, get_or, set, eqb, ◌↔◌, Some, None, Result, Ok, Err, refl, sym, ap, subst, ◌∙◌}
 use Rattle.std.specs.List.{list_any}
 use Rattle.std.specs.Option.{option_map}
 use Rattle.std.specs.FinMap as map
@@ -10,14 +10,13 @@ use Rattle.route_wire.specs.Fields.{Fields}
 use Rattle.route_wire.specs.Order.{register_cmp, is_newer}
 use Rattle.route_wire.specs.Totals.{register_total}
 use Rattle.route_join.specs.Table.{Table, value_at, update_at, is_listed, IsListed, is_news, with_value, with_update, entries_of, IsOrdered, table_from, AreOriginators, IsKept}
-use Rattle.route_join.specs.declared.table.Taken.{Taken}
 use Rattle.route_join.specs.declared.table.Taken.TheVariants.{Newer, Known}
 use Rattle.route_join.specs.declared.table.TakeError.{TakeError}
-use Rattle.route_join.specs.declared.table.TakeError.TheVariants.{UnknownOriginator, NoMemory}
+use Rattle.route_join.specs.declared.table.TakeError.TheVariants.{UnknownOriginator}
 use Rattle.route_join.specs.Taken.{taken_of}
 use Rattle.route_join.specs.Place.{place_of}
 use Rattle.route_join.proofs.Orders.{to_T, from_T}
-use Rattle.route_join.proofs.Tables.{same_or_other, at_same, at_other}
+use Rattle.route_join.proofs.Tables.{same_or_other, at_other}
 use Rattle.route_join.proofs.Places.{IsPlace, IsGap, placed, gapped}
 
 -- what a table finds among its updates

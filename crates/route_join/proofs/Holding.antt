@@ -1,7 +1,6 @@
 -- What a table of groups tells: a register's value, the owner of an address and a flood list are each read in one group.
 use Rattle.std.proofs.Common.{◌≡◌, ◌≢◌, ℕ, Bool, true, false, cond, ◌&&◌, Option, Some, None, MatchOption, List, [], ◌∷◌, ◌++◌, append-nil, refl, sym, ap, subst, ◌∙◌, arith}
 use Rattle.std.proofs.lemmas.Bool.Decides.{nat_tests}
-use Rattle.std.specs.Prelude.{◌==◌}
 use Rattle.std.specs.declared.cmp.Ordering.{Ordering}
 use Rattle.std.specs.declared.cmp.Ordering.TheVariants.{Less, Equal, Greater}
 use Rattle.std.specs.Cmp.{tied_itself}
@@ -26,14 +25,14 @@ use Rattle.route_wire.specs.Fields.{Fields}
 use Rattle.route_wire.specs.Order.{register_cmp}
 use Rattle.route_join.specs.declared.subject.Subject.{Subject}
 use Rattle.route_join.specs.Subject.{subject_cmp, subject_of}
-use Rattle.route_join.specs.Table.{Table, IsOrdered, entries_of, table_from, value_at, update_at, register_of, with_update, with_value, is_news, is_listed, IsKept}
+use Rattle.route_join.specs.Table.{Table, entries_of, table_from, value_at, update_at, register_of, with_update, with_value, is_news, is_listed, IsKept}
 use Rattle.route_join.specs.Owner.{advert_in, advert_of, advert_at, owner, IsOwner, IsUnowned, IsBetter}
 use Rattle.route_join.specs.Flood.{is_flood, floods, flooding}
 use Rattle.route_join.specs.Group.{AreAbout, AreGroups, IsBefore, IsGrouped, IsLeader, IsSilent, told, updates_in, update_among, entries_with}
-use Rattle.route_join.proofs.Tables.{same_register, itself_register}
+use Rattle.route_join.proofs.Tables.{same_register}
 use Rattle.route_join.proofs.Edits.{found, kept_put, table_put}
 use Rattle.route_join.proofs.Owners.{owner_is, one_owner}
-use Rattle.route_join.proofs.Subjects.{subject_total, subject_exact}
+use Rattle.route_join.proofs.Subjects.{subject_total}
 use Rattle.route_join.proofs.Groupings.{Groups, Entries, entries_in, entries_in_all, group_at, about_there, find_there, find_nowhere, before_rest, same_rest, not_before, first_is, later_is, not_first}
 
 -- ---- values
@@ -131,7 +130,7 @@ flooding_apart vni s (e ∷ es) k ne =
       | false ↦ λ t. flooding_apart vni s es k.1 ne
     ] refl
 
-differs : (s t : Subject) (o : Ordering) → subject_cmp s t ≡ o → is_eq o ≡ false → t ≢ s
+pub differs : (s t : Subject) (o : Ordering) → subject_cmp s t ≡ o → is_eq o ≡ false → t ≢ s
 differs s t o e n same = let eq : subject_cmp s t ≡ Equal = ap (subject_cmp s) same ∙ tied_itself subject_total s in let no = n in absurd (let f : is_eq Equal ≡ false = ap is_eq (sym eq ∙ e) ∙ n in cc)
 
 flooding_later : (vni : ℕ) (gs : Groups) → AreGroups gs → IsBefore (record { vni = vni; mac = None }) gs → flooding vni (entries_in gs) ≡ []

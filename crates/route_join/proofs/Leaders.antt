@@ -1,10 +1,9 @@
 -- The winner of a group: how it is found among some updates, and what an edit makes of it.
-use Rattle.std.proofs.Common.{◌≡◌, ◌≢◌, inl, inr, ℕ, suc, zero, ◌+◌, ◌<◌, ◌≤◌, ◌^◌, Bool, true, false, cond, Option, Some, None, List, [], ◌∷◌, ◌++◌, map, length, get_or, set, take, drop, refl, sym, ap, subst, ◌∙◌, arith, add-one, length-set}
+use Rattle.std.proofs.Common.{◌≡◌, ◌≢◌, inl, inr, ℕ, suc, zero, ◌+◌, ◌<◌, ◌≤◌, ◌^◌, Bool, true, false, cond, Option, Some, None, List, [], ◌∷◌, ◌++◌, length, get_or, set, take, drop, refl, sym, ap, subst, ◌∙◌, arith, add-one, length-set}
 use Rattle.std.specs.List.{slice_get, insert}
 use Rattle.std.specs.Option.{option_map, option_eq}
 use Rattle.std.specs.Cmp.{tied_itself}
-use Rattle.std.specs.declared.cmp.Ordering.{Ordering}
-use Rattle.std.specs.declared.cmp.Ordering.TheVariants.{Less, Equal, Greater}
+use Rattle.std.specs.declared.cmp.Ordering.TheVariants.{Less, Equal}
 use Rattle.std.specs.Ordering.{is_lt}
 use Rattle.std.specs.FinMap.Entries.{find, put, find-put, below_all, is_sorted}
 use Rattle.std.specs.Prelude.{eqb, nat_le, IfSome, OnOk, Result, Ok, Err}
@@ -25,7 +24,7 @@ use Rattle.route_join.specs.declared.table.Taken.TheVariants.{Newer, Known}
 use Rattle.route_wire.specs.Totals.{register_total}
 use Rattle.route_join.specs.Table.{entries_of, IsOrdered, is_news}
 use Rattle.route_join.specs.Owner.{advert_in, advert_of, IsBetter, is_better}
-use Rattle.route_join.specs.Group.{told, Leads, HasWinner, candidate_in, candidate_at, leader_of, wins, better_place, moved, IsLeader, update_among, entries_with}
+use Rattle.route_join.specs.Group.{told, Leads, HasWinner, candidate_in, candidate_at, wins, better_place, moved, IsLeader, update_among, entries_with}
 use Rattle.route_join.proofs.Orders.{less, both}
 use Rattle.route_join.proofs.Tables.{same_or_other, itself_register, other_register}
 use Rattle.route_join.proofs.Places.{IsPlace, IsGap}
@@ -34,8 +33,7 @@ use Rattle.route_join.proofs.Owners.{in_list, at_last, at_before, fresh, better_
 
 -- ---- one update more may win
 module _ (us : List Fields) (says after : Register → Option Advert) (at : ℕ) (u : Fields) (stands : slice_get us at ≡ Some u)
-  (same : after u.register ≡ advert_in u.value.content) (others : (q : Register) → q ≢ u.register → after q ≡ says q) where
-
+    (same : after u.register ≡ advert_in u.value.content) (others : (q : Register) → q ≢ u.register → after q ≡ says q) where
   passed : (i : ℕ) (l : Leads us says i) → l.update.register ≢ u.register → ((b : Advert) → advert_in u.value.content ≡ Some b → IsBetter l.advert l.update.register b u.register) → Leads us after i
   passed i l ne beats = record {
     update = l.update;
@@ -113,22 +111,21 @@ module _ (us : List Fields) (says after : Register → Option Advert) (at : ℕ)
 
 -- ---- the winner among the first updates, and one more
 module _ (us : List Fields) (at : ℕ) (s : IsOrdered us) (h : at < length us) (d : Fields) where
-
   first_more : entries_of (take (at + 1) us) ≡ entries_of (take at us) ++ ((get_or us at d).register, (get_or us at d).value) ∷ []
   first_more = ap (λ n. entries_of (take n us)) (add-one at) ∙ ap entries_of (take-suc us at d h) ∙ map-append (λ (u : Fields). (u.register, u.value)) (take at us) (get_or us at d ∷ [])
 
   split : entries_of (take at us) ++ ((get_or us at d).register, (get_or us at d).value) ∷ entries_of (drop (suc at) us) ≡ entries_of us
   split = sym (map-append (λ (u : Fields). (u.register, u.value)) (take at us) (get_or us at d ∷ drop (suc at) us))
-    ∙ ap (λ x. entries_of (take at us ++ x)) (sym (drop-cons us at d h)) ∙ ap entries_of (take-append-drop at us)
+      ∙ ap (λ x. entries_of (take at us ++ x)) (sym (drop-cons us at d h)) ∙ ap entries_of (take-append-drop at us)
 
   not_yet : find register_cmp (get_or us at d).register (entries_of (take at us)) ≡ None
   not_yet = fresh (entries_of (take at us)) (entries_of (drop (suc at) us)) ((get_or us at d).register, (get_or us at d).value) (ap (is_sorted register_cmp) split ∙ s)
 
   pub winner_more : (w : Option ℕ) → HasWinner us (told (take at us)) w → HasWinner us (told (take (at + 1) us)) (better_place us at w)
   winner_more w k = next_new us (told (take at us)) (told (take (at + 1) us)) at (get_or us at d) (slice_get-get_or us at d h)
-    (ap (λ es. in_list es (get_or us at d).register) first_more ∙ at_last (entries_of (take at us)) ((get_or us at d).register, (get_or us at d).value) not_yet)
-    (λ q ne. ap (λ es. in_list es q) first_more ∙ at_before (entries_of (take at us)) ((get_or us at d).register, (get_or us at d).value) q not_yet ne)
-    w k (ap advert_of not_yet)
+      (ap (λ es. in_list es (get_or us at d).register) first_more ∙ at_last (entries_of (take at us)) ((get_or us at d).register, (get_or us at d).value) not_yet)
+      (λ q ne. ap (λ es. in_list es q) first_more ∙ at_before (entries_of (take at us)) ((get_or us at d).register, (get_or us at d).value) q not_yet ne)
+      w k (ap advert_of not_yet)
 
 -- ---- updates in order stand at different places
 below_at : (k : Register) (us : List Fields) (i : ℕ) (x : Fields) → below_all register_cmp k (entries_of us) ≡ true → slice_get us i ≡ Some x → register_cmp k x.register ≡ Less

@@ -1,3 +1,6 @@
+pub mod Appending
+pub mod Stations
+pub mod Reporting
 pub mod Orders
 pub mod Tables
 pub mod Places
@@ -9,3 +12,5 @@ pub mod Groupings
 pub mod Leaders
 pub mod Taking
 pub mod Holding
+pub mod Joins
+pub mod Lines

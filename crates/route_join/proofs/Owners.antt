@@ -1,11 +1,11 @@
 -- The walk over a table's registers finds the owner of an address, and there is at most one.
-use Rattle.std.proofs.Common.{◌≡◌, ◌≢◌, inl, inr, ℕ, ◌≤◌, Bool, true, false, cond, ◌&&◌, ◌||◌, T, Option, Some, None, MatchOption, List, [], ◌∷◌, ◌++◌, refl, sym, ap, subst, ◌∙◌, append_assoc, append-nil, arith}
+use Rattle.std.proofs.Common.{◌≡◌, ◌≢◌, inl, inr, ℕ, ◌≤◌, Bool, true, false, cond, ◌&&◌, ◌||◌, Option, Some, None, MatchOption, List, [], ◌∷◌, ◌++◌, refl, sym, ap, subst, ◌∙◌, append_assoc, append-nil, arith}
 use Rattle.std.proofs.lemmas.Bool.Decides.{nat_tests}
 use Rattle.std.specs.Prelude.{nat_lt, ◌==◌}
 use Rattle.std.specs.declared.cmp.Ordering.{Ordering}
 use Rattle.std.specs.declared.cmp.Ordering.TheVariants.{Less, Equal, Greater}
 use Rattle.std.specs.Option.{option_map}
-use Rattle.std.specs.Ordering.{eq_by_cmp, is_eq, is_lt, ordering_reverse}
+use Rattle.std.specs.Ordering.{is_lt, ordering_reverse}
 use Rattle.std.specs.FinMap.{entries, entries_sorted, get-entries}
 use Rattle.std.specs.FinMap.Entries.{find, find-append, is_sorted, below_all}
 use Rattle.route_wire.specs.declared.update.Ip.{Ip}
@@ -17,10 +17,10 @@ use Rattle.route_wire.specs.declared.update.Value.{Value}
 use Rattle.route_wire.specs.Order.{register_cmp}
 use Rattle.route_wire.specs.Totals.{register_total, register_exact}
 use Rattle.route_join.specs.Table.{Table, register_of, value_at}
-use Rattle.route_join.specs.Owner.{advert_in, advert_of, advert_at, IsBetterBy, IsBetter, IsOwner, IsUnowned, is_better_by, is_better, is_about, said_of, better_of, best_among, owner_among, owner}
+use Rattle.route_join.specs.Owner.{advert_in, advert_of, IsBetterBy, IsBetter, IsOwner, IsUnowned, is_better_by, is_better, is_about, said_of, better_of, best_among, owner}
 use Rattle.route_join.specs.Laws.{OneOwner}
 use Rattle.route_join.proofs.Orders.{less, both, from_T}
-use Rattle.route_join.proofs.Tables.{same_register, itself_register, same_or_other, other_register}
+use Rattle.route_join.proofs.Tables.{itself_register, same_or_other, other_register}
 
 -- ---- better is a strict order, and of two registers one is better
 better_trans_by : (f g h : Bool) (m n k : ℕ) (o p q : Ordering) → (o ≡ Less → p ≡ Less → q ≡ Less) → IsBetterBy f g m n o → IsBetterBy g h n k p → IsBetterBy f h m k q

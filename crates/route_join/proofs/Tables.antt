@@ -1,5 +1,5 @@
 -- One register of a table, and the one table of a set.
-use Rattle.std.proofs.Common.{◌≡◌, ◌≢◌, ◌⊎◌, inl, inr, Bool, true, false, cond, Option, Some, None, List, [], ◌∷◌, ◌++◌, Contains, refl, sym, ap, subst, ◌∙◌}
+use Rattle.std.proofs.Common.{◌≡◌, ◌≢◌, ◌⊎◌, inl, inr, Bool, true, false, cond, Option, Some, None, List, [], ◌∷◌, refl, sym, ap, subst, ◌∙◌}
 use Rattle.std.specs.declared.cmp.Ordering.{Ordering}
 use Rattle.std.specs.declared.cmp.Ordering.TheVariants.{Less, Equal, Greater}
 use Rattle.std.specs.Cmp.{tied_itself}
@@ -7,13 +7,12 @@ use Rattle.std.specs.Ordering.{is_lt, is_eq, eq_by_cmp}
 use Rattle.std.specs.FinMap.{get, get-insert, same_map}
 use Rattle.route_wire.specs.declared.update.Register.{Register}
 use Rattle.route_wire.specs.declared.update.Value.{Value}
-use Rattle.route_wire.specs.Fields.{Fields}
 use Rattle.route_wire.specs.Order.{register_cmp, is_newer}
 use Rattle.route_wire.specs.Totals.{register_total, register_exact, value_total, neither_newer}
-use Rattle.route_join.specs.Table.{Table, value_at, with_value, IsTableOf}
+use Rattle.route_join.specs.Table.{Table, value_at, with_value}
 use Rattle.std.specs.FinMap.Entries.{find, below_all}
 use Rattle.route_join.proofs.Orders.{less, both}
-use Rattle.route_join.specs.Laws.{HaveSame, OneTable}
+use Rattle.route_join.specs.Laws.{OneTable}
 
 -- ---- registers
 pub equal_from : (o : Ordering) → is_eq o ≡ true → o ≡ Equal

@@ -1,12 +1,10 @@
 -- What all groups make of an update is what the update's group makes of it.
-use Rattle.std.proofs.Common.{◌≡◌, Bool, true, false, cond, Option, Some, None, Result, Ok, Err, List, [], ◌∷◌, ◌++◌, IfOk, OnOk, OnErr, refl, sym, ap, subst, ◌∙◌}
+use Rattle.std.proofs.Common.{◌≡◌, Bool, true, false, cond, Some, None, Result, Ok, Err, List, [], ◌∷◌, IfOk, OnOk, OnErr, refl, sym, ap, subst, ◌∙◌}
 use Rattle.std.specs.declared.alloc.AllocError.{AllocError}
 use Rattle.std.specs.BTreeMap.{insert_entry, is_at}
 use Rattle.std.specs.Map.{set_value}
 use Rattle.std.specs.FinMap.Entries.{put, find}
 use Rattle.std.proofs.lemmas.Map.Steps.{set_value_same}
-use Rattle.route_wire.specs.declared.update.Register.{Register}
-use Rattle.route_wire.specs.declared.update.Value.{Value}
 use Rattle.route_wire.specs.Fields.{Fields}
 use Rattle.route_wire.specs.Order.{register_cmp}
 use Rattle.route_join.specs.declared.table.Taken.{Taken}
@@ -47,8 +45,8 @@ module _ (gs : Groups) (u : Fields) (us new : List Fields) (k : AreGroups gs) (h
     -- what the call of the group's `take` told, of all groups
     pub groups_after : (r : Result Taken AllocError) → OnOk r (entries_of new ≡ entries_with (entries_of us) u) → OnErr r (new ≡ us) → AreGroups after
     groups_after (Ok t) e n = subst AreGroups (sym w) (groups_set (subject_of u.register.key) new
-      (subst (AreAbout (subject_of u.register.key)) (sym e) (about_with (subject_of u.register.key) (entries_of us) u (about_there (subject_of u.register.key) gs us k h) refl))
-      (subst IsSome (sym e) (some_with (entries_of us) u (some_there (subject_of u.register.key) gs us k h))) gs k)
+        (subst (AreAbout (subject_of u.register.key)) (sym e) (about_with (subject_of u.register.key) (entries_of us) u (about_there (subject_of u.register.key) gs us k h) refl))
+        (subst IsSome (sym e) (some_with (entries_of us) u (some_there (subject_of u.register.key) gs us k h))) gs k)
     groups_after (Err x) e n = subst AreGroups (sym (unchanged_in n)) k
 
     pub entries_after : (r : Result Taken AllocError) → OnOk r (entries_of new ≡ entries_with (entries_of us) u) → OnOk r (entries_of (updates_in after) ≡ entries_with (entries_of (updates_in gs)) u)
@@ -78,8 +76,8 @@ module _ (gs : Groups) (u : Fields) (k : AreGroups gs) (h : group_at (subject_of
   module _ (new : List Fields) (one : new ≡ u ∷ []) (after : Groups) (w : after ≡ insert_entry subject_cmp gs (subject_of u.register.key) new) where
     pub made_in : entries_of (updates_in after) ≡ entries_with (entries_of (updates_in gs)) u
     made_in = ap (λ x. entries_of (updates_in x)) w ∙ entries_in_all (insert_entry subject_cmp gs (subject_of u.register.key) new)
-      ∙ put_new u.register u.value gs new k h (ap entries_of one) ∙ ap (put register_cmp u.register u.value) (sym (entries_in_all gs))
-      ∙ sym (ap (λ o. cond (is_news o u.value) (put register_cmp u.register u.value (entries_of (updates_in gs))) (entries_of (updates_in gs))) absent_in)
+        ∙ put_new u.register u.value gs new k h (ap entries_of one) ∙ ap (put register_cmp u.register u.value) (sym (entries_in_all gs))
+        ∙ sym (ap (λ o. cond (is_news o u.value) (put register_cmp u.register u.value (entries_of (updates_in gs))) (entries_of (updates_in gs))) absent_in)
 
     pub groups_made : AreGroups after
     groups_made = subst AreGroups (sym w) (groups_insert (subject_of u.register.key) new (subst (λ x. AreAbout (subject_of u.register.key) (entries_of x)) (sym one) (refl, tt)) (subst (λ x. IsSome (entries_of x)) (sym one) tt) gs k)

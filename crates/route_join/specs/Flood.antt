@@ -1,5 +1,5 @@
 -- The flood list of a network: the originators that advertise it (RFC 7432, sections 7.3 and 11.1).
-use Rattle.std.specs.Prelude.{◌≡◌, ℕ, Bool, true, false, List, [], ◌∷◌, ◌==◌, Contains, IsSome, is_some, ◌&&◌, ◌↔◌, if◌then◌else◌}
+use Rattle.std.specs.Prelude.{ℕ, Bool, false, List, [], ◌∷◌, ◌==◌, Contains, IsSome, is_some, ◌&&◌, ◌↔◌, if◌then◌else◌}
 use Rattle.std.specs.List.Sorted.{IsStrictlyIncreasing}
 use Rattle.std.specs.FinMap.{entries}
 use Rattle.route_wire.specs.declared.update.Key.{Key}

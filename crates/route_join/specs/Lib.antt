@@ -1,7 +1,9 @@
 pub mod Table
+pub mod Owner
+pub mod Report
+pub mod Walk
 pub mod Place
 pub mod Taken
-pub mod Owner
 pub mod Flood
 pub mod Joins
 pub mod Laws

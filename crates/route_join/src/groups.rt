@@ -1,12 +1,17 @@
-ghost use Rattle.std.specs.Prelude.{◌≡◌, IfOk, OnOk, OnErr, None, if◌then◌else◌};
+ghost use Rattle.std.specs.Prelude.{◌≡◌, ◌+◌, ◌<◌, ◌^◌, IfOk, OnOk, OnErr, None, if◌then◌else◌};
+ghost use Rattle.std.specs.Io.KnownBytes.{append_known};
+ghost use Rattle.ether_wire.specs.Ends.{failures_after};
 ghost use Rattle.std.specs.FinMap.Entries.{find};
 ghost use Rattle.route_wire.specs.Order.{register_cmp};
 ghost use Rattle.route_join.specs.Table.{entries_of, is_news};
 ghost use Rattle.route_join.specs.Group.{entries_with, AreGroups, updates_in};
+ghost use Rattle.route_join.specs.Walk.{walked_in};
 
 use crate::group::Group;
+use crate::report::put_report;
 use crate::subject::{Subject, subject_of};
 use crate::table::Taken;
+use ether_wire::{Device, Out};
 use route_wire::Update;
 use std::alloc::{AllocError, Global};
 use std::collections::BTreeMap;
@@ -38,4 +43,19 @@ pub(crate) fn take_in(
             Ok(Taken::Newer)
         }
     }
+}
+
+/// Writes the report of the groups, one after the other.
+pub(crate) fn put_groups<O: Out>(
+    out: &mut O,
+    groups: &BTreeMap<Subject, Group>,
+) -> Result<(), Device>
+    requires { O.failed out.old + 1 < 2 ^ 64 }
+    ensures appends { OnOk result (O.written out.new ≡ append_known (O.written out.old) (walked_in groups.now.entries)) }
+    ensures failures { O.failed out.new ≡ failures_after (O.failed out.old) result }
+{
+    for (_, group) in groups {
+        put_report(out, group.updates())?;
+    }
+    Ok(())
 }

@@ -4,9 +4,17 @@
 mod flood;
 mod group;
 mod groups;
+mod laws;
 mod owner;
 mod place;
+mod report;
 mod subject;
 mod table;
+#[cfg(test)]
+mod tests;
 
+pub use laws::{
+    all_taken, join_associates, join_commutes, join_is, join_of_tables, join_repeats, none_taken,
+    one_joined, one_owner, one_table, one_taken,
+};
 pub use table::{Table, TakeError, Taken};

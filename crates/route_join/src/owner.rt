@@ -6,7 +6,7 @@ use ether_wire::{Addr, Mac, Vni};
 use route_wire::{Advert, Content, Key, Register, Update};
 
 /// Whether a key is of the address, with whatever IP address or none.
-fn is_about(key: &Key, vni: Vni, mac: Mac) -> bool
+pub(crate) fn is_about(key: &Key, vni: Vni, mac: Mac) -> bool
     ensures { result ≡ is_about vni mac key.now }
 {
     match key {
@@ -50,7 +50,7 @@ pub(crate) fn is_better(one: &(Register, Advert), other: &(Register, Advert)) ->
 }
 
 /// The better of the best so far and what an update says of the address.
-fn better(
+pub(crate) fn better(
     update: &Update,
     vni: Vni,
     mac: Mac,

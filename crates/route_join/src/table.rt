@@ -1,5 +1,8 @@
-ghost use Rattle.std.specs.Prelude.{◌≡◌, ◌↔◌, false, None, Err, IfOk, OnOk, OnErr, MatchOption};
+ghost use Rattle.std.specs.Prelude.{◌≡◌, ◌+◌, ◌<◌, ◌^◌, ◌↔◌, false, None, Err, IfOk, OnOk, OnErr, MatchOption};
 ghost use Rattle.std.specs.FinMap.{empty};
+ghost use Rattle.std.specs.Io.KnownBytes.{append_known};
+ghost use Rattle.ether_wire.specs.Ends.{failures_after};
+ghost use Rattle.route_join.specs.Report.{report_of};
 ghost use Rattle.route_join.specs.Table.{AreOriginators, IsListed, register_of, value_at, update_at, is_listed, with_update, IsKept};
 ghost use Rattle.route_join.specs.Owner.{owner, IsOwner, IsUnowned};
 ghost use Rattle.route_join.specs.Flood.{flood_of, IsFloodList};
@@ -7,10 +10,10 @@ ghost use Rattle.route_join.specs.Taken.{taken_of, number_of};
 
 use crate::flood::flood_of;
 use crate::group::Group;
-use crate::groups::take_in;
+use crate::groups::{put_groups, take_in};
 use crate::subject::{Subject, subject_of};
 use arrayvec::ArrayVec;
-use ether_wire::{Addr, Mac, Vni};
+use ether_wire::{Addr, Device, Mac, Out, Vni};
 use route_wire::{Key, Register, Update};
 use std::alloc::Global;
 use std::collections::BTreeMap;
@@ -56,7 +59,6 @@ pub struct Table {
 
 impl Model for Table {
     ghost use Rattle.route_join.specs.Table.{Table as Registered, table_from};
-
     ghost use Rattle.route_join.specs.Group.{updates_in, IsGrouped};
     ghost use Rattle.std.specs.Coded.{codes};
     ghost use Rattle.std.specs.FinMap.{code};
@@ -71,7 +73,7 @@ impl Model for Table {
 }
 
 impl Table {
-    /// A table that listens to these originators, 1 to 64 that all differ, and has taken nothing.
+    /// A table that listens to these originators (1 to 64 that all differ) and has taken nothing.
     /// It takes no memory; `take` gets what it needs from `alloc`.
     pub fn new(alloc: Global, originators: ArrayVec<Addr, 64>) -> Self
         requires { AreOriginators originators.items }
@@ -151,5 +153,19 @@ impl Table {
             None => ArrayVec::new(),
             Some(group) => flood_of(group.updates(), vni),
         }
+    }
+
+    /// Writes the report of the table: a line for each register, and one for the owner of each MAC
+    /// address behind its last register. It takes no memory.
+    ///
+    /// # Errors
+    ///
+    /// `Device` exactly where a call of the writer failed; then no further call is made.
+    pub fn write_report<W: Out>(&self, out: &mut W) -> Result<(), Device>
+        requires { W.failed out.old + 1 < 2 ^ 64 }
+        ensures appends { OnOk result (W.written out.new ≡ append_known (W.written out.old) (report_of self.now)) }
+        ensures failures { W.failed out.new ≡ failures_after (W.failed out.old) result }
+    {
+        put_groups(out, &self.groups)
     }
 }

@@ -73,7 +73,7 @@ returns-else-is_err-clause-entries c =
     let h : group_at (subject_of u.register.key) c.args.groups.now.entries ≡ None = ap (λ x. group_at x c.args.groups.now.entries) (sym s) ∙ sym c.in-None.ensures.value in
     made_in c.args.groups.now.entries u c.requires h c.in-Ok.group c.in-Ok.ensures c.insert.new.self.entries
     (on_ok c.insert.result _ c.insert.ensures.entries (sym c.is_err.ensures.value ∙ c.if-is_err.false)
-     ∙ ap (λ (m : BTreeMap Subject (List Fields)). insert_entry subject_cmp m.entries c.subject_of-subject.result c.in-Ok.group) c.get_mut.follows.holds-at-none ∙ ap (λ x. insert_entry subject_cmp c.args.groups.now.entries x c.in-Ok.group) s)
+    ∙ ap (λ (m : BTreeMap Subject (List Fields)). insert_entry subject_cmp m.entries c.subject_of-subject.result c.in-Ok.group) c.get_mut.follows.holds-at-none ∙ ap (λ x. insert_entry subject_cmp c.args.groups.now.entries x c.in-Ok.group) s)
 
 pub returns-else-is_err-clause-groups : goal.returns-else-is_err-clause-groups
 returns-else-is_err-clause-groups c =
@@ -82,4 +82,4 @@ returns-else-is_err-clause-groups c =
     let h : group_at (subject_of u.register.key) c.args.groups.now.entries ≡ None = ap (λ x. group_at x c.args.groups.now.entries) (sym s) ∙ sym c.in-None.ensures.value in
     groups_made c.args.groups.now.entries u c.requires h c.in-Ok.group c.in-Ok.ensures c.insert.new.self.entries
     (on_ok c.insert.result _ c.insert.ensures.entries (sym c.is_err.ensures.value ∙ c.if-is_err.false)
-     ∙ ap (λ (m : BTreeMap Subject (List Fields)). insert_entry subject_cmp m.entries c.subject_of-subject.result c.in-Ok.group) c.get_mut.follows.holds-at-none ∙ ap (λ x. insert_entry subject_cmp c.args.groups.now.entries x c.in-Ok.group) s)
+    ∙ ap (λ (m : BTreeMap Subject (List Fields)). insert_entry subject_cmp m.entries c.subject_of-subject.result c.in-Ok.group) c.get_mut.follows.holds-at-none ∙ ap (λ x. insert_entry subject_cmp c.args.groups.now.entries x c.in-Ok.group) s)

@@ -5,7 +5,7 @@ use Rattle.std.specs.FinMap.Entries.{put}
 use Rattle.route_wire.specs.Order.{register_cmp}
 use Rattle.route_join.specs.Table.{entries_of}
 use Rattle.route_join.specs.Place.{place_of}
-use Rattle.route_join.specs.Group.{told, better_place, moved, HasWinner, IsGroup}
+use Rattle.route_join.specs.Group.{told, better_place, moved, IsGroup}
 use Rattle.route_join.proofs.Places.{gapped}
 use Rattle.route_join.proofs.Edits.{inserted, ordered_put}
 use Rattle.route_join.proofs.Leaders.{winner_inserted, winner_movable}
@@ -30,7 +30,7 @@ invariant_of-self-2 c =
     let p = gapped us u.register c.args.at c.self.invariant.ordered (ap (λ x. place_of x u.register) c.self.view_is ∙ c.requires) in
     let there : c.insert.new.self.items ≡ insert us c.args.at u = inserted c.insert.new.self.items _ _ _ c.insert.ensures.items c.if-is_err.ensures.negation in
     let place : c.better_place-self-inside.result ≡ better_place (insert us c.args.at u) c.args.at (moved c.args.at c.self.inside.winner) =
-      c.better_place-self-inside.ensures ∙ ap (λ x. better_place x c.args.at c.moved.result) (c.deref.ensures.value ∙ there) ∙ ap (better_place (insert us c.args.at u) c.args.at) c.moved.ensures in
+    c.better_place-self-inside.ensures ∙ ap (λ x. better_place x c.args.at c.moved.result) (c.deref.ensures.value ∙ there) ∙ ap (better_place (insert us c.args.at u) c.args.at) c.moved.ensures in
     subst (λ x. IsGroup x c.better_place-self-inside.result) (sym there) (subst (IsGroup (insert us c.args.at u)) (sym place) record {
       ordered = ordered_put [] us (insert us c.args.at u) u c.self.invariant.ordered (p.write u refl);
       winner = winner_inserted us c.args.at u c.self.inside.winner p c.self.invariant.winner;

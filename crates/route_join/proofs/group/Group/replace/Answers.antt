@@ -3,7 +3,7 @@ use Rattle.std.specs.FinMap.Entries.{put}
 use Rattle.route_wire.specs.Order.{register_cmp}
 use Rattle.route_join.specs.Table.{entries_of, IsOrdered}
 use Rattle.route_join.specs.Place.{place_of}
-use Rattle.route_join.specs.Group.{told, better_place, HasWinner, IsGroup}
+use Rattle.route_join.specs.Group.{told, better_place, HasWinner}
 use Rattle.route_join.proofs.Places.{placed}
 use Rattle.route_join.proofs.Edits.{ordered_put}
 use Rattle.route_join.proofs.Leaders.{winner_set, not_at}
@@ -32,9 +32,9 @@ invariant_of-self c =
     let ordered : IsOrdered new = ordered_put [] us new u c.self.invariant.ordered (p.write u refl) in
     elim c.if-eq.branch [
       | then-eq w ↦ record {
-          ordered = ordered;
-          winner = subst (HasWinner new (told new)) (sym w.self-is) (subst (λ x. HasWinner x (told x) w.best_place-self-inside.result) w.deref.ensures.value w.best_place-self-inside.ensures);
-        }
+        ordered = ordered;
+        winner = subst (HasWinner new (told new)) (sym w.self-is) (subst (λ x. HasWinner x (told x) w.best_place-self-inside.result) w.deref.ensures.value w.best_place-self-inside.ensures);
+      }
       | else-eq w ↦
           let place : c.if-eq.self ≡ better_place new c.args.at c.self.inside.winner = w.self-is ∙ w.better_place-self-inside.ensures ∙ ap (λ x. better_place x c.args.at c.self.inside.winner) w.deref-else-eq.ensures.value in
           let ne : c.self.inside.winner ≢ Some c.args.at = not_at c.self.inside.winner c.args.at c.eq.result c.eq.ensures w.if-eq.false in

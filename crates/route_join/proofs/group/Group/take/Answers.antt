@@ -1,4 +1,4 @@
-use Rattle.std.proofs.Common.{◌≡◌, ◌<◌, length, ap, refl, sym, subst, ◌∙◌, arith}
+use Rattle.std.proofs.Common.{◌≡◌, ◌<◌, length, ap, sym, subst, ◌∙◌, arith}
 use Rattle.std.specs.FinMap.Entries.{find, put}
 use Rattle.route_wire.specs.Order.{register_cmp}
 use Rattle.route_join.specs.Table.{entries_of}

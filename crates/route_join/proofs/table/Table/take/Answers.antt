@@ -1,10 +1,10 @@
 use Rattle.route_join.specs.declared.table.Taken.{Taken}
 use Rattle.route_join.specs.declared.table.TakeError.{TakeError}
 use Rattle.route_join.specs.declared.table.TakeError.TheVariants.{UnknownOriginator}
-use Rattle.std.proofs.Common.{Result, Ok, Err, ◌≡◌, ◌↔◌, true, false, ap, sym, subst, ◌∙◌}
-use Rattle.route_join.specs.Table.{Table, is_listed, value_at, table_from, with_update}
+use Rattle.std.proofs.Common.{Result, Ok, Err, ◌≡◌, ◌↔◌, false, ap, sym, subst, ◌∙◌}
+use Rattle.route_join.specs.Table.{Table, is_listed, value_at, with_update}
 use Rattle.route_join.specs.Taken.{taken_of}
-use Rattle.route_join.specs.Group.{IsGrouped, updates_in}
+use Rattle.route_join.specs.Group.{updates_in}
 use Rattle.route_join.proofs.Edits.{found, listed_by, not_unknown}
 use Rattle.route_join.proofs.Holding.{kept_with, table_with, taken_is, taken_known}
 use Rattle.route_join.proofs.table.Table.take.Goals as goal
@@ -21,7 +21,7 @@ returns-in_default-clause-no_memory c = λ h.
 pub invariant_of-self-2 : goal.invariant_of-self-2
 invariant_of-self-2 c = record {
   kept = kept_with c.self.inside.originators.items (updates_in c.self.inside.groups.entries) (updates_in c.take_in.new.groups.entries) c.args.update.now c.self.invariant.kept c.in-Ok.ensures.entries
-    (listed_by c.self.inside.originators.items _ c.args.update.now.register _ c.deref.ensures.0 c.register.ensures c.if-not-contains.ensures.value);
+      (listed_by c.self.inside.originators.items _ c.args.update.now.register _ c.deref.ensures.0 c.register.ensures c.if-not-contains.ensures.value);
   groups = c.in-Ok.ensures.groups;
 }
 

@@ -1,0 +1,100 @@
+//! Ends over memory, which tell their octets.
+ghost use Rattle.std.specs.Prelude.{◌≡◌, ◌+◌, ◌<◌, ◌≤◌, ◌^◌, ◌↔◌, ◌++◌, [], length, Some, IsOk, OnOk, OnErr};
+ghost use Rattle.std.specs.Io.KnownBytes.{append_known};
+ghost use Rattle.ether_wire.specs.Ends.{failures_after};
+
+use crate::ends::{Device, In, Out};
+use arrayvec::ArrayVec;
+
+/// A reader of a slice. It never fails.
+#[derive(Drop)]
+pub struct Octets<'a> {
+    left: &'a [u8],
+}
+
+impl<'a> Octets<'a> {
+    ghost use Rattle.ether_wire.specs.Memory.{octets_left};
+
+    /// A reader with all of the slice before it.
+    pub fn new(octets: &'a [u8]) -> Self
+        ensures { octets_left result ≡ octets.now }
+    {
+        Octets { left: octets }
+    }
+}
+
+impl In for Octets<'_> {
+    ghost left = { λ r. Some r.left.now };
+
+    ghost failed = { λ _. 0 };
+
+    fn failures(&self) -> u64 {
+        0
+    }
+
+    fn read(&mut self, buffer: &mut [u8]) -> Result<usize, Device> {
+        let n = self.left.len().min(buffer.len());
+        let (front, rest) = self.left.split_at(n);
+        buffer[..n].copy_from_slice(front);
+        self.left = rest;
+        Ok(n)
+    }
+}
+
+/// A writer with room for N octets. It fails where what is put has no room, and then keeps what it
+/// holds.
+#[derive(Drop)]
+pub struct Page<const N: usize> {
+    octets: ArrayVec<u8, N>,
+    failures: u64,
+}
+
+impl<const N: usize> Page<N> {
+    ghost use Rattle.ether_wire.specs.Memory.{page_octets, page_failures};
+
+    /// An empty page.
+    pub fn new() -> Self
+        ensures empty { page_octets result ≡ [] }
+        ensures unfailed { page_failures result ≡ 0 }
+    {
+        Page {
+            octets: ArrayVec::new(),
+            failures: 0,
+        }
+    }
+
+    /// What was written.
+    pub fn octets(&self) -> &[u8]
+        ensures { result.now ≡ page_octets self.now }
+    {
+        self.octets.as_slice()
+    }
+}
+
+impl<const N: usize> Out for Page<N> {
+    ghost use Rattle.ether_wire.specs.Memory.{page_octets};
+
+    ghost written = { λ p. Some p.octets.items };
+
+    ghost failed = { λ p. p.failures };
+
+    fn failures(&self) -> u64 {
+        self.failures
+    }
+
+    fn put(&mut self, octets: &[u8]) -> Result<(), Device>
+        requires { self.old.failures + 1 < 2 ^ 64 }
+        ensures appends { OnOk result (Some (page_octets self.new) ≡ append_known (Some (page_octets self.old)) octets.now) }
+        ensures failures { self.new.failures ≡ failures_after self.old.failures result }
+        ensures fits { IsOk result ↔ (length (page_octets self.old) + length octets.now ≤ N) }
+        ensures err { OnErr result (page_octets self.new ≡ page_octets self.old) }
+    {
+        match self.octets.try_extend_from_slice(octets) {
+            Ok(()) => Ok(()),
+            Err(_) => {
+                self.failures += 1;
+                Err(Device)
+            }
+        }
+    }
+}

@@ -1,0 +1,312 @@
+//! The text of a report, piece by piece. It takes no memory.
+ghost use Rattle.std.specs.Prelude.{◌≡◌, IfOk, None, ◌+◌, ◌<◌, ◌^◌, ◌++◌, OnOk, codes, decimal};
+ghost use Rattle.std.specs.Io.KnownBytes.{append_known};
+ghost use Rattle.ether_wire.specs.Ends.{failures_after};
+ghost use Rattle.route_wire.specs.Order.{label2_of};
+ghost use Rattle.route_join.specs.Table.{entries_of, IsOrdered};
+ghost use Rattle.route_join.specs.Walk.{Best, named, after_line, best_after, walked};
+ghost use Rattle.route_join.specs.Report.{spaced, groups_text, addr6_text, ip_text, counter_text, flood_state, mac_state, ip_words, label2_words, station_text, origin_text, flood_line, mac_line, register_line, owner_name, owner_line, goes_on, report_lines};
+
+use crate::owner::{better, is_about};
+use ether_wire::{Addr, Device, Mac, Out, Vni, put_addr, put_decimal, put_hex_group, put_mac};
+use route_wire::{Addr6, Advert, Content, Ip, Key, Register, Update, Value};
+
+/// Writes four groups of four hexadecimal digits with colons.
+#[tactic(auto, using(ether_wire::proofs::Appending::append_known_twice), unfolding(crate::specs::Report::groups_text))]
+fn put_groups<O: Out>(out: &mut O, number: u64) -> Result<(), Device>
+    requires { O.failed out.old + 1 < 2 ^ 64 }
+    ensures appends { OnOk result (O.written out.new ≡ append_known (O.written out.old) (groups_text number)) }
+    ensures failures { O.failed out.new ≡ failures_after (O.failed out.old) result }
+{
+    put_hex_group(out, (number / 0x1_0000_0000_0000 % 0x1_0000) as u16)?;
+    out.put(b":")?;
+    put_hex_group(out, (number / 0x1_0000_0000 % 0x1_0000) as u16)?;
+    out.put(b":")?;
+    put_hex_group(out, (number / 0x1_0000 % 0x1_0000) as u16)?;
+    out.put(b":")?;
+    put_hex_group(out, (number % 0x1_0000) as u16)
+}
+
+/// Writes eight groups of four hexadecimal digits with colons.
+#[tactic(auto, using(ether_wire::proofs::Appending::append_known_twice))]
+fn put_addr6<O: Out>(out: &mut O, address: Addr6) -> Result<(), Device>
+    requires { O.failed out.old + 1 < 2 ^ 64 }
+    ensures appends { OnOk result (O.written out.new ≡ append_known (O.written out.old) (addr6_text address)) }
+    ensures failures { O.failed out.new ≡ failures_after (O.failed out.old) result }
+{
+    let number = address.number();
+    put_groups(out, (number / 0x1_0000_0000_0000_0000) as u64)?;
+    out.put(b":")?;
+    put_groups(out, (number % 0x1_0000_0000_0000_0000) as u64)
+}
+
+fn put_ip<O: Out>(out: &mut O, ip: Ip) -> Result<(), Device>
+    requires { O.failed out.old + 1 < 2 ^ 64 }
+    ensures appends { OnOk result (O.written out.new ≡ append_known (O.written out.old) (ip_text ip)) }
+    ensures failures { O.failed out.new ≡ failures_after (O.failed out.old) result }
+{
+    match ip {
+        Ip::V4(address) => put_addr(out, address),
+        Ip::V6(address) => put_addr6(out, address),
+    }
+}
+
+/// Writes the IP address of a key that has one.
+#[tactic(auto, using(ether_wire::proofs::Appending::append_known_twice, crate::proofs::Appending::append_known_none))]
+fn put_ip_words<O: Out>(out: &mut O, ip: Option<Ip>) -> Result<(), Device>
+    requires { O.failed out.old + 1 < 2 ^ 64 }
+    ensures appends { OnOk result (O.written out.new ≡ append_known (O.written out.old) (ip_words ip)) }
+    ensures failures { O.failed out.new ≡ failures_after (O.failed out.old) result }
+{
+    match ip {
+        None => Ok(()),
+        Some(ip) => {
+            out.put(b" ip ")?;
+            put_ip(out, ip)
+        }
+    }
+}
+
+/// Writes the second label of an advert that has one.
+#[tactic(auto, using(ether_wire::proofs::Appending::append_known_twice, crate::proofs::Appending::append_known_none))]
+fn put_label2_words<O: Out>(out: &mut O, label2: Option<Vni>) -> Result<(), Device>
+    requires { O.failed out.old + 1 < 2 ^ 64 }
+    ensures appends { OnOk result (O.written out.new ≡ append_known (O.written out.old) (label2_words label2)) }
+    ensures failures { O.failed out.new ≡ failures_after (O.failed out.old) result }
+{
+    match label2 {
+        None => Ok(()),
+        Some(label) => {
+            out.put(b" label2 ")?;
+            put_decimal(out, u64::from(label.number()))
+        }
+    }
+}
+
+/// Writes a network and a MAC address in it.
+#[tactic(auto, using(ether_wire::proofs::Appending::append_known_twice))]
+fn put_station<O: Out>(out: &mut O, vni: Vni, mac: Mac) -> Result<(), Device>
+    requires { O.failed out.old + 1 < 2 ^ 64 }
+    ensures appends { OnOk result (O.written out.new ≡ append_known (O.written out.old) (station_text vni mac)) }
+    ensures failures { O.failed out.new ≡ failures_after (O.failed out.old) result }
+{
+    put_decimal(out, u64::from(vni.number()))?;
+    out.put(b" ")?;
+    put_mac(out, mac)
+}
+
+/// Writes a counter, behind its incarnation where that isn't 0.
+#[tactic(auto, using(ether_wire::proofs::Appending::append_known_twice))]
+fn put_counter<O: Out>(out: &mut O, value: &Value) -> Result<(), Device>
+    requires { O.failed out.old + 1 < 2 ^ 64 }
+    ensures appends { OnOk result (O.written out.new ≡ append_known (O.written out.old) (counter_text value.now)) }
+    ensures failures { O.failed out.new ≡ failures_after (O.failed out.old) result }
+{
+    if value.incarnation != 0 {
+        put_decimal(out, u64::from(value.incarnation))?;
+        out.put(b".")?;
+    }
+    put_decimal(out, value.counter)
+}
+
+/// Writes an originator and the counter of its value.
+#[tactic(auto, using(ether_wire::proofs::Appending::append_known_twice))]
+fn put_origin<O: Out>(out: &mut O, originator: Addr, value: &Value) -> Result<(), Device>
+    requires { O.failed out.old + 1 < 2 ^ 64 }
+    ensures appends { OnOk result (O.written out.new ≡ append_known (O.written out.old) (origin_text originator value.now)) }
+    ensures failures { O.failed out.new ≡ failures_after (O.failed out.old) result }
+{
+    put_addr(out, originator)?;
+    out.put(b" ")?;
+    put_counter(out, value)
+}
+
+/// Writes what is said of a flood list.
+fn put_flood_state<O: Out>(out: &mut O, content: &Content) -> Result<(), Device>
+    requires { O.failed out.old + 1 < 2 ^ 64 }
+    ensures appends { OnOk result (O.written out.new ≡ append_known (O.written out.old) (flood_state content.now)) }
+    ensures failures { O.failed out.new ≡ failures_after (O.failed out.old) result }
+{
+    match content {
+        Content::Withdrawn => out.put(b"withdrawn"),
+        Content::Advert(_) => out.put(b"up"),
+    }
+}
+
+/// Writes what is said of a MAC address.
+#[tactic(auto, using(ether_wire::proofs::Appending::append_known_twice))]
+fn put_mac_state<O: Out>(out: &mut O, content: &Content) -> Result<(), Device>
+    requires { O.failed out.old + 1 < 2 ^ 64 }
+    ensures appends { OnOk result (O.written out.new ≡ append_known (O.written out.old) (mac_state content.now)) }
+    ensures failures { O.failed out.new ≡ failures_after (O.failed out.old) result }
+{
+    match content {
+        Content::Withdrawn => out.put(b"withdrawn"),
+        Content::Advert(advert) => {
+            if advert.is_static {
+                out.put(b"static ")?;
+            } else {
+                out.put(b"dynamic ")?;
+            }
+            put_decimal(out, u64::from(advert.sequence))
+        }
+    }
+}
+
+fn label2(content: &Content) -> Option<Vni>
+    ensures { result ≡ label2_of content.now }
+{
+    match content {
+        Content::Withdrawn => None,
+        Content::Advert(advert) => advert.label2,
+    }
+}
+
+/// Writes the line of a flood list.
+#[tactic(auto, using(ether_wire::proofs::Appending::append_known_twice))]
+fn put_flood_line<O: Out>(
+    out: &mut O,
+    vni: Vni,
+    originator: Addr,
+    value: &Value,
+) -> Result<(), Device>
+    requires { O.failed out.old + 1 < 2 ^ 64 }
+    ensures appends { OnOk result (O.written out.new ≡ append_known (O.written out.old) (flood_line vni originator value.now)) }
+    ensures failures { O.failed out.new ≡ failures_after (O.failed out.old) result }
+{
+    out.put(b"flood ")?;
+    put_decimal(out, u64::from(vni.number()))?;
+    out.put(b" ")?;
+    put_origin(out, originator, value)?;
+    out.put(b" ")?;
+    put_flood_state(out, &value.content)?;
+    out.put(b"\n")
+}
+
+/// Writes the line of a MAC address.
+#[tactic(auto, using(ether_wire::proofs::Appending::append_known_twice))]
+fn put_mac_line<O: Out>(
+    out: &mut O,
+    vni: Vni,
+    mac: Mac,
+    ip: Option<Ip>,
+    originator: Addr,
+    value: &Value,
+) -> Result<(), Device>
+    requires { O.failed out.old + 1 < 2 ^ 64 }
+    ensures appends { OnOk result (O.written out.new ≡ append_known (O.written out.old) (mac_line vni mac ip originator value.now)) }
+    ensures failures { O.failed out.new ≡ failures_after (O.failed out.old) result }
+{
+    out.put(b"mac ")?;
+    put_station(out, vni, mac)?;
+    out.put(b" ")?;
+    put_origin(out, originator, value)?;
+    out.put(b" ")?;
+    put_mac_state(out, &value.content)?;
+    put_ip_words(out, ip)?;
+    put_label2_words(out, label2(&value.content))?;
+    out.put(b"\n")
+}
+
+/// Writes the line of a register.
+pub(crate) fn put_update<O: Out>(out: &mut O, update: &Update) -> Result<(), Device>
+    requires { O.failed out.old + 1 < 2 ^ 64 }
+    ensures appends { OnOk result (O.written out.new ≡ append_known (O.written out.old) (register_line update.now.register update.now.value)) }
+    ensures failures { O.failed out.new ≡ failures_after (O.failed out.old) result }
+{
+    let Register { originator, key } = update.register();
+    let value = update.value();
+    match key {
+        Key::Flood(vni) => put_flood_line(out, vni, originator, &value),
+        Key::Mac(vni, mac, ip) => put_mac_line(out, vni, mac, ip, originator, &value),
+    }
+}
+
+fn put_owner_name<O: Out>(out: &mut O, owner: Option<Addr>) -> Result<(), Device>
+    requires { O.failed out.old + 1 < 2 ^ 64 }
+    ensures appends { OnOk result (O.written out.new ≡ append_known (O.written out.old) (owner_name owner)) }
+    ensures failures { O.failed out.new ≡ failures_after (O.failed out.old) result }
+{
+    match owner {
+        None => out.put(b"none"),
+        Some(originator) => put_addr(out, originator),
+    }
+}
+
+/// Writes the line of the owner of a MAC address.
+#[tactic(auto, using(ether_wire::proofs::Appending::append_known_twice))]
+pub(crate) fn put_owner<O: Out>(
+    out: &mut O,
+    vni: Vni,
+    mac: Mac,
+    owner: Option<Addr>,
+) -> Result<(), Device>
+    requires { O.failed out.old + 1 < 2 ^ 64 }
+    ensures appends { OnOk result (O.written out.new ≡ append_known (O.written out.old) (owner_line vni mac owner)) }
+    ensures failures { O.failed out.new ≡ failures_after (O.failed out.old) result }
+{
+    out.put(b"owner ")?;
+    put_station(out, vni, mac)?;
+    out.put(b" ")?;
+    put_owner_name(out, owner)?;
+    out.put(b"\n")
+}
+
+/// Whether the next register is of the address too.
+fn goes_on(rest: &[Update], vni: Vni, mac: Mac) -> bool
+    ensures { result ≡ goes_on vni mac (entries_of rest.now) }
+{
+    match rest.first() {
+        None => false,
+        Some(next) => is_about(&next.register().key, vni, mac),
+    }
+}
+
+/// Writes the owner's line after the last register of an address. The best advert of an address is
+/// kept from its first register to its last.
+#[tactic(auto, using(crate::proofs::Appending::append_known_none))]
+fn put_after<O: Out>(
+    out: &mut O,
+    update: &Update,
+    rest: &[Update],
+    best: Option<(Register, Advert)>,
+) -> Result<Option<(Register, Advert)>, Device>
+    requires { O.failed out.old + 1 < 2 ^ 64 }
+    ensures appends { OnOk result (O.written out.new ≡ append_known (O.written out.old)
+        (after_line update.now.register.key update.now.register update.now.value best (entries_of rest.now))) }
+    ensures best { IfOk result (λ b. b ≡ best_after update.now.register.key update.now.register update.now.value best (entries_of rest.now)) }
+    ensures failures { O.failed out.new ≡ failures_after (O.failed out.old) result }
+{
+    let register = update.register();
+    let Key::Mac(vni, mac, _) = &register.key else {
+        return Ok(None);
+    };
+    let (vni, mac) = (*vni, *mac);
+    let best = better(update, vni, mac, best);
+    if goes_on(rest, vni, mac) {
+        return Ok(best);
+    }
+    let owner = match best {
+        None => None,
+        Some((register, _)) => Some(register.originator),
+    };
+    put_owner(out, vni, mac, owner)?;
+    Ok(None)
+}
+
+/// Writes the report of updates in the order of their registers.
+pub(crate) fn put_report<O: Out>(out: &mut O, updates: &[Update]) -> Result<(), Device>
+    requires room { O.failed out.old + 1 < 2 ^ 64 }
+    requires ordered { IsOrdered updates.now }
+    ensures appends { OnOk result (O.written out.new ≡ append_known (O.written out.old) (report_lines (entries_of updates.now))) }
+    ensures failures { O.failed out.new ≡ failures_after (O.failed out.old) result }
+{
+    let mut rest = updates;
+    let mut best = None;
+    while let Some((update, after)) = rest.split_first() {
+        put_update(out, update)?;
+        best = put_after(out, update, after, best)?;
+        rest = after;
+    }
+    Ok(())
+}
