@@ -128,14 +128,14 @@ module _ (us : List Fields) (at : ℕ) (s : IsOrdered us) (h : at < length us) (
       w k (ap advert_of not_yet)
 
 -- ---- updates in order stand at different places
-below_at : (k : Register) (us : List Fields) (i : ℕ) (x : Fields) → below_all register_cmp k (entries_of us) ≡ true → slice_get us i ≡ Some x → register_cmp k x.register ≡ Less
+pub below_at : (k : Register) (us : List Fields) (i : ℕ) (x : Fields) → below_all register_cmp k (entries_of us) ≡ true → slice_get us i ≡ Some x → register_cmp k x.register ≡ Less
 below_at k [] i x b h = cc
 below_at k (u ∷ us) zero x b h =
     let same : u ≡ x = cc in
     subst (λ (y : Fields). register_cmp k y.register ≡ Less) same (less (register_cmp k u.register) (both (is_lt (register_cmp k u.register)) (below_all register_cmp k (entries_of us)) b).0)
 below_at k (u ∷ us) (suc i) x b h = below_at k us i x (both (is_lt (register_cmp k u.register)) (below_all register_cmp k (entries_of us)) b).1 h
 
-not_less_itself : (k q : Register) → register_cmp k q ≡ Less → k ≡ q → ⊥
+pub not_less_itself : (k q : Register) → register_cmp k q ≡ Less → k ≡ q → ⊥
 not_less_itself k q l same = let e : register_cmp k q ≡ Equal = ap (register_cmp k) (sym same) ∙ tied_itself register_total k in cc
 
 pub one_place : (us : List Fields) (i j : ℕ) (x y : Fields) → IsOrdered us → slice_get us i ≡ Some x → slice_get us j ≡ Some y → x.register ≡ y.register → i ≡ j

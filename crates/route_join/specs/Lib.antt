@@ -9,3 +9,4 @@ pub mod Joins
 pub mod Laws
 pub mod Subject
 pub mod Group
+pub mod Merge

@@ -17,4 +17,4 @@ pub use laws::{
     all_taken, join_associates, join_commutes, join_is, join_of_tables, join_repeats, none_taken,
     one_joined, one_owner, one_table, one_taken,
 };
-pub use table::{Table, TakeError, Taken};
+pub use table::{MergeError, Table, TakeError, Taken};

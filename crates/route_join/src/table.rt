@@ -1,9 +1,13 @@
-ghost use Rattle.std.specs.Prelude.{◌≡◌, ◌+◌, ◌<◌, ◌^◌, ◌↔◌, false, None, Err, IfOk, OnOk, OnErr, MatchOption};
+ghost use Rattle.std.specs.Prelude.{◌≡◌, ℕ, ◌+◌, ◌-◌, ◌<◌, ◌^◌, ◌↔◌, min, true, false, Some, IfErr, None, Err, IfOk, OnOk, OnErr, MatchOption};
 ghost use Rattle.std.specs.FinMap.{empty};
 ghost use Rattle.std.specs.Io.KnownBytes.{append_known};
 ghost use Rattle.ether_wire.specs.Ends.{failures_after};
 ghost use Rattle.route_join.specs.Report.{report_of};
-ghost use Rattle.route_join.specs.Table.{AreOriginators, IsListed, register_of, value_at, update_at, is_listed, with_update, IsKept};
+ghost use Rattle.std.specs.List.{slice_get};
+ghost use Rattle.route_wire.specs.Fields.{Fields};
+ghost use Rattle.route_join.specs.Joins.{join};
+ghost use Rattle.route_join.specs.Merge.{StopsAt, JoinsFirst};
+ghost use Rattle.route_join.specs.Table.{with_updates, AreOriginators, IsListed, register_of, value_at, update_at, is_listed, with_update, IsKept};
 ghost use Rattle.route_join.specs.Owner.{owner, IsOwner, IsUnowned};
 ghost use Rattle.route_join.specs.Flood.{flood_of, IsFloodList};
 ghost use Rattle.route_join.specs.Taken.{taken_of, number_of};
@@ -35,6 +39,14 @@ pub enum TakeError {
     UnknownOriginator,
     /// The register is new, and there is no memory for it.
     NoMemory,
+}
+
+/// Memory for a new register was refused in a merge.
+#[derive(Clone, Copy, Debug, PartialEq, Eq)]
+pub struct MergeError {
+    /// How many of the other table's registers were joined before, from the first in the order of a
+    /// report. More than `usize::MAX` are told as that.
+    pub joined: usize,
 }
 
 impl TakeError {
@@ -153,6 +165,46 @@ impl Table {
             None => ArrayVec::new(),
             Some(group) => flood_of(group.updates(), vni),
         }
+    }
+
+    // Takes updates of originators that the table listens to, one after the other. Where memory is
+    // refused, it tells how many were taken before.
+    fn take_all(&mut self, updates: &[Update]) -> Result<(), usize>
+        requires { (k : ℕ) → (u : Fields) → slice_get updates.now k ≡ Some u → is_listed self.old u.register.originator ≡ true }
+        ensures taken { OnOk result (self.new ≡ with_updates self.old updates.now) }
+        ensures refused { IfErr result (λ k. StopsAt self.old updates.now k self.new) }
+    {
+        for (k, update) in updates.iter().enumerate() {
+            if self.take(update).is_err() {
+                return Err(k);
+            }
+        }
+        Ok(())
+    }
+
+    /// Joins another table to this one: each register of either has then the newer of its values. The
+    /// other's originators are all listed here too.
+    ///
+    /// # Errors
+    ///
+    /// `MergeError` where memory for a new register was refused. It tells how many of the other's
+    /// registers were joined before, in the order of a report; a second merge completes the first.
+    pub fn merge(&mut self, other: &Table) -> Result<(), MergeError>
+        requires { (o : ℕ) → is_listed other.now o ≡ true → is_listed self.old o ≡ true }
+        ensures join { OnOk result (self.new ≡ join self.old other.now) }
+        ensures refused { IfErr result (λ e. (k : ℕ) × (e.joined ≡ min k (2 ^ 64 - 1)) × JoinsFirst self.old other.now k self.new) }
+    {
+        let mut joined = 0usize;
+        for (_, group) in &other.groups {
+            let updates = group.updates();
+            if let Err(k) = self.take_all(updates) {
+                return Err(MergeError {
+                    joined: joined.saturating_add(k),
+                });
+            }
+            joined = joined.saturating_add(updates.len());
+        }
+        Ok(())
     }
 
     /// Writes the report of the table: a line for each register, and one for the owner of each MAC

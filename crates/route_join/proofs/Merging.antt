@@ -1,0 +1,137 @@
+-- Updates taken one after the other, and the join of two tables of groups.
+use Rattle.std.proofs.Common.{◌≡◌, ℕ, suc, zero, ◌+◌, ◌<◌, true, false, cond, Some, List, [], ◌∷◌, ◌++◌, map, length, get_or, take, refl, sym, ap, subst, ◌∙◌, add-one, zero-add, suc-add}
+use Rattle.std.specs.List.{slice_get, list_any}
+use Rattle.std.specs.Prelude.{eqb, OnErr, Result, Ok, Err}
+use Rattle.std.specs.Result.{is_err}
+use Rattle.std.specs.Option.{option_map}
+use Rattle.std.specs.Ordering.{eq_by_cmp}
+use Rattle.std.proofs.lemmas.Option.{slice_get-map}
+use Rattle.std.specs.FinMap.{entries}
+use Rattle.std.specs.FinMap.Entries.{find, below_all, is_sorted}
+use Rattle.std.proofs.Math.Seq.{take-suc}
+use Rattle.route_wire.specs.declared.update.Register.{Register}
+use Rattle.route_wire.specs.declared.update.Value.{Value}
+use Rattle.route_wire.specs.Fields.{Fields}
+use Rattle.route_wire.specs.Order.{register_cmp}
+use Rattle.route_join.specs.declared.table.Taken.{Taken}
+use Rattle.route_join.specs.declared.table.TakeError.{TakeError}
+use Rattle.route_join.specs.declared.table.TakeError.TheVariants.{UnknownOriginator, NoMemory}
+use Rattle.route_join.specs.Group.{IsGrouped, updates_in}
+use Rattle.route_join.specs.Merge.{StopsAt, JoinsFirst}
+use Rattle.route_join.proofs.Orders.{both}
+use Rattle.route_join.proofs.Tables.{itself_register, other_register}
+use Rattle.route_join.proofs.Edits.{found, listed_as}
+use Rattle.route_join.proofs.Leaders.{below_at, not_less_itself}
+use Rattle.route_join.proofs.Groupings.{Groups}
+use Rattle.route_join.specs.Table.{Table, IsOrdered, is_listed, is_news, value_at, with_value, with_update, with_updates, entries_of, table_from}
+use Rattle.route_join.specs.Joins.{with_entries, join}
+
+-- one update more at the end
+pub updates_push : (t : Table) (us : List Fields) (u : Fields) → with_updates t (us ++ u ∷ []) ≡ with_update (with_updates t us) u
+updates_push t [] u = refl
+updates_push t (v ∷ us) u = updates_push (with_update t v) us u
+
+pub updates_append : (t : Table) (us vs : List Fields) → with_updates t (us ++ vs) ≡ with_updates (with_updates t us) vs
+updates_append t [] vs = refl
+updates_append t (u ∷ us) vs = updates_append (with_update t u) us vs
+
+pub updates_more : (t : Table) (us : List Fields) (k : ℕ) (d : Fields) → k < length us → with_updates t (take (k + 1) us) ≡ with_update (with_updates t (take k us)) (get_or us k d)
+updates_more t us k d h = ap (λ n. with_updates t (take n us)) (add-one k) ∙ ap (with_updates t) (take-suc us k d h) ∙ updates_push t (take k us) (get_or us k d)
+
+-- entries are updates
+pub entries_updates : (t : Table) (us : List Fields) → with_entries t (entries_of us) ≡ with_updates t us
+entries_updates t [] = refl
+entries_updates t (u ∷ us) = entries_updates (with_update t u) us
+
+-- a table listens to the same originators after an update
+pub same_listeners : (t : Table) (u : Fields) → (with_update t u).originators ≡ t.originators
+same_listeners t u = elim (is_news (value_at t u.register) u.value) as (λ b. (cond b (with_value t u.register u.value) t).originators ≡ t.originators) [ true ↦ refl | false ↦ refl ]
+
+pub same_listeners_all : (t : Table) (us : List Fields) → (with_updates t us).originators ≡ t.originators
+same_listeners_all t [] = refl
+same_listeners_all t (u ∷ us) = same_listeners_all (with_update t u) us ∙ same_listeners t u
+
+pub listed_still : (t : Table) (us : List Fields) (now : Table) (o : ℕ) → now ≡ with_updates t us → is_listed t o ≡ true → is_listed now o ≡ true
+listed_still t us now o e h = ap (λ os. list_any (λ x. eqb x o) os) (ap (λ (s : Table). s.originators) e ∙ same_listeners_all t us) ∙ h
+
+-- what holds where a call failed
+pub on_err : {X E : Type 0} (r : Result X E) (P : Type 0) → OnErr r P → is_err r ≡ true → P
+on_err (Ok x) P p e = cc
+on_err (Err x) P p e = p
+
+pub refused_memory : (r : Result Taken TakeError) → is_err r ≡ true → (r ≡ Err UnknownOriginator → ⊥) → r ≡ Err NoMemory
+refused_memory (Ok t) e n = cc
+refused_memory (Err UnknownOriginator) e n = absurd (n refl)
+refused_memory (Err NoMemory) e n = refl
+
+-- ---- places in lists one after the other
+pub get_after : (ps xs : List Fields) (k : ℕ) (u : Fields) → slice_get xs k ≡ Some u → slice_get (ps ++ xs) (length ps + k) ≡ Some u
+get_after [] xs k u h = rw zero-add h
+get_after (p ∷ ps) xs k u h = rw suc-add (get_after ps xs k u h)
+
+pub get_before : (us qs : List Fields) (k : ℕ) (u : Fields) → slice_get us k ≡ Some u → slice_get (us ++ qs) k ≡ Some u
+get_before [] qs k u h = cc
+get_before (x ∷ us) qs zero u h = h
+get_before (x ∷ us) qs (suc k) u h = get_before us qs k u h
+
+-- what stands at a place in order is found
+pub find_at : (us : List Fields) (i : ℕ) (u : Fields) → IsOrdered us → slice_get us i ≡ Some u → find register_cmp u.register (entries_of us) ≡ Some u.value
+find_at [] i u s h = cc
+find_at (x ∷ us) zero u s h = let same : x ≡ u = cc in ap (λ (y : Fields). cond (eq_by_cmp register_cmp u.register y.register) (Some y.value) (find register_cmp u.register (entries_of us))) same
+    ∙ ap (λ b. cond b (Some u.value) (find register_cmp u.register (entries_of us))) (itself_register u.register)
+find_at (x ∷ us) (suc i) u s h =
+    let parts = both (below_all register_cmp x.register (entries_of us)) (is_sorted register_cmp (entries_of us)) s in
+    ap (λ b. cond b (Some x.value) (find register_cmp u.register (entries_of us))) (other_register u.register x.register (λ e. not_less_itself x.register u.register (below_at x.register us i u parts.0 h) (sym e))) ∙ find_at us i u parts.1 h
+
+-- the updates of a group of a table are of its listed originators
+pub listed_in : (t s : Table) (os : List ℕ) (gs : Groups) (done us : List Fields) (rest : Groups) (k : ℕ) (u : Fields) → IsGrouped os gs → table_from os (updates_in gs) ≡ s
+    → ((o : ℕ) → is_listed s o ≡ true → is_listed t o ≡ true) → done ++ (us ++ updates_in rest) ≡ updates_in gs → slice_get us k ≡ Some u → is_listed t u.register.originator ≡ true
+listed_in t s os gs done us rest k u g view same whole at =
+    let place : slice_get (updates_in gs) (length done + k) ≡ Some u = subst (λ x. slice_get x (length done + k) ≡ Some u) whole (get_after done (us ++ updates_in rest) k u (get_before us (updates_in rest) k u at)) in
+    let there : value_at (table_from os (updates_in gs)) u.register ≡ Some u.value = found os (updates_in gs) u.register g.kept.ordered ∙ find_at (updates_in gs) (length done + k) u g.kept.ordered place in
+    same u.register.originator (subst (λ (x : Table). is_listed x u.register.originator ≡ true) view (g.kept.listed u.register u.value there))
+
+-- the first updates of all, up to a place in a group
+take_middle : (ps xs : List Fields) (k : ℕ) → take (length ps + k) (ps ++ xs) ≡ ps ++ take k xs
+take_middle [] xs k = ap (λ n. take n xs) (zero-add k)
+take_middle (p ∷ ps) xs k = rw suc-add (ap (λ x. p ∷ x) (take_middle ps xs k))
+
+take_first : (us qs : List Fields) (k : ℕ) (u : Fields) → slice_get us k ≡ Some u → take k (us ++ qs) ≡ take k us
+take_first [] qs k u h = cc
+take_first (x ∷ us) qs zero u h = refl
+take_first (x ∷ us) qs (suc k) u h = ap (λ y. x ∷ y) (take_first us qs k u h)
+
+take_entries : (us : List Fields) (k : ℕ) → take k (entries_of us) ≡ entries_of (take k us)
+take_entries [] zero = refl
+take_entries [] (suc k) = refl
+take_entries (x ∷ us) zero = refl
+take_entries (x ∷ us) (suc k) = ap (λ y. (x.register, x.value) ∷ y) (take_entries us k)
+
+pub joins_first : (t s : Table) (os : List ℕ) (gs : Groups) (done us : List Fields) (rest : Groups) (k : ℕ) (now new : Table) → IsGrouped os gs → table_from os (updates_in gs) ≡ s
+    → done ++ (us ++ updates_in rest) ≡ updates_in gs → now ≡ with_updates t done → StopsAt now us k new → JoinsFirst t s (length done + k) new
+joins_first t s os gs done us rest k now new g view whole merged stop =
+    let all : entries s.registers ≡ entries_of (updates_in gs) = ap (λ (x : Table). entries x.registers) (sym view) ∙ listed_as os (updates_in gs) g.kept.ordered in
+    let place : slice_get (updates_in gs) (length done + k) ≡ Some stop.refused = subst (λ x. slice_get x (length done + k) ≡ Some stop.refused) whole (get_after done (us ++ updates_in rest) k stop.refused (get_before us (updates_in rest) k stop.refused stop.next)) in
+    let first : take (length done + k) (updates_in gs) ≡ done ++ take k us = ap (take (length done + k)) (sym whole) ∙ take_middle done (us ++ updates_in rest) k ∙ ap (λ x. done ++ x) (take_first us (updates_in rest) k stop.refused stop.next) in
+    record {
+      joined = stop.taken ∙ ap (λ x. with_updates x (take k us)) merged ∙ sym (updates_append t done (take k us)) ∙ ap (with_updates t) (sym first)
+          ∙ sym (entries_updates t (take (length done + k) (updates_in gs))) ∙ ap (with_entries t) (sym (take_entries (updates_in gs) (length done + k)) ∙ ap (take (length done + k)) (sym all));
+      refused = (stop.refused.register, stop.refused.value);
+      next = ap (λ x. slice_get x (length done + k)) all ∙ slice_get-map (λ (u : Fields). (u.register, u.value)) (updates_in gs) (length done + k) ∙ ap (option_map (λ (u : Fields). (u.register, u.value))) place;
+      absent = stop.absent;
+    }
+
+pub join_all : (t s : Table) (os : List ℕ) (gs : Groups) (done : List Fields) (now : Table) → IsGrouped os gs → table_from os (updates_in gs) ≡ s → done ≡ updates_in gs → now ≡ with_updates t done → now ≡ join t s
+join_all t s os gs done now g view whole merged =
+    merged ∙ ap (with_updates t) whole ∙ sym (entries_updates t (updates_in gs)) ∙ ap (with_entries t) (sym (listed_as os (updates_in gs) g.kept.ordered) ∙ ap (λ (x : Table). entries x.registers) view)
+
+-- a table's updates in the order of a report
+abbrev pub all_updates : Table → List Fields
+all_updates t = map (λ (e : Register × Value). record { register = e.0; value = e.1 }) (entries t.registers)
+
+back : (us : List Fields) → map (λ (e : Register × Value). record { register = e.0; value = e.1 }) (entries_of us) ≡ us
+back [] = refl
+back (u ∷ us) = ap (λ x. u ∷ x) (back us)
+
+pub all_is : (s : Table) (os : List ℕ) (gs : Groups) → IsGrouped os gs → table_from os (updates_in gs) ≡ s → all_updates s ≡ updates_in gs
+all_is s os gs g view = ap all_updates (sym view) ∙ ap (map (λ (e : Register × Value). record { register = e.0; value = e.1 })) (listed_as os (updates_in gs) g.kept.ordered) ∙ back (updates_in gs)

@@ -1,0 +1,58 @@
+use Rattle.std.proofs.Common.{◌≡◌, ◌+◌, ◌++◌, [], List, length, refl, sym, ap, subst, ◌∙◌, arith, append_assoc, append-nil, length-append}
+use Rattle.std.specs.List.{slice_get}
+use Rattle.route_wire.specs.Fields.{Fields}
+use Rattle.route_join.specs.Table.{with_updates}
+use Rattle.route_join.specs.Merge.{StopsAt}
+use Rattle.route_join.specs.Group.{updates_in}
+use Rattle.route_join.proofs.Merging.{all_is, listed_in, listed_still, joins_first, join_all, updates_append}
+use Rattle.route_join.proofs.table.Table.merge.Goals as goal
+
+pub loop-group-init : goal.loop-group-init
+loop-group-init c = record {
+  done = [];
+  whole = ap updates_in c.into_iter-group-iterator.ensures.into_iter_gives.0 ∙ sym (all_is c.args.other.now c.other.inside.originators.items c.other.inside.groups.entries c.other.invariant c.other.view_is);
+  merged = refl;
+  counted = omega arith;
+}
+
+pub take_all-requires : goal.take_all-requires
+take_all-requires c = λ k u at.
+    let inv = c.loop-group.invariant in
+    let gs = c.other.inside.groups.entries in
+    let os = c.other.inside.originators.items in
+    let whole : inv.done ++ (c.in-Some.group.now ++ updates_in c.next.new.self) ≡ updates_in gs = ap (λ x. inv.done ++ updates_in x) (sym c.in-Some.ensures.steps) ∙ inv.whole ∙ all_is c.args.other.now os gs c.other.invariant c.other.view_is in
+    listed_still c.args.self.now inv.done c.loop-group.self u.register.originator inv.merged
+    (listed_in c.args.self.now c.args.other.now os gs inv.done c.in-Some.group.now c.next.new.self k u c.other.invariant c.other.view_is c.requires whole (ap (λ x. slice_get x k) (sym c.updates-updates.ensures.value) ∙ at))
+
+pub returns-in-Err-clause-refused : goal.returns-in-Err-clause-refused
+returns-in-Err-clause-refused c =
+    let inv = c.loop-group.invariant in
+    let gs = c.other.inside.groups.entries in
+    let os = c.other.inside.originators.items in
+    let whole : inv.done ++ (c.in-Some.group.now ++ updates_in c.next.new.self) ≡ updates_in gs = ap (λ x. inv.done ++ updates_in x) (sym c.in-Some.ensures.steps) ∙ inv.whole ∙ all_is c.args.other.now os gs c.other.invariant c.other.view_is in (
+      length inv.done + c.in-Err.k,
+      omega (arith, c.saturating_add.ensures, inv.counted),
+      joins_first c.args.self.now c.args.other.now os gs inv.done c.in-Some.group.now c.next.new.self c.in-Err.k c.loop-group.self c.take_all.new.self c.other.invariant c.other.view_is whole inv.merged
+          (subst (λ x. StopsAt c.loop-group.self x c.in-Err.k c.take_all.new.self) c.updates-updates.ensures.value c.in-Err.ensures.refused),
+    )
+
+pub loop-group-preserved : goal.loop-group-preserved
+loop-group-preserved c =
+    let inv = c.loop-group.invariant in
+    let us : List Fields = c.in-Some.group.now in
+    let long = length-append inv.done us in
+    let same = ap length c.updates-updates.ensures.value in
+    record {
+      done = inv.done ++ us;
+      whole = append_assoc inv.done us (updates_in c.next.new.self) ∙ ap (λ x. inv.done ++ updates_in x) (sym c.in-Some.ensures.steps) ∙ inv.whole;
+      merged = c.in_default.ensures.taken ∙ ap (with_updates c.loop-group.self) c.updates-updates.ensures.value ∙ ap (λ t. with_updates t us) inv.merged ∙ sym (updates_append c.args.self.now inv.done us);
+      counted = omega (arith, c.saturating_add-joined.ensures, inv.counted, long, same);
+    }
+
+pub returns-clause-join : goal.returns-clause-join
+returns-clause-join c =
+    let inv = c.loop-group.invariant in
+    let gs = c.other.inside.groups.entries in
+    let os = c.other.inside.originators.items in
+    join_all c.args.self.now c.args.other.now os gs inv.done c.loop-group.self c.other.invariant c.other.view_is
+    (sym (append-nil inv.done) ∙ ap (λ x. inv.done ++ updates_in x) (sym c.in-None.ensures.steps.0) ∙ inv.whole ∙ all_is c.args.other.now os gs c.other.invariant c.other.view_is) inv.merged
