@@ -11,7 +11,7 @@ mod table;
 mod tests;
 
 pub use laws::{
-    all_taken, join_associates, join_commutes, join_is, join_of_tables, join_repeats,
-    merge_completes, none_taken, one_joined, one_owner, one_table, one_taken,
+    all_taken, equal_reports, join_associates, join_commutes, join_is, join_of_tables,
+    join_repeats, merge_completes, none_taken, one_joined, one_owner, one_table, one_taken,
 };
 pub use table::{Table, TakeError, Taken, Unmerged};
