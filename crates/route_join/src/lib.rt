@@ -2,10 +2,13 @@
 #![tactic(auto)]
 
 mod flood;
+mod group;
+mod groups;
 mod laws;
 mod owner;
 mod place;
 mod report;
+mod subject;
 mod table;
 #[cfg(test)]
 mod tests;
