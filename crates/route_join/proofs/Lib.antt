@@ -1,11 +1,16 @@
 pub mod Appending
 pub mod Stations
-pub mod Reporting
 pub mod Orders
 pub mod Tables
 pub mod Places
 pub mod Edits
 pub mod Owners
 pub mod Floods
+pub mod Subjects
+pub mod Groupings
+pub mod Leaders
+pub mod Taking
+pub mod Holding
 pub mod Joins
+pub mod Lines
 pub mod Merging

@@ -1,12 +1,14 @@
--- A merge, register by register.
-use Rattle.std.proofs.Common.{◌≡◌, ℕ, zero, suc, ◌+◌, ◌<◌, ◌↔◌, Bool, true, false, cond, eqb, ◌&&◌, List, [], ◌∷◌, ◌++◌, length, get_or, take, Some, None, Result, Ok, Err, refl, sym, ap, subst, ◌∙◌, OnErr, OnOk, arith}
-use Rattle.std.proofs.lemmas.List.{take_more, take_all, get_or-map, length-map}
-use Rattle.std.specs.declared.cmp.Ordering.TheVariants.{Less, Greater}
-use Rattle.std.specs.List.{list_any}
+-- Updates taken one after the other, and the join of two tables of groups.
+use Rattle.std.proofs.Common.{◌≡◌, ℕ, suc, zero, ◌+◌, ◌<◌, ◌≤◌, true, false, cond, ◌&&◌, Some, List, [], ◌∷◌, ◌++◌, map, length, get_or, take, refl, sym, ap, subst, ◌∙◌, add-one, zero-add, suc-add, arith, length-append}
+use Rattle.std.specs.List.{slice_get, list_any}
+use Rattle.std.specs.Prelude.{Bool, eqb, OnOk, OnErr, Result, Ok, Err}
 use Rattle.std.specs.Result.{is_err}
-use Rattle.std.specs.Ordering.{is_lt, is_eq, eq_by_cmp, ordering_reverse}
+use Rattle.std.specs.Option.{option_map}
+use Rattle.std.specs.Ordering.{is_lt, eq_by_cmp}
+use Rattle.std.proofs.lemmas.Option.{slice_get-map, slice_get_within, get_or_from_slice_get}
 use Rattle.std.specs.FinMap.{entries, entries_sorted, get-entries, same_map}
-use Rattle.std.specs.FinMap.Entries.{find, is_sorted, below_all}
+use Rattle.std.specs.FinMap.Entries.{find, below_all, is_sorted}
+use Rattle.std.proofs.Math.Seq.{take-suc}
 use Rattle.route_wire.specs.declared.update.Register.{Register}
 use Rattle.route_wire.specs.declared.update.Value.{Value}
 use Rattle.route_wire.specs.Fields.{Fields}
@@ -15,90 +17,136 @@ use Rattle.route_wire.specs.Totals.{register_total, register_exact}
 use Rattle.route_join.specs.declared.table.Taken.{Taken}
 use Rattle.route_join.specs.declared.table.TakeError.{TakeError}
 use Rattle.route_join.specs.declared.table.TakeError.TheVariants.{UnknownOriginator, NoMemory}
-use Rattle.route_join.specs.Table.{Table, is_listed, IsListed, is_news, value_at, with_value, with_update, entries_of}
-use Rattle.route_join.specs.Joins.{newer_of, with_entries, join, IsPartJoin}
+use Rattle.route_join.specs.Group.{IsGrouped, IsCounted, updates_in}
+use Rattle.route_join.specs.Stops.{StopsAt}
 use Rattle.route_join.specs.Laws.{MergeCompletes}
-use Rattle.route_join.proofs.Orders.{less, both, from_T}
-use Rattle.route_join.proofs.Tables.{itself_register}
+use Rattle.route_join.specs.Table.{Table, IsOrdered, is_listed, is_news, value_at, with_value, with_update, with_updates, entries_of, table_from}
+use Rattle.route_join.specs.Joins.{newer_of, with_entries, join, IsPartJoin}
+use Rattle.route_join.proofs.Orders.{both, from_T}
+use Rattle.route_join.proofs.Tables.{itself_register, other_register}
+use Rattle.route_join.proofs.Edits.{found, listed_as}
+use Rattle.route_join.proofs.Leaders.{below_at, not_less_itself}
+use Rattle.route_join.proofs.Groupings.{Groups}
 use Rattle.route_join.proofs.Joins.{newer_of-same, newer_of-assoc, entries_at, join_is}
 
--- an entry is found at its register
-above : (e : Register × Value) (es : List (Register × Value)) (i : ℕ) (d : Register × Value) → below_all register_cmp e.0 es ≡ true → i < length es → register_cmp e.0 (get_or es i d).0 ≡ Less
-above e [] i d b h = absurd (omega arith)
-above e (x ∷ es) zero d b h = less (register_cmp e.0 x.0) (both (is_lt (register_cmp e.0 x.0)) (below_all register_cmp e.0 es) b).0
-above e (x ∷ es) (suc i) d b h = above e es i d (both (is_lt (register_cmp e.0 x.0)) (below_all register_cmp e.0 es) b).1 (omega arith)
+-- one update more at the end
+pub updates_push : (t : Table) (us : List Fields) (u : Fields) → with_updates t (us ++ u ∷ []) ≡ with_update (with_updates t us) u
+updates_push t [] u = refl
+updates_push t (v ∷ us) u = updates_push (with_update t v) us u
 
-found_at_place : (es : List (Register × Value)) (i : ℕ) (d : Register × Value) → is_sorted register_cmp es ≡ true → i < length es → find register_cmp (get_or es i d).0 es ≡ Some (get_or es i d).1
-found_at_place [] i d s h = absurd (omega arith)
-found_at_place (e ∷ es) zero d s h = ap (λ b. cond b (Some e.1) (find register_cmp e.0 es)) (itself_register e.0)
-found_at_place (e ∷ es) (suc i) d s h =
-    let parts = both (below_all register_cmp e.0 es) (is_sorted register_cmp es) s in
-    let later = above e es i d parts.0 (omega arith) in
-    let turned : register_cmp (get_or es i d).0 e.0 ≡ Greater = register_total.antisymm (get_or es i d).0 e.0 ∙ ap ordering_reverse later in
-    ap (λ o. cond (is_eq o) (Some e.1) (find register_cmp (get_or es i d).0 es)) turned ∙ found_at_place es i d parts.1 (omega arith)
+pub updates_append : (t : Table) (us vs : List Fields) → with_updates t (us ++ vs) ≡ with_updates (with_updates t us) vs
+updates_append t [] vs = refl
+updates_append t (u ∷ us) vs = updates_append (with_update t u) us vs
 
-pub update_originators : (t : Table) (u : Fields) → (with_update t u).originators ≡ t.originators
-update_originators t u = go (is_news (value_at t u.register) u.value)
-  where
-    go : (b : Bool) → (cond b (with_value t u.register u.value) t).originators ≡ t.originators
-    go true = refl
-    go false = refl
+pub updates_more : (t : Table) (us : List Fields) (k : ℕ) (d : Fields) → k < length us → with_updates t (take (k + 1) us) ≡ with_update (with_updates t (take k us)) (get_or us k d)
+updates_more t us k d h = ap (λ n. with_updates t (take n us)) (add-one k) ∙ ap (with_updates t) (take-suc us k d h) ∙ updates_push t (take k us) (get_or us k d)
 
-pub same_originators : (es : List (Register × Value)) (t : Table) → (with_entries t es).originators ≡ t.originators
-same_originators [] t = refl
-same_originators (e ∷ es) t = same_originators es (with_update t (record { register = e.0; value = e.1 })) ∙ update_originators t (record { register = e.0; value = e.1 })
+-- entries are updates
+pub entries_updates : (t : Table) (us : List Fields) → with_entries t (entries_of us) ≡ with_updates t us
+entries_updates t [] = refl
+entries_updates t (u ∷ us) = entries_updates (with_update t u) us
 
-one_entry_more : (es : List (Register × Value)) (t : Table) (e : Register × Value) → with_entries t (es ++ e ∷ []) ≡ with_update (with_entries t es) (record { register = e.0; value = e.1 })
-one_entry_more [] t e = refl
-one_entry_more (x ∷ es) t e = one_entry_more es (with_update t (record { register = x.0; value = x.1 })) e
+-- a table listens to the same originators after an update
+pub same_listeners : (t : Table) (u : Fields) → (with_update t u).originators ≡ t.originators
+same_listeners t u = elim (is_news (value_at t u.register) u.value) as (λ b. (cond b (with_value t u.register u.value) t).originators ≡ t.originators) [ true ↦ refl | false ↦ refl ]
 
-module _ (t : Table) (us : List Fields) (i : ℕ) (u : Fields) (all : entries t.registers ≡ entries_of us) (h : i < length us) (e : u ≡ get_or us i u) where
-  -- the entry at a place of a table
-  entry_there : (d : Register × Value) → get_or (entries t.registers) i d ≡ (u.register, u.value)
-  entry_there d = ap (λ es. get_or es i d) all ∙ get_or-map (λ (v : Fields). (v.register, v.value)) us i u d h ∙ ap (λ (v : Fields). (v.register, v.value)) (sym e)
+pub same_listeners_all : (t : Table) (us : List Fields) → (with_updates t us).originators ≡ t.originators
+same_listeners_all t [] = refl
+same_listeners_all t (u ∷ us) = same_listeners_all (with_update t u) us ∙ same_listeners t u
 
-  pub within : i < length (entries t.registers)
-  within = subst (λ es. i < length es) (sym all) (subst (λ n. i < n) (sym (length-map us (λ (v : Fields). (v.register, v.value)))) h)
+pub listed_still : (t : Table) (us : List Fields) (now : Table) (o : ℕ) → now ≡ with_updates t us → is_listed t o ≡ true → is_listed now o ≡ true
+listed_still t us now o e h = ap (λ os. list_any (λ x. eqb x o) os) (ap (λ (s : Table). s.originators) e ∙ same_listeners_all t us) ∙ h
 
-  -- one register more is joined
-  pub joined_more : (s : Table) → with_update (with_entries s (take i (entries t.registers))) u ≡ with_entries s (take (i + 1) (entries t.registers))
-  joined_more s = sym (ap (with_entries s) (take_more (entries t.registers) i (u.register, u.value) within ∙ ap (λ x. take i (entries t.registers) ++ x ∷ []) (entry_there (u.register, u.value)))
-      ∙ one_entry_more (take i (entries t.registers)) s (u.register, u.value))
-
-  value_here : value_at t u.register ≡ Some u.value
-  value_here = get-entries t.registers u.register ∙ ap (λ (x : Register × Value). find register_cmp x.0 (entries t.registers)) (sym (entry_there (u.register, u.value)))
-      ∙ found_at_place (entries t.registers) i (u.register, u.value) (from_T _ (entries_sorted t.registers)) within ∙ ap (λ (x : Register × Value). Some x.1) (entry_there (u.register, u.value))
-
-  -- the originator of each entry is listed at a table that listens to all of the other's
-  listed_here : (s : Table) → IsListed t → ((o : ℕ) → is_listed t o ≡ true → is_listed s o ≡ true) → (j : Table) → j ≡ with_entries s (take i (entries t.registers)) → is_listed j u.register.originator ≡ true
-  listed_here s listed covers j is = ap (list_any (λ x. eqb x u.register.originator)) (ap (λ (k : Table). k.originators) is ∙ same_originators (take i (entries t.registers)) s) ∙ covers u.register.originator (listed u.register u.value value_here)
-
-  pub stopped : (s : Table) → IsListed t → ((o : ℕ) → is_listed t o ≡ true → is_listed s o ≡ true) → (j k : Table) → j ≡ with_entries s (take i (entries t.registers)) → k ≡ j
-      → (r : Result Taken TakeError) → is_err r ≡ true → ((r ≡ Err UnknownOriginator) ↔ (is_listed j u.register.originator ≡ false)) → (r ≡ Err NoMemory → value_at j u.register ≡ None) → IsPartJoin s t i k
-  stopped s listed covers j k is same r failed unknown none = record {
-    within = within;
-    joined = same ∙ is;
-    fresh = λ d. ap (λ (x : Register × Value). value_at k x.0) (entry_there d) ∙ ap (λ x. value_at x u.register) same ∙ go r failed unknown none;
-  }
-    where
-      go : (r : Result Taken TakeError) → is_err r ≡ true → ((r ≡ Err UnknownOriginator) ↔ (is_listed j u.register.originator ≡ false)) → (r ≡ Err NoMemory → value_at j u.register ≡ None) → value_at j u.register ≡ None
-      go (Ok taken) failed unknown none = cc
-      go (Err UnknownOriginator) failed unknown none = let l = listed_here s listed covers j is in let n = unknown.0 refl in cc
-      go (Err NoMemory) failed unknown none = none refl
-
--- all are joined
-pub all_joined : (s t : Table) (us : List Fields) (i : ℕ) → entries t.registers ≡ entries_of us → i ≡ length us → with_entries s (take i (entries t.registers)) ≡ join s t
-all_joined s t us i all e =
-    let n : length (entries t.registers) ≡ length us = ap length all ∙ length-map us (λ (v : Fields). (v.register, v.value)) in
-    ap (with_entries s) (take_all i (entries t.registers) (omega (arith, n, e)))
-
+-- what holds where a call failed
 pub on_err : {X E : Type 0} (r : Result X E) (P : Type 0) → OnErr r P → is_err r ≡ true → P
-on_err (Ok x) P h e = cc
-on_err (Err x) P h e = h
+on_err (Ok x) P p e = cc
+on_err (Err x) P p e = p
 
-pub on_ok : {X E : Type 0} (r : Result X E) (P : Type 0) → OnOk r P → is_err r ≡ false → P
-on_ok (Ok x) P h e = h
-on_ok (Err x) P h e = cc
+pub refused_memory : (r : Result Taken TakeError) → is_err r ≡ true → (r ≡ Err UnknownOriginator → ⊥) → r ≡ Err NoMemory
+refused_memory (Ok t) e n = cc
+refused_memory (Err UnknownOriginator) e n = absurd (n refl)
+refused_memory (Err NoMemory) e n = refl
+
+-- ---- places in lists one after the other
+pub get_after : (ps xs : List Fields) (k : ℕ) (u : Fields) → slice_get xs k ≡ Some u → slice_get (ps ++ xs) (length ps + k) ≡ Some u
+get_after [] xs k u h = rw zero-add h
+get_after (p ∷ ps) xs k u h = rw suc-add (get_after ps xs k u h)
+
+pub get_before : (us qs : List Fields) (k : ℕ) (u : Fields) → slice_get us k ≡ Some u → slice_get (us ++ qs) k ≡ Some u
+get_before [] qs k u h = cc
+get_before (x ∷ us) qs zero u h = h
+get_before (x ∷ us) qs (suc k) u h = get_before us qs k u h
+
+-- what stands at a place in order is found
+pub find_at : (us : List Fields) (i : ℕ) (u : Fields) → IsOrdered us → slice_get us i ≡ Some u → find register_cmp u.register (entries_of us) ≡ Some u.value
+find_at [] i u s h = cc
+find_at (x ∷ us) zero u s h = let same : x ≡ u = cc in ap (λ (y : Fields). cond (eq_by_cmp register_cmp u.register y.register) (Some y.value) (find register_cmp u.register (entries_of us))) same
+    ∙ ap (λ b. cond b (Some u.value) (find register_cmp u.register (entries_of us))) (itself_register u.register)
+find_at (x ∷ us) (suc i) u s h =
+    let parts = both (below_all register_cmp x.register (entries_of us)) (is_sorted register_cmp (entries_of us)) s in
+    ap (λ b. cond b (Some x.value) (find register_cmp u.register (entries_of us))) (other_register u.register x.register (λ e. not_less_itself x.register u.register (below_at x.register us i u parts.0 h) (sym e))) ∙ find_at us i u parts.1 h
+
+-- the updates of a group of a table are of its listed originators
+pub listed_in : (t s : Table) (os : List ℕ) (gs : Groups) (done us : List Fields) (rest : Groups) (k : ℕ) (u : Fields) → IsGrouped os gs → table_from os (updates_in gs) ≡ s
+    → ((o : ℕ) → is_listed s o ≡ true → is_listed t o ≡ true) → done ++ (us ++ updates_in rest) ≡ updates_in gs → slice_get us k ≡ Some u → is_listed t u.register.originator ≡ true
+listed_in t s os gs done us rest k u g view same whole at =
+    let place : slice_get (updates_in gs) (length done + k) ≡ Some u = subst (λ x. slice_get x (length done + k) ≡ Some u) whole (get_after done (us ++ updates_in rest) k u (get_before us (updates_in rest) k u at)) in
+    let there : value_at (table_from os (updates_in gs)) u.register ≡ Some u.value = found os (updates_in gs) u.register g.kept.ordered ∙ find_at (updates_in gs) (length done + k) u g.kept.ordered place in
+    same u.register.originator (subst (λ (x : Table). is_listed x u.register.originator ≡ true) view (g.kept.listed u.register u.value there))
+
+-- the first updates of all, up to a place in a group
+take_middle : (ps xs : List Fields) (k : ℕ) → take (length ps + k) (ps ++ xs) ≡ ps ++ take k xs
+take_middle [] xs k = ap (λ n. take n xs) (zero-add k)
+take_middle (p ∷ ps) xs k = rw suc-add (ap (λ x. p ∷ x) (take_middle ps xs k))
+
+take_first : (us qs : List Fields) (k : ℕ) (u : Fields) → slice_get us k ≡ Some u → take k (us ++ qs) ≡ take k us
+take_first [] qs k u h = cc
+take_first (x ∷ us) qs zero u h = refl
+take_first (x ∷ us) qs (suc k) u h = ap (λ y. x ∷ y) (take_first us qs k u h)
+
+take_entries : (us : List Fields) (k : ℕ) → take k (entries_of us) ≡ entries_of (take k us)
+take_entries [] zero = refl
+take_entries [] (suc k) = refl
+take_entries (x ∷ us) zero = refl
+take_entries (x ∷ us) (suc k) = ap (λ y. (x.register, x.value) ∷ y) (take_entries us k)
+
+pub joins_first : (t s : Table) (os : List ℕ) (gs : Groups) (done us : List Fields) (rest : Groups) (k : ℕ) (now new : Table) → IsGrouped os gs → table_from os (updates_in gs) ≡ s
+    → done ++ (us ++ updates_in rest) ≡ updates_in gs → now ≡ with_updates t done → StopsAt now us k new → IsPartJoin t s (length done + k) new
+joins_first t s os gs done us rest k now new g view whole merged stop =
+    let refused : Register × Value = (stop.refused.register, stop.refused.value) in
+    let all : entries s.registers ≡ entries_of (updates_in gs) = ap (λ (x : Table). entries x.registers) (sym view) ∙ listed_as os (updates_in gs) g.kept.ordered in
+    let place : slice_get (updates_in gs) (length done + k) ≡ Some stop.refused = subst (λ x. slice_get x (length done + k) ≡ Some stop.refused) whole (get_after done (us ++ updates_in rest) k stop.refused (get_before us (updates_in rest) k stop.refused stop.next)) in
+    let next : slice_get (entries s.registers) (length done + k) ≡ Some refused = ap (λ x. slice_get x (length done + k)) all ∙ slice_get-map (λ (u : Fields). (u.register, u.value)) (updates_in gs) (length done + k) ∙ ap (option_map (λ (u : Fields). (u.register, u.value))) place in
+    let first : take (length done + k) (updates_in gs) ≡ done ++ take k us = ap (take (length done + k)) (sym whole) ∙ take_middle done (us ++ updates_in rest) k ∙ ap (λ x. done ++ x) (take_first us (updates_in rest) k stop.refused stop.next) in
+    record {
+      within = slice_get_within (entries s.registers) (length done + k) refused next;
+      joined = stop.taken ∙ ap (λ x. with_updates x (take k us)) merged ∙ sym (updates_append t done (take k us)) ∙ ap (with_updates t) (sym first)
+          ∙ sym (entries_updates t (take (length done + k) (updates_in gs))) ∙ ap (with_entries t) (sym (take_entries (updates_in gs) (length done + k)) ∙ ap (take (length done + k)) (sym all));
+      fresh = λ d. ap (λ (x : Register × Value). value_at new x.0) (get_or_from_slice_get (entries s.registers) (length done + k) refused d next) ∙ stop.absent;
+    }
+
+pub join_all : (t s : Table) (os : List ℕ) (gs : Groups) (done : List Fields) (now : Table) → IsGrouped os gs → table_from os (updates_in gs) ≡ s → done ≡ updates_in gs → now ≡ with_updates t done → now ≡ join t s
+join_all t s os gs done now g view whole merged =
+    merged ∙ ap (with_updates t) whole ∙ sym (entries_updates t (updates_in gs)) ∙ ap (with_entries t) (sym (listed_as os (updates_in gs) g.kept.ordered) ∙ ap (λ (x : Table). entries x.registers) view)
+
+-- a table's updates in the order of a report
+abbrev pub all_updates : Table → List Fields
+all_updates t = map (λ (e : Register × Value). record { register = e.0; value = e.1 }) (entries t.registers)
+
+back : (us : List Fields) → map (λ (e : Register × Value). record { register = e.0; value = e.1 }) (entries_of us) ≡ us
+back [] = refl
+back (u ∷ us) = ap (λ x. u ∷ x) (back us)
+
+pub all_is : (s : Table) (os : List ℕ) (gs : Groups) → IsGrouped os gs → table_from os (updates_in gs) ≡ s → all_updates s ≡ updates_in gs
+all_is s os gs g view = ap all_updates (sym view) ∙ ap (map (λ (e : Register × Value). record { register = e.0; value = e.1 })) (listed_as os (updates_in gs) g.kept.ordered) ∙ back (updates_in gs)
+
+-- the updates done and those of the next group are no more than the table counts
+pub all_counted : (s : Table) (os : List ℕ) (gs : Groups) (done us : List Fields) (rest : Groups) (held : ℕ) → IsCounted os gs held → table_from os (updates_in gs) ≡ s → done ++ (us ++ updates_in rest) ≡ all_updates s → length done + length us ≤ held
+all_counted s os gs done us rest held k view whole =
+    let all : length (done ++ (us ++ updates_in rest)) ≡ length (updates_in gs) = ap length (whole ∙ all_is s os gs k.grouped view) in
+    let first = length-append done (us ++ updates_in rest) in
+    let second = length-append us (updates_in rest) in
+    omega (arith, k.counted, all, first, second)
 
 -- ---- a second merge completes the first
 below_front : (q : Register) (k : ℕ) (es : List (Register × Value)) → below_all register_cmp q es ≡ true → below_all register_cmp q (take k es) ≡ true
@@ -138,5 +186,5 @@ merge_completes s t j k h = same_map register_total register_exact _ _ (λ r.
 
 -- a take keeps the originators
 pub kept_originators : (r : Result Taken TakeError) (old new : Table) (u : Fields) → OnOk r (new ≡ with_update old u) → OnErr r (new ≡ old) → new.originators ≡ old.originators
-kept_originators (Ok taken) old new u ok err = ap (λ (t : Table). t.originators) ok ∙ update_originators old u
+kept_originators (Ok taken) old new u ok err = ap (λ (t : Table). t.originators) ok ∙ same_listeners old u
 kept_originators (Err refusal) old new u ok err = ap (λ (t : Table). t.originators) err

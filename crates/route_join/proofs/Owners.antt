@@ -69,13 +69,13 @@ less_not_back q r a b = let e : register_cmp r q ≡ Greater = register_total.an
 pub better_not_back : (a : Advert) (r : Register) (b : Advert) (q : Register) → IsBetter a r b q → IsBetter b q a r → ⊥
 better_not_back a r b q = better_not_back_by a.is_static b.is_static a.sequence b.sequence (register_cmp r q) (register_cmp q r) (less_not_back r q)
 
-better_trans : (a : Advert) (r : Register) (b : Advert) (q : Register) (c : Advert) (p : Register) → IsBetter a r b q → IsBetter b q c p → IsBetter a r c p
+pub better_trans : (a : Advert) (r : Register) (b : Advert) (q : Register) (c : Advert) (p : Register) → IsBetter a r b q → IsBetter b q c p → IsBetter a r c p
 better_trans a r b q c p = better_trans_by a.is_static b.is_static c.is_static a.sequence b.sequence c.sequence (register_cmp r q) (register_cmp q p) (register_cmp r p) (register_total.trans r q p)
 
-is_better_is : (a : Advert) (r : Register) (b : Advert) (q : Register) → is_better a r b q ≡ true → IsBetter a r b q
+pub is_better_is : (a : Advert) (r : Register) (b : Advert) (q : Register) → is_better a r b q ≡ true → IsBetter a r b q
 is_better_is a r b q = tested_by a.is_static b.is_static a.sequence b.sequence (register_cmp r q)
 
-not_better_is : (a : Advert) (r : Register) (b : Advert) (q : Register) → r ≢ q → is_better a r b q ≡ false → IsBetter b q a r
+pub not_better_is : (a : Advert) (r : Register) (b : Advert) (q : Register) → r ≢ q → is_better a r b q ≡ false → IsBetter b q a r
 not_better_is a r b q ne e =
     subst (IsBetterBy b.is_static a.is_static b.sequence a.sequence) (sym (register_total.antisymm q r))
     (untested_by a.is_static b.is_static a.sequence b.sequence (register_cmp r q) (λ t. ne (register_exact r q t)) e)
@@ -121,10 +121,10 @@ said_none vni mac r v e h = ap (λ c. cond c (advert_in v.content) None) (sym (a
 abbrev pub in_list : List (Register × Value) → Register → Option Advert
 in_list es q = advert_of (find register_cmp q es)
 
-at_last : (es : List (Register × Value)) (e : Register × Value) → find register_cmp e.0 es ≡ None → in_list (es ++ e ∷ []) e.0 ≡ advert_in e.1.content
+pub at_last : (es : List (Register × Value)) (e : Register × Value) → find register_cmp e.0 es ≡ None → in_list (es ++ e ∷ []) e.0 ≡ advert_in e.1.content
 at_last es e absent = ap advert_of (find-append register_cmp register_total es e.0 e.1 e.0 absent ∙ ap (λ b. cond b (Some e.1) (find register_cmp e.0 es)) (itself_register e.0))
 
-at_before : (es : List (Register × Value)) (e : Register × Value) (q : Register) → find register_cmp e.0 es ≡ None → q ≢ e.0 → in_list (es ++ e ∷ []) q ≡ in_list es q
+pub at_before : (es : List (Register × Value)) (e : Register × Value) (q : Register) → find register_cmp e.0 es ≡ None → q ≢ e.0 → in_list (es ++ e ∷ []) q ≡ in_list es q
 at_before es e q absent ne = ap advert_of (find-append register_cmp register_total es e.0 e.1 q absent ∙ ap (λ b. cond b (Some e.1) (find register_cmp q es)) (other_register q e.0 ne))
 
 -- r says a of the address, and that is better than what each other register says
@@ -207,7 +207,7 @@ module _ (vni mac : ℕ) (es : List (Register × Value)) (e : Register × Value)
       go (Some b) says (Some best) h = pick b best h says (is_better b e.0 best.1 best.0) refl
 
 -- in a list in order, a later register is not among those before it
-fresh : (ps es : List (Register × Value)) (e : Register × Value) → is_sorted register_cmp (ps ++ e ∷ es) ≡ true → find register_cmp e.0 ps ≡ None
+pub fresh : (ps es : List (Register × Value)) (e : Register × Value) → is_sorted register_cmp (ps ++ e ∷ es) ≡ true → find register_cmp e.0 ps ≡ None
 fresh [] es e s = refl
 fresh (p ∷ ps) es e s =
     let parts = both (below_all register_cmp p.0 (ps ++ e ∷ es)) (is_sorted register_cmp (ps ++ e ∷ es)) s in

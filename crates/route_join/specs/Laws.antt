@@ -4,6 +4,7 @@ use Rattle.route_wire.specs.Fields.{Fields}
 use Rattle.route_join.specs.Table.{Table, with_update, with_updates, table_from, IsTableOf}
 use Rattle.route_join.specs.Owner.{IsOwner}
 use Rattle.route_join.specs.Joins.{IsJoin, IsPartJoin, join}
+use Rattle.route_join.specs.Report.{report_of}
 
 -- two lists have the same updates, in whatever order and however often
 pub record HaveSame (us vs : List Fields) : Type 0 where
@@ -13,6 +14,10 @@ pub record HaveSame (us vs : List Fields) : Type 0 where
 -- a set of updates has one table, in whatever order they came and however often
 abbrev pub OneTable : Type 0
 OneTable = (us vs : List Fields) (s t : Table) → HaveSame us vs → IsTableOf us s → IsTableOf vs t → s.registers ≡ t.registers
+
+-- a set of updates has one report, in whatever order they came and however often
+abbrev pub EqualReports : Type 0
+EqualReports = (us vs : List Fields) (s t : Table) → HaveSame us vs → IsTableOf us s → IsTableOf vs t → report_of s ≡ report_of t
 
 -- a table that has taken no update is that of none
 abbrev pub NoneTaken : Type 0

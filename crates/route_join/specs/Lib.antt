@@ -1,9 +1,12 @@
 pub mod Table
 pub mod Owner
 pub mod Report
-pub mod Walk
 pub mod Place
 pub mod Taken
 pub mod Flood
 pub mod Joins
 pub mod Laws
+pub mod Subject
+pub mod Group
+pub mod Lines
+pub mod Stops

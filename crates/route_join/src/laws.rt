@@ -1,9 +1,14 @@
-ghost use Rattle.route_join.specs.Laws.{OneTable, NoneTaken, OneTaken, AllTaken, OneJoined, JoinIs, JoinCommutes, JoinAssociates, JoinRepeats, JoinOfTables, MergeCompletes, OneOwner};
+ghost use Rattle.route_join.specs.Laws.{OneTable, EqualReports, NoneTaken, OneTaken, AllTaken, OneJoined, JoinIs, JoinCommutes, JoinAssociates, JoinRepeats, JoinOfTables, MergeCompletes, OneOwner};
 
 /// A set of updates has one table: tables of lists with the same updates have equal registers, in
 /// whatever order the updates came and however often.
 pub fn one_table()
     ensures { OneTable }
+{}
+
+/// Edges that took equal sets of updates report the same octets.
+pub fn equal_reports()
+    ensures { EqualReports }
 {}
 
 /// A table that has taken nothing is that of no update.

@@ -1,13 +1,12 @@
 //! The text of a report, piece by piece. It takes no memory.
-ghost use Rattle.std.specs.Prelude.{◌≡◌, IfOk, None, ◌+◌, ◌<◌, ◌^◌, ◌++◌, OnOk, codes, decimal};
+ghost use Rattle.std.specs.Prelude.{◌≡◌, ◌+◌, ◌<◌, ◌^◌, ◌++◌, OnOk, codes, decimal};
 ghost use Rattle.std.specs.Io.KnownBytes.{append_known};
 ghost use Rattle.ether_wire.specs.Ends.{failures_after};
 ghost use Rattle.route_wire.specs.Order.{label2_of};
-ghost use Rattle.route_join.specs.Table.{entries_of, IsOrdered};
-ghost use Rattle.route_join.specs.Walk.{Best, named, after_line, best_after, walked};
-ghost use Rattle.route_join.specs.Report.{spaced, groups_text, addr6_text, ip_text, counter_text, flood_state, mac_state, ip_words, label2_words, station_text, origin_text, flood_line, mac_line, register_line, owner_name, owner_line, goes_on, report_lines};
+ghost use Rattle.route_join.specs.Table.{entries_of};
+ghost use Rattle.route_join.specs.Lines.{register_lines};
+ghost use Rattle.route_join.specs.Report.{spaced, groups_text, addr6_text, ip_text, counter_text, flood_state, mac_state, ip_words, label2_words, station_text, origin_text, flood_line, mac_line, register_line, owner_name, owner_line};
 
-use crate::owner::{better, is_about};
 use ether_wire::{Addr, Device, Mac, Out, Vni, put_addr, put_decimal, put_hex_group, put_mac};
 use route_wire::{Addr6, Advert, Content, Ip, Key, Register, Update, Value};
 
@@ -252,61 +251,15 @@ pub(crate) fn put_owner<O: Out>(
     out.put(b"\n")
 }
 
-/// Whether the next register is of the address too.
-fn goes_on(rest: &[Update], vni: Vni, mac: Mac) -> bool
-    ensures { result ≡ goes_on vni mac (entries_of rest.now) }
-{
-    match rest.first() {
-        None => false,
-        Some(next) => is_about(&next.register().key, vni, mac),
-    }
-}
-
-/// Writes the owner's line after the last register of an address. The best advert of an address is
-/// kept from its first register to its last.
-#[tactic(auto, using(crate::proofs::Appending::append_known_none))]
-fn put_after<O: Out>(
-    out: &mut O,
-    update: &Update,
-    rest: &[Update],
-    best: Option<(Register, Advert)>,
-) -> Result<Option<(Register, Advert)>, Device>
+/// Writes the lines of updates, one after the other.
+#[tactic(auto, using(ether_wire::proofs::Appending::append_known_twice, crate::proofs::Appending::append_known_none))]
+pub(crate) fn put_updates<O: Out>(out: &mut O, updates: &[Update]) -> Result<(), Device>
     requires { O.failed out.old + 1 < 2 ^ 64 }
-    ensures appends { OnOk result (O.written out.new ≡ append_known (O.written out.old)
-        (after_line update.now.register.key update.now.register update.now.value best (entries_of rest.now))) }
-    ensures best { IfOk result (λ b. b ≡ best_after update.now.register.key update.now.register update.now.value best (entries_of rest.now)) }
+    ensures appends { OnOk result (O.written out.new ≡ append_known (O.written out.old) (register_lines (entries_of updates.now))) }
     ensures failures { O.failed out.new ≡ failures_after (O.failed out.old) result }
 {
-    let register = update.register();
-    let Key::Mac(vni, mac, _) = &register.key else {
-        return Ok(None);
-    };
-    let (vni, mac) = (*vni, *mac);
-    let best = better(update, vni, mac, best);
-    if goes_on(rest, vni, mac) {
-        return Ok(best);
-    }
-    let owner = match best {
-        None => None,
-        Some((register, _)) => Some(register.originator),
-    };
-    put_owner(out, vni, mac, owner)?;
-    Ok(None)
-}
-
-/// Writes the report of updates in the order of their registers.
-pub(crate) fn put_report<O: Out>(out: &mut O, updates: &[Update]) -> Result<(), Device>
-    requires room { O.failed out.old + 1 < 2 ^ 64 }
-    requires ordered { IsOrdered updates.now }
-    ensures appends { OnOk result (O.written out.new ≡ append_known (O.written out.old) (report_lines (entries_of updates.now))) }
-    ensures failures { O.failed out.new ≡ failures_after (O.failed out.old) result }
-{
-    let mut rest = updates;
-    let mut best = None;
-    while let Some((update, after)) = rest.split_first() {
+    for update in updates {
         put_update(out, update)?;
-        best = put_after(out, update, after, best)?;
-        rest = after;
     }
     Ok(())
 }

@@ -1,22 +1,26 @@
-ghost use Rattle.std.specs.Prelude.{◌≡◌, ◌+◌, ◌<◌, ◌^◌, ◌↔◌, false, None, Err, IfOk, OnOk, OnErr, IfErr, MatchOption, ℕ, true};
+ghost use Rattle.std.specs.Prelude.{◌≡◌, ◌+◌, ◌<◌, ◌^◌, ◌↔◌, false, Some, None, Err, IfOk, OnOk, OnErr, IfErr, MatchOption, ℕ, true};
+ghost use Rattle.std.specs.List.{slice_get};
 ghost use Rattle.std.specs.FinMap.{empty};
 ghost use Rattle.std.specs.Io.KnownBytes.{append_known};
 ghost use Rattle.ether_wire.specs.Ends.{failures_after};
 ghost use Rattle.route_join.specs.Report.{report_of};
-ghost use Rattle.route_join.specs.Table.{AreOriginators, IsListed, register_of, value_at, update_at, is_listed, with_update, IsKept};
+ghost use Rattle.route_join.specs.Table.{AreOriginators, IsListed, register_of, value_at, update_at, is_listed, with_update, with_updates};
 ghost use Rattle.route_join.specs.Owner.{owner, IsOwner, IsUnowned};
 ghost use Rattle.route_join.specs.Joins.{join, IsPartJoin};
 ghost use Rattle.route_join.specs.Flood.{flood_of, IsFloodList};
 ghost use Rattle.route_join.specs.Taken.{taken_of, number_of};
+ghost use Rattle.route_join.specs.Stops.{StopsAt};
+ghost use Rattle.route_wire.specs.Fields.{Fields};
 
 use crate::flood::flood_of;
-use crate::owner::owner_of;
-use crate::place::place;
-use crate::report::put_report;
+use crate::group::Group;
+use crate::groups::{put_groups, take_in};
+use crate::subject::{Subject, subject_of};
 use arrayvec::ArrayVec;
 use ether_wire::{Addr, Device, Mac, Out, Vni};
 use route_wire::{Key, Register, Update};
 use std::alloc::Global;
+use std::collections::BTreeMap;
 use std::marker::Model;
 
 /// What a table made of an update that it took.
@@ -68,12 +72,16 @@ impl TakeError {
 /// The newest value of each register, of the originators that the table listens to.
 #[derive(Drop)]
 pub struct Table {
+    alloc: Global,
     originators: ArrayVec<Addr, 64>,
-    updates: Vec<Update>,
+    groups: BTreeMap<Subject, Group>,
+    // How many registers all groups hold: a merge can count as many.
+    held: usize,
 }
 
 impl Model for Table {
-    ghost use Rattle.route_join.specs.Table.{Table as Registered, IsKept, table_from};
+    ghost use Rattle.route_join.specs.Table.{Table as Registered, table_from};
+    ghost use Rattle.route_join.specs.Group.{updates_in, IsCounted};
     ghost use Rattle.std.specs.Coded.{codes};
     ghost use Rattle.std.specs.FinMap.{code};
 
@@ -81,9 +89,9 @@ impl Model for Table {
 
     ghost coded = { Prim.hlevel (codes, code) };
 
-    ghost view = { λ t. table_from t.originators.items t.updates.items };
+    ghost view = { λ t. table_from t.originators.items (updates_in t.groups.entries) };
 
-    ghost invariant = { λ t. IsKept t.originators.items t.updates.items };
+    ghost invariant = { λ t. IsCounted t.originators.items t.groups.entries t.held };
 }
 
 impl Table {
@@ -94,8 +102,10 @@ impl Table {
         ensures { result ≡ record { originators = originators.items; registers = empty } }
     {
         Table {
+            alloc,
             originators,
-            updates: Vec::new(alloc),
+            groups: BTreeMap::new(alloc),
+            held: 0,
         }
     }
 
@@ -112,9 +122,9 @@ impl Table {
     pub fn register(&self, originator: Addr, key: Key) -> Option<Update>
         ensures { result ≡ update_at self.now (register_of originator key) }
     {
-        match place(&self.updates, &Register { originator, key }) {
-            Ok(at) => Some(self.updates[at]),
-            Err(_) => None,
+        match self.groups.get(&subject_of(&key)) {
+            None => None,
+            Some(group) => group.register(&Register { originator, key }),
         }
     }
 
@@ -131,26 +141,28 @@ impl Table {
         ensures no_memory { result ≡ Err TakeError.NoMemory → value_at self.old update.now.register ≡ None }
         ensures err { OnErr result (self.new ≡ self.old) }
     {
-        let register = update.register();
-        if !self.originators.contains(&register.originator) {
+        if !self.originators.contains(&update.register().originator) {
             return Err(TakeError::UnknownOriginator);
         }
-        match place(&self.updates, &register) {
-            Ok(at) => {
-                if update.is_newer(&self.updates[at]) {
-                    self.updates[at] = *update;
-                    Ok(Taken::Newer)
-                } else {
-                    Ok(Taken::Known)
-                }
-            }
-            Err(at) => {
-                if self.updates.insert(at, *update).is_err() {
-                    return Err(TakeError::NoMemory);
-                }
-                Ok(Taken::Newer)
+        let Ok(taken) = take_in(&mut self.groups, self.alloc, &mut self.held, update) else {
+            return Err(TakeError::NoMemory);
+        };
+        Ok(taken)
+    }
+
+    // Takes updates of listed originators, one after the other. Where memory is refused, it tells how
+    // many were taken before.
+    fn take_all(&mut self, updates: &[Update]) -> Result<(), usize>
+        requires { (k : ℕ) → (u : Fields) → slice_get updates.now k ≡ Some u → is_listed self.old u.register.originator ≡ true }
+        ensures taken { OnOk result (self.new ≡ with_updates self.old updates.now) }
+        ensures refused { IfErr result (λ k. StopsAt self.old updates.now k self.new) }
+    {
+        for (k, update) in updates.iter().enumerate() {
+            if self.take(update).is_err() {
+                return Err(k);
             }
         }
+        Ok(())
     }
 
     /// Joins another table to this one, register by register in the order of a report: each register
@@ -165,10 +177,13 @@ impl Table {
         ensures merged { OnOk result (self.new ≡ join self.old other.now) }
         ensures part { IfErr result (λ stopped. IsPartJoin self.old other.now stopped.joined self.new) }
     {
-        for (joined, update) in other.updates.iter().enumerate() {
-            if self.take(update).is_err() {
-                return Err(Unmerged { joined });
+        let mut joined = 0;
+        for (_, group) in &other.groups {
+            let updates = group.updates();
+            if let Err(k) = self.take_all(updates) {
+                return Err(Unmerged { joined: joined + k });
             }
+            joined += updates.len();
         }
         Ok(())
     }
@@ -180,7 +195,14 @@ impl Table {
         ensures value { result ≡ owner self.now vni mac }
         ensures best { MatchOption result (IsUnowned self.now vni mac) (IsOwner self.now vni mac) }
     {
-        owner_of(&self.updates, vni, mac)
+        let subject = Subject {
+            vni,
+            mac: Some(mac),
+        };
+        match self.groups.get(&subject) {
+            None => None,
+            Some(group) => group.owner(),
+        }
     }
 
     /// The originators that advertise a network's flood list (RFC 7432, section 7.3), ascending.
@@ -188,7 +210,10 @@ impl Table {
         ensures value { result.items ≡ flood_of self.now vni }
         ensures list { IsFloodList self.now vni result.items }
     {
-        flood_of(&self.updates, vni)
+        match self.groups.get(&Subject { vni, mac: None }) {
+            None => ArrayVec::new(),
+            Some(group) => flood_of(group.updates(), vni),
+        }
     }
 
     /// Writes the report of the table: a line for each register, and one for the owner of each MAC
@@ -202,6 +227,6 @@ impl Table {
         ensures appends { OnOk result (W.written out.new ≡ append_known (W.written out.old) (report_of self.now)) }
         ensures failures { W.failed out.new ≡ failures_after (W.failed out.old) result }
     {
-        put_report(out, &self.updates)
+        put_groups(out, &self.groups)
     }
 }

@@ -1,22 +1,41 @@
-use Rattle.std.proofs.Common.{◌≤◌, length, ap, sym, subst, ◌∙◌}
+use Rattle.std.proofs.Common.{◌≡◌, ◌≤◌, length, ap, sym, subst, ◌∙◌}
 use Rattle.route_join.specs.Table.{Table, table_from, entries_of}
 use Rattle.route_join.specs.Flood.{IsFloodList, flooding, flood_of}
+use Rattle.route_join.specs.Group.{updates_in}
 use Rattle.route_join.proofs.Edits.{listed_as}
 use Rattle.route_join.proofs.Floods.{flood_fits, is_flood_list}
+use Rattle.route_join.proofs.Groupings.{entries_in_all}
+use Rattle.route_join.proofs.Holding.{flooding_there, flooding_nowhere}
 use Rattle.route_join.proofs.table.Table.flood.Goals as goal
 
 pub flood_of-requires : goal.flood_of-requires
 flood_of-requires c =
     let os = c.self.inside.originators.items in
-    let us = c.self.inside.updates.items in
-    subst (λ xs. length (flooding c.args.vni (entries_of xs)) ≤ 64) (sym c.deref.ensures.value)
-    (subst (λ es. length (flooding c.args.vni es) ≤ 64) (listed_as os us c.self.invariant.ordered) (flood_fits (table_from os us) c.args.vni c.self.invariant.listeners c.self.invariant.listed))
+    let gs = c.self.inside.groups.entries in
+    let all : flood_of (table_from os (updates_in gs)) c.args.vni ≡ flooding c.args.vni (entries_of c.updates.result.now) =
+    ap (flooding c.args.vni) (listed_as os (updates_in gs) c.self.invariant.grouped.kept.ordered ∙ entries_in_all gs) ∙ flooding_there c.args.vni gs c.in-Some.group.now c.self.invariant.grouped.groups (sym c.in-Some.ensures.value)
+    ∙ ap (λ us. flooding c.args.vni (entries_of us)) (sym c.updates.ensures.value) in
+    subst (λ xs. length xs ≤ 64) all (flood_fits (table_from os (updates_in gs)) c.args.vni c.self.invariant.grouped.kept.listeners c.self.invariant.grouped.kept.listed)
 
-pub returns-clause-value : goal.returns-clause-value
-returns-clause-value c =
-    c.flood_of.ensures ∙ ap (λ us. flooding c.args.vni (entries_of us)) c.deref.ensures.value
-    ∙ ap (flooding c.args.vni) (sym (listed_as c.self.inside.originators.items c.self.inside.updates.items c.self.invariant.ordered))
+pub returns-in-None-clause-value : goal.returns-in-None-clause-value
+returns-in-None-clause-value c =
+    let os = c.self.inside.originators.items in
+    let gs = c.self.inside.groups.entries in
+    c.new.ensures ∙ sym (flooding_nowhere c.args.vni gs c.self.invariant.grouped.groups (sym c.in-None.ensures.value))
+    ∙ ap (flooding c.args.vni) (sym (listed_as os (updates_in gs) c.self.invariant.grouped.kept.ordered ∙ entries_in_all gs))
     ∙ ap (λ (t : Table). flood_of t c.args.vni) c.self.view_is
 
-pub returns-clause-list : goal.returns-clause-list
-returns-clause-list c = subst (IsFloodList c.args.self.now c.args.vni) (sym (returns-clause-value c)) (is_flood_list c.args.self.now c.args.vni)
+pub returns-in-None-clause-list : goal.returns-in-None-clause-list
+returns-in-None-clause-list c = subst (IsFloodList c.args.self.now c.args.vni) (sym (returns-in-None-clause-value c)) (is_flood_list c.args.self.now c.args.vni)
+
+pub returns-in-Some-clause-value : goal.returns-in-Some-clause-value
+returns-in-Some-clause-value c =
+    let os = c.self.inside.originators.items in
+    let gs = c.self.inside.groups.entries in
+    c.flood_of.ensures ∙ ap (λ us. flooding c.args.vni (entries_of us)) c.updates.ensures.value
+    ∙ sym (flooding_there c.args.vni gs c.in-Some.group.now c.self.invariant.grouped.groups (sym c.in-Some.ensures.value))
+    ∙ ap (flooding c.args.vni) (sym (listed_as os (updates_in gs) c.self.invariant.grouped.kept.ordered ∙ entries_in_all gs))
+    ∙ ap (λ (t : Table). flood_of t c.args.vni) c.self.view_is
+
+pub returns-in-Some-clause-list : goal.returns-in-Some-clause-list
+returns-in-Some-clause-list c = subst (IsFloodList c.args.self.now c.args.vni) (sym (returns-in-Some-clause-value c)) (is_flood_list c.args.self.now c.args.vni)

@@ -1,7 +1,15 @@
-use Rattle.std.proofs.Common.{◌≡◌, take}
-use Rattle.std.specs.FinMap.{entries}
-use Rattle.route_join.specs.Joins.{with_entries}
+use Rattle.std.proofs.Common.{◌≡◌, ◌++◌, List, length}
+use Rattle.route_wire.specs.Fields.{Fields}
+use Rattle.route_join.specs.Table.{with_updates}
+use Rattle.route_join.specs.Group.{updates_in}
+use Rattle.route_join.proofs.Merging.{all_updates}
 use Rattle.route_join.proofs.table.Table.merge.Given as goal
 
-abbrev pub invariant-loop-joined : goal.invariant-loop-joined
-invariant-loop-joined l = l.self ≡ with_entries l.fn.self (take l.joined (entries l.other.registers))
+-- the updates that are done and those that are left are all
+abbrev pub invariant-loop-group : goal.invariant-loop-group
+invariant-loop-group l = record {
+  done : List Fields;
+  whole : done ++ updates_in l.group-iterator ≡ all_updates l.other;
+  merged : l.self ≡ with_updates l.initial.self done;
+  counted : l.joined ≡ length done;
+}

@@ -1,10 +1,11 @@
-use Rattle.std.proofs.Common.{◌∙◌, ap, subst, sym}
-use Rattle.route_join.specs.Table.{table_from, IsKept}
+use Rattle.std.proofs.Common.{◌∙◌, lit<, refl, ap, subst, sym}
+use Rattle.route_join.specs.Table.{table_from}
+use Rattle.route_join.specs.Group.{IsCounted, updates_in}
 use Rattle.route_join.proofs.Edits.{new_table, kept_none}
 use Rattle.route_join.proofs.table.Table.new.Goals as goal
 
 pub invariant_of-result : goal.invariant_of-result
-invariant_of-result c = subst (IsKept c.args.originators.items) (sym c.new.ensures.items) (kept_none c.args.originators.items c.requires)
+invariant_of-result c = subst (λ gs. IsCounted c.args.originators.items gs 0) (sym c.new.ensures.empty) record { grouped = record { kept = kept_none c.args.originators.items c.requires; groups = tt }; counted = refl; few = lit< tt }
 
 pub returns : goal.returns
-returns c = ap (table_from c.args.originators.items) c.new.ensures.items ∙ new_table c.args.originators.items
+returns c = ap (λ gs. table_from c.args.originators.items (updates_in gs)) c.new.ensures.empty ∙ new_table c.args.originators.items

@@ -1,16 +1,18 @@
-use Rattle.std.proofs.Common.{◌∙◌, ap, sym, subst, MatchOption}
-use Rattle.route_join.specs.Table.{Table, entries_of}
-use Rattle.route_join.specs.Owner.{owner, owner_among, IsOwner, IsUnowned}
-use Rattle.route_join.proofs.Edits.{listed_as}
-use Rattle.route_join.proofs.Owners.{owner_is}
+use Rattle.std.proofs.Common.{None, sym, subst}
+use Rattle.route_join.proofs.Holding.{Owned, owner_only, unowned, owned_by}
 use Rattle.route_join.proofs.table.Table.owner.Goals as goal
 
-pub returns-clause-value : goal.returns-clause-value
-returns-clause-value c =
-    c.owner_of.ensures ∙ ap (λ us. owner_among c.args.vni c.args.mac (entries_of us)) c.deref.ensures.value
-    ∙ ap (owner_among c.args.vni c.args.mac) (sym (listed_as c.self.inside.originators.items c.self.inside.updates.items c.self.invariant.ordered))
-    ∙ ap (λ (t : Table). owner t c.args.vni c.args.mac) c.self.view_is
+pub returns-in-None-clause-best : goal.returns-in-None-clause-best
+returns-in-None-clause-best c =
+    subst (λ t. Owned t c.args.vni c.args.mac None) c.self.view_is (unowned c.self.inside.originators.items c.self.inside.groups.entries c.self.invariant.grouped c.args.vni c.args.mac (sym c.in-None.ensures.value))
 
-pub returns-clause-best : goal.returns-clause-best
-returns-clause-best c =
-    subst (λ o. MatchOption o (IsUnowned c.args.self.now c.args.vni c.args.mac) (IsOwner c.args.self.now c.args.vni c.args.mac)) (sym (returns-clause-value c)) (owner_is c.args.self.now c.args.vni c.args.mac)
+pub returns-in-None-clause-value : goal.returns-in-None-clause-value
+returns-in-None-clause-value c = owner_only c.args.self.now c.args.vni c.args.mac None (returns-in-None-clause-best c)
+
+pub returns-in-Some-clause-best : goal.returns-in-Some-clause-best
+returns-in-Some-clause-best c =
+    subst (λ t. Owned t c.args.vni c.args.mac c.owner.result) c.self.view_is
+    (owned_by c.self.inside.originators.items c.self.inside.groups.entries c.self.invariant.grouped c.args.vni c.args.mac c.in-Some.group.now (sym c.in-Some.ensures.value) c.owner.result c.owner.ensures)
+
+pub returns-in-Some-clause-value : goal.returns-in-Some-clause-value
+returns-in-Some-clause-value c = owner_only c.args.self.now c.args.vni c.args.mac c.owner.result (returns-in-Some-clause-best c)

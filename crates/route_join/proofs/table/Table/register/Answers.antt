@@ -1,22 +1,18 @@
-use Rattle.std.proofs.Common.{◌<◌, length, ap, refl, sym, ◌∙◌, arith}
+use Rattle.std.proofs.Common.{◌≡◌, Some, None, ap, sym, ◌∙◌}
 use Rattle.route_join.specs.Table.{update_at, register_of}
-use Rattle.route_join.proofs.Edits.{found_at, gap_at, update_there, no_update}
+use Rattle.route_join.specs.Subject.{subject_of}
+use Rattle.route_join.proofs.Groupings.{group_at}
+use Rattle.route_join.proofs.Holding.{update_there, update_nowhere}
 use Rattle.route_join.proofs.table.Table.register.Goals as goal
 
-pub index-requires : goal.index-requires
-index-requires c =
-    let p = found_at c.self.inside.updates.items _ (register_of c.args.originator c.args.key) _ c.in-Ok.at c.deref.ensures.value refl c.in-Ok.ensures in
-    let w : c.in-Ok.at < length c.self.inside.updates.items = p.within in
-    omega (arith, c.deref.ensures.len, ap length c.deref.ensures.value)
+pub returns-in-None : goal.returns-in-None
+returns-in-None c =
+    let gs = c.self.inside.groups.entries in
+    let h : group_at (subject_of c.args.key) gs ≡ None = ap (λ s. group_at s gs) (sym c.subject_of.ensures) ∙ sym c.in-None.ensures.value in
+    update_nowhere c.self.inside.originators.items gs c.self.invariant.grouped (register_of c.args.originator c.args.key) h ∙ ap (λ t. update_at t (register_of c.args.originator c.args.key)) c.self.view_is
 
-pub returns-in-Ok : goal.returns-in-Ok
-returns-in-Ok c =
-    let p = found_at c.self.inside.updates.items _ (register_of c.args.originator c.args.key) _ c.in-Ok.at c.deref.ensures.value refl c.in-Ok.ensures in
-    sym (update_there c.self.inside.originators.items c.self.inside.updates.items (register_of c.args.originator c.args.key) c.in-Ok.at c.self.invariant.ordered p c.index.result.now c.index.ensures)
-    ∙ ap (λ t. update_at t (register_of c.args.originator c.args.key)) c.self.view_is
-
-pub returns-in-Err : goal.returns-in-Err
-returns-in-Err c =
-    let p = gap_at c.self.inside.updates.items _ (register_of c.args.originator c.args.key) _ c.in-Err.field-0 c.self.invariant.ordered c.deref.ensures.value refl c.in-Err.ensures in
-    sym (no_update c.self.inside.originators.items c.self.inside.updates.items (register_of c.args.originator c.args.key) c.in-Err.field-0 c.self.invariant.ordered p)
-    ∙ ap (λ t. update_at t (register_of c.args.originator c.args.key)) c.self.view_is
+pub returns-in-Some : goal.returns-in-Some
+returns-in-Some c =
+    let gs = c.self.inside.groups.entries in
+    let h : group_at (subject_of c.args.key) gs ≡ Some c.in-Some.group.now = ap (λ s. group_at s gs) (sym c.subject_of.ensures) ∙ sym c.in-Some.ensures.value in
+    c.register.ensures ∙ update_there c.self.inside.originators.items gs c.self.invariant.grouped (register_of c.args.originator c.args.key) c.in-Some.group.now h ∙ ap (λ t. update_at t (register_of c.args.originator c.args.key)) c.self.view_is

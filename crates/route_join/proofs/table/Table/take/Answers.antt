@@ -1,84 +1,43 @@
-use Rattle.std.proofs.Common.{◌≡◌, ◌↔◌, ◌<◌, ◌≤◌, false, length, ap, refl, sym, subst, ◌∙◌, arith}
-use Rattle.route_join.specs.Table.{Table, is_listed, value_at, with_update, entries_of}
+use Rattle.route_join.specs.declared.table.Taken.{Taken}
+use Rattle.route_join.specs.declared.table.TakeError.{TakeError}
+use Rattle.route_join.specs.declared.table.TakeError.TheVariants.{UnknownOriginator}
+use Rattle.std.proofs.Common.{Result, Ok, Err, ◌≡◌, ◌↔◌, false, ap, sym, subst, ◌∙◌}
+use Rattle.route_join.specs.Table.{Table, is_listed, value_at, with_update}
 use Rattle.route_join.specs.Taken.{taken_of}
-use Rattle.route_join.proofs.Edits.{found_at, gap_at, kept_put, newer_there, known_there, took_there, stays_there, no_value, newer_gap, took_gap, listed_by, not_unknown, inserted}
+use Rattle.route_join.specs.Group.{updates_in}
+use Rattle.route_join.proofs.Edits.{found, listed_by, not_unknown}
+use Rattle.route_join.proofs.Holding.{kept_with, table_with, taken_is, taken_known}
+use Rattle.route_join.proofs.Taking.{counted_with}
 use Rattle.route_join.proofs.table.Table.take.Goals as goal
 
-pub index-requires : goal.index-requires
-index-requires c =
-    let p = found_at c.self.inside.updates.items _ c.args.update.now.register _ c.in-Ok.at c.deref-2.ensures.value c.register-register.ensures c.in-Ok.ensures in
-    let w : c.in-Ok.at < length c.self.inside.updates.items = p.within in
-    omega (arith, c.deref-2.ensures.len, ap length c.deref-2.ensures.value)
+pub returns-in_default-clause-unknown : goal.returns-in_default-clause-unknown
+returns-in_default-clause-unknown c =
+    subst (λ (t : Table). _ ↔ (is_listed t c.args.update.now.register.originator ≡ false)) c.self.view_is (not_unknown _ _ (listed_by c.self.inside.originators.items _ c.args.update.now.register _ c.deref.ensures.0 c.register.ensures c.if-not-contains.ensures.value) (λ h. cc))
 
-pub index_mut-requires : goal.index_mut-requires
-index_mut-requires c =
-    let p = found_at c.self.inside.updates.items _ c.args.update.now.register _ c.in-Ok.at c.deref-2.ensures.value c.register-register.ensures c.in-Ok.ensures in
-    let w : c.in-Ok.at < length c.self.inside.updates.items = p.within in
-    omega (arith, c.deref-2.ensures.len, ap length c.deref-2.ensures.value)
+pub returns-in_default-clause-no_memory : goal.returns-in_default-clause-no_memory
+returns-in_default-clause-no_memory c = λ h.
+    ap (λ (t : Table). value_at t c.args.update.now.register) (sym c.self.view_is)
+    ∙ found c.self.inside.originators.items (updates_in c.self.inside.groups.entries) c.args.update.now.register c.self.invariant.grouped.kept.ordered ∙ c.in_default.ensures.new
 
-pub insert-requires : goal.insert-requires
-insert-requires c =
-    let p = gap_at c.self.inside.updates.items _ c.args.update.now.register _ c.in-Err.at c.self.invariant.ordered c.deref-2.ensures.value c.register-register.ensures c.in-Err.ensures in
-    let w : c.in-Err.at ≤ length c.self.inside.updates.items = p.within in
-    omega (arith, c.deref-2.ensures.len, ap length c.deref-2.ensures.value)
+pub invariant_of-self-2 : goal.invariant_of-self-2
+invariant_of-self-2 c = record {
+  grouped = record {
+    kept = kept_with c.self.inside.originators.items (updates_in c.self.inside.groups.entries) (updates_in c.take_in.new.groups.entries) c.args.update.now c.self.invariant.grouped.kept c.in-Ok.ensures.entries
+        (listed_by c.self.inside.originators.items _ c.args.update.now.register _ c.deref.ensures.0 c.register.ensures c.if-not-contains.ensures.value);
+    groups = c.in-Ok.ensures.groups;
+  };
+  counted = counted_with (updates_in c.self.inside.groups.entries) (updates_in c.take_in.new.groups.entries) c.args.update.now c.self.inside.held c.take_in.new.held c.self.invariant.grouped.kept.ordered c.in-Ok.ensures.entries c.self.invariant.counted c.in-Ok.ensures.held;
+  few = c.in-Ok.ensures.few c.self.invariant.few;
+}
 
-pub invariant_of-self : goal.invariant_of-self
-invariant_of-self c =
-    let p = found_at c.self.inside.updates.items _ c.args.update.now.register _ c.in-Ok.at c.deref-2.ensures.value c.register-register.ensures c.in-Ok.ensures in
-    kept_put c.self.inside.originators.items c.self.inside.updates.items _ c.args.update.now c.self.invariant (p.write c.args.update.now refl) (listed_by c.self.inside.originators.items _ c.args.update.now.register _ c.deref.ensures.0 c.register-register.ensures c.if-not-contains.ensures.value)
+pub returns-clause-taken : goal.returns-clause-taken
+returns-clause-taken c = c.in-Ok.ensures.taken ∙ taken_is c.self.inside.originators.items (updates_in c.self.inside.groups.entries) c.args.update.now c.self.invariant.grouped.kept ∙ ap (λ t. taken_of t c.args.update.now) c.self.view_is
 
-pub invariant_of-self-in-Err : goal.invariant_of-self-in-Err
-invariant_of-self-in-Err c =
-    let p = gap_at c.self.inside.updates.items _ c.args.update.now.register _ c.in-Err.at c.self.invariant.ordered c.deref-2.ensures.value c.register-register.ensures c.in-Err.ensures in
-    kept_put c.self.inside.originators.items c.self.inside.updates.items _ c.args.update.now c.self.invariant (ap entries_of (inserted c.insert.new.self.items _ _ _ c.insert.ensures.items c.if-is_err.ensures.negation) ∙ p.write c.args.update.now refl) (listed_by c.self.inside.originators.items _ c.args.update.now.register _ c.deref.ensures.0 c.register-register.ensures c.if-not-contains.ensures.value)
+pub returns-clause-table : goal.returns-clause-table
+returns-clause-table c =
+    table_with c.self.inside.originators.items (updates_in c.self.inside.groups.entries) (updates_in c.take_in.new.groups.entries) c.args.update.now c.self.invariant.grouped.kept c.in-Ok.ensures.entries
+    ∙ ap (λ t. with_update t c.args.update.now) c.self.view_is
 
-pub returns-then-is_newer-clause-taken : goal.returns-then-is_newer-clause-taken
-returns-then-is_newer-clause-taken c =
-    let p = found_at c.self.inside.updates.items _ c.args.update.now.register _ c.in-Ok.at c.deref-2.ensures.value c.register-register.ensures c.in-Ok.ensures in
-    newer_there c.self.inside.originators.items c.self.inside.updates.items c.args.update.now c.in-Ok.at c.index.result.now c.is_newer.result c.self.invariant.ordered p c.index.ensures c.is_newer.ensures c.if-is_newer.true ∙ ap (λ (t : Table). taken_of t c.args.update.now) c.self.view_is
-
-pub returns-then-is_newer-clause-table : goal.returns-then-is_newer-clause-table
-returns-then-is_newer-clause-table c =
-    let p = found_at c.self.inside.updates.items _ c.args.update.now.register _ c.in-Ok.at c.deref-2.ensures.value c.register-register.ensures c.in-Ok.ensures in
-    took_there c.self.inside.originators.items c.self.inside.updates.items c.args.update.now c.in-Ok.at c.index.result.now c.is_newer.result c.self.invariant.ordered p c.index.ensures c.is_newer.ensures c.if-is_newer.true ∙ ap (λ (t : Table). with_update t c.args.update.now) c.self.view_is
-
-pub returns-then-is_newer-clause-unknown : goal.returns-then-is_newer-clause-unknown
-returns-then-is_newer-clause-unknown c =
-    subst (λ (t : Table). _ ↔ (is_listed t c.args.update.now.register.originator ≡ false)) c.self.view_is (not_unknown _ _ (listed_by c.self.inside.originators.items _ c.args.update.now.register _ c.deref.ensures.0 c.register-register.ensures c.if-not-contains.ensures.value) (λ h. cc))
-
-pub returns-else-is_newer-clause-taken : goal.returns-else-is_newer-clause-taken
-returns-else-is_newer-clause-taken c =
-    let p = found_at c.self.inside.updates.items _ c.args.update.now.register _ c.in-Ok.at c.deref-2.ensures.value c.register-register.ensures c.in-Ok.ensures in
-    known_there c.self.inside.originators.items c.self.inside.updates.items c.args.update.now c.in-Ok.at c.index.result.now c.is_newer.result c.self.invariant.ordered p c.index.ensures c.is_newer.ensures c.if-is_newer.false ∙ ap (λ (t : Table). taken_of t c.args.update.now) c.self.view_is
-
-pub returns-else-is_newer-clause-table : goal.returns-else-is_newer-clause-table
-returns-else-is_newer-clause-table c =
-    let p = found_at c.self.inside.updates.items _ c.args.update.now.register _ c.in-Ok.at c.deref-2.ensures.value c.register-register.ensures c.in-Ok.ensures in
-    subst (λ (t : Table). t ≡ with_update t c.args.update.now) c.self.view_is (stays_there c.self.inside.originators.items c.self.inside.updates.items c.args.update.now c.in-Ok.at c.index.result.now c.is_newer.result c.self.invariant.ordered p c.index.ensures c.is_newer.ensures c.if-is_newer.false)
-
-pub returns-else-is_newer-clause-unknown : goal.returns-else-is_newer-clause-unknown
-returns-else-is_newer-clause-unknown c =
-    subst (λ (t : Table). _ ↔ (is_listed t c.args.update.now.register.originator ≡ false)) c.self.view_is (not_unknown _ _ (listed_by c.self.inside.originators.items _ c.args.update.now.register _ c.deref.ensures.0 c.register-register.ensures c.if-not-contains.ensures.value) (λ h. cc))
-
-pub returns-then-is_err-clause-unknown : goal.returns-then-is_err-clause-unknown
-returns-then-is_err-clause-unknown c =
-    subst (λ (t : Table). _ ↔ (is_listed t c.args.update.now.register.originator ≡ false)) c.self.view_is (not_unknown _ _ (listed_by c.self.inside.originators.items _ c.args.update.now.register _ c.deref.ensures.0 c.register-register.ensures c.if-not-contains.ensures.value) (λ h. cc))
-
-pub returns-then-is_err-clause-no_memory : goal.returns-then-is_err-clause-no_memory
-returns-then-is_err-clause-no_memory c =
-    let p = gap_at c.self.inside.updates.items _ c.args.update.now.register _ c.in-Err.at c.self.invariant.ordered c.deref-2.ensures.value c.register-register.ensures c.in-Err.ensures in
-    λ h. ap (λ (t : Table). value_at t c.args.update.now.register) (sym c.self.view_is) ∙ no_value c.self.inside.originators.items c.self.inside.updates.items c.args.update.now.register c.in-Err.at c.self.invariant.ordered p
-
-pub returns-else-is_err-clause-taken : goal.returns-else-is_err-clause-taken
-returns-else-is_err-clause-taken c =
-    let p = gap_at c.self.inside.updates.items _ c.args.update.now.register _ c.in-Err.at c.self.invariant.ordered c.deref-2.ensures.value c.register-register.ensures c.in-Err.ensures in
-    newer_gap c.self.inside.originators.items c.self.inside.updates.items c.insert.new.self.items c.args.update.now c.in-Err.at c.self.invariant.ordered p ∙ ap (λ (t : Table). taken_of t c.args.update.now) c.self.view_is
-
-pub returns-else-is_err-clause-table : goal.returns-else-is_err-clause-table
-returns-else-is_err-clause-table c =
-    let p = gap_at c.self.inside.updates.items _ c.args.update.now.register _ c.in-Err.at c.self.invariant.ordered c.deref-2.ensures.value c.register-register.ensures c.in-Err.ensures in
-    took_gap c.self.inside.originators.items c.self.inside.updates.items c.insert.new.self.items c.args.update.now c.in-Err.at c.self.invariant.ordered p (ap entries_of (inserted c.insert.new.self.items _ _ _ c.insert.ensures.items c.if-is_err.ensures.negation) ∙ p.write c.args.update.now refl) ∙ ap (λ (t : Table). with_update t c.args.update.now) c.self.view_is
-
-pub returns-else-is_err-clause-unknown : goal.returns-else-is_err-clause-unknown
-returns-else-is_err-clause-unknown c =
-    subst (λ (t : Table). _ ↔ (is_listed t c.args.update.now.register.originator ≡ false)) c.self.view_is (not_unknown _ _ (listed_by c.self.inside.originators.items _ c.args.update.now.register _ c.deref.ensures.0 c.register-register.ensures c.if-not-contains.ensures.value) (λ h. cc))
+pub returns-clause-unknown : goal.returns-clause-unknown
+returns-clause-unknown c =
+    subst (λ (t : Table). (◌≡◌ {A = Result Taken TakeError} (Ok c.in-Ok.taken) (Err UnknownOriginator)) ↔ (is_listed t c.args.update.now.register.originator ≡ false)) c.self.view_is (not_unknown _ _ (listed_by c.self.inside.originators.items _ c.args.update.now.register _ c.deref.ensures.0 c.register.ensures c.if-not-contains.ensures.value) (taken_known c.in-Ok.taken))

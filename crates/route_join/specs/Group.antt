@@ -1,0 +1,132 @@
+-- Groups: the updates of one subject, with the place of the best advert among them.
+use Rattle.std.specs.Prelude.{◌≡◌, ◌≢◌, ℕ, ◌+◌, ◌<◌, ◌^◌, Bool, true, false, Option, Some, None, is_some, List, [], ◌∷◌, ◌++◌, length, nat_le, if◌then◌else◌}
+use Rattle.std.specs.declared.cmp.Ordering.TheVariants.{Less}
+use Rattle.std.specs.List.{slice_get}
+use Rattle.std.specs.Option.{option_map}
+use Rattle.std.specs.FinMap.Entries.{find, put}
+use Rattle.route_wire.specs.declared.update.Register.{Register}
+use Rattle.route_wire.specs.declared.update.Advert.{Advert}
+use Rattle.route_wire.specs.declared.update.Value.{Value}
+use Rattle.route_wire.specs.Fields.{Fields}
+use Rattle.route_wire.specs.Order.{register_cmp}
+use Rattle.route_join.specs.declared.subject.Subject.{Subject}
+use Rattle.route_join.specs.Subject.{subject_cmp, subject_of}
+use Rattle.route_join.specs.Table.{entries_of, IsOrdered, IsKept, is_news}
+use Rattle.route_join.specs.Owner.{advert_in, advert_of, IsBetter, is_better}
+
+-- ---- what a list of updates says
+
+-- what the register advertises
+abbrev pub told : List Fields → Register → Option Advert
+told us q = advert_of (find register_cmp q (entries_of us))
+
+-- the entries with the update's, where it is news
+abbrev pub entries_with : List (Register × Value) → Fields → List (Register × Value)
+entries_with es u = if is_news (find register_cmp u.register es) u.value then put register_cmp u.register u.value es else es
+
+-- how many registers the update adds to the entries
+abbrev pub added : List (Register × Value) → Fields → ℕ
+added es u = if is_some (find register_cmp u.register es) then 0 else 1
+
+-- the register's update, if there is one
+abbrev pub update_among : List Fields → Register → Option Fields
+update_among us r = option_map (λ (v : Value). record { register = r; value = v }) (find register_cmp r (entries_of us))
+
+-- ---- the winner
+
+-- The update at place i advertises, and what it says is better than each other advert of `says`.
+pub record Leads (us : List Fields) (says : Register → Option Advert) (i : ℕ) : Type 0 where
+  pub update : Fields
+  pub stands : slice_get us i ≡ Some update
+  pub advert : Advert
+  pub advertises : advert_in update.value.content ≡ Some advert
+  pub own : says update.register ≡ Some advert
+  pub best : (q : Register) (b : Advert) → q ≢ update.register → says q ≡ Some b → IsBetter advert update.register b q
+
+-- the winner's place, none where nothing is advertised
+abbrev pub HasWinner : List Fields → (Register → Option Advert) → Option ℕ → Type 0
+HasWinner us says None = (q : Register) → says q ≡ None
+HasWinner us says (Some i) = Leads us says i
+
+-- what a group keeps: its updates are in the order of their registers, and the winner is the best of them
+pub record IsGroup (us : List Fields) (place : Option ℕ) : Type 0 where
+  pub ordered : IsOrdered us
+  pub winner : HasWinner us (told us) place
+
+-- o advertises best among the updates
+pub record IsLeader (us : List Fields) (o : ℕ) : Type 0 where
+  pub register : Register
+  pub advert : Advert
+  pub named : register.originator ≡ o
+  pub own : told us register ≡ Some advert
+  pub best : (q : Register) (b : Advert) → q ≢ register → told us q ≡ Some b → IsBetter advert register b q
+
+-- nothing is advertised
+abbrev pub IsSilent : List Fields → Type 0
+IsSilent us = (q : Register) → told us q ≡ None
+
+-- ---- how a winner is found
+
+-- what an update advertises, with its register
+abbrev pub candidate_in : Option Fields → Option (Register × Advert)
+candidate_in None = None
+candidate_in (Some u) = option_map (λ (a : Advert). (u.register, a)) (advert_in u.value.content)
+
+abbrev pub candidate_at : List Fields → ℕ → Option (Register × Advert)
+candidate_at us i = candidate_in (slice_get us i)
+
+abbrev pub leader_of : List Fields → Option ℕ → Option (Register × Advert)
+leader_of us None = None
+leader_of us (Some i) = candidate_at us i
+
+-- the first one wins against the second one, if any
+abbrev pub wins : Option (Register × Advert) → Option (Register × Advert) → Bool
+wins None d = false
+wins (Some c) None = true
+wins (Some c) (Some d) = is_better c.1 c.0 d.1 d.0
+
+-- the winner, once the update at a place may win too
+abbrev pub better_place : List Fields → ℕ → Option ℕ → Option ℕ
+better_place us at winner = if wins (candidate_at us at) (leader_of us winner) then Some at else winner
+
+-- where a winner stands after an insertion
+abbrev pub moved : ℕ → Option ℕ → Option ℕ
+moved at None = None
+moved at (Some i) = Some (if nat_le at i then i + 1 else i)
+
+-- ---- many groups
+
+-- all are about the subject
+abbrev pub AreAbout : Subject → List (Register × Value) → Type 0
+AreAbout s [] = Unit {0}
+AreAbout s (e ∷ es) = (subject_of e.0.key ≡ s) × AreAbout s es
+
+abbrev pub IsSome : List (Register × Value) → Type 0
+IsSome [] = ⊥
+IsSome (e ∷ es) = Unit {0}
+
+-- the subject comes before those of the groups
+abbrev pub IsBefore : Subject → List (Subject × List Fields) → Type 0
+IsBefore s [] = Unit {0}
+IsBefore s (g ∷ gs) = (subject_cmp s g.0 ≡ Less) × IsBefore s gs
+
+-- groups in the order of their subjects, each with some updates about its subject
+abbrev pub AreGroups : List (Subject × List Fields) → Type 0
+AreGroups [] = Unit {0}
+AreGroups (g ∷ gs) = AreAbout g.0 (entries_of g.1) × IsSome (entries_of g.1) × IsBefore g.0 gs × AreGroups gs
+
+-- all their updates
+abbrev pub updates_in : List (Subject × List Fields) → List Fields
+updates_in [] = []
+updates_in (g ∷ gs) = g.1 ++ updates_in gs
+
+-- what a table of groups keeps
+pub record IsGrouped (originators : List ℕ) (gs : List (Subject × List Fields)) : Type 0 where
+  pub kept : IsKept originators (updates_in gs)
+  pub groups : AreGroups gs
+
+-- and counts
+pub record IsCounted (originators : List ℕ) (gs : List (Subject × List Fields)) (held : ℕ) : Type 0 where
+  pub grouped : IsGrouped originators gs
+  pub counted : held ≡ length (updates_in gs)
+  pub few : held < 2 ^ 64

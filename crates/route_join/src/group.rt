@@ -1,0 +1,193 @@
+ghost use Rattle.std.specs.Prelude.{◌≡◌, ◌∷◌, [], ◌+◌, ◌<◌, ◌^◌, Ok, Err, None, IfOk, IfSome, OnOk, OnErr, MatchOption, if◌then◌else◌};
+ghost use Rattle.std.specs.FinMap.Entries.{find, put};
+ghost use Rattle.route_wire.specs.Order.{register_cmp};
+ghost use Rattle.route_join.specs.Table.{entries_of, IsOrdered, is_news};
+ghost use Rattle.route_join.specs.Place.{place_of};
+ghost use Rattle.route_join.specs.Group.{told, entries_with, added, update_among, candidate_at, wins, better_place, moved, HasWinner, IsLeader, IsSilent};
+
+use crate::owner::{advert_in, is_better};
+use crate::place::place;
+use crate::table::Taken;
+use ether_wire::Addr;
+use route_wire::{Advert, Register, Update};
+use std::alloc::{AllocError, Global};
+use std::marker::Model;
+
+/// What the update at a place advertises, with its register.
+fn candidate(updates: &[Update], at: usize) -> Option<(Register, Advert)>
+    ensures { result ≡ candidate_at updates.now at }
+{
+    let update = updates.get(at)?;
+    let advert = advert_in(&update.value().content)?;
+    Some((update.register(), advert))
+}
+
+/// Whether a candidate wins against the winner so far, if there is one.
+fn wins(candidate: &Option<(Register, Advert)>, winner: &Option<(Register, Advert)>) -> bool
+    ensures { result ≡ wins candidate.now winner.now }
+{
+    match (candidate, winner) {
+        (None, _) => false,
+        (Some(_), None) => true,
+        (Some(candidate), Some(winner)) => is_better(candidate, winner),
+    }
+}
+
+/// The winner's place, once the update at a place may win too.
+fn better_place(updates: &[Update], at: usize, winner: Option<usize>) -> Option<usize>
+    ensures { result ≡ better_place updates.now at winner }
+{
+    let best = match winner {
+        None => None,
+        Some(i) => candidate(updates, i),
+    };
+    if wins(&candidate(updates, at), &best) {
+        Some(at)
+    } else {
+        winner
+    }
+}
+
+/// The place of the best advert among updates in the order of their registers.
+fn best_place(updates: &[Update]) -> Option<usize>
+    requires { IsOrdered updates.now }
+    ensures { HasWinner updates.now (told updates.now) result }
+{
+    let mut winner = None;
+    for at in 0..updates.len() {
+        winner = better_place(updates, at, winner);
+    }
+    winner
+}
+
+/// Where a winner stands once an update was inserted at a place.
+fn moved(at: usize, winner: Option<usize>) -> Option<usize>
+    requires { IfSome winner (λ i. i + 1 < 2 ^ 64) }
+    ensures { result ≡ moved at winner }
+{
+    match winner {
+        None => None,
+        Some(i) => Some(if at <= i { i + 1 } else { i }),
+    }
+}
+
+/// The updates of one subject in the order of their registers, with the place of the best advert
+/// among them, if anything is advertised.
+#[derive(Drop)]
+pub(crate) struct Group {
+    updates: Vec<Update>,
+    winner: Option<usize>,
+}
+
+impl Model for Group {
+    ghost use Rattle.std.specs.Prelude.{List};
+    ghost use Rattle.std.specs.Coded.{codes};
+    ghost use Rattle.route_wire.specs.Fields.{Fields};
+    ghost use Rattle.route_join.specs.Group.{IsGroup};
+
+    ghost Value = { List Fields };
+
+    ghost coded = { Prim.hlevel codes };
+
+    ghost view = { λ g. g.updates.items };
+
+    ghost invariant = { λ g. IsGroup g.updates.items g.winner };
+}
+
+impl Group {
+    /// A group of one update.
+    pub(crate) fn new(alloc: Global, update: &Update) -> Result<Self, AllocError>
+        ensures { IfOk result (λ g. g ≡ update.now ∷ []) }
+    {
+        let mut updates = Vec::new(alloc);
+        updates.push(*update)?;
+        let winner = best_place(&updates);
+        Ok(Group { updates, winner })
+    }
+
+    pub(crate) fn updates(&self) -> &[Update]
+        ensures value { result.now ≡ self.now }
+        ensures ordered { IsOrdered self.now }
+    {
+        &self.updates
+    }
+
+    /// The update of a register, if there is one.
+    pub(crate) fn register(&self, register: &Register) -> Option<Update>
+        ensures { result ≡ update_among self.now register.now }
+    {
+        match place(&self.updates, register) {
+            Ok(at) => Some(self.updates[at]),
+            Err(_) => None,
+        }
+    }
+
+    /// The originator of the best advert, none where nothing is advertised.
+    pub(crate) fn owner(&self) -> Option<Addr>
+        ensures { MatchOption result (IsSilent self.now) (IsLeader self.now) }
+    {
+        match self.winner {
+            None => None,
+            Some(at) => Some(self.updates[at].register().originator),
+        }
+    }
+
+    // A newer update comes to the place of its register. The winner is found anew only where the
+    // update was the winner.
+    fn replace(&mut self, at: usize, update: &Update)
+        requires { place_of self.old update.now.register ≡ Ok at }
+        ensures { entries_of self.new ≡ put register_cmp update.now.register update.now.value (entries_of self.old) }
+    {
+        self.updates[at] = *update;
+        self.winner = if self.winner == Some(at) {
+            best_place(&self.updates)
+        } else {
+            better_place(&self.updates, at, self.winner)
+        };
+    }
+
+    // The first update of its register comes to the gap where it belongs.
+    fn insert(&mut self, at: usize, update: &Update) -> Result<(), AllocError>
+        requires { place_of self.old update.now.register ≡ Err at }
+        ensures ok { OnOk result (entries_of self.new ≡ put register_cmp update.now.register update.now.value (entries_of self.old)) }
+        ensures err { OnErr result (self.new ≡ self.old) }
+    {
+        if self.updates.insert(at, *update).is_err() {
+            return Err(AllocError);
+        }
+        self.winner = better_place(&self.updates, at, moved(at, self.winner));
+        Ok(())
+    }
+
+    /// Takes an update: its register has then the newer of the update and its value so far. A
+    /// register that is there already takes no memory, and a new one is one more of those held.
+    pub(crate) fn take(&mut self, held: &mut usize, update: &Update) -> Result<Taken, AllocError>
+        ensures taken { IfOk result (λ t. t ≡ (if is_news (find register_cmp update.now.register (entries_of self.old)) update.now.value then Taken.Newer else Taken.Known)) }
+        ensures entries { OnOk result (entries_of self.new ≡ entries_with (entries_of self.old) update.now) }
+        ensures held { OnOk result (held.new ≡ held.old + added (entries_of self.old) update.now) }
+        ensures few { held.old < 2 ^ 64 → held.new < 2 ^ 64 }
+        ensures new { OnErr result (find register_cmp update.now.register (entries_of self.old) ≡ None) }
+        ensures err { OnErr result (self.new ≡ self.old) }
+        ensures err_held { OnErr result (held.new ≡ held.old) }
+    {
+        match place(&self.updates, &update.register()) {
+            Ok(at) => {
+                if !update.is_newer(&self.updates[at]) {
+                    return Ok(Taken::Known);
+                }
+                self.replace(at, update);
+                Ok(Taken::Newer)
+            }
+            Err(at) => {
+                let Some(more) = held.checked_add(1) else {
+                    return Err(AllocError);
+                };
+                if self.insert(at, update).is_err() {
+                    return Err(AllocError);
+                }
+                *held = more;
+                Ok(Taken::Newer)
+            }
+        }
+    }
+}
