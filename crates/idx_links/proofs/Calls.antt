@@ -1,17 +1,17 @@
 -- what the calls owe, in the numbers that they read
-use Rattle.std.proofs.Common.{zero, suc, add-zero, add-one, ℕ, ◌+◌, ◌-◌, ◌<◌, ◌≤◌, ◌^◌, ◌≡◌, true, inl, inr, Option, Some, None, List, [], ◌∷◌, ◌++◌, length, map, replicate, take, append_assoc, cond, eqb, get_or, set, slice_get, sum, refl, ap, sym, ◌∙◌, subst, arith}
+use Rattle.std.proofs.Common.{suc, ℕ, ◌+◌, ◌-◌, ◌<◌, ◌≤◌, ◌≡◌, true, inl, inr, Option, Some, None, List, [], ◌∷◌, ◌++◌, length, map, replicate, cond, eqb, get_or, set, slice_get, sum, refl, ap, sym, ◌∙◌, subst, arith}
 use Rattle.std.specs.Option.{IfSome, IfNone, option_map}
 use Rattle.std.specs.List.{range_with_len, count_by}
 use Rattle.std.specs.Option.{is_none}
 use Rattle.std.proofs.lemmas.List.FromFn.{length-range_with_len, get_or-range_with_len}
 use Rattle.std.proofs.lemmas.List.Folds.{sum_by-replicate}
 use Rattle.std.proofs.lemmas.List.{get_or-replicate, get_or_past, length-replicate, ext_get_or}
-use Rattle.std.proofs.lemmas.List.{get_or_default, take_all}
+use Rattle.std.proofs.lemmas.List.{append-nil}
 use Rattle.std.proofs.lemmas.Bool.{eqb-true, eq-eqb, ne_eqb, cases_lt, or_right}
 use Rattle.idx_links.proofs.Paths.{after, after-at, has-at, link_on, first-path, first-minus, after-path, after-minus}
 use Rattle.idx_links.specs.Links.{Links, has, without, Apart, list_at, IsFree, IsLinked}
 use Rattle.idx_links.specs.Ring.{follow, ring_of, links_of, is_at, Path, IsGood}
-use Rattle.idx_links.proofs.Rings.{IsNew, IsBetween, has-list, length-list, pushed_good, pushed_lists, unlinked_good, unlinked_lists, free_place, linked_place, len_below, owned_len, list_below, node_below, is_at-self, is_at-true, length-lists, list_at-links, apart-list, more_links, grown_good, grown_lists, grown_nodes, loop_of, loop_distinct, above, on_ring}
+use Rattle.idx_links.proofs.Rings.{IsNew, IsBetween, has-list, length-list, pushed_good, pushed_lists, unlinked_good, unlinked_lists, free_place, linked_place, len_below, owned_len, list_below, node_below, is_at-self, is_at-true, length-lists, list_at-links, apart-list, more_links, length-more, grown_good, grown_lists, loop_of, loop_distinct, above, on_ring}
 
 -- what a call finds: good places, seen as v, with the number of lists
 pub record Found (next prev : List ℕ) (owner : List (Option ℕ)) (lens : List ℕ) (v : Links) (count : ℕ) : Type 0 where
@@ -27,71 +27,64 @@ list_place {next} {prev} {owner} {lens} {v} {count} found l h =
     let same = found.good.inverse.same in
     (low, omega (arith, few), omega (arith, few, same))
 
-pub last_place : {next prev : List ℕ} {owner : List (Option ℕ)} {lens : List ℕ} {v : Links} {count : ℕ} (found : Found next prev owner lens v count) (l t : ℕ) → l < length v.lists → t ≡ get_or prev l t → t < length next
-last_place {next} {prev} {owner} {lens} {v} {count} found l t h e =
-    let place = list_place found l h in
-    rw (e ∙ get_or_default prev l t 0 place.2) (found.good.inverse.back l place.1).0
+pub last_place : {next prev : List ℕ} {owner : List (Option ℕ)} {lens : List ℕ} {v : Links} {count : ℕ} (found : Found next prev owner lens v count) (l t : ℕ) → l < length v.lists → t ≡ get_or prev l 0 → t < length next
+last_place found l t h is = rw is (found.good.inverse.back l (list_place found l h).1).0
 
-pub push_owes : {next prev : List ℕ} {owner : List (Option ℕ)} {lens : List ℕ} {v : Links} {count : ℕ} (found : Found next prev owner lens v count) (l n t k : ℕ)
-    → l < length v.lists → n < v.nodes → IsFree v.lists n → t ≡ get_or prev l t → k ≡ get_or lens l k
-    → (k ≤ length next) × IsGood (set (set next t (count + n)) (count + n) l) (set (set prev (count + n) t) l (count + n)) (set owner (count + n) (Some l)) (set lens l (k + 1))
-    × ((links_of (set (set next t (count + n)) (count + n) l) (set lens l (k + 1))).lists ≡ set v.lists l (list_at v.lists l ++ n ∷ []))
-push_owes {next} {prev} {owner} {lens} {v} {count} found l n t k lb nb free t_is k_is =
+-- the place of a node
+pub node_place : {next prev : List ℕ} {owner : List (Option ℕ)} {lens : List ℕ} {v : Links} {count : ℕ} (found : Found next prev owner lens v count) (n : ℕ) → n < v.nodes → count + n < length next
+node_place {next} {prev} {owner} {lens} {v} {count} found n h = rw found.count_is (node_below next lens v n found.seen h)
+
+pub push_owes : {next prev : List ℕ} {owner : List (Option ℕ)} {lens : List ℕ} {v : Links} {count : ℕ} (found : Found next prev owner lens v count) (l n t : ℕ)
+    → l < length v.lists → n < v.nodes → IsFree v.lists n → t ≡ get_or prev l 0
+    → (get_or lens l 0 ≤ length next) × IsGood (set (set next t (count + n)) (count + n) l) (set (set prev (count + n) t) l (count + n)) (set owner (count + n) (Some l)) (set lens l (get_or lens l 0 + 1))
+    × ((links_of (set (set next t (count + n)) (count + n) l) (set lens l (get_or lens l 0 + 1))).lists ≡ set v.lists l (list_at v.lists l ++ n ∷ []))
+push_owes {next} {prev} {owner} {lens} {v} {count} found l n t lb nb free t_is =
     let good = found.good in
     let place = list_place found l lb in
     let below = node_below next lens v n found.seen nb in
     let free' : IsFree (links_of next lens).lists n = let P : Links → Type 0 = λ w. IsFree w.lists n in subst P (sym found.seen) free in
     let new : IsNew next owner lens l (length lens + n) = record { list = place.0; high = omega arith; low = below; free = free_place good n free' } in
-    let t0 : get_or prev l 0 ≡ t = sym (t_is ∙ get_or_default prev l t 0 place.2) in
-    let k0 : k ≡ get_or lens l 0 = k_is ∙ get_or_default lens l k 0 place.0 in
-    rw (found.count_is, k0) (
+    rw found.count_is (
       len_below good l place.0,
-      pushed_good good l (length lens + n) t new t0,
-      pushed_lists good l n t new t0 ∙ ap (λ w. set w.lists l (list_at w.lists l ++ n ∷ [])) found.seen,
+      pushed_good good l (length lens + n) t new (sym t_is),
+      pushed_lists good l n t new (sym t_is) ∙ ap (λ w. set w.lists l (list_at w.lists l ++ n ∷ [])) found.seen,
     )
 
-pub linked_owner : {next prev : List ℕ} {owner : List (Option ℕ)} {lens : List ℕ} {v : Links} {count : ℕ} (found : Found next prev owner lens v count) (n : ℕ) (o : Option ℕ) → n < v.nodes
-    → o ≡ get_or owner (count + n) o → (count + n < length next) × (o ≡ get_or owner (length lens + n) None)
-linked_owner {next} {prev} {owner} {lens} {v} {count} found n o nb is =
-    let below = node_below next lens v n found.seen nb in
-    let owners = found.good.owners in
-    (rw found.count_is below, is ∙ get_or_default owner (count + n) o None (rw (found.count_is, owners) below) ∙ ap (λ c. get_or owner (c + n) None) found.count_is)
+pub linked_owner : {next prev : List ℕ} {owner : List (Option ℕ)} {lens : List ℕ} {v : Links} {count : ℕ} (found : Found next prev owner lens v count) (n : ℕ) (o : Option ℕ)
+    → o ≡ get_or owner (count + n) None → o ≡ get_or owner (length lens + n) None
+linked_owner {next} {prev} {owner} {lens} {v} {count} found n o is = is ∙ ap (λ c. get_or owner (c + n) None) found.count_is
 
-pub linked_is : {next prev : List ℕ} {owner : List (Option ℕ)} {lens : List ℕ} {v : Links} {count : ℕ} (found : Found next prev owner lens v count) (n : ℕ) (o : Option ℕ) → n < v.nodes → IsLinked v.lists n
-    → o ≡ get_or owner (count + n) o → (l : ℕ) × (o ≡ Some l)
-linked_is {next} {prev} {owner} {lens} {v} {count} found n o nb on is =
+pub linked_is : {next prev : List ℕ} {owner : List (Option ℕ)} {lens : List ℕ} {v : Links} {count : ℕ} (found : Found next prev owner lens v count) (n : ℕ) (o : Option ℕ) → IsLinked v.lists n
+    → o ≡ get_or owner (count + n) None → (l : ℕ) × (o ≡ Some l)
+linked_is {next} {prev} {owner} {lens} {v} {count} found n o on is =
     let on' : IsLinked (links_of next lens).lists n = let P : Links → Type 0 = λ w. IsLinked w.lists n in subst P (sym found.seen) on in
-    (on'.0, (linked_owner found n o nb is).1 ∙ linked_place found.good n on')
+    (on'.0, linked_owner found n o is ∙ linked_place found.good n on')
 
-pub unlink_owes : {next prev : List ℕ} {owner : List (Option ℕ)} {lens : List ℕ} {v : Links} {count : ℕ} (found : Found next prev owner lens v count) (n l p q k : ℕ) (o : Option ℕ)
-    → n < v.nodes → o ≡ get_or owner (count + n) o → o ≡ Some l → p ≡ get_or prev (count + n) p → q ≡ get_or next (count + n) q → k ≡ get_or lens l k
-    → (1 ≤ k) × IsGood (set (set next p q) (count + n) (count + n)) (set (set prev q p) (count + n) (count + n)) (set owner (count + n) None) (set lens l (k - 1))
-    × ((links_of (set (set next p q) (count + n) (count + n)) (set lens l (k - 1))).lists ≡ map (without n) v.lists)
-unlink_owes {next} {prev} {owner} {lens} {v} {count} found n l p q k o nb o_is is_l p_is q_is k_is =
+pub unlink_owes : {next prev : List ℕ} {owner : List (Option ℕ)} {lens : List ℕ} {v : Links} {count : ℕ} (found : Found next prev owner lens v count) (n l p q : ℕ) (o : Option ℕ)
+    → o ≡ get_or owner (count + n) None → o ≡ Some l → p ≡ get_or prev (count + n) 0 → q ≡ get_or next (count + n) 0
+    → (l < length lens) × (0 < get_or lens l 0) × IsGood (set (set next p q) (count + n) (count + n)) (set (set prev q p) (count + n) (count + n)) (set owner (count + n) None) (set lens l (get_or lens l 0 - 1))
+    × ((links_of (set (set next p q) (count + n) (count + n)) (set lens l (get_or lens l 0 - 1))).lists ≡ map (without n) v.lists)
+unlink_owes {next} {prev} {owner} {lens} {v} {count} found n l p q o o_is is_l p_is q_is =
     let good = found.good in
-    let below = node_below next lens v n found.seen nb in
-    let mine : get_or owner (length lens + n) None ≡ Some l = sym (linked_owner found n o nb o_is).1 ∙ is_l in
-    let lb = good.listed (length lens + n) l mine in
-    let same = good.inverse.same in
+    let mine : get_or owner (length lens + n) None ≡ Some l = sym (linked_owner found n o o_is) ∙ is_l in
     let it : IsBetween next prev owner l p (length lens + n) q = record {
       owner_is = mine;
-      prev_is = sym (p_is ∙ get_or_default prev (count + n) p 0 (rw (found.count_is, same) below) ∙ ap (λ c. get_or prev (c + n) 0) found.count_is);
-      next_is = sym (q_is ∙ get_or_default next (count + n) q 0 (rw found.count_is below) ∙ ap (λ c. get_or next (c + n) 0) found.count_is);
+      prev_is = sym (p_is ∙ ap (λ c. get_or prev (c + n) 0) found.count_is);
+      next_is = sym (q_is ∙ ap (λ c. get_or next (c + n) 0) found.count_is);
     } in
-    let k0 : k ≡ get_or lens l 0 = k_is ∙ get_or_default lens l k 0 lb in
-    rw (found.count_is, k0) (
+    rw found.count_is (
+      good.listed (length lens + n) l mine,
       owned_len good l (length lens + n) mine,
       unlinked_good good l p (length lens + n) q it,
       unlinked_lists good l p n q it ∙ ap (λ w. map (without n) w.lists) found.seen,
     )
 
 pub unlink_places : {next prev : List ℕ} {owner : List (Option ℕ)} {lens : List ℕ} {v : Links} {count : ℕ} (found : Found next prev owner lens v count) (n p q : ℕ)
-    → n < v.nodes → p ≡ get_or prev (count + n) p → q ≡ get_or next (count + n) q → (p < length next) × (q < length next)
+    → n < v.nodes → p ≡ get_or prev (count + n) 0 → q ≡ get_or next (count + n) 0 → (p < length next) × (q < length next)
 unlink_places {next} {prev} {owner} {lens} {v} {count} found n p q nb p_is q_is =
-    let below = node_below next lens v n found.seen nb in
-    let same = found.good.inverse.same in (
-      rw (p_is ∙ get_or_default prev (count + n) p 0 (rw (found.count_is, same) below) ∙ ap (λ c. get_or prev (c + n) 0) found.count_is) (found.good.inverse.back (length lens + n) below).0,
-      rw (q_is ∙ get_or_default next (count + n) q 0 (rw found.count_is below) ∙ ap (λ c. get_or next (c + n) 0) found.count_is) (found.good.inverse.forth (length lens + n) below).0,
+    let below = node_below next lens v n found.seen nb in (
+      rw (p_is ∙ ap (λ c. get_or prev (c + n) 0) found.count_is) (found.good.inverse.back (length lens + n) below).0,
+      rw (q_is ∙ ap (λ c. get_or next (c + n) 0) found.count_is) (found.good.inverse.forth (length lens + n) below).0,
     )
 
 -- which list a node is on
@@ -110,14 +103,14 @@ tells {next} {prev} {owner} {lens} good n (Some l) is = record {
   off = tt;
 }
 
-pub list_of_owes : {next prev : List ℕ} {owner : List (Option ℕ)} {lens : List ℕ} {v : Links} {count : ℕ} (found : Found next prev owner lens v count) (n : ℕ) (o : Option ℕ) → n < v.nodes → o ≡ get_or owner (count + n) o → Tells v n o
-list_of_owes {next} {prev} {owner} {lens} {v} {count} found n o nb is =
-    let P : Links → Type 0 = λ w. Tells w n o in subst P found.seen (tells found.good n o (linked_owner found n o nb is).1)
+pub list_of_owes : {next prev : List ℕ} {owner : List (Option ℕ)} {lens : List ℕ} {v : Links} {count : ℕ} (found : Found next prev owner lens v count) (n : ℕ) (o : Option ℕ) → o ≡ get_or owner (count + n) None → Tells v n o
+list_of_owes {next} {prev} {owner} {lens} {v} {count} found n o is =
+    let P : Links → Type 0 = λ w. Tells w n o in subst P found.seen (tells found.good n o (linked_owner found n o is))
 
-pub len_owes : {next prev : List ℕ} {owner : List (Option ℕ)} {lens : List ℕ} {v : Links} {count : ℕ} (found : Found next prev owner lens v count) (l k : ℕ) → l < length v.lists → k ≡ get_or lens l k → k ≡ length (list_at v.lists l)
+pub len_owes : {next prev : List ℕ} {owner : List (Option ℕ)} {lens : List ℕ} {v : Links} {count : ℕ} (found : Found next prev owner lens v count) (l k : ℕ) → l < length v.lists → k ≡ get_or lens l 0 → k ≡ length (list_at v.lists l)
 len_owes {next} {prev} {owner} {lens} {v} {count} found l k lb is =
     let low = (list_place found l lb).0 in
-    is ∙ get_or_default lens l k 0 low ∙ sym (length-list next lens l low) ∙ ap (λ w. length (list_at w.lists l)) found.seen
+    is ∙ sym (length-list next lens l low) ∙ ap (λ w. length (list_at w.lists l)) found.seen
 
 -- the node at a place past the sentinels
 abbrev pub node_of : ℕ → ℕ → ℕ → Option ℕ
@@ -134,12 +127,12 @@ node_is {next} {prev} {owner} {lens} good l y lb on = (
   λ high. (let ne : follow next y ≡ l → ⊥ = λ e. (let low : follow next y < length lens = rw e lb in omega arith) in rw (ne_eqb (follow next y) l ne) refl),
 )
 
-pub front_owes : {next prev : List ℕ} {owner : List (Option ℕ)} {lens : List ℕ} {v : Links} {count : ℕ} (found : Found next prev owner lens v count) (l f : ℕ) → l < length v.lists → f ≡ get_or next l f
+pub front_owes : {next prev : List ℕ} {owner : List (Option ℕ)} {lens : List ℕ} {v : Links} {count : ℕ} (found : Found next prev owner lens v count) (l f : ℕ) → l < length v.lists → f ≡ get_or next l 0
     → (f < count → None ≡ slice_get (list_at v.lists l) 0) × (count ≤ f → Some (f - count) ≡ slice_get (list_at v.lists l) 0)
 front_owes {next} {prev} {owner} {lens} {v} {count} found l f lb is =
     let place = list_place found l lb in
     let good = found.good in
-    let f0 : f ≡ follow next l = is ∙ get_or_default next l f 0 place.1 in
+    let f0 : f ≡ follow next l = is in
     let xs = ring_of next lens l in
     let first : slice_get (list_at v.lists l) 0 ≡ node_of (length lens) l (follow next l) =
     ap (λ w. slice_get (list_at w.lists l) 0) (sym found.seen) ∙ ap (λ zs. slice_get zs 0) (list_at-links next lens l place.0)
@@ -150,7 +143,7 @@ front_owes {next} {prev} {owner} {lens} {v} {count} found l f lb is =
 pub apart_owes : {next prev : List ℕ} {owner : List (Option ℕ)} {lens : List ℕ} {v : Links} {count : ℕ} (found : Found next prev owner lens v count) (l : ℕ) → Apart (list_at v.lists l)
 apart_owes {next} {prev} {owner} {lens} {v} {count} found l = let P : Links → Type 0 = λ w. Apart (list_at w.lists l) in subst P found.seen (apart-list found.good l)
 
-pub next_owes : {next prev : List ℕ} {owner : List (Option ℕ)} {lens : List ℕ} {v : Links} {count : ℕ} (found : Found next prev owner lens v count) (n f l : ℕ) → n < v.nodes → has (list_at v.lists l) n ≡ true → f ≡ get_or next (count + n) f
+pub next_owes : {next prev : List ℕ} {owner : List (Option ℕ)} {lens : List ℕ} {v : Links} {count : ℕ} (found : Found next prev owner lens v count) (n f l : ℕ) → n < v.nodes → has (list_at v.lists l) n ≡ true → f ≡ get_or next (count + n) 0
     → (f < count → None ≡ after (list_at v.lists l) n) × (count ≤ f → Some (f - count) ≡ after (list_at v.lists l) n)
 next_owes {next} {prev} {owner} {lens} {v} {count} found n f l nb on is =
     let good = found.good in
@@ -159,7 +152,7 @@ next_owes {next} {prev} {owner} {lens} {v} {count} found n f l nb on is =
     let mine : get_or owner (length lens + n) None ≡ Some l = is_at-true (get_or owner (length lens + n) None) l (sym (has-list good l n) ∙ on') in
     let lb = good.listed (length lens + n) l mine in
     let place = length lens + n in
-    let f0 : f ≡ follow next place = is ∙ get_or_default next (count + n) f 0 (rw found.count_is below) ∙ ap (λ c. get_or next (c + n) 0) found.count_is in
+    let f0 : f ≡ follow next place = is ∙ ap (λ c. get_or next (c + n) 0) found.count_is in
     let xs = ring_of next lens l in
     let there = on_ring good l place lb mine in
     let behind : after (list_at v.lists l) n ≡ node_of (length lens) l (follow next place) =
@@ -170,7 +163,7 @@ next_owes {next} {prev} {owner} {lens} {v} {count} found n f l nb on is =
     rw (found.count_is, f0) (λ low. sym (behind ∙ cases.0 low), λ high. sym (behind ∙ cases.1 high))
 
 -- what the call for the next node owes, by place
-pub next_at_owes : {next prev : List ℕ} {owner : List (Option ℕ)} {lens : List ℕ} {v : Links} {count : ℕ} (found : Found next prev owner lens v count) (n f l i : ℕ) → n < v.nodes → slice_get (list_at v.lists l) i ≡ Some n → f ≡ get_or next (count + n) f
+pub next_at_owes : {next prev : List ℕ} {owner : List (Option ℕ)} {lens : List ℕ} {v : Links} {count : ℕ} (found : Found next prev owner lens v count) (n f l i : ℕ) → n < v.nodes → slice_get (list_at v.lists l) i ≡ Some n → f ≡ get_or next (count + n) 0
     → (f < count → None ≡ slice_get (list_at v.lists l) (i + 1)) × (count ≤ f → Some (f - count) ≡ slice_get (list_at v.lists l) (i + 1))
 next_at_owes {next} {prev} {owner} {lens} {v} {count} found n f l i nb at is =
     let cases = next_owes found n f l nb (has-at (list_at v.lists l) i n at) is in
@@ -242,44 +235,46 @@ new_lists lists nodes =
 pub new_nodes : (lists nodes : ℕ) → (links_of (range_with_len 0 (lists + nodes)) (replicate lists 0)).nodes ≡ nodes
 new_nodes lists nodes = (let zeros : List ℕ = replicate lists 0 in let n : length zeros ≡ lists = length-replicate lists 0 in let m = length-range_with_len 0 (lists + nodes) in omega (arith, n, m))
 
-pub range-more : (a n : ℕ) → range_with_len a n ++ (a + n) ∷ [] ≡ range_with_len a (n + 1)
-range-more a zero = rw (add-zero a) refl
-range-more a (suc n) = rw (add-one (suc n)) (ap (λ t. a ∷ t) (ap (λ k. range_with_len (a + 1) n ++ k ∷ []) (let e : a + suc n ≡ a + 1 + n = omega arith in e) ∙ range-more (a + 1) n ∙ ap (range_with_len (a + 1)) (add-one n)))
+-- ---- more nodes
 
--- ---- more links
+no_more : (links : List ℕ) (places : ℕ) → places ≤ length links → more_links links places ≡ links
+no_more links places h = (let none : places - length links ≡ 0 = omega arith in ap (λ k. links ++ range_with_len (length links) k) none ∙ append-nil links)
 
-pub range_step : (start links new : List ℕ) (a p : ℕ) → a ≤ p → links ≡ start ++ range_with_len a (p - a) → new ≡ links ++ p ∷ [] → new ≡ start ++ range_with_len a (p + 1 - a)
-range_step start links new a p low so_far more =
-    let here : a + (p - a) ≡ p = omega arith in
-    let count : p - a + 1 ≡ p + 1 - a = omega arith in
-    more ∙ ap (λ xs. xs ++ p ∷ []) so_far ∙ append_assoc start (range_with_len a (p - a)) (p ∷ [])
-    ∙ ap (λ xs. start ++ xs) (ap (λ k. range_with_len a (p - a) ++ k ∷ []) (sym here) ∙ range-more a (p - a) ∙ ap (range_with_len a) count)
+-- what growing keeps, and that there are so many nodes
+pub record IsGrown (nodes : ℕ) (v : Links) (next prev : List ℕ) (owner : List (Option ℕ)) (lens : List ℕ) : Type 0 where
+  pub good : IsGood next prev owner lens
+  pub lists : (links_of next lens).lists ≡ v.lists
+  pub enough : nodes ≤ (links_of next lens).nodes
+  pub kept : v.nodes ≤ (links_of next lens).nodes
 
-pub links_more : (links reserved new : List ℕ) (n places : ℕ) → reserved ≡ links → n ≡ length reserved → new ≡ reserved ++ range_with_len n (places - n) → new ≡ more_links links places
-links_more links reserved new n places same len is = is ∙ rw (len, same) refl
-
-pub count_fits : {next prev : List ℕ} {owner : List (Option ℕ)} {lens : List ℕ} {v : Links} {count : ℕ} (found : Found next prev owner lens v count) (nodes : ℕ) → length v.lists + nodes < 2 ^ 64 → count + nodes < 2 ^ 64
-count_fits {next} {prev} {owner} {lens} {v} {count} found nodes h =
-    let same : length v.lists ≡ length lens = ap (λ w. length w.lists) (sym found.seen) ∙ length-lists next lens in
-    rw (found.count_is, sym same) h
-
-pub grow_owes : {next prev : List ℕ} {owner : List (Option ℕ)} {lens : List ℕ} {v : Links} {count : ℕ} (found : Found next prev owner lens v count) (nodes : ℕ) (next' prev' : List ℕ) (owner' : List (Option ℕ)) (have owners : ℕ)
-    → have ≡ length next → have ≤ count + nodes → owners ≡ length owner
-    → next' ≡ more_links next (count + nodes) → prev' ≡ more_links prev (count + nodes) → owner' ≡ take (count + nodes) owner ++ replicate (count + nodes - owners) None
-    → IsGood next' prev' owner' lens × ((links_of next' lens).lists ≡ v.lists) × (nodes ≤ (links_of next' lens).nodes) × (v.nodes ≤ (links_of next' lens).nodes)
-grow_owes {next} {prev} {owner} {lens} {v} {count} found nodes next' prev' owner' have owners have_is more owners_are next_is prev_is owner_is =
+pub grow_owes : {next prev : List ℕ} {owner : List (Option ℕ)} {lens : List ℕ} {v : Links} {count : ℕ} (found : Found next prev owner lens v count) (nodes : ℕ) (next' prev' : List ℕ) (owner' : List (Option ℕ)) (lens' : List ℕ)
+    → next' ≡ more_links next (count + nodes) → prev' ≡ more_links prev (count + nodes) → owner' ≡ owner ++ replicate (count + nodes - length owner) None → lens' ≡ lens
+    → IsGrown nodes v next' prev' owner' lens'
+grow_owes {next} {prev} {owner} {lens} {v} {count} found nodes next' prev' owner' lens' next_is prev_is owner_is lens_is =
     let good = found.good in
     let places = count + nodes in
-    let enough : length next ≤ places = omega arith in
-    let same : length owner ≡ length next = good.owners in
-    let all : take places owner ≡ owner = take_all places owner (omega arith) in
-    let owner_more : owner' ≡ owner ++ replicate (places - length owner) None = owner_is ∙ rw (all, owners_are) refl in
+    let owners : length owner ≡ length next = good.owners in
+    let prevs : length prev ≡ length next = good.inverse.same in
     let count_is = found.count_is in
-    let nodes_are = grown_nodes next lens places enough in
+    let few = good.few in
+    let lists : (links_of next lens).lists ≡ v.lists = ap (λ w. w.lists) found.seen in
     let had : v.nodes ≡ length next - length lens = ap (λ w. w.nodes) (sym found.seen) in
-    rw (next_is, prev_is, owner_more) (
-      grown_good good places (places - length owner) enough (omega arith),
-      grown_lists good places ∙ ap (λ w. w.lists) found.seen,
-      omega (arith, nodes_are, count_is),
-      omega (arith, nodes_are, count_is, had),
-    )
+    elim (cases_lt places (length next)) as (λ _. IsGrown nodes v next' prev' owner' lens') [
+      | inl low ↦
+          let none : places - length owner ≡ 0 = omega arith in
+          let same : owner' ≡ owner = owner_is ∙ ap (λ k. owner ++ replicate k None) none ∙ append-nil owner in
+          rw (next_is ∙ no_more next places (omega arith), prev_is ∙ no_more prev places (omega arith), same, lens_is) (record {
+            good = good;
+            lists = lists;
+            enough = omega (arith, count_is, few);
+            kept = omega (arith, had);
+          })
+      | inr high ↦
+          let len = length-more next places high in
+          rw (next_is, prev_is, owner_is, lens_is) (record {
+            good = grown_good good places (places - length owner) high (omega arith);
+            lists = grown_lists good places ∙ lists;
+            enough = omega (arith, len, count_is);
+            kept = omega (arith, len, had);
+          })
+    ]

@@ -1,6 +1,6 @@
 -- paths and rings, before and after a link changes
 use Rattle.std.proofs.Common.{ℕ, zero, suc, ◌+◌, ◌-◌, ◌≤◌, ◌≡◌, ◌≢◌, ◌⊎◌, inl, inr, Bool, true, false, cond, ◌||◌, eqb, Option, Some, None, slice_get, List, [], ◌∷◌, ◌++◌, length, map, refl, ap, sym, ◌∙◌, arith}
-use Rattle.std.proofs.lemmas.Bool.{cases_eq, eq-eqb, ne_eqb, false≢true, or_right}
+use Rattle.std.proofs.lemmas.Bool.{cases_eq, eq-eqb, ne_eqb, false≢true, or_cases, or_right}
 use Rattle.std.proofs.lemmas.Bool.Decides.{nat_tests}
 use Rattle.idx_links.specs.Links.{has, without, Apart}
 use Rattle.std.specs.Option.{option_map}
@@ -24,23 +24,44 @@ after-at (x ∷ xs) (suc i) n h is =
     let x_n : x ≢ n = λ e. false≢true (sym h.0 ∙ ap (has xs) e ∙ has-at xs i n is) in
     rw (ne_eqb x n x_n) (after-at xs i n h.1 is)
 
-pub has-minus : (c : ℕ) (xs : List ℕ) (n : ℕ) → ((x : ℕ) → has xs x ≡ true → c ≤ x) → has (map (λ x. x - c) xs) n ≡ has xs (c + n)
-has-minus c [] n h = refl
-has-minus c (x ∷ xs) n h =
-    let ih = has-minus c xs n (λ y e. h y (grind (arith, e))) in
-    let low : c ≤ x = h x (rw (eq-eqb x x refl) refl) in
-    elim (cases_eq x (c + n)) as (λ _. has (map (λ y. y - c) (x ∷ xs)) n ≡ has (x ∷ xs) (c + n)) [
-      | inl e ↦ (let e' : x - c ≡ n = omega arith in rw (eq-eqb (x - c) n e', eq-eqb x (c + n) e) refl)
-      | inr e ↦ (let e' : x - c ≢ n = λ s. e (omega arith) in rw (ne_eqb (x - c) n e', ne_eqb x (c + n) e) ih)
+-- a list's numbers, each changed, where only m becomes n
+
+pub has-map : (f : ℕ → ℕ) (xs : List ℕ) (n m : ℕ) → f m ≡ n → ((x : ℕ) → has xs x ≡ true → f x ≡ n → x ≡ m) → has (map f xs) n ≡ has xs m
+has-map f [] n m is only = refl
+has-map f (x ∷ xs) n m is only =
+    let ih = has-map f xs n m is (λ y e. only y (or_right (eqb x y) (has xs y) e)) in
+    elim (cases_eq x m) as (λ _. has (map f (x ∷ xs)) n ≡ has (x ∷ xs) m) [
+      | inl e ↦ (let e' : f x ≡ n = ap f e ∙ is in rw (eq-eqb (f x) n e', eq-eqb x m e) refl)
+      | inr e ↦ (let e' : f x ≢ n = λ s. e (only x (rw (eq-eqb x x refl) refl) s) in rw (ne_eqb (f x) n e', ne_eqb x m e) ih)
     ]
 
+pub without-map : (f : ℕ → ℕ) (xs : List ℕ) (n m : ℕ) → f m ≡ n → ((x : ℕ) → has xs x ≡ true → f x ≡ n → x ≡ m) → map f (without m xs) ≡ without n (map f xs)
+without-map f [] n m is only = refl
+without-map f (x ∷ xs) n m is only =
+    let ih = without-map f xs n m is (λ y e. only y (or_right (eqb x y) (has xs y) e)) in
+    elim (cases_eq x m) as (λ _. map f (without m (x ∷ xs)) ≡ without n (map f (x ∷ xs))) [
+      | inl e ↦ (let e' : f x ≡ n = ap f e ∙ is in rw (eq-eqb (f x) n e', eq-eqb x m e) refl)
+      | inr e ↦ (let e' : f x ≢ n = λ s. e (only x (rw (eq-eqb x x refl) refl) s) in rw (ne_eqb (f x) n e', ne_eqb x m e) (ap (λ t. f x ∷ t) ih))
+    ]
+
+pub apart-map : (f : ℕ → ℕ) (xs : List ℕ) → ((x y : ℕ) → has xs x ≡ true → has xs y ≡ true → f x ≡ f y → x ≡ y) → Apart xs → Apart (map f xs)
+apart-map f [] one h = tt
+apart-map f (x ∷ xs) one h =
+    let here : has (x ∷ xs) x ≡ true = rw (eq-eqb x x refl) refl in
+    let later : (y : ℕ) → has xs y ≡ true → has (x ∷ xs) y ≡ true = λ y e. or_right (eqb x y) (has xs y) e in
+    (has-map f xs (f x) x refl (λ y e s. one y x (later y e) here s) ∙ h.0, apart-map f xs (λ y z ey ez s. one y z (later y ey) (later z ez) s) h.1)
+
+-- what stands at a place came from what stood there
+pub at-map : (f : ℕ → ℕ) (xs : List ℕ) (i n : ℕ) → slice_get (map f xs) i ≡ Some n → (m : ℕ) × (slice_get xs i ≡ Some m) × (f m ≡ n)
+at-map f [] i n h = cc
+at-map f (x ∷ xs) zero n h = (x, refl, cc)
+at-map f (x ∷ xs) (suc i) n h = at-map f xs i n h
+
+pub has-minus : (c : ℕ) (xs : List ℕ) (n : ℕ) → ((x : ℕ) → has xs x ≡ true → c ≤ x) → has (map (λ x. x - c) xs) n ≡ has xs (c + n)
+has-minus c xs n h = has-map (λ x. x - c) xs n (c + n) (omega arith) (λ x e s. (let low : c ≤ x = h x e in omega (arith, s)))
+
 pub apart-minus : (c : ℕ) (xs : List ℕ) → ((x : ℕ) → has xs x ≡ true → c ≤ x) → Apart xs → Apart (map (λ x. x - c) xs)
-apart-minus c [] low h = tt
-apart-minus c (x ∷ xs) low h =
-    let low' : (y : ℕ) → has xs y ≡ true → c ≤ y = λ y e. low y (or_right (eqb x y) (has xs y) e) in
-    let here : c ≤ x = low x (rw (eq-eqb x x refl) refl) in
-    let same : c + (x - c) ≡ x = omega arith in
-    (has-minus c xs (x - c) low' ∙ ap (has xs) same ∙ h.0, apart-minus c xs low' h.1)
+apart-minus c xs h apart = apart-map (λ x. x - c) xs (λ x y ex ey s. (let low : c ≤ x = h x ex in let low' : c ≤ y = h y ey in omega (arith, s))) apart
 
 pub walk-path : (f : ℕ → ℕ) (a : ℕ) (xs : List ℕ) (b : ℕ) → Path f a xs b → walk (length xs) f (f a) ≡ xs
 walk-path f a [] b h = refl
@@ -153,13 +174,20 @@ without-absent (x ∷ xs) n h = elim (cases_eq x n) as (λ _. without n (x ∷ x
 ]
 
 pub without-minus : (c : ℕ) (xs : List ℕ) (n : ℕ) → ((x : ℕ) → has xs x ≡ true → c ≤ x) → map (λ x. x - c) (without (c + n) xs) ≡ without n (map (λ x. x - c) xs)
-without-minus c [] n h = refl
-without-minus c (x ∷ xs) n h =
-    let ih = without-minus c xs n (λ y e. h y (grind (arith, e))) in
-    let low : c ≤ x = h x (rw (eq-eqb x x refl) refl) in
-    elim (cases_eq x (c + n)) as (λ _. map (λ y. y - c) (without (c + n) (x ∷ xs)) ≡ without n (map (λ y. y - c) (x ∷ xs))) [
-      | inl e ↦ (let e' : x - c ≡ n = omega arith in rw (eq-eqb (x - c) n e', eq-eqb x (c + n) e) refl)
-      | inr e ↦ (let e' : x - c ≢ n = λ s. e (omega arith) in rw (ne_eqb (x - c) n e', ne_eqb x (c + n) e) (ap (λ t. (x - c) ∷ t) ih))
+without-minus c xs n h = without-map (λ x. x - c) xs n (c + n) (omega arith) (λ x e s. (let low : c ≤ x = h x e in omega (arith, s)))
+
+-- what is left was there
+pub has-left : (xs : List ℕ) (n y : ℕ) → has (without n xs) y ≡ true → has xs y ≡ true
+has-left [] n y h = h
+has-left (x ∷ xs) n y h =
+    elim (cases_eq x n) [
+      | inl e ↦ or_right (eqb x y) (has xs y) (sym (ap (λ b. has (cond b xs (x ∷ without n xs)) y) (eq-eqb x n e)) ∙ h)
+      | inr e ↦
+          let h' : (eqb x y || has (without n xs) y) ≡ true = sym (ap (λ b. has (cond b xs (x ∷ without n xs)) y) (ne_eqb x n e)) ∙ h in
+          elim (or_cases (eqb x y) (has (without n xs) y) h') [
+            | inl s ↦ rw s refl
+            | inr s ↦ or_right (eqb x y) (has xs y) (has-left xs n y s)
+          ]
     ]
 
 or_true : (b : Bool) → (b || true) ≡ true

@@ -581,7 +581,7 @@ more_behind links places x low high =
     get_or-append_right links (range_with_len (length links) (places - length links)) (length links) x 0 refl low
     ∙ get_or-range_with_len (length links) (places - length links) (x - length links) 0 (omega arith) ∙ omega arith
 
-length-more : (links : List ℕ) (places : ℕ) → length links ≤ places → length (more_links links places) ≡ places
+pub length-more : (links : List ℕ) (places : ℕ) → length links ≤ places → length (more_links links places) ≡ places
 length-more links places h = length-append links (range_with_len (length links) (places - length links)) ∙ (let k = length-range_with_len (length links) (places - length links) in omega (arith, k))
 
 more_owners : (owner : List (Option ℕ)) (n x : ℕ) → get_or (owner ++ replicate n None) x None ≡ get_or owner x None
@@ -666,6 +666,3 @@ grown_lists {next} {prev} {owner} {lens} good places =
     (λ k h.
     let kb : k < length lens = rw (sym (length-lists (more_links next places) lens)) h in
     list_at-links (more_links next places) lens k kb ∙ ap (map (λ x. x - length lens)) (more_rings good places 0 k kb).0 ∙ sym (list_at-links next lens k kb))
-
-pub grown_nodes : (next lens : List ℕ) (places : ℕ) → length next ≤ places → (links_of (more_links next places) lens).nodes ≡ places - length lens
-grown_nodes next lens places h = ap (λ k. k - length lens) (length-more next places h)

@@ -1,6 +1,7 @@
 -- what callers see of several families of lists over one arena of nodes
-use Rattle.std.specs.Prelude.{ℕ, ◌≡◌, ◌<◌, ◌≤◌, List, [], length, map, slice_index_or, get_or}
-use Rattle.idx_links.specs.Links.{Links}
+use Rattle.std.specs.Prelude.{ℕ, ◌+◌, ◌-◌, ◌*◌, ◌/◌, ◌%◌, ◌<◌, ◌≤◌, ◌≡◌, ◌^◌, true, List, [], length, map, slice_index_or}
+use Rattle.std.specs.List.{range_with_len}
+use Rattle.idx_links.specs.Links.{Links, has, list_at}
 
 pub record Families : Type 0 where
   pub nodes : ℕ
@@ -10,13 +11,34 @@ pub record Families : Type 0 where
 abbrev pub lists_of : Families → ℕ → List (List ℕ)
 lists_of f k = slice_index_or f.families k []
 
-abbrev pub families_of : ℕ → List Links → Families
-families_of nodes chains = record { nodes = nodes; families = map (λ (c : Links). c.lists) chains }
+-- ---- how the families stand side by side in one set of lists: the lists of one behind those of another,
+-- and node n of the k-th of so many families as node n * families + k
 
-abbrev pub nothing : Links
-nothing = record { nodes = 0; lists = [] }
+-- where a family's lists start
+abbrev pub start : List ℕ → ℕ → ℕ
+start starts k = slice_index_or starts k 0
 
--- so many families, each with places for all nodes
-pub record IsFamily (count nodes : ℕ) (chains : List Links) : Type 0 where
-  pub counted : length chains ≡ count
-  pub enough : (k : ℕ) → k < count → nodes ≤ (get_or chains k nothing).nodes
+abbrev pub nodes_in : ℕ → List ℕ → List (List ℕ) → ℕ → ℕ → List ℕ
+nodes_in families starts lists k l = map (λ m. m / families) (list_at lists (start starts k + l))
+
+abbrev pub family_in : ℕ → List ℕ → List (List ℕ) → ℕ → List (List ℕ)
+family_in families starts lists k = map (nodes_in families starts lists k) (range_with_len 0 (start starts (k + 1) - start starts k))
+
+abbrev pub families_of : ℕ → ℕ → List ℕ → Links → Families
+families_of families nodes starts links = record { nodes = nodes; families = map (family_in families starts links.lists) (range_with_len 0 families) }
+
+-- so many families with places for so many nodes each; on a family's lists are only its own nodes
+pub record IsFamily (families nodes : ℕ) (starts : List ℕ) (links : Links) : Type 0 where
+  pub counted : length starts ≡ families + 1
+  pub rises : (k : ℕ) → k < families → start starts k ≤ start starts (k + 1)
+  pub whole : start starts families ≤ length links.lists
+  pub few : start starts families < 2 ^ 64
+  pub enough : nodes * families ≤ links.nodes
+  pub small : nodes * families < 2 ^ 64
+  pub own : (l m : ℕ) → has (list_at links.lists l) m ≡ true → (start starts (m % families) ≤ l) × (l < start starts (m % families + 1))
+
+-- each family starts where the lists of the one before end
+pub record AreStarts (counts starts : List ℕ) : Type 0 where
+  pub counted : length starts ≡ length counts + 1
+  pub ends : (k : ℕ) → k < length counts → start starts (k + 1) ≡ start starts k + slice_index_or counts k 0
+  pub few : start starts (length counts) < 2 ^ 64

@@ -1,8 +1,8 @@
-ghost use Rattle.std.specs.Prelude.{◌≡◌, ℕ, ◌+◌, ◌^◌, ◌<◌, ◌≤◌, ◌++◌, ◌∷◌, List, [], true, false, length, map, replicate, slice_get, slice_set, ◌-◌, vec_len, vec_capacity, IfOk, OnOk, IfSome, IfNone, None, Some};
-ghost use Rattle.std.specs.List.{range_with_len};
+ghost use Rattle.std.specs.Prelude.{◌≡◌, ℕ, ◌+◌, ◌<◌, ◌≤◌, ◌++◌, ◌∷◌, [], true, length, map, replicate, slice_get, slice_set, IfOk, OnOk, IfSome, IfNone, Some};
 ghost use Rattle.idx_links.specs.Links.{Links, has, without, list_at, Apart, IsFree, IsLinked};
 ghost use Rattle.idx_links.specs.Ring.{links_of, IsGood};
 
+use crate::places::Places;
 use std::alloc::{AllocError, Global};
 use std::marker::Model;
 
@@ -11,38 +11,26 @@ use std::marker::Model;
 /// List `l` is a ring through place `l`, its sentinel; node `n` is at the place `n` past the sentinels.
 #[derive(Drop)]
 pub struct Chains {
-    next: Vec<usize>,
-    prev: Vec<usize>,
-    owner: Vec<Option<usize>>,
-    lens: Vec<usize>,
+    places: Places,
 }
 
 impl Model for Chains {
     ghost Value = { Links };
 
-    ghost view = { λ c. links_of c.next.items c.lens.items };
+    ghost view = { λ c. links_of c.places.next c.places.lens };
 
-    ghost invariant = { λ c. IsGood c.next.items c.prev.items c.owner.items c.lens.items };
+    ghost invariant = { λ c. IsGood c.places.next c.places.prev c.places.owner c.places.lens };
 }
 
 impl Chains {
-    /// Empty lists, over nodes that are on none of them.
+    /// Empty lists, over nodes that are on none of them. Refused where lists and nodes are too many
+    /// for numbers of 32 bits, too.
     pub fn new(alloc: Global, lists: usize, nodes: usize) -> Result<Chains, AllocError>
-        requires { lists + nodes < 2 ^ 64 }
         ensures nodes { IfOk result (λ c. c.nodes ≡ nodes) }
         ensures lists { IfOk result (λ c. c.lists ≡ replicate lists []) }
     {
-        let places = lists + nodes;
-        let next = self_links(alloc, places)?;
-        let prev = self_links(alloc, places)?;
-        let owner = no_owners(alloc, places)?;
-        let lens = no_lens(alloc, lists)?;
-        Ok(Chains {
-            next,
-            prev,
-            owner,
-            lens,
-        })
+        let places = Places::new(alloc, lists, nodes)?;
+        Ok(Chains { places })
     }
 
     /// The first node of the list.
@@ -50,8 +38,8 @@ impl Chains {
         requires { list < length self.now.lists }
         ensures { result ≡ slice_get (list_at self.now.lists list) 0 }
     {
-        let count = self.lens.len();
-        let place = self.next[list];
+        let count = self.places.lists();
+        let place = self.places.next(list);
         if place < count {
             return None;
         }
@@ -64,8 +52,8 @@ impl Chains {
         requires linked { IsLinked self.now.lists node }
         ensures { (l i : ℕ) → slice_get (list_at self.now.lists l) i ≡ Some node → result ≡ slice_get (list_at self.now.lists l) (i + 1) }
     {
-        let count = self.lens.len();
-        let place = self.next[count + node];
+        let count = self.places.lists();
+        let place = self.places.next(count + node);
         if place < count {
             return None;
         }
@@ -78,7 +66,7 @@ impl Chains {
         ensures value { result ≡ length (list_at self.now.lists list) }
         ensures apart { (l : ℕ) → Apart (list_at self.now.lists l) }
     {
-        self.lens[list]
+        self.places.len(list)
     }
 
     /// Which list the node is on.
@@ -89,7 +77,7 @@ impl Chains {
         ensures within { IfSome result (λ l. l < length self.now.lists) }
         ensures off { IfNone result (IsFree self.now.lists node) }
     {
-        self.owner[self.lens.len() + node]
+        self.places.owner(self.places.lists() + node)
     }
 
     /// Puts the node at the end of the list.
@@ -100,14 +88,11 @@ impl Chains {
         ensures nodes { self.new.nodes ≡ self.old.nodes }
         ensures lists { self.new.lists ≡ slice_set self.old.lists list (list_at self.old.lists list ++ node ∷ []) }
     {
-        let place = self.lens.len() + node;
-        let last = self.prev[list];
-        self.next[last] = place;
-        self.next[place] = list;
-        self.prev[place] = last;
-        self.prev[list] = place;
-        self.owner[place] = Some(list);
-        self.lens[list] += 1;
+        let place = self.places.lists() + node;
+        let last = self.places.prev(list);
+        self.places.join(last, place);
+        self.places.join(place, list);
+        self.places.enter(list, place);
     }
 
     /// Takes the node out of its list.
@@ -117,69 +102,28 @@ impl Chains {
         ensures nodes { self.new.nodes ≡ self.old.nodes }
         ensures lists { self.new.lists ≡ map (without node) self.old.lists }
     {
-        let place = self.lens.len() + node;
-        let Some(list) = self.owner[place] else {
+        let place = self.places.lists() + node;
+        let Some(list) = self.places.owner(place) else {
             unreachable!()
         };
-        let before = self.prev[place];
-        let behind = self.next[place];
-        self.next[before] = behind;
-        self.prev[behind] = before;
-        self.next[place] = place;
-        self.prev[place] = place;
-        self.owner[place] = None;
-        self.lens[list] -= 1;
+        let before = self.places.prev(place);
+        let behind = self.places.next(place);
+        self.places.join(before, behind);
+        self.places.join(place, place);
+        self.places.leave(list, place);
     }
 
-    /// Gives the lists so many nodes at least. A new node is on no list.
+    /// Gives the lists so many nodes at least. A new node is on no list. Refused where lists and nodes
+    /// are too many for numbers of 32 bits, too.
     pub fn grow(&mut self, nodes: usize) -> Result<(), AllocError>
-        requires { length self.old.lists + nodes < 2 ^ 64 }
         ensures lists { self.new.lists ≡ self.old.lists }
         ensures kept { self.old.nodes ≤ self.new.nodes }
         ensures enough { OnOk result (nodes ≤ self.new.nodes) }
     {
-        let places = self.lens.len() + nodes;
-        let have = self.next.len();
-        if places <= have {
-            return Ok(());
-        }
-        self.next.reserve(places - have)?;
-        self.prev.reserve(places - have)?;
-        self.owner.resize(places, None)?;
-        add_self_links(&mut self.next, places);
-        add_self_links(&mut self.prev, places);
+        let Some(places) = self.places.lists().checked_add(nodes) else {
+            return Err(AllocError)
+        };
+        self.places.grow(places)?;
         Ok(())
     }
-}
-
-// Each place leads to itself.
-fn self_links(alloc: Global, places: usize) -> Result<Vec<usize>, AllocError>
-    ensures { IfOk result (λ v. v.items ≡ range_with_len 0 places) }
-{
-    let mut links = Vec::with_capacity(alloc, places)?;
-    add_self_links(&mut links, places);
-    Ok(links)
-}
-
-// Up to so many places, each new one leads to itself.
-fn add_self_links(links: &mut Vec<usize>, places: usize)
-    requires more { vec_len links.old ≤ places }
-    requires room { places ≤ vec_capacity links.old }
-    ensures { links.new.items ≡ links.old.items ++ range_with_len (vec_len links.old) (places - vec_len links.old) }
-{
-    for place in links.len()..places {
-        links.push_reserved(place);
-    }
-}
-
-fn no_owners(alloc: Global, places: usize) -> Result<Vec<Option<usize>>, AllocError>
-    ensures { IfOk result (λ v. v.items ≡ replicate places None) }
-{
-    vec![in alloc; None; places]
-}
-
-fn no_lens(alloc: Global, lists: usize) -> Result<Vec<usize>, AllocError>
-    ensures { IfOk result (λ v. v.items ≡ replicate lists 0) }
-{
-    vec![in alloc; 0; lists]
 }

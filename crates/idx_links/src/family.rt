@@ -1,6 +1,6 @@
 ghost use Rattle.std.specs.Prelude.{◌≡◌, ℕ, ◌+◌, ◌^◌, ◌<◌, ◌∷◌, ◌++◌, List, [], All, length, map, replicate, slice_get, slice_set, slice_index_or, IfOk, IfSome, IfNone, Some, true, OnOk, OnErr};
 ghost use Rattle.idx_links.specs.Links.{has, without, Apart, list_at, IsFree, IsLinked};
-ghost use Rattle.idx_links.specs.Families.{Families, lists_of, families_of, IsFamily};
+ghost use Rattle.idx_links.specs.Families.{Families, lists_of, families_of, IsFamily, AreStarts};
 
 use crate::chains::Chains;
 use std::alloc::{AllocError, Global};
@@ -14,7 +14,10 @@ use std::marker::Model;
 #[derive(Drop)]
 pub struct Family<const K: usize> {
     nodes: usize,
-    chains: Vec<Chains>,
+    // Where each family's lists start among the lists of all, and where the last one's end.
+    starts: Vec<usize>,
+    // All lists. A node has a number for each family, which stand side by side.
+    chains: Chains,
 }
 
 impl<const K: usize> Model for Family<K> {
@@ -23,27 +26,34 @@ impl<const K: usize> Model for Family<K> {
 
     ghost Value = { Families };
 
-    ghost view = { λ f. families_of f.nodes f.chains.items };
+    ghost view = { λ f. families_of K f.nodes f.starts.items f.chains };
 
-    ghost invariant = { λ f. IsFamily K f.nodes f.chains.items };
+    ghost invariant = { λ f. IsFamily K f.nodes f.starts.items f.chains };
 }
 
 impl<const K: usize> Family<K> {
-    /// Empty lists, so many in each family, over nodes that are on none of them.
+    /// Empty lists, so many in each family, over nodes that are on none of them. Refused where the lists
+    /// and the nodes of all families are too many for numbers of 32 bits, too.
     pub fn new(alloc: Global, lists: [usize; K], nodes: usize) -> Result<Self, AllocError>
         requires { All (λ count. count + nodes < 2 ^ 64) lists }
         ensures nodes { IfOk result (λ f. f.nodes ≡ nodes) }
         ensures lists { IfOk result (λ f. f.families ≡ map (λ count. replicate count []) lists.entry) }
     {
-        let lists = Vec::from_array(alloc, lists)?;
-        let mut chains = Vec::with_capacity(alloc, K)?;
-        for count in lists.iter() {
-            chains.push(Chains::new(alloc, *count, nodes)?)?;
-        }
-        Ok(Family { nodes, chains })
+        let counts = Vec::from_array(alloc, lists)?;
+        let starts = starts_of(alloc, &counts)?;
+        let Some(numbers) = nodes.checked_mul(K) else {
+            return Err(AllocError)
+        };
+        let chains = Chains::new(alloc, starts[K], numbers)?;
+        Ok(Family {
+            nodes,
+            starts,
+            chains,
+        })
     }
 
-    /// Adds nodes, which are on no list. Where memory is refused, all stays as it was.
+    /// Adds nodes, which are on no list. Where memory is refused, or the lists and the nodes of all
+    /// families are too many for numbers of 32 bits, all stays as it was.
     pub fn grow(&mut self, more: usize) -> Result<(), AllocError>
         requires nodes { self.old.nodes + more < 2 ^ 64 }
         requires places { (k : ℕ) → k < K → length (lists_of self.old k) + (self.old.nodes + more) < 2 ^ 64 }
@@ -51,9 +61,10 @@ impl<const K: usize> Family<K> {
         ensures err { OnErr result (self.new ≡ self.old) }
     {
         let nodes = self.nodes + more;
-        for family in 0..K {
-            self.chains[family].grow(nodes)?;
-        }
+        let Some(numbers) = nodes.checked_mul(K) else {
+            return Err(AllocError)
+        };
+        self.chains.grow(numbers)?;
         self.nodes = nodes;
         Ok(())
     }
@@ -64,7 +75,8 @@ impl<const K: usize> Family<K> {
         requires list { list < length (lists_of self.now family) }
         ensures { result ≡ slice_get (list_at (lists_of self.now family) list) 0 }
     {
-        self.chains[family].front(list)
+        let first = self.chains.front(self.starts[family] + list)?;
+        Some(first / K)
     }
 
     /// The node that stands behind the node on its list of the family.
@@ -74,7 +86,8 @@ impl<const K: usize> Family<K> {
         requires linked { IsLinked (lists_of self.now family) node }
         ensures { (l i : ℕ) → slice_get (list_at (lists_of self.now family) l) i ≡ Some node → result ≡ slice_get (list_at (lists_of self.now family) l) (i + 1) }
     {
-        self.chains[family].next(node)
+        let next = self.chains.next(node * K + family)?;
+        Some(next / K)
     }
 
     /// How many nodes the list has. No node stands on a list twice.
@@ -84,7 +97,7 @@ impl<const K: usize> Family<K> {
         ensures value { result ≡ length (list_at (lists_of self.now family) list) }
         ensures apart { (l : ℕ) → Apart (list_at (lists_of self.now family) l) }
     {
-        self.chains[family].len(list)
+        self.chains.len(self.starts[family] + list)
     }
 
     /// Which list of the family the node is on.
@@ -96,7 +109,8 @@ impl<const K: usize> Family<K> {
         ensures within { IfSome result (λ l. l < length (lists_of self.now family)) }
         ensures off { IfNone result (IsFree (lists_of self.now family) node) }
     {
-        self.chains[family].list_of(node)
+        let list = self.chains.list_of(node * K + family)?;
+        Some(list - self.starts[family])
     }
 
     /// Puts the node at the end of the list.
@@ -108,7 +122,8 @@ impl<const K: usize> Family<K> {
         ensures nodes { self.new.nodes ≡ self.old.nodes }
         ensures families { let lists = lists_of self.old family in self.new.families ≡ slice_set self.old.families family (slice_set lists list (list_at lists list ++ node ∷ [])) }
     {
-        self.chains[family].push_back(list, node);
+        self.chains
+            .push_back(self.starts[family] + list, node * K + family);
     }
 
     /// Takes the node out of its list of the family.
@@ -119,6 +134,23 @@ impl<const K: usize> Family<K> {
         ensures nodes { self.new.nodes ≡ self.old.nodes }
         ensures families { self.new.families ≡ slice_set self.old.families family (map (without node) (lists_of self.old family)) }
     {
-        self.chains[family].unlink(node);
+        self.chains.unlink(node * K + family);
     }
+}
+
+// Where each family's lists start, if they have so many, and where the last one's end.
+fn starts_of(alloc: Global, counts: &Vec<usize>) -> Result<Vec<usize>, AllocError>
+    ensures { IfOk result (λ v. AreStarts counts.now.items v.items) }
+{
+    let mut starts = Vec::new(alloc);
+    let mut end: usize = 0;
+    starts.push(end)?;
+    for count in counts.iter() {
+        let Some(sum) = end.checked_add(*count) else {
+            return Err(AllocError)
+        };
+        end = sum;
+        starts.push(end)?;
+    }
+    Ok(starts)
 }

@@ -6,6 +6,7 @@
 
 mod chains;
 mod family;
+mod places;
 
 pub use family::Family;
 

@@ -3,7 +3,7 @@ use Rattle.std.proofs.Common.{ℕ, zero, suc, ◌+◌, ◌≡◌, ◌≢◌, fal
 use Rattle.std.specs.List.{range_with_len}
 use Rattle.std.proofs.lemmas.Bool.{ne_eqb}
 use Rattle.idx_links.proofs.Paths.{without-absent}
-use Rattle.idx_links.proofs.Calls.{range-more}
+use Rattle.idx_links.proofs.Columns.{range-more}
 use Rattle.idx_links.specs.Links.{has, without, list_at, IsFree}
 use Rattle.idx_links.specs.Families.{Families, lists_of}
 use Rattle.mac_arena.specs.Orders.{Orders, orders_of, IsOrders, joined}

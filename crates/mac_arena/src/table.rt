@@ -113,7 +113,8 @@ impl MacTable {
         requires { node < length self.now.places }
         ensures { result ≡ learned_at self.now node }
     {
-        self.slots[node]
+        let slot = &self.slots[node];
+        *slot
     }
 
     /// What is known of a station.

@@ -1,23 +1,40 @@
 use Rattle.std.proofs.Common.{rules}
-use Rattle.idx_links.proofs.Calls.{Found, list_of_owes}
+use Rattle.idx_links.proofs.Calls.{Found, node_place, list_of_owes}
 use Rattle.idx_links.proofs.chains.Chains.list_of.Goals as goal
+
+pub owner-requires : goal.owner-requires
+owner-requires c =
+    let at = c.self.inside.places in
+    let found : Found at.next at.prev at.owner at.lens c.args.self.now c.lists.result = record { good = c.self.invariant; seen = c.self.view_is; count_is = c.lists.ensures.count } in
+    node_place found c.args.node c.requires
 
 pub returns-clause-on : goal.returns-clause-on
 returns-clause-on c =
-    let found : Found c.self.inside.next.items c.self.inside.prev.items c.self.inside.owner.items c.self.inside.lens.items c.args.self.now c.len.result = record { good = c.self.invariant; seen = c.self.view_is; count_is = search rules } in
-    (list_of_owes found c.args.node c.index.result.now c.requires c.index.ensures).on
+    let at = c.self.inside.places in
+    let found : Found at.next at.prev at.owner at.lens c.args.self.now c.lists.result = record { good = c.self.invariant; seen = c.self.view_is; count_is = c.lists.ensures.count } in
+    (list_of_owes found c.args.node c.owner.result c.owner.ensures).on
 
 pub returns-clause-only : goal.returns-clause-only
 returns-clause-only c =
-    let found : Found c.self.inside.next.items c.self.inside.prev.items c.self.inside.owner.items c.self.inside.lens.items c.args.self.now c.len.result = record { good = c.self.invariant; seen = c.self.view_is; count_is = search rules } in
-    (list_of_owes found c.args.node c.index.result.now c.requires c.index.ensures).only
+    let at = c.self.inside.places in
+    let found : Found at.next at.prev at.owner at.lens c.args.self.now c.lists.result = record { good = c.self.invariant; seen = c.self.view_is; count_is = c.lists.ensures.count } in
+    (list_of_owes found c.args.node c.owner.result c.owner.ensures).only
 
 pub returns-clause-within : goal.returns-clause-within
 returns-clause-within c =
-    let found : Found c.self.inside.next.items c.self.inside.prev.items c.self.inside.owner.items c.self.inside.lens.items c.args.self.now c.len.result = record { good = c.self.invariant; seen = c.self.view_is; count_is = search rules } in
-    (list_of_owes found c.args.node c.index.result.now c.requires c.index.ensures).within
+    let at = c.self.inside.places in
+    let found : Found at.next at.prev at.owner at.lens c.args.self.now c.lists.result = record { good = c.self.invariant; seen = c.self.view_is; count_is = c.lists.ensures.count } in
+    (list_of_owes found c.args.node c.owner.result c.owner.ensures).within
 
 pub returns-clause-off : goal.returns-clause-off
 returns-clause-off c =
-    let found : Found c.self.inside.next.items c.self.inside.prev.items c.self.inside.owner.items c.self.inside.lens.items c.args.self.now c.len.result = record { good = c.self.invariant; seen = c.self.view_is; count_is = search rules } in
-    (list_of_owes found c.args.node c.index.result.now c.requires c.index.ensures).off
+    let at = c.self.inside.places in
+    let found : Found at.next at.prev at.owner at.lens c.args.self.now c.lists.result = record { good = c.self.invariant; seen = c.self.view_is; count_is = c.lists.ensures.count } in
+    (list_of_owes found c.args.node c.owner.result c.owner.ensures).off
+
+pub overflow_add-lists : goal.overflow_add-lists
+overflow_add-lists c =
+    let at = c.self.inside.places in
+    let found : Found at.next at.prev at.owner at.lens c.args.self.now c.lists.result = record { good = c.self.invariant; seen = c.self.view_is; count_is = c.lists.ensures.count } in
+    let low = node_place found c.args.node c.requires in
+    let small = c.lists.ensures.small in search rules

@@ -1,13 +1,16 @@
-use Rattle.std.proofs.Common.{rules, refl, get_or, ◌≡◌, length, ◌+◌}
-use Rattle.idx_links.proofs.FamilyCalls.{new_more}
+use Rattle.std.proofs.Common.{rules, ◌≡◌, ◌<◌, [], length, map, replicate, ap, ◌∙◌, arith}
+use Rattle.std.proofs.lemmas.List.{get_or_default}
+use Rattle.idx_links.specs.Families.{start}
+use Rattle.idx_links.proofs.FamilyCalls.{new_families}
 use Rattle.idx_links.proofs.family.Family.new.Goals as goal
 
-pub loop-count-preserved : goal.loop-count-preserved
-loop-count-preserved g c =
-    let counts = c.deref-count-items.result.now in
-    let kept = c.loop-count.invariant in
-    let made = c.in_ok-new.ensures in
-    let more = new_more c.loop-count.chains.items counts c.loop-count.count-index c.args.nodes c.in_ok-new.field-0 (get_or counts c.loop-count.count-index 0) kept.counted c.loop-count-test.true kept.enough kept.lists made.nodes refl made.lists in
-    let counted : length c.push.new.self.items ≡ c.loop-count.count-index + 1 = search rules in
-    let items = c.in_ok-push.ensures.items in
-    record { counted = counted; enough = λ k h. rw items (more.0 k h); lists = rw items more.1 }
+pub returns-clause-lists : goal.returns-clause-lists
+returns-clause-lists g c =
+    let counts = c.in_ok-counts.counts.items in
+    let starts = c.in_ok-starts.starts.items in
+    let len : length counts ≡ g.row.K = search rules in
+    let are = c.in_ok-starts.ensures in
+    let inside : g.row.K < length starts = (let all = are.counted in omega (arith, all, len)) in
+    let n_is : c.index.result.now ≡ start starts g.row.K = c.index.ensures ∙ get_or_default starts g.row.K c.index.result.now 0 inside in
+    new_families counts starts g.row.K c.index.result.now c.in_ok-chains.chains.lists len are n_is c.in_ok-chains.ensures.lists
+    ∙ ap (map (λ m. replicate m [])) c.in_ok-counts.ensures.items

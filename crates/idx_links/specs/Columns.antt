@@ -1,0 +1,17 @@
+-- The links of all places, one column for each kind.
+use Rattle.std.specs.Prelude.{ℕ, ◌+◌, ◌-◌, ◌<◌, ◌≤◌, ◌^◌, ◌==◌, if◌then◌else◌, Option, Some, None, List}
+
+pub record Columns : Type 0 where
+  pub next : List ℕ
+  pub prev : List ℕ
+  pub owner : List (Option ℕ)
+  pub lens : List ℕ
+
+-- a list's number, from one more than it; 0 stands for none
+abbrev pub list_named : ℕ → Option ℕ
+list_named mark = if mark == 0 then None else Some (mark - 1)
+
+-- so many places, of which so many are lists', have numbers and lengths of 32 bits
+pub record Fits (lists places : ℕ) : Type 0 where
+  pub first : lists ≤ places
+  pub small : places + 1 < 2 ^ 32
