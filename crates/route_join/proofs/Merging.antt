@@ -1,7 +1,7 @@
 -- Updates taken one after the other, and the join of two tables of groups.
 use Rattle.std.proofs.Common.{◌≡◌, ℕ, suc, zero, ◌+◌, ◌<◌, ◌≤◌, true, false, cond, ◌&&◌, Some, List, [], ◌∷◌, ◌++◌, map, length, get_or, take, refl, sym, ap, subst, ◌∙◌, add-one, zero-add, suc-add, arith, length-append}
 use Rattle.std.specs.List.{slice_get, list_any}
-use Rattle.std.specs.Prelude.{Bool, eqb, OnOk, OnErr, Result, Ok, Err}
+use Rattle.std.specs.Prelude.{Bool, eqb, OnOk, OnErr, IfErr, Result, Ok, Err}
 use Rattle.std.specs.Result.{is_err}
 use Rattle.std.specs.Option.{option_map}
 use Rattle.std.specs.Ordering.{is_lt, eq_by_cmp}
@@ -15,6 +15,7 @@ use Rattle.route_wire.specs.Fields.{Fields}
 use Rattle.route_wire.specs.Order.{register_cmp}
 use Rattle.route_wire.specs.Totals.{register_total, register_exact}
 use Rattle.route_join.specs.declared.table.Taken.{Taken}
+use Rattle.route_join.specs.declared.table.Unmerged.{Unmerged}
 use Rattle.route_join.specs.declared.table.TakeError.{TakeError}
 use Rattle.route_join.specs.declared.table.TakeError.TheVariants.{UnknownOriginator, NoMemory}
 use Rattle.route_join.specs.Group.{IsGrouped, IsCounted, updates_in}
@@ -188,3 +189,12 @@ merge_completes s t j k h = same_map register_total register_exact _ _ (λ r.
 pub kept_originators : (r : Result Taken TakeError) (old new : Table) (u : Fields) → OnOk r (new ≡ with_update old u) → OnErr r (new ≡ old) → new.originators ≡ old.originators
 kept_originators (Ok taken) old new u ok err = ap (λ (t : Table). t.originators) ok ∙ same_listeners old u
 kept_originators (Err refusal) old new u ok err = ap (λ (t : Table). t.originators) err
+
+-- and so does a merge
+entries_listeners : (es : List (Register × Value)) (t : Table) → (with_entries t es).originators ≡ t.originators
+entries_listeners [] t = refl
+entries_listeners (e ∷ es) t = entries_listeners es (with_update t (record { register = e.0; value = e.1 })) ∙ same_listeners t (record { register = e.0; value = e.1 })
+
+pub merged_originators : (r : Result (Unit {0}) Unmerged) (old other new : Table) → OnOk r (new ≡ join old other) → IfErr r (λ stopped. IsPartJoin old other stopped.joined new) → new.originators ≡ old.originators
+merged_originators (Ok done) old other new ok err = ap (λ (t : Table). t.originators) ok ∙ entries_listeners (entries other.registers) old
+merged_originators (Err stopped) old other new ok err = ap (λ (t : Table). t.originators) err.joined ∙ entries_listeners (take stopped.joined (entries other.registers)) old

@@ -1,9 +1,13 @@
 ghost use Rattle.std.specs.Prelude.{◌≡◌, ◌<◌, ◌∷◌, [], None};
 ghost use Rattle.route_wire.specs.Fields.{FitsKey};
 
+mod memory;
+mod sequences;
+mod sorted_list;
+
 use crate::{Table, TakeError, Taken};
 use arrayvec::ArrayVec;
-use ether_wire::{Addr, Mac, Vni};
+use ether_wire::{Addr, Mac, Out, Page, Vni};
 use route_wire::{Advert, Content, Ip, Key, Register, Update, Value};
 use std::alloc::Global;
 use std::test::Fail;
@@ -109,6 +113,12 @@ fn has(table: &Table, n: u8, value: Value) -> bool {
 
 fn owner(table: &Table) -> Option<Addr> {
     table.owner(vni(), mac())
+}
+
+// Whether these octets are the table's report.
+fn reports(table: &Table, report: &[u8]) -> bool {
+    let mut page = Page::<1024>::new();
+    page.failures() == 0 && table.write_report(&mut page).is_ok() && page.octets() == report
 }
 
 #[test]
@@ -281,9 +291,10 @@ fn is_merged(mut table: Table, other: &Table) -> bool
     requires { table.originators ≡ other.now.originators }
 {
     table.merge(other).is_ok()
-        && has(&table, 1, valued(2, advert(false, 0)))
-        && has(&table, 2, valued(2, Content::Withdrawn))
-        && owner(&table) == Some(addr(1))
+        && reports(
+            &table,
+            b"mac 5001 02:00:00:00:00:0a 10.0.0.1 2 dynamic 0\nmac 5001 02:00:00:00:00:0a 10.0.0.2 2 withdrawn\nowner 5001 02:00:00:00:00:0a 10.0.0.1\n",
+        )
 }
 
 #[test]
