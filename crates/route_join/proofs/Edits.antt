@@ -1,19 +1,16 @@
 -- What a table makes of an edit of its updates.
-use Rattle.std.proofs.Common.{◌≡◌, inl, inr, ℕ, Bool, true, false, cond, List, [], length, get_or, set, eqb, ◌↔◌, Some, None, Result, Ok, Err, refl, sym, ap, subst, ◌∙◌}
+use Rattle.std.proofs.Common.{◌≡◌, inl, inr, ℕ, Bool, true, false, cond, List, [], length, eqb, ◌↔◌, Result, Ok, Err, refl, sym, ap, subst, ◌∙◌}
 use Rattle.std.specs.List.{list_any}
-use Rattle.std.specs.Option.{option_map}
 use Rattle.std.specs.FinMap as map
 use Rattle.std.specs.FinMap.Entries.{put, find, is_sorted, is_sorted-put}
 use Rattle.route_wire.specs.declared.update.Register.{Register}
 use Rattle.route_wire.specs.declared.update.Value.{Value}
 use Rattle.route_wire.specs.Fields.{Fields}
-use Rattle.route_wire.specs.Order.{register_cmp, is_newer}
+use Rattle.route_wire.specs.Order.{register_cmp}
 use Rattle.route_wire.specs.Totals.{register_total}
-use Rattle.route_join.specs.Table.{Table, value_at, update_at, is_listed, IsListed, is_news, with_value, with_update, entries_of, IsOrdered, table_from, AreOriginators, IsKept}
-use Rattle.route_join.specs.declared.table.Taken.TheVariants.{Newer, Known}
+use Rattle.route_join.specs.Table.{Table, value_at, is_listed, IsListed, with_value, entries_of, IsOrdered, table_from, AreOriginators, IsKept}
 use Rattle.route_join.specs.declared.table.TakeError.{TakeError}
 use Rattle.route_join.specs.declared.table.TakeError.TheVariants.{UnknownOriginator}
-use Rattle.route_join.specs.Taken.{taken_of}
 use Rattle.route_join.specs.Place.{place_of}
 use Rattle.route_join.proofs.Orders.{to_T, from_T}
 use Rattle.route_join.proofs.Tables.{same_or_other, at_other}
@@ -57,52 +54,6 @@ found_at us ds q r at d e h = placed us q at (ap (λ x. place_of x q) (sym d) �
 
 pub gap_at : (us ds : List Fields) (q r : Register) (at : ℕ) → IsOrdered us → ds ≡ us → r ≡ q → Err at ≡ place_of ds r → IsGap us q at
 gap_at us ds q r at s d e h = gapped us q at s (ap (λ x. place_of x q) (sym d) ∙ ap (place_of ds) (sym e) ∙ sym h)
-
--- ---- an update at a place
-module _ (os : List ℕ) (us : List Fields) (q : Register) (at : ℕ) (s : IsOrdered us) (p : IsPlace us q at) where
-  pub value_there : (v : Fields) → v ≡ get_or us at v → value_at (table_from os us) q ≡ Some v.value
-  value_there v e = found os us q s ∙ p.value v ∙ ap (λ (x : Fields). Some x.value) (sym e)
-
-  pub update_there : (v : Fields) → v ≡ get_or us at v → update_at (table_from os us) q ≡ Some v
-  update_there v e =
-      let r : v.register ≡ q = ap (λ (x : Fields). x.register) e ∙ p.register v in
-      ap (option_map (λ (w : Value). record { register = q; value = w })) (value_there v e) ∙ ap (λ x. Some (record { register = x; value = v.value })) (sym r)
-
--- ---- an update is taken at a place
-module _ (os : List ℕ) (us : List Fields) (u : Fields) (at : ℕ) (v : Fields) (b : Bool) (s : IsOrdered us) (p : IsPlace us u.register at) (e : v ≡ get_or us at v) (n : b ≡ is_newer u.value v.value) where
-  tested : is_news (value_at (table_from os us) u.register) u.value ≡ b
-  tested = ap (λ o. is_news o u.value) (value_there os us u.register at s p v e) ∙ sym n
-
-  pub newer_there : b ≡ true → Newer ≡ taken_of (table_from os us) u
-  newer_there t = sym (ap (λ x. cond x Newer Known) (tested ∙ t))
-
-  pub known_there : b ≡ false → Known ≡ taken_of (table_from os us) u
-  known_there t = sym (ap (λ x. cond x Newer Known) (tested ∙ t))
-
-  pub took_there : b ≡ true → table_from os (set us at u) ≡ with_update (table_from os us) u
-  took_there t = table_put os us (set us at u) u s (p.write u refl) ∙ sym (ap (λ x. cond x (with_value (table_from os us) u.register u.value) (table_from os us)) (tested ∙ t))
-
-  pub stays_there : b ≡ false → table_from os us ≡ with_update (table_from os us) u
-  stays_there t = sym (ap (λ x. cond x (with_value (table_from os us) u.register u.value) (table_from os us)) (tested ∙ t))
-
--- ---- no update at a gap
-module _ (os : List ℕ) (us : List Fields) (q : Register) (at : ℕ) (s : IsOrdered us) (p : IsGap us q at) where
-  pub no_value : value_at (table_from os us) q ≡ None
-  no_value = found os us q s ∙ p.value
-
-  pub no_update : update_at (table_from os us) q ≡ None
-  no_update = ap (option_map (λ (w : Value). record { register = q; value = w })) no_value
-
--- ---- an update is taken at a gap
-module _ (os : List ℕ) (us new : List Fields) (u : Fields) (at : ℕ) (s : IsOrdered us) (p : IsGap us u.register at) where
-  news : is_news (value_at (table_from os us) u.register) u.value ≡ true
-  news = ap (λ o. is_news o u.value) (no_value os us u.register at s p)
-
-  pub newer_gap : Newer ≡ taken_of (table_from os us) u
-  newer_gap = sym (ap (λ x. cond x Newer Known) news)
-
-  pub took_gap : entries_of new ≡ put register_cmp u.register u.value (entries_of us) → table_from os new ≡ with_update (table_from os us) u
-  took_gap e = table_put os us new u s e ∙ sym (ap (λ x. cond x (with_value (table_from os us) u.register u.value) (table_from os us)) news)
 
 pub inserted : (new x y : List Fields) (b : Bool) → new ≡ cond b x y → b ≡ true → new ≡ x
 inserted new x y b e t = e ∙ ap (λ z. cond z x y) t

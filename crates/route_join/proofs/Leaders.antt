@@ -24,7 +24,7 @@ use Rattle.route_join.specs.declared.table.Taken.TheVariants.{Newer, Known}
 use Rattle.route_wire.specs.Totals.{register_total}
 use Rattle.route_join.specs.Table.{entries_of, IsOrdered, is_news}
 use Rattle.route_join.specs.Owner.{advert_in, advert_of, IsBetter, is_better}
-use Rattle.route_join.specs.Group.{told, Leads, HasWinner, candidate_in, candidate_at, wins, better_place, moved, IsLeader, update_among, entries_with, added}
+use Rattle.route_join.specs.Group.{told, Leads, HasWinner, candidate_in, candidate_at, wins, better_place, moved, update_among, entries_with, added}
 use Rattle.route_join.proofs.Orders.{less, both}
 use Rattle.route_join.proofs.Tables.{same_or_other, itself_register, other_register}
 use Rattle.route_join.proofs.Places.{IsPlace, IsGap}
@@ -229,16 +229,6 @@ winner_inserted us at u w p h =
     let new = insert us at u in
     let e = p.write u refl in
     next_new new (told us) (told new) at u (stands_inserted us at u p.within) (told_same us new u e) (told_other us new u e) (moved at w) (winner_moved us at u w h) (ap advert_of p.value)
-
--- ---- where a winner stands
-pub winner_within : (us : List Fields) (says : Register → Option Advert) (w : Option ℕ) → HasWinner us says w → IfSome w (λ i. i < length us)
-winner_within us says None h = tt
-winner_within us says (Some i) l = slice_get_within us i l.update l.stands
-
-pub leader_there : (us : List Fields) (i : ℕ) → Leads us (told us) i → (x : Fields) → x ≡ get_or us i x → IsLeader us x.register.originator
-leader_there us i l x e =
-    let same : x ≡ l.update = e ∙ get_or_from_slice_get us i l.update x l.stands in
-    subst (λ (y : Fields). IsLeader us y.register.originator) (sym same) record { register = l.update.register; advert = l.advert; named = refl; own = l.own; best = l.best }
 
 -- ---- an update at a place, or none
 pub among_there : (us : List Fields) (q : Register) (at : ℕ) (v : Fields) → IsPlace us q at → v ≡ get_or us at v → Some v ≡ update_among us q

@@ -73,6 +73,8 @@ fn refused_merge_is_completed_by_another(rt: HostRuntime) -> Result<(), Fail> {
         dynamic(1, 1, 7),
         withdrawn(2, 2),
         dynamic(3, 1, 2),
+        dynamic(4, 1, 1),
+        dynamic(9, 1, 0),
         beside(1, 1, 0),
         beside(2, 1, 1),
     ];
@@ -87,7 +89,7 @@ fn refused_merge_is_completed_by_another(rt: HostRuntime) -> Result<(), Fail> {
         );
         assert_eq!(rt; merged(&mut table, &other), Ok(()));
     }
-    assert!(rt; expected(alloc, &ours, &theirs, 6)?.agrees_with(&table));
+    assert!(rt; expected(alloc, &ours, &theirs, 8)?.agrees_with(&table));
     assert_eq!(rt; owner(&table), Some(addr(3)));
     Ok(())
 }
