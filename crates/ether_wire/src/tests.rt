@@ -1,3 +1,4 @@
+mod buffered;
 mod ends;
 mod frames;
 mod texts;

@@ -1,4 +1,6 @@
 pub mod Appending
-pub mod Reading
 pub mod Taking
+pub mod Reading
+pub mod Feeding
+pub mod Finishing
 pub mod Listing

@@ -1,15 +1,14 @@
 -- A list of texts with commas, read from its front.
-use Rattle.std.proofs.Common.{◌≡◌, ℕ, suc, ◌+◌, ◌<◌, ◌≤◌, Bool, true, false, cond, not, ◌&&◌, ◌||◌, ◌==◌, nat_lt, List, [], ◌∷◌, ◌++◌, take, drop, length, length-drop, Option, Some, None, IfSome, option_map, option_and_then, refl, sym, ap, subst, ◌∙◌, arith}
+use Rattle.std.proofs.Common.{◌≡◌, ℕ, ◌+◌, ◌<◌, Bool, true, false, cond, not, ◌||◌, ◌==◌, nat_lt, List, [], ◌∷◌, ◌++◌, take, drop, length, length-drop, Option, Some, None, option_map, option_and_then, refl, sym, ap, subst, ◌∙◌, arith}
 use Rattle.std.specs.Prelude.{eqb}
-use Rattle.std.specs.List.{slice_split, onto_first, position_or_len, before_first, after_first, list_any, IsDistinct}
+use Rattle.std.specs.List.{slice_split, onto_first, position_or_len, after_first, list_any, IsDistinct}
 use Rattle.std.proofs.lemmas.Bool.{eqb-true, eq-eqb}
 use Rattle.std.proofs.lemmas.Bool.Decides.{nat_tests}
-use Rattle.std.proofs.lemmas.List.{length_push}
 use Rattle.std.proofs.lemmas.List.Splits.{slice_split_first}
 use Rattle.std.proofs.lemmas.Map.Keys.{IsDistinct-push}
 use Rattle.std.specs.Cmp.{IsEquivalence}
 use Rattle.ether_wire.specs.Spelling.{parted, addr_of_text}
-use Rattle.evpnd.specs.Originators.{with_originator, originators_from, originators_of_text}
+use Rattle.evpnd.specs.Originators.{with_originator, originators_from}
 
 abbrev pub commas : List ℕ → List (List ℕ)
 commas s = slice_split (λ x. x == 44) s

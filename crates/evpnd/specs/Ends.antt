@@ -1,5 +1,5 @@
 -- What became of a reader and of a writer.
-use Rattle.std.specs.Prelude.{◌≡◌, ℕ, ◌+◌, ◌^◌, ◌≤◌, Bool, true, false, ◌⊎◌, nat_lt, if◌then◌else◌, List, [], length, Option}
+use Rattle.std.specs.Prelude.{◌≡◌, ◌≢◌, ℕ, ◌+◌, ◌^◌, ◌≤◌, Bool, true, false, ◌⊎◌, nat_lt, if◌then◌else◌, List, length, Option}
 use Rattle.std.specs.Io.KnownBytes.{append_known, prepend_known, IsAtEnd}
 
 -- the octets that an end tells of itself, left or written, and how many of its calls have failed
@@ -16,12 +16,6 @@ pub record Gave (old new : End) (input : List ℕ) (is_ended : Bool) : Type 0 wh
   pub ended : is_ended ≡ true → IsAtEnd new.octets × (new.failures ≡ old.failures)
   pub unended : is_ended ≡ false → (new.failures ≡ old.failures + 1) ⊎ ((new.failures ≡ old.failures) × (2 ^ 40 ≤ length input))
 
--- the reader gave some octets, and no read failed
-pub record GaveSome (old new : End) : Type 0 where
-  pub input : List ℕ
-  pub given : old.octets ≡ prepend_known input new.octets
-  pub unfailed : new.failures ≡ old.failures
-
 -- The writer holds these octets behind what it held, or one call of it failed.
 pub record Holds (old new : End) (octets : List ℕ) : Type 0 where
   pub written : new.failures ≡ old.failures → new.octets ≡ append_known old.octets octets
@@ -33,3 +27,9 @@ pub record Tells (old new : End) (before after : Bool) (text : List ℕ) : Type 
   pub kept : before ≡ false → (after ≡ false) × (new ≡ old)
   pub written : after ≡ true → new.octets ≡ append_known old.octets text
   pub failures : before ≡ true → new.failures ≡ old.failures + (if after then 0 else 1)
+
+-- A writer was given all that was held for it, or a call of it has failed since it had this many failures. After a failed
+-- call none was made.
+pub record Finishes (failures : ℕ) (held end : End) (is_told : Bool) : Type 0 where
+  pub passed : is_told ≡ true → (end.octets ≡ held.octets) × (held.failures ≡ failures) × (end.failures ≡ failures)
+  pub failed : is_told ≡ false → ((held.failures ≢ failures) × (end.failures ≡ held.failures)) ⊎ ((held.failures ≡ failures) × (end.failures ≡ failures + 1))

@@ -1,5 +1,5 @@
 -- The originators that a command line lists.
-use Rattle.std.specs.Prelude.{◌≡◌, ℕ, Bool, ◌&&◌, not, ◌==◌, nat_lt, if◌then◌else◌, List, [], ◌∷◌, ◌++◌, length, eqb, Option, Some, None}
+use Rattle.std.specs.Prelude.{ℕ, ◌&&◌, not, ◌==◌, nat_lt, if◌then◌else◌, List, [], ◌∷◌, ◌++◌, length, eqb, Option, Some, None}
 use Rattle.std.specs.List.{list_any, slice_split}
 use Rattle.ether_wire.specs.Spelling.{◌>>=◌, addr_of_text}
 

@@ -1,12 +1,12 @@
 -- What a report is made from: a stream's records, one after the other, and the table that takes them.
-use Rattle.std.specs.Prelude.{◌≡◌, ℕ, ◌+◌, Bool, true, not, ◌||◌, ◌⊎◌, List, [], ◌∷◌, MatchBool, Option, None, Result, Ok, Err}
+use Rattle.std.specs.Prelude.{◌≡◌, ℕ, Bool, not, ◌||◌, ◌⊎◌, List, [], ◌∷◌, MatchBool, None, Result, Ok, Err}
 use Rattle.std.specs.FinMap.{empty}
 use Rattle.route_wire.specs.Fields.{Fields}
 use Rattle.route_wire.specs.Record.{Answers}
 use Rattle.route_join.specs.Table.{Table, value_at, is_listed, with_update, IsTableOf}
 use Rattle.route_join.specs.Report.{report_of}
 use Rattle.evpnd.specs.Notes.{notes_of, is_broken, has_starved, status_of}
-use Rattle.evpnd.specs.Ends.{End, has_failed, Gave, GaveSome, Holds}
+use Rattle.evpnd.specs.Ends.{End, has_failed, Gave, Holds}
 
 -- A record's update is taken by the table, or there is no memory (15), which only a new register needs, or its originator
 -- isn't listed (12). A refused record stays refused.
@@ -61,14 +61,3 @@ pub record Reports (originators : List ℕ) (reader reader' out out' notes notes
   pub reported : Holds out out' (report_of table)
   pub noted : Holds notes notes' (notes_of outcomes is_ended rest)
   pub status_is : status ≡ status_of (not is_ended || (has_failed out out' || has_failed notes notes')) (has_starved outcomes) (is_broken is_ended rest)
-
--- There was no memory for the input: nothing is taken, reported or noted.
-pub record GivesUp (reader reader' out out' notes notes' : End) (status : ℕ) : Type 0 where
-  pub gave : GaveSome reader reader'
-  pub unreported : out' ≡ out
-  pub unnoted : notes' ≡ notes
-  pub status_is : status ≡ 3
-
-abbrev pub ReportsOrGivesUp : List ℕ → End → End → End → End → End → End → ℕ → Type 0
-ReportsOrGivesUp originators reader reader' out out' notes notes' status =
-    GivesUp reader reader' out out' notes notes' status ⊎ Reports originators reader reader' out out' notes notes' status

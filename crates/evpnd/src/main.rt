@@ -1,16 +1,16 @@
 //! EVPN edge bridges: the program.
 #![tactic(auto)]
 
-mod input;
 mod notes;
 mod originators;
 mod report;
+mod stream;
 #[cfg(test)]
 mod tests;
 mod words;
 
 use crate::originators::read_originators;
-use crate::report::report_run;
+use crate::report::report_buffered;
 use crate::words::{Order, Refusal, order_of};
 use ether_wire::{Reader, Writer};
 use std::fmt::Display;
@@ -74,7 +74,10 @@ fn run_report(rt: &HostRuntime, list: &str) -> u8 {
     };
     let mut reader = Reader::new(rt.stdin());
     let (stdout, stderr) = (rt.stdout(), rt.stderr());
-    let mut out = Writer::new(io::writer(&stdout));
-    let mut notes = Writer::new(io::writer(&stderr));
-    report_run(rt.alloc(), originators, &mut reader, &mut out, &mut notes)
+    let (out, notes) = (
+        Writer::new(io::writer(&stdout)),
+        Writer::new(io::writer(&stderr)),
+    );
+    let (status, _, _) = report_buffered(rt.alloc(), originators, &mut reader, out, notes);
+    status
 }

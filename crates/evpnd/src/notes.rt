@@ -1,11 +1,22 @@
 //! The lines that tell what wasn't taken, and how a stream ended.
-ghost use Rattle.std.specs.Prelude.{◌≡◌, ◌+◌, ◌<◌, ◌^◌, OnOk};
+ghost use Rattle.std.specs.Prelude.{◌≡◌, ◌+◌, ◌<◌, ◌^◌, true, OnOk};
 ghost use Rattle.std.specs.Io.KnownBytes.{append_known};
 ghost use Rattle.ether_wire.specs.Ends.{failures_after};
-ghost use Rattle.evpnd.specs.Notes.{refused_line, fault_line, truncated_line, end_note, is_broken};
+ghost use Rattle.route_wire.specs.Feed.{is_rest, shown};
+ghost use Rattle.evpnd.specs.Notes.{refused_line, fault_line, truncated_line};
+ghost use Rattle.evpnd.specs.Progressing.{cut_at, break_at, break_line};
 
 use ether_wire::{Device, Out, put_decimal};
-use route_wire::{Whole, whole};
+use route_wire::{Feed, Next};
+
+/// What breaks a stream off.
+#[derive(Clone, Copy, Debug)]
+pub(crate) enum Break {
+    /// It shows a fault.
+    Faulty(u8),
+    /// The input ended this many octets into a record.
+    Cut(usize),
+}
 
 /// Writes `record N refused C`.
 #[tactic(auto, using(ether_wire::proofs::Appending::append_known_twice))]
@@ -49,38 +60,43 @@ fn put_truncated<N: Out>(notes: &mut N, octets: u64, number: u64) -> Result<(), 
     notes.put(b"\n")
 }
 
-/// Whether the stream ends with a fault or with a record that was cut.
-pub(crate) fn is_broken(is_ended: bool, rest: &[u8]) -> bool
-    ensures { result ≡ is_broken is_ended rest.now }
+/// The record of which a feed holds a part, as one that was cut.
+fn cut_of(feed: &Feed) -> Option<Break>
+    requires { is_rest (shown feed.now) ≡ true }
+    ensures { result ≡ cut_at feed.now.rest }
 {
-    match whole(rest) {
-        Whole::Fault(_) => true,
-        Whole::Rest => is_ended && rest.len() != 0,
-        Whole::Length(_) => false,
+    match feed.end() {
+        Ok(()) => None,
+        Err(truncated) => Some(Break::Cut(truncated.octets)),
     }
 }
 
-/// Writes what ended the stream, a fault or a cut record, if one did.
+/// What breaks a stream off whose octets a feed has taken, where its input ended or not.
+pub(crate) fn break_of(feed: &mut Feed, is_ended: bool) -> Option<Break>
+    ensures { result ≡ break_at (shown feed.old) is_ended feed.old.rest }
+{
+    match feed.next() {
+        Next::Fault(fault) => Some(Break::Faulty(fault)),
+        Next::More => { if is_ended { cut_of(feed) } else { None } }
+        Next::Record(_) => None,
+        Next::Refused(_) => None,
+    }
+}
+
+/// Writes what broke a stream off at the record of this number, if anything did.
 #[tactic(auto, using(crate::proofs::Appending::append_known_none))]
-pub(crate) fn put_end_note<N: Out>(
+pub(crate) fn put_break<N: Out>(
     notes: &mut N,
-    is_ended: bool,
+    broken: &Option<Break>,
     number: u64,
-    rest: &[u8],
 ) -> Result<(), Device>
     requires { N.failed notes.old + 1 < 2 ^ 64 }
-    ensures appends { OnOk result (N.written notes.new ≡ append_known (N.written notes.old) (end_note is_ended number rest.now)) }
+    ensures appends { OnOk result (N.written notes.new ≡ append_known (N.written notes.old) (break_line broken.now number)) }
     ensures failures { N.failed notes.new ≡ failures_after (N.failed notes.old) result }
 {
-    match whole(rest) {
-        Whole::Fault(fault) => put_fault(notes, fault, number),
-        Whole::Rest => {
-            if is_ended && rest.len() != 0 {
-                put_truncated(notes, rest.len() as u64, number)
-            } else {
-                Ok(())
-            }
-        }
-        Whole::Length(_) => Ok(()),
+    match broken {
+        Some(Break::Faulty(fault)) => put_fault(notes, *fault, number),
+        Some(Break::Cut(octets)) => put_truncated(notes, *octets as u64, number),
+        None => Ok(()),
     }
 }

@@ -1,8 +1,8 @@
-//! Readers that give little, or fail.
-ghost use Rattle.std.specs.Prelude.{◌≡◌, ◌+◌, ◌<◌, ◌^◌, Some, IfOk, OnErr};
+//! Readers that give little, or fail, and a writer that fails.
+ghost use Rattle.std.specs.Prelude.{◌≡◌, ◌+◌, ◌<◌, ◌^◌, Some, None, IfOk, OnErr};
 ghost use Rattle.ether_wire.specs.Ends.{Takes, failures_after};
 
-use ether_wire::{Device, In};
+use ether_wire::{Device, In, Out};
 
 /// A reader that gives at most one octet a call.
 #[derive(Drop)]
@@ -54,5 +54,57 @@ impl In for Broken<'_> {
         buffer[..n].copy_from_slice(front);
         self.left = rest;
         Ok(n)
+    }
+}
+
+/// A reader of octets in two pieces, of which the first has this many.
+#[derive(Drop)]
+pub(crate) struct InTwo<'a> {
+    pub left: &'a [u8],
+    pub first: usize,
+}
+
+impl In for InTwo<'_> {
+    ghost left = { λ r. Some r.left.now };
+
+    ghost failed = { λ _. 0 };
+
+    fn failures(&self) -> u64 {
+        0
+    }
+
+    fn read(&mut self, buffer: &mut [u8]) -> Result<usize, Device> {
+        let most = if self.first == 0 {
+            buffer.len()
+        } else {
+            self.first
+        };
+        let n = self.left.len().min(buffer.len()).min(most);
+        let (front, rest) = self.left.split_at(n);
+        buffer[..n].copy_from_slice(front);
+        self.left = rest;
+        self.first = self.first.saturating_sub(n);
+        Ok(n)
+    }
+}
+
+/// A writer that always fails, and counts its calls.
+#[derive(Drop)]
+pub(crate) struct Full {
+    pub failures: u64,
+}
+
+impl Out for Full {
+    ghost written = { λ _. None };
+
+    ghost failed = { λ w. w.failures };
+
+    fn failures(&self) -> u64 {
+        self.failures
+    }
+
+    fn put(&mut self, _octets: &[u8]) -> Result<(), Device> {
+        self.failures += 1;
+        Err(Device)
     }
 }

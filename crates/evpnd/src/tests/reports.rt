@@ -1,11 +1,11 @@
 //! Reports of streams.
 use crate::originators::read_originators;
-use crate::report::report_run;
-use crate::tests::ends::{Broken, Trickle};
+use crate::report::{report_buffered, report_run};
+use crate::tests::ends::{Broken, Full, InTwo, Trickle};
 use crate::tests::records::{
     ADVERT, advert, joined, moved, pinned, reborn, with_address, with_community, withdrawal,
 };
-use ether_wire::{In, Octets, Page};
+use ether_wire::{In, Octets, Out, Page};
 use std::alloc::{AllocError, Global};
 
 const NINE: &[u8] = b"10.0.0.1,10.0.0.2,10.0.0.3,10.0.0.9";
@@ -21,9 +21,13 @@ fn gives<R: In>(alloc: Global, reader: &mut R, report: &[u8], notes: &[u8], stat
     let Some(originators) = read_originators(NINE) else {
         return false;
     };
-    let mut out = Page::<1024>::new();
-    let mut told = Page::<1024>::new();
-    let answer = report_run(alloc, originators, reader, &mut out, &mut told);
+    let (answer, out, told) = report_buffered(
+        alloc,
+        originators,
+        reader,
+        Page::<1024>::new(),
+        Page::<1024>::new(),
+    );
     answer == status && out.octets() == report && told.octets() == notes
 }
 
@@ -48,6 +52,46 @@ fn octet_by_octet_as_at_once(rt: HostRuntime) -> Result<(), AllocError> {
         left: stream.as_slice(),
     };
     assert!(rt; gives(rt.alloc(), &mut reader, TWO_LINES, b"", 0));
+    Ok(())
+}
+
+#[test]
+fn in_two_pieces_as_at_once(rt: HostRuntime) -> Result<(), AllocError> {
+    let stream = joined(rt.alloc(), &[&ADVERT, &ADVERT, &ADVERT])?;
+    for first in 1..168usize {
+        let mut reader = InTwo {
+            left: stream.as_slice(),
+            first,
+        };
+        assert!(rt; gives(rt.alloc(), &mut reader, TWO_LINES, b"", 0));
+    }
+    Ok(())
+}
+
+#[test]
+fn octets_after_a_fault_are_no_records(rt: HostRuntime) -> Result<(), AllocError> {
+    let stream = joined(rt.alloc(), &[&ADVERT, b"EW", &advert(1, 9), &ADVERT[..55]])?;
+    for first in 1..169usize {
+        let mut reader = InTwo {
+            left: stream.as_slice(),
+            first,
+        };
+        let note = b"fault 1 at record 2\n";
+        assert!(rt; gives(rt.alloc(), &mut reader, TWO_LINES, note, 1));
+    }
+    let mut reader = Broken {
+        left: stream.as_slice(),
+        failures: 0,
+    };
+    assert!(rt;
+        gives(
+            rt.alloc(),
+            &mut reader,
+            TWO_LINES,
+            b"fault 1 at record 2\n",
+            4
+        )
+    );
     Ok(())
 }
 
@@ -207,4 +251,34 @@ fn failed_writers_give_status_4(rt: HostRuntime) {
         &mut told,
     );
     assert_eq!(rt; status, 4);
+}
+
+#[test]
+fn failed_flush_gives_status_4(rt: HostRuntime) {
+    let Some(originators) = read_originators(NINE) else {
+        return;
+    };
+    let (status, out, told) = report_buffered(
+        rt.alloc(),
+        originators,
+        &mut Octets::new(&ADVERT[..]),
+        Full { failures: 0 },
+        Page::<1024>::new(),
+    );
+    assert_eq!(rt; status, 4);
+    assert_eq!(rt; out.failures(), 1);
+    assert!(rt; told.octets().is_empty());
+    let Some(originators) = read_originators(NINE) else {
+        return;
+    };
+    let (status, out, told) = report_buffered(
+        rt.alloc(),
+        originators,
+        &mut Octets::new(&ADVERT[..55]),
+        Page::<1024>::new(),
+        Full { failures: 0 },
+    );
+    assert_eq!(rt; status, 4);
+    assert!(rt; out.octets().is_empty());
+    assert_eq!(rt; told.failures(), 1);
 }

@@ -3,7 +3,7 @@ use Rattle.arrayvec.specs.ArrayVec.{ArrayVec}
 use Rattle.ether_wire.specs.declared.names.Addr.{Addr}
 use Rattle.std.specs.Prelude.{eqb}
 use Rattle.std.specs.List.{IsDistinct}
-use Rattle.evpnd.specs.Originators.{originators_from, originators_of_text}
+use Rattle.evpnd.specs.Originators.{originators_from}
 use Rattle.evpnd.proofs.Listing.{commas, split_some, split_none, shorter_after, text_some, text_none, text_last, distinct_none}
 use Rattle.evpnd.proofs.originators.read_originators.Goals as goal
 

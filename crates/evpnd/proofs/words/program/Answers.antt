@@ -1,6 +1,6 @@
-use Rattle.std.proofs.Common.{rules, ap, ap₂, refl, codes, true, List, ◌≡◌, ◌∙◌}
-use Rattle.clap.specs.Words.{App, Text, app_of, new_app, with_subcommand}
-use Rattle.evpnd.specs.Words.{program, order_app}
+use Rattle.std.proofs.Common.{rules, ap, ap₂, codes, true, ◌≡◌, ◌∙◌}
+use Rattle.clap.specs.Words.{App, app_of, with_subcommand}
+use Rattle.evpnd.specs.Words.{order_app}
 use Rattle.evpnd.proofs.words.program.Goals as goal
 
 pub returns : goal.returns
