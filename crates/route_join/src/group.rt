@@ -1,4 +1,5 @@
-ghost use Rattle.std.specs.Prelude.{◌≡◌, ◌∷◌, [], ◌+◌, ◌<◌, ◌^◌, Ok, Err, None, IfOk, IfSome, OnOk, OnErr, MatchOption, if◌then◌else◌};
+ghost use Rattle.std.specs.Prelude.{◌≡◌, ◌∷◌, [], ◌+◌, ◌<◌, ◌≤◌, ◌^◌, vec_len, is_ok, Ok, Err, None, IfOk, IfSome, OnOk, OnErr, MatchOption, if◌then◌else◌};
+ghost use Rattle.std.specs.List.{insert};
 ghost use Rattle.std.specs.FinMap.Entries.{find, put};
 ghost use Rattle.route_wire.specs.Order.{register_cmp};
 ghost use Rattle.route_join.specs.Table.{entries_of, IsOrdered, is_news};
@@ -68,6 +69,22 @@ fn moved(at: usize, winner: Option<usize>) -> Option<usize>
     match winner {
         None => None,
         Some(i) => Some(if at <= i { i + 1 } else { i }),
+    }
+}
+
+/// Inserts an update at a place. A full group grows by a quarter: groups are small and many, and to
+/// double each would leave a third of a large table's memory unused.
+fn insert_at(updates: &mut Vec<Update>, at: usize, update: &Update) -> Result<(), AllocError>
+    requires { at ≤ vec_len updates.old }
+    ensures { updates.new.items ≡ (if is_ok result then insert updates.old.items at update.now else updates.old.items) }
+{
+    let len = updates.len();
+    if len == updates.capacity() {
+        updates.reserve_exact(len / 4 + 1)?;
+    }
+    match updates.insert(at, *update) {
+        Ok(()) => Ok(()),
+        Err(_) => Err(AllocError),
     }
 }
 
@@ -152,7 +169,7 @@ impl Group {
         ensures ok { OnOk result (entries_of self.new ≡ put register_cmp update.now.register update.now.value (entries_of self.old)) }
         ensures err { OnErr result (self.new ≡ self.old) }
     {
-        if self.updates.insert(at, *update).is_err() {
+        if insert_at(&mut self.updates, at, update).is_err() {
             return Err(AllocError);
         }
         self.winner = better_place(&self.updates, at, moved(at, self.winner));
