@@ -12,8 +12,8 @@ HEAD = re.compile(r"\bfn (\w+)")
 
 
 def apply(edit, texts):
-    """Applies the edit to the texts by file, filling in those of its crate. Returns the texts, and the functions that it
-    changes as pairs of a file and a name; or why it can't be applied."""
+    """Applies the edit to the texts by file, filling in those of its crate. Returns the texts, and the names of the
+    functions that it changes; or why it can't be applied."""
     texts, functions, file, old = dict(texts), set(), None, None
     for line in edit.read_text().split("\n"):
         word, _, rest = line.partition(":")
@@ -28,9 +28,8 @@ def apply(edit, texts):
                 return None, "a `new:` stands without `file:` and `old:` before it"
             if texts[file].count(old) != 1:
                 return None, f"in {file} this stands {texts[file].count(old)} times: {old}"
-            before = texts[file].partition(old)[0]
-            names = HEAD.findall(before + old) if HEAD.search(old) else HEAD.findall(before)
-            functions.add((file, names[-1] if names else None))
+            names = HEAD.findall(texts[file].partition(old)[0] + old)
+            functions.add(names[-1] if names else "")
             texts[file] = texts[file].replace(old, rest)
             old = None
     return (texts, functions) if functions else (None, "it has no pair of `old:` and `new:`")
@@ -49,10 +48,10 @@ def applies(crates):
 
 
 def verdict(functions, said):
-    """What the check says of these functions."""
+    """What the check says of the functions of these names, of which no other one is changed."""
     found = []
-    for file, name in functions:
-        line = re.search(rf"^fn \S*::{file.stem}::(?:\S+::)?{name}: (not proved|no proof: expected)", said, re.M)
+    for name in functions:
+        line = re.search(rf"^fn \S*::{name}: (not proved|no proof: expected)", said, re.M)
         found.append(line and line[1])
     if None in found:
         return "NOT REFUSED beside the others: try it alone"
@@ -60,8 +59,8 @@ def verdict(functions, said):
 
 
 def one_round(crate, edits):
-    """Applies as many edits as change different functions, and checks the crate. Returns whether all these are refused, and
-    the other edits."""
+    """Applies as many edits as change functions of different names, and checks the crate. Returns whether all these are
+    refused, and the other edits."""
     texts, taken, later = {}, {}, []
     for edit in edits:
         with_edit, functions = apply(edit, texts)

@@ -77,9 +77,21 @@ impl Lists {
     }
 }
 
+// Lists, by the first try that isn't refused memory.
+fn made(alloc: Global, nodes: usize) -> Option<Lists>
+    requires { nodes < 2 ^ 62 }
+{
+    for _ in 0..40 {
+        if let Ok(lists) = Lists::new(alloc, nodes) {
+            return Some(lists);
+        }
+    }
+    None
+}
+
 #[test]
 fn node_leaves_one_family_and_stays_in_the_other(rt: HostRuntime) -> Result<(), Fail> {
-    let mut lists = Lists::new(rt.alloc(), 4)?;
+    let mut lists = made(rt.alloc(), 4).ok_or("no lists")?;
     for node in [2, 0, 3] {
         assert!(rt; lists.push_back(0, 1, node) && lists.push_back(1, 2, node));
     }
@@ -92,15 +104,34 @@ fn node_leaves_one_family_and_stays_in_the_other(rt: HostRuntime) -> Result<(), 
 }
 
 #[test]
-fn refused_memory_leaves_the_lists(rt: HostRuntime) -> Result<(), Fail> {
-    assert!(rt;
-        Lists::new(rt.alloc(), 1 << 61).is_err(),
-        "more than any memory holds"
-    );
-    let mut lists = Lists::new(rt.alloc(), 2)?;
+fn more_places_than_32_bits_count_are_refused(rt: HostRuntime) -> Result<(), Fail> {
+    assert!(rt; Lists::new(rt.alloc(), 1 << 31).is_err());
+    assert!(rt; Lists::new(rt.alloc(), 1 << 61).is_err());
+    let mut lists = made(rt.alloc(), 2).ok_or("no lists")?;
+    assert!(rt; lists.push_back(0, 1, 1) && lists.grow(1 << 31).is_err());
+    assert!(rt; lists.is_list(0, 1, &[1]) && !lists.push_back(1, 0, 2));
+    Ok(())
+}
+
+// Each call comes just after a refused growth.
+#[test]
+fn calls_succeed_while_growth_is_refused(rt: HostRuntime) -> Result<(), Fail> {
+    let mut lists = made(rt.alloc(), 3).ok_or("no lists")?;
+    for node in [1, 0, 2] {
+        assert!(rt; lists.grow(1 << 61).is_err() && lists.push_back(1, 2, node));
+    }
+    assert!(rt; lists.grow(1 << 61).is_err() && lists.is_list(1, 2, &[1, 0, 2]));
+    assert!(rt; lists.grow(1 << 61).is_err() && lists.unlink(1, 0));
+    assert!(rt; lists.grow(1 << 61).is_err() && lists.is_list(1, 2, &[1, 2]));
+    assert!(rt; lists.grow(1 << 61).is_err() && !lists.push_back(1, 0, 3));
+    Ok(())
+}
+
+// Run with each allocation refused in turn: what is refused leaves the lists as they were.
+#[test]
+fn lists_stay_where_memory_is_refused(rt: HostRuntime) -> Result<(), Fail> {
+    let mut lists = made(rt.alloc(), 2).ok_or("no lists")?;
     assert!(rt; lists.push_back(0, 1, 1) && lists.push_back(0, 1, 0));
-    assert!(rt; lists.grow(1 << 61).is_err());
-    assert!(rt; lists.is_list(0, 1, &[1, 0]) && !lists.push_back(1, 0, 2));
     for _ in 0..40 {
         if lists.grow(2).is_ok() {
             break;

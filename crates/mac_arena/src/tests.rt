@@ -36,6 +36,20 @@ impl Run {
         })
     }
 
+    // A run, by the first try that isn't refused memory.
+    fn made(alloc: Global, capacity: usize, buckets: usize) -> Option<Run>
+        requires capacity { capacity ≤ 65536 }
+        requires some { 0 < buckets }
+        requires buckets { buckets ≤ 65536 }
+    {
+        for _ in 0..40 {
+            if let Ok(run) = Run::new(alloc, capacity, buckets) {
+                return Some(run);
+            }
+        }
+        None
+    }
+
     // Nothing where there is no such port, or the second is below an earlier one.
     fn learn(&mut self, key: Station, port: u8, second: u64) -> Option<Learnt> {
         if port == 0 || port > PORTS || second < self.now {

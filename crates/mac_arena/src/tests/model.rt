@@ -194,7 +194,7 @@ fn runs_alike(alloc: Global, capacity: usize, buckets: usize, seed: u64) -> bool
     requires some { 0 < buckets }
     requires buckets { buckets ≤ 65536 }
 {
-    let Ok(mut run) = Run::new(alloc, capacity, buckets) else {
+    let Some(mut run) = Run::made(alloc, capacity, buckets) else {
         return false
     };
     let Ok(known) = Vec::with_capacity(alloc, capacity) else {

@@ -1,6 +1,5 @@
 use super::{Run, station};
 use crate::{Entry, Learnt};
-use std::alloc::Global;
 use std::test::Fail;
 
 const A: u64 = 0x0200_0000_000a;
@@ -21,14 +20,14 @@ fn heard(port: u8, last: u64) -> Option<Entry> {
 
 #[test]
 fn station_falls_into_bucket_830(rt: HostRuntime) -> Result<(), Fail> {
-    let run = Run::new(rt.alloc(), 4, 1024)?;
+    let run = Run::made(rt.alloc(), 4, 1024).ok_or("no table")?;
     assert_eq!(rt; run.table.bucket(station(A)), 830);
     Ok(())
 }
 
 #[test]
 fn three_stations_share_one_bucket(rt: HostRuntime) -> Result<(), Fail> {
-    let mut run = Run::new(rt.alloc(), 3, 1)?;
+    let mut run = Run::made(rt.alloc(), 3, 1).ok_or("no table")?;
     for address in [A, B, C] {
         assert_eq!(rt; run.learn(station(address), 1, 0), Some(Learnt::New));
     }
@@ -49,7 +48,7 @@ fn three_stations_share_one_bucket(rt: HostRuntime) -> Result<(), Fail> {
 
 #[test]
 fn moved_station_leaves_its_port(rt: HostRuntime) -> Result<(), Fail> {
-    let mut run = Run::new(rt.alloc(), 4, 8)?;
+    let mut run = Run::made(rt.alloc(), 4, 8).ok_or("no table")?;
     assert_eq!(rt; run.learn(station(A), 1, 4), Some(Learnt::New));
     assert_eq!(rt; run.learn(station(A), 2, 6), Some(Learnt::Moved));
     assert_eq!(rt; run.first_of(1), None);
@@ -61,7 +60,7 @@ fn moved_station_leaves_its_port(rt: HostRuntime) -> Result<(), Fail> {
 
 #[test]
 fn full_table_keeps_what_it_has(rt: HostRuntime) -> Result<(), Fail> {
-    let mut run = Run::new(rt.alloc(), 1, 4)?;
+    let mut run = Run::made(rt.alloc(), 1, 4).ok_or("no table")?;
     assert_eq!(rt; run.learn(station(A), 1, 0), Some(Learnt::New));
     assert_eq!(rt; run.learn(station(B), 2, 0), Some(Learnt::Full));
     assert_eq!(rt; run.pin(station(B), 2), Some(false));
@@ -73,7 +72,7 @@ fn full_table_keeps_what_it_has(rt: HostRuntime) -> Result<(), Fail> {
 
 #[test]
 fn station_heard_longest_ago_is_oldest(rt: HostRuntime) -> Result<(), Fail> {
-    let mut run = Run::new(rt.alloc(), 4, 4)?;
+    let mut run = Run::made(rt.alloc(), 4, 4).ok_or("no table")?;
     assert_eq!(rt; run.learn(station(A), 1, 0), Some(Learnt::New));
     assert_eq!(rt; run.learn(station(B), 1, 0), Some(Learnt::New));
     assert_eq!(rt; run.learn(station(A), 1, 5), Some(Learnt::Refreshed));
@@ -86,7 +85,7 @@ fn station_heard_longest_ago_is_oldest(rt: HostRuntime) -> Result<(), Fail> {
 
 #[test]
 fn pinned_station_neither_ages_nor_moves(rt: HostRuntime) -> Result<(), Fail> {
-    let mut run = Run::new(rt.alloc(), 4, 4)?;
+    let mut run = Run::made(rt.alloc(), 4, 4).ok_or("no table")?;
     assert_eq!(rt; run.learn(station(A), 1, 3), Some(Learnt::New));
     assert_eq!(rt; run.pin(station(A), 2), Some(true));
     assert_eq!(rt; run.table.oldest(), None);
@@ -104,25 +103,17 @@ fn pinned_station_neither_ages_nor_moves(rt: HostRuntime) -> Result<(), Fail> {
     Ok(())
 }
 
-// A table, by the first try that isn't refused memory.
-fn made(alloc: Global) -> Option<Run> {
-    for _ in 0..40 {
-        if let Ok(run) = Run::new(alloc, 2, 4) {
-            return Some(run);
-        }
-    }
-    None
-}
-
 // Run with each allocation refused in turn: only making the table takes memory.
 #[test]
 fn table_works_after_refused_memory(rt: HostRuntime) -> Result<(), Fail> {
-    let mut run = made(rt.alloc()).ok_or("no table")?;
+    let mut run = Run::made(rt.alloc(), 2, 4).ok_or("no table")?;
     assert_eq!(rt; run.learn(station(A), 1, 1), Some(Learnt::New));
     assert_eq!(rt; run.learn(station(B), 1, 2), Some(Learnt::New));
     assert_eq!(rt; run.learn(station(C), 1, 2), Some(Learnt::Full));
     assert_eq!(rt; run.learn(station(A), 2, 3), Some(Learnt::Moved));
+    assert_eq!(rt; run.learn(station(A), 2, 4), Some(Learnt::Refreshed));
     assert_eq!(rt; run.pin(station(B), 3), Some(true));
+    assert_eq!(rt; run.learn(station(B), 1, 4), Some(Learnt::Pinned));
     assert_eq!(rt; run.table.oldest(), Some(station(A)));
     assert_eq!(rt; run.first_of(2), Some(station(A)));
     assert_eq!(rt; run.remove(station(A)), true);
