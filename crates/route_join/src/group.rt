@@ -72,7 +72,7 @@ fn moved(at: usize, winner: Option<usize>) -> Option<usize>
     }
 }
 
-/// Inserts an update at a place. A full group grows by a quarter: groups are small and many, and to
+/// Inserts an update at a place. A full group grows by an eighth: groups are small and many, and to
 /// double each would leave a third of a large table's memory unused.
 fn insert_at(updates: &mut Vec<Update>, at: usize, update: &Update) -> Result<(), AllocError>
     requires { at ≤ vec_len updates.old }
@@ -80,7 +80,7 @@ fn insert_at(updates: &mut Vec<Update>, at: usize, update: &Update) -> Result<()
 {
     let len = updates.len();
     if len == updates.capacity() {
-        updates.reserve_exact(len / 4 + 1)?;
+        updates.reserve_exact(len / 8 + 1)?;
     }
     match updates.insert(at, *update) {
         Ok(()) => Ok(()),
@@ -117,7 +117,7 @@ impl Group {
         ensures { IfOk result (λ g. g ≡ update.now ∷ []) }
     {
         let mut updates = Vec::new(alloc);
-        updates.push(*update)?;
+        insert_at(&mut updates, 0, update)?;
         let winner = best_place(&updates);
         Ok(Group { updates, winner })
     }
