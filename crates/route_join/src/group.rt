@@ -1,4 +1,5 @@
-ghost use Rattle.std.specs.Prelude.{◌≡◌, ◌∷◌, [], ◌+◌, ◌<◌, ◌^◌, Ok, Err, None, IfOk, IfSome, OnOk, OnErr, MatchOption, if◌then◌else◌};
+ghost use Rattle.std.specs.Prelude.{◌≡◌, ◌∷◌, [], ◌+◌, ◌<◌, ◌≤◌, ◌^◌, vec_len, is_ok, Ok, Err, None, IfOk, IfSome, OnOk, OnErr, MatchOption, if◌then◌else◌};
+ghost use Rattle.std.specs.List.{insert};
 ghost use Rattle.std.specs.FinMap.Entries.{find, put};
 ghost use Rattle.route_wire.specs.Order.{register_cmp};
 ghost use Rattle.route_join.specs.Table.{entries_of, IsOrdered, is_news};
@@ -71,6 +72,22 @@ fn moved(at: usize, winner: Option<usize>) -> Option<usize>
     }
 }
 
+/// Inserts an update at a place. A full group grows by an eighth: groups are small and many, and to
+/// double each would leave a third of a large table's memory unused.
+fn insert_at(updates: &mut Vec<Update>, at: usize, update: &Update) -> Result<(), AllocError>
+    requires { at ≤ vec_len updates.old }
+    ensures { updates.new.items ≡ (if is_ok result then insert updates.old.items at update.now else updates.old.items) }
+{
+    let len = updates.len();
+    if len == updates.capacity() {
+        updates.reserve_exact(len / 8 + 1)?;
+    }
+    match updates.insert(at, *update) {
+        Ok(()) => Ok(()),
+        Err(_) => Err(AllocError),
+    }
+}
+
 /// The updates of one subject in the order of their registers, with the place of the best advert
 /// among them, if anything is advertised.
 #[derive(Drop)]
@@ -100,7 +117,7 @@ impl Group {
         ensures { IfOk result (λ g. g ≡ update.now ∷ []) }
     {
         let mut updates = Vec::new(alloc);
-        updates.push(*update)?;
+        insert_at(&mut updates, 0, update)?;
         let winner = best_place(&updates);
         Ok(Group { updates, winner })
     }
@@ -152,7 +169,7 @@ impl Group {
         ensures ok { OnOk result (entries_of self.new ≡ put register_cmp update.now.register update.now.value (entries_of self.old)) }
         ensures err { OnErr result (self.new ≡ self.old) }
     {
-        if self.updates.insert(at, *update).is_err() {
+        if insert_at(&mut self.updates, at, update).is_err() {
             return Err(AllocError);
         }
         self.winner = better_place(&self.updates, at, moved(at, self.winner));

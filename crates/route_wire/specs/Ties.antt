@@ -1,5 +1,6 @@
 -- Registers that `==` tells apart are those that report order tells apart.
-use Rattle.std.proofs.Common.{◌≡◌, ◌==◌, ◌&&◌, Bool, true, false, Some, None, refl, sym, ap, ◌∙◌, eq-eqb}
+use Rattle.std.proofs.Common.{◌≡◌, ℕ, ◌+◌, ◌*◌, ◌/◌, ◌%◌, ◌^◌, ◌==◌, ◌&&◌, Bool, true, false, Some, None, refl, sym, ap, ◌∙◌, eq-eqb}
+use Rattle.std.proofs.Math.Pow.{split}
 use Rattle.std.specs.Cmp.{both_ways, tied_itself}
 use Rattle.std.proofs.lemmas.Map.Views.{exact_unsigned_eq}
 use Rattle.std.specs.declared.cmp.Ordering.{Ordering}
@@ -24,15 +25,23 @@ all : (a b : Bool) → a ≡ true → b ≡ true → a && b ≡ true
 all true b e f = f
 all false b e f = cc
 
+-- an address of 128 bits is kept in two halves
+same_halves : (m n : ℕ) → m / 2 ^ 64 == n / 2 ^ 64 && m % 2 ^ 64 == n % 2 ^ 64 ≡ true → m ≡ n
+same_halves m n e =
+    let h = each (m / 2 ^ 64 == n / 2 ^ 64) (m % 2 ^ 64 == n % 2 ^ 64) e in
+    let high = exact_unsigned_eq (m / 2 ^ 64) (n / 2 ^ 64) h.0 in
+    let low = exact_unsigned_eq (m % 2 ^ 64) (n % 2 ^ 64) h.1 in
+    sym (split m 64) ∙ (λ k. high k * 2 ^ 64 + low k) ∙ split n 64
+
 ip_itself : (i : Ip) → ip.eq-value.it i i ≡ true
 ip_itself (V4 n) = eq-eqb n n refl
-ip_itself (V6 n) = eq-eqb n n refl
+ip_itself (V6 n) = all (n / 2 ^ 64 == n / 2 ^ 64) (n % 2 ^ 64 == n % 2 ^ 64) (eq-eqb (n / 2 ^ 64) (n / 2 ^ 64) refl) (eq-eqb (n % 2 ^ 64) (n % 2 ^ 64) refl)
 
 ip_same : (i j : Ip) → ip.eq-value.it i j ≡ true → i ≡ j
 ip_same (V4 m) (V4 n) e = ap V4 (exact_unsigned_eq m n e)
 ip_same (V4 m) (V6 n) e = cc
 ip_same (V6 m) (V4 n) e = cc
-ip_same (V6 m) (V6 n) e = ap V6 (exact_unsigned_eq m n e)
+ip_same (V6 m) (V6 n) e = ap V6 (same_halves m n e)
 
 key_itself : (k : Key) → key.eq-value.it k k ≡ true
 key_itself (Flood v) = eq-eqb v v refl
