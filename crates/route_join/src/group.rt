@@ -72,7 +72,7 @@ fn moved(at: usize, winner: Option<usize>) -> Option<usize>
     }
 }
 
-/// Inserts an update at a place. A full group grows by an eighth: groups are small and many, and to
+/// Inserts an update at a place. A full group grows by a sixteenth: groups are small and many, and to
 /// double each would leave a third of a large table's memory unused.
 fn insert_at(updates: &mut Vec<Update>, at: usize, update: &Update) -> Result<(), AllocError>
     requires { at ≤ vec_len updates.old }
@@ -80,7 +80,7 @@ fn insert_at(updates: &mut Vec<Update>, at: usize, update: &Update) -> Result<()
 {
     let len = updates.len();
     if len == updates.capacity() {
-        updates.reserve_exact(len / 8 + 1)?;
+        updates.reserve_exact(len / 16 + 1)?;
     }
     match updates.insert(at, *update) {
         Ok(()) => Ok(()),
