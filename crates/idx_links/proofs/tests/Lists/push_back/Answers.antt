@@ -1,4 +1,4 @@
-use Rattle.std.proofs.Common.{◌∙◌, ◌++◌, ◌∷◌, [], set}
+use Rattle.std.proofs.Common.{◌∙◌, ◌++◌, ◌∷◌, []}
 use Rattle.std.proofs.lemmas.List.{length-set}
 use Rattle.idx_links.specs.Links.{list_at}
 use Rattle.idx_links.specs.Families.{lists_of}
