@@ -726,6 +726,10 @@ module _ {o : Orders} {slots : Slots} {count buckets salt : ℕ} {v : Learning} 
 pub read_slot : (slots : Slots) (n : ℕ) (v : Option Learned) → n < length slots → v ≡ get_or slots n v → v ≡ slot_at slots n
 read_slot slots n v h is = is ∙ get_or_default slots n v None h
 
+-- a known station's slot, changed in place
+pub slot_changed : {o : Orders} {slots : Slots} {count buckets salt : ℕ} {v : Learning} (found : Found o slots count buckets salt v) (n : ℕ) (a : Learned) → learned_at v n ≡ Some a → (f : Learned → Learned) (was new : Option Learned) → was ≡ get_or slots n was → new ≡ option_map f was → new ≡ Some (f a)
+slot_changed {o} {slots} found n a at f was new is change = change ∙ ap (option_map f) (read_slot slots n was (node_low found n a at) is ∙ slot_of found n a at)
+
 -- a pinned station isn't on the ageing list
 pub not_ageing : {o : Orders} {slots : Slots} {count buckets salt : ℕ} {v : Learning} (found : Found o slots count buckets salt v) (n : ℕ) (a : Learned) → slot_at slots n ≡ Some a → a.entry.pinned ≡ true → left a.station v.ageing ≡ v.ageing
 not_ageing {o} {slots} found n a is pinned =

@@ -4,3 +4,4 @@ pub mod Orders
 pub mod Learning
 pub mod ListsName
 pub mod Nodes
+pub mod Slot

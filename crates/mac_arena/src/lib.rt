@@ -6,6 +6,7 @@
 #![tactic(auto)]
 
 pub mod orders;
+mod slot;
 pub mod station;
 pub mod table;
 

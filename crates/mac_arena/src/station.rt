@@ -1,5 +1,5 @@
 ghost use Rattle.std.specs.Prelude.{◌≡◌};
-ghost use Rattle.mac_arena.specs.Entry.{pinned_at, heard_at};
+ghost use Rattle.mac_arena.specs.Entry.{pinned_at};
 
 use ether_wire::{Mac, Vni};
 
@@ -37,21 +37,6 @@ impl Learned {
             port: self.entry.port,
             last: 0,
             pinned: true,
-        };
-        Learned {
-            station: self.station,
-            entry,
-        }
-    }
-
-    // Heard on the port where it is.
-    pub(crate) fn heard(&self, second: u64) -> Learned
-        ensures { result ≡ record { station = self.now.station; entry = heard_at self.now.entry.port second } }
-    {
-        let entry = Entry {
-            port: self.entry.port,
-            last: second,
-            pinned: false,
         };
         Learned {
             station: self.station,

@@ -6,6 +6,7 @@ ghost use Rattle.mac_arena.specs.Entry.{pinned_at};
 ghost use Rattle.mac_arena.specs.ListsName.{ListsName};
 
 use crate::orders::NodeOrders;
+use crate::slot::Slot;
 use crate::station::{Entry, Learned, Station};
 use std::alloc::{AllocError, Global};
 use std::marker::Model;
@@ -32,9 +33,9 @@ pub enum Learnt {
 #[derive(Drop)]
 pub struct MacTable {
     orders: NodeOrders,
-    slots: Vec<Option<Learned>>,
+    slots: Vec<Slot>,
     count: usize,
-    buckets: u64,
+    buckets: u32,
     salt: u64,
 }
 
@@ -75,7 +76,7 @@ impl MacTable {
             orders,
             slots,
             count: 0,
-            buckets: buckets as u64,
+            buckets: buckets as u32,
             salt,
         })
     }
@@ -97,7 +98,7 @@ impl MacTable {
             .wrapping_mul(0x1_0000_0000_0000)
             .wrapping_add(key.mac.number());
         let hash = (number ^ self.salt).wrapping_mul(0x9E37_79B9_7F4A_7C15) >> 32;
-        (hash % self.buckets) as usize
+        (hash as u32 % self.buckets) as usize
     }
 
     /// How many stations the bucket's chain holds.
@@ -113,15 +114,15 @@ impl MacTable {
         requires { node < length self.now.places }
         ensures { result ≡ learned_at self.now node }
     {
-        let slot = &self.slots[node];
-        *slot
+        self.slots[node].learned()
     }
 
     /// What is known of a station.
     pub fn look(&self, key: Station) -> Option<Entry>
         ensures { result ≡ entry_at self.now key }
     {
-        match self.find(key) {
+        let bucket = self.bucket(key);
+        match self.find(&key, bucket) {
             Some((_node, learned)) => Some(learned.entry),
             None => None,
         }
@@ -134,26 +135,26 @@ impl MacTable {
         let Some(node) = self.orders.oldest() else {
             return None
         };
-        let Some(learned) = self.slots[node] else {
+        let Some(learned) = self.slots[node].learned() else {
             return None
         };
         Some(learned.station)
     }
 
-    // The node where a station stands, with what stands there.
-    fn find(&self, key: Station) -> Option<(usize, Learned)>
+    // The node where a station of a bucket stands, with what stands there.
+    fn find(&self, key: &Station, bucket: usize) -> Option<(usize, Learned)>
+        requires { bucket ≡ bucket_in self.now key.now }
         ensures found { IfSome result (λ f. learned_at self.now f.0 ≡ Some f.1) }
-        ensures same { IfSome result (λ f. f.1.station ≡ key) }
+        ensures same { IfSome result (λ f. f.1.station ≡ key.now) }
         ensures timeless { IfSome result (λ f. f.1.entry.pinned ≡ true → f.1.entry.last ≡ 0) }
-        ensures still { IfSome result (λ f. f.1.entry.pinned ≡ true → left key self.now.ageing ≡ self.now.ageing) }
-        ensures missing { IfNone result (entry_at self.now key ≡ None) }
+        ensures still { IfSome result (λ f. f.1.entry.pinned ≡ true → left key.now self.now.ageing ≡ self.now.ageing) }
+        ensures missing { IfNone result (entry_at self.now key.now ≡ None) }
     {
-        let bucket = self.bucket(key);
         let mut at = self.orders.first_in_chain(bucket);
         for _ in 0..self.orders.chain_len(bucket) {
             let Some(node) = at else { return None };
-            if let Some(learned) = self.slots[node] {
-                if learned.station == key {
+            if let Some(learned) = self.slots[node].learned() {
+                if learned.station == *key {
                     return Some((node, learned));
                 }
             }
@@ -172,7 +173,7 @@ impl MacTable {
         let mut at = self.orders.first_at_port(list);
         for _ in 0..self.orders.port_len(list) {
             let Some(node) = at else { return None };
-            if let Some(learned) = self.slots[node] {
+            if let Some(learned) = self.slots[node].learned() {
                 if !learned.entry.pinned {
                     return Some(learned.station);
                 }
@@ -190,9 +191,10 @@ impl MacTable {
         ensures answer { result ≡ learnt_of self.old key port }
         ensures after { self.new ≡ after_learn self.old key port second result }
     {
-        match self.find(key) {
+        let bucket = self.bucket(key);
+        match self.find(&key, bucket) {
             Some((node, learned)) => self.learn_again(node, &learned, port, second),
-            None => self.learn_new(&key, port, second),
+            None => self.learn_new(&key, bucket, port, second),
         }
     }
 
@@ -204,14 +206,15 @@ impl MacTable {
         ensures answer { result ≡ can_pin self.old key }
         ensures after { self.new ≡ after_pin self.old key port }
     {
-        match self.find(key) {
+        let bucket = self.bucket(key);
+        match self.find(&key, bucket) {
             Some((node, learned)) => {
                 self.pin_known(node, &learned, port);
                 true
             }
             None => match self.place() {
                 Some(node) => {
-                    self.enter(node, &key, port);
+                    self.enter(node, &key, bucket, port);
                     true
                 }
                 None => false,
@@ -224,7 +227,8 @@ impl MacTable {
         ensures answer { result ≡ is_some (entry_at self.old key) }
         ensures after { self.new ≡ after_removal self.old key }
     {
-        let Some((node, learned)) = self.find(key) else {
+        let bucket = self.bucket(key);
+        let Some((node, learned)) = self.find(&key, bucket) else {
             return false
         };
         if learned.entry.pinned {
@@ -247,7 +251,8 @@ impl MacTable {
     }
 
     // Learns a station that isn't known.
-    fn learn_new(&mut self, key: &Station, port: u8, second: u64) -> Learnt
+    fn learn_new(&mut self, key: &Station, bucket: usize, port: u8, second: u64) -> Learnt
+        requires bucket { bucket ≡ bucket_in self.old key.now }
         requires some { 0 < port }
         requires port { port ≤ length self.old.ports }
         requires latest { IsLatest self.old second }
@@ -258,7 +263,7 @@ impl MacTable {
         let Some(node) = self.place() else {
             return Learnt::Full
         };
-        self.enter(node, key, port);
+        self.enter(node, key, bucket, port);
         let entered = pinned_on(key, port);
         self.hear(node, &entered, second);
         Learnt::New
@@ -313,7 +318,8 @@ impl MacTable {
     }
 
     // A new station takes the first free node, pinned on the port.
-    fn enter(&mut self, node: usize, key: &Station, port: u8)
+    fn enter(&mut self, node: usize, key: &Station, bucket: usize, port: u8)
+        requires bucket { bucket ≡ bucket_in self.old key.now }
         requires some { 0 < port }
         requires port { port ≤ length self.old.ports }
         requires free { slice_get self.old.free 0 ≡ Some node }
@@ -321,10 +327,8 @@ impl MacTable {
         ensures after { self.new ≡ entered self.old key.now port }
         ensures at { learned_at self.new node ≡ Some (record { station = key.now; entry = pinned_at port }) }
     {
-        let bucket = self.bucket(*key);
         self.orders.enter(node, bucket, port as usize - 1);
-        let entered = pinned_on(key, port);
-        self.slots[node] = Some(entered);
+        self.slots[node] = Slot::pinned(key, port);
         self.count += 1;
     }
 
@@ -336,7 +340,7 @@ impl MacTable {
         ensures { self.new ≡ heard self.old learned.now.station learned.now.entry.port second }
     {
         self.orders.age(node);
-        self.slots[node] = Some(learned.heard(second));
+        self.slots[node].hear(second);
     }
 
     // An ageing station is pinned on its port.
@@ -347,7 +351,7 @@ impl MacTable {
         ensures at { learned_at self.new node ≡ Some (record { station = learned.now.station; entry = pinned_at learned.now.entry.port }) }
     {
         self.orders.hold(node);
-        self.slots[node] = Some(learned.held());
+        self.slots[node].hold();
     }
 
     // A station goes to another port.
@@ -359,7 +363,7 @@ impl MacTable {
         ensures at { learned_at self.new node ≡ Some (record { station = learned.now.station; entry = record learned.now.entry { port = port } }) }
     {
         self.orders.shift(node, port as usize - 1);
-        self.slots[node] = Some(learned.shifted(port));
+        self.slots[node].shift(port);
     }
 
     // A pinned station leaves the table.
@@ -369,16 +373,16 @@ impl MacTable {
         ensures { self.new ≡ dropped self.old learned.now.station }
     {
         self.orders.leave(node);
-        self.slots[node] = None;
+        self.slots[node].leave();
         self.count -= 1;
     }
 }
 
 // So many places with nobody.
-fn nobody(alloc: Global, places: usize) -> Result<Vec<Option<Learned>>, AllocError>
+fn nobody(alloc: Global, places: usize) -> Result<Vec<Slot>, AllocError>
     ensures { IfOk result (λ v. v.items ≡ replicate places None) }
 {
-    vec![in alloc; None; places]
+    vec![in alloc; Slot::nobody(); places]
 }
 
 // A station that is pinned on a port.

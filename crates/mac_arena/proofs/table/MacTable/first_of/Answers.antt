@@ -6,7 +6,7 @@ use Rattle.mac_arena.specs.Learning.{first_unpinned}
 use Rattle.mac_arena.specs.Nodes.{station_in}
 use Rattle.mac_arena.proofs.Tables.{Found, at_port, read_slot, unpinned_step}
 use Rattle.mac_arena.proofs.table.MacTable.first_of.Goals as goal
-use Rattle.mac_arena.proofs.table.MacTable.first_of.Goals.{in-Some-index+else-not-learned, in_default-index}
+use Rattle.mac_arena.proofs.table.MacTable.first_of.Goals.{in-Some-learned+else-not-learned, in_default-learned}
 
 pub index-requires : goal.index-requires
 index-requires c =
@@ -18,10 +18,10 @@ pub returns-then-not-learned : goal.returns-then-not-learned
 returns-then-not-learned c =
     let found : Found c.self.inside.orders c.self.inside.slots.items c.self.inside.count c.self.inside.buckets c.self.inside.salt c.args.self.now = record { table = c.self.invariant; seen = c.self.view_is } in
     let there = at_port found (c.args.port - 1) c.loop.counter c.in-Some.node (sym c.loop.invariant.at ∙ c.in-Some.is) in
-    let is = read_slot c.self.inside.slots.items c.in-Some.node c.index.result.now there.2 c.index.ensures in
-    let x = c.in-Some-index.learned in
+    let is = c.learned.ensures ∙ read_slot c.self.inside.slots.items c.in-Some.node c.index.result.now there.2 c.index.ensures in
+    let x = c.in-Some-learned.learned in
     let unpinned : x.entry.pinned ≡ false = search rules in
-    sym (c.loop.invariant.rest ∙ unpinned_step found (list_at c.self.inside.orders.ports (c.args.port - 1)) c.loop.counter c.in-Some.node x (sym c.loop.invariant.at ∙ c.in-Some.is) (sym is ∙ c.in-Some-index.is) ∙ ap (λ b. cond b (first_unpinned c.args.self.now (map (station_in c.self.inside.slots.items) (drop (c.loop.counter + 1) (list_at c.self.inside.orders.ports (c.args.port - 1))))) (Some x.station)) unpinned)
+    sym (c.loop.invariant.rest ∙ unpinned_step found (list_at c.self.inside.orders.ports (c.args.port - 1)) c.loop.counter c.in-Some.node x (sym c.loop.invariant.at ∙ c.in-Some.is) (sym is ∙ c.in-Some-learned.is) ∙ ap (λ b. cond b (first_unpinned c.args.self.now (map (station_in c.self.inside.slots.items) (drop (c.loop.counter + 1) (list_at c.self.inside.orders.ports (c.args.port - 1))))) (Some x.station)) unpinned)
 
 pub next_at_port-at-requires-clause-node : goal.next_at_port-at-requires-clause-node
 next_at_port-at-requires-clause-node c =
@@ -39,15 +39,15 @@ pub loop-preserved : goal.loop-preserved
 loop-preserved c =
     let found : Found c.self.inside.orders c.self.inside.slots.items c.self.inside.count c.self.inside.buckets c.self.inside.salt c.args.self.now = record { table = c.self.invariant; seen = c.self.view_is } in
     let there = at_port found (c.args.port - 1) c.loop.counter c.in-Some.node (sym c.loop.invariant.at ∙ c.in-Some.is) in
-    let is = read_slot c.self.inside.slots.items c.in-Some.node c.index.result.now there.2 c.index.ensures in
+    let is = c.learned.ensures ∙ read_slot c.self.inside.slots.items c.in-Some.node c.index.result.now there.2 c.index.ensures in
     let x = there.0 in
-    let pinned : x.entry.pinned ≡ true = elim c.match-index.branch [
-      | in-Some-index+else-not-learned w ↦
-          (let yes : w.in-Some-index.learned.entry.pinned ≡ true = search rules in
-          let both : Some w.in-Some-index.learned ≡ Some x = sym w.in-Some-index.is ∙ is ∙ there.1 in
-          let same : w.in-Some-index.learned ≡ x = cc in
+    let pinned : x.entry.pinned ≡ true = elim c.match-learned.branch [
+      | in-Some-learned+else-not-learned w ↦
+          (let yes : w.in-Some-learned.learned.entry.pinned ≡ true = search rules in
+          let both : Some w.in-Some-learned.learned ≡ Some x = sym w.in-Some-learned.is ∙ is ∙ there.1 in
+          let same : w.in-Some-learned.learned ≡ x = cc in
           ap (λ (z : Learned). z.entry.pinned) (sym same) ∙ yes)
-      | in_default-index w ↦ absurd (w.in_default-index.not-Some x (is ∙ there.1))
+      | in_default-learned w ↦ absurd (w.in_default-learned.not-Some x (is ∙ there.1))
     ] in
     record {
       at = c.next_at_port-at.ensures (c.args.port - 1) c.loop.counter (sym c.loop.invariant.at ∙ c.in-Some.is);

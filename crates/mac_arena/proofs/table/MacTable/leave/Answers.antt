@@ -21,9 +21,9 @@ leave-requires-clause-ageless c =
 pub invariant_of-self : goal.invariant_of-self
 invariant_of-self c =
     let found : Found c.self.inside.orders c.self.inside.slots.items c.self.inside.count c.self.inside.buckets c.self.inside.salt c.args.self.now = record { table = c.self.invariant; seen = c.self.view_is } in
-    rw c.leave.ensures (dropped_table c.self.invariant c.args.node c.args.learned.now (slot_of found c.args.node c.args.learned.now c.requires.at) c.requires.pinned).1
+    rw (c.leave.ensures, c.leave-2.ensures) (dropped_table c.self.invariant c.args.node c.args.learned.now (slot_of found c.args.node c.args.learned.now c.requires.at) c.requires.pinned).1
 
 pub returns : goal.returns
 returns c =
     let found : Found c.self.inside.orders c.self.inside.slots.items c.self.inside.count c.self.inside.buckets c.self.inside.salt c.args.self.now = record { table = c.self.invariant; seen = c.self.view_is } in
-    rw c.leave.ensures (dropped_seen c.self.invariant c.args.node c.args.learned.now (slot_of found c.args.node c.args.learned.now c.requires.at) c.requires.pinned ∙ ap (λ w. dropped w c.args.learned.now.station) c.self.view_is)
+    rw (c.leave.ensures, c.leave-2.ensures) (dropped_seen c.self.invariant c.args.node c.args.learned.now (slot_of found c.args.node c.args.learned.now c.requires.at) c.requires.pinned ∙ ap (λ w. dropped w c.args.learned.now.station) c.self.view_is)

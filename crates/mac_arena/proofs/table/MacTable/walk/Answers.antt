@@ -10,4 +10,4 @@ returns c =
     let same = (many found).1 in
     let within = c.requires in
     let low : c.args.node < length c.self.inside.slots.items = omega (arith, same, within) in
-    c.index-slot.ensures ∙ get_or_default c.self.inside.slots.items c.args.node c.index-slot.result.now None low ∙ sym (slot_is found c.args.node)
+    c.learned.ensures ∙ c.index.ensures ∙ get_or_default c.self.inside.slots.items c.args.node c.index.result.now None low ∙ sym (slot_is found c.args.node)
