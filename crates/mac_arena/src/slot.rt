@@ -1,8 +1,7 @@
-ghost use Rattle.std.specs.Prelude.{◌≡◌, Option, None, Some};
+ghost use Rattle.std.specs.Prelude.{◌≡◌, None, Some};
 ghost use Rattle.std.specs.Option.{option_map};
 ghost use Rattle.mac_arena.specs.Entry.{pinned_at};
-ghost use Rattle.mac_arena.specs.Slot.{learned_in, heard_on, held_on, shifted_to};
-ghost use Rattle.mac_arena.specs.declared.station.Learned.{Learned};
+ghost use Rattle.mac_arena.specs.Slot.{heard_on, held_on, shifted_to};
 
 use crate::station::{Entry, Learned, Station};
 use ether_wire::{Mac, Vni};

@@ -1,5 +1,5 @@
 ghost use Rattle.std.specs.Prelude.{◌≡◌};
-ghost use Rattle.mac_arena.specs.Entry.{pinned_at};
+ghost use Rattle.mac_arena.specs.Slot.{held_on, shifted_to};
 
 use ether_wire::{Mac, Vni};
 
@@ -31,7 +31,7 @@ pub struct Learned {
 impl Learned {
     // Pinned on the port where it is.
     pub(crate) fn held(&self) -> Learned
-        ensures { result ≡ record { station = self.now.station; entry = pinned_at self.now.entry.port } }
+        ensures { result ≡ held_on self.now }
     {
         let entry = Entry {
             port: self.entry.port,
@@ -46,7 +46,7 @@ impl Learned {
 
     // On another port.
     pub(crate) fn shifted(&self, port: u8) -> Learned
-        ensures { result ≡ record { station = self.now.station; entry = record self.now.entry { port = port } } }
+        ensures { result ≡ shifted_to port self.now }
     {
         let entry = Entry {
             port,

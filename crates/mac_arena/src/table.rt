@@ -3,6 +3,7 @@ ghost use Rattle.std.specs.FinMap.{len};
 ghost use Rattle.mac_arena.specs.Learning.{Learning, nothing_learnt, entry_at, is_full, bucket_in, stations_at, learned_at, left, first_unpinned, IsLatest, entered, heard, held, shifted, dropped, learnt_of, after_learn, can_pin, after_pin, after_removal};
 ghost use Rattle.std.specs.Prelude.{◌-◌, is_some, replicate};
 ghost use Rattle.mac_arena.specs.Entry.{pinned_at};
+ghost use Rattle.mac_arena.specs.Slot.{held_on, shifted_to};
 ghost use Rattle.mac_arena.specs.ListsName.{ListsName};
 
 use crate::orders::NodeOrders;
@@ -348,7 +349,7 @@ impl MacTable {
         requires at { learned_at self.old node ≡ Some learned.now }
         requires ageing { learned.now.entry.pinned ≡ false }
         ensures after { self.new ≡ held self.old learned.now.station learned.now.entry.port }
-        ensures at { learned_at self.new node ≡ Some (record { station = learned.now.station; entry = pinned_at learned.now.entry.port }) }
+        ensures at { learned_at self.new node ≡ Some (held_on learned.now) }
     {
         self.orders.hold(node);
         self.slots[node].hold();
@@ -360,7 +361,7 @@ impl MacTable {
         requires port { port ≤ length self.old.ports }
         requires at { learned_at self.old node ≡ Some learned.now }
         ensures after { self.new ≡ shifted self.old learned.now.station learned.now.entry port }
-        ensures at { learned_at self.new node ≡ Some (record { station = learned.now.station; entry = record learned.now.entry { port = port } }) }
+        ensures at { learned_at self.new node ≡ Some (shifted_to port learned.now) }
     {
         self.orders.shift(node, port as usize - 1);
         self.slots[node].shift(port);
