@@ -34,6 +34,10 @@ last_place found l t h is = rw is (found.good.inverse.back l (list_place found l
 pub node_place : {next prev : List ℕ} {owner : List (Option ℕ)} {lens : List ℕ} {v : Links} {count : ℕ} (found : Found next prev owner lens v count) (n : ℕ) → n < v.nodes → count + n < length next
 node_place {next} {prev} {owner} {lens} {v} {count} found n h = rw found.count_is (node_below next lens v n found.seen h)
 
+-- is behind the lists' own
+pub node_past : {next prev : List ℕ} {owner : List (Option ℕ)} {lens : List ℕ} {v : Links} {count : ℕ} (found : Found next prev owner lens v count) (n : ℕ) → length lens ≤ count + n
+node_past found n = rw found.count_is (omega arith)
+
 pub push_owes : {next prev : List ℕ} {owner : List (Option ℕ)} {lens : List ℕ} {v : Links} {count : ℕ} (found : Found next prev owner lens v count) (l n t : ℕ)
     → l < length v.lists → n < v.nodes → IsFree v.lists n → t ≡ get_or prev l 0
     → (get_or lens l 0 ≤ length next) × IsGood (set (set next t (count + n)) (count + n) l) (set (set prev (count + n) t) l (count + n)) (set owner (count + n) (Some l)) (set lens l (get_or lens l 0 + 1))

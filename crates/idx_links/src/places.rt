@@ -1,6 +1,6 @@
 ghost use Rattle.std.specs.Prelude.{◌≡◌, ℕ, ◌+◌, ◌-◌, ◌^◌, ◌<◌, ◌≤◌, ◌++◌, List, length, map, take, replicate, slice_set, slice_index_or, vec_len, vec_capacity, IfOk, OnOk, OnErr, None, Some};
 ghost use Rattle.std.specs.List.{range_with_len};
-ghost use Rattle.idx_links.specs.Columns.{Columns, Fits, list_named};
+ghost use Rattle.idx_links.specs.Columns.{Columns, Fits, owners};
 
 use std::alloc::{AllocError, Global};
 use std::marker::Model;
@@ -8,18 +8,19 @@ use std::marker::Model;
 // Places are fewer than this, so that their numbers and the lists' lengths have 32 bits.
 const LIMIT: usize = 0xffff_ffff;
 
-// What is known of one place. 16 octets, so that a place never stands across two cache lines.
+// What is known of one place. 12 octets, so that a node's three places in `mac_arena` have 36, on one or two cache lines
+// of 64: the fewer octets a large table has, the more of it stays in the caches.
 #[derive(Clone, Copy)]
 struct Link {
     next: u32,
     prev: u32,
-    // One more than the list that the place is on; 0 where it is on none.
-    list: u32,
-    // How many nodes the list has, if the place is a list's own.
-    len: u32,
+    // Of a list's own place, how many nodes the list has. Of a node's place, one more than the list that it is on; 0
+    // where it is on none.
+    mark: u32,
 }
 
-/// Places in rings, the first of which are the lists' own. All that is known of a place stands together.
+/// Places in rings, the first of which are the lists' own, and the others the nodes'. All that is known of a place stands
+/// together.
 #[derive(Drop)]
 pub struct Places {
     lists: usize,
@@ -32,8 +33,8 @@ impl Model for Places {
     ghost view = { λ p. record {
       next = map (λ x. x.next) p.links.items;
       prev = map (λ x. x.prev) p.links.items;
-      owner = map (λ x. list_named x.list) p.links.items;
-      lens = take p.lists (map (λ x. x.len) p.links.items);
+      owner = owners p.lists (map (λ x. x.mark) p.links.items);
+      lens = take p.lists (map (λ x. x.mark) p.links.items);
     } };
 
     ghost invariant = { λ p. Fits p.lists (length p.links.items) };
@@ -82,12 +83,13 @@ impl Places {
         self.links[place].prev as usize
     }
 
-    /// The list that the place is on.
+    /// The list that the node's place is on.
     pub fn owner(&self, place: usize) -> Option<usize>
-        requires { place < length self.now.next }
+        requires node { length self.now.lens ≤ place }
+        requires place { place < length self.now.next }
         ensures { result ≡ slice_index_or self.now.owner place None }
     {
-        let mark = self.links[place].list as usize;
+        let mark = self.links[place].mark as usize;
         if mark == 0 {
             return None;
         }
@@ -99,7 +101,7 @@ impl Places {
         requires { list < length self.now.lens }
         ensures { result ≡ slice_index_or self.now.lens list 0 }
     {
-        self.links[list].len as usize
+        self.links[list].mark as usize
     }
 
     /// Makes one place lead to another, and that one lead back.
@@ -116,9 +118,10 @@ impl Places {
         self.links[behind].prev = before as u32;
     }
 
-    /// Puts the place on the list, as its owner and its length say.
+    /// Puts the node's place on the list, as its owner and its length say.
     pub fn enter(&mut self, list: usize, place: usize)
         requires list { list < length self.old.lens }
+        requires node { length self.old.lens ≤ place }
         requires place { place < length self.old.next }
         requires room { slice_index_or self.old.lens list 0 ≤ length self.old.next }
         ensures next { self.new.next ≡ self.old.next }
@@ -127,13 +130,14 @@ impl Places {
         ensures lens { self.new.lens ≡ slice_set self.old.lens list (slice_index_or self.old.lens list 0 + 1) }
     {
         let link = &mut self.links[place];
-        link.list = list as u32 + 1;
-        self.links[list].len += 1;
+        link.mark = list as u32 + 1;
+        self.links[list].mark += 1;
     }
 
-    /// Takes the place off its list, as its owner and the list's length say.
+    /// Takes the node's place off its list, as its owner and the list's length say.
     pub fn leave(&mut self, list: usize, place: usize)
         requires list { list < length self.old.lens }
+        requires node { length self.old.lens ≤ place }
         requires place { place < length self.old.next }
         requires some { 0 < slice_index_or self.old.lens list 0 }
         ensures next { self.new.next ≡ self.old.next }
@@ -141,8 +145,8 @@ impl Places {
         ensures owner { self.new.owner ≡ slice_set self.old.owner place None }
         ensures lens { self.new.lens ≡ slice_set self.old.lens list (slice_index_or self.old.lens list 0 - 1) }
     {
-        self.links[place].list = 0;
-        self.links[list].len -= 1;
+        self.links[place].mark = 0;
+        self.links[list].mark -= 1;
     }
 
     /// Makes so many places, unless there are as many. A new one leads to itself, and is on no list.
@@ -174,15 +178,13 @@ fn add_lone(links: &mut Vec<Link>, places: usize)
     requires small { places < 2 ^ 32 }
     ensures next { map (λ x. x.next) links.new.items ≡ map (λ x. x.next) links.old.items ++ range_with_len (vec_len links.old) (places - vec_len links.old) }
     ensures prev { map (λ x. x.prev) links.new.items ≡ map (λ x. x.prev) links.old.items ++ range_with_len (vec_len links.old) (places - vec_len links.old) }
-    ensures owner { map (λ x. list_named x.list) links.new.items ≡ map (λ x. list_named x.list) links.old.items ++ replicate (places - vec_len links.old) None }
-    ensures lens { map (λ x. x.len) links.new.items ≡ map (λ x. x.len) links.old.items ++ replicate (places - vec_len links.old) 0 }
+    ensures marks { map (λ x. x.mark) links.new.items ≡ map (λ x. x.mark) links.old.items ++ replicate (places - vec_len links.old) 0 }
 {
     for place in links.len()..places {
         links.push_reserved(Link {
             next: place as u32,
             prev: place as u32,
-            list: 0,
-            len: 0,
+            mark: 0,
         });
     }
 }

@@ -1,5 +1,4 @@
-use Rattle.std.proofs.Common.{rules, refl, ◌∙◌, ◌≤◌, map, None, vec_len}
-use Rattle.idx_links.specs.Columns.{list_named}
+use Rattle.std.proofs.Common.{rules, refl, ◌∙◌, ◌≤◌, map, vec_len}
 use Rattle.idx_links.specs.declared.places.Link.{Link}
 use Rattle.idx_links.proofs.Columns.{range_step, same_step}
 use Rattle.idx_links.proofs.places.add_lone.Goals as goal
@@ -17,8 +16,7 @@ loop-place-preserved c =
     record {
       next = range_step (λ (x : Link). x.next) (map (λ (x : Link). x.next) old) now new _ start at low kept.next more refl;
       prev = range_step (λ (x : Link). x.prev) (map (λ (x : Link). x.prev) old) now new _ start at low kept.prev more refl;
-      owner = same_step (λ (x : Link). list_named x.list) (map (λ (x : Link). list_named x.list) old) now new _ None start at low kept.owner more refl;
-      lens = same_step (λ (x : Link). x.len) (map (λ (x : Link). x.len) old) now new _ 0 start at low kept.lens more refl;
+      marks = same_step (λ (x : Link). x.mark) (map (λ (x : Link). x.mark) old) now new _ 0 start at low kept.marks more refl;
       len = search rules;
       room = c.push_reserved.ensures.capacity ∙ kept.room;
     }

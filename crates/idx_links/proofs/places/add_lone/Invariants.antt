@@ -1,6 +1,5 @@
-use Rattle.std.proofs.Common.{◌≡◌, ◌++◌, ◌-◌, map, replicate, None, vec_len, vec_capacity}
+use Rattle.std.proofs.Common.{◌≡◌, ◌++◌, ◌-◌, map, replicate, vec_len, vec_capacity}
 use Rattle.std.specs.List.{range_with_len}
-use Rattle.idx_links.specs.Columns.{list_named}
 use Rattle.idx_links.specs.declared.places.Link.{Link}
 use Rattle.idx_links.proofs.places.add_lone.Given as goal
 
@@ -8,8 +7,7 @@ abbrev pub invariant-loop-place : goal.invariant-loop-place
 invariant-loop-place l = record {
   next : map (λ (x : Link). x.next) l.links.items ≡ map (λ (x : Link). x.next) l.fn.links.items ++ range_with_len (vec_len l.fn.links) (l.place - vec_len l.fn.links);
   prev : map (λ (x : Link). x.prev) l.links.items ≡ map (λ (x : Link). x.prev) l.fn.links.items ++ range_with_len (vec_len l.fn.links) (l.place - vec_len l.fn.links);
-  owner : map (λ (x : Link). list_named x.list) l.links.items ≡ map (λ (x : Link). list_named x.list) l.fn.links.items ++ replicate (l.place - vec_len l.fn.links) None;
-  lens : map (λ (x : Link). x.len) l.links.items ≡ map (λ (x : Link). x.len) l.fn.links.items ++ replicate (l.place - vec_len l.fn.links) 0;
+  marks : map (λ (x : Link). x.mark) l.links.items ≡ map (λ (x : Link). x.mark) l.fn.links.items ++ replicate (l.place - vec_len l.fn.links) 0;
   len : vec_len l.links ≡ l.place;
   room : vec_capacity l.links ≡ vec_capacity l.fn.links;
 }

@@ -1,12 +1,12 @@
 use Rattle.std.proofs.Common.{rules, ◌+◌, ◌-◌, None, ap, ◌∙◌, set, get_or}
-use Rattle.idx_links.proofs.Calls.{Found, node_place, linked_is, unlink_owes}
+use Rattle.idx_links.proofs.Calls.{Found, node_place, node_past, linked_is, unlink_owes}
 use Rattle.idx_links.proofs.chains.Chains.unlink.Goals as goal
 
 pub owner-requires : goal.owner-requires
 owner-requires c =
     let at = c.self.inside.places in
     let found : Found at.next at.prev at.owner at.lens c.args.self.now c.lists.result = record { good = c.self.invariant; seen = c.self.view_is; count_is = c.lists.ensures.count } in
-    node_place found c.args.node c.requires.node
+    record { node = node_past found c.args.node; place = node_place found c.args.node c.requires.node }
 
 pub unreachable-requires : goal.unreachable-requires
 unreachable-requires c =

@@ -1,6 +1,5 @@
 use Rattle.std.proofs.Common.{refl, ap, ◌∙◌, ◌-◌, None, set, get_or}
-use Rattle.idx_links.specs.Columns.{list_named}
-use Rattle.idx_links.proofs.Columns.{first_seen, list_low, second_changed, none_seen}
+use Rattle.idx_links.proofs.Columns.{both_places, owners_changed, lens_changed, none_seen}
 use Rattle.idx_links.proofs.places.Places.leave.Goals as goal
 
 pub returns-clause-next : goal.returns-clause-next
@@ -11,11 +10,12 @@ returns-clause-prev c = none_seen (λ x. x.prev) c.self.inside.links.items c.arg
 
 pub returns-clause-owner : goal.returns-clause-owner
 returns-clause-owner c =
-    first_seen (λ x. list_named x.list) c.self.inside.links.items c.args.place c.args.list _ _ c.index_mut-2.result.now c.index_mut-2.ensures.value refl
+    let at = both_places (λ x. x.mark) c.self.inside.lists c.args.list c.args.place c.self.inside.links.items c.args.self.now.lens c.self.invariant (ap (λ v. v.lens) c.self.view_is) c.requires.list c.requires.node in
+    owners_changed (λ x. x.mark) c.self.inside.links.items c.self.inside.lists c.args.place c.args.list _ _ at.0 at.1
     ∙ ap (λ v. set v.owner c.args.place None) c.self.view_is
 
 pub returns-clause-lens : goal.returns-clause-lens
 returns-clause-lens c =
-    let low = list_low (λ x. x.len) c.self.inside.lists c.args.list c.self.inside.links.items c.args.self.now.lens c.self.invariant (ap (λ v. v.lens) c.self.view_is) c.requires.list in
-    second_changed (λ x. x.len) c.self.inside.links.items c.self.inside.lists c.args.place c.args.list _ _ c.index_mut.result.now c.index_mut-2.result.now (λ k. k - 1) c.index_mut.ensures.value refl c.index_mut-2.ensures.value refl low.0 low.1
+    let at = both_places (λ x. x.mark) c.self.inside.lists c.args.list c.args.place c.self.inside.links.items c.args.self.now.lens c.self.invariant (ap (λ v. v.lens) c.self.view_is) c.requires.list c.requires.node in
+    lens_changed (λ x. x.mark) c.self.inside.links.items c.self.inside.lists c.args.place c.args.list _ _ c.index_mut-2.result.now (λ k. k - 1) c.index_mut-2.ensures.value refl at.0 at.1 at.2
     ∙ ap (λ v. set v.lens c.args.list (get_or v.lens c.args.list 0 - 1)) c.self.view_is
