@@ -1,11 +1,12 @@
 -- Registers that `==` tells apart are those that report order tells apart.
-use Rattle.std.proofs.Common.{◌≡◌, ℕ, ◌+◌, ◌*◌, ◌/◌, ◌%◌, ◌^◌, ◌==◌, ◌&&◌, Bool, true, false, Some, None, refl, sym, ap, ◌∙◌, eq-eqb}
-use Rattle.std.proofs.Math.Pow.{split}
+use Rattle.std.proofs.Common.{◌≡◌, ℕ, ◌==◌, ◌&&◌, Bool, true, false, Some, None, refl, sym, ap, ◌∙◌, eq-eqb}
 use Rattle.std.specs.Cmp.{both_ways, tied_itself}
+use Rattle.std.specs.Cmp.Lexicographic.{pointwise, bytes_decides}
 use Rattle.std.proofs.lemmas.Map.Views.{exact_unsigned_eq}
 use Rattle.std.specs.declared.cmp.Ordering.{Ordering}
 use Rattle.std.specs.declared.cmp.Ordering.TheVariants.{Less, Equal, Greater}
 use Rattle.std.specs.Ordering.{is_eq, eq_by_cmp}
+use Rattle.byteorder.specs.Endian.{big_number}
 use Rattle.route_wire.specs.declared.update.Ip.{Ip}
 use Rattle.route_wire.specs.declared.update.Ip.TheVariants.{V4, V6}
 use Rattle.route_wire.specs.declared.update.Key.{Key}
@@ -14,6 +15,7 @@ use Rattle.route_wire.specs.declared.update.Register.{Register}
 use Rattle.route_wire.specs.contracts.update.IpPartialEq.TheImpl as ip
 use Rattle.route_wire.specs.contracts.update.KeyPartialEq.TheImpl as key
 use Rattle.route_wire.specs.contracts.update.RegisterPartialEq.TheImpl as register
+use Rattle.route_wire.specs.Octets.{octets_of, number_of_octets}
 use Rattle.route_wire.specs.Order.{register_cmp}
 use Rattle.route_wire.specs.Totals.{register_total, register_exact}
 
@@ -25,23 +27,20 @@ all : (a b : Bool) → a ≡ true → b ≡ true → a && b ≡ true
 all true b e f = f
 all false b e f = cc
 
--- an address of 128 bits is kept in two halves
-same_halves : (m n : ℕ) → m / 2 ^ 64 == n / 2 ^ 64 && m % 2 ^ 64 == n % 2 ^ 64 ≡ true → m ≡ n
-same_halves m n e =
-    let h = each (m / 2 ^ 64 == n / 2 ^ 64) (m % 2 ^ 64 == n % 2 ^ 64) e in
-    let high = exact_unsigned_eq (m / 2 ^ 64) (n / 2 ^ 64) h.0 in
-    let low = exact_unsigned_eq (m % 2 ^ 64) (n % 2 ^ 64) h.1 in
-    sym (split m 64) ∙ (λ k. high k * 2 ^ 64 + low k) ∙ split n 64
+-- an address of version 6 is kept in its octets
+same_octets : (m n : ℕ) → pointwise ◌==◌ (octets_of m) (octets_of n) ≡ true → m ≡ n
+same_octets m n e =
+    sym (number_of_octets m) ∙ ap (big_number 16) ((bytes_decides (octets_of m) (octets_of n)).0 e) ∙ number_of_octets n
 
 ip_itself : (i : Ip) → ip.eq-value.it i i ≡ true
 ip_itself (V4 n) = eq-eqb n n refl
-ip_itself (V6 n) = all (n / 2 ^ 64 == n / 2 ^ 64) (n % 2 ^ 64 == n % 2 ^ 64) (eq-eqb (n / 2 ^ 64) (n / 2 ^ 64) refl) (eq-eqb (n % 2 ^ 64) (n % 2 ^ 64) refl)
+ip_itself (V6 n) = (bytes_decides (octets_of n) (octets_of n)).1 refl
 
 ip_same : (i j : Ip) → ip.eq-value.it i j ≡ true → i ≡ j
 ip_same (V4 m) (V4 n) e = ap V4 (exact_unsigned_eq m n e)
 ip_same (V4 m) (V6 n) e = cc
 ip_same (V6 m) (V4 n) e = cc
-ip_same (V6 m) (V6 n) e = ap V6 (same_halves m n e)
+ip_same (V6 m) (V6 n) e = ap V6 (same_octets m n e)
 
 key_itself : (k : Key) → key.eq-value.it k k ≡ true
 key_itself (Flood v) = eq-eqb v v refl

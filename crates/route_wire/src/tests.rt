@@ -1,5 +1,6 @@
 use super::*;
 use ether_wire::{Addr, Mac, Vni};
+use std::mem::size_of;
 use std::test::Fail;
 
 /// What the beginning of a stream is told to be.
@@ -296,6 +297,12 @@ fn lengths_have_bounds(rt: HostRuntime) {
     assert_eq!(rt; whole(&stream), Whole::Length(518));
     assert!(rt; is_refused(&stream, 6));
     assert!(rt; is_read(&stream[518..]));
+}
+
+// A table keeps an update for each register.
+#[test]
+fn an_update_takes_88_octets(rt: HostRuntime) {
+    assert_eq!(rt; size_of::<Update>(), 88);
 }
 
 #[test]
