@@ -69,11 +69,11 @@ pub record IsGap (us : List Fields) (q : Register) (at : ℕ) : Type 0 where
   pub value : find register_cmp q (entries_of us) ≡ None
   pub write : (u : Fields) → u.register ≡ q → entries_of (insert us at u) ≡ put register_cmp q u.value (entries_of us)
 
-pub both : (a b : Bool) → a && b ≡ true → (a ≡ true) × (b ≡ true)
+both : (a b : Bool) → a && b ≡ true → (a ≡ true) × (b ≡ true)
 both true b p = (refl, p)
 both false b p = cc
 
-pub less : (o : Ordering) → is_lt o ≡ true → o ≡ Less
+less : (o : Ordering) → is_lt o ≡ true → o ≡ Less
 less Less p = refl
 less Equal p = cc
 less Greater p = cc
