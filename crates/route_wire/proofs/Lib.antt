@@ -1,3 +1,4 @@
+pub mod Newer
 pub mod Wholes
 pub mod Readings
 pub mod Prefixes

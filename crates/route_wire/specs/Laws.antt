@@ -1,9 +1,11 @@
 -- What is promised of newer and older updates, and of records that follow each other.
-use Rattle.std.specs.Prelude.{◌≡◌, ℕ, true, false, List, [], ◌++◌, Result}
+use Rattle.std.specs.Prelude.{◌≡◌, ◌≢◌, ◌⊎◌, ℕ, ◌≤◌, ◌<◌, true, false, List, [], ◌++◌, Result}
 use Rattle.std.specs.Cmp.{IsTotalOrder}
 use Rattle.std.specs.FinMap.{IsAntisymmetric}
+use Rattle.route_wire.specs.declared.update.Key.{Key}
+use Rattle.route_wire.specs.declared.update.Value.{Value}
 use Rattle.route_wire.specs.Fields.{Fields}
-use Rattle.route_wire.specs.Order.{value_cmp, is_newer}
+use Rattle.route_wire.specs.Order.{key_cmp, register_cmp, value_cmp, is_newer}
 use Rattle.route_wire.specs.Stream.{whole_up_to, IsWhole}
 use Rattle.route_wire.specs.Record.{is_length, AnswersUpTo}
 use Rattle.route_wire.specs.Feed.{Held, is_rest, shown, HasRead}
@@ -15,6 +17,34 @@ NeverEquallyNew = (u v : Fields) → u.register ≡ v.register → is_newer u.va
 -- values are totally ordered, and equal in that order only where they are the same
 abbrev pub NewestFirst : Type 0
 NewestFirst = IsTotalOrder value_cmp × IsAntisymmetric value_cmp
+
+-- a value of a later life, or of the same life with a higher counter, is newer
+abbrev pub NextNewer : Type 0
+NextNewer = (old new : Value) → old.incarnation ≤ new.incarnation → (old.incarnation ≡ new.incarnation → old.counter < new.counter) → is_newer new old ≡ true
+
+-- one of the same life with a lower counter isn't
+abbrev pub NotNewerLower : Type 0
+NotNewerLower = (low high : Value) → low.incarnation ≡ high.incarnation → low.counter < high.counter → is_newer low high ≡ false
+
+-- one of an earlier life isn't
+abbrev pub NotNewerEarlier : Type 0
+NotNewerEarlier = (early late : Value) → early.incarnation < late.incarnation → is_newer early late ≡ false
+
+-- so what is newer is of no earlier life
+abbrev pub NewerNotEarlier : Type 0
+NewerNotEarlier = (new old : Value) → is_newer new old ≡ true → old.incarnation ≤ new.incarnation
+
+-- no value is newer than itself
+abbrev pub NotNewerItself : Type 0
+NotNewerItself = (v : Value) → is_newer v v ≡ false
+
+-- two keys are the same, or they aren't
+abbrev pub KeyOrOther : Type 0
+KeyOrOther = (k j : Key) → (k ≡ j) ⊎ (k ≢ j)
+
+-- the registers of one originator stand in the order of their keys
+abbrev pub KeysInOrder : Type 0
+KeysInOrder = (originator : ℕ) (k j : Key) → register_cmp (record { originator = originator; key = k }) (record { originator = originator; key = j }) ≡ key_cmp k j
 
 -- a whole record that begins with a whole record is that record
 abbrev pub NoRecordBeginsAnother : Type 0

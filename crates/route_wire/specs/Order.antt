@@ -39,6 +39,10 @@ abbrev pub ip_of : Key → Option Ip
 ip_of (Flood vni) = None
 ip_of (Mac vni mac ip) = ip
 
+-- of keys, and so of the registers of one originator: the same without the originator
+abbrev pub key_cmp : Key → Key → Ordering
+key_cmp a b = ordering_then (nat_cmp (vni_of a) (vni_of b)) (ordering_then (nat_cmp (place_of a) (place_of b)) (ip_cmp (ip_of a) (ip_of b)))
+
 abbrev pub register_cmp : Register → Register → Ordering
 register_cmp a b =
     ordering_then (nat_cmp (vni_of a.key) (vni_of b.key)) (ordering_then (nat_cmp (place_of a.key) (place_of b.key))

@@ -1,4 +1,4 @@
--- Registers that `==` tells apart are those that report order tells apart.
+-- Keys and registers that `==` tells apart are those that report order tells apart.
 use Rattle.std.proofs.Common.{◌≡◌, ℕ, ◌==◌, ◌&&◌, Bool, true, false, Some, None, refl, sym, ap, ◌∙◌, eq-eqb}
 use Rattle.std.specs.Cmp.{both_ways, tied_itself}
 use Rattle.std.specs.Cmp.Lexicographic.{pointwise, bytes_decides}
@@ -16,8 +16,8 @@ use Rattle.route_wire.specs.contracts.update.IpPartialEq.TheImpl as ip
 use Rattle.route_wire.specs.contracts.update.KeyPartialEq.TheImpl as key
 use Rattle.route_wire.specs.contracts.update.RegisterPartialEq.TheImpl as register
 use Rattle.route_wire.specs.Octets.{octets_of, number_of_octets}
-use Rattle.route_wire.specs.Order.{register_cmp}
-use Rattle.route_wire.specs.Totals.{register_total, register_exact}
+use Rattle.route_wire.specs.Order.{key_cmp, register_cmp}
+use Rattle.route_wire.specs.Totals.{key_total, key_exact, register_total, register_exact}
 
 each : (a b : Bool) → a && b ≡ true → (a ≡ true) × (b ≡ true)
 each true b e = (refl, e)
@@ -76,10 +76,16 @@ same q r e =
     let keys = key_same q.key r.key h.1 in
     λ k. record { originator = names k; key = keys k }
 
-equal_from : (o : Ordering) → is_eq o ≡ true → o ≡ Equal
+pub equal_from : (o : Ordering) → is_eq o ≡ true → o ≡ Equal
 equal_from Less e = cc
 equal_from Equal e = refl
 equal_from Greater e = cc
+
+pub tied_keys : (j k : Key) → key.eq-value.it j k ≡ eq_by_cmp key_cmp j k
+tied_keys j k =
+    both_ways (key.eq-value.it j k) (eq_by_cmp key_cmp j k)
+    (λ e. ap (λ x. eq_by_cmp key_cmp j x) (sym (key_same j k e)) ∙ ap is_eq (tied_itself key_total j))
+    (λ e. ap (λ x. key.eq-value.it j x) (sym (key_exact j k (equal_from (key_cmp j k) e))) ∙ key_itself j)
 
 pub tied_registers : (q r : Register) → register.eq-value.it q r ≡ eq_by_cmp register_cmp q r
 tied_registers q r =

@@ -16,7 +16,7 @@ use Rattle.route_wire.specs.declared.update.Key.TheVariants.{Flood, Mac}
 use Rattle.route_wire.specs.declared.update.Content.{Content}
 use Rattle.route_wire.specs.declared.update.Content.TheVariants.{Withdrawn, Advert as Advertised}
 use Rattle.route_wire.specs.declared.update.Value.{Value}
-use Rattle.route_wire.specs.Order.{ip_version, ip_number, ip_cmp, vni_of, place_of, ip_of, register_cmp, rank_of, sequence_of, label2_of, content_cmp, value_cmp, is_newer}
+use Rattle.route_wire.specs.Order.{ip_version, ip_number, ip_cmp, vni_of, place_of, ip_of, key_cmp, register_cmp, rank_of, sequence_of, label2_of, content_cmp, value_cmp, is_newer}
 
 -- an order that asks one thing after the other says equal only where both do
 both : (o p : Ordering) → ordering_then o p ≡ Equal → (o ≡ Equal) × (p ≡ Equal)
@@ -42,7 +42,10 @@ same_ip (Some (V6 x)) (Some (V6 y)) v n = ap (λ k. Some (V6 k)) n
 pub ip_exact : IsAntisymmetric ip_cmp
 ip_exact a b h = let e = both (nat_cmp (ip_version a) (ip_version b)) (nat_cmp (ip_number a) (ip_number b)) h in same_ip a b (exact_unsigned _ _ e.0) (exact_unsigned _ _ e.1)
 
--- ---- registers
+-- ---- keys and registers
+pub key_total : IsTotalOrder key_cmp
+key_total = then_total (on_total vni_of nat_cmp_total) (then_total (on_total place_of nat_cmp_total) (on_total ip_of ip_total))
+
 pub register_total : IsTotalOrder register_cmp
 register_total =
     then_total (on_total (λ r. vni_of r.key) nat_cmp_total) (then_total (on_total (λ r. place_of r.key) nat_cmp_total)
@@ -53,6 +56,12 @@ same_key (Flood v) (Flood w) p q r = ap Flood p
 same_key (Flood v) (Mac w n j) p q r = absurd (omega arith)
 same_key (Mac v m i) (Flood w) p q r = absurd (omega arith)
 same_key (Mac v m i) (Mac w n j) p q r = let macs : m ≡ n = omega (arith, q) in λ k. Mac (p k) (macs k) (r k)
+
+pub key_exact : IsAntisymmetric key_cmp
+key_exact a b h =
+    let vnis = both (nat_cmp (vni_of a) (vni_of b)) _ h in
+    let places = both (nat_cmp (place_of a) (place_of b)) (ip_cmp (ip_of a) (ip_of b)) vnis.1 in
+    same_key a b (exact_unsigned _ _ vnis.0) (exact_unsigned _ _ places.0) (ip_exact (ip_of a) (ip_of b) places.1)
 
 pub register_exact : IsAntisymmetric register_cmp
 register_exact a b h =

@@ -1,4 +1,4 @@
-ghost use Rattle.route_wire.specs.Laws.{NeverEquallyNew, NewestFirst, NoRecordBeginsAnother, OneReading, EveryCutting, CuttingsAgree};
+ghost use Rattle.route_wire.specs.Laws.{NeverEquallyNew, NewestFirst, NextNewer, NotNewerLower, NotNewerEarlier, NewerNotEarlier, NotNewerItself, KeyOrOther, KeysInOrder, NoRecordBeginsAnother, OneReading, EveryCutting, CuttingsAgree};
 
 /// Of two different updates of a register one is newer than the other.
 pub fn never_equally_new()
@@ -8,6 +8,41 @@ pub fn never_equally_new()
 /// Values of a register are totally ordered, and equal in that order only where they are the same.
 pub fn newest_first()
     ensures { NewestFirst }
+{}
+
+/// A value of a later life, or of the same life with a higher counter, is newer.
+pub fn next_newer()
+    ensures { NextNewer }
+{}
+
+/// A value of the same life with a lower counter isn't newer.
+pub fn not_newer_lower()
+    ensures { NotNewerLower }
+{}
+
+/// A value of an earlier life isn't newer.
+pub fn not_newer_earlier()
+    ensures { NotNewerEarlier }
+{}
+
+/// A value that is newer than another is of no earlier life.
+pub fn newer_not_earlier()
+    ensures { NewerNotEarlier }
+{}
+
+/// No value is newer than itself.
+pub fn not_newer_itself()
+    ensures { NotNewerItself }
+{}
+
+/// Two keys are the same, or they aren't: a proof can ask which.
+pub fn key_or_other()
+    ensures { KeyOrOther }
+{}
+
+/// The registers of one originator stand in the order of their keys.
+pub fn keys_in_order()
+    ensures { KeysInOrder }
 {}
 
 /// No whole record is a proper beginning of another one.

@@ -14,8 +14,9 @@ mod update;
 pub use feed::Feed;
 pub use framing::whole;
 pub use laws::{
-    cuttings_agree, every_cutting, never_equally_new, newest_first, no_record_begins_another,
-    one_reading,
+    cuttings_agree, every_cutting, key_or_other, keys_in_order, never_equally_new,
+    newer_not_earlier, newest_first, next_newer, no_record_begins_another, not_newer_earlier,
+    not_newer_itself, not_newer_lower, one_reading,
 };
 pub use record::read_one;
 pub use spelling::write;

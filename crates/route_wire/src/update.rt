@@ -81,7 +81,8 @@ impl Ip {
 }
 
 /// What a route is about (RFC 7432, section 7): the flood list of a network, or an address in it,
-/// with or without the IP address that it goes with.
+/// with or without the IP address that it goes with. The order is that of a report: by network, the
+/// flood list before the addresses, then by MAC and by IP address, none first.
 #[derive(Clone, Copy, Debug, PartialEq, Eq, Hash)]
 pub enum Key {
     /// The flood list of a network: a route of type 3.
@@ -141,6 +142,43 @@ impl Key {
             None => 0,
             Some(ip) => ip.number(),
         }
+    }
+}
+
+impl Ord for Key {
+    ghost use Rattle.route_wire.specs.Order.{key_cmp};
+    ghost use Rattle.route_wire.specs.Totals.{key_total};
+    ghost use Rattle.route_wire.specs.Ties.{tied_keys};
+
+    ghost cmp = { key_cmp };
+
+    ghost total = { key_total };
+
+    ghost matches_partial_cmp = { λ x y. refl };
+
+    ghost matches_eq = { tied_keys };
+
+    fn cmp(&self, other: &Key) -> Ordering {
+        self.vni()
+            .cmp(&other.vni())
+            .then(self.place().cmp(&other.place()))
+            .then(self.ip_version().cmp(&other.ip_version()))
+            .then(self.ip_number().cmp(&other.ip_number()))
+    }
+}
+
+impl PartialOrd for Key {
+    ghost use Rattle.std.specs.Cmp.{po};
+    ghost use Rattle.route_wire.specs.Order.{key_cmp};
+    ghost use Rattle.route_wire.specs.Totals.{key_total};
+    ghost use Rattle.route_wire.specs.Ties.{tied_keys};
+
+    ghost partial_cmp = { λ x y. Some (key_cmp x y) };
+
+    ghost laws = { po key_total tied_keys };
+
+    fn partial_cmp(&self, other: &Key) -> Option<Ordering> {
+        Some(self.cmp(other))
     }
 }
 
