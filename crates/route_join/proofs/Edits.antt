@@ -1,19 +1,19 @@
 -- What a table makes of an edit of its updates.
-use Rattle.std.proofs.Common.{◌≡◌, inl, inr, ℕ, Bool, true, false, cond, List, [], length, eqb, ◌↔◌, Result, Ok, Err, refl, sym, ap, subst, ◌∙◌}
+use Rattle.std.proofs.Common.{◌≡◌, Some, inl, inr, ℕ, Bool, true, false, cond, List, [], length, eqb, ◌↔◌, Result, Ok, Err, refl, sym, ap, subst, ◌∙◌}
 use Rattle.std.specs.List.{list_any}
 use Rattle.std.specs.FinMap as map
 use Rattle.std.specs.FinMap.Entries.{put, find, is_sorted, is_sorted-put}
 use Rattle.route_wire.specs.declared.update.Register.{Register}
 use Rattle.route_wire.specs.declared.update.Value.{Value}
-use Rattle.route_wire.specs.Fields.{Fields}
+use Rattle.route_wire.specs.Fields.{Fields, IsUpdate}
 use Rattle.route_wire.specs.Order.{register_cmp}
 use Rattle.route_wire.specs.Totals.{register_total}
-use Rattle.route_join.specs.Table.{Table, value_at, is_listed, IsListed, with_value, entries_of, IsOrdered, table_from, AreOriginators, IsKept}
+use Rattle.route_join.specs.Table.{Table, value_at, is_listed, IsListed, AreWellFormed, with_value, entries_of, IsOrdered, table_from, AreOriginators, IsKept}
 use Rattle.route_join.specs.declared.table.TakeError.{TakeError}
 use Rattle.route_join.specs.declared.table.TakeError.TheVariants.{UnknownOriginator}
 use Rattle.route_join.specs.Place.{place_of}
 use Rattle.route_join.proofs.Orders.{to_T, from_T}
-use Rattle.route_join.proofs.Tables.{same_or_other, at_other}
+use Rattle.route_join.proofs.Tables.{same_or_other, at_same, at_other}
 use Rattle.route_join.proofs.Places.{IsPlace, IsGap, placed, gapped}
 
 -- what a table finds among its updates
@@ -41,11 +41,23 @@ listed_put t r v h all q w at = elim (same_or_other q r) as (λ _. is_listed t q
   | inr ne ↦ all q w (sym (at_other t r v q ne) ∙ at)
 ]
 
-pub kept_put : (os : List ℕ) (us new : List Fields) (u : Fields) → IsKept os us → entries_of new ≡ put register_cmp u.register u.value (entries_of us) → is_listed (table_from os us) u.register.originator ≡ true → IsKept os new
-kept_put os us new u k e h = record {
+-- and a well formed update keeps all so
+formed_put : (t : Table) (u : Fields) → IsUpdate u → AreWellFormed t → AreWellFormed (with_value t u.register u.value)
+formed_put t u h all q w at = elim (same_or_other q u.register) as (λ _. IsUpdate (record { register = q; value = w })) [
+  | inl same ↦
+      let here : value_at (with_value t u.register u.value) u.register ≡ Some w = subst (λ (x : Register). value_at (with_value t u.register u.value) x ≡ Some w) same at in
+      let there = at_same t u.register u.value in
+      let equal : u.value ≡ w = cc in
+      subst IsUpdate (λ i. record { register = sym same i; value = equal i }) h
+  | inr ne ↦ all q w (sym (at_other t u.register u.value q ne) ∙ at)
+]
+
+pub kept_put : (os : List ℕ) (us new : List Fields) (u : Fields) → IsUpdate u → IsKept os us → entries_of new ≡ put register_cmp u.register u.value (entries_of us) → is_listed (table_from os us) u.register.originator ≡ true → IsKept os new
+kept_put os us new u f k e h = record {
   listeners = k.listeners;
   ordered = ordered_put os us new u k.ordered e;
   listed = subst IsListed (sym (table_put os us new u k.ordered e)) (listed_put (table_from os us) u.register u.value h k.listed);
+  formed = subst AreWellFormed (sym (table_put os us new u k.ordered e)) (formed_put (table_from os us) u f k.formed);
 }
 
 -- ---- what a call of `place` tells
@@ -70,4 +82,4 @@ pub new_table : (os : List ℕ) → table_from os [] ≡ record { originators = 
 new_table os = ap (λ m. record { originators = os; registers = m }) (map.empty_of_len _ (map.len-entries _ ∙ ap length (listed_as os [] refl)))
 
 pub kept_none : (os : List ℕ) → AreOriginators os → IsKept os []
-kept_none os h = record { listeners = h; ordered = refl; listed = λ r v at. let none = found os [] r refl in cc }
+kept_none os h = record { listeners = h; ordered = refl; listed = λ r v at. let none = found os [] r refl in cc; formed = λ r v at. absurd (let none = found os [] r refl in cc) }

@@ -21,17 +21,18 @@ use Rattle.route_wire.specs.declared.update.Key.TheVariants.{Flood, Mac}
 use Rattle.route_wire.specs.declared.update.Register.{Register}
 use Rattle.route_wire.specs.declared.update.Advert.{Advert}
 use Rattle.route_wire.specs.declared.update.Value.{Value}
-use Rattle.route_wire.specs.Fields.{Fields}
+use Rattle.route_wire.specs.Fields.{Fields, IsUpdate}
 use Rattle.route_wire.specs.Order.{register_cmp}
 use Rattle.route_join.specs.declared.subject.Subject.{Subject}
 use Rattle.route_join.specs.Subject.{subject_cmp, subject_of}
 use Rattle.route_join.specs.Table.{Table, entries_of, table_from, value_at, update_at, register_of, with_update, with_value, is_news, is_listed, IsOrdered, IsKept}
+use Rattle.route_join.specs.Laws.{SameOwner}
 use Rattle.route_join.specs.Owner.{advert_in, advert_of, advert_at, owner, owner_among, IsOwner, IsUnowned, IsBetter}
 use Rattle.route_join.specs.Flood.{is_flood, floods, flooding}
 use Rattle.route_join.specs.Group.{AreAbout, AreGroups, IsBefore, IsGrouped, IsLeader, IsSilent, told, updates_in, update_among, entries_with}
 use Rattle.route_join.proofs.Tables.{same_register}
 use Rattle.route_join.proofs.Edits.{found, listed_as, kept_put, table_put}
-use Rattle.route_join.proofs.Owners.{owner_is, one_owner}
+use Rattle.route_join.proofs.Owners.{owner_is, one_owner, owner_along}
 use Rattle.route_join.proofs.Subjects.{subject_total, address, address_key}
 use Rattle.route_join.proofs.Groupings.{Groups, Entries, entries_in, entries_in_all, group_at, about_there, find_there, find_nowhere, before_rest, same_rest, not_before, first_is, later_is, not_first}
 
@@ -77,6 +78,14 @@ owner_only t vni mac o h = go o (owner t vni mac) h (owner_is t vni mac)
     go None (Some p) h k = absurd (not_both t vni mac p h k)
     go (Some o) None h k = absurd (not_both t vni mac o k h)
     go (Some o) (Some p) h k = ap Some (one_owner t vni mac o p h k)
+
+-- tables in which the same is advertised of an address have the same owner
+pub same_owner : SameOwner
+same_owner s t vni mac same = owner_only t vni mac (owner s vni mac) (go (owner s vni mac) (owner_is s vni mac))
+  where
+    go : (o : Option ℕ) → Owned s vni mac o → Owned t vni mac o
+    go None h = λ o ip. sym (same o ip) ∙ h o ip
+    go (Some o) h = owner_along s t vni mac o same h
 
 -- what advertises best among the updates about an address owns it
 module _ (t : Table) (vni mac : ℕ) (us : List Fields) (about : AreAbout (address vni mac) (entries_of us)) (there : (o : ℕ) (ip : Option Ip) → advert_at t o (Mac vni mac ip) ≡ told us (register_of o (Mac vni mac ip))) where
@@ -168,16 +177,17 @@ module _ (os : List ℕ) (us new : List Fields) (u : Fields) (k : IsKept os us) 
     listeners = k.listeners;
     ordered = ap (is_sorted register_cmp) p ∙ k.ordered;
     listed = λ r v at. k.listed r v (ap (λ es. value_at (record { originators = os; registers = from_sorted es }) r) (sym p) ∙ at);
+    formed = λ r v at. k.formed r v (ap (λ es. value_at (record { originators = os; registers = from_sorted es }) r) (sym p) ∙ at);
   }
 
   news_is : is_news (value_at (table_from os us) u.register) u.value ≡ is_news (find register_cmp u.register (entries_of us)) u.value
   news_is = ap (λ o. is_news o u.value) (found os us u.register k.ordered)
 
-  pub kept_with : is_listed (table_from os us) u.register.originator ≡ true → IsKept os new
-  kept_with listed = go (is_news (find register_cmp u.register (entries_of us)) u.value) e
+  pub kept_with : IsUpdate u → is_listed (table_from os us) u.register.originator ≡ true → IsKept os new
+  kept_with formed listed = go (is_news (find register_cmp u.register (entries_of us)) u.value) e
     where
       go : (b : Bool) → entries_of new ≡ cond b (put register_cmp u.register u.value (entries_of us)) (entries_of us) → IsKept os new
-      go true p = kept_put os us new u k p listed
+      go true p = kept_put os us new u formed k p listed
       go false p = same_kept p
 
   pub table_with : table_from os new ≡ with_update (table_from os us) u

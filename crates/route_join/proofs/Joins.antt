@@ -14,7 +14,7 @@ use Rattle.route_wire.specs.Order.{register_cmp, value_cmp, is_newer}
 use Rattle.route_wire.specs.Totals.{register_total, register_exact, value_total, neither_newer}
 use Rattle.route_join.specs.Table.{Table, value_at, is_news, with_value, with_update, with_updates, table_from, IsTableOf}
 use Rattle.route_join.specs.Joins.{newer_of, IsJoin, with_entries, join}
-use Rattle.route_join.specs.Laws.{NoneTaken, OneTaken, AllTaken, OneJoined, JoinIs, JoinCommutes, JoinAssociates, JoinRepeats, JoinOfTables}
+use Rattle.route_join.specs.Laws.{NoneTaken, OneTaken, AllTaken, OneJoined, JoinIs, JoinCommutes, JoinAssociates, JoinRepeats, JoinOfTables, NewerStands, OthersStay}
 use Rattle.route_join.proofs.Orders.{less, both, from_T}
 use Rattle.route_join.proofs.Tables.{same_register, itself_register, same_or_other, other_register, below_none, at_same, at_other, not_newer_itself, one_table}
 use Rattle.route_join.proofs.Edits.{found}
@@ -120,6 +120,13 @@ update_other t r v q ne = go (is_news (value_at t r) v)
     go : (b : Bool) → value_at (cond b (with_value t r v) t) q ≡ value_at t q
     go true = at_other t r v q ne
     go false = refl
+
+-- the same of an update that isn't spelt out
+pub newer_stands : NewerStands
+newer_stands t u = update_same t u.register u.value
+
+pub others_stay : OthersStay
+others_stay t u r ne = update_other t u.register u.value r ne
 
 -- ---- a join has each register's newer value
 pub entries_at : (es : List (Register × Value)) → is_sorted register_cmp es ≡ true → (t : Table) (q : Register) → value_at (with_entries t es) q ≡ newer_of (value_at t q) (find register_cmp q es)

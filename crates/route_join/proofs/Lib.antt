@@ -14,3 +14,4 @@ pub mod Holding
 pub mod Joins
 pub mod Lines
 pub mod Merging
+pub mod Abouts

@@ -22,6 +22,7 @@ use Rattle.route_join.specs.Group.{IsGrouped, IsCounted, updates_in}
 use Rattle.route_join.specs.Stops.{StopsAt}
 use Rattle.route_join.specs.Laws.{MergeCompletes}
 use Rattle.route_join.specs.Table.{Table, IsOrdered, is_listed, is_news, value_at, with_value, with_update, with_updates, entries_of, table_from}
+use Rattle.route_join.specs.Updates.{update_from, all_updates}
 use Rattle.route_join.specs.Joins.{newer_of, with_entries, join, IsPartJoin}
 use Rattle.route_join.proofs.Orders.{both, from_T}
 use Rattle.route_join.proofs.Tables.{itself_register, other_register}
@@ -130,16 +131,13 @@ pub join_all : (t s : Table) (os : List ℕ) (gs : Groups) (done : List Fields) 
 join_all t s os gs done now g view whole merged =
     merged ∙ ap (with_updates t) whole ∙ sym (entries_updates t (updates_in gs)) ∙ ap (with_entries t) (sym (listed_as os (updates_in gs) g.kept.ordered) ∙ ap (λ (x : Table). entries x.registers) view)
 
--- a table's updates in the order of a report
-abbrev pub all_updates : Table → List Fields
-all_updates t = map (λ (e : Register × Value). record { register = e.0; value = e.1 }) (entries t.registers)
-
-back : (us : List Fields) → map (λ (e : Register × Value). record { register = e.0; value = e.1 }) (entries_of us) ≡ us
-back [] = refl
-back (u ∷ us) = ap (λ x. u ∷ x) (back us)
+-- entries as updates
+pub updates_back : (us : List Fields) → map update_from (entries_of us) ≡ us
+updates_back [] = refl
+updates_back (u ∷ us) = ap (λ x. u ∷ x) (updates_back us)
 
 pub all_is : (s : Table) (os : List ℕ) (gs : Groups) → IsGrouped os gs → table_from os (updates_in gs) ≡ s → all_updates s ≡ updates_in gs
-all_is s os gs g view = ap all_updates (sym view) ∙ ap (map (λ (e : Register × Value). record { register = e.0; value = e.1 })) (listed_as os (updates_in gs) g.kept.ordered) ∙ back (updates_in gs)
+all_is s os gs g view = ap all_updates (sym view) ∙ ap (map update_from) (listed_as os (updates_in gs) g.kept.ordered) ∙ updates_back (updates_in gs)
 
 -- the updates done and those of the next group are no more than the table counts
 pub all_counted : (s : Table) (os : List ℕ) (gs : Groups) (done us : List Fields) (rest : Groups) (held : ℕ) → IsCounted os gs held → table_from os (updates_in gs) ≡ s → done ++ (us ++ updates_in rest) ≡ all_updates s → length done + length us ≤ held
@@ -191,7 +189,7 @@ kept_originators (Ok taken) old new u ok err = ap (λ (t : Table). t.originators
 kept_originators (Err refusal) old new u ok err = ap (λ (t : Table). t.originators) err
 
 -- and so does a merge
-entries_listeners : (es : List (Register × Value)) (t : Table) → (with_entries t es).originators ≡ t.originators
+pub entries_listeners : (es : List (Register × Value)) (t : Table) → (with_entries t es).originators ≡ t.originators
 entries_listeners [] t = refl
 entries_listeners (e ∷ es) t = entries_listeners es (with_update t (record { register = e.0; value = e.1 })) ∙ same_listeners t (record { register = e.0; value = e.1 })
 

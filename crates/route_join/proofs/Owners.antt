@@ -18,7 +18,7 @@ use Rattle.route_wire.specs.Order.{register_cmp}
 use Rattle.route_wire.specs.Totals.{register_total, register_exact}
 use Rattle.route_join.specs.Table.{Table, register_of, value_at}
 use Rattle.route_join.specs.Owner.{advert_in, advert_of, IsBetterBy, IsBetter, IsOwner, IsUnowned, is_better_by, is_better, is_about, said_of, better_of, best_among, owner}
-use Rattle.route_join.specs.Laws.{OneOwner}
+use Rattle.route_join.specs.Laws.{OneOwner, OwnerAlong}
 use Rattle.route_join.proofs.Orders.{less, both, from_T}
 use Rattle.route_join.proofs.Tables.{itself_register, same_or_other, other_register}
 
@@ -242,3 +242,7 @@ owner_is t vni mac = go (best_among vni mac (entries t.registers) None) (walk vn
           own = ap (λ q. advert_of (value_at t q)) (sym named) ∙ sym (in_table t best.0) ∙ h.own;
           best = λ p j b ne at. subst (λ q. IsBetter best.1 q b (register_of p (Mac vni mac j))) named (h.best (register_of p (Mac vni mac j)) b (j, refl) (λ q. ne (q ∙ named)) (in_table t (register_of p (Mac vni mac j)) ∙ at));
         }
+
+-- equal adverts keep the owner
+pub owner_along : OwnerAlong
+owner_along s t vni mac o same h = record { ip = h.ip; advert = h.advert; own = sym (same o h.ip) ∙ h.own; best = λ p j b ne is. h.best p j b ne (same p j ∙ is) }

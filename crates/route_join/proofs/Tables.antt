@@ -4,12 +4,14 @@ use Rattle.std.specs.declared.cmp.Ordering.{Ordering}
 use Rattle.std.specs.declared.cmp.Ordering.TheVariants.{Less, Equal, Greater}
 use Rattle.std.specs.Cmp.{tied_itself}
 use Rattle.std.specs.Ordering.{is_lt, is_eq, eq_by_cmp}
+use Rattle.std.specs.Option.{option_map}
 use Rattle.std.specs.FinMap.{get, get-insert, same_map}
 use Rattle.route_wire.specs.declared.update.Register.{Register}
 use Rattle.route_wire.specs.declared.update.Value.{Value}
+use Rattle.route_wire.specs.Fields.{Fields}
 use Rattle.route_wire.specs.Order.{register_cmp, is_newer}
 use Rattle.route_wire.specs.Totals.{register_total, register_exact, value_total, neither_newer}
-use Rattle.route_join.specs.Table.{Table, value_at, with_value}
+use Rattle.route_join.specs.Table.{Table, value_at, update_at, with_value}
 use Rattle.std.specs.FinMap.Entries.{find, below_all}
 use Rattle.route_join.proofs.Orders.{less, both}
 use Rattle.route_join.specs.Laws.{OneTable}
@@ -46,6 +48,16 @@ at_same t r v = get-insert register_total t.registers r v r ∙ ap (λ b. cond b
 
 pub at_other : (t : Table) (r : Register) (v : Value) (q : Register) → q ≢ r → value_at (with_value t r v) q ≡ value_at t q
 at_other t r v q ne = get-insert register_total t.registers r v q ∙ ap (λ b. cond b (Some v) (get t.registers q)) (other_register q r ne)
+
+-- what a look-up of a register told
+pub update_told : (t : Table) (r : Register) (u : Fields) → update_at t r ≡ Some u → (u.register ≡ r) × (value_at t r ≡ Some u.value)
+update_told t r u e = go (value_at t r) refl e
+  where
+    go : (o : Option Value) → value_at t r ≡ o → option_map (λ (v : Value). let w : Fields = record { register = r; value = v } in w) o ≡ Some u → (u.register ≡ r) × (value_at t r ≡ Some u.value)
+    go None at h = cc
+    go (Some v) at h =
+        let same : record { register = r; value = v } ≡ u = cc in
+        (ap (λ (w : Fields). w.register) (sym same), at ∙ ap (λ (w : Fields). Some w.value) same)
 
 -- a register below all others is not among them
 pub below_none : (q : Register) (es : List (Register × Value)) → below_all register_cmp q es ≡ true → find register_cmp q es ≡ None

@@ -1,9 +1,14 @@
 -- Laws on tables.
-use Rattle.std.specs.Prelude.{◌≡◌, ℕ, List, [], ◌∷◌, ◌++◌, Contains}
+use Rattle.std.specs.Prelude.{◌≡◌, ◌≢◌, ℕ, Option, Some, MatchOption, List, [], ◌∷◌, ◌++◌, Contains}
+use Rattle.route_wire.specs.declared.update.Ip.{Ip}
+use Rattle.route_wire.specs.declared.update.Key.TheVariants.{Mac}
+use Rattle.route_wire.specs.declared.update.Register.{Register}
 use Rattle.route_wire.specs.Fields.{Fields}
-use Rattle.route_join.specs.Table.{Table, with_update, with_updates, table_from, IsTableOf}
-use Rattle.route_join.specs.Owner.{IsOwner}
-use Rattle.route_join.specs.Joins.{IsJoin, IsPartJoin, join}
+use Rattle.route_join.specs.Table.{Table, value_at, with_update, with_updates, table_from, IsTableOf}
+use Rattle.route_join.specs.Owner.{advert_at, owner, IsOwner, IsUnowned}
+use Rattle.route_join.specs.Flood.{flood_of, IsFloodList}
+use Rattle.route_join.specs.Updates.{all_updates, updates_of, AreAllUpdates, AreUpdatesOf}
+use Rattle.route_join.specs.Joins.{newer_of, IsJoin, IsPartJoin, join}
 use Rattle.route_join.specs.Report.{report_of}
 
 -- two lists have the same updates, in whatever order and however often
@@ -58,3 +63,38 @@ MergeCompletes = (s t j : Table) (k : ℕ) → IsPartJoin s t k j → (join j t)
 -- an address has at most one owner
 abbrev pub OneOwner : Type 0
 OneOwner = (t : Table) (vni mac o p : ℕ) → IsOwner t vni mac o → IsOwner t vni mac p → o ≡ p
+
+-- the walk over the registers answers who owns the address, none where nobody advertises it
+abbrev pub OwnerIs : Type 0
+OwnerIs = (t : Table) (vni mac : ℕ) → MatchOption (owner t vni mac) (IsUnowned t vni mac) (IsOwner t vni mac)
+
+-- the same is advertised of the address in both tables
+abbrev pub HaveSameAdverts : Table → Table → ℕ → ℕ → Type 0
+HaveSameAdverts s t vni mac = (o : ℕ) (ip : Option Ip) → advert_at s o (Mac vni mac ip) ≡ advert_at t o (Mac vni mac ip)
+
+-- who owns an address depends on what is advertised of it alone
+abbrev pub OwnerAlong : Type 0
+OwnerAlong = (s t : Table) (vni mac o : ℕ) → HaveSameAdverts s t vni mac → IsOwner s vni mac o → IsOwner t vni mac o
+
+abbrev pub SameOwner : Type 0
+SameOwner = (s t : Table) (vni mac : ℕ) → HaveSameAdverts s t vni mac → owner s vni mac ≡ owner t vni mac
+
+-- the walk over the registers answers the network's flood list
+abbrev pub FloodIs : Type 0
+FloodIs = (t : Table) (vni : ℕ) → IsFloodList t vni (flood_of t vni)
+
+-- a table's updates are those of its registers, in the order of a report
+abbrev pub AllUpdatesAre : Type 0
+AllUpdatesAre = (t : Table) → AreAllUpdates t (all_updates t)
+
+-- and an address's those of its registers
+abbrev pub UpdatesOfAre : Type 0
+UpdatesOfAre = (t : Table) (vni mac : ℕ) → AreUpdatesOf t vni mac (updates_of t vni mac)
+
+-- an update leaves each other register as it was
+abbrev pub OthersStay : Type 0
+OthersStay = (t : Table) (u : Fields) (r : Register) → r ≢ u.register → value_at (with_update t u) r ≡ value_at t r
+
+-- and its own register has the newer value
+abbrev pub NewerStands : Type 0
+NewerStands = (t : Table) (u : Fields) → value_at (with_update t u) u.register ≡ newer_of (value_at t u.register) (Some u.value)

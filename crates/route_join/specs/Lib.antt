@@ -10,3 +10,4 @@ pub mod Subject
 pub mod Group
 pub mod Lines
 pub mod Stops
+pub mod Updates

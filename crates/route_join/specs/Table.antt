@@ -6,7 +6,7 @@ use Rattle.std.specs.FinMap.{FinMap, get, insert, from_sorted, is_sorted}
 use Rattle.route_wire.specs.declared.update.Register.{Register}
 use Rattle.route_wire.specs.declared.update.Key.{Key}
 use Rattle.route_wire.specs.declared.update.Value.{Value}
-use Rattle.route_wire.specs.Fields.{Fields}
+use Rattle.route_wire.specs.Fields.{Fields, IsUpdate}
 use Rattle.route_wire.specs.Order.{register_cmp, is_newer}
 
 -- the values of registers, in the order of a report
@@ -42,6 +42,10 @@ pub record AreOriginators (originators : List ℕ) : Type 0 where
 -- each register is of a listed originator
 abbrev pub IsListed : Table → Type 0
 IsListed t = (r : Register) (v : Value) → value_at t r ≡ Some v → is_listed t r.originator ≡ true
+
+-- each register and its value make a well formed update
+abbrev pub AreWellFormed : Table → Type 0
+AreWellFormed t = (r : Register) (v : Value) → value_at t r ≡ Some v → IsUpdate (record { register = r; value = v })
 
 -- ---- one update more
 
@@ -88,3 +92,4 @@ pub record IsKept (originators : List ℕ) (updates : List Fields) : Type 0 wher
   pub listeners : AreOriginators originators
   pub ordered : IsOrdered updates
   pub listed : IsListed (table_from originators updates)
+  pub formed : AreWellFormed (table_from originators updates)

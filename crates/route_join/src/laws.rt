@@ -1,4 +1,5 @@
-ghost use Rattle.route_join.specs.Laws.{OneTable, EqualReports, NoneTaken, OneTaken, AllTaken, OneJoined, JoinIs, JoinCommutes, JoinAssociates, JoinRepeats, JoinOfTables, MergeCompletes, OneOwner};
+//! Laws on tables, as functions that do nothing: the contract is the law.
+ghost use Rattle.route_join.specs.Laws.{OneTable, EqualReports, NoneTaken, OneTaken, AllTaken, OneJoined, JoinIs, JoinCommutes, JoinAssociates, JoinRepeats, JoinOfTables, MergeCompletes, OneOwner, OwnerIs, OwnerAlong, SameOwner, FloodIs, AllUpdatesAre, UpdatesOfAre, OthersStay, NewerStands};
 
 /// A set of updates has one table: tables of lists with the same updates have equal registers, in
 /// whatever order the updates came and however often.
@@ -65,4 +66,44 @@ pub fn merge_completes()
 /// An address has at most one owner.
 pub fn one_owner()
     ensures { OneOwner }
+{}
+
+/// The walk over a table's registers answers who owns an address, none where nobody advertises it.
+pub fn owner_is()
+    ensures { OwnerIs }
+{}
+
+/// Who owns an address depends on what is advertised of it alone.
+pub fn owner_along()
+    ensures { OwnerAlong }
+{}
+
+/// The same of the walk: tables in which the same is advertised of an address answer the same owner.
+pub fn same_owner()
+    ensures { SameOwner }
+{}
+
+/// The walk over a table's registers answers a network's flood list.
+pub fn flood_is()
+    ensures { FloodIs }
+{}
+
+/// A table's updates are those of its registers that have a value, in the order of a report.
+pub fn all_updates_are()
+    ensures { AllUpdatesAre }
+{}
+
+/// An address's updates are those of its registers that have a value, in the order of a report.
+pub fn updates_of_are()
+    ensures { UpdatesOfAre }
+{}
+
+/// An update that is taken leaves each other register as it was.
+pub fn others_stay()
+    ensures { OthersStay }
+{}
+
+/// The register of an update that is taken has the newer of the update and its value before.
+pub fn newer_stands()
+    ensures { NewerStands }
 {}

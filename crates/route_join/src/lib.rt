@@ -12,9 +12,12 @@ mod subject;
 mod table;
 #[cfg(test)]
 mod tests;
+mod updates;
 
 pub use laws::{
-    all_taken, equal_reports, join_associates, join_commutes, join_is, join_of_tables,
-    join_repeats, merge_completes, none_taken, one_joined, one_owner, one_table, one_taken,
+    all_taken, all_updates_are, equal_reports, flood_is, join_associates, join_commutes, join_is,
+    join_of_tables, join_repeats, merge_completes, newer_stands, none_taken, one_joined, one_owner,
+    one_table, one_taken, others_stay, owner_along, owner_is, same_owner, updates_of_are,
 };
 pub use table::{Table, TakeError, Taken, Unmerged};
+pub use updates::{Updates, UpdatesOf};

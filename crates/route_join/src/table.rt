@@ -1,21 +1,24 @@
-ghost use Rattle.std.specs.Prelude.{◌≡◌, ◌+◌, ◌<◌, ◌^◌, ◌↔◌, false, Some, None, Err, IfOk, OnOk, OnErr, IfErr, MatchOption, ℕ, true};
+ghost use Rattle.std.specs.Prelude.{◌≡◌, ◌+◌, ◌<◌, ◌^◌, ◌↔◌, false, Some, None, Ok, Err, IfOk, OnOk, OnErr, IfErr, MatchOption, ℕ, true};
 ghost use Rattle.std.specs.List.{slice_get};
 ghost use Rattle.std.specs.FinMap.{empty};
 ghost use Rattle.std.specs.Io.KnownBytes.{append_known};
 ghost use Rattle.ether_wire.specs.Ends.{failures_after};
 ghost use Rattle.route_join.specs.Report.{report_of};
-ghost use Rattle.route_join.specs.Table.{AreOriginators, IsListed, register_of, value_at, update_at, is_listed, with_update, with_updates};
+ghost use Rattle.route_join.specs.Table.{AreOriginators, AreWellFormed, IsListed, register_of, value_at, update_at, is_listed, with_update, with_updates};
 ghost use Rattle.route_join.specs.Owner.{owner, IsOwner, IsUnowned};
-ghost use Rattle.route_join.specs.Joins.{join, IsPartJoin};
+ghost use Rattle.route_join.specs.Joins.{join, IsJoin, IsPartJoin};
 ghost use Rattle.route_join.specs.Flood.{flood_of, IsFloodList};
 ghost use Rattle.route_join.specs.Taken.{taken_of, number_of};
 ghost use Rattle.route_join.specs.Stops.{StopsAt};
+ghost use Rattle.route_join.specs.Updates.{all_updates, updates_of, AreAllUpdates, AreUpdatesOf};
+ghost use Rattle.route_wire.specs.declared.update.Value.{Value};
 ghost use Rattle.route_wire.specs.Fields.{Fields};
 
 use crate::flood::flood_of;
 use crate::group::Group;
 use crate::groups::{put_groups, take_in};
 use crate::subject::{Subject, subject_of};
+use crate::updates::{Updates, UpdatesOf};
 use arrayvec::ArrayVec;
 use ether_wire::{Addr, Device, Mac, Out, Vni};
 use route_wire::{Key, Register, Update};
@@ -118,6 +121,13 @@ impl Table {
         self.originators.as_slice()
     }
 
+    /// A law, which does nothing: each register of a table and its value make a well formed update.
+    pub fn always_well_formed(&self)
+        ensures { AreWellFormed self.now }
+    {
+        let _ = &self.held;
+    }
+
     /// The newest update of a register, if one was taken.
     pub fn register(&self, originator: Addr, key: Key) -> Option<Update>
         ensures { result ≡ update_at self.now (register_of originator key) }
@@ -139,11 +149,14 @@ impl Table {
         ensures table { OnOk result (self.new ≡ with_update self.old update.now) }
         ensures unknown { (result ≡ Err TakeError.UnknownOriginator) ↔ (is_listed self.old update.now.register.originator ≡ false) }
         ensures no_memory { result ≡ Err TakeError.NoMemory → value_at self.old update.now.register ≡ None }
+        ensures there { (v : Value) → value_at self.old update.now.register ≡ Some v → is_listed self.old update.now.register.originator ≡ true → (result ≡ Ok (taken_of self.old update.now)) × (self.new ≡ with_update self.old update.now) }
         ensures err { OnErr result (self.new ≡ self.old) }
+        ensures listeners { self.new.originators ≡ self.old.originators }
     {
         if !self.originators.contains(&update.register().originator) {
             return Err(TakeError::UnknownOriginator);
         }
+        update.always_well_formed();
         let Ok(taken) = take_in(&mut self.groups, self.alloc, &mut self.held, update) else {
             return Err(TakeError::NoMemory);
         };
@@ -175,7 +188,9 @@ impl Table {
     pub fn merge(&mut self, other: &Table) -> Result<(), Unmerged>
         requires { (o : ℕ) → is_listed other.now o ≡ true → is_listed self.old o ≡ true }
         ensures merged { OnOk result (self.new ≡ join self.old other.now) }
+        ensures joined { OnOk result (IsJoin self.old other.now self.new) }
         ensures part { IfErr result (λ stopped. IsPartJoin self.old other.now stopped.joined self.new) }
+        ensures listeners { self.new.originators ≡ self.old.originators }
     {
         let mut joined = 0;
         for (_, group) in &other.groups {
@@ -203,6 +218,30 @@ impl Table {
             None => None,
             Some(group) => group.owner(),
         }
+    }
+
+    /// The updates of a MAC address in a network, of every originator and by whatever IP address or
+    /// none, in the order of a report. It takes no memory.
+    pub fn updates_of(&self, vni: Vni, mac: Mac) -> UpdatesOf<'_>
+        ensures value { result ≡ updates_of self.now vni mac }
+        ensures exact { AreUpdatesOf self.now vni mac result }
+    {
+        let subject = Subject {
+            vni,
+            mac: Some(mac),
+        };
+        match self.groups.get(&subject) {
+            None => UpdatesOf::none(),
+            Some(group) => UpdatesOf::of(group),
+        }
+    }
+
+    /// The updates of all registers, in the order of a report. It takes no memory.
+    pub fn updates(&self) -> Updates<'_>
+        ensures value { result ≡ all_updates self.now }
+        ensures exact { AreAllUpdates self.now result }
+    {
+        Updates::of(&self.groups)
     }
 
     /// The originators that advertise a network's flood list (RFC 7432, section 7.3), ascending.

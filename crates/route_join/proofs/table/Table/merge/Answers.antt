@@ -1,12 +1,14 @@
-use Rattle.std.proofs.Common.{◌≡◌, ◌+◌, ◌++◌, [], List, length, refl, sym, ap, subst, ◌∙◌, arith, append_assoc, append-nil, length-append}
+use Rattle.std.proofs.Common.{◌≡◌, ◌+◌, ◌++◌, [], List, length, take, refl, sym, ap, subst, ◌∙◌, arith, append_assoc, append-nil, length-append}
 use Rattle.std.specs.List.{slice_get}
 use Rattle.std.proofs.lemmas.Option.{slice_get_within}
 use Rattle.route_wire.specs.Fields.{Fields}
-use Rattle.route_join.specs.Table.{with_updates}
-use Rattle.route_join.specs.Joins.{IsPartJoin}
+use Rattle.std.specs.FinMap.{entries}
+use Rattle.route_join.specs.Table.{Table, with_updates}
+use Rattle.route_join.specs.Joins.{IsJoin, IsPartJoin}
 use Rattle.route_join.specs.Stops.{StopsAt}
 use Rattle.route_join.specs.Group.{updates_in}
-use Rattle.route_join.proofs.Merging.{all_is, listed_in, listed_still, all_counted, joins_first, join_all, updates_append}
+use Rattle.route_join.proofs.Joins.{join_is}
+use Rattle.route_join.proofs.Merging.{all_is, entries_listeners, same_listeners_all, listed_in, listed_still, all_counted, joins_first, join_all, updates_append}
 use Rattle.route_join.proofs.table.Table.merge.Goals as goal
 
 pub loop-group-init : goal.loop-group-init
@@ -73,3 +75,13 @@ overflow_add-joined c =
     let all = all_counted c.args.other.now c.other.inside.originators.items c.other.inside.groups.entries inv.done c.in-Some.group.now c.next.new.self c.other.inside.held c.other.invariant c.other.view_is
     (ap (λ x. inv.done ++ updates_in x) (sym c.in-Some.ensures.steps) ∙ inv.whole) in
     omega (arith, inv.counted, same, all, c.other.invariant.few)
+
+pub returns-clause-joined : goal.returns-clause-joined
+returns-clause-joined c = subst (IsJoin c.args.self.now c.args.other.now) (sym (returns-clause-merged c)) (join_is c.args.self.now c.args.other.now)
+
+pub returns-clause-listeners : goal.returns-clause-listeners
+returns-clause-listeners c = let inv = c.loop-group.invariant in ap (λ (t : Table). t.originators) inv.merged ∙ same_listeners_all c.args.self.now inv.done
+
+pub returns-in-Err-clause-listeners : goal.returns-in-Err-clause-listeners
+returns-in-Err-clause-listeners c =
+    ap (λ (t : Table). t.originators) (returns-in-Err-clause-part c).joined ∙ entries_listeners (take (c.loop-group.joined + c.in-Err.k) (entries c.args.other.now.registers)) c.args.self.now

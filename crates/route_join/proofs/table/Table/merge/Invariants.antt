@@ -2,7 +2,7 @@ use Rattle.std.proofs.Common.{◌≡◌, ◌++◌, List, length}
 use Rattle.route_wire.specs.Fields.{Fields}
 use Rattle.route_join.specs.Table.{with_updates}
 use Rattle.route_join.specs.Group.{updates_in}
-use Rattle.route_join.proofs.Merging.{all_updates}
+use Rattle.route_join.specs.Updates.{all_updates}
 use Rattle.route_join.proofs.table.Table.merge.Given as goal
 
 -- the updates that are done and those that are left are all

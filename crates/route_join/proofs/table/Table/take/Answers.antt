@@ -1,7 +1,7 @@
 use Rattle.route_join.specs.declared.table.Taken.{Taken}
 use Rattle.route_join.specs.declared.table.TakeError.{TakeError}
 use Rattle.route_join.specs.declared.table.TakeError.TheVariants.{UnknownOriginator}
-use Rattle.std.proofs.Common.{Result, Ok, Err, ◌≡◌, ◌↔◌, false, ap, sym, subst, ◌∙◌}
+use Rattle.std.proofs.Common.{Result, Ok, Err, Some, None, ◌≡◌, ◌↔◌, false, refl, ap, sym, subst, ◌∙◌}
 use Rattle.route_join.specs.Table.{Table, is_listed, value_at, with_update}
 use Rattle.route_join.specs.Taken.{taken_of}
 use Rattle.route_join.specs.Group.{updates_in}
@@ -22,7 +22,7 @@ returns-in_default-clause-no_memory c = λ h.
 pub invariant_of-self-2 : goal.invariant_of-self-2
 invariant_of-self-2 c = record {
   grouped = record {
-    kept = kept_with c.self.inside.originators.items (updates_in c.self.inside.groups.entries) (updates_in c.take_in.new.groups.entries) c.args.update.now c.self.invariant.grouped.kept c.in-Ok.ensures.entries
+    kept = kept_with c.self.inside.originators.items (updates_in c.self.inside.groups.entries) (updates_in c.take_in.new.groups.entries) c.args.update.now c.self.invariant.grouped.kept c.in-Ok.ensures.entries c.always_well_formed.ensures
         (listed_by c.self.inside.originators.items _ c.args.update.now.register _ c.deref.ensures.0 c.register.ensures c.if-not-contains.ensures.value);
     groups = c.in-Ok.ensures.groups;
   };
@@ -41,3 +41,10 @@ returns-clause-table c =
 pub returns-clause-unknown : goal.returns-clause-unknown
 returns-clause-unknown c =
     subst (λ (t : Table). (◌≡◌ {A = Result Taken TakeError} (Ok c.in-Ok.taken) (Err UnknownOriginator)) ↔ (is_listed t c.args.update.now.register.originator ≡ false)) c.self.view_is (not_unknown _ _ (listed_by c.self.inside.originators.items _ c.args.update.now.register _ c.deref.ensures.0 c.register.ensures c.if-not-contains.ensures.value) (taken_known c.in-Ok.taken))
+
+-- a listed originator's update of a register that is there is always taken
+pub returns-clause-there : goal.returns-clause-there
+returns-clause-there c = λ v at listed. (ap Ok (returns-clause-taken c), returns-clause-table c)
+
+pub returns-in_default-clause-there : goal.returns-in_default-clause-there
+returns-in_default-clause-there c = λ v at listed. absurd (let none : None ≡ Some v = sym (returns-in_default-clause-no_memory c refl) ∙ at in cc)

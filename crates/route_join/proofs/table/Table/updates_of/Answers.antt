@@ -1,0 +1,21 @@
+use Rattle.std.proofs.Common.{sym, ap, subst, ◌∙◌}
+use Rattle.route_join.specs.Table.{Table}
+use Rattle.route_join.specs.Updates.{updates_of, AreUpdatesOf}
+use Rattle.route_join.proofs.Abouts.{updates_of_are, updates_there, updates_nowhere}
+use Rattle.route_join.proofs.table.Table.updates_of.Goals as goal
+
+pub returns-in-None-clause-value : goal.returns-in-None-clause-value
+returns-in-None-clause-value c =
+    c.none.ensures ∙ updates_nowhere c.self.inside.originators.items c.self.inside.groups.entries c.self.invariant.grouped c.args.vni c.args.mac (sym c.in-None.ensures.value)
+    ∙ ap (λ (t : Table). updates_of t c.args.vni c.args.mac) c.self.view_is
+
+pub returns-in-None-clause-exact : goal.returns-in-None-clause-exact
+returns-in-None-clause-exact c = subst (AreUpdatesOf c.args.self.now c.args.vni c.args.mac) (sym (returns-in-None-clause-value c)) (updates_of_are c.args.self.now c.args.vni c.args.mac)
+
+pub returns-in-Some-clause-value : goal.returns-in-Some-clause-value
+returns-in-Some-clause-value c =
+    c.of.ensures.value ∙ updates_there c.self.inside.originators.items c.self.inside.groups.entries c.self.invariant.grouped c.args.vni c.args.mac c.in-Some.group.now (sym c.in-Some.ensures.value)
+    ∙ ap (λ (t : Table). updates_of t c.args.vni c.args.mac) c.self.view_is
+
+pub returns-in-Some-clause-exact : goal.returns-in-Some-clause-exact
+returns-in-Some-clause-exact c = subst (AreUpdatesOf c.args.self.now c.args.vni c.args.mac) (sym (returns-in-Some-clause-value c)) (updates_of_are c.args.self.now c.args.vni c.args.mac)

@@ -1,0 +1,108 @@
+//! The updates of a table, one after the other in the order of a report. They take no memory.
+ghost use Rattle.std.specs.Prelude.{◌≡◌, []};
+ghost use Rattle.std.specs.Iterator.{YieldsFirst, item_count};
+ghost use Rattle.route_join.specs.Table.{IsOrdered};
+ghost use Rattle.route_join.specs.Group.{AreGroups, updates_in};
+
+use crate::group::Group;
+use crate::subject::Subject;
+use route_wire::Update;
+use std::collections::{BTreeMap, btree_map};
+use std::marker::Model;
+
+/// The updates of a MAC address, seen as the list of those that are left.
+#[derive(Drop)]
+pub struct UpdatesOf<'a> {
+    left: &'a [Update],
+}
+
+impl<'a> Model for UpdatesOf<'a> {
+    ghost use Rattle.std.specs.Prelude.{List};
+    ghost use Rattle.route_wire.specs.Fields.{Fields};
+
+    ghost Value = { List Fields };
+
+    ghost view = { λ it. it.left.now };
+}
+
+impl<'a> UpdatesOf<'a> {
+    /// No update.
+    pub(crate) fn none() -> Self
+        ensures { result ≡ [] }
+    {
+        UpdatesOf { left: &[] }
+    }
+
+    /// The updates of a group.
+    pub(crate) fn of(group: &'a Group) -> Self
+        ensures value { result ≡ group.now }
+        ensures ordered { IsOrdered group.now }
+    {
+        UpdatesOf {
+            left: group.updates(),
+        }
+    }
+}
+
+impl<'a> Iterator for UpdatesOf<'a> {
+    type Item = Update;
+
+    ghost next_gives = { YieldsFirst (λ left. left) };
+
+    ghost remaining = { item_count (λ left. left) };
+
+    fn next(&mut self) -> Option<Update> {
+        let (first, others) = self.left.split_first()?;
+        self.left = others;
+        Some(*first)
+    }
+}
+
+/// The updates of all registers, seen as the list of those that are left.
+#[derive(Drop)]
+pub struct Updates<'a> {
+    first: UpdatesOf<'a>,
+    groups: btree_map::Iter<'a, Subject, Group>,
+}
+
+impl<'a> Model for Updates<'a> {
+    ghost use Rattle.std.specs.Prelude.{List, ◌++◌};
+    ghost use Rattle.route_wire.specs.Fields.{Fields};
+    ghost use Rattle.route_join.specs.Group.{AreGroups, updates_in};
+
+    ghost Value = { List Fields };
+
+    ghost view = { λ it. it.first ++ updates_in it.groups };
+
+    ghost invariant = { λ it. AreGroups it.groups };
+}
+
+impl<'a> Updates<'a> {
+    /// The updates of these groups.
+    pub(crate) fn of(groups: &'a BTreeMap<Subject, Group>) -> Self
+        requires { AreGroups groups.now.entries }
+        ensures { result ≡ updates_in groups.now.entries }
+    {
+        Updates {
+            first: UpdatesOf::none(),
+            groups: groups.iter(),
+        }
+    }
+}
+
+impl<'a> Iterator for Updates<'a> {
+    type Item = Update;
+
+    ghost next_gives = { YieldsFirst (λ left. left) };
+
+    ghost remaining = { item_count (λ left. left) };
+
+    fn next(&mut self) -> Option<Update> {
+        if let Some(update) = self.first.next() {
+            return Some(update);
+        }
+        let (_, group) = self.groups.next()?;
+        self.first = UpdatesOf::of(group);
+        self.first.next()
+    }
+}
