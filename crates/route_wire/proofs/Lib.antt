@@ -1,4 +1,5 @@
 pub mod Newer
+mod Digits
 pub mod Wholes
 pub mod Readings
 pub mod Prefixes

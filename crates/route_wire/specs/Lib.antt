@@ -9,4 +9,5 @@ pub mod Route
 pub mod Refusal
 pub mod Record
 pub mod Spelling
+pub mod Text
 pub mod Feed

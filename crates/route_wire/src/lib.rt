@@ -9,6 +9,7 @@ mod refusal;
 mod route;
 mod spelling;
 mod stream;
+mod text;
 mod update;
 
 pub use feed::Feed;

@@ -170,6 +170,41 @@ fn withdrawn(counter: u64) -> Value {
 }
 
 #[test]
+fn keys_and_addresses_are_printed_as_in_a_report(rt: HostRuntime) -> Result<(), Fail> {
+    assert_eq!(rt; flood().key.to_string(rt.alloc())?.as_str(), "flood 5001");
+    assert_eq!(rt;
+        address(None).key.to_string(rt.alloc())?.as_str(),
+        "mac 5001 02:00:00:00:00:0a"
+    );
+    assert_eq!(rt;
+        address_v4().key.to_string(rt.alloc())?.as_str(),
+        "mac 5001 02:00:00:00:00:0a ip 192.0.2.10"
+    );
+    assert_eq!(rt;
+        address_v6().key.to_string(rt.alloc())?.as_str(),
+        "mac 5001 02:00:00:00:00:0a ip 2001:0db8:0000:0000:0000:0000:0000:0001"
+    );
+    Ok(())
+}
+
+#[test]
+fn keys_stand_in_report_order(rt: HostRuntime) {
+    let other = Key::Mac(Vni::new(5001), Mac::new(0x0200_0000_000b), None);
+    let next = Key::Flood(Vni::new(5002));
+    assert!(rt;
+        flood().key < address(None).key,
+        "a flood list before the addresses"
+    );
+    assert!(rt; address(None).key < address_v4().key, "no IP address first");
+    assert!(rt;
+        address_v4().key < address_v6().key,
+        "then IPv4 before IPv6"
+    );
+    assert!(rt; address_v6().key < other, "the MAC before the IP address");
+    assert!(rt; other < next, "the network before all");
+}
+
+#[test]
 fn first_record_is_read(rt: HostRuntime) {
     assert!(rt; says(&FIRST, address(None), dynamic(1, 0, None)));
 }
