@@ -1,4 +1,5 @@
 mod buffered;
 mod ends;
 mod frames;
+mod ports;
 mod texts;

@@ -1,0 +1,72 @@
+//! Sets of access ports, as numbers of 64 bits: port p, from 1 to 64, is bit p - 1.
+ghost use Rattle.std.specs.Prelude.{◌≡◌, ℕ, ◌==◌, ◌&&◌, ◌||◌, not, false, [], IfSome, IfNone};
+ghost use Rattle.ether_wire.specs.Ports.{IsPort, IsNextPort, has_port, no_ports, with_port, without_port, common_ports, ports_after, ports_of, ArePortsOf};
+
+/// The set of no port.
+pub const NO_PORTS: u64 = 0;
+
+/// Whether the port is in the set.
+pub fn has_port(set: u64, port: u8) -> bool
+    requires { IsPort port }
+    ensures { result ≡ has_port set port }
+{
+    set >> (port - 1) & 1 == 1
+}
+
+/// The set and this port.
+pub fn with_port(set: u64, port: u8) -> u64
+    requires { IsPort port }
+    ensures value { result ≡ with_port set port }
+    ensures ports { (p : ℕ) → has_port result p ≡ (port == p || has_port set p) }
+{
+    set | 1 << (port - 1)
+}
+
+/// The set but for this port.
+pub fn without_port(set: u64, port: u8) -> u64
+    requires { IsPort port }
+    ensures value { result ≡ without_port set port }
+    ensures ports { (p : ℕ) → has_port result p ≡ (not (port == p) && has_port set p) }
+{
+    set & !(1 << (port - 1))
+}
+
+/// The ports that are in both sets.
+pub fn common_ports(set: u64, other: u64) -> u64
+    ensures value { result ≡ common_ports set other }
+    ensures ports { (p : ℕ) → has_port result p ≡ (has_port set p && has_port other p) }
+{
+    set & other
+}
+
+/// The first port of the set after this number: after 0 the first of all. So a walk from 0 that goes on
+/// after each port that it was given meets each port of the set once, in ascending order.
+pub fn next_port(set: u64, after: u8) -> Option<u8>
+    ensures some { IfSome result (IsNextPort set after) }
+    ensures none { IfNone result (ports_after set after ≡ []) }
+{
+    if after >= 64 {
+        return None;
+    }
+    let later = set >> after;
+    if later == 0 {
+        return None;
+    }
+    Some(after + 1 + later.trailing_zeros() as u8)
+}
+
+/// No port is in the set of none.
+pub fn nobody_is_in_no_ports(port: u8)
+    ensures { has_port no_ports port ≡ false }
+{}
+
+/// Two sets with the same ports are one.
+pub fn same_ports(set: u64, other: u64)
+    requires { (p : ℕ) → IsPort p → has_port set p ≡ has_port other p }
+    ensures { set ≡ other }
+{}
+
+/// A walk from 0 meets each port of the set once, in ascending order.
+pub fn ports_ascend(set: u64)
+    ensures { ArePortsOf set (ports_of set) }
+{}
