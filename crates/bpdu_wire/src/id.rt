@@ -5,7 +5,7 @@ use std::marker::Model;
 
 /// A bridge identifier, as the number of its eight octets: a priority of two octets, and then the
 /// bridge's address of six (IEEE 802.1D-2004, 9.2.5). The lower identifier is the better one.
-#[derive(Clone, Copy, Debug, PartialEq, Eq, Hash, PartialOrd, Ord)]
+#[derive(Clone, Copy, Debug, Default, PartialEq, Eq, Hash, PartialOrd, Ord)]
 pub struct BridgeId {
     number: u64,
 }
@@ -63,7 +63,7 @@ impl BridgeId {
 
 /// A port identifier, as the number of its two octets: a priority in the top four bits, and the
 /// port's number in the other twelve (IEEE 802.1D-2004, 9.2.7). The lower identifier is the better one.
-#[derive(Clone, Copy, Debug, PartialEq, Eq, Hash, PartialOrd, Ord)]
+#[derive(Clone, Copy, Debug, Default, PartialEq, Eq, Hash, PartialOrd, Ord)]
 pub struct PortId {
     number: u16,
 }

@@ -1,9 +1,10 @@
--- What every event keeps: each port is sound, and one role at most is selected as root.
-use Rattle.std.proofs.Common.{◌≡◌, ℕ, zero, suc, ◌+◌, Bool, true, false, not, ◌&&◌, ◌||◌, ◌==◌, cond, List, [], ◌∷◌, Option, Some, None, slice_get, map, refl, sym, ap, subst, ◌∙◌, arith}
+-- What every event keeps: each port is sound and has its number, and one role at most is selected as root.
+use Rattle.std.proofs.Common.{◌≡◌, ℕ, zero, suc, ◌+◌, ◌*◌, ◌/◌, ◌%◌, ◌^◌, Bool, true, false, not, ◌&&◌, ◌||◌, ◌==◌, cond, List, [], ◌∷◌, Option, Some, None, slice_get, map, refl, sym, ap, subst, ◌∙◌, arith}
 use Rattle.std.proofs.lemmas.Bool.Decides.{nat_tests}
 use Rattle.std.specs.List.{enumerate_from}
 use Rattle.std.specs.Option.{option_map_or}
 use Rattle.bpdu_wire.specs.declared.bpdu.Bpdu.{Bpdu}
+use Rattle.bpdu_wire.specs.Id.{port_number}
 use Rattle.rstp_state.specs.declared.port.PortState.{PortState}
 use Rattle.rstp_state.specs.declared.port.InfoIs.{InfoIs}
 use Rattle.rstp_state.specs.declared.port.InfoIs.TheVariants as info_is
@@ -20,7 +21,8 @@ use Rattle.rstp_run.specs.declared.event.Event.{Event}
 use Rattle.rstp_run.specs.declared.event.Event.TheVariants as events
 use Rattle.rstp_run.specs.declared.rule.Rule.{Rule}
 use Rattle.rstp_run.specs.declared.rule.Rule.TheVariants as rules
-use Rattle.rstp_run.specs.Events.{direct, ports_at, start}
+use Rattle.rstp_run.specs.Events.{direct, Happens, ports_at, start}
+use Rattle.rstp_run.specs.Laws.{AreNumbered, AreNumberedFrom}
 use Rattle.rstp_run.specs.Machines.{receive_asks, receive_does, migration_asks, migration_does, detection_asks, detection_does, information_asks, information_does, transmit_asks, transmit_does}
 use Rattle.rstp_run.specs.Rules.{Tree, guard, after, timing_in}
 use Rattle.rstp_run.specs.Runs.{Firing, Run}
@@ -42,6 +44,7 @@ OneRoot roles = (p q : ℕ) (a b : Role) → slice_get roles p ≡ Some a → sl
 pub record IsKept (ports : List PortState) : Type 0 where
   pub sound : AllSound ports
   pub roots : OneRoot (roles_of ports)
+  pub numbered : AreNumberedFrom 1 ports
 
 -- ---- where each port is kept
 
@@ -57,10 +60,20 @@ each_role [] (y ∷ ys) h = absurd h
 each_role (x ∷ xs) [] h = absurd h
 each_role (x ∷ xs) (y ∷ ys) h = λ i. sym h.0.1 i ∷ each_role xs ys h.1 i
 
+each_number : (n : ℕ) (a b : List PortState) → EachKeeps a b → AreNumberedFrom n a → AreNumberedFrom n b
+each_number n [] [] h s = tt
+each_number n [] (y ∷ ys) h s = absurd h
+each_number n (x ∷ xs) [] h s = absurd h
+each_number n (x ∷ xs) (y ∷ ys) h s = (ap port_number h.0.2 ∙ s.0, each_number (n + 1) xs ys h.1 s.1)
+
 kept_by : (a b : List PortState) → EachKeeps a b → IsKept a → IsKept b
 kept_by a b h k =
     let P : List Role → Type 0 = λ roles. OneRoot roles in
-    record { sound = each_sound a b h k.sound; roots = subst P (each_role a b h) k.roots }
+    record {
+      sound = each_sound a b h k.sound;
+      roots = subst P (each_role a b h) k.roots;
+      numbered = each_number 1 a b h k.numbered;
+    }
 
 -- ---- selection
 
@@ -118,51 +131,65 @@ choices_one s root path ports p q a b at_p at_q ra rb =
     same_place path.place (0 + p) (0 + q) (chosen_through s root path 0 ports p a at_p ra) (chosen_through s root path 0 ports q b at_q rb) in
     omega arith
 
+choices_numbered : (s : Settings) (root : Root) (path : Path) (n m : ℕ) (ports : List PortState) → AreNumberedFrom m ports
+    → AreNumberedFrom m (map (λ e. with_choice s root (is_through path e.0) e.1) (enumerate_from n ports))
+choices_numbered s root path n m [] h = tt
+choices_numbered s root path n m (x ∷ xs) h = (h.0, choices_numbered s root path (n + 1) (m + 1) xs h.1)
+
+selection_numbered : (s : Settings) (ports : List PortState) → AreNumberedFrom 1 ports → AreNumberedFrom 1 (selected_ports s ports)
+unfolding selected_ports
+selection_numbered s ports h = choices_numbered s (selected_root s ports) (best_path s ports) 0 1 ports h
+
 selection_kept : (s : Settings) (ports : List PortState) → IsKept ports → IsKept (selected_ports s ports)
 unfolding selected_ports
 selection_kept s ports k = record {
   sound = choices_sound s (selected_root s ports) (best_path s ports) 0 ports k.sound;
   roots = choices_one s (selected_root s ports) (best_path s ports) ports;
+  numbered = selection_numbered s ports k.numbered;
 }
 
--- ---- the rules
-
-rule_kept : (rule : Rule) (s : Tree) (p : ℕ) → guard rule s p ≡ true → IsKept s.ports → IsKept (after rule s p).ports
-rule_kept rules.Select s p g k = selection_kept s.settings s.ports k
-rule_kept (rules.Receive rule) s p g k = kept_by s.ports _ (each_at (receive_asks rule) (receive_does rule) s.ports p (receive_keeps rule) g) k
-rule_kept (rules.Migration rule) s p g k = kept_by s.ports _ (each_at (migration_asks rule) (migration_does rule) s.ports p (migration_keeps rule) g) k
-rule_kept (rules.Detection rule) s p g k = kept_by s.ports _ (each_at (detection_asks rule) (detection_does rule) s.ports p (detection_keeps rule) g) k
-rule_kept (rules.Information rule) s p g k = kept_by s.ports _ (each_at (information_asks rule) (information_does rule) s.ports p (information_keeps rule) g) k
-rule_kept (rules.Role rule) s p g k = kept_by s.ports _ (role_keeps rule (timing_in s) s.ports p) k
-rule_kept (rules.State rule) s p g k = kept_by s.ports _ (each_at (state_asks rule) (state_does rule) s.ports p (state_keeps rule) g) k
-rule_kept (rules.Topology rule) s p g k = kept_by s.ports _ (topology_keeps rule (timing_in s) s.ports p) k
-rule_kept (rules.Transmit rule) s p g k =
-    kept_by s.ports _ (each_at (transmit_asks rule (timing_in s)) (transmit_does rule (timing_in s)) s.ports p (transmit_keeps rule (timing_in s)) g) k
-
-run_kept : (firings : List Firing) (s t : Tree) → Run firings s t → IsKept s.ports → IsKept t.ports
-run_kept [] s t run k = let P : Tree → Type 0 = λ x. IsKept x.ports in subst P (sym run) k
-run_kept (f ∷ earlier) s t run k =
-    let P : Tree → Type 0 = λ x. IsKept x.ports in
-    subst P (sym run.2.1) (rule_kept f.rule run.0 f.place run.2.0 (run_kept earlier s run.0 run.1 k))
-
--- ---- events
+-- ---- the rules and the events
 
 message_at : (b : Bool) (message : Bpdu) (port : PortState) → Keeps port (cond b port (record port { message = Some message; received_bpdu = true }))
-message_at true message port = (λ h. h, refl)
-message_at false message port = (λ h. h, refl)
+message_at true message port = (λ h. h, refl, refl)
+message_at false message port = (λ h. h, refl, refl)
 
 event_keeps : (event : Event) (ports : List PortState) → EachKeeps ports (ports_at event ports)
 event_keeps (events.Bpdu p message) ports =
     each_change (with_message message) ports _ (λ port at. message_at (port.received_bpdu || port.received_message) message port)
-event_keeps events.Second ports = each_map with_second (λ port. (λ h. h, refl)) ports
-event_keeps (events.PortUp p) ports = each_change (with_enabled true) ports _ (λ port at. (λ h. h, refl))
-event_keeps (events.PortDown p) ports = each_change (with_enabled false) ports _ (λ port at. (λ h. h, refl))
-event_keeps (events.Mcheck p) ports = each_change with_migration_check ports _ (λ port at. (λ h. h, refl))
+event_keeps events.Second ports = each_map with_second (λ port. (λ h. h, refl, refl)) ports
+event_keeps (events.PortUp p) ports = each_change (with_enabled true) ports _ (λ port at. (λ h. h, refl, refl))
+event_keeps (events.PortDown p) ports = each_change (with_enabled false) ports _ (λ port at. (λ h. h, refl, refl))
+event_keeps (events.Mcheck p) ports = each_change with_migration_check ports _ (λ port at. (λ h. h, refl, refl))
 
-direct_kept : (event : Event) (s : Tree) → IsKept s.ports → IsKept (direct event s).ports
-direct_kept event s k =
-    let cleared = map without_slot s.ports in
-    kept_by s.ports _ (each_then s.ports cleared _ (each_map without_slot (λ port. (λ h. h, refl)) s.ports) (event_keeps event cleared)) k
+-- a fact of the ports that stays where each port is kept, and over selection, stays over events
+module _ (P : List PortState → Type 0) (by : (a b : List PortState) → EachKeeps a b → P a → P b)
+    (chosen : (settings : Settings) (ports : List PortState) → P ports → P (selected_ports settings ports)) where
+  rule_holds : (rule : Rule) (s : Tree) (p : ℕ) → guard rule s p ≡ true → P s.ports → P (after rule s p).ports
+  rule_holds rules.Select s p g k = chosen s.settings s.ports k
+  rule_holds (rules.Receive rule) s p g k = by s.ports _ (each_at (receive_asks rule) (receive_does rule) s.ports p (receive_keeps rule) g) k
+  rule_holds (rules.Migration rule) s p g k = by s.ports _ (each_at (migration_asks rule) (migration_does rule) s.ports p (migration_keeps rule) g) k
+  rule_holds (rules.Detection rule) s p g k = by s.ports _ (each_at (detection_asks rule) (detection_does rule) s.ports p (detection_keeps rule) g) k
+  rule_holds (rules.Information rule) s p g k = by s.ports _ (each_at (information_asks rule) (information_does rule) s.ports p (information_keeps rule) g) k
+  rule_holds (rules.Role rule) s p g k = by s.ports _ (role_keeps rule (timing_in s) s.ports p) k
+  rule_holds (rules.State rule) s p g k = by s.ports _ (each_at (state_asks rule) (state_does rule) s.ports p (state_keeps rule) g) k
+  rule_holds (rules.Topology rule) s p g k = by s.ports _ (topology_keeps rule (timing_in s) s.ports p) k
+  rule_holds (rules.Transmit rule) s p g k =
+      by s.ports _ (each_at (transmit_asks rule (timing_in s)) (transmit_does rule (timing_in s)) s.ports p (transmit_keeps rule (timing_in s)) g) k
+
+  run_holds : (firings : List Firing) (s t : Tree) → Run firings s t → P s.ports → P t.ports
+  run_holds [] s t run k = let Q : Tree → Type 0 = λ x. P x.ports in subst Q (sym run) k
+  run_holds (f ∷ earlier) s t run k =
+      let Q : Tree → Type 0 = λ x. P x.ports in
+      subst Q (sym run.2.1) (rule_holds f.rule run.0 f.place run.2.0 (run_holds earlier s run.0 run.1 k))
+
+  direct_holds : (event : Event) (s : Tree) → P s.ports → P (direct event s).ports
+  direct_holds event s k =
+      let cleared = map without_slot s.ports in
+      by s.ports _ (each_then s.ports cleared _ (each_map without_slot (λ port. (λ h. h, refl, refl)) s.ports) (event_keeps event cleared)) k
+
+  pub happens_holds : (event : Event) (limit : ℕ) (s t : Tree) (settled : Bool) (mask : ℕ) → Happens event limit s t settled mask → P s.ports → P t.ports
+  happens_holds event limit s t settled mask happens k = run_holds happens.firings (direct event s) t happens.run (direct_holds event s k)
 
 start_sound : (n : ℕ) (settings : Settings) (ports : List PortSettings) → AllSound (ports_from n settings ports)
 start_sound n settings [] = tt
@@ -174,14 +201,26 @@ start_rootless n settings [] p a at h = cc
 start_rootless n settings (x ∷ xs) zero a at h = cc
 start_rootless n settings (x ∷ xs) (suc p) a at h = start_rootless (n + 1) settings xs p a at h
 
-start_kept : (settings : Settings) (ports : List PortSettings) → IsKept (start settings ports).ports
+number_of : (priority n : ℕ) → (priority * 4096 + n) % 2 ^ 12 ≡ n % 2 ^ 12
+number_of priority n = omega arith
+
+start_numbered : (n : ℕ) (settings : Settings) (ports : List PortSettings) → AreNumberedFrom n (ports_from n settings ports)
+start_numbered n settings [] = tt
+start_numbered n settings (x ∷ xs) = (number_of (x.priority / 16) n, start_numbered (n + 1) settings xs)
+
+pub start_kept : (settings : Settings) (ports : List PortSettings) → IsKept (start settings ports).ports
 start_kept settings ports = record {
   sound = start_sound 1 settings ports;
   roots = λ p q a b at_p at_q ra rb. absurd (start_rootless 1 settings ports p a at_p ra);
+  numbered = start_numbered 1 settings ports;
 }
 
 pub comes_kept : (history : List Event) (settings : Settings) (ports : List PortSettings) (s : Tree) → Comes history (start settings ports) s → IsKept s.ports
 comes_kept [] settings ports s comes = let P : Tree → Type 0 = λ x. IsKept x.ports in subst P (sym comes) (start_kept settings ports)
 comes_kept (event ∷ earlier) settings ports s comes =
-    let happens = comes.5 in
-    run_kept happens.firings (direct event comes.0) s happens.run (direct_kept event comes.0 (comes_kept earlier settings ports comes.0 comes.4))
+    happens_holds IsKept kept_by selection_kept event comes.1 comes.0 s comes.2 comes.3 comes.5 (comes_kept earlier settings ports comes.0 comes.4)
+
+-- the ports keep their numbers
+pub happens_numbered : (event : Event) (limit : ℕ) (s t : Tree) (settled : Bool) (mask : ℕ) → Happens event limit s t settled mask → AreNumbered s → AreNumbered t
+happens_numbered event limit s t settled mask happens all =
+    happens_holds (AreNumberedFrom 1) (each_number 1) selection_numbered event limit s t settled mask happens all

@@ -38,12 +38,13 @@ IsSound port =
     × (not (is_out port.information) || is_down port.info_is ≡ true)
     × (not port.update_info || (not port.selected || not (is_out port.information)) ≡ true)
 
--- the port stays sound, and its selected role stays
+-- the port stays sound, and its selected role and its identifier stay
 abbrev pub Keeps : PortState → PortState → Type 0
-Keeps port next = (IsSound port → IsSound next) × (next.selected_role ≡ port.selected_role)
+Keeps port next =
+    (IsSound port → IsSound next) × (next.selected_role ≡ port.selected_role) × (next.identifier ≡ port.identifier)
 
 pub same_port : (port : PortState) → Keeps port port
-same_port port = (λ h. h, refl)
+same_port port = (λ h. h, refl, refl)
 
 -- ---- truth values
 
@@ -70,25 +71,25 @@ or_right false b h = h
 -- ---- receive, migration, bridge detection, transmit
 
 pub receive_keeps : (rule : ReceiveRule) (port : PortState) → receive_asks rule port ≡ true → Keeps port (receive_does rule port)
-receive_keeps receive_rule.Discard port g = (λ h. h, refl)
-receive_keeps receive_rule.Receive port g = (λ h. h, refl)
+receive_keeps receive_rule.Discard port g = (λ h. h, refl, refl)
+receive_keeps receive_rule.Receive port g = (λ h. h, refl, refl)
 
 pub migration_keeps : (rule : MigrationRule) (port : PortState) → migration_asks rule port ≡ true → Keeps port (migration_does rule port)
-migration_keeps migration_rule.Recheck port g = (λ h. h, refl)
-migration_keeps migration_rule.Checked port g = (λ h. h, refl)
-migration_keeps migration_rule.Selected port g = (λ h. h, refl)
-migration_keeps migration_rule.ToRstp port g = (λ h. h, refl)
-migration_keeps migration_rule.ToStp port g = (λ h. h, refl)
+migration_keeps migration_rule.Recheck port g = (λ h. h, refl, refl)
+migration_keeps migration_rule.Checked port g = (λ h. h, refl, refl)
+migration_keeps migration_rule.Selected port g = (λ h. h, refl, refl)
+migration_keeps migration_rule.ToRstp port g = (λ h. h, refl, refl)
+migration_keeps migration_rule.ToStp port g = (λ h. h, refl, refl)
 
 pub detection_keeps : (rule : DetectionRule) (port : PortState) → detection_asks rule port ≡ true → Keeps port (detection_does rule port)
-detection_keeps detection_rule.Edge port g = (λ h. h, refl)
-detection_keeps detection_rule.NotEdge port g = (λ h. h, refl)
+detection_keeps detection_rule.Edge port g = (λ h. h, refl, refl)
+detection_keeps detection_rule.NotEdge port g = (λ h. h, refl, refl)
 
 pub transmit_keeps : (rule : TransmitRule) (timing : Timing) (port : PortState) → transmit_asks rule timing port ≡ true → Keeps port (transmit_does rule timing port)
-transmit_keeps transmit_rule.Periodic timing port g = (λ h. h, refl)
-transmit_keeps transmit_rule.SendConfig timing port g = (λ h. h, refl)
-transmit_keeps transmit_rule.SendTcn timing port g = (λ h. h, refl)
-transmit_keeps transmit_rule.SendRst timing port g = (λ h. h, refl)
+transmit_keeps transmit_rule.Periodic timing port g = (λ h. h, refl, refl)
+transmit_keeps transmit_rule.SendConfig timing port g = (λ h. h, refl, refl)
+transmit_keeps transmit_rule.SendTcn timing port g = (λ h. h, refl, refl)
+transmit_keeps transmit_rule.SendRst timing port g = (λ h. h, refl, refl)
 
 -- ---- information
 
@@ -102,38 +103,38 @@ unselected : (u : Bool) (b : Bool) → not u || (true || b) ≡ true
 unselected u b = or_true (not u)
 
 info_keeps : (m : Option Bpdu) (port : PortState) → Keeps port (with_info_of m port)
-info_keeps None port = (λ h. h, refl)
-info_keeps (Some Tcn) port = (λ h. h, refl)
-info_keeps (Some (Config message)) port = (λ h. h, refl)
-info_keeps (Some (Rst message)) port = (λ h. h, refl)
+info_keeps None port = (λ h. h, refl, refl)
+info_keeps (Some Tcn) port = (λ h. h, refl, refl)
+info_keeps (Some (Config message)) port = (λ h. h, refl, refl)
+info_keeps (Some (Rst message)) port = (λ h. h, refl, refl)
 
 inferior_keeps : (b : Bool) (port : PortState)
     → Keeps port (cond b (record port { disputed = true; agreed = false; received_message = false }) (record port { received_message = false }))
-inferior_keeps true port = (λ h. h, refl)
-inferior_keeps false port = (λ h. h, refl)
+inferior_keeps true port = (λ h. h, refl, refl)
+inferior_keeps false port = (λ h. h, refl, refl)
 
 answer_keeps : (b : Bool) (port : PortState) → Keeps port (cond b (record port { agreed = true; proposing = false }) (record port { agreed = false }))
-answer_keeps true port = (λ h. h, refl)
-answer_keeps false port = (λ h. h, refl)
+answer_keeps true port = (λ h. h, refl, refl)
+answer_keeps false port = (λ h. h, refl, refl)
 
 pub information_keeps : (rule : InformationRule) (port : PortState) → information_asks rule port ≡ true → Keeps port (information_does rule port)
-information_keeps information_rule.Disabled port g = (λ h. (refl, refl, unselected port.update_info false), refl)
-information_keeps information_rule.Drop port g = (λ h. h, refl)
-information_keeps information_rule.Enabled port g = (λ h. (refl, refl, unselected port.update_info true), refl)
-information_keeps information_rule.Update port g = (λ h. (h.0, refl, refl), refl)
-information_keeps information_rule.Aged port g = (λ h. (refl, refl, unselected port.update_info true), refl)
+information_keeps information_rule.Disabled port g = (λ h. (refl, refl, unselected port.update_info false), refl, refl)
+information_keeps information_rule.Drop port g = (λ h. h, refl, refl)
+information_keeps information_rule.Enabled port g = (λ h. (refl, refl, unselected port.update_info true), refl, refl)
+information_keeps information_rule.Update port g = (λ h. (h.0, refl, refl), refl, refl)
+information_keeps information_rule.Aged port g = (λ h. (refl, refl, unselected port.update_info true), refl, refl)
 information_keeps information_rule.Superior port g =
     let current = left (is_current port.information) _ (left _ _ (left _ _ g)) in
     let known = info_keeps port.message (with_superior_flags (with_change_flags (with_proposal port))) in
-    (λ h. known.0 (refl, or_left _ _ (not_out port.information current), unselected port.update_info false), known.1)
-information_keeps information_rule.Repeated port g = (λ h. h, refl)
+    (λ h. known.0 (refl, or_left _ _ (not_out port.information current), unselected port.update_info false), known.1, known.2)
+information_keeps information_rule.Repeated port g = (λ h. h, refl, refl)
 information_keeps information_rule.Inferior port g = inferior_keeps (rst_has 16 port.message) port
 information_keeps information_rule.NotDesignated port g = answer_keeps (port.point_to_point && message_has 64 port.message) port
-information_keeps information_rule.Other port g = (λ h. h, refl)
+information_keeps information_rule.Other port g = (λ h. h, refl, refl)
 
 -- ---- state transition
 
 pub state_keeps : (rule : StateRule) (port : PortState) → state_asks rule port ≡ true → Keeps port (state_does rule port)
-state_keeps state_rule.ToLearning port g = (λ h. h, refl)
-state_keeps state_rule.ToForwarding port g = (λ h. h, refl)
-state_keeps state_rule.ToDiscarding port g = (λ h. h, refl)
+state_keeps state_rule.ToLearning port g = (λ h. h, refl, refl)
+state_keeps state_rule.ToForwarding port g = (λ h. h, refl, refl)
+state_keeps state_rule.ToDiscarding port g = (λ h. h, refl, refl)

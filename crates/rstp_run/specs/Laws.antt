@@ -1,5 +1,6 @@
 -- What holds of every bridge from its start on, whatever the events.
-use Rattle.std.specs.Prelude.{ℕ, Bool, true, not, ◌≡◌, ◌-◌, ◌&&◌, ◌||◌, All, IsTrue}
+use Rattle.std.specs.Prelude.{ℕ, Bool, true, not, ◌≡◌, ◌+◌, ◌-◌, ◌%◌, ◌^◌, ◌&&◌, ◌||◌, List, [], ◌∷◌, All, IsTrue}
+use Rattle.bpdu_wire.specs.Id.{port_number}
 use Rattle.rstp_state.specs.declared.port.PortState.{PortState}
 use Rattle.rstp_state.specs.Port.{test_at}
 use Rattle.rstp_run.specs.Rules.{Tree}
@@ -15,6 +16,15 @@ IsOrderly port = is_orderly port ≡ true
 -- every port is so
 abbrev pub AreOrderly : Tree → Type 0
 AreOrderly s = All IsOrderly s.ports
+
+-- The first of the ports has this number in its identifier, and each other the next; a number has 12 bits there.
+abbrev pub AreNumberedFrom : ℕ → List PortState → Type 0
+AreNumberedFrom n [] = Unit {0}
+AreNumberedFrom n (port ∷ ports) = (port_number port.identifier ≡ n % 2 ^ 12) × AreNumberedFrom (n + 1) ports
+
+-- every port has its number in its identifier
+abbrev pub AreNumbered : Tree → Type 0
+AreNumbered s = AreNumberedFrom 1 s.ports
 
 -- port p is the root port or a designated one: neither Disabled, Alternate nor Backup
 abbrev pub IsInTree : Tree → ℕ → Type 0

@@ -1,6 +1,8 @@
 //! A bridge of the spanning tree.
 
-ghost use Rattle.std.specs.Prelude.{◌≡◌, ◌≤◌, ◌-◌, ◌↔◌, length, slice_get, IsTrue, IfOk, true, false};
+ghost use Rattle.std.specs.Prelude.{ℕ, ◌≡◌, ◌≤◌, ◌<◌, ◌-◌, ◌↔◌, All, length, slice_get, IsTrue, true, false};
+ghost use Rattle.std.specs.Int.{bit_at};
+ghost use Rattle.bpdu_wire.specs.Id.{port_number};
 ghost use Rattle.rstp_run.specs.Events.{
   firings_at,
   Happens,
@@ -11,7 +13,7 @@ ghost use Rattle.rstp_run.specs.Events.{
   sent_from,
   start,
 };
-ghost use Rattle.rstp_run.specs.Laws.{AreOrderly, IsInTree};
+ghost use Rattle.rstp_run.specs.Laws.{AreNumbered, AreOrderly, IsInTree};
 ghost use Rattle.rstp_run.specs.Rules.{Tree};
 ghost use Rattle.rstp_run.specs.Runs.{IsSettled};
 
@@ -19,7 +21,6 @@ use crate::engine::Engine;
 use crate::event::{Event, Outcome};
 use rstp_state::port::PortState;
 use rstp_state::start::{PortSettings, Settings};
-use std::alloc::{AllocError, Global};
 use std::marker::Model;
 
 /// What a bridge is made from.
@@ -45,7 +46,8 @@ impl Model for Bridge {
 
     ghost view = { λ b. b.engine };
 
-    ghost invariant = { λ b. (IsTrue b.settled ↔ IsSettled b.engine) × AreOrderly b.engine };
+    ghost invariant = { λ b. (IsTrue b.settled ↔ IsSettled b.engine) × AreOrderly b.engine × AreNumbered b.engine
+        × (1 ≤ length b.engine.ports) };
 }
 
 /// Whether frames pass at the port of a bridge that is or isn't settled.
@@ -60,21 +62,22 @@ fn is_passing(engine: &Engine, settled: bool, p: u8) -> bool
 
 impl Bridge {
     /// A bridge before its first event: no port is up and, with a Hello time of at least 1, no rule
-    /// is enabled. Only a refused memory makes it fail.
-    pub fn new(alloc: Global, config: BridgeConfig) -> Result<Self, AllocError>
+    /// is enabled. It takes no memory.
+    pub fn new(config: BridgeConfig) -> Self
         requires some { 1 ≤ length config.ports.now }
         requires few { length config.ports.now ≤ 64 }
-        ensures value { IfOk result (λ bridge. bridge ≡ start config.entry.settings config.entry.ports.now) }
-        ensures settled { 1 ≤ config.entry.settings.hello → IfOk result (λ bridge. IsSettled bridge) }
+        ensures value { result ≡ start config.entry.settings config.entry.ports.now }
+        ensures settled { 1 ≤ config.entry.settings.hello → IsSettled result }
     {
-        let engine = Engine::new(alloc, config.settings, config.ports)?;
+        let engine = Engine::new(config.settings, config.ports);
         let settled = engine.is_settled();
-        Ok(Bridge { engine, settled })
+        Bridge { engine, settled }
     }
 
     /// How many ports there are.
     pub fn len(&self) -> usize
         ensures value { result ≡ length self.now.ports }
+        ensures some { 1 ≤ result }
         ensures few { result ≤ 64 }
     {
         self.engine.len()
@@ -90,6 +93,10 @@ impl Bridge {
         ensures settled { IsTrue result.settled ↔ IsSettled self.new }
         ensures out { result.out.items ≡ sent_from 1 self.new.ports }
         ensures ports { length self.new.ports ≡ length self.old.ports }
+
+        // The ports that are flushed, and those at which is sent, are there.
+        ensures flushed_at { (p : ℕ) → bit_at result.flush p ≡ 1 → p < length self.new.ports }
+        ensures sent_at { All (λ sent. IsPort sent.0 (length self.new.ports)) result.out.items }
     {
         let outcome = self.engine.event_within(event, limit);
         self.settled = outcome.settled;
@@ -103,6 +110,10 @@ impl Bridge {
         ensures settled { IsTrue result.settled ↔ IsSettled self.new }
         ensures out { result.out.items ≡ sent_from 1 self.new.ports }
         ensures ports { length self.new.ports ≡ length self.old.ports }
+
+        // The ports that are flushed, and those at which is sent, are there.
+        ensures flushed_at { (p : ℕ) → bit_at result.flush p ≡ 1 → p < length self.new.ports }
+        ensures sent_at { All (λ sent. IsPort sent.0 (length self.new.ports)) result.out.items }
     {
         let limit = 64 * (self.len() + 1);
         self.event_within(event, limit)
@@ -133,7 +144,8 @@ impl Bridge {
     /// The state of the port.
     pub fn port(&self, p: u8) -> &PortState
         requires { IsPort p (length self.now.ports) }
-        ensures { slice_get self.now.ports (p - 1) ≡ Some result.now }
+        ensures value { slice_get self.now.ports (p - 1) ≡ Some result.now }
+        ensures number { port_number result.now.identifier ≡ p }
     {
         self.engine.port(p)
     }

@@ -1,6 +1,6 @@
 //! The sweep: rules fire in the table's order until none is enabled, or the limit is reached.
 
-ghost use Rattle.std.specs.Prelude.{◌≡◌, ◌≤◌, ◌<◌, ◌-◌, length, map, slice_get, IfOk, true, false};
+ghost use Rattle.std.specs.Prelude.{◌≡◌, ◌≤◌, ◌<◌, ◌-◌, length, map, slice_get, true, false};
 ghost use Rattle.std.specs.List.{list_any};
 ghost use Rattle.rstp_state.specs.Direct.{with_second, without_slot};
 ghost use Rattle.rstp_run.specs.Events.{direct, Happens, IsAt, ports_at, sent_from, start};
@@ -26,7 +26,6 @@ use rstp_state::direct::{ask_migration_check, clear_slot, pass_second, set_enabl
 use rstp_state::port::{PortState, Timing};
 use rstp_state::selection::{Root, select_roles};
 use rstp_state::start::{PortSettings, Settings, start_ports};
-use std::alloc::{AllocError, Global};
 use std::marker::Model;
 
 /// A bridge that doesn't know whether it is settled.
@@ -34,7 +33,7 @@ use std::marker::Model;
 pub struct Engine {
     settings: Settings,
     root: Root,
-    ports: Vec<PortState>,
+    ports: ArrayVec<PortState, 64>,
 }
 
 impl Model for Engine {
@@ -166,21 +165,15 @@ impl Engine {
     };
 
     /// A bridge before its first event.
-    pub fn new(
-        alloc: Global,
-        settings: Settings,
-        ports: &[PortSettings],
-    ) -> Result<Self, AllocError>
-        requires some { 1 ≤ length ports.now }
-        requires few { length ports.now ≤ 64 }
-        ensures { IfOk result (λ engine. engine ≡ start settings ports.now) }
+    pub fn new(settings: Settings, ports: &[PortSettings]) -> Self
+        requires { length ports.now ≤ 64 }
+        ensures { result ≡ start settings ports.now }
     {
-        let started = start_ports(alloc, &settings, ports)?;
-        Ok(Engine {
+        Engine {
             settings,
             root: Root::own(&settings),
-            ports: started,
-        })
+            ports: start_ports(&settings, ports),
+        }
     }
 
     /// How many ports there are.

@@ -10,7 +10,6 @@ use crate::event::{Event, Outcome};
 use arrayvec::ArrayVec;
 use bpdu_wire::{BridgeId, read, write};
 use rstp_state::start::{PortSettings, Settings};
-use std::alloc::{AllocError, Global};
 
 /// What a designated port of bridge 8000.02:aa:00:00:00:01 first sends: it takes itself for the root,
 /// and proposes.
@@ -30,7 +29,7 @@ const USUAL_PORT: PortSettings = PortSettings {
 };
 
 /// A bridge of the usual priority and times, and of one port.
-fn bridge_of_one(alloc: Global, address: u64, port: PortSettings) -> Result<Bridge, AllocError> {
+fn bridge_of_one(address: u64, port: PortSettings) -> Bridge {
     let settings = Settings {
         identifier: BridgeId::new(0x8000_0000_0000_0000 | address),
         hello: 2,
@@ -38,13 +37,10 @@ fn bridge_of_one(alloc: Global, address: u64, port: PortSettings) -> Result<Brid
         forward_delay: 15,
         hold: 6,
     };
-    Bridge::new(
-        alloc,
-        BridgeConfig {
-            settings,
-            ports: &[port],
-        },
-    )
+    Bridge::new(BridgeConfig {
+        settings,
+        ports: &[port],
+    })
 }
 
 /// The event at a bridge whose first port is there.

@@ -7,8 +7,9 @@ use crate::vector::{Times, Vector};
 use bpdu_wire::{Bpdu, PortId};
 
 /// What a port is to the spanning tree (IEEE 802.1D-2004, 17.7).
-#[derive(Clone, Copy, Debug, PartialEq, Eq)]
+#[derive(Clone, Copy, Debug, Default, PartialEq, Eq)]
 pub enum Role {
+    #[default]
     Disabled,
     Root,
     Designated,
@@ -17,33 +18,37 @@ pub enum Role {
 }
 
 /// State of the port's protocol migration machine (17.24).
-#[derive(Clone, Copy, Debug, PartialEq, Eq)]
+#[derive(Clone, Copy, Debug, Default, PartialEq, Eq)]
 pub enum Migration {
+    #[default]
     Checking,
     Selecting,
     Sensing,
 }
 
 /// State of the port's information machine (17.27).
-#[derive(Clone, Copy, Debug, PartialEq, Eq)]
+#[derive(Clone, Copy, Debug, Default, PartialEq, Eq)]
 pub enum Information {
+    #[default]
     Disabled,
     Aged,
     Current,
 }
 
 /// State of the port's topology change machine (17.31).
-#[derive(Clone, Copy, Debug, PartialEq, Eq)]
+#[derive(Clone, Copy, Debug, Default, PartialEq, Eq)]
 pub enum Topology {
+    #[default]
     Inactive,
     Learning,
     Active,
 }
 
 /// Where the port's vector and times come from (17.19.10).
-#[derive(Clone, Copy, Debug, PartialEq, Eq)]
+#[derive(Clone, Copy, Debug, Default, PartialEq, Eq)]
 pub enum InfoIs {
     /// The port is not enabled.
+    #[default]
     Disabled,
     /// What was received is too old.
     Aged,
@@ -55,7 +60,8 @@ pub enum InfoIs {
 
 /// All that a port knows. Timers count seconds down to 0. Each field is named after the
 /// standard's variable (IEEE 802.1D-2004, 17.17 and 17.19), in whole words.
-#[derive(Clone, Copy)]
+/// The default is a port that isn't there: it fills the places of a list that no port has taken.
+#[derive(Clone, Copy, Default)]
 pub struct PortState {
     /// Priority in the top four bits, port number in the low twelve.
     pub identifier: PortId,

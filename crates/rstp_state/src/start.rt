@@ -1,12 +1,12 @@
 //! What a bridge is configured with, and the state in which its ports start.
 
-ghost use Rattle.std.specs.Prelude.{◌≡◌, ◌≤◌, length, IfOk};
+ghost use Rattle.std.specs.Prelude.{◌≡◌, ◌≤◌, length};
 ghost use Rattle.rstp_state.specs.Start.{own_times, own_vector, port_identifier, ports_from, start_port};
 
 use crate::port::{InfoIs, Information, Migration, PortState, Role, Topology};
 use crate::vector::{Times, Vector};
+use arrayvec::ArrayVec;
 use bpdu_wire::{BridgeId, PortId};
-use std::alloc::{AllocError, Global};
 
 /// What a bridge is configured with. Times are in seconds.
 #[derive(Clone, Copy, Debug, PartialEq, Eq)]
@@ -150,19 +150,14 @@ fn set_ports(settings: &Settings, ports: &[PortSettings], started: &mut [PortSta
     }
 }
 
-/// The ports before their first event, numbered from 1. Only a refused memory makes it fail.
-pub fn start_ports(
-    alloc: Global,
-    settings: &Settings,
-    ports: &[PortSettings],
-) -> Result<Vec<PortState>, AllocError>
-    requires some { 1 ≤ length ports.now }
-    requires few { length ports.now ≤ 64 }
-    ensures value { IfOk result (λ started. started.items ≡ ports_from 1 settings.now ports.now) }
-    ensures count { IfOk result (λ started. length started.items ≡ length ports.now) }
+/// The ports before their first event, numbered from 1.
+pub fn start_ports(settings: &Settings, ports: &[PortSettings]) -> ArrayVec<PortState, 64>
+    requires { length ports.now ≤ 64 }
+    ensures value { result.items ≡ ports_from 1 settings.now ports.now }
+    ensures count { length result.items ≡ length ports.now }
 {
-    let first = start_port(settings, &ports[0], 1);
-    let mut started = vec![in alloc; first; ports.len()]?;
+    let mut started = ArrayVec::from_array_in((), [PortState::default(); 64]);
+    started.truncate(ports.len());
     set_ports(settings, ports, &mut started);
-    Ok(started)
+    started
 }

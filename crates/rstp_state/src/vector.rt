@@ -7,7 +7,7 @@ use bpdu_wire::{BridgeId, Message, PortId};
 
 /// A priority vector: what a bridge says of its way to the root. Vectors are compared field by
 /// field in this order, and the lesser one is the better (IEEE 802.1D-2004, 17.5).
-#[derive(Clone, Copy, Debug, PartialEq, Eq, PartialOrd, Ord)]
+#[derive(Clone, Copy, Debug, Default, PartialEq, Eq, PartialOrd, Ord)]
 pub struct Vector {
     /// The bridge that is taken for the root.
     pub root: BridgeId,
@@ -20,7 +20,7 @@ pub struct Vector {
 }
 
 /// The times that a root gives out, in seconds.
-#[derive(Clone, Copy, Debug, PartialEq, Eq)]
+#[derive(Clone, Copy, Debug, Default, PartialEq, Eq)]
 pub struct Times {
     /// How many bridges a message has come through.
     pub message_age: u16,

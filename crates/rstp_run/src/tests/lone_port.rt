@@ -20,7 +20,7 @@ fn lone_port_comes_up_in_twenty_two_seconds(rt: HostRuntime) -> Result<(), Fail>
         auto_edge: false,
         ..USUAL_PORT
     };
-    let mut bridge = bridge_of_one(rt.alloc(), FIRST, port)?;
+    let mut bridge = bridge_of_one(FIRST, port);
     let first = sent_by(happen(&mut bridge, Event::PortUp(1)));
     assert_eq!(rt; first.as_slice(), FIRST_PROPOSAL.as_slice());
     for second in 1u8..20 {
@@ -45,7 +45,7 @@ fn lone_port_comes_up_in_twenty_two_seconds(rt: HostRuntime) -> Result<(), Fail>
 
 #[test]
 fn lone_port_finds_no_bridge_in_three_seconds(rt: HostRuntime) -> Result<(), Fail> {
-    let mut bridge = bridge_of_one(rt.alloc(), FIRST, USUAL_PORT)?;
+    let mut bridge = bridge_of_one(FIRST, USUAL_PORT);
     let _up = happen(&mut bridge, Event::PortUp(1));
     for second in 1u8..4 {
         assert!(rt; !passes(&bridge), "before {second}");
@@ -61,7 +61,7 @@ fn edge_port_passes_at_once_and_is_flushed_as_it_goes_down(rt: HostRuntime) -> R
         admin_edge: true,
         ..USUAL_PORT
     };
-    let mut bridge = bridge_of_one(rt.alloc(), FIRST, port)?;
+    let mut bridge = bridge_of_one(FIRST, port);
     let _up = happen(&mut bridge, Event::PortUp(1));
     assert!(rt; passes(&bridge));
     let down = happen(&mut bridge, Event::PortDown(1));
@@ -72,7 +72,7 @@ fn edge_port_passes_at_once_and_is_flushed_as_it_goes_down(rt: HostRuntime) -> R
 
 #[test]
 fn one_firing_leaves_the_bridge_unsettled(rt: HostRuntime) -> Result<(), Fail> {
-    let mut bridge = bridge_of_one(rt.alloc(), FIRST, USUAL_PORT)?;
+    let mut bridge = bridge_of_one(FIRST, USUAL_PORT);
     if bridge.len() == 1 {
         let outcome = bridge.event_within(Event::PortUp(1), 1);
         assert!(rt; !outcome.settled);

@@ -13,7 +13,7 @@ const CONFIG: [u8; 35] = [
 /// the port sends once its neighbour is too old: it tells of a change, and acknowledges one.
 #[test]
 fn firing_order_shows_in_flags(rt: HostRuntime) -> Result<(), Fail> {
-    let mut bridge = bridge_of_one(rt.alloc(), 0x02aa_0000_0002, USUAL_PORT)?;
+    let mut bridge = bridge_of_one(0x02aa_0000_0002, USUAL_PORT);
     let _up = happen(&mut bridge, Event::PortUp(1));
     for _second in 0..3 {
         let _second = happen(&mut bridge, Event::Second);

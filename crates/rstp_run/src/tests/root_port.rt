@@ -31,7 +31,7 @@ fn is_root(bridge: &Bridge) -> bool {
 
 #[test]
 fn port_becomes_root_and_passes_at_once(rt: HostRuntime) -> Result<(), Fail> {
-    let mut bridge = bridge_of_one(rt.alloc(), SECOND, USUAL_PORT)?;
+    let mut bridge = bridge_of_one(SECOND, USUAL_PORT);
     let _up = happen(&mut bridge, Event::PortUp(1));
     let sent = sent_by(receive(&mut bridge, &FIRST_PROPOSAL));
     assert_eq!(rt; sent.as_slice(), ANSWER.as_slice());
@@ -41,7 +41,7 @@ fn port_becomes_root_and_passes_at_once(rt: HostRuntime) -> Result<(), Fail> {
 
 #[test]
 fn cost_stops_at_the_greatest(rt: HostRuntime) -> Result<(), Fail> {
-    let mut bridge = bridge_of_one(rt.alloc(), SECOND, USUAL_PORT)?;
+    let mut bridge = bridge_of_one(SECOND, USUAL_PORT);
     let _up = happen(&mut bridge, Event::PortUp(1));
     let greatest = [0xff, 0xff, 0xff, 0xff];
     let sent = sent_by(receive(&mut bridge, &changed(FIRST_PROPOSAL, 13, &greatest)));
@@ -52,7 +52,7 @@ fn cost_stops_at_the_greatest(rt: HostRuntime) -> Result<(), Fail> {
 
 #[test]
 fn max_age_that_does_not_fit_is_written_as_the_greatest(rt: HostRuntime) -> Result<(), Fail> {
-    let mut bridge = bridge_of_one(rt.alloc(), SECOND, USUAL_PORT)?;
+    let mut bridge = bridge_of_one(SECOND, USUAL_PORT);
     let _up = happen(&mut bridge, Event::PortUp(1));
     let sent = sent_by(receive(&mut bridge, &changed(FIRST_PROPOSAL, 29, &[0xff, 0x01])));
     assert_eq!(rt;

@@ -5,10 +5,9 @@ use arrayvec::ArrayVec;
 use bpdu_wire::{Bpdu, BridgeId};
 use rstp_state::port::Role;
 use rstp_state::start::Settings;
-use std::alloc::{AllocError, Global};
 use std::test::Fail;
 
-fn bridge_of_two(alloc: Global, address: u64) -> Result<Bridge, AllocError> {
+fn bridge_of_two(address: u64) -> Bridge {
     let settings = Settings {
         identifier: BridgeId::new(0x8000_0000_0000_0000 | address),
         hello: 2,
@@ -16,13 +15,10 @@ fn bridge_of_two(alloc: Global, address: u64) -> Result<Bridge, AllocError> {
         forward_delay: 15,
         hold: 6,
     };
-    Bridge::new(
-        alloc,
-        BridgeConfig {
-            settings,
-            ports: &[USUAL_PORT, USUAL_PORT],
-        },
-    )
+    Bridge::new(BridgeConfig {
+        settings,
+        ports: &[USUAL_PORT, USUAL_PORT],
+    })
 }
 
 /// Whether the port has this role, and frames pass there or not.
@@ -52,13 +48,13 @@ struct Pair {
 }
 
 impl Pair {
-    fn new(alloc: Global) -> Result<Self, AllocError> {
-        Ok(Pair {
-            left: bridge_of_two(alloc, 0x02aa_0000_0001)?,
-            right: bridge_of_two(alloc, 0x02aa_0000_0002)?,
+    fn new() -> Self {
+        Pair {
+            left: bridge_of_two(0x02aa_0000_0001),
+            right: bridge_of_two(0x02aa_0000_0002),
             is_cut: false,
             under_way: ArrayVec::new(),
-        })
+        }
     }
 
     /// Puts what a bridge sent onto the links. Whether there was room, and the bridge has settled.
@@ -115,7 +111,7 @@ impl Pair {
 
 #[test]
 fn second_link_stands_by_for_the_first(rt: HostRuntime) -> Result<(), Fail> {
-    let mut pair = Pair::new(rt.alloc())?;
+    let mut pair = Pair::new();
     assert!(rt; pair.both(&Event::PortUp(1)));
     assert!(rt; pair.both(&Event::PortUp(2)));
     for second in 1u8..61 {

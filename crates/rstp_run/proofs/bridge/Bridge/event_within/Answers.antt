@@ -1,10 +1,24 @@
+use Rattle.std.proofs.Common.{arith}
+use Rattle.rstp_run.proofs.Kept.{happens_numbered}
 use Rattle.rstp_run.proofs.Orderly.{orderly-direct, orderly-run}
 use Rattle.rstp_run.proofs.Settled.{both-ways}
+use Rattle.rstp_run.proofs.Within.{flush-within, sent-at_ports}
 use Rattle.rstp_run.proofs.bridge.Bridge.event_within.Goals as goal
 
 pub invariant_of-self : goal.invariant_of-self
-invariant_of-self c = (
-  both-ways _ _ c.event_within-outcome.ensures.yes c.event_within-outcome.ensures.no,
-  orderly-run c.event_within-outcome.ensures.happens.firings _ _ c.event_within-outcome.ensures.happens.run
-      (orderly-direct _ c.self.inside.engine c.self.invariant.1),
-)
+invariant_of-self c =
+    let given = c.event_within-outcome.ensures in
+    let same = given.ports in
+    let some = c.self.invariant.3 in (
+      both-ways _ _ given.yes given.no,
+      orderly-run given.happens.firings _ _ given.happens.run (orderly-direct _ c.self.inside.engine c.self.invariant.1),
+      happens_numbered _ _ _ _ _ _ given.happens c.self.invariant.2,
+      omega arith,
+    )
+
+pub returns-clause-flushed_at : goal.returns-clause-flushed_at
+returns-clause-flushed_at c = λ p bit. flush-within _ _ _ _ _ _ c.event_within-outcome.ensures.happens p bit
+
+pub returns-clause-sent_at : goal.returns-clause-sent_at
+returns-clause-sent_at c =
+    rw c.event_within-outcome.ensures.out (sent-at_ports c.event_within-outcome.new.self.ports)
