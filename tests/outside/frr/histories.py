@@ -1,0 +1,142 @@
+#!/usr/bin/env python3
+"""Plays histories of routes to Debian's FRR and audits what it forwards. As root, with frr and iproute2:
+
+    apt-get install frr && python3 tests/outside/frr/histories.py [--keep FOLDER]
+
+FRR 8.4.4 goes on forwarding to another edge than its own best path after some histories, and the audit
+has to find that; of another version only that the audit and the kernel agree is asked. Not part of the gate.
+"""
+
+import json
+import os
+import random
+import subprocess
+import sys
+import tempfile
+from typing import List, Tuple
+
+from edge import TOOLS, VNI, Edge, Trouble
+
+sys.path.insert(0, TOOLS)
+import evpnd_audit as audit  # noqa: E402
+import evpnd_records as records  # noqa: E402
+
+FAULTY = "8.4.4"
+GONE, STATIC = "02:00:00:00:00:0a", "02:00:00:00:00:0b"
+FLOODS = [f"advert 10.0.0.{pe} {VNI} flood" for pe in range(1, 7)]
+MACS, ROUNDS, CHANGES = 200, 30, 60
+
+
+class Tally:
+    """What passed and what failed."""
+
+    def __init__(self) -> None:
+        self.passed = 0
+        self.failed = 0
+
+    def see(self, holds: bool, what: str) -> None:
+        """Counts a look."""
+        self.passed += holds
+        self.failed += not holds
+        print(("ok: " if holds else "FAILED: ") + what, flush=True)
+
+
+def audited(folder: str, *words: str) -> Tuple[int, str]:
+    """The audit's status and output of a saved view."""
+    done = subprocess.run(
+        [sys.executable, os.path.join(TOOLS, "evpnd_audit.py"), "--vni", str(VNI), *words, folder],
+        capture_output=True, encoding="utf-8", check=False,
+    )
+    return done.returncode, done.stdout + done.stderr
+
+
+def short_histories(edge: Edge, folder: str, tally: Tally) -> None:
+    """A withdrawn higher sequence; a static advert with sequence 0 against 3."""
+    edge.tell(FLOODS + [f"advert 10.0.0.1 {VNI} {GONE} seq 0"])
+    edge.tell([f"advert 10.0.0.2 {VNI} {GONE} seq 5"])
+    edge.tell([f"withdraw 10.0.0.2 {VNI} {GONE}", f"advert 10.0.0.1 {VNI} {STATIC} seq 3"])
+    edge.tell([f"advert 10.0.0.2 {VNI} {STATIC} static seq 0"])
+    edge.save(folder)
+    status, text = audited(folder)
+    print(text, end="")
+    kernel = audit.read_kernel(edge.entries(), "kernel", VNI)
+    places = {GONE: "10.0.0.1", STATIC: "10.0.0.2"}
+    wrong = {mac for mac, place in places.items() if kernel.get(records.read_mac(mac)) != place}
+    tally.see(status == (1 if wrong else 0), f"the status says whether the kernel is wrong ({len(wrong)} of 2 are)")
+    for mac, reason in ((GONE, "the only advert"), (STATIC, "static, against dynamic 3 of 10.0.0.1")):
+        line = f"wrong {VNI} {mac} owner {places[mac]} ({reason}); bgpd {places[mac]}, "
+        tally.see((line in text) == (mac in wrong), f"{mac} is told exactly where it is wrong")
+    if edge.version() == FAULTY:
+        tally.see(wrong == {GONE, STATIC}, f"FRR {FAULTY} goes wrong after both histories, and the audit finds both")
+
+
+def clean_history(edge: Edge, folder: str, tally: Tally) -> None:
+    """Each MAC said once by one router or by several: nothing moves, nothing is withdrawn."""
+    lines = [f"advert 10.0.0.{1 + place % 6} {VNI} 02:00:00:00:01:{place:02x} seq {place % 3}" for place in range(60)]
+    edge.tell(FLOODS + lines)
+    edge.save(folder)
+    status, text = audited(folder)
+    print(text, end="")
+    tally.see(status == 0, "after a history without moves all agree")
+
+
+def random_lines(random_numbers: random.Random) -> List[str]:
+    """Some changes, of distinct MACs, so that none overtakes another of its MAC."""
+    lines = []
+    for place in random_numbers.sample(range(MACS), CHANGES):
+        pe, mac = random_numbers.randint(1, 6), f"02:00:00:00:02:{place:02x}"
+        ip = f" ip 192.0.2.{place}" if random_numbers.random() < 0.2 else ""
+        kind = random_numbers.choice(["seq", "seq", "seq", "static", "withdraw"])
+        if kind == "withdraw":
+            lines.append(f"withdraw 10.0.0.{pe} {VNI} {mac}{ip}")
+        elif kind == "static":
+            lines.append(f"advert 10.0.0.{pe} {VNI} {mac}{ip} static seq 0")
+        else:
+            lines.append(f"advert 10.0.0.{pe} {VNI} {mac}{ip} seq {random_numbers.randint(0, 5)}")
+    return lines
+
+
+def random_history(edge: Edge, folder: str, tally: Tally) -> None:
+    """Random moves, static MACs and withdrawals."""
+    random_numbers = random.Random(7432)
+    edge.tell(FLOODS)
+    said: List[records.Update] = []
+    for turn in range(ROUNDS):
+        lines = random_lines(random_numbers)
+        edge.tell(lines)
+        said += [records.update_of_line(line)._replace(counter=turn + 1) for line in lines]
+    edge.save(folder)
+    status, text = audited(folder, "--json")
+    result = json.loads(text)[0] if status < 2 else {}
+    print(text if status == 2 else json.dumps(result["sums"]))
+    tally.see(status < 2 and result["sums"]["by rule"] == 0, "no difference is one of rule: bgpd's own best path is the owner")
+    program = audit.program_of(audit.parser().parse_args([]))
+    owners = audit.read_report(audit.run_report(program, said))
+    with open(os.path.join(folder, "routes.json"), encoding="utf-8") as stream:
+        snapshot = records.snapshot_of(records.Routes([VNI]), stream, "routes")
+    shown = audit.read_report(audit.run_report(program, list(snapshot.updates(lambda _: 1))))
+    equal = all(shown[station].owner == owned.owner if owned.owner else station not in shown for station, owned in owners.items())
+    tally.see(equal, f"the owners of the routes that FRR shows are those of the history that it was told ({len(owners)} MACs)")
+    kernel = audit.read_kernel(edge.entries(), "kernel", VNI)
+    wrong = sum(kernel.get(mac) != (records.address_text(owned.owner) if owned.owner else None) for (_, mac), owned in owners.items())
+    tally.see(status < 2 and len(result["macs"]) == wrong, f"the audit tells of {wrong} MACs, as the kernel's entries say")
+
+
+def main() -> int:
+    """Plays all histories, each to an edge of its own."""
+    keep = sys.argv[2] if sys.argv[1:2] == ["--keep"] and len(sys.argv) == 3 else None
+    tally = Tally()
+    with tempfile.TemporaryDirectory() as made:
+        for name, history in (("short", short_histories), ("clean", clean_history), ("random", random_history)):
+            try:
+                with Edge(name) as edge:
+                    print(f"-- {name}, FRR {edge.version()}", flush=True)
+                    history(edge, os.path.join(keep or made, name), tally)
+            except Trouble as trouble:
+                tally.see(False, f"{name}: {trouble}")
+    print(f"{tally.passed} passed, {tally.failed} failed")
+    return 1 if tally.failed else 0
+
+
+if __name__ == "__main__":
+    sys.exit(main())

@@ -1,0 +1,102 @@
+#!/usr/bin/env python3
+"""A small BGP speaker: readable lines (tools/evpnd_records.py) on standard input become EVPN UPDATEs.
+
+    speaker.py PEER OWN-ADDRESS
+
+It speaks as a route reflector would: one internal session, the next hop of each route is the line's
+originator. A route's octets are exactly those of its record (RFC 7432, 7.2 and 7.3), the attributes
+are RFC 4271's, RFC 4760's and RFC 4360's. 'up' on standard output says that the session stands.
+"""
+
+import os
+import socket
+import struct
+import sys
+import threading
+import time
+
+sys.path.insert(0, os.path.join(os.path.dirname(os.path.abspath(__file__)), "..", "..", "..", "tools"))
+import evpnd_records as records  # noqa: E402
+
+AUTONOMOUS_SYSTEM = 65000
+L2VPN_EVPN = struct.pack("!HB", 25, 70)
+OPEN, UPDATE, NOTIFICATION, KEEPALIVE = 1, 2, 3, 4
+ORIGIN, AS_PATH, LOCAL_PREF, REACH, UNREACH, COMMUNITIES, TUNNEL = 1, 2, 5, 14, 15, 16, 22
+VXLAN_ENCAPSULATION = bytes([3, 12, 0, 0, 0, 0, 0, 8])
+INGRESS_REPLICATION = bytes([0, 6])
+
+
+def message(kind: int, body: bytes) -> bytes:
+    """A BGP message."""
+    return b"\xff" * 16 + struct.pack("!HB", 19 + len(body), kind) + body
+
+
+def attribute(flags: int, kind: int, value: bytes) -> bytes:
+    """A path attribute with a length of two octets."""
+    return bytes([flags | 0x10, kind]) + struct.pack("!H", len(value)) + value
+
+
+def update_message(update: records.Update) -> bytes:
+    """The UPDATE that says an update."""
+    route = records.route_of(update)
+    if update.advert is None:
+        attributes = attribute(0x80, UNREACH, L2VPN_EVPN + route)
+    else:
+        target = struct.pack("!BBHI", 0, 2, AUTONOMOUS_SYSTEM, update.vni)
+        attributes = attribute(0x40, ORIGIN, b"\0") + attribute(0x40, AS_PATH, b"")
+        attributes += attribute(0x40, LOCAL_PREF, struct.pack("!I", 100))
+        attributes += attribute(0x80, REACH, L2VPN_EVPN + bytes([4]) + update.originator + b"\0" + route)
+        attributes += attribute(0xC0, COMMUNITIES, target + VXLAN_ENCAPSULATION + records.community_of(update))
+        if update.mac is None:
+            label = update.vni.to_bytes(3, "big")
+            attributes += attribute(0xC0, TUNNEL, INGRESS_REPLICATION + label + update.originator)
+    return message(UPDATE, b"\0\0" + struct.pack("!H", len(attributes)) + attributes)
+
+
+def open_message(own: str) -> bytes:
+    """The OPEN: EVPN, and numbers of autonomous systems in four octets."""
+    able = bytes([1, 4]) + struct.pack("!HBB", 25, 0, 70) + bytes([65, 4]) + struct.pack("!I", AUTONOMOUS_SYSTEM)
+    options = bytes([2, len(able)]) + able
+    head = bytes([4]) + struct.pack("!HH", AUTONOMOUS_SYSTEM, 180) + socket.inet_aton(own)
+    return message(OPEN, head + bytes([len(options)]) + options)
+
+
+def listen(session: socket.socket) -> None:
+    """Answers the peer's OPEN, and says when the session stands or is refused."""
+    held = b""
+    while True:
+        more = session.recv(65536)
+        if not more:
+            print("closed", flush=True)
+            return
+        held += more
+        while len(held) >= 19 and len(held) >= int.from_bytes(held[16:18], "big"):
+            length, kind = int.from_bytes(held[16:18], "big"), held[18]
+            if kind == OPEN:
+                session.sendall(message(KEEPALIVE, b""))
+                print("up", flush=True)
+            if kind == NOTIFICATION:
+                print("notification", held[19:length].hex(), flush=True)
+            held = held[length:]
+
+
+def keep(session: socket.socket) -> None:
+    """Keeps the session alive."""
+    while True:
+        time.sleep(20)
+        session.sendall(message(KEEPALIVE, b""))
+
+
+def main() -> None:
+    """Speaks until standard input ends."""
+    peer, own = sys.argv[1:3]
+    session = socket.create_connection((peer, 179), source_address=(own, 0))
+    session.sendall(open_message(own))
+    for work in (listen, keep):
+        threading.Thread(target=work, args=(session,), daemon=True).start()
+    for line in sys.stdin:
+        session.sendall(update_message(records.update_of_line(line)))
+
+
+if __name__ == "__main__":
+    main()

@@ -1,0 +1,361 @@
+"""The audit (tools/evpnd_audit.py): reports, what routers print, verdicts."""
+
+import json
+import os
+import random
+import shutil
+import subprocess
+import sys
+import tempfile
+import unittest
+
+from test_records import DATA, FIRST, TOP, answers
+
+import evpnd_audit as audit
+import evpnd_records as records
+
+PROGRAM = os.environ.get("EVPND") or audit.program_of(audit.parser().parse_args([]))
+needs_program = unittest.skipUnless(os.access(PROGRAM, os.X_OK), "evpnd isn't built")
+SHORT = os.path.join(DATA, "short")
+REPORT = """flood 5001 10.0.0.1 1 up
+mac 5001 02:00:00:00:00:0a 10.0.0.1 1 dynamic 0
+owner 5001 02:00:00:00:00:0a 10.0.0.1
+mac 5001 02:00:00:00:00:0b 10.0.0.1 1 dynamic 3
+mac 5001 02:00:00:00:00:0b 10.0.0.2 7.1 static 0 ip 192.0.2.1 label2 4001
+owner 5001 02:00:00:00:00:0b 10.0.0.2
+mac 5001 02:00:00:00:00:0c 10.0.0.1 2 withdrawn
+owner 5001 02:00:00:00:00:0c none
+"""
+
+
+def station(last: str) -> bytes:
+    """A MAC by its last octet."""
+    return bytes.fromhex("0200000000" + last)
+
+
+def run(*words: str) -> subprocess.CompletedProcess:
+    """The tool as a program."""
+    tool = os.path.join(TOP, "tools", "evpnd_audit.py")
+    return subprocess.run([sys.executable, tool, "--evpnd", PROGRAM, *words], capture_output=True, encoding="utf-8", check=False)
+
+
+class ReadsReports(unittest.TestCase):
+    """The report's lines (docs/routes.md)."""
+
+    def setUp(self):
+        self.report = audit.read_report(REPORT)
+
+    def test_owners(self):
+        owners = [owned.owner and records.address_text(owned.owner) for owned in self.report.values()]
+        self.assertEqual(owners, ["10.0.0.1", "10.0.0.2", None])
+
+    def test_reasons(self):
+        reasons = [audit.reason_of(owned) for owned in self.report.values()]
+        self.assertEqual(
+            reasons,
+            [("the only advert", "nowhere"), ("static, against dynamic 3 of 10.0.0.1", "10.0.0.1"), ("no router advertises it", "nowhere")],
+        )
+
+    def reason(self, *adverts: tuple) -> tuple:
+        """The reason among some adverts, (last octet of the address, static, sequence), of which the first wins."""
+        said = [audit.Said(bytes([10, 0, 0, last]), audit.Advert(static, sequence), "") for last, static, sequence in adverts]
+        return audit.reason_of(audit.Owned(said, said[0].originator))
+
+    def test_higher_sequence(self):
+        self.assertEqual(self.reason((2, False, 5), (1, False, 3), (3, False, 4)), ("the higher sequence 5, against dynamic 4 of 10.0.0.3", "10.0.0.3"))
+
+    def test_lower_address(self):
+        self.assertEqual(self.reason((1, False, 5), (3, False, 5), (2, False, 5)), ("the lower address at sequence 5, against dynamic 5 of 10.0.0.2", "10.0.0.2"))
+
+    def test_addresses_by_octets(self):
+        """10.0.0.9 is lower than 10.0.0.10, although its text isn't."""
+        self.assertEqual(self.reason((9, True, 1), (10, True, 1))[0], "the lower address at sequence 1, against static 1 of 10.0.0.10")
+
+    def test_an_owner_with_two_adverts(self):
+        self.assertEqual(self.reason((1, False, 0), (1, False, 7), (2, False, 6))[0], "the higher sequence 7, against dynamic 6 of 10.0.0.2")
+
+    def test_no_report(self):
+        with self.assertRaises(records.Unreadable):
+            audit.read_report("mac 5001\n")
+
+
+class Judges(unittest.TestCase):
+    """Where a MAC should go, and where zebra and the kernel send it."""
+
+    CASES = [
+        ("10.0.0.1", "10.0.0.1", "10.0.0.1", "equal"),
+        ("10.0.0.1", "10.0.0.2", "10.0.0.2", "wrong"),
+        ("10.0.0.1", "10.0.0.1", "10.0.0.2", "wrong"),
+        ("10.0.0.1", "10.0.0.2", "10.0.0.1", "wrong"),
+        ("10.0.0.1", "local", "nowhere", "wrong"),
+        ("10.0.0.1", "10.0.0.1", "nowhere", "missing"),
+        ("10.0.0.1", "nowhere", "nowhere", "missing"),
+        ("10.0.0.1", "unknown", "10.0.0.1", "equal"),
+        ("10.0.0.1", "unknown", "nowhere", "missing"),
+        ("10.0.0.1", "10.0.0.1", "10.0.0.1+10.0.0.2", "wrong"),
+        ("local", "local", "nowhere", "equal"),
+        ("local", "10.0.0.1", "10.0.0.1", "wrong"),
+        ("local", "local", "10.0.0.1", "wrong"),
+        ("local", "nowhere", "nowhere", "missing"),
+        ("nowhere", "nowhere", "nowhere", "equal"),
+        ("nowhere", "local", "nowhere", "equal"),
+        ("nowhere", "10.0.0.1", "nowhere", "extra"),
+        ("nowhere", "nowhere", "10.0.0.1", "extra"),
+    ]
+
+    def test_kinds(self):
+        for wanted, zebra, kernel, kind in self.CASES:
+            with self.subTest(wanted=wanted, zebra=zebra, kernel=kernel):
+                self.assertEqual(audit.kind_of(wanted, zebra, kernel), kind)
+
+
+class ReadsRouters(unittest.TestCase):
+    """What zebra and the kernel print."""
+
+    def text(self, name: str) -> str:
+        """A stored text of FRR 8.4.4."""
+        with open(os.path.join(SHORT, name), encoding="utf-8") as stream:
+            return stream.read()
+
+    def test_zebra(self):
+        found = audit.read_zebra(self.text("macs.json"), "macs", 5001)
+        self.assertEqual((found[station("0a")], found[station("0b")]), ("10.0.0.2", "10.0.0.1"))
+
+    def test_zebra_of_all_vnis(self):
+        one = json.loads(self.text("macs.json"))
+        found = audit.read_zebra(json.dumps({"5001": one, "5002": {"numMacs": 0, "macs": {}}}), "macs", 5001)
+        self.assertEqual(found, audit.read_zebra(self.text("macs.json"), "macs", 5001))
+
+    def test_local_macs(self):
+        found = audit.read_zebra('{"macs":{"02:00:00:00:00:0a":{"type":"local","intf":"up"},"02:00:00:00:00:0b":{"type":"auto"}}}', "macs", 5001)
+        self.assertEqual(found, {station("0a"): "local"})
+
+    def test_kernel(self):
+        found = audit.read_kernel(self.text("fdb.json"), "fdb", 5001)
+        self.assertEqual((found[station("0a")], found[station("0b")]), ("10.0.0.2", "10.0.0.1"))
+        self.assertNotIn(bytes(6), found)
+
+    def test_one_device_for_all_vnis(self):
+        entries = [{"mac": "02:00:00:00:00:0a", "dst": "10.0.0.1", "src_vni": 5001}, {"mac": "02:00:00:00:00:0a", "dst": "10.0.0.2", "src_vni": 5002}]
+        self.assertEqual(audit.read_kernel(json.dumps(entries), "fdb", 5002), {station("0a"): "10.0.0.2"})
+
+    def test_cannot_be_read(self):
+        for text in ("", "{", "{}", "[]", "3", '{"macs":3}', '{"macs":{"x":{"type":"local"}}}', '{"macs":{"02:00:00:00:00:0a":{}}}', "Error: VNI 77 doesn't exist"):
+            with self.subTest(text=text), self.assertRaises(records.Unreadable):
+                audit.read_zebra(text, "macs", 5001)
+        for text in ("", "[", "{}", "3", "[3]", "[{}]", '[{"mac":3}]', '[{"mac":"x"}]'):
+            with self.subTest(text=text), self.assertRaises(records.Unreadable):
+                audit.read_kernel(text, "fdb", 5001)
+
+
+class Views:
+    """A place for changed views."""
+
+    def __enter__(self):
+        self.folder = tempfile.mkdtemp()
+        return self
+
+    def __exit__(self, *_cause):
+        shutil.rmtree(self.folder)
+
+    def make(self, name: str, change=None) -> str:
+        """A copy of the stored view, with its texts changed: name of the text to its new text."""
+        path = os.path.join(self.folder, name)
+        shutil.copytree(SHORT, path)
+        for text, new in (change or {}).items():
+            if new is None:
+                os.remove(os.path.join(path, text))
+            else:
+                with open(os.path.join(path, text), "w", encoding="utf-8") as stream:
+                    stream.write(new)
+        return path
+
+
+GONE = (
+    "wrong 5001 02:00:00:00:00:0a owner 10.0.0.1 (the only advert); bgpd 10.0.0.1, zebra 10.0.0.2, kernel 10.0.0.2; "
+    "after a withdrawal nowhere; differs from bgpd's own best path: a fault of the forwarding plane"
+)
+STATIC = (
+    "wrong 5001 02:00:00:00:00:0b owner 10.0.0.2 (static, against dynamic 3 of 10.0.0.1); bgpd 10.0.0.2, zebra 10.0.0.1, kernel 10.0.0.1; "
+    "after a withdrawal 10.0.0.1; differs from bgpd's own best path: a fault of the forwarding plane"
+)
+
+
+@needs_program
+class Audits(unittest.TestCase):
+    """Whole audits of the stored view of FRR 8.4.4 after its two short histories."""
+
+    def test_short_histories(self):
+        done = run("--vni", "5001", SHORT)
+        self.assertEqual((done.returncode, done.stdout.splitlines()[:2]), (1, [GONE, STATIC]))
+        self.assertTrue(done.stdout.splitlines()[2].endswith(
+            "VNI 5001: 6 MACs, 4 equal, 2 wrong, 0 missing, 0 extra, 0 not judged; 2 unlike bgpd's own best path, 0 unlike the report alone"
+        ))
+
+    def test_one_mac(self):
+        done = run("--vni", "5001", "--mac", "02:00:00:00:00:0b", SHORT)
+        self.assertEqual((done.returncode, done.stdout.splitlines()[0], len(done.stdout.splitlines())), (1, STATIC, 2))
+
+    def test_json(self):
+        done = run("--vni", "5001", "--json", SHORT)
+        result = json.loads(done.stdout)[0]
+        self.assertEqual((done.returncode, result["sums"]["wrong"], [entry["mac"][-2:] for entry in result["macs"]]), (1, 2, ["0a", "0b"]))
+
+    def test_all_agree(self):
+        """The stored view with zebra and the kernel mended."""
+        with Views() as views, open(os.path.join(SHORT, "macs.json"), encoding="utf-8") as macs, open(os.path.join(SHORT, "fdb.json"), encoding="utf-8") as fdb:
+            zebra, kernel = json.load(macs), json.load(fdb)
+            for last, place in (("0a", "10.0.0.1"), ("0b", "10.0.0.2")):
+                zebra["macs"][f"02:00:00:00:00:{last}"]["remoteVtep"] = place
+                for entry in kernel:
+                    if entry["mac"].endswith(f":00:{last}") and "dst" in entry:
+                        entry["dst"] = place
+            path = views.make("mended", {"macs.json": json.dumps(zebra), "fdb.json": json.dumps(kernel)})
+            done = run("--vni", "5001", path)
+            self.assertEqual((done.returncode, len(done.stdout.splitlines())), (0, 1))
+
+    def test_without_best_paths(self):
+        with Views() as views:
+            done = run("--vni", "5001", views.make("bare", {"best.json": None}))
+            self.assertEqual(done.returncode, 1)
+            self.assertIn("bgpd unknown", done.stdout)
+            self.assertIn("bgpd's own best path isn't known", done.stdout)
+
+    def test_difference_of_rule(self):
+        """bgpd itself prefers what is forwarded: not a fault of the forwarding plane."""
+        with Views() as views, open(os.path.join(SHORT, "best.json"), encoding="utf-8") as stream:
+            best = json.load(stream)
+            for paths in best["[2]:[0]:[48]:[02:00:00:00:00:0b]"]["paths"]:
+                paths[0]["bestpath"] = paths[0]["nexthops"][0]["ip"] == "10.0.0.1"
+            done = run("--vni", "5001", views.make("rule", {"best.json": json.dumps(best)}))
+            self.assertEqual(done.returncode, 1)
+            self.assertIn("bgpd 10.0.0.1, zebra 10.0.0.1, kernel 10.0.0.1; after a withdrawal 10.0.0.1; bgpd's own best path is there", done.stdout)
+
+    def test_multihomed_is_not_judged(self):
+        with Views() as views, open(os.path.join(SHORT, "routes.json"), encoding="utf-8") as stream:
+            routes = json.load(stream)
+            routes["10.0.0.1:1"]["[2]:[0]:[48]:[02:00:00:00:00:0b]"]["paths"][0][0]["esi"] = "03:00:00:00:00:00:00:00:00:01"
+            done = run("--vni", "5001", views.make("multihomed", {"routes.json": json.dumps(routes)}))
+            self.assertIn("1 wrong, 0 missing, 0 extra, 1 not judged", done.stdout)
+            self.assertIn("left out 1: a nonzero ESI (multihomed)", done.stderr)
+
+    def test_two_views(self):
+        """A second router that shows nothing of 10.0.0.2: the report is of both sets together."""
+        with Views() as views, open(os.path.join(SHORT, "routes.json"), encoding="utf-8") as stream:
+            routes = json.load(stream)
+            del routes["10.0.0.2:1"]
+            done = run("--vni", "5001", views.make("one"), views.make("two", {"routes.json": json.dumps(routes)}))
+            self.assertEqual((done.returncode, sum(line.endswith(STATIC) for line in done.stdout.splitlines())), (1, 2))
+
+    def test_a_view_that_was_not_told(self):
+        """The second router knows nothing of the owner, and forwards by what it knows."""
+        with Views() as views, open(os.path.join(SHORT, "routes.json"), encoding="utf-8") as routes, open(
+            os.path.join(SHORT, "best.json"), encoding="utf-8"
+        ) as best:
+            fewer, paths = json.load(routes), json.load(best)
+            del fewer["10.0.0.2:1"]
+            entry = paths["[2]:[0]:[48]:[02:00:00:00:00:0b]"]
+            entry["paths"] = [path for path in entry["paths"] if path[0]["nexthops"][0]["ip"] == "10.0.0.1"]
+            entry["paths"][0][0]["bestpath"] = True
+            two = views.make("two", {"routes.json": json.dumps(fewer), "best.json": json.dumps(paths)})
+            done = run("--vni", "5001", "--mac", "02:00:00:00:00:0b", views.make("one"), two)
+            self.assertEqual(done.returncode, 1)
+            self.assertIn("this router shows no route of the owner", done.stdout)
+
+    def test_report_of_before(self):
+        with Views() as views:
+            report = os.path.join(views.folder, "report")
+            with open(report, "w", encoding="utf-8") as stream:
+                stream.write(REPORT)
+            done = run("--vni", "5001", "--report", report, "--mac", "02:00:00:00:00:0b", SHORT)
+            self.assertEqual((done.returncode, done.stdout.splitlines()[0]), (1, STATIC))
+
+    def test_cannot_be_read(self):
+        with Views() as views:
+            cases = [
+                ("--vni", "77", SHORT), ("--vni", "5001", "/nowhere"), (SHORT,), ("--vni", "5001,5002", SHORT),
+                ("--vni", "5001", "--vtysh", "/nowhere/vtysh"), ("--vni", "5001", "--evpnd", "/nowhere/evpnd", SHORT),
+                ("--vni", "5001", "--report", "/nowhere", SHORT),
+            ]
+            for place, text in enumerate(("", "{", "[]", "garbage", "{}")):
+                for name in ("routes.json", "best.json", "macs.json", "fdb.json"):
+                    if (name, text) != ("fdb.json", "[]"):
+                        cases.append(("--vni", "5001", views.make(f"{place}{name}", {name: text})))
+            cases.append(("--vni", "5001", views.make("nothing", {"macs.json": None, "fdb.json": None})))
+            for words in cases:
+                with self.subTest(words=words):
+                    done = run(*words)
+                    self.assertEqual((done.returncode, done.stdout), (2, ""))
+                    self.assertRegex(done.stderr, r"^evpnd_audit: [^\n]+\n$")
+
+    def test_usage(self):
+        for words in (("--vni", "x"), ("--mac", "x"), ("--colour",)):
+            with self.subTest(words=words):
+                self.assertEqual(run(*words).returncode, 2)
+
+
+@needs_program
+class AgreesWithTheProgram(unittest.TestCase):
+    """The proved program reads records as these tools do."""
+
+    def report(self, octets: bytes, *originators: str) -> subprocess.CompletedProcess:
+        """What the program answers."""
+        words = [PROGRAM, "report", "--originators", ",".join(originators)]
+        return subprocess.run(words, input=octets, capture_output=True, check=False)
+
+    def test_stored_routes_are_taken_whole(self):
+        with open(os.path.join(DATA, "routes.json"), encoding="utf-8") as stream:
+            snapshot = records.snapshot_of(records.Routes([5001]), stream, "routes")
+        updates = list(snapshot.updates(lambda _: 1))
+        octets = b"".join(records.record_of(update) for update in updates)
+        done = self.report(octets, *sorted({records.address_text(update.originator) for update in updates}))
+        self.assertEqual((done.returncode, done.stderr), (0, b""))
+        owned = audit.read_report(done.stdout.decode())
+        self.assertEqual(len(owned), len({update.mac for update in updates if update.mac}))
+        for (_, mac), part in owned.items():
+            self.assertEqual(part.owner, audit.best_of(part.adverts).originator, mac)
+
+    def test_more_originators_than_a_table_has(self):
+        """200 MACs of 100 routers, two a MAC: several tables, each MAC in one."""
+        updates = [
+            records.update_of_line(f"advert 10.0.{router}.1 5001 02:00:00:00:00:{place:02x} seq {router % 3}")
+            for place in range(200) for router in (place % 100, (place * 7 + 1) % 100)
+        ]
+        stations: dict = {}
+        for update in updates:
+            stations.setdefault((5001, update.mac), []).append(update)
+        parts = list(audit.parts_of(stations))
+        self.assertEqual(sum(len(part) for part in parts), len(updates))
+        self.assertTrue(all(len({update.originator for update in part}) <= 64 for part in parts))
+        owned: dict = {}
+        for part in parts:
+            owned.update(audit.read_report(audit.run_report(PROGRAM, part)))
+        self.assertEqual(len(owned), 200)
+
+    def test_changed_records(self):
+        """Records with an octet changed here and there: the same refusals, fault and updates."""
+        random_numbers = random.Random(4556)
+        kinds = [FIRST] + [
+            records.record_of(records.update_of_line(line))
+            for line in (
+                "advert 10.0.0.1 5001 02:00:00:00:00:0b ip 192.0.2.10 static seq 3", "withdraw 10.0.0.1 5001 02:00:00:00:00:0b ip 192.0.2.10",
+                "advert 10.0.0.1 5001 flood", "withdraw 10.0.0.1 5001 flood", "advert 10.0.0.1 5001 02:00:00:00:00:0c ip 2001:db8::1 seq 1 label2 7",
+            )
+        ]
+        stream = b""
+        for _turn in range(1500):
+            record = bytearray(random_numbers.choice(kinds))
+            record[random_numbers.randrange(18, len(record))] = random_numbers.choice([0, 1, 2, 32, 255])
+            stream += bytes(record)
+        found = answers(stream)
+        self.assertEqual(len(found), 1500)
+        notes = [f"record {number} refused {answer.number}" for number, answer in enumerate(found, 1) if isinstance(answer, records.Refused)]
+        taken = [answer for answer in found if isinstance(answer, records.Update)]
+        done = self.report(stream, *sorted({records.address_text(update.originator) for update in taken}))
+        self.assertEqual((done.returncode, done.stderr.decode().splitlines()), (0, notes))
+        again = self.report(b"".join(records.record_of(update) for update in taken), *sorted({records.address_text(update.originator) for update in taken}))
+        self.assertEqual(again.stdout, done.stdout)
+
+
+if __name__ == "__main__":
+    unittest.main()
