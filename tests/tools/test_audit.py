@@ -36,7 +36,7 @@ def station(last: str) -> bytes:
 def run(*words: str) -> subprocess.CompletedProcess:
     """The tool as a program."""
     tool = os.path.join(TOP, "tools", "evpnd_audit.py")
-    return subprocess.run([sys.executable, tool, "--evpnd", PROGRAM, *words], capture_output=True, encoding="utf-8", check=False)
+    return subprocess.run([sys.executable, "-S", tool, "--evpnd", PROGRAM, *words], capture_output=True, encoding="utf-8", check=False)
 
 
 class ReadsReports(unittest.TestCase):

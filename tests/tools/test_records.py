@@ -49,7 +49,7 @@ def lines(octets: bytes) -> list:
 def run(*words: str, given: bytes = b"") -> subprocess.CompletedProcess:
     """The tool as a program."""
     tool = os.path.join(TOP, "tools", "evpnd_records.py")
-    return subprocess.run([sys.executable, tool, *words], input=given, capture_output=True, check=False)
+    return subprocess.run([sys.executable, "-S", tool, *words], input=given, capture_output=True, check=False)
 
 
 class ReadsRecords(unittest.TestCase):
