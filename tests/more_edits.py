@@ -2,24 +2,42 @@
 
 usage: more_edits.py applies CRATE..     says which edits of both shelves can't be applied
        more_edits.py at-once CRATE..     tries those of more-edits/; meanwhile it changes the sources below crates/
+       more_edits.py unfold CRATE..      puts each edit of more-edits/ into must-fail/ as a file of its own, in the place of those
+
+The second shelf of a crate is one file, more-edits/all.edits: blocks with an empty line between, each a line `edit: NAME` and
+then the lines of an edit. Files more-edits/NAME.edit are read too.
 """
 import re
+import shutil
 import subprocess
 import sys
 from pathlib import Path
+from typing import NamedTuple
 
 HEAD = re.compile(r"\bfn (\w+)")
+BLOCK = re.compile(r"^edit: (.*)\n", re.M)
+
+
+class Edit(NamedTuple):
+    """An edit: where it stands, its crate, and its lines."""
+
+    name: str
+    crate: str
+    text: str
+
+    def __str__(self):
+        return self.name
 
 
 def apply(edit, texts):
     """Applies the edit to the texts by file, filling in those of its crate. Returns the texts, and the names of the
     functions that it changes; or why it can't be applied."""
     texts, functions, file, old = dict(texts), set(), None, None
-    for line in edit.read_text().split("\n"):
+    for line in edit.text.split("\n"):
         word, _, rest = line.partition(":")
         rest = rest[rest.startswith(" "):]
         if word == "file":
-            file = edit.parent.parent / rest
+            file = Path("crates", edit.crate, rest)
             texts.setdefault(file, file.read_text())
         elif word == "old":
             old = rest
@@ -36,7 +54,36 @@ def apply(edit, texts):
 
 
 def edits_of(crate, *shelves):
-    return [edit for shelf in shelves for edit in sorted(Path("crates", crate, shelf).glob("*.edit"))]
+    """The edits of a crate: each file of its own, and each block of all.edits."""
+    edits = []
+    for shelf in shelves:
+        folder = Path("crates", crate, shelf)
+        edits += [Edit(str(file), crate, file.read_text()) for file in sorted(folder.glob("*.edit"))]
+        if (folder / "all.edits").exists():
+            edits += blocks_of(folder / "all.edits", crate)
+    return edits
+
+
+def blocks_of(file, crate):
+    """The blocks of all.edits; what stands in front of the first one, or two of one name, is a fault of the file."""
+    head, *parts = BLOCK.split(file.read_text())
+    names = parts[::2]
+    if head.strip() or len(set(names)) != len(names) or not all(re.fullmatch(r"[\w.-]+", name) for name in names):
+        sys.exit(f"{file}: blocks begin with a line 'edit: NAME', and no two have one name")
+    return [Edit(f"{file}: {name}", crate, text.rstrip("\n") + "\n") for name, text in zip(names, parts[1::2])]
+
+
+def unfold(crates):
+    for crate in crates:
+        edits = edits_of(crate, "more-edits")
+        folder = Path("crates", crate, "must-fail")
+        shutil.rmtree(folder, ignore_errors=True)
+        if edits:
+            folder.mkdir()
+        for edit in edits:
+            name = edit.name.rpartition(": ")[2].rpartition("/")[2].removesuffix(".edit")
+            (folder / f"{name}.edit").write_text(edit.text)
+    return True
 
 
 def applies(crates):
@@ -91,4 +138,4 @@ def at_once(crates):
 
 
 if __name__ == "__main__":
-    sys.exit(not {"applies": applies, "at-once": at_once}[sys.argv[1]](sys.argv[2:]))
+    sys.exit(not {"applies": applies, "at-once": at_once, "unfold": unfold}[sys.argv[1]](sys.argv[2:]))

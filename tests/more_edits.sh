@@ -1,7 +1,7 @@
 #!/usr/bin/env bash
 # usage: tests/more_edits.sh [--applies | --at-once] [CRATE..]        (default: every crate)
 #
-# Tries the second shelf of wrong bodies, crates/CRATE/more-edits/*.edit. The checker has to refuse each of them, as it has to
+# Tries the second shelf of wrong bodies, crates/CRATE/more-edits/all.edits. The checker has to refuse each of them, as it has to
 # refuse those in must-fail/. The gate tries must-fail/ alone: an edit costs it 15 to 25 seconds, so there stand the wrong
 # bodies that one would fear most and the most telling of each main call. Here stands one for nearly each other public function.
 #
@@ -44,10 +44,9 @@ if [ "$mode" = --at-once ]; then
 fi
 
 status=0
+python3 tests/more_edits.py unfold "$@"
 for crate in "$@"; do
-  rm -rf "crates/$crate/must-fail"
-  if [ -d "crates/$crate/more-edits" ]; then
-    mv "crates/$crate/more-edits" "crates/$crate/must-fail"
+  if [ -d "crates/$crate/must-fail" ]; then
     rt must-fail "$crate" || status=1
   fi
 done
