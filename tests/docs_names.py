@@ -136,6 +136,8 @@ def main() -> int:
         looked += count
         passed += not faults
         failed += bool(faults)
+    if subprocess.run([sys.executable, "tools/crates_svg.py", "--check"], check=False).returncode:
+        print("note: docs/crates.svg isn't the drawing of crates.txt: run python3 tools/crates_svg.py")
     print(f"{looked} names and links in {passed + failed} documents")
     print(f"{passed} passed, {failed} failed")
     return 1 if failed or not looked else 0

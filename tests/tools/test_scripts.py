@@ -1,0 +1,137 @@
+"""The scripts that look after the repository: its drawing, its edits, its documents."""
+
+import os
+import subprocess
+import sys
+import tempfile
+import unittest
+
+from test_records import TOP
+
+sys.path.insert(0, os.path.join(TOP, "tests"))
+import crates_svg
+import docs_names
+import more_edits
+
+EDITS = """edit: one_for_two
+file: src/lib.rt
+old: let x = 1;
+new: let x = 2;
+
+edit: other_way
+file: src/lib.rt
+old: a < b
+new: a <= b
+old: a <= b
+new: b < a
+"""
+
+
+class Folder(unittest.TestCase):
+    """Tests that work in a folder of their own."""
+
+    def setUp(self):
+        self.folder = tempfile.TemporaryDirectory()
+        self.addCleanup(self.folder.cleanup)
+        self.addCleanup(os.chdir, os.getcwd())
+        os.chdir(self.folder.name)
+
+    def write(self, path: str, text: str) -> None:
+        """A file with its folders."""
+        os.makedirs(os.path.dirname(path) or ".", exist_ok=True)
+        with open(path, "w", encoding="utf-8") as stream:
+            stream.write(text)
+
+
+class Edits(Folder):
+    """tests/more_edits.py: edits as files, and as blocks of one file."""
+
+    def setUp(self):
+        super().setUp()
+        self.write("crates/low/src/lib.rt", "fn f() {\n    let x = 1;\n    a < b\n}\n")
+        self.write("crates/low/more-edits/all.edits", EDITS)
+        self.write("crates/low/must-fail/feared.edit", "file: src/lib.rt\nold: let x = 1;\nnew: let x = 3;\n")
+
+    def run_script(self, *words: str) -> subprocess.CompletedProcess:
+        """The script as a program."""
+        script = os.path.join(TOP, "tests", "more_edits.py")
+        return subprocess.run([sys.executable, script, *words], capture_output=True, encoding="utf-8", check=False)
+
+    def test_both_forms_apply(self):
+        done = self.run_script("applies", "low")
+        self.assertEqual((done.returncode, done.stdout), (0, "3 edits, 0 that can't be applied\n"))
+
+    def test_an_edit_that_no_longer_fits(self):
+        self.write("crates/low/src/lib.rt", "fn f() {\n    let x = 1;\n    a > b\n}\n")
+        done = self.run_script("applies", "low")
+        self.assertEqual(done.returncode, 1)
+        self.assertIn("crates/low/more-edits/all.edits: other_way: in crates/low/src/lib.rt this stands 0 times: a < b", done.stdout)
+
+    def test_blocks_have_names(self):
+        for text in ("file: src/lib.rt\n" + EDITS, EDITS + EDITS, EDITS.replace("one_for_two", "one for two")):
+            self.write("crates/low/more-edits/all.edits", text)
+            self.assertEqual(self.run_script("applies", "low").returncode, 1)
+
+    def test_unfold(self):
+        self.assertEqual(self.run_script("unfold", "low").returncode, 0)
+        self.assertEqual(sorted(os.listdir("crates/low/must-fail")), ["one_for_two.edit", "other_way.edit"])
+        with open("crates/low/must-fail/one_for_two.edit", encoding="utf-8") as stream:
+            self.assertEqual(stream.read(), "file: src/lib.rt\nold: let x = 1;\nnew: let x = 2;\n")
+
+    def test_edits_of_the_repository_apply(self):
+        os.chdir(TOP)
+        crates = sorted(os.listdir("crates"))
+        edits = [edit for crate in crates for edit in more_edits.edits_of(crate, "must-fail", "more-edits")]
+        faults = [f"{edit}: {why}" for edit, (texts, why) in ((edit, more_edits.apply(edit, {})) for edit in edits) if texts is None]
+        self.assertEqual(faults, [])
+
+
+class Documents(Folder):
+    """tests/docs_names.py: names and links that lead nowhere."""
+
+    def faults(self, text: str) -> list:
+        """What a document with this text is told."""
+        self.write("docs/page.md", text)
+        files = ["crates/low/src/lib.rt", "crates/low/specs/Table.antt", "docs/page.md", "docs/other.md"]
+        self.write("docs/other.md", "")
+        return docs_names.faults_of("docs/page.md", files, {"Table", "take_all", "low", "take", "lib"})[1]
+
+    def test_what_is_there(self):
+        self.assertEqual(self.faults("`Table::{take, take_all}`, `low/specs/Table.antt`, `src/lib.rt`, `take(x)`, [x](other.md#part), [y](https://z)\n"), [])
+
+    def test_what_is_not(self):
+        cases = {
+            "`give_all`": "no name give_all", "`Table::give`": "no name give", "`Giver`": "no name Giver", "`specs/Giver.antt`": "no file specs/Giver.antt",
+            "[x](nowhere.md)": "the link to nowhere.md leads nowhere", "`Table::{take, give}`": "no name give",
+        }
+        for text, fault in cases.items():
+            with self.subTest(text=text):
+                self.assertEqual(self.faults(f"# T\n\n{text}\n"), [f"docs/page.md:3: {fault}"])
+
+    def test_blocks_and_plain_words_are_left_alone(self):
+        self.assertEqual(self.faults("```\n`give_all`\n```\n    `give_all`\n`owner VNI MAC none` and give_all\n"), [])
+
+    def test_comments_are_no_code(self):
+        self.write("crates/low/src/lib.rt", "// give_all\nfn take_all() {}\n")
+        words = docs_names.words_of_code(["crates/low/src/lib.rt"])
+        self.assertTrue("take_all" in words and "give_all" not in words)
+
+
+class Drawing(unittest.TestCase):
+    """tools/crates_svg.py: each crate above those that it names."""
+
+    CRATES = crates_svg.crates_of("# NAME: ..\nlow: arrayvec\nmiddle: low arrayvec\ntop: middle low\nalone:\n")
+
+    def test_names(self):
+        self.assertEqual(self.CRATES, {"low": [], "middle": ["low"], "top": ["middle", "low"], "alone": []})
+
+    def test_rows(self):
+        self.assertEqual([sorted(row) for row in crates_svg.rows_of(self.CRATES)], [["alone", "low"], ["middle"], ["top"]])
+
+    def test_only_the_nearest_are_joined(self):
+        self.assertEqual(crates_svg.nearest(self.CRATES, "top"), ["middle"])
+        self.assertEqual(crates_svg.drawing_of(self.CRATES).count("<path "), 2)
+
+
+if __name__ == "__main__":
+    unittest.main()
