@@ -574,10 +574,18 @@ class Routes:
         """One path, or nothing with its cause counted."""
         if match is None or match["type"] not in ("2", "3") or (match["type"] == "2" and match["mac"] is None):
             return self.leave("neither a MAC route nor an inclusive multicast route")
-        vni, static, sequence = self.community(path.get("extendedCommunity", {}).get("string", ""))
-        if vni is None:
-            return self.leave("another route target")
+        labels = LABELS.fullmatch(str(path.get("VNI", "") if match["type"] == "2" else path.get("pmsi", {}).get("label", "")))
+        target, static, sequence = self.community(path.get("extendedCommunity", {}).get("string", ""))
+        label = int(labels[1]) if labels else target
+        vni = target if target is not None else label
+        if vni not in self.vnis:
+            return self.leave("another route target" if labels is None else "another route target and label")
         mac = read_mac(match["mac"]) if match["type"] == "2" else None
+        if label != vni:
+            self.unjudged.add((vni, mac))
+            return self.leave("a label that isn't the VNI of the route target")
+        if target is None:
+            self.told["taken by the VNI in their label: no route target names it"] += 1
         if match["tag"] != "0":
             return self.leave("an Ethernet Tag other than 0")
         if path.get("valid") is not True:
@@ -602,7 +610,7 @@ class Routes:
             mac,
             read_ip(match["ip"]) if match["ip"] else b"",
             self.address(hop),
-            self.advert(static, sequence, path.get("VNI", "") if mac is not None else ""),
+            self.advert(static, sequence, int(labels[2]) if labels and labels[2] else None),
             int(path["lastUpdate"]["epoch"]) if "lastUpdate" in path else 0,
             best.get("overall") is True if isinstance(best, dict) else best is True,
             path.get("peerId") == "(unspec)" or path.get("local") is True,
@@ -626,10 +634,8 @@ class Routes:
         number = int(target.rpartition(":")[2])
         return self.targets.get(target, number - AUTO_RT if number >= AUTO_RT else number)
 
-    def advert(self, static: bool, sequence: int, labels: str) -> Advert:
+    def advert(self, static: bool, sequence: int, label2: Optional[int]) -> Advert:
         """The advert, one object for all that are equal."""
-        match = LABELS.fullmatch(labels)
-        label2 = int(match[2]) if match and match[2] else None
         return self.adverts.setdefault((static, sequence, label2), Advert(static, sequence, label2))
 
     def rd_address(self, rd: str) -> Optional[str]:

@@ -282,6 +282,17 @@ class LeavesOut(unittest.TestCase):
         found = self.made(("10.0.0.1:1", PREFIX, {"VNI": "5001/4001"}))[0]
         self.assertEqual(found, [f"advert 10.0.0.1 {STATION} seq 0 label2 4001"])
 
+    def test_label_names_the_vni(self):
+        """Only `detail json` has labels: they name the VNI where no route target does, and have to agree where one does."""
+        other = {"extendedCommunity": {"string": "RT:65000:77"}}
+        found, told = self.made(("10.0.0.1:1", PREFIX, {**other, "VNI": "5001"}))
+        self.assertEqual(found, [f"advert 10.0.0.1 {STATION} seq 0"])
+        self.assertEqual(told, b"told 1: taken by the VNI in their label: no route target names it\n")
+        self.assertEqual(self.made(("10.0.0.1:1", PREFIX, {**other, "VNI": "78"})), ([], b"left out 1: another route target and label\n"))
+        self.assertEqual(self.made(("10.0.0.1:1", PREFIX, {"VNI": "78"})), ([], b"left out 1: a label that isn't the VNI of the route target\n"))
+        flood = "[3]:[0]:[32]:[10.0.0.1]"
+        self.assertEqual(self.made(("10.0.0.1:2", flood, {**other, "pmsi": {"label": 5001}}))[1].count(b"taken by the VNI"), 1)
+
     def test_vanished_route_is_withdrawn(self):
         before = os.path.join(DATA, "short", "routes.json")
         with open(before, encoding="utf-8") as stream:

@@ -41,13 +41,21 @@ class Tally:
         print(("ok: " if holds else "FAILED: ") + what, flush=True)
 
 
-def audited(folder: str, *words: str) -> Tuple[int, str]:
-    """The audit's status and output of a saved view."""
-    done = subprocess.run(
-        [sys.executable, os.path.join(TOOLS, "evpnd_audit.py"), "--vni", str(VNI), *words, folder],
-        capture_output=True, encoding="utf-8", check=False,
-    )
+def said(*words: str) -> Tuple[int, str]:
+    """A command's status, and what it says."""
+    done = subprocess.run(words, capture_output=True, encoding="utf-8", check=False)
     return done.returncode, done.stdout + done.stderr
+
+
+def audited(*words: str) -> Tuple[int, str]:
+    """The audit of saved views."""
+    return said(sys.executable, os.path.join(TOOLS, "evpnd_audit.py"), "--vni", str(VNI), *words)
+
+
+def audited_there(edge: Edge) -> Tuple[int, str]:
+    """The audit of the edge itself, in its namespace."""
+    there = ["ip", "netns", "exec", edge.inside, sys.executable, os.path.join(TOOLS, "evpnd_audit.py")]
+    return said(*there, "--vtysh", " ".join(edge.shell_words()))
 
 
 def short_histories(edge: Edge, folder: str, tally: Tally) -> None:
@@ -59,6 +67,7 @@ def short_histories(edge: Edge, folder: str, tally: Tally) -> None:
     edge.save(folder)
     status, text = audited(folder)
     print(text, end="")
+    tally.see(audited_there(edge) == (status, text.replace(f"{folder}: VNI", "this host: VNI")), "on the host itself the audit says the same")
     kernel = audit.read_kernel(edge.entries(), "kernel", VNI)
     places = {GONE: "10.0.0.1", STATIC: "10.0.0.2"}
     wrong = {mac for mac, place in places.items() if kernel.get(records.read_mac(mac)) != place}
@@ -68,6 +77,21 @@ def short_histories(edge: Edge, folder: str, tally: Tally) -> None:
         tally.see((line in text) == (mac in wrong), f"{mac} is told exactly where it is wrong")
     if edge.version() == FAULTY:
         tally.see(wrong == {GONE, STATIC}, f"FRR {FAULTY} goes wrong after both histories, and the audit finds both")
+
+
+def two_views(edge: Edge, folder: str, tally: Tally) -> None:
+    """A second edge hears of the static MAC's first advert alone: its own view agrees, the view of both doesn't."""
+    edge.tell(FLOODS + [f"advert 10.0.0.1 {VNI} {STATIC} seq 3"])
+    edge.tell([f"advert 10.0.0.2 {VNI} {STATIC} static seq 0"])
+    edge.save(f"{folder}-one")
+    with Edge("other") as other:
+        other.tell(FLOODS + [f"advert 10.0.0.1 {VNI} {STATIC} seq 3"])
+        other.save(f"{folder}-two")
+    tally.see(audited("--mac", STATIC, f"{folder}-two")[0] == 0, "alone the second edge forwards by what it knows")
+    status, text = audited("--mac", STATIC, f"{folder}-one", f"{folder}-two")
+    print(text, end="")
+    line = f"{folder}-two: wrong {VNI} {STATIC} owner 10.0.0.2 (static, against dynamic 3 of 10.0.0.1); bgpd 10.0.0.1, zebra 10.0.0.1, "
+    tally.see(status == 1 and line in text and "shows no route of the owner" in text, "beside the first one's routes it doesn't, and why is told")
 
 
 def clean_history(edge: Edge, folder: str, tally: Tally) -> None:
@@ -100,18 +124,18 @@ def random_history(edge: Edge, folder: str, tally: Tally) -> None:
     """Random moves, static MACs and withdrawals."""
     random_numbers = random.Random(7432)
     edge.tell(FLOODS)
-    said: List[records.Update] = []
+    told: List[records.Update] = []
     for turn in range(ROUNDS):
         lines = random_lines(random_numbers)
         edge.tell(lines)
-        said += [records.update_of_line(line)._replace(counter=turn + 1) for line in lines]
+        told += [records.update_of_line(line)._replace(counter=turn + 1) for line in lines]
     edge.save(folder)
-    status, text = audited(folder, "--json")
+    status, text = audited("--json", folder)
     result = json.loads(text)[0] if status < 2 else {}
     print(text if status == 2 else json.dumps(result["sums"]))
     tally.see(status < 2 and result["sums"]["by rule"] == 0, "no difference is one of rule: bgpd's own best path is the owner")
     program = audit.program_of(audit.parser().parse_args([]))
-    owners = audit.read_report(audit.run_report(program, said))
+    owners = audit.read_report(audit.run_report(program, told))
     with open(os.path.join(folder, "routes.json"), encoding="utf-8") as stream:
         snapshot = records.snapshot_of(records.Routes([VNI]), stream, "routes")
     shown = audit.read_report(audit.run_report(program, list(snapshot.updates(lambda _: 1))))
@@ -127,7 +151,7 @@ def main() -> int:
     keep = sys.argv[2] if sys.argv[1:2] == ["--keep"] and len(sys.argv) == 3 else None
     tally = Tally()
     with tempfile.TemporaryDirectory() as made:
-        for name, history in (("short", short_histories), ("clean", clean_history), ("random", random_history)):
+        for name, history in (("short", short_histories), ("two", two_views), ("clean", clean_history), ("random", random_history)):
             try:
                 with Edge(name) as edge:
                     print(f"-- {name}, FRR {edge.version()}", flush=True)
