@@ -1,0 +1,4 @@
+pub mod Alert
+pub mod Window
+pub mod Moves
+pub mod Seq

@@ -1,0 +1,3 @@
+mod alert;
+mod moves;
+mod seq;
