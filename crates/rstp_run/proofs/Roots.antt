@@ -59,7 +59,7 @@ acts true false h k = refl
 acts false u h k = cc
 
 -- what a role's rule leaves, where the port may act
-left_over : (m a b : Bool) → m ≡ true → m && a && b ≡ false → a && b ≡ false
+pub left_over : (m a b : Bool) → m ≡ true → m && a && b ≡ false → a && b ≡ false
 left_over true a b h g = g
 left_over false a b h g = cc
 
@@ -79,7 +79,7 @@ root_selected role.Backup s d e b h = cc
 -- ---- a settled bridge
 
 module _ (s : Tree) (kept : IsKept s.ports) (settled : IsSettled s) (p : ℕ) (port : PortState) (at : slice_get s.ports p ≡ Some port) where
-  is_off : (rule : Rule) → asks rule s p port ≡ false
+  pub is_off : (rule : Rule) → asks rule s p port ≡ false
   is_off rule = sym (ap (λ o. option_map_or (asks rule s p) o false) at) ∙ settled rule p
 
   is_selected : port.selected ≡ true
@@ -87,7 +87,7 @@ module _ (s : Tree) (kept : IsKept s.ports) (settled : IsSettled s) (p : ℕ) (p
       let unasked = first_asked s.ports p port (list_any wants_selection s.ports) at (settled rules.Select 0) in
       selected_then port.selected port.reselect (sound_at s.ports p port at kept.sound).0 (none_asks s.ports p port unasked at)
 
-  may : may_act port ≡ true
+  pub may : may_act port ≡ true
   may =
       acts port.selected port.update_info is_selected
       (no_update (is_out port.information) port.selected port.update_info is_selected (sound_at s.ports p port at kept.sound).2

@@ -43,8 +43,8 @@ fn bridge_of_one(address: u64, port: PortSettings) -> Bridge {
     })
 }
 
-/// The event at a bridge whose first port is there.
-fn happen(bridge: &mut Bridge, event: Event) -> Option<Outcome> {
+/// The event, and at most so many firings, at a bridge that has the event's port.
+fn happen_within(bridge: &mut Bridge, event: Event, limit: usize) -> Option<Outcome> {
     let ports = bridge.len();
     let is_there = match event {
         Event::Second => true,
@@ -52,11 +52,17 @@ fn happen(bridge: &mut Bridge, event: Event) -> Option<Outcome> {
             1 <= p && usize::from(p) <= ports
         }
     };
-    if is_there {
-        Some(bridge.event(event))
+    if is_there && 1 <= limit && limit <= 64 * (ports + 1) {
+        Some(bridge.event_within(event, limit))
     } else {
         None
     }
+}
+
+/// The event at a bridge that has its port.
+fn happen(bridge: &mut Bridge, event: Event) -> Option<Outcome> {
+    let limit = 64 * (bridge.len() + 1);
+    happen_within(bridge, event, limit)
 }
 
 /// The octets that came of the event at port 1: none where nothing was sent.
@@ -75,12 +81,17 @@ fn sent_in_second(bridge: &mut Bridge) -> ArrayVec<u8, 36> {
     sent_by(happen(bridge, Event::Second))
 }
 
-/// The message of these octets comes at port 1.
-fn receive(bridge: &mut Bridge, octets: &[u8]) -> Option<Outcome> {
+/// The message of these octets comes at the port.
+fn receive_at(bridge: &mut Bridge, port: u8, octets: &[u8]) -> Option<Outcome> {
     match read(octets) {
-        Ok(bpdu) => happen(bridge, Event::Bpdu(1, bpdu)),
+        Ok(bpdu) => happen(bridge, Event::Bpdu(port, bpdu)),
         Err(_) => None,
     }
+}
+
+/// The message of these octets comes at port 1.
+fn receive(bridge: &mut Bridge, octets: &[u8]) -> Option<Outcome> {
+    receive_at(bridge, 1, octets)
 }
 
 fn passes(bridge: &Bridge) -> bool {
