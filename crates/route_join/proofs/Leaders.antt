@@ -6,7 +6,7 @@ use Rattle.std.specs.Cmp.{tied_itself}
 use Rattle.std.specs.declared.cmp.Ordering.TheVariants.{Less, Equal}
 use Rattle.std.specs.Ordering.{is_lt}
 use Rattle.std.specs.FinMap.Entries.{find, put, find-put, below_all, is_sorted}
-use Rattle.std.specs.Prelude.{eqb, is_some, nat_le, IfSome, OnOk, Result, Ok, Err}
+use Rattle.std.specs.Prelude.{eqb, not, is_some, nat_le, IfSome, OnOk, Result, Ok, Err}
 use Rattle.std.specs.Result.{is_err}
 use Rattle.std.proofs.lemmas.Bool.Decides.{nat_tests}
 use Rattle.std.proofs.lemmas.List.{map-append, take-append-drop, get_or-set_same, get_or-set_other}
@@ -24,12 +24,12 @@ use Rattle.route_join.specs.declared.table.Taken.TheVariants.{Newer, Known}
 use Rattle.route_wire.specs.Totals.{register_total}
 use Rattle.route_join.specs.Table.{entries_of, IsOrdered, is_news}
 use Rattle.route_join.specs.Owner.{advert_in, advert_of, IsBetter, is_better}
-use Rattle.route_join.specs.Group.{told, Leads, HasWinner, candidate_in, candidate_at, wins, better_place, moved, update_among, entries_with, added}
+use Rattle.route_join.specs.Group.{told, Leads, HasWinner, candidate_in, candidate_at, wins, better_place, stays_best, moved, update_among, entries_with, added}
 use Rattle.route_join.proofs.Orders.{less, both}
 use Rattle.route_join.proofs.Tables.{same_or_other, itself_register, other_register}
 use Rattle.route_join.proofs.Places.{IsPlace, IsGap}
 use Rattle.route_join.proofs.Edits.{ordered_put}
-use Rattle.route_join.proofs.Owners.{in_list, at_last, at_before, fresh, better_trans, is_better_is, not_better_is}
+use Rattle.route_join.proofs.Owners.{in_list, at_last, at_before, fresh, better_trans, is_better_is, not_better_is, as_good}
 
 -- ---- one update more may win
 module _ (us : List Fields) (says after : Register → Option Advert) (at : ℕ) (u : Fields) (stands : slice_get us at ≡ Some u)
@@ -186,6 +186,38 @@ winner_set us at u w s p h ne =
     let e = p.write u refl in
     next_winner new (told us) (told new) at u (stands_set us at u p.within) (told_same us new u e) (told_other us new u e) w (winner_kept us at u w h ne)
     (λ i l is same. ne (is ∙ ap Some (one_place new i at l.update u (ordered_put [] us new u s e) l.stands (stands_set us at u p.within) same)))
+
+-- ---- a newer update at the winner's place that says nothing worse
+was_at : (us : List Fields) (at : ℕ) (v x : Fields) → slice_get us at ≡ Some x → v ≡ get_or us at v → v ≡ x
+was_at us at v x s e = e ∙ get_or_from_slice_get us at x v s
+
+told_no_worse : (r : Register) (was now : Option Advert) → stays_best r was now ≡ true → (a : Advert) → was ≡ Some a → (n : Advert) × (now ≡ Some n) × (is_better a r n r ≡ false)
+told_no_worse r None now t a e = cc
+told_no_worse r (Some w) None t a e = cc
+told_no_worse r (Some w) (Some n) t a e =
+    let same : w ≡ a = cc in
+    (n, refl, subst (λ x. is_better x r n r ≡ false) same (denied (is_better w r n r) t))
+  where
+    denied : (b : Bool) → not b ≡ true → b ≡ false
+    denied true p = cc
+    denied false p = refl
+
+pub winner_stays : (us : List Fields) (at : ℕ) (u v : Fields) → IsPlace us u.register at → HasWinner us (told us) (Some at) → v ≡ get_or us at v
+    → stays_best u.register (advert_in v.value.content) (advert_in u.value.content) ≡ true → HasWinner (set us at u) (told (set us at u)) (Some at)
+winner_stays us at u v p l e t =
+    let new = set us at u in
+    let w = p.write u refl in
+    let old : v ≡ l.update = was_at us at v l.update l.stands e in
+    let named : l.update.register ≡ u.register = ap (λ (x : Fields). x.register) (sym old ∙ e) ∙ p.register v in
+    let now = told_no_worse u.register (advert_in v.value.content) (advert_in u.value.content) t l.advert (ap (λ (x : Fields). advert_in x.value.content) old ∙ l.advertises) in
+    record {
+      update = u;
+      stands = stands_set us at u p.within;
+      advert = now.0;
+      advertises = now.1;
+      own = told_same us new u w ∙ now.1;
+      best = λ q b ne is. as_good l.advert now.0 u.register b q now.2 (subst (λ r. IsBetter l.advert r b q) named (l.best q b (λ s. ne (s ∙ named)) (sym (told_other us new u w q ne) ∙ is)));
+    }
 
 -- ---- a new update at a gap
 stands_inserted : (us : List Fields) (at : ℕ) (u : Fields) → at ≤ length us → slice_get (insert us at u) at ≡ Some u

@@ -3,6 +3,7 @@ pub mod Stations
 pub mod Orders
 pub mod Tables
 pub mod Places
+pub mod Searches
 pub mod Edits
 pub mod Owners
 pub mod Floods

@@ -80,6 +80,19 @@ not_better_is a r b q ne e =
     subst (IsBetterBy b.is_static a.is_static b.sequence a.sequence) (sym (register_total.antisymm q r))
     (untested_by a.is_static b.is_static a.sequence b.sequence (register_cmp r q) (λ t. ne (register_exact r q t)) e)
 
+-- what is no worse than an advert of the same register is better than all that this is better than
+as_good_by : (f g h : Bool) (m n k : ℕ) (o p : Ordering) → is_better_by f g m n p ≡ false → IsBetterBy f h m k o → IsBetterBy g h n k o
+as_good_by true true true m n k o p e a = let t = untested m n (is_lt p) e in (omega (arith, a.0, t.0), λ s. a.1 (omega (arith, a.0, t.0, s)))
+as_good_by true true false m n k o p e a = tt
+as_good_by true false h m n k o p e a = cc
+as_good_by false true true m n k o p e a = absurd a
+as_good_by false true false m n k o p e a = tt
+as_good_by false false true m n k o p e a = absurd a
+as_good_by false false false m n k o p e a = let t = untested m n (is_lt p) e in (omega (arith, a.0, t.0), λ s. a.1 (omega (arith, a.0, t.0, s)))
+
+pub as_good : (a now : Advert) (r : Register) (b : Advert) (q : Register) → is_better a r now r ≡ false → IsBetter a r b q → IsBetter now r b q
+as_good a now r b q e h = as_good_by a.is_static now.is_static b.is_static a.sequence now.sequence b.sequence (register_cmp r q) (register_cmp r r) e h
+
 -- ---- there is at most one owner
 pub one_owner : OneOwner
 one_owner t vni mac o p a b = elim (same_or_other (register_of o (Mac vni mac a.ip)) (register_of p (Mac vni mac b.ip))) as (λ _. o ≡ p) [

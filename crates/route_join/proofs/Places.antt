@@ -1,5 +1,5 @@
 -- What the place of a register says of updates in the order of their registers, and what an edit there does.
-use Rattle.std.proofs.Common.{◌≡◌, ℕ, suc, ◌+◌, ◌<◌, ◌≤◌, Bool, true, false, cond, ◌&&◌, List, [], ◌∷◌, length, get_or, set, Some, None, Result, Ok, Err, refl, sym, ap, subst, ◌∙◌, arith}
+use Rattle.std.proofs.Common.{◌≡◌, ℕ, zero, suc, ◌+◌, ◌<◌, ◌≤◌, Bool, true, false, cond, ◌&&◌, List, [], ◌∷◌, length, get_or, set, Some, None, Result, Ok, Err, refl, sym, ap, subst, ◌∙◌, arith}
 use Rattle.std.specs.List.{insert}
 use Rattle.std.specs.declared.cmp.Ordering.{Ordering}
 use Rattle.std.specs.declared.cmp.Ordering.TheVariants.{Less, Equal, Greater}
@@ -11,6 +11,9 @@ use Rattle.route_wire.specs.Fields.{Fields}
 use Rattle.route_wire.specs.Order.{register_cmp}
 use Rattle.route_wire.specs.Totals.{register_total, register_exact}
 use Rattle.route_join.specs.Table.{entries_of, IsOrdered}
+use Rattle.route_join.specs.declared.subject.Subject.{Subject}
+use Rattle.route_join.specs.Subject.{subject_of}
+use Rattle.route_join.specs.Group.{AreAbout}
 use Rattle.route_join.specs.Place.{place_of, later_by}
 
 -- ---- a register that stands at a place
@@ -69,11 +72,11 @@ pub record IsGap (us : List Fields) (q : Register) (at : ℕ) : Type 0 where
   pub value : find register_cmp q (entries_of us) ≡ None
   pub write : (u : Fields) → u.register ≡ q → entries_of (insert us at u) ≡ put register_cmp q u.value (entries_of us)
 
-both : (a b : Bool) → a && b ≡ true → (a ≡ true) × (b ≡ true)
+pub both : (a b : Bool) → a && b ≡ true → (a ≡ true) × (b ≡ true)
 both true b p = (refl, p)
 both false b p = cc
 
-less : (o : Ordering) → is_lt o ≡ true → o ≡ Less
+pub less : (o : Ordering) → is_lt o ≡ true → o ≡ Less
 less Less p = refl
 less Equal p = cc
 less Greater p = cc
@@ -113,3 +116,9 @@ gapped (v ∷ us) q at s h =
       | Equal ↦ λ e p. cc
       | Greater ↦ λ e p. let m = came_err (place_of us q) at p in gap_next v us q m.0 at m.2 e (gapped us q m.0 (both (below_all register_cmp v.register (entries_of us)) (is_sorted register_cmp (entries_of us)) s).1 m.1)
     ] refl h
+
+-- ---- updates about one subject
+pub about_at : (s : Subject) (us : List Fields) (i : ℕ) (d : Fields) → AreAbout s (entries_of us) → i < length us → subject_of (get_or us i d).register.key ≡ s
+about_at s [] i d k l = absurd (omega (arith, l))
+about_at s (u ∷ us) zero d k l = k.0
+about_at s (u ∷ us) (suc i) d k l = about_at s us i d k.1 (omega (arith, l))

@@ -1,5 +1,5 @@
 -- Groups: the updates of one subject, with the place of the best advert among them.
-use Rattle.std.specs.Prelude.{◌≡◌, ◌≢◌, ℕ, ◌+◌, ◌<◌, ◌^◌, Bool, true, false, Option, Some, None, is_some, List, [], ◌∷◌, ◌++◌, length, nat_le, if◌then◌else◌}
+use Rattle.std.specs.Prelude.{◌≡◌, ◌≢◌, ℕ, ◌+◌, ◌<◌, ◌^◌, Bool, true, false, not, Option, Some, None, is_some, List, [], ◌∷◌, ◌++◌, length, nat_le, if◌then◌else◌}
 use Rattle.std.specs.declared.cmp.Ordering.TheVariants.{Less}
 use Rattle.std.specs.List.{slice_get}
 use Rattle.std.specs.Option.{option_map}
@@ -88,6 +88,12 @@ wins (Some c) (Some d) = is_better c.1 c.0 d.1 d.0
 -- the winner, once the update at a place may win too
 abbrev pub better_place : List Fields → ℕ → Option ℕ → Option ℕ
 better_place us at winner = if wins (candidate_at us at) (leader_of us winner) then Some at else winner
+
+-- of a register that says something else now: it says something, as it did, and nothing worse
+abbrev pub stays_best : Register → Option Advert → Option Advert → Bool
+stays_best r None now = false
+stays_best r (Some was) None = false
+stays_best r (Some was) (Some now) = not (is_better was r now r)
 
 -- where a winner stands after an insertion
 abbrev pub moved : ℕ → Option ℕ → Option ℕ

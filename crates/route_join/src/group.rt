@@ -1,10 +1,11 @@
-ghost use Rattle.std.specs.Prelude.{◌≡◌, ◌∷◌, [], ◌+◌, ◌<◌, ◌≤◌, ◌^◌, vec_len, is_ok, Ok, Err, None, IfOk, IfSome, OnOk, OnErr, MatchOption, if◌then◌else◌};
+ghost use Rattle.std.specs.Prelude.{◌≡◌, ◌≢◌, true, Some, ◌∷◌, [], ◌+◌, ◌<◌, ◌≤◌, ◌^◌, vec_len, is_ok, Ok, Err, None, IfOk, IfSome, OnOk, OnErr, MatchOption, if◌then◌else◌};
 ghost use Rattle.std.specs.List.{insert};
 ghost use Rattle.std.specs.FinMap.Entries.{find, put};
 ghost use Rattle.route_wire.specs.Order.{register_cmp};
 ghost use Rattle.route_join.specs.Table.{entries_of, IsOrdered, is_news};
 ghost use Rattle.route_join.specs.Place.{place_of};
-ghost use Rattle.route_join.specs.Group.{told, entries_with, added, update_among, candidate_at, wins, better_place, moved, HasWinner, IsLeader, IsSilent};
+ghost use Rattle.route_join.specs.Subject.{subject_of};
+ghost use Rattle.route_join.specs.Group.{AreAbout, told, entries_with, added, update_among, candidate_at, wins, better_place, stays_best, moved, HasWinner, IsLeader, IsSilent};
 
 use crate::owner::{advert_in, is_better};
 use crate::place::place;
@@ -59,6 +60,33 @@ fn best_place(updates: &[Update]) -> Option<usize>
         winner = better_place(updates, at, winner);
     }
     winner
+}
+
+/// Whether a winner that says something else now is the best still, since it says nothing worse.
+fn stays_best(register: &Register, was: &Option<Advert>, now: &Option<Advert>) -> bool
+    ensures { result ≡ stays_best register.now was.now now.now }
+{
+    match (was, now) {
+        (Some(was), Some(now)) => !is_better(&(*register, *was), &(*register, *now)),
+        _ => false,
+    }
+}
+
+/// The winner's place, once the update at a place was replaced. The winner is found anew only where
+/// it was the one replaced, and says something worse than before.
+fn winner_after(updates: &[Update], at: usize, winner: Option<usize>, stays: bool) -> Option<usize>
+    requires ordered { IsOrdered updates.now }
+    requires other { winner ≢ Some at → HasWinner updates.now (told updates.now) (better_place updates.now at winner) }
+    requires same { winner ≡ Some at → stays ≡ true → HasWinner updates.now (told updates.now) winner }
+    ensures { HasWinner updates.now (told updates.now) result }
+{
+    if winner != Some(at) {
+        better_place(updates, at, winner)
+    } else if stays {
+        winner
+    } else {
+        best_place(updates)
+    }
 }
 
 /// Where a winner stands once an update was inserted at a place.
@@ -131,6 +159,7 @@ impl Group {
 
     /// The update of a register, if there is one.
     pub(crate) fn register(&self, register: &Register) -> Option<Update>
+        requires { AreAbout (subject_of register.now.key) (entries_of self.now) }
         ensures { result ≡ update_among self.now register.now }
     {
         match place(&self.updates, register) {
@@ -149,18 +178,16 @@ impl Group {
         }
     }
 
-    // A newer update comes to the place of its register. The winner is found anew only where the
-    // update was the winner.
+    // A newer update comes to the place of its register.
     fn replace(&mut self, at: usize, update: &Update)
         requires { place_of self.old update.now.register ≡ Ok at }
         ensures { entries_of self.new ≡ put register_cmp update.now.register update.now.value (entries_of self.old) }
     {
+        let was = advert_in(&self.updates[at].value().content);
+        let now = advert_in(&update.value().content);
+        let stays = stays_best(&update.register(), &was, &now);
         self.updates[at] = *update;
-        self.winner = if self.winner == Some(at) {
-            best_place(&self.updates)
-        } else {
-            better_place(&self.updates, at, self.winner)
-        };
+        self.winner = winner_after(&self.updates, at, self.winner, stays);
     }
 
     // The first update of its register comes to the gap where it belongs.
@@ -179,6 +206,7 @@ impl Group {
     /// Takes an update: its register has then the newer of the update and its value so far. A
     /// register that is there already takes no memory, and a new one is one more of those held.
     pub(crate) fn take(&mut self, held: &mut usize, update: &Update) -> Result<Taken, AllocError>
+        requires { AreAbout (subject_of update.now.register.key) (entries_of self.old) }
         ensures taken { IfOk result (λ t. t ≡ (if is_news (find register_cmp update.now.register (entries_of self.old)) update.now.value then Taken.Newer else Taken.Known)) }
         ensures entries { OnOk result (entries_of self.new ≡ entries_with (entries_of self.old) update.now) }
         ensures held { OnOk result (held.new ≡ held.old + added (entries_of self.old) update.now) }

@@ -1,19 +1,62 @@
+//! Where a register stands in a group.
 ghost use Rattle.std.specs.Prelude.{◌≡◌};
+ghost use Rattle.route_wire.specs.Order.{register_cmp};
+ghost use Rattle.route_join.specs.Group.{AreAbout};
 ghost use Rattle.route_join.specs.Place.{place_of};
+ghost use Rattle.route_join.specs.Subject.{subject_of};
+ghost use Rattle.route_join.specs.Table.{IsOrdered, entries_of};
 
 use route_wire::{Register, Update};
 use std::cmp::Ordering;
 
-/// Where a register stands among updates in the order of their registers, or where it would stand.
-pub(crate) fn place(updates: &[Update], register: &Register) -> Result<usize, usize>
+/// As many updates are walked through: the next ones are on their way from memory while one is
+/// compared. Among more of them a register is sought by halves.
+const FEW: usize = 32;
+
+/// The order of two registers of one subject. Mostly their originators tell it.
+fn cmp_within(one: &Register, other: &Register) -> Ordering
+    requires { subject_of one.now.key ≡ subject_of other.now.key }
+    ensures { result ≡ register_cmp one.now other.now }
+{
+    match one.originator.cmp(&other.originator) {
+        Ordering::Equal => one.cmp(other),
+        order => order,
+    }
+}
+
+/// The place of a register by a walk.
+fn walked(updates: &[Update], register: &Register) -> Result<usize, usize>
+    requires { AreAbout (subject_of register.now.key) (entries_of updates.now) }
     ensures { result ≡ place_of updates.now register.now }
 {
     for (i, update) in updates.iter().enumerate() {
-        match register.cmp(&update.register()) {
+        match cmp_within(register, &update.register()) {
             Ordering::Less => return Err(i),
             Ordering::Equal => return Ok(i),
             Ordering::Greater => {}
         }
     }
     Err(updates.len())
+}
+
+/// The place of a register by halves.
+fn searched(updates: &[Update], register: &Register) -> Result<usize, usize>
+    requires { IsOrdered updates.now }
+    ensures { result ≡ place_of updates.now register.now }
+{
+    updates.binary_search_by(|update| update.register().cmp(register))
+}
+
+/// Where a register stands among updates of its subject in the order of their registers, or where it
+/// would stand.
+pub(crate) fn place(updates: &[Update], register: &Register) -> Result<usize, usize>
+    requires ordered { IsOrdered updates.now }
+    requires about { AreAbout (subject_of register.now.key) (entries_of updates.now) }
+    ensures { result ≡ place_of updates.now register.now }
+{
+    if updates.len() <= FEW {
+        walked(updates, register)
+    } else {
+        searched(updates, register)
+    }
 }

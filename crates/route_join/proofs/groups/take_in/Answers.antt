@@ -5,7 +5,7 @@ use Rattle.std.specs.Map.{set_value}
 use Rattle.route_wire.specs.declared.update.Register.{Register}
 use Rattle.route_join.specs.declared.subject.Subject.{Subject}
 use Rattle.route_join.specs.Subject.{subject_cmp, subject_of}
-use Rattle.route_join.proofs.Groupings.{group_at}
+use Rattle.route_join.proofs.Groupings.{group_at, about_there}
 use Rattle.route_join.proofs.Leaders.{on_ok}
 use Rattle.route_join.proofs.Taking.{taken_after, entries_after, groups_after, held_after, one_held, new_after, err_after, absent_in, newer_in, made_in, groups_made}
 use Rattle.route_join.proofs.groups.take_in.Goals as goal
@@ -102,3 +102,9 @@ returns-else-is_err-clause-held c =
     let u = c.args.update.now in
     let s : c.subject_of-subject.result ≡ subject_of u.register.key = c.subject_of-subject.ensures ∙ ap (λ (r : Register). subject_of r.key) c.register.ensures in
     c.in-Some-checked_add.ensures.1 ∙ one_held c.args.groups.now.entries u c.requires (ap (λ x. group_at x c.args.groups.now.entries) (sym s) ∙ sym c.in-None.ensures.value) c.args.held.now
+
+pub take-requires : goal.take-requires
+take-requires c =
+    let u = c.args.update.now in
+    let s : c.subject_of-subject.result ≡ subject_of u.register.key = c.subject_of-subject.ensures ∙ ap (λ (r : Register). subject_of r.key) c.register.ensures in
+    about_there (subject_of u.register.key) c.args.groups.now.entries c.in-Some.group.now c.requires (ap (λ x. group_at x c.args.groups.now.entries) (sym s) ∙ sym c.in-Some.ensures.value)

@@ -1,7 +1,7 @@
 use Rattle.std.proofs.Common.{◌≡◌, Some, None, ap, sym, ◌∙◌}
 use Rattle.route_join.specs.Table.{update_at, register_of}
 use Rattle.route_join.specs.Subject.{subject_of}
-use Rattle.route_join.proofs.Groupings.{group_at}
+use Rattle.route_join.proofs.Groupings.{group_at, about_there}
 use Rattle.route_join.proofs.Holding.{update_there, update_nowhere}
 use Rattle.route_join.proofs.table.Table.register.Goals as goal
 
@@ -16,3 +16,8 @@ returns-in-Some c =
     let gs = c.self.inside.groups.entries in
     let h : group_at (subject_of c.args.key) gs ≡ Some c.in-Some.group.now = ap (λ s. group_at s gs) (sym c.subject_of.ensures) ∙ sym c.in-Some.ensures.value in
     c.register.ensures ∙ update_there c.self.inside.originators.items gs c.self.invariant.grouped (register_of c.args.originator c.args.key) c.in-Some.group.now h ∙ ap (λ t. update_at t (register_of c.args.originator c.args.key)) c.self.view_is
+
+pub register-requires : goal.register-requires
+register-requires c =
+    let gs = c.self.inside.groups.entries in
+    about_there (subject_of c.args.key) gs c.in-Some.group.now c.self.invariant.grouped.groups (ap (λ s. group_at s gs) (sym c.subject_of.ensures) ∙ sym c.in-Some.ensures.value)
