@@ -17,9 +17,10 @@ use Rattle.route_wire.specs.declared.update.Content.TheVariants.{Withdrawn, Adve
 use Rattle.route_wire.specs.declared.update.Advert.{Advert}
 use Rattle.route_wire.specs.Fields.{Fields, IsUpdate, flood_advert}
 use Rattle.route_wire.specs.Order.{vni_of}
-use Rattle.route_wire.specs.Stream.{first_of, IsWhole}
+use Rattle.ether_wire.specs.Frame.{first_of}
+use Rattle.route_wire.specs.Stream.{IsWhole}
 use Rattle.route_wire.specs.Refusal.{refusal_tests}
-use Rattle.route_wire.specs.Record.{header_of, update_of, reading, Spells, Reads}
+use Rattle.route_wire.specs.Record.{header_in, update_in, reading, Spells, Reads}
 use Rattle.route_wire.specs.Spelling.{mac_route, flood_route, route_octets, kind_of, record_octets, IpFits, Label2Fits, RouteFits}
 use Rattle.route_wire.proofs.Wholes.{AllUnmet, found_long}
 use Rattle.route_wire.proofs.Prefixes.{whole_again}
@@ -52,7 +53,7 @@ module _ (o incarnation counter vni : ℕ) (ho : o < 2 ^ 32) (hi : incarnation <
   abbrev octets : ℕ → List ℕ → List ℕ
   octets kind route = record_octets kind o incarnation counter vni route
 
-  header_again : (kind : ℕ) (route : List ℕ) → header_of (octets kind route) ≡ header (kind == 2)
+  header_again : (kind : ℕ) (route : List ℕ) → header_in (octets kind route) ≡ header (kind == 2)
   header_again kind route =
       let eo = big_number-reads_back 4 o [] ho in
       let ei = big_number-reads_back 4 incarnation [] hi in
@@ -60,7 +61,7 @@ module _ (o incarnation counter vni : ℕ) (ho : o < 2 ^ 32) (hi : incarnation <
       let ev = big_number-reads_back 3 vni [] hv in
       λ i. record { version = 3; is_withdrawal = kind == 2; originator = eo i; incarnation = ei i; counter = ec i; vni = ev i }
 
-  spells : (kind : ℕ) (route : List ℕ) (u : Fields) → IsWhole (octets kind route) → AllUnmet (refusal_tests (header (kind == 2)) route) → update_of (header (kind == 2)) route ≡ u → Spells (octets kind route) u
+  spells : (kind : ℕ) (route : List ℕ) (u : Fields) → IsWhole (octets kind route) → AllUnmet (refusal_tests (header (kind == 2)) route) → update_in (header (kind == 2)) route ≡ u → Spells (octets kind route) u
   spells kind route u w unmet e = (
     w,
     sym (spelt (octets kind route) route (header (kind == 2)) u (sym (header_again kind route)) refl

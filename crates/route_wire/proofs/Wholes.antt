@@ -2,7 +2,8 @@
 use Rattle.std.proofs.Common.{◌≡◌, ℕ, ◌+◌, ◌≤◌, Bool, true, false, ◌&&◌, ◌||◌, ◌==◌, nat_lt, cond, List, [], ◌∷◌, length, slice_index, Option, Some, None, refl, arith}
 use Rattle.std.proofs.lemmas.Bool.Decides.{nat_tests}
 use Rattle.route_wire.specs.declared.stream.Whole.TheVariants.{Rest, Length}
-use Rattle.route_wire.specs.Stream.{first_of, follow_of, least_of, fault_tests, fault_of, whole_or_rest, whole_up_to, IsWhole}
+use Rattle.ether_wire.specs.Frame.{first_of}
+use Rattle.route_wire.specs.Stream.{follow_of, least_of, fault_tests, fault_of, whole_or_rest, whole_up_to, IsWhole}
 use Rattle.route_wire.specs.Record.{route_place}
 
 -- where no test is met

@@ -2,6 +2,9 @@
 use Rattle.std.specs.Prelude.{◌≡◌, ℕ, ◌%◌, Bool, true, false, not, ◌&&◌, ◌==◌, if◌then◌else◌, List, [], ◌∷◌, take, drop, slice_index, Option, Some, None, Result, Ok, Err}
 use Rattle.byteorder.specs.Endian.{big_number}
 use Rattle.route_wire.specs.declared.record.Header.{Header}
+use Rattle.route_wire.specs.declared.record.TheConstants.{ORIGINATOR_PLACE, FIRST_COUNTER_PLACE, FIRST_VNI_PLACE, FIRST_ROUTE_PLACE, INCARNATION_PLACE, COUNTER_PLACE, VNI_PLACE, ROUTE_PLACE}
+use Rattle.route_wire.specs.declared.route.TheConstants.{MAC_PLACE, FLAGS_PLACE, SEQUENCE_PLACE}
+use Rattle.route_wire.specs.declared.stream.TheConstants.{VERSION_PLACE, KIND_PLACE, FIRST_VERSION, NEWEST, WITHDRAWS}
 use Rattle.route_wire.specs.declared.stream.Whole.{Whole}
 use Rattle.route_wire.specs.declared.stream.Whole.TheVariants.{Rest, Fault, Length}
 use Rattle.route_wire.specs.declared.update.Key.{Key}
@@ -16,31 +19,31 @@ use Rattle.route_wire.specs.Refusal.{refusal_of}
 
 -- ---- the fields before the route, each the number at its place, and the route
 -- version 1 has no incarnation
-abbrev pub first_header : List ℕ → Header
-first_header bytes = record {
-  version = slice_index bytes 2;
-  is_withdrawal = slice_index bytes 3 == 2;
-  originator = big_number 4 (drop 6 bytes);
+abbrev pub first_header_in : List ℕ → Header
+first_header_in bytes = record {
+  version = slice_index bytes VERSION_PLACE;
+  is_withdrawal = slice_index bytes KIND_PLACE == WITHDRAWS;
+  originator = big_number 4 (drop ORIGINATOR_PLACE bytes);
   incarnation = 0;
-  counter = big_number 8 (drop 10 bytes);
-  vni = big_number 3 (drop 18 bytes);
+  counter = big_number 8 (drop FIRST_COUNTER_PLACE bytes);
+  vni = big_number 3 (drop FIRST_VNI_PLACE bytes);
 }
 
-abbrev pub later_header : List ℕ → Header
-later_header bytes = record {
-  version = slice_index bytes 2;
-  is_withdrawal = slice_index bytes 3 == 2;
-  originator = big_number 4 (drop 6 bytes);
-  incarnation = big_number 4 (drop 10 bytes);
-  counter = big_number 8 (drop 14 bytes);
-  vni = big_number 3 (drop 22 bytes);
+abbrev pub later_header_in : List ℕ → Header
+later_header_in bytes = record {
+  version = slice_index bytes VERSION_PLACE;
+  is_withdrawal = slice_index bytes KIND_PLACE == WITHDRAWS;
+  originator = big_number 4 (drop ORIGINATOR_PLACE bytes);
+  incarnation = big_number 4 (drop INCARNATION_PLACE bytes);
+  counter = big_number 8 (drop COUNTER_PLACE bytes);
+  vni = big_number 3 (drop VNI_PLACE bytes);
 }
 
-abbrev pub header_of : List ℕ → Header
-header_of bytes = if slice_index bytes 2 == 1 then first_header bytes else later_header bytes
+abbrev pub header_in : List ℕ → Header
+header_in bytes = if slice_index bytes VERSION_PLACE == FIRST_VERSION then first_header_in bytes else later_header_in bytes
 
 abbrev pub route_place : List ℕ → ℕ
-route_place bytes = if slice_index bytes 2 == 1 then 21 else 25
+route_place bytes = if slice_index bytes VERSION_PLACE == FIRST_VERSION then FIRST_ROUTE_PLACE else ROUTE_PLACE
 
 abbrev pub route_of : List ℕ → List ℕ
 route_of bytes = drop (route_place bytes) bytes
@@ -48,26 +51,30 @@ route_of bytes = drop (route_place bytes) bytes
 -- ---- the update
 -- a withdrawal of an earlier version than 3 names no IP address
 abbrev pub names_no_ip : Header → Bool
-names_no_ip h = h.is_withdrawal && not (h.version == 3)
+names_no_ip h = h.is_withdrawal && not (h.version == NEWEST)
 
-abbrev pub key_of : Header → List ℕ → Key
-key_of h r = if is_mac_route r then Mac h.vni (big_number 6 (drop 25 r)) (if names_no_ip h then None else ip_in r) else Flood h.vni
+abbrev pub key_in : Header → List ℕ → Key
+key_in h r = if is_mac_route r then Mac h.vni (big_number 6 (drop MAC_PLACE r)) (if names_no_ip h then None else ip_in r) else Flood h.vni
+
+-- the static flag is the lowest bit
+abbrev pub is_flagged : ℕ → Bool
+is_flagged flags = flags % 2 == 1
 
 -- where no community follows, each of its octets counts as 0
-abbrev pub route_advert : List ℕ → Advert
-route_advert r = record {
-  is_static = slice_index (tail_of r) 2 % 2 == 1;
-  sequence = big_number 4 (drop 4 (tail_of r));
+abbrev pub advert_in : List ℕ → Advert
+advert_in r = record {
+  is_static = is_flagged (slice_index (tail_of r) FLAGS_PLACE);
+  sequence = big_number 4 (drop SEQUENCE_PLACE (tail_of r));
   label2 = label2_in r;
 }
 
-abbrev pub content_of : Header → List ℕ → Content
-content_of h r = if h.is_withdrawal then Withdrawn else Advertised (if is_mac_route r then route_advert r else flood_advert)
+abbrev pub content_in : Header → List ℕ → Content
+content_in h r = if h.is_withdrawal then Withdrawn else Advertised (if is_mac_route r then advert_in r else flood_advert)
 
-abbrev pub update_of : Header → List ℕ → Fields
-update_of h r = record {
-  register = record { originator = h.originator; key = key_of h r };
-  value = record { incarnation = h.incarnation; counter = h.counter; content = content_of h r };
+abbrev pub update_in : Header → List ℕ → Fields
+update_in h r = record {
+  register = record { originator = h.originator; key = key_in h r };
+  value = record { incarnation = h.incarnation; counter = h.counter; content = content_in h r };
 }
 
 abbrev pub unless_refused : Option ℕ → Fields → Result Fields ℕ
@@ -76,7 +83,7 @@ unless_refused (Some refusal) u = Err refusal
 
 -- what a whole record says: its update, or its refusal
 unfoldable pub reading : List ℕ → Result Fields ℕ
-reading bytes = unless_refused (refusal_of (header_of bytes) (route_of bytes)) (update_of (header_of bytes) (route_of bytes))
+reading bytes = unless_refused (refusal_of (header_in bytes) (route_of bytes)) (update_in (header_in bytes) (route_of bytes))
 
 -- the octets are one whole record that spells the update
 abbrev pub Spells : List ℕ → Fields → Type 0
@@ -101,7 +108,7 @@ pub record AnswersUpTo (newest : ℕ) (s : List ℕ) (answers : List (Result Fie
 
 -- the same of records of all versions
 abbrev pub Reads : List ℕ → List (Result Fields ℕ) → List ℕ → Type 0
-Reads s answers rest = ReadsUpTo 3 s answers rest
+Reads s answers rest = ReadsUpTo NEWEST s answers rest
 
 abbrev pub Answers : List ℕ → List (Result Fields ℕ) → List ℕ → Type 0
-Answers s answers rest = AnswersUpTo 3 s answers rest
+Answers s answers rest = AnswersUpTo NEWEST s answers rest

@@ -3,70 +3,72 @@ use Rattle.std.specs.Prelude.{◌≡◌, ◌⊎◌, ℕ, ◌+◌, ◌<◌, Bool,
 use Rattle.std.specs.List.{list_any}
 use Rattle.byteorder.specs.Endian.{big_number}
 use Rattle.ether_wire.specs.Names.{is_group}
+use Rattle.route_wire.specs.declared.reason.TheConstants.{UNKNOWN_TYPE, BAD_ROUTE, RD_MISMATCH, MULTIHOMED, TAG_UNSUPPORTED, LABEL_MISMATCH, BAD_MAC, COUNTER_ZERO}
+use Rattle.route_wire.specs.declared.route.TheConstants.{MAC_ROUTE, FLOOD_ROUTE, RD_TYPE_PLACE, RD_ADDR_PLACE, SEGMENT_PLACE, SEGMENT_LEN, MAC_TAG_PLACE, FLOOD_TAG_PLACE, MAC_BITS_PLACE, MAC_PLACE, IP_PLACE, ROUTER_PLACE, BITS_OF_MAC, COMMUNITY_LEN, COMMUNITY_TYPE}
 use Rattle.route_wire.specs.declared.record.Header.{Header}
-use Rattle.route_wire.specs.Stream.{first_of}
+use Rattle.ether_wire.specs.Frame.{first_of}
 use Rattle.route_wire.specs.Route.{route_type, route_len, is_mac_route, ip_len, is_listed_len, tail_of, ip_bits, wanted_bits, HasRoute}
 
--- there is a route type, and it is neither 2 nor 3
-abbrev pub unknown_type : List ℕ → Bool
-unknown_type r = nat_lt 0 (length r) && (not (route_type r == 2) && not (route_type r == 3))
+-- there is a route type, and it is neither a MAC's nor a flood list's
+abbrev pub is_unknown_type : List ℕ → Bool
+is_unknown_type r = nat_lt 0 (length r) && (not (route_type r == MAC_ROUTE) && not (route_type r == FLOOD_ROUTE))
 
 -- a MAC Mobility community (RFC 7432, section 7.7) of 8 octets
 abbrev pub is_community : List ℕ → Bool
-is_community after = length after == 8 && (slice_index after 0 == 6 && slice_index after 1 == 0)
+is_community after = length after == COMMUNITY_LEN && (slice_index after 0 == COMMUNITY_TYPE && slice_index after 1 == 0)
 
 -- after the route stands nothing, or one community after an advertised MAC
-abbrev pub may_follow : Header → List ℕ → Bool
-may_follow h r = length (tail_of r) == 0 || (is_mac_route r && (not h.is_withdrawal && is_community (tail_of r)))
+abbrev pub is_followed_well : Header → List ℕ → Bool
+is_followed_well h r = length (tail_of r) == 0 || (is_mac_route r && (not h.is_withdrawal && is_community (tail_of r)))
 
 -- no type or length octet, a length that isn't listed, a route past the record, a wrong IP length, or something after it
-abbrev pub bad_route : Header → List ℕ → Bool
-bad_route h r =
-    nat_lt (length r) 2 || (not (is_listed_len r) || (nat_lt (length r) (2 + route_len r) || (not (ip_bits r == wanted_bits r) || not (may_follow h r))))
+abbrev pub is_bad_route : Header → List ℕ → Bool
+is_bad_route h r =
+    nat_lt (length r) 2 || (not (is_listed_len r) || (nat_lt (length r) (2 + route_len r) || (not (ip_bits r == wanted_bits r) || not (is_followed_well h r))))
 
 -- a route distinguisher that isn't of type 1 with the originator's address, or a flood list of another router
-abbrev pub other_distinguisher : Header → List ℕ → Bool
-other_distinguisher h r =
-    not (slice_index r 2 == 0) || (not (slice_index r 3 == 1) || (not (big_number 4 (drop 4 r) == h.originator)
-    || (not (is_mac_route r) && not (big_number 4 (drop 15 r) == h.originator))))
+abbrev pub has_other_distinguisher : Header → List ℕ → Bool
+has_other_distinguisher h r =
+    not (slice_index r 2 == 0) || (not (slice_index r RD_TYPE_PLACE == 1) || (not (big_number 4 (drop RD_ADDR_PLACE r) == h.originator)
+    || (not (is_mac_route r) && not (big_number 4 (drop ROUTER_PLACE r) == h.originator))))
 
 abbrev pub is_mac_advert : Header → List ℕ → Bool
 is_mac_advert h r = not h.is_withdrawal && is_mac_route r
 
 -- an advertised MAC with an Ethernet segment identifier that isn't 0
-abbrev pub multihomed : Header → List ℕ → Bool
-multihomed h r = is_mac_advert h r && list_any (λ x. not (x == 0)) (take 10 (drop 10 r))
+abbrev pub is_multihomed : Header → List ℕ → Bool
+is_multihomed h r = is_mac_advert h r && list_any (λ x. not (x == 0)) (take SEGMENT_LEN (drop SEGMENT_PLACE r))
 
 -- an Ethernet Tag that isn't 0
-abbrev pub tagged : List ℕ → Bool
-tagged r = not (big_number 4 (if is_mac_route r then drop 20 r else drop 10 r) == 0)
+abbrev pub is_tagged : List ℕ → Bool
+is_tagged r = not (big_number 4 (drop (if is_mac_route r then MAC_TAG_PLACE else FLOOD_TAG_PLACE) r) == 0)
 
 -- an advertised MAC whose first label isn't the record's VNI
-abbrev pub other_label : Header → List ℕ → Bool
-other_label h r = is_mac_advert h r && not (big_number 3 (drop (32 + ip_len r) r) == h.vni)
+abbrev pub has_other_label : Header → List ℕ → Bool
+has_other_label h r = is_mac_advert h r && not (big_number 3 (drop (IP_PLACE + ip_len r) r) == h.vni)
 
 -- a MAC length that isn't 48, or a group address
-abbrev pub bad_mac : List ℕ → Bool
-bad_mac r = is_mac_route r && (not (slice_index r 24 == 48) || is_group (big_number 6 (drop 25 r)))
+abbrev pub has_bad_mac : List ℕ → Bool
+has_bad_mac r = is_mac_route r && (not (slice_index r MAC_BITS_PLACE == BITS_OF_MAC) || is_group (big_number 6 (drop MAC_PLACE r)))
 
--- UnknownType, BadRoute, RdMismatch, Multihomed, TagUnsupported, LabelMismatch, BadMac, CounterZero
+-- the refusals in their order
 abbrev pub refusal_tests : Header → List ℕ → List (Bool × ℕ)
 refusal_tests h r =
-    (unknown_type r, 5)
-    ∷ (bad_route h r, 6)
-    ∷ (other_distinguisher h r, 7)
-    ∷ (multihomed h r, 8)
-    ∷ (tagged r, 9)
-    ∷ (other_label h r, 10)
-    ∷ (bad_mac r, 11)
-    ∷ (h.counter == 0, 14) ∷ []
+    (is_unknown_type r, UNKNOWN_TYPE)
+    ∷ (is_bad_route h r, BAD_ROUTE)
+    ∷ (has_other_distinguisher h r, RD_MISMATCH)
+    ∷ (is_multihomed h r, MULTIHOMED)
+    ∷ (is_tagged r, TAG_UNSUPPORTED)
+    ∷ (has_other_label h r, LABEL_MISMATCH)
+    ∷ (has_bad_mac r, BAD_MAC)
+    ∷ (h.counter == 0, COUNTER_ZERO) ∷ []
 
 abbrev pub refusal_of : Header → List ℕ → Option ℕ
 refusal_of h r = first_of (refusal_tests h r)
 
 -- what is known of a record that isn't refused
-pub record IsAccepted (h : Header) (r : List ℕ) : Type 0 where
+pub record IsReadable (h : Header) (r : List ℕ) : Type 0 where
   pub route : HasRoute r
   pub tail : is_mac_advert h r ≡ true → (length (tail_of r) ≡ 0) ⊎ (length (tail_of r) ≡ 8)
-  pub individual : bad_mac r ≡ false
+  pub individual : has_bad_mac r ≡ false
   pub counted : 0 < h.counter

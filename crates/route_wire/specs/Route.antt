@@ -1,6 +1,7 @@
 -- The parts of a route (RFC 7432, sections 7.2, 7.3 and 7.7; RFC 8365 for the first label), from its type octet on.
 use Rattle.std.specs.Prelude.{◌≡◌, ◌⊎◌, ℕ, ◌+◌, ◌*◌, ◌≤◌, Bool, ◌||◌, ◌==◌, nat_lt, if◌then◌else◌, List, length, drop, slice_index, Option, Some, None}
 use Rattle.byteorder.specs.Endian.{big_number}
+use Rattle.route_wire.specs.declared.route.TheConstants.{MAC_ROUTE, FLOOD_ROUTE, IP_BITS_PLACE, IP_PLACE, LABEL2_PLACE, ROUTER_BITS_PLACE, FLOOD_LEN, MAC_LEN, MAC_LEN_LABEL2, MAC_LEN_V4, MAC_LEN_V6, BITS_OF_ROUTER}
 use Rattle.route_wire.specs.declared.update.Ip.{Ip}
 use Rattle.route_wire.specs.declared.update.Ip.TheVariants.{V4, V6}
 
@@ -12,20 +13,20 @@ route_len r = slice_index r 1
 
 -- type 2 advertises a MAC, type 3 a flood list
 abbrev pub is_mac_route : List ℕ → Bool
-is_mac_route r = route_type r == 2
+is_mac_route r = route_type r == MAC_ROUTE
 
 -- the length of a route of type 2 tells how many octets of IP address and whether a second label it has
 abbrev pub ip_len : List ℕ → ℕ
-ip_len r = if nat_lt (route_len r) 37 then 0 else if nat_lt (route_len r) 49 then 4 else 16
+ip_len r = if nat_lt (route_len r) MAC_LEN_V4 then 0 else if nat_lt (route_len r) MAC_LEN_V6 then 4 else 16
 
 abbrev pub has_label2 : List ℕ → Bool
-has_label2 r = route_len r == 36 + ip_len r
+has_label2 r = route_len r == MAC_LEN_LABEL2 + ip_len r
 
--- 33, 37 or 49, and 3 more with a second label; 17 for type 3
+-- without an IP address or with one of version 4 or 6, and 3 octets more with a second label
 abbrev pub is_listed_len : List ℕ → Bool
 is_listed_len r =
-    if is_mac_route r then route_len r == 33 + ip_len r || has_label2 r
-    else route_len r == 17
+    if is_mac_route r then route_len r == MAC_LEN + ip_len r || has_label2 r
+    else route_len r == FLOOD_LEN
 
 -- what stands after the route
 abbrev pub tail_of : List ℕ → List ℕ
@@ -33,21 +34,21 @@ tail_of r = drop (2 + route_len r) r
 
 -- the IP length octet, in bits, and what it has to be
 abbrev pub ip_bits : List ℕ → ℕ
-ip_bits r = if is_mac_route r then slice_index r 31 else slice_index r 14
+ip_bits r = slice_index r (if is_mac_route r then IP_BITS_PLACE else ROUTER_BITS_PLACE)
 
 abbrev pub wanted_bits : List ℕ → ℕ
-wanted_bits r = if is_mac_route r then 8 * ip_len r else 32
+wanted_bits r = if is_mac_route r then 8 * ip_len r else BITS_OF_ROUTER
 
 -- the IP address of a route of type 2, and its second label
 abbrev pub ip_in : List ℕ → Option Ip
-ip_in r = if ip_len r == 0 then None else if ip_len r == 4 then Some (V4 (big_number 4 (drop 32 r))) else Some (V6 (big_number 16 (drop 32 r)))
+ip_in r = if ip_len r == 0 then None else if ip_len r == 4 then Some (V4 (big_number 4 (drop IP_PLACE r))) else Some (V6 (big_number 16 (drop IP_PLACE r)))
 
 abbrev pub label2_in : List ℕ → Option ℕ
-label2_in r = if has_label2 r then Some (big_number 3 (drop (35 + ip_len r) r)) else None
+label2_in r = if has_label2 r then Some (big_number 3 (drop (LABEL2_PLACE + ip_len r) r)) else None
 
 -- what a route holds that isn't refused as bad
 pub record HasRoute (r : List ℕ) : Type 0 where
-  pub known : (route_type r ≡ 2) ⊎ (route_type r ≡ 3)
+  pub known : (route_type r ≡ MAC_ROUTE) ⊎ (route_type r ≡ FLOOD_ROUTE)
   pub flood : 19 ≤ length r
-  pub mac : route_type r ≡ 2 → 35 + ip_len r + (if has_label2 r then 3 else 0) ≤ length r
+  pub mac : route_type r ≡ MAC_ROUTE → LABEL2_PLACE + ip_len r + (if has_label2 r then 3 else 0) ≤ length r
   pub whole : 2 + route_len r ≤ length r

@@ -1,6 +1,8 @@
 -- The octets that are written for an update: a record of version 3.
 use Rattle.std.specs.Prelude.{ℕ, ◌+◌, ◌*◌, ◌^◌, ◌<◌, Bool, not, ◌||◌, ◌==◌, if◌then◌else◌, List, [], ◌∷◌, ◌++◌, length, Option, Some, None}
 use Rattle.byteorder.specs.Endian.{big_bytes}
+use Rattle.route_wire.specs.declared.route.TheConstants.{MAC_ROUTE, FLOOD_ROUTE, FLOOD_LEN, MAC_LEN, BITS_OF_MAC, BITS_OF_ROUTER, COMMUNITY_TYPE}
+use Rattle.route_wire.specs.declared.stream.TheConstants.{MAGIC_FIRST, MAGIC_SECOND, NEWEST, ADVERTISES, WITHDRAWS, LEAST_LATER}
 use Rattle.route_wire.specs.declared.update.Ip.{Ip}
 use Rattle.route_wire.specs.declared.update.Ip.TheVariants.{V4, V6}
 use Rattle.route_wire.specs.declared.update.Key.{Key}
@@ -30,17 +32,17 @@ no_segment rest = 0 ∷ 0 ∷ 0 ∷ 0 ∷ 0 ∷ 0 ∷ 0 ∷ 0 ∷ 0 ∷ 0 ∷ 0 
 -- type 2: the MAC has 48 bits, the IP address 0, 32 or 128, and the first label is the VNI
 abbrev pub mac_route : ℕ → ℕ → ℕ → Option Ip → Option ℕ → List ℕ
 mac_route o vni mac ip label2 =
-    2 ∷ (33 + length (ip_octets ip) + length (label2_octets label2)) ∷ (distinguisher o ++ no_segment (48 ∷ (big_bytes 6 mac ++
+    MAC_ROUTE ∷ (MAC_LEN + length (ip_octets ip) + length (label2_octets label2)) ∷ (distinguisher o ++ no_segment (BITS_OF_MAC ∷ (big_bytes 6 mac ++
     ((8 * length (ip_octets ip)) ∷ (ip_octets ip ++ (big_bytes 3 vni ++ label2_octets label2))))))
 
 -- type 3: the Ethernet Tag 0, and the originator as the router
 abbrev pub flood_route : ℕ → List ℕ
-flood_route o = 3 ∷ 17 ∷ (distinguisher o ++ (0 ∷ 0 ∷ 0 ∷ 0 ∷ 32 ∷ big_bytes 4 o))
+flood_route o = FLOOD_ROUTE ∷ FLOOD_LEN ∷ (distinguisher o ++ (0 ∷ 0 ∷ 0 ∷ 0 ∷ BITS_OF_ROUTER ∷ big_bytes 4 o))
 
 -- a MAC Mobility community, where there is something to tell
 abbrev pub community : Bool → ℕ → List ℕ
 community is_static sequence =
-    if is_static || not (sequence == 0) then 6 ∷ 0 ∷ (if is_static then 1 else 0) ∷ 0 ∷ big_bytes 4 sequence else []
+    if is_static || not (sequence == 0) then COMMUNITY_TYPE ∷ 0 ∷ (if is_static then 1 else 0) ∷ 0 ∷ big_bytes 4 sequence else []
 
 -- what stands after the route of a MAC: a withdrawal has no community
 abbrev pub mobility : Content → List ℕ
@@ -54,12 +56,12 @@ route_octets o (Mac vni mac ip) content = mac_route o vni mac ip (label2_of cont
 
 -- advertise or withdraw
 abbrev pub kind_of : Content → ℕ
-kind_of Withdrawn = 2
-kind_of (Advertised a) = 1
+kind_of Withdrawn = WITHDRAWS
+kind_of (Advertised a) = ADVERTISES
 
 abbrev pub record_octets : ℕ → ℕ → ℕ → ℕ → ℕ → List ℕ → List ℕ
 record_octets kind o incarnation counter vni route =
-    69 ∷ 86 ∷ 3 ∷ kind ∷ (big_bytes 2 (19 + length route) ++ (big_bytes 4 o ++ (big_bytes 4 incarnation ++ (big_bytes 8 counter ++ (big_bytes 3 vni ++ route)))))
+    MAGIC_FIRST ∷ MAGIC_SECOND ∷ NEWEST ∷ kind ∷ (big_bytes 2 (LEAST_LATER + length route) ++ (big_bytes 4 o ++ (big_bytes 4 incarnation ++ (big_bytes 8 counter ++ (big_bytes 3 vni ++ route)))))
 
 unfoldable pub spelling_of : Fields → List ℕ
 spelling_of u =

@@ -1,29 +1,27 @@
 -- Streams of records: what one begins with.
 use Rattle.std.specs.Prelude.{◌≡◌, ℕ, ◌+◌, ◌<◌, ◌≤◌, Bool, not, ◌&&◌, ◌||◌, ◌==◌, nat_lt, if◌then◌else◌, List, [], ◌∷◌, length, take, drop, slice_index, Option, Some, None}
 use Rattle.byteorder.specs.Endian.{big_number}
+use Rattle.ether_wire.specs.Frame.{first_of}
+use Rattle.route_wire.specs.declared.reason.TheConstants.{BAD_MAGIC, BAD_VERSION, BAD_KIND, BAD_LENGTH}
+use Rattle.route_wire.specs.declared.stream.TheConstants.{MAGIC_FIRST, MAGIC_SECOND, VERSION_PLACE, KIND_PLACE, LENGTH_PLACE, LENGTH_END, HEAD, FIRST_VERSION, NEWEST, ADVERTISES, WITHDRAWS, LEAST_FIRST, LEAST_LATER, MOST}
 use Rattle.route_wire.specs.declared.stream.Whole.{Whole}
 use Rattle.route_wire.specs.declared.stream.Whole.TheVariants.{Rest, Fault, Length}
 
--- the number of the first test that is met
-abbrev pub first_of : List (Bool × ℕ) → Option ℕ
-first_of [] = None
-first_of (test ∷ tests) = if test.0 then Some test.1 else first_of tests
-
 -- how many octets follow the length field, and the least number that may
 abbrev pub follow_of : List ℕ → ℕ
-follow_of stream = big_number 2 (drop 4 stream)
+follow_of s = big_number 2 (drop LENGTH_PLACE s)
 
 abbrev pub least_of : List ℕ → ℕ
-least_of stream = if slice_index stream 2 == 1 then 15 else 19
+least_of s = if slice_index s VERSION_PLACE == FIRST_VERSION then LEAST_FIRST else LEAST_LATER
 
--- the faults of a stream of records up to a version, each at the first octet that shows it: BadMagic, BadVersion, BadKind, BadLength
+-- the faults of a stream of records up to a version, each at the first octet that shows it
 abbrev pub fault_tests : ℕ → List ℕ → List (Bool × ℕ)
 fault_tests newest s =
-    (nat_lt 0 (length s) && not (slice_index s 0 == 0x45), 1)
-    ∷ (nat_lt 1 (length s) && not (slice_index s 1 == 0x56), 1)
-    ∷ (nat_lt 2 (length s) && (slice_index s 2 == 0 || nat_lt newest (slice_index s 2)), 2)
-    ∷ (nat_lt 3 (length s) && (not (slice_index s 3 == 1) && not (slice_index s 3 == 2)), 3)
-    ∷ (nat_lt 5 (length s) && (nat_lt (follow_of s) (least_of s) || nat_lt 512 (follow_of s)), 4) ∷ []
+    (nat_lt 0 (length s) && not (slice_index s 0 == MAGIC_FIRST), BAD_MAGIC)
+    ∷ (nat_lt 1 (length s) && not (slice_index s 1 == MAGIC_SECOND), BAD_MAGIC)
+    ∷ (nat_lt VERSION_PLACE (length s) && (slice_index s VERSION_PLACE == 0 || nat_lt newest (slice_index s VERSION_PLACE)), BAD_VERSION)
+    ∷ (nat_lt KIND_PLACE (length s) && (not (slice_index s KIND_PLACE == ADVERTISES) && not (slice_index s KIND_PLACE == WITHDRAWS)), BAD_KIND)
+    ∷ (nat_lt LENGTH_END (length s) && (nat_lt (follow_of s) (least_of s) || nat_lt MOST (follow_of s)), BAD_LENGTH) ∷ []
 
 abbrev pub fault_of : ℕ → List ℕ → Option ℕ
 fault_of newest s = first_of (fault_tests newest s)
@@ -31,14 +29,14 @@ fault_of newest s = first_of (fault_tests newest s)
 -- with no fault, a record is whole where all octets that its length tells are there
 abbrev pub whole_or_rest : List ℕ → Option ℕ → Whole
 whole_or_rest s (Some fault) = Fault fault
-whole_or_rest s None = if nat_lt (length s) 6 then Rest else if nat_lt (length s) (6 + follow_of s) then Rest else Length (6 + follow_of s)
+whole_or_rest s None = if nat_lt (length s) HEAD then Rest else if nat_lt (length s) (HEAD + follow_of s) then Rest else Length (HEAD + follow_of s)
 
 abbrev pub whole_up_to : ℕ → List ℕ → Whole
 whole_up_to newest s = whole_or_rest s (fault_of newest s)
 
 -- what a stream of records of all versions begins with
 abbrev pub whole_of : List ℕ → Whole
-whole_of s = whole_up_to 3 s
+whole_of s = whole_up_to NEWEST s
 
 -- the octets are one whole record
 abbrev pub IsWhole : List ℕ → Type 0

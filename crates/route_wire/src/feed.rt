@@ -1,12 +1,12 @@
+//! Records of a stream that comes in pieces.
 ghost use Rattle.std.specs.Prelude.{◌≡◌, ◌+◌, ◌≤◌, ◌<◌, ◌++◌, ℕ, List, [], true, false, length, take, Result};
 ghost use Rattle.arrayvec.specs.ArrayVec.{array_vec_len};
 ghost use Rattle.route_wire.specs.Fields.{Fields};
 ghost use Rattle.route_wire.specs.Stream.{whole_up_to};
 ghost use Rattle.route_wire.specs.Feed.{is_rest, answer_of};
 
-use crate::framing::{NEWEST, whole_in};
 use crate::record::read_one;
-use crate::stream::{Next, Truncated, Whole};
+use crate::stream::{LONGEST, NEWEST, Next, SECOND_VERSION, Truncated, Whole, whole_up_to};
 use crate::update::Update;
 use arrayvec::ArrayVec;
 use byteorder::{BigEndian, ByteOrder};
@@ -17,7 +17,7 @@ use std::marker::Model;
 #[derive(Drop)]
 pub struct Feed {
     newest: u8,
-    held: ArrayVec<u8, 518>,
+    held: ArrayVec<u8, LONGEST>,
 }
 
 impl Model for Feed {
@@ -31,15 +31,15 @@ impl Model for Feed {
     ghost invariant = { λ f. (f.newest ≤ 3) × IsHeld f.newest f.held.items };
 }
 
-// Whether the octets are a proper beginning of a record.
+/// Whether the octets are a proper beginning of a record.
 fn is_unfinished(newest: u8, octets: &[u8]) -> bool
     ensures { result ≡ is_rest (whole_up_to newest octets.now) }
 {
-    matches!(whole_in(newest, octets), Whole::Rest)
+    matches!(whole_up_to(newest, octets), Whole::Rest)
 }
 
-// Moves octets from the piece until six are held or they show a fault. How many it moves.
-fn take_head(newest: u8, held: &mut ArrayVec<u8, 518>, piece: &[u8]) -> usize
+/// Moves octets from the piece until six are held or they show a fault. How many it moves.
+fn take_head(newest: u8, held: &mut ArrayVec<u8, LONGEST>, piece: &[u8]) -> usize
     requires { is_rest (whole_up_to newest held.old.items) ≡ true }
     ensures fits { result ≤ length piece.now }
     ensures taken { held.new.items ≡ held.old.items ++ take result piece.now }
@@ -55,8 +55,8 @@ fn take_head(newest: u8, held: &mut ArrayVec<u8, 518>, piece: &[u8]) -> usize
     piece.len()
 }
 
-// Moves octets of a record whose length is known from the piece. How many it moves.
-fn take_body(newest: u8, held: &mut ArrayVec<u8, 518>, piece: &[u8]) -> usize
+/// Moves octets of a record whose length is known from the piece. How many it moves.
+fn take_body(newest: u8, held: &mut ArrayVec<u8, LONGEST>, piece: &[u8]) -> usize
     requires six { 6 ≤ length held.old.items }
     requires rest { is_rest (whole_up_to newest held.old.items) ≡ true }
     ensures fits { result ≤ length piece.now }
@@ -73,8 +73,8 @@ fn take_body(newest: u8, held: &mut ArrayVec<u8, 518>, piece: &[u8]) -> usize
     }
 }
 
-// Moves octets from the piece until a record or a fault is whole. How many it moves.
-fn take_octets(newest: u8, held: &mut ArrayVec<u8, 518>, piece: &[u8]) -> usize
+/// Moves octets from the piece until a record or a fault is whole. How many it moves.
+fn take_octets(newest: u8, held: &mut ArrayVec<u8, LONGEST>, piece: &[u8]) -> usize
     requires { is_rest (whole_up_to newest held.old.items) ≡ true }
     ensures fits { result ≤ length piece.now }
     ensures taken { held.new.items ≡ held.old.items ++ take result piece.now }
@@ -89,7 +89,7 @@ fn take_octets(newest: u8, held: &mut ArrayVec<u8, 518>, piece: &[u8]) -> usize
     head + take_body(newest, held, rest)
 }
 
-// What a whole record says.
+/// What a whole record says.
 fn answer(reading: Result<Update, u8>) -> Next
     ensures { result ≡ answer_of reading }
 {
@@ -120,7 +120,7 @@ impl Feed {
         ensures read { HasRead result [] [] }
     {
         Feed {
-            newest: 2,
+            newest: SECOND_VERSION,
             held: ArrayVec::new(),
         }
     }
@@ -133,7 +133,7 @@ impl Feed {
         ensures read { (stream : List ℕ) (answers : List (Result Fields ℕ)) → HasRead self.old stream answers
             → HasRead self.new (stream ++ take result piece.now) answers }
     {
-        match whole_in(self.newest, self.held.as_slice()) {
+        match whole_up_to(self.newest, self.held.as_slice()) {
             Whole::Fault(_) => piece.len(),
             Whole::Length(_) => 0,
             Whole::Rest => take_octets(self.newest, &mut self.held, piece),
@@ -149,7 +149,7 @@ impl Feed {
         ensures read { (stream : List ℕ) (answers : List (Result Fields ℕ)) → HasRead self.old stream answers
             → HasRead self.new stream (answers ++ added result) }
     {
-        match whole_in(self.newest, self.held.as_slice()) {
+        match whole_up_to(self.newest, self.held.as_slice()) {
             Whole::Rest => Next::More,
             Whole::Fault(fault) => Next::Fault(fault),
             Whole::Length(_) => {

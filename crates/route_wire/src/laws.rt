@@ -1,3 +1,4 @@
+//! Laws: functions that do nothing, whose contracts are what holds.
 ghost use Rattle.route_wire.specs.Laws.{NeverEquallyNew, NewestFirst, NextNewer, NotNewerLower, NotNewerEarlier, NewerNotEarlier, NotNewerItself, KeyOrOther, KeysInOrder, NoRecordBeginsAnother, OneReading, EveryCutting, CuttingsAgree};
 
 /// Of two different updates of a register one is newer than the other.

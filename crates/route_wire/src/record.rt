@@ -1,140 +1,205 @@
+//! A whole record:
+//!
+//! | Octets | Field |
+//! |---|---|
+//! | 6 | magic, version, kind and length, as `stream` has them |
+//! | 4 | originator |
+//! | 4 | incarnation, from the second version on |
+//! | 8 | counter |
+//! | 3 | network |
+//! | the rest | the route, as `route` has it, and what stands after it |
 ghost use Rattle.std.specs.Prelude.{◌≡◌, ◌+◌, ◌≤◌, ◌⊎◌, if◌then◌else◌, length};
 ghost use Rattle.route_wire.specs.Stream.{IsWhole};
 ghost use Rattle.route_wire.specs.Route.{HasRoute, ip_len, has_label2, ip_in, label2_in, route_type, tail_of};
-ghost use Rattle.route_wire.specs.Refusal.{IsAccepted};
-ghost use Rattle.route_wire.specs.Record.{route_place, first_header, later_header, header_of, route_advert, key_of, content_of, update_of, reading};
+ghost use Rattle.route_wire.specs.Refusal.{IsReadable};
+ghost use Rattle.route_wire.specs.Record.{route_place, first_header_in, later_header_in, header_in, is_flagged, advert_in, names_no_ip, key_in, content_in, update_in, reading};
 
 use crate::refusal::refusal;
-use crate::route::{has_second_label, ip_octets};
+use crate::route::{
+    FLAGS_PLACE, IP_PLACE, LABEL2_PLACE, MAC_PLACE, MAC_ROUTE, SEQUENCE_PLACE, has_label2, ip_len,
+};
+use crate::stream::{FIRST_VERSION, KIND_PLACE, NEWEST, VERSION_PLACE, WITHDRAWS};
 use crate::update::{Addr6, Advert, Content, Ip, Key, Register, Update, Value};
 use byteorder::{BigEndian, ByteOrder};
 use ether_wire::{Addr, Mac, Vni};
 
+/// The place of the originator.
+pub(crate) const ORIGINATOR_PLACE: usize = 6;
+/// The place of the counter in the first version.
+pub(crate) const FIRST_COUNTER_PLACE: usize = 10;
+/// The place of the network in the first version.
+pub(crate) const FIRST_VNI_PLACE: usize = 18;
+/// The place of the route in the first version.
+pub(crate) const FIRST_ROUTE_PLACE: usize = 21;
+/// The place of the incarnation in later versions.
+pub(crate) const INCARNATION_PLACE: usize = 10;
+/// The place of the counter in later versions.
+pub(crate) const COUNTER_PLACE: usize = 14;
+/// The place of the network in later versions.
+pub(crate) const VNI_PLACE: usize = 22;
+/// The place of the route in later versions.
+pub(crate) const ROUTE_PLACE: usize = 25;
+
 /// What stands before the route of a record. A record of version 1 has no incarnation, which then
 /// is 0.
 #[derive(Clone, Copy, Debug, PartialEq, Eq)]
-pub struct Header {
+pub(crate) struct Header {
+    /// 1, 2 or 3.
     pub version: u8,
+    /// Whether it withdraws.
     pub is_withdrawal: bool,
+    /// Who says it.
     pub originator: Addr,
+    /// In which of its lives.
     pub incarnation: u32,
+    /// The number of the update in that life.
     pub counter: u64,
+    /// The network that it is about.
     pub vni: Vni,
 }
 
-// How many octets stand before the route.
-fn head_len(bytes: &[u8]) -> usize
-    requires { 21 ≤ length bytes.now }
+/// How many octets stand before the route.
+fn route_place(bytes: &[u8]) -> usize
+    requires { FIRST_ROUTE_PLACE ≤ length bytes.now }
     ensures { result ≡ route_place bytes.now }
 {
-    if bytes[2] == 1 { 21 } else { 25 }
+    if bytes[VERSION_PLACE] == FIRST_VERSION {
+        FIRST_ROUTE_PLACE
+    } else {
+        ROUTE_PLACE
+    }
 }
 
+/// The header of a record of the first version.
 fn first_header_in(bytes: &[u8]) -> Header
-    requires { 21 ≤ length bytes.now }
-    ensures { result ≡ first_header bytes.now }
+    requires { FIRST_ROUTE_PLACE ≤ length bytes.now }
+    ensures { result ≡ first_header_in bytes.now }
 {
     Header {
-        version: bytes[2],
-        is_withdrawal: bytes[3] == 2,
-        originator: Addr::new(BigEndian::read_u32(&bytes[6..])),
+        version: bytes[VERSION_PLACE],
+        is_withdrawal: bytes[KIND_PLACE] == WITHDRAWS,
+        originator: Addr::new(BigEndian::read_u32(&bytes[ORIGINATOR_PLACE..])),
         incarnation: 0,
-        counter: BigEndian::read_u64(&bytes[10..]),
-        vni: Vni::from_octets(&bytes[18..]),
+        counter: BigEndian::read_u64(&bytes[FIRST_COUNTER_PLACE..]),
+        vni: Vni::from_octets(&bytes[FIRST_VNI_PLACE..]),
     }
 }
 
+/// The header of a record of a later version.
 fn later_header_in(bytes: &[u8]) -> Header
-    requires { 25 ≤ length bytes.now }
-    ensures { result ≡ later_header bytes.now }
+    requires { ROUTE_PLACE ≤ length bytes.now }
+    ensures { result ≡ later_header_in bytes.now }
 {
     Header {
-        version: bytes[2],
-        is_withdrawal: bytes[3] == 2,
-        originator: Addr::new(BigEndian::read_u32(&bytes[6..])),
-        incarnation: BigEndian::read_u32(&bytes[10..]),
-        counter: BigEndian::read_u64(&bytes[14..]),
-        vni: Vni::from_octets(&bytes[22..]),
+        version: bytes[VERSION_PLACE],
+        is_withdrawal: bytes[KIND_PLACE] == WITHDRAWS,
+        originator: Addr::new(BigEndian::read_u32(&bytes[ORIGINATOR_PLACE..])),
+        incarnation: BigEndian::read_u32(&bytes[INCARNATION_PLACE..]),
+        counter: BigEndian::read_u64(&bytes[COUNTER_PLACE..]),
+        vni: Vni::from_octets(&bytes[VNI_PLACE..]),
     }
 }
 
+/// What stands before the route.
 fn header_in(bytes: &[u8]) -> Header
-    requires least { 21 ≤ length bytes.now }
+    requires least { FIRST_ROUTE_PLACE ≤ length bytes.now }
     requires fits { route_place bytes.now ≤ length bytes.now }
-    ensures { result ≡ header_of bytes.now }
+    ensures { result ≡ header_in bytes.now }
 {
-    if bytes[2] == 1 {
+    if bytes[VERSION_PLACE] == FIRST_VERSION {
         first_header_in(bytes)
     } else {
         later_header_in(bytes)
     }
 }
 
-fn ip_at(route: &[u8]) -> Option<Ip>
-    requires { 35 + ip_len route.now ≤ length route.now }
+/// The IP address of a MAC's route.
+fn ip_in(route: &[u8]) -> Option<Ip>
+    requires { LABEL2_PLACE + ip_len route.now ≤ length route.now }
     ensures { result ≡ ip_in route.now }
 {
-    match ip_octets(route) {
+    match ip_len(route) {
         0 => None,
-        4 => Some(Ip::V4(Addr::new(BigEndian::read_u32(&route[32..])))),
-        _ => Some(Ip::V6(Addr6::new(BigEndian::read_u128(&route[32..])))),
+        4 => Some(Ip::V4(Addr::new(BigEndian::read_u32(&route[IP_PLACE..])))),
+        _ => Some(Ip::V6(Addr6::new(BigEndian::read_u128(&route[IP_PLACE..])))),
     }
 }
 
-fn label2_at(route: &[u8]) -> Option<Vni>
-    requires { 35 + ip_len route.now + (if has_label2 route.now then 3 else 0) ≤ length route.now }
+/// The second label of a MAC's route.
+fn label2_in(route: &[u8]) -> Option<Vni>
+    requires { LABEL2_PLACE + ip_len route.now + (if has_label2 route.now then 3 else 0) ≤ length route.now }
     ensures { result ≡ label2_in route.now }
 {
-    if has_second_label(route) {
-        Some(Vni::from_octets(&route[35 + ip_octets(route)..]))
+    if has_label2(route) {
+        Some(Vni::from_octets(&route[LABEL2_PLACE + ip_len(route)..]))
     } else {
         None
     }
 }
 
-fn advert_at(route: &[u8]) -> Advert
-    requires fits { HasRoute route.now }
-    requires mac { route_type route.now ≡ 2 }
-    requires tail { (length (tail_of route.now) ≡ 0) ⊎ (length (tail_of route.now) ≡ 8) }
-    ensures { result ≡ route_advert route.now }
+/// The lowest bit tells that the address can't move.
+fn is_flagged(flags: u8) -> bool
+    ensures { result ≡ is_flagged flags }
 {
-    let after = &route[2 + route[1] as usize..];
+    flags % 2 == 1
+}
+
+/// What is advertised by a MAC's route and what stands after it.
+fn advert_in(route: &[u8]) -> Advert
+    requires fits { HasRoute route.now }
+    requires mac { route_type route.now ≡ MAC_ROUTE }
+    requires tail { (length (tail_of route.now) ≡ 0) ⊎ (length (tail_of route.now) ≡ 8) }
+    ensures { result ≡ advert_in route.now }
+{
+    let after = &route[2 + usize::from(route[1])..];
     let (is_static, sequence) = if after.is_empty() {
         (false, 0)
     } else {
-        (after[2] % 2 == 1, BigEndian::read_u32(&after[4..]))
+        (
+            is_flagged(after[FLAGS_PLACE]),
+            BigEndian::read_u32(&after[SEQUENCE_PLACE..]),
+        )
     };
     Advert {
         is_static,
         sequence,
-        label2: label2_at(route),
+        label2: label2_in(route),
     }
 }
 
+/// Whether it is a withdrawal of an earlier version than the newest.
+fn names_no_ip(header: &Header) -> bool
+    ensures { result ≡ names_no_ip header.now }
+{
+    header.is_withdrawal && header.version != NEWEST
+}
+
+/// What the route is about.
 fn key_in(header: &Header, route: &[u8]) -> Key
     requires { HasRoute route.now }
-    ensures { result ≡ key_of header.now route.now }
+    ensures { result ≡ key_in header.now route.now }
 {
-    if route[0] != 2 {
+    if route[0] != MAC_ROUTE {
         return Key::Flood(header.vni);
     }
-    let ip = if header.is_withdrawal && header.version != 3 {
+    let ip = if names_no_ip(header) {
         None
     } else {
-        ip_at(route)
+        ip_in(route)
     };
-    Key::Mac(header.vni, Mac::from_octets(&route[25..]), ip)
+    Key::Mac(header.vni, Mac::from_octets(&route[MAC_PLACE..]), ip)
 }
 
+/// What is said of it.
 fn content_in(header: &Header, route: &[u8]) -> Content
-    requires { IsAccepted header.now route.now }
-    ensures { result ≡ content_of header.now route.now }
+    requires { IsReadable header.now route.now }
+    ensures { result ≡ content_in header.now route.now }
 {
     if header.is_withdrawal {
         return Content::Withdrawn;
     }
-    if route[0] == 2 {
-        return Content::Advert(advert_at(route));
+    if route[0] == MAC_ROUTE {
+        return Content::Advert(advert_in(route));
     }
     Content::Advert(Advert {
         is_static: false,
@@ -143,9 +208,10 @@ fn content_in(header: &Header, route: &[u8]) -> Content
     })
 }
 
+/// The update of a record that isn't refused.
 fn update_in(header: &Header, route: &[u8]) -> Update
-    requires { IsAccepted header.now route.now }
-    ensures { result ≡ update_of header.now route.now }
+    requires { IsReadable header.now route.now }
+    ensures { result ≡ update_in header.now route.now }
 {
     let register = Register {
         originator: header.originator,
@@ -168,7 +234,7 @@ pub fn read_one(bytes: &[u8]) -> Result<Update, u8>
     ensures { result ≡ reading bytes.now }
 {
     let header = header_in(bytes);
-    let (_, route) = bytes.split_at(head_len(bytes));
+    let (_, route) = bytes.split_at(route_place(bytes));
     match refusal(&header, route) {
         Some(refusal) => Err(refusal),
         None => Ok(update_in(&header, route)),

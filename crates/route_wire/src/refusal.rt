@@ -1,135 +1,161 @@
+//! The refusals of a whole record.
 ghost use Rattle.std.specs.Prelude.{◌≡◌, ◌≤◌, ◌⊎◌, length, true, false, not, ◌==◌, IfNone};
 ghost use Rattle.std.specs.Bool.{OnFalse};
 ghost use Rattle.std.specs.List.{list_any};
 ghost use Rattle.route_wire.specs.Route.{HasRoute, tail_of};
-ghost use Rattle.route_wire.specs.Refusal.{IsAccepted, is_mac_advert, unknown_type, bad_route, may_follow, is_community, other_distinguisher, multihomed, tagged, other_label, bad_mac, refusal_of};
+ghost use Rattle.route_wire.specs.Refusal.{IsReadable, is_mac_advert, is_unknown_type, is_bad_route, is_followed_well, is_community, has_other_distinguisher, is_multihomed, is_tagged, has_other_label, has_bad_mac, refusal_of};
 
+use crate::reason::{
+    BAD_MAC, BAD_ROUTE, COUNTER_ZERO, LABEL_MISMATCH, MULTIHOMED, RD_MISMATCH, TAG_UNSUPPORTED,
+    UNKNOWN_TYPE,
+};
 use crate::record::Header;
-use crate::route::{ip_octets, is_listed};
+use crate::route::{
+    BITS_OF_MAC, BITS_OF_ROUTER, COMMUNITY_LEN, COMMUNITY_TYPE, FLOOD_ROUTE, FLOOD_TAG_PLACE,
+    IP_BITS_PLACE, IP_PLACE, MAC_BITS_PLACE, MAC_PLACE, MAC_ROUTE, MAC_TAG_PLACE, RD_ADDR_PLACE,
+    RD_TYPE_PLACE, ROUTER_BITS_PLACE, ROUTER_PLACE, SEGMENT_LEN, SEGMENT_PLACE, ip_len,
+    is_listed_len,
+};
 use byteorder::{BigEndian, ByteOrder};
 use ether_wire::{Mac, Vni};
 
-fn is_unknown(route: &[u8]) -> bool
-    ensures { result ≡ unknown_type route.now }
+/// There is a route type, and it is neither a MAC's nor a flood list's.
+fn is_unknown_type(route: &[u8]) -> bool
+    ensures { result ≡ is_unknown_type route.now }
 {
-    !route.is_empty() && route[0] != 2 && route[0] != 3
+    !route.is_empty() && route[0] != MAC_ROUTE && route[0] != FLOOD_ROUTE
 }
 
-fn is_mobility(after: &[u8]) -> bool
+/// A MAC Mobility community.
+fn is_community(after: &[u8]) -> bool
     ensures { result ≡ is_community after.now }
 {
-    after.len() == 8 && after[0] == 6 && after[1] == 0
+    after.len() == COMMUNITY_LEN && after[0] == COMMUNITY_TYPE && after[1] == 0
 }
 
+/// After the route stands nothing, or one community after an advertised MAC.
 fn is_followed_well(header: &Header, route: &[u8]) -> bool
     requires short { 2 ≤ length route.now }
-    ensures { result ≡ may_follow header.now route.now }
+    ensures { result ≡ is_followed_well header.now route.now }
 {
-    let end = 2 + route[1] as usize;
+    let end = 2 + usize::from(route[1]);
     let after = if end <= route.len() {
         &route[end..]
     } else {
         &[]
     };
-    after.is_empty() || route[0] == 2 && !header.is_withdrawal && is_mobility(after)
+    after.is_empty() || route[0] == MAC_ROUTE && !header.is_withdrawal && is_community(after)
 }
 
-fn is_bad(header: &Header, route: &[u8]) -> bool
-    requires { unknown_type route.now ≡ false }
-    ensures value { result ≡ bad_route header.now route.now }
+/// The route's lengths don't fit each other or the record, or something else follows it.
+fn is_bad_route(header: &Header, route: &[u8]) -> bool
+    requires { is_unknown_type route.now ≡ false }
+    ensures value { result ≡ is_bad_route header.now route.now }
     ensures fits { OnFalse result (HasRoute route.now) }
     ensures tail { OnFalse result (is_mac_advert header.now route.now ≡ true → (length (tail_of route.now) ≡ 0) ⊎ (length (tail_of route.now) ≡ 8)) }
 {
-    if route.len() < 2 || !is_listed(route) || route.len() < 2 + route[1] as usize {
+    if route.len() < 2 || !is_listed_len(route) || route.len() < 2 + usize::from(route[1]) {
         return true;
     }
-    let is_right = if route[0] == 2 {
-        route[31] as usize == 8 * ip_octets(route)
+    let is_right = if route[0] == MAC_ROUTE {
+        usize::from(route[IP_BITS_PLACE]) == 8 * ip_len(route)
     } else {
-        route[14] == 32
+        route[ROUTER_BITS_PLACE] == BITS_OF_ROUTER
     };
     !is_right || !is_followed_well(header, route)
 }
 
+/// The distinguisher isn't of type 1 with the originator's address, or the router of a flood list
+/// is another one.
 fn has_other_distinguisher(header: &Header, route: &[u8]) -> bool
     requires { HasRoute route.now }
-    ensures { result ≡ other_distinguisher header.now route.now }
+    ensures { result ≡ has_other_distinguisher header.now route.now }
 {
     route[2] != 0
-        || route[3] != 1
-        || BigEndian::read_u32(&route[4..]) != header.originator.number()
-        || route[0] != 2 && BigEndian::read_u32(&route[15..]) != header.originator.number()
+        || route[RD_TYPE_PLACE] != 1
+        || BigEndian::read_u32(&route[RD_ADDR_PLACE..]) != header.originator.number()
+        || route[0] != MAC_ROUTE
+            && BigEndian::read_u32(&route[ROUTER_PLACE..]) != header.originator.number()
 }
 
+/// Some octet isn't 0.
 fn has_any(octets: &[u8]) -> bool
     ensures { result ≡ list_any (λ x. not (x == 0)) octets.now }
 {
     octets.iter().any(|x| *x != 0)
 }
 
+/// An advertised MAC with an Ethernet segment identifier that isn't 0.
 fn is_multihomed(header: &Header, route: &[u8]) -> bool
     requires { HasRoute route.now }
-    ensures { result ≡ multihomed header.now route.now }
+    ensures { result ≡ is_multihomed header.now route.now }
 {
-    !header.is_withdrawal && route[0] == 2 && has_any(&route[10..20])
+    !header.is_withdrawal
+        && route[0] == MAC_ROUTE
+        && has_any(&route[SEGMENT_PLACE..SEGMENT_PLACE + SEGMENT_LEN])
 }
 
+/// The Ethernet Tag isn't 0.
 fn is_tagged(route: &[u8]) -> bool
     requires { HasRoute route.now }
-    ensures { result ≡ tagged route.now }
+    ensures { result ≡ is_tagged route.now }
 {
-    let tag = if route[0] == 2 {
-        BigEndian::read_u32(&route[20..])
+    let tag = if route[0] == MAC_ROUTE {
+        BigEndian::read_u32(&route[MAC_TAG_PLACE..])
     } else {
-        BigEndian::read_u32(&route[10..])
+        BigEndian::read_u32(&route[FLOOD_TAG_PLACE..])
     };
     tag != 0
 }
 
+/// An advertised MAC whose first label isn't the record's network.
 fn has_other_label(header: &Header, route: &[u8]) -> bool
     requires { HasRoute route.now }
-    ensures { result ≡ other_label header.now route.now }
+    ensures { result ≡ has_other_label header.now route.now }
 {
     !header.is_withdrawal
-        && route[0] == 2
-        && Vni::from_octets(&route[32 + ip_octets(route)..]) != header.vni
+        && route[0] == MAC_ROUTE
+        && Vni::from_octets(&route[IP_PLACE + ip_len(route)..]) != header.vni
 }
 
+/// The length of a MAC isn't 48 bits, or it is a group address.
 fn has_bad_mac(route: &[u8]) -> bool
     requires { HasRoute route.now }
-    ensures { result ≡ bad_mac route.now }
+    ensures { result ≡ has_bad_mac route.now }
 {
-    route[0] == 2 && (route[24] != 48 || Mac::from_octets(&route[25..]).is_group())
+    route[0] == MAC_ROUTE
+        && (route[MAC_BITS_PLACE] != BITS_OF_MAC
+            || Mac::from_octets(&route[MAC_PLACE..]).is_group())
 }
 
 /// The refusal of a whole record, the first that applies.
 pub(crate) fn refusal(header: &Header, route: &[u8]) -> Option<u8>
     ensures value { result ≡ refusal_of header.now route.now }
-    ensures accepted { IfNone result (IsAccepted header.now route.now) }
+    ensures accepted { IfNone result (IsReadable header.now route.now) }
 {
-    if is_unknown(route) {
-        return Some(5);
+    if is_unknown_type(route) {
+        return Some(UNKNOWN_TYPE);
     }
-    if is_bad(header, route) {
-        return Some(6);
+    if is_bad_route(header, route) {
+        return Some(BAD_ROUTE);
     }
     if has_other_distinguisher(header, route) {
-        return Some(7);
+        return Some(RD_MISMATCH);
     }
     if is_multihomed(header, route) {
-        return Some(8);
+        return Some(MULTIHOMED);
     }
     if is_tagged(route) {
-        return Some(9);
+        return Some(TAG_UNSUPPORTED);
     }
     if has_other_label(header, route) {
-        return Some(10);
+        return Some(LABEL_MISMATCH);
     }
     if has_bad_mac(route) {
-        return Some(11);
+        return Some(BAD_MAC);
     }
     if header.counter == 0 {
-        return Some(14);
+        return Some(COUNTER_ZERO);
     }
     None
 }

@@ -1,34 +1,112 @@
+//! A route of a record, from its type octet on (RFC 7432, sections 7.2, 7.3 and 7.7; RFC 8365,
+//! section 5.1.3, for the first label):
+//!
+//! | Place | A MAC's (type 2) | A flood list's (type 3) |
+//! |---|---|---|
+//! | 0 | type | type |
+//! | 1 | length: octets that follow | the same |
+//! | 2 | route distinguisher, 8 octets: type 1, an address, a number | the same |
+//! | 10 | Ethernet segment identifier, 10 | Ethernet Tag, 4 |
+//! | 14 | | length of the router's address in bits, 1 |
+//! | 15 | | the router's address, 4 |
+//! | 20 | Ethernet Tag, 4 | |
+//! | 24 | length of the MAC in bits, 1 | |
+//! | 25 | the MAC, 6 | |
+//! | 31 | length of the IP address in bits, 1 | |
+//! | 32 | the IP address, 0, 4 or 16; then the first label, 3; then the second, 0 or 3 | |
+//!
+//! After an advertised MAC's may stand a MAC Mobility community: type 6, subtype 0, flags, a
+//! reserved octet, a sequence number of 4 octets.
 ghost use Rattle.std.specs.Prelude.{◌≡◌, ◌≤◌, length};
 ghost use Rattle.route_wire.specs.Route.{ip_len, has_label2, is_listed_len};
 
+/// The type of a MAC's route.
+pub(crate) const MAC_ROUTE: u8 = 2;
+/// The type of a flood list's route.
+pub(crate) const FLOOD_ROUTE: u8 = 3;
+
+/// The place of the second octet of the route distinguisher's type, which is 1.
+pub(crate) const RD_TYPE_PLACE: usize = 3;
+/// The place of the address in the route distinguisher.
+pub(crate) const RD_ADDR_PLACE: usize = 4;
+/// The place of the Ethernet segment identifier.
+pub(crate) const SEGMENT_PLACE: usize = 10;
+/// How many octets it has.
+pub(crate) const SEGMENT_LEN: usize = 10;
+/// The place of the Ethernet Tag in a MAC's route.
+pub(crate) const MAC_TAG_PLACE: usize = 20;
+/// The place of the length of the MAC.
+pub(crate) const MAC_BITS_PLACE: usize = 24;
+/// The place of the MAC.
+pub(crate) const MAC_PLACE: usize = 25;
+/// The place of the length of its IP address.
+pub(crate) const IP_BITS_PLACE: usize = 31;
+/// The place of its IP address, and of the first label where there is none.
+pub(crate) const IP_PLACE: usize = 32;
+/// The place of the second label where there is no IP address.
+pub(crate) const LABEL2_PLACE: usize = 35;
+/// The place of the Ethernet Tag in a flood list's route.
+pub(crate) const FLOOD_TAG_PLACE: usize = 10;
+/// The place of the length of the router's address.
+pub(crate) const ROUTER_BITS_PLACE: usize = 14;
+/// The place of the router's address.
+pub(crate) const ROUTER_PLACE: usize = 15;
+
+/// The length of a flood list's route.
+pub(crate) const FLOOD_LEN: u8 = 17;
+/// The length of a MAC's route without an IP address and a second label.
+pub(crate) const MAC_LEN: u8 = 33;
+/// The same with a second label.
+pub(crate) const MAC_LEN_LABEL2: u8 = 36;
+/// The least length of a MAC's route with an IPv4 address.
+pub(crate) const MAC_LEN_V4: u8 = 37;
+/// The least length of a MAC's route with an IPv6 address.
+pub(crate) const MAC_LEN_V6: u8 = 49;
+
+/// How many bits a MAC has.
+pub(crate) const BITS_OF_MAC: u8 = 48;
+/// How many bits a router's address has.
+pub(crate) const BITS_OF_ROUTER: u8 = 32;
+
+/// The octets of a community.
+pub(crate) const COMMUNITY_LEN: usize = 8;
+/// The type of a community of EVPN (RFC 7153); its subtype 0 is MAC Mobility.
+pub(crate) const COMMUNITY_TYPE: u8 = 6;
+/// The place of its flags.
+pub(crate) const FLAGS_PLACE: usize = 2;
+/// The place of its sequence number.
+pub(crate) const SEQUENCE_PLACE: usize = 4;
+
 /// How many octets of IP address a route of this length has.
-pub(crate) fn ip_octets(route: &[u8]) -> usize
+pub(crate) fn ip_len(route: &[u8]) -> usize
     requires { 2 ≤ length route.now }
     ensures { result ≡ ip_len route.now }
 {
-    match route[1] {
-        0..37 => 0,
-        37..49 => 4,
-        _ => 16,
+    if route[1] < MAC_LEN_V4 {
+        0
+    } else if route[1] < MAC_LEN_V6 {
+        4
+    } else {
+        16
     }
 }
 
 /// Whether a route of this length has a second label.
-pub(crate) fn has_second_label(route: &[u8]) -> bool
+pub(crate) fn has_label2(route: &[u8]) -> bool
     requires { 2 ≤ length route.now }
     ensures { result ≡ has_label2 route.now }
 {
-    route[1] as usize == 36 + ip_octets(route)
+    usize::from(route[1]) == usize::from(MAC_LEN_LABEL2) + ip_len(route)
 }
 
 /// Whether a route of this type may have this length.
-pub(crate) fn is_listed(route: &[u8]) -> bool
+pub(crate) fn is_listed_len(route: &[u8]) -> bool
     requires { 2 ≤ length route.now }
     ensures { result ≡ is_listed_len route.now }
 {
-    if route[0] == 2 {
-        route[1] as usize == 33 + ip_octets(route) || has_second_label(route)
+    if route[0] == MAC_ROUTE {
+        usize::from(route[1]) == usize::from(MAC_LEN) + ip_len(route) || has_label2(route)
     } else {
-        route[1] == 17
+        route[1] == FLOOD_LEN
     }
 }

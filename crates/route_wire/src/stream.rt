@@ -1,4 +1,54 @@
+//! What a stream of records begins with, by the octets that stand in front of each record:
+//!
+//! | Octets | Field |
+//! |---|---|
+//! | 2 | magic: the characters `EV` |
+//! | 1 | version: 1, 2 or 3 |
+//! | 1 | kind: 1 advertises, 2 withdraws |
+//! | 2 | length: octets that follow, 15 to 512 in version 1, 19 to 512 later |
+ghost use Rattle.std.specs.Prelude.{◌≡◌};
+ghost use Rattle.route_wire.specs.Stream.{fault_of, whole_up_to, whole_of, FindsWhole};
+
+use crate::reason::{BAD_KIND, BAD_LENGTH, BAD_MAGIC, BAD_VERSION};
 use crate::update::Update;
+use byteorder::{BigEndian, ByteOrder};
+
+/// The first octet of the magic, the character `E`.
+pub(crate) const MAGIC_FIRST: u8 = 0x45;
+/// The second octet of the magic, the character `V`.
+pub(crate) const MAGIC_SECOND: u8 = 0x56;
+
+/// The place of the version.
+pub(crate) const VERSION_PLACE: usize = 2;
+/// The place of the kind.
+pub(crate) const KIND_PLACE: usize = 3;
+/// The place of the length.
+pub(crate) const LENGTH_PLACE: usize = 4;
+/// The place of its second octet.
+pub(crate) const LENGTH_END: usize = 5;
+/// How many octets stand before those that the length counts.
+pub(crate) const HEAD: usize = 6;
+
+/// The first version, without an incarnation.
+pub(crate) const FIRST_VERSION: u8 = 1;
+/// The second version, in which a withdrawal names no IP address.
+pub(crate) const SECOND_VERSION: u8 = 2;
+/// The newest version, which is the one that is written.
+pub(crate) const NEWEST: u8 = 3;
+
+/// The kind of a record that advertises.
+pub(crate) const ADVERTISES: u8 = 1;
+/// The kind of a record that withdraws.
+pub(crate) const WITHDRAWS: u8 = 2;
+
+/// The least length in the first version: a record without a route.
+pub(crate) const LEAST_FIRST: u16 = 15;
+/// The least length in the later versions.
+pub(crate) const LEAST_LATER: u16 = 19;
+/// The greatest length.
+pub(crate) const MOST: u16 = 512;
+/// The octets of the longest record.
+pub(crate) const LONGEST: usize = 518;
 
 /// What the beginning of a stream shows.
 #[derive(Clone, Copy, Debug, PartialEq, Eq)]
@@ -29,4 +79,60 @@ pub enum Next {
 pub struct Truncated {
     /// How many octets of the record there are, at least 1.
     pub octets: usize,
+}
+
+/// The fault that a stream of records up to a version shows, at the first octet that shows it.
+fn fault_of(newest: u8, stream: &[u8]) -> Option<u8>
+    ensures { result ≡ fault_of newest stream.now }
+{
+    let len = stream.len();
+    if 0 < len && stream[0] != MAGIC_FIRST || 1 < len && stream[1] != MAGIC_SECOND {
+        return Some(BAD_MAGIC);
+    }
+    if VERSION_PLACE < len && (stream[VERSION_PLACE] == 0 || newest < stream[VERSION_PLACE]) {
+        return Some(BAD_VERSION);
+    }
+    if KIND_PLACE < len && stream[KIND_PLACE] != ADVERTISES && stream[KIND_PLACE] != WITHDRAWS {
+        return Some(BAD_KIND);
+    }
+    if LENGTH_END < len {
+        let least = if stream[VERSION_PLACE] == FIRST_VERSION {
+            LEAST_FIRST
+        } else {
+            LEAST_LATER
+        };
+        let follow = BigEndian::read_u16(&stream[LENGTH_PLACE..]);
+        if follow < least || MOST < follow {
+            return Some(BAD_LENGTH);
+        }
+    }
+    None
+}
+
+/// What a stream of records up to a version begins with.
+pub(crate) fn whole_up_to(newest: u8, stream: &[u8]) -> Whole
+    ensures { result ≡ whole_up_to newest stream.now }
+{
+    if let Some(fault) = fault_of(newest, stream) {
+        return Whole::Fault(fault);
+    }
+    if stream.len() < HEAD {
+        return Whole::Rest;
+    }
+    let len = HEAD + BigEndian::read_u16(&stream[LENGTH_PLACE..]) as usize;
+    if stream.len() < len {
+        Whole::Rest
+    } else {
+        Whole::Length(len)
+    }
+}
+
+/// Whether the stream begins with a whole record, shows a fault, or is a proper beginning of a
+/// record. A fault shows at the first octet that tells it, and one of the length when both octets
+/// of the length are there.
+pub fn whole_of(stream: &[u8]) -> Whole
+    ensures value { result ≡ whole_of stream.now }
+    ensures found { FindsWhole stream.now result }
+{
+    whole_up_to(NEWEST, stream)
 }

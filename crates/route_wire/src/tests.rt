@@ -13,7 +13,7 @@ enum Said {
 }
 
 fn told(stream: &[u8]) -> Said {
-    match whole(stream) {
+    match whole_of(stream) {
         Whole::Rest => Said::Rest,
         Whole::Fault(fault) => Said::Fault(fault),
         Whole::Length(len) => match read_one(&stream[..len]) {
@@ -28,7 +28,7 @@ fn is_refused(stream: &[u8], refusal: u8) -> bool {
 }
 
 fn is_faulty(stream: &[u8], fault: u8) -> bool {
-    whole(stream) == Whole::Fault(fault)
+    whole_of(stream) == Whole::Fault(fault)
 }
 
 fn says(stream: &[u8], register: Register, value: Value) -> bool {
@@ -329,7 +329,7 @@ fn lengths_have_bounds(rt: HostRuntime) {
     long[..56].copy_from_slice(&FIRST);
     long[518..].copy_from_slice(&FIRST);
     let stream = set(set(long, 4, 0x02), 5, 0x00);
-    assert_eq!(rt; whole(&stream), Whole::Length(518));
+    assert_eq!(rt; whole_of(&stream), Whole::Length(518));
     assert!(rt; is_refused(&stream, 6));
     assert!(rt; is_read(&stream[518..]));
 }

@@ -1,3 +1,4 @@
+//! Route updates: registers, values, and their orders.
 ghost use Rattle.std.specs.Prelude.{◌≡◌, ℕ, ◌<◌, ◌^◌, Some, refl};
 
 use ether_wire::{Addr, Mac, Vni};
@@ -114,7 +115,7 @@ impl Key {
         }
     }
 
-    // Where the key stands among those of its network: the flood list first, then the addresses.
+    /// Where the key stands among those of its network: the flood list first, then the addresses.
     fn place(&self) -> u64
         ensures { result ≡ place_of self.now }
     {
@@ -124,7 +125,7 @@ impl Key {
         }
     }
 
-    // The version of the key's IP address, 0 for none.
+    /// The version of the key's IP address, 0 for none.
     fn ip_version(&self) -> u8
         ensures { result ≡ ip_version (ip_of self.now) }
     {
@@ -134,7 +135,7 @@ impl Key {
         }
     }
 
-    // The number of the key's IP address, 0 for none.
+    /// The number of the key's IP address, 0 for none.
     fn ip_number(&self) -> u128
         ensures { result ≡ ip_number (ip_of self.now) }
     {
