@@ -37,6 +37,7 @@ ADDRESS_RD = b"\x00\x01"
 MOBILITY = b"\x06\x00"
 STATIC_FLAG = 1
 MOST_ORIGINATORS = 64
+MAC_TEXT = re.compile("[0-9a-f]{2}(:[0-9a-f]{2}){5}")
 
 
 class Unreadable(Exception):
@@ -104,7 +105,7 @@ def read_address(text: str) -> bytes:
 
 def read_mac(text: str) -> bytes:
     """Six pairs of lower case hexadecimal digits with colons, of one station."""
-    if not re.fullmatch("[0-9a-f]{2}(:[0-9a-f]{2}){5}", text):
+    if not MAC_TEXT.fullmatch(text):
         raise Unreadable(f"{text!r} is no MAC address (six pairs of lower case digits)")
     mac = bytes.fromhex(text.replace(":", ""))
     if mac[0] & 1:
@@ -407,7 +408,9 @@ def originators_of(stream: BinaryIO) -> str:
 # ---- FRR's JSON, in a stream --------------------------------------------------------------------------
 
 
+BLANK = ("", " ", "\t", "\n", "\r")
 BLANKS = re.compile(r"[ \t\n\r]*")
+KEY = re.compile(r'[ \t\n\r]*"([^"\\]*)"[ \t\n\r]*:[ \t\n\r]*')
 
 
 class JsonText:
@@ -451,7 +454,9 @@ class JsonText:
 
     def take(self, wanted: str) -> str:
         """The next character, which must be one of those."""
-        found = self.peek()
+        found = self.text[self.place : self.place + 1]
+        if found in BLANK:
+            found = self.peek()
         if found == "" or found not in wanted:
             raise self.fail("the JSON text is cut" if found == "" else f"no JSON: {found!r} where {wanted!r} is meant")
         self.place += 1
@@ -459,7 +464,8 @@ class JsonText:
 
     def value(self) -> object:
         """The next value, whole."""
-        self.peek()
+        if self.text[self.place : self.place + 1] in BLANK:
+            self.peek()
         while True:
             try:
                 value, end = self.decoder.raw_decode(self.text, self.place)
@@ -481,9 +487,14 @@ class JsonText:
             self.place += 1
             return
         while True:
-            key = self.value() if self.peek() == '"' else self.take('"')
-            self.take(":")
-            yield str(key)
+            match = KEY.match(self.text, self.place)
+            if match is not None and match.end() < len(self.text):
+                self.place = match.end()
+                yield match[1]
+            else:
+                key = self.value() if self.peek() == '"' else self.take('"')
+                self.take(":")
+                yield str(key)
             if self.take(",}") == "}":
                 return
 
