@@ -223,7 +223,10 @@ def read_zebra(text: str, name: str, vni: int) -> Dict[bytes, str]:
         if entry["type"] == "local":
             found[octets_of(mac, name)] = LOCAL
         elif entry["type"] == "remote":
-            found[octets_of(mac, name)] = str(entry.get("remoteVtep", entry.get("remoteEs", UNKNOWN)))
+            place = entry.get("remoteVtep", entry.get("remoteEs"))
+            if not isinstance(place, str):
+                raise Unreadable(f"{name}: remote MAC {mac} has no 'remoteVtep'")
+            found[octets_of(mac, name)] = place
     return found
 
 

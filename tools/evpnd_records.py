@@ -503,9 +503,9 @@ PREFIX = re.compile(
     r"\[(?P<type>[0-9]+)\]:\[(?P<tag>[0-9]+)\]:\[(?:48\]:\[(?P<mac>[0-9a-f:]{17})\](?::\[(?:32|128)\]:\[(?P<ip>[^]]+)\])?"
     r"|(?P<rest>.*))"
 )
-COMMUNITY_RT = re.compile(r"RT:(\S+:[0-9]+)")
+COMMUNITY_RT = re.compile(r"RT:(\S+:[0-9]{1,10})(?![0-9])")
 COMMUNITY_MOBILITY = re.compile(r"MM:([0-9]+)(, sticky MAC)?")
-LABELS = re.compile(r"([0-9]+)(?:/([0-9]+))?")
+LABELS = re.compile(r"([0-9]{1,8})(?:/([0-9]{1,8}))?")
 RD_ADDRESS = re.compile(r"([0-9]+\.[0-9]+\.[0-9]+\.[0-9]+):[0-9]+")
 AUTO_RT = 1 << 28  # RFC 8365, 5.1.2.1: the type of an automatic route target that stands for a VXLAN identifier
 
@@ -621,8 +621,8 @@ class Routes:
             mac,
             read_ip(match["ip"]) if match["ip"] else b"",
             self.address(hop),
-            self.advert(static, sequence, int(labels[2]) if labels and labels[2] else None),
-            int(path["lastUpdate"]["epoch"]) if "lastUpdate" in path else 0,
+            Advert() if mac is None else self.advert(static, sequence, labels[2] if labels else None),
+            read_number(str(path["lastUpdate"]["epoch"]), 1 << 63, "time") if "lastUpdate" in path else 0,
             best.get("overall") is True if isinstance(best, dict) else best is True,
             path.get("peerId") == "(unspec)" or path.get("local") is True,
         )
@@ -637,7 +637,7 @@ class Routes:
             vni = next((vni for vni in map(self.vni_of_target, COMMUNITY_RT.findall(text)) if vni in self.vnis), None)
             mobility = COMMUNITY_MOBILITY.search(text)
             static = mobility is not None and mobility[2] is not None
-            self.communities[text] = vni, static, int(mobility[1]) if mobility else 0
+            self.communities[text] = vni, static, read_number(mobility[1], 1 << 32, "sequence number") if mobility else 0
         return self.communities[text]
 
     def vni_of_target(self, target: str) -> Optional[int]:
@@ -645,8 +645,9 @@ class Routes:
         number = int(target.rpartition(":")[2])
         return self.targets.get(target, number - AUTO_RT if number >= AUTO_RT else number)
 
-    def advert(self, static: bool, sequence: int, label2: Optional[int]) -> Advert:
+    def advert(self, static: bool, sequence: int, label: Optional[str]) -> Advert:
         """The advert, one object for all that are equal."""
+        label2 = None if label is None else read_number(label, 1 << 24, "label")
         return self.adverts.setdefault((static, sequence, label2), Advert(static, sequence, label2))
 
     def rd_address(self, rd: str) -> Optional[str]:

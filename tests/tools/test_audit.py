@@ -9,7 +9,7 @@ import sys
 import tempfile
 import unittest
 
-from test_records import DATA, FIRST, TOP, answers
+from test_records import DATA, TOP, answers
 
 import evpnd_audit as audit
 import evpnd_records as records
@@ -140,7 +140,7 @@ class ReadsRouters(unittest.TestCase):
         self.assertEqual(audit.read_kernel(json.dumps(entries), "fdb", 5002), {station("0a"): "10.0.0.2"})
 
     def test_cannot_be_read(self):
-        for text in ("", "{", "{}", "[]", "3", '{"macs":3}', '{"macs":{"x":{"type":"local"}}}', '{"macs":{"02:00:00:00:00:0a":{}}}', "Error: VNI 77 doesn't exist"):
+        for text in ("", "{", "{}", "[]", "3", '{"macs":3}', '{"macs":{"x":{"type":"local"}}}', '{"macs":{"02:00:00:00:00:0a":{}}}', '{"macs":{"02:00:00:00:00:0a":{"type":"remote"}}}', "Error: VNI 77 doesn't exist"):
             with self.subTest(text=text), self.assertRaises(records.Unreadable):
                 audit.read_zebra(text, "macs", 5001)
         for text in ("", "[", "{}", "3", "[3]", "[{}]", '[{"mac":3}]', '[{"mac":"x"}]'):
@@ -294,6 +294,12 @@ class Audits(unittest.TestCase):
                 self.assertEqual(run(*words).returncode, 2)
 
 
+def older(record: bytes, version: int) -> bytes:
+    """A version 3 record as an earlier version has it: version 1 has no incarnation."""
+    rest = record[6:10] + (record[14:] if version == 1 else record[10:])
+    return record[:2] + bytes([version, record[3]]) + len(rest).to_bytes(2, "big") + rest
+
+
 @needs_program
 class AgreesWithTheProgram(unittest.TestCase):
     """The proved program reads records as these tools do."""
@@ -335,9 +341,11 @@ class AgreesWithTheProgram(unittest.TestCase):
     def test_changed_records(self):
         """Records with an octet changed here and there: the same refusals, fault and updates."""
         random_numbers = random.Random(4556)
-        kinds = [FIRST] + [
-            records.record_of(records.update_of_line(line))
+        kinds = [
+            older(records.record_of(records.update_of_line(line)), version)
+            for version in (1, 2, 3)
             for line in (
+                "advert 10.0.0.1 5001 02:00:00:00:00:0a seq 0",
                 "advert 10.0.0.1 5001 02:00:00:00:00:0b ip 192.0.2.10 static seq 3", "withdraw 10.0.0.1 5001 02:00:00:00:00:0b ip 192.0.2.10",
                 "advert 10.0.0.1 5001 flood", "withdraw 10.0.0.1 5001 flood", "advert 10.0.0.1 5001 02:00:00:00:00:0c ip 2001:db8::1 seq 1 label2 7",
             )

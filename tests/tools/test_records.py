@@ -3,6 +3,7 @@
 import io
 import json
 import os
+import random
 import subprocess
 import sys
 import unittest
@@ -304,6 +305,13 @@ class LeavesOut(unittest.TestCase):
         self.assertIn("advert 10.0.0.1 5001 02:00:00:00:00:0b seq 3 counter 2", found)
 
 
+def places_of(value: object):
+    """Each place in a value of JSON: what holds it, and its key or number."""
+    for key in value if isinstance(value, dict) else range(len(value)) if isinstance(value, list) else ():
+        yield value, key
+        yield from places_of(value[key])
+
+
 class CannotBeRead(unittest.TestCase):
     """One plain line, status 2, no traceback."""
 
@@ -342,6 +350,26 @@ class CannotBeRead(unittest.TestCase):
         for route in (b"{}", b"3", b'{"paths":3}', b'{"paths":[3]}', b'{"paths":[[3]]}'):
             with self.subTest(route=route):
                 self.refused(b'{"10.0.0.1:1":{"' + PREFIX.encode() + b'":' + route + b"}}")
+
+    def test_changed_values(self):
+        """Tables with a value changed somewhere: unreadable, or each update that they give is spelled by its record."""
+        random_numbers = random.Random(7432)
+        values = [None, -1, 2**70, 1.5, "", "x", "10.0.0", [], {}, [[]], [{}], True, "MM:99999999999", "RT:65000:" + "9" * 5000, "5001/99999999999"]
+        with open(os.path.join(DATA, "detail.json"), encoding="utf-8") as stream:
+            text = stream.read()
+        unreadable = 0
+        for _turn in range(400):
+            table = json.loads(text)
+            holder, key = random_numbers.choice(list(places_of(table)))
+            holder[key] = random_numbers.choice(values)
+            try:
+                snapshot = records.snapshot_of(records.Routes([5001]), io.StringIO(json.dumps(table)), "text")
+            except records.Unreadable:
+                unreadable += 1
+                continue
+            for update in snapshot.updates(lambda seconds: max(seconds, 1)):
+                self.assertEqual(answers(records.record_of(update)), [update])
+        self.assertTrue(50 < unreadable < 350)
 
     def test_no_such_file(self):
         self.assertEqual(run("frr", "--vni", "5001", "/nowhere/at/all").returncode, 2)
