@@ -2,6 +2,7 @@
 
 usage: more_edits.py applies CRATE..     says which edits of both shelves can't be applied
        more_edits.py at-once CRATE..     tries those of more-edits/; meanwhile it changes the sources below crates/
+       more_edits.py fold CRATE..        makes one file, all.edits, of the files in more-edits/
        more_edits.py unfold CRATE..      puts each edit of more-edits/ into must-fail/ as a file of its own, in the place of those
 
 The second shelf of a crate is one file, more-edits/all.edits: blocks with an empty line between, each a line `edit: NAME` and
@@ -73,6 +74,24 @@ def blocks_of(file, crate):
     return [Edit(f"{file}: {name}", crate, text.rstrip("\n") + "\n") for name, text in zip(names, parts[1::2])]
 
 
+def plain_name(edit):
+    """The name of an edit without where it stands."""
+    name = edit.name.rpartition(": ")[2].rpartition("/")[2]
+    return name[: -len(".edit")] if name.endswith(".edit") else name
+
+
+def fold(crates):
+    for crate in crates:
+        edits = sorted(edits_of(crate, "more-edits"), key=plain_name)
+        folder = Path("crates", crate, "more-edits")
+        if edits:
+            blocks = [f"edit: {plain_name(edit)}\n{edit.text.strip()}\n" for edit in edits]
+            (folder / "all.edits").write_text("\n".join(blocks))
+        for file in folder.glob("*.edit"):
+            file.unlink()
+    return True
+
+
 def unfold(crates):
     for crate in crates:
         edits = edits_of(crate, "more-edits")
@@ -81,8 +100,7 @@ def unfold(crates):
         if edits:
             folder.mkdir()
         for edit in edits:
-            name = edit.name.rpartition(": ")[2].rpartition("/")[2].removesuffix(".edit")
-            (folder / f"{name}.edit").write_text(edit.text)
+            (folder / f"{plain_name(edit)}.edit").write_text(edit.text)
     return True
 
 
@@ -138,4 +156,4 @@ def at_once(crates):
 
 
 if __name__ == "__main__":
-    sys.exit(not {"applies": applies, "at-once": at_once, "unfold": unfold}[sys.argv[1]](sys.argv[2:]))
+    sys.exit(not {"applies": applies, "at-once": at_once, "fold": fold, "unfold": unfold}[sys.argv[1]](sys.argv[2:]))

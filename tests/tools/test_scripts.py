@@ -78,6 +78,15 @@ class Edits(Folder):
         with open("crates/low/must-fail/one_for_two.edit", encoding="utf-8") as stream:
             self.assertEqual(stream.read(), "file: src/lib.rt\nold: let x = 1;\nnew: let x = 2;\n")
 
+    def test_fold(self):
+        """A file beside the blocks becomes one of them, and the blocks stay what they are."""
+        self.write("crates/low/more-edits/a_third.edit", "file: src/lib.rt\nold: let x = 1;\nnew: let x = 4;\n")
+        for _turn in range(2):
+            self.assertEqual(self.run_script("fold", "low").returncode, 0)
+            with open("crates/low/more-edits/all.edits", encoding="utf-8") as stream:
+                self.assertEqual(stream.read(), "edit: a_third\nfile: src/lib.rt\nold: let x = 1;\nnew: let x = 4;\n\n" + EDITS)
+        self.assertEqual(os.listdir("crates/low/more-edits"), ["all.edits"])
+
     def test_edits_of_the_repository_apply(self):
         os.chdir(TOP)
         crates = sorted(os.listdir("crates"))
