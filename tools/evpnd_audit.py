@@ -26,8 +26,10 @@ import sys
 import tempfile
 from typing import Dict, Iterator, List, NamedTuple, Optional, Set, Tuple
 
-import evpnd_records as records
-from evpnd_records import Advert, Unreadable
+import evpnd_records
+import frr_routes
+import update_records as records
+from update_records import Advert, Unreadable
 
 LOCAL, NOWHERE, UNKNOWN = "local", "nowhere", "unknown"
 KINDS = ("equal", "wrong", "missing", "extra", "not judged")
@@ -71,7 +73,7 @@ class View(NamedTuple):
     """What one router shows of one VNI."""
 
     name: str
-    snapshot: records.Snapshot
+    snapshot: frr_routes.Snapshot
     heard: Set[bytes]
     own: Set[bytes]
     best: Optional[Dict[bytes, str]]
@@ -252,7 +254,7 @@ def octets_of(mac: object, name: str) -> bytes:
     return bytes.fromhex(mac.replace(":", ""))
 
 
-def read_best(text: str, name: str, routes: records.Routes) -> Tuple[Dict[bytes, str], Set[bytes]]:
+def read_best(text: str, name: str, routes: frr_routes.Routes) -> Tuple[Dict[bytes, str], Set[bytes]]:
     """Where bgpd's own best path of each MAC leads, and the router's own addresses."""
     best: Dict[bytes, List[Said]] = {}
     own: Set[bytes] = set()
@@ -267,11 +269,11 @@ def read_best(text: str, name: str, routes: records.Routes) -> Tuple[Dict[bytes,
 
 def view_of(texts: Texts, vni: int, arguments: argparse.Namespace) -> View:
     """What a router's texts show of a VNI."""
-    routes = records.Routes([vni], arguments.any_rd, arguments.rt)
-    snapshot = records.snapshot_of(routes, io.StringIO(texts.routes), f"{texts.name}: routes")
+    routes = frr_routes.Routes([vni], arguments.any_rd, arguments.rt)
+    snapshot = frr_routes.snapshot_of(routes, io.StringIO(texts.routes), f"{texts.name}: routes")
     own, best, zebra, kernel = set(snapshot.own), None, None, None
     if texts.best is not None:
-        best, more = read_best(texts.best, f"{texts.name}: best paths", records.Routes([vni], arguments.any_rd, arguments.rt))
+        best, more = read_best(texts.best, f"{texts.name}: best paths", frr_routes.Routes([vni], arguments.any_rd, arguments.rt))
         own |= more
     if texts.macs is not None:
         zebra = read_zebra(texts.macs, f"{texts.name}: MACs of zebra", vni)
@@ -467,14 +469,14 @@ def mac_word(text: str) -> bytes:
 def parser() -> argparse.ArgumentParser:
     """The words of the command line."""
     words = argparse.ArgumentParser(description=__doc__, formatter_class=argparse.RawDescriptionHelpFormatter)
-    words.add_argument("--vni", type=records.vnis_of, metavar="N[,N]", help="the VNIs; on a host all, if none is named")
+    words.add_argument("--vni", type=evpnd_records.vnis_of, metavar="N[,N]", help="the VNIs; on a host all, if none is named")
     words.add_argument("--mac", type=mac_word, action="append", default=[], metavar="MAC", help="only this MAC; may stand more than once")
     words.add_argument("--json", action="store_true", help="print JSON")
     words.add_argument("--evpnd", metavar="PROGRAM", help="the program evpnd")
     words.add_argument("--report", metavar="FILE", help="a report that was made before, in the place of running evpnd")
     words.add_argument("--vtysh", default="vtysh", metavar="COMMAND", help="vtysh with its options")
     words.add_argument("--device", metavar="NAME", help="the VXLAN device, if zebra doesn't say it")
-    records.add_route_words(words)
+    evpnd_records.add_route_words(words)
     words.add_argument("views", nargs="*", metavar="VIEW", help="directories, one a router")
     return words
 

@@ -12,7 +12,8 @@ import unittest
 from test_records import DATA, TOP, answers
 
 import evpnd_audit as audit
-import evpnd_records as records
+import frr_routes
+import update_records as records
 
 PROGRAM = os.environ.get("EVPND") or audit.program_of(audit.parser().parse_args([]))
 needs_program = unittest.skipUnless(os.access(PROGRAM, os.X_OK), "evpnd isn't built")
@@ -311,7 +312,7 @@ class AgreesWithTheProgram(unittest.TestCase):
 
     def test_stored_routes_are_taken_whole(self):
         with open(os.path.join(DATA, "routes.json"), encoding="utf-8") as stream:
-            snapshot = records.snapshot_of(records.Routes([5001]), stream, "routes")
+            snapshot = frr_routes.snapshot_of(frr_routes.Routes([5001]), stream, "routes")
         updates = list(snapshot.updates(lambda _: 1))
         octets = b"".join(records.record_of(update) for update in updates)
         done = self.report(octets, *sorted({records.address_text(update.originator) for update in updates}))

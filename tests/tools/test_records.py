@@ -10,8 +10,10 @@ import unittest
 
 TOP = os.path.normpath(os.path.join(os.path.dirname(os.path.abspath(__file__)), "..", ".."))
 sys.path.insert(0, os.path.join(TOP, "tools"))
-import evpnd_records as records  # noqa: E402
-from evpnd_records import Fault, Refused, Truncated, Update  # noqa: E402
+import evpnd_records  # noqa: E402
+import frr_routes  # noqa: E402
+import update_records as records  # noqa: E402
+from update_records import Fault, Refused, Truncated, Update  # noqa: E402
 
 DATA = os.path.join(TOP, "tests", "data", "frr")
 STATION = "5001 02:00:00:00:00:0a"
@@ -43,7 +45,7 @@ def answers(octets: bytes) -> list:
 def lines(octets: bytes) -> list:
     """The readable lines of a stream."""
     out = io.StringIO()
-    records.show(io.BytesIO(octets), out)
+    evpnd_records.show(io.BytesIO(octets), out)
     return out.getvalue().splitlines()
 
 
@@ -340,7 +342,7 @@ class CannotBeRead(unittest.TestCase):
             text = stream.read().rstrip()
         for end in range(0, len(text), 97):
             with self.subTest(end=end), self.assertRaises(records.Unreadable):
-                records.snapshot_of(records.Routes([5001]), io.StringIO(text[:end].decode()), "text")
+                frr_routes.snapshot_of(frr_routes.Routes([5001]), io.StringIO(text[:end].decode()), "text")
 
     def test_missing_fields(self):
         for fields in ({"nexthops": []}, {"nexthops": None}, {"nexthops": [{}]}, {"nexthops": [{"ip": "10.0.0"}]}, {"nexthops": [{"ip": 3}]},
@@ -363,7 +365,7 @@ class CannotBeRead(unittest.TestCase):
             holder, key = random_numbers.choice(list(places_of(table)))
             holder[key] = random_numbers.choice(values)
             try:
-                snapshot = records.snapshot_of(records.Routes([5001]), io.StringIO(json.dumps(table)), "text")
+                snapshot = frr_routes.snapshot_of(frr_routes.Routes([5001]), io.StringIO(json.dumps(table)), "text")
             except records.Unreadable:
                 unreadable += 1
                 continue

@@ -19,7 +19,8 @@ from edge import TOOLS, VNI, Edge, Trouble
 
 sys.path.insert(0, TOOLS)
 import evpnd_audit as audit  # noqa: E402
-import evpnd_records as records  # noqa: E402
+import frr_routes  # noqa: E402
+import update_records as records  # noqa: E402
 
 FAULTY = "8.4.4"
 GONE, STATIC = "02:00:00:00:00:0a", "02:00:00:00:00:0b"
@@ -137,7 +138,7 @@ def random_history(edge: Edge, folder: str, tally: Tally) -> None:
     program = audit.program_of(audit.parser().parse_args([]))
     owners = audit.read_report(audit.run_report(program, told))
     with open(os.path.join(folder, "routes.json"), encoding="utf-8") as stream:
-        snapshot = records.snapshot_of(records.Routes([VNI]), stream, "routes")
+        snapshot = frr_routes.snapshot_of(frr_routes.Routes([VNI]), stream, "routes")
     shown = audit.read_report(audit.run_report(program, list(snapshot.updates(lambda _: 1))))
     equal = all(shown[station].owner == owned.owner if owned.owner else station not in shown for station, owned in owners.items())
     tally.see(equal, f"the owners of the routes that FRR shows are those of the history that it was told ({len(owners)} MACs)")

@@ -16,7 +16,7 @@ import threading
 import time
 
 sys.path.insert(0, os.path.join(os.path.dirname(os.path.abspath(__file__)), "..", "..", "..", "tools"))
-import evpnd_records as records  # noqa: E402
+import update_records as records  # noqa: E402
 
 AUTONOMOUS_SYSTEM = 65000
 L2VPN_EVPN = struct.pack("!HB", 25, 70)
