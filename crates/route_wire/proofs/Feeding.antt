@@ -8,11 +8,13 @@ use Rattle.route_wire.specs.declared.stream.Whole.{Whole}
 use Rattle.route_wire.specs.declared.stream.Whole.TheVariants.{Rest, Fault, Length}
 use Rattle.route_wire.specs.Fields.{Fields}
 use Rattle.route_wire.specs.Stream.{whole_up_to, follow_of, IsWhole}
-use Rattle.route_wire.specs.Record.{reading, ReadsUpTo}
-use Rattle.route_wire.specs.Feed.{Held, is_rest, is_fault, shown, IsHeld, Takes, Skips, Feeds, HasRead, added, answer_of}
+use Rattle.route_wire.specs.Record.{route_place, reading, ReadsUpTo}
+use Rattle.route_wire.specs.Feed.{Held, is_rest, is_fault, shown, IsHeld, Takes, Skips, Feeds, TakesNext, HasRead, added, answer_of, next_by, rest_by}
 use Rattle.route_wire.proofs.Wholes.{found_long}
-use Rattle.route_wire.proofs.Streams.{whole_followed}
-use Rattle.route_wire.proofs.Unfinished.{goes_on, is_reached, held_whole, whole_of_all}
+use Rattle.route_wire.specs.declared.stream.Next.{Next}
+use Rattle.route_wire.proofs.Prefixes.{whole_front}
+use Rattle.route_wire.proofs.Streams.{whole_followed, same_length}
+use Rattle.route_wire.proofs.Unfinished.{fault_followed, goes_on, is_reached, held_whole, whole_of_all}
 
 -- ---- pieces
 pub take_one_more : (held piece : List ℕ) (i : ℕ) → i < length piece → (held ++ take i piece) ++ (slice_index piece i ∷ []) ≡ held ++ take (i + 1) piece
@@ -170,3 +172,60 @@ is_one newest n rest le held e = whole_of_all newest rest n le e ∙ ap Length (
 pub added_answer : (r : Result Fields ℕ) → added (answer_of r) ≡ r ∷ []
 added_answer (Ok u) = refl
 added_answer (Err refusal) = refl
+
+-- ---- a record that lies whole in a piece
+pub beginning : (newest : ℕ) (s : List ℕ) (n k : ℕ) → whole_up_to newest s ≡ Length n → k < n → is_rest (whole_up_to newest (take k s)) ≡ true
+beginning newest s n k h less = go (whole_up_to newest (take k s)) refl
+  where
+    l : (21 ≤ n) × (route_place s ≤ n) × (n ≤ 518) × (n ≤ length s)
+    l = found_long newest s n h
+
+    long : length (take k s) ≡ k
+    long = length-take-le k s (omega (arith, l.3))
+
+    back : take k s ++ drop k s ≡ s
+    back = take-append-drop k s
+
+    go : (w : Whole) → whole_up_to newest (take k s) ≡ w → is_rest (whole_up_to newest (take k s)) ≡ true
+    go Rest e = ap is_rest e
+    go (Fault f) e = let whole = ap is_fault (sym (ap (whole_up_to newest) back ∙ h)) ∙ ap is_fault (fault_followed newest (take k s) (drop k s) f e) in cc
+    go (Length m) e =
+        let same = same_length m n (sym (whole_followed newest (take k s) (drop k s) m e) ∙ ap (whole_up_to newest) back ∙ h) in
+        let m_fits = (found_long newest (take k s) m e).3 in
+        absurd (omega (arith, same, m_fits, long, less))
+
+module _ (h : Held) (newest : ℕ) (rest piece : List ℕ) (n : ℕ) (view : h ≡ held_as newest rest) (empty : rest ≡ []) (found : whole_up_to newest piece ≡ Length n) (told : Next) (is : told ≡ answer_of (reading (take n piece))) where
+  lies : whole_up_to newest (take n piece) ≡ Length n
+  lies = whole_front newest piece n found
+
+  fits : n ≤ length piece
+  fits = (found_long newest piece n found).3
+
+  nothing : Rest ≡ whole_up_to newest rest
+  nothing = ap (whole_up_to newest) (sym empty)
+
+  never : {b : Bool} → b ≡ true → b ≡ false → ⊥
+  never e g = cc
+
+  pub takes_whole : TakesNext h h piece n told
+  takes_whole = record {
+    mid = held_as newest (take n piece);
+    feeds = after_rest h newest rest piece Rest view nothing refl (take n piece) n fits (ap (λ (t : List ℕ). t ++ take n piece) (sym empty))
+        (λ k less. subst (λ (t : List ℕ). is_rest (whole_up_to newest (t ++ take k piece)) ≡ true) (sym empty) (beginning newest piece n k found less))
+        (λ e. absurd (never e (ap is_rest lies)));
+    next = is ∙ sym (ap (λ (w : Whole). next_by w (take n piece)) lies);
+    after = view ∙ ap (held_as newest) (empty ∙ sym (ap (λ (w : Whole). rest_by w (take n piece)) lies));
+  }
+
+  pub read_lying : (stream : List ℕ) (answers : List (Result Fields ℕ)) → HasRead h stream answers → HasRead h (stream ++ take n piece) (answers ++ added told)
+  read_lying stream answers r =
+      let start : HasRead (held_as newest []) stream answers = subst (λ (g : Held). HasRead g stream answers) (view ∙ ap (held_as newest) empty) r in
+      let all = lies ∙ ap Length (sym (length-take-le n piece fits)) in
+      let taken = read_answer newest (take n piece) (stream ++ take n piece) answers all (read_taking newest [] (take n piece) stream answers refl start) in
+      let more : added told ≡ reading (take n piece) ∷ [] = ap added is ∙ added_answer (reading (take n piece)) in
+      subst (λ (g : Held). HasRead g (stream ++ take n piece) (answers ++ added told)) (sym (view ∙ ap (held_as newest) empty))
+      (subst (λ (xs : List (Result Fields ℕ)). HasRead (held_as newest []) (stream ++ take n piece) (answers ++ xs)) (sym more) taken)
+
+-- a record that lies in a piece is a whole record
+pub lies_whole : (newest n : ℕ) (piece : List ℕ) → newest ≤ 3 → whole_up_to newest piece ≡ Length n → IsWhole (take n piece)
+lies_whole newest n piece le found = whole_of_all newest (take n piece) n le (whole_front newest piece n found) ∙ ap Length (sym (length-take-le n piece (found_long newest piece n found).3))

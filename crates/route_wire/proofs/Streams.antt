@@ -9,10 +9,10 @@ use Rattle.route_wire.specs.Record.{reading, ReadsUpTo, AnswersUpTo, is_length}
 use Rattle.route_wire.proofs.Wholes.{found_long}
 use Rattle.route_wire.proofs.Prefixes.{whole_again}
 
-same_length : (m n : ℕ) → Length m ≡ Length n → m ≡ n
+pub same_length : (m n : ℕ) → Length m ≡ Length n → m ≡ n
 same_length m n e = cc
 
-empty : (xs : List ℕ) → length xs ≡ 0 → xs ≡ []
+pub empty : (xs : List ℕ) → length xs ≡ 0 → xs ≡ []
 empty [] e = refl
 empty (x ∷ xs) e = absurd (omega arith)
 

@@ -71,6 +71,13 @@ rest_by (Length n) rest = []
 abbrev pub after_next : Held → Held
 after_next h = record { newest = h.newest; rest = rest_by (shown h) h.rest }
 
+-- Octets of a piece are taken, and then it is told what comes next.
+pub record TakesNext (old new : Held) (piece : List ℕ) (n : ℕ) (told : Next) : Type 0 where
+  pub mid : Held
+  pub feeds : Feeds old mid piece n
+  pub next : told ≡ next_of mid
+  pub after : new ≡ after_next mid
+
 -- where the stream ends
 abbrev pub end_of : Held → Result (Unit {0}) Truncated
 end_of h = if length h.rest == 0 then Ok tt else Err (record { octets = length h.rest })

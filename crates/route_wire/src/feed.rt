@@ -101,7 +101,7 @@ fn answer(reading: Result<Update, u8>) -> Next
 
 impl Feed {
     ghost use Rattle.route_wire.specs.declared.stream.Next.TheVariants.{More};
-    ghost use Rattle.route_wire.specs.Feed.{shown, Feeds, next_of, after_next, end_of, added, HasRead};
+    ghost use Rattle.route_wire.specs.Feed.{shown, Feeds, TakesNext, next_of, after_next, end_of, added, HasRead};
 
     /// A feed of records of all versions.
     pub fn new() -> Self
@@ -158,6 +158,26 @@ impl Feed {
                 answer(reading)
             }
         }
+    }
+
+    /// Takes octets from the piece as `feed` does, and tells what comes next as `next` does: how many
+    /// octets, and what. A record that lies whole in the piece is read there; only one that is cut is
+    /// copied.
+    pub fn take(&mut self, piece: &[u8]) -> (usize, Next)
+        ensures fits { result.0 ≤ length piece.now }
+        ensures takes { TakesNext self.old self.new piece.now result.0 result.1 }
+        ensures more { result.1 ≡ More → is_rest (shown self.new) ≡ true }
+        ensures read { (stream : List ℕ) (answers : List (Result Fields ℕ)) → HasRead self.old stream answers
+            → HasRead self.new (stream ++ take result.0 piece.now) (answers ++ added result.1) }
+    {
+        if self.held.as_slice().is_empty() {
+            if let Whole::Length(n) = whole_up_to(self.newest, piece) {
+                let (record, _) = piece.split_at(n);
+                return (n, answer(read_one(record)));
+            }
+        }
+        let n = self.feed(piece);
+        (n, self.next())
     }
 
     /// Whether the stream may end here, where `next` would tell `More`.
