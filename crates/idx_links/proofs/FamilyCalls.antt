@@ -1,5 +1,5 @@
 -- families that stand side by side in one set of lists, as callers see them
-use Rattle.std.proofs.Common.{ℕ, ◌<◌, ◌≤◌, ◌+◌, ◌-◌, ◌*◌, ◌/◌, ◌%◌, ◌^◌, ◌≡◌, ◌≢◌, inl, inr, true, false, ◌||◌, eqb, Option, Some, List, [], ◌∷◌, ◌++◌, length, map, replicate, get_or, set, slice_get, subst, ap, sym, ◌∙◌, arith, zero, suc, add-zero, refl}
+use Rattle.std.proofs.Common.{ℕ, ◌<◌, ◌≤◌, ◌+◌, ◌-◌, ◌*◌, ◌/◌, ◌%◌, ◌^◌, ◌≡◌, ◌≢◌, ◌⊎◌, inl, inr, true, false, ◌||◌, eqb, Option, Some, List, [], ◌∷◌, ◌++◌, length, map, replicate, get_or, set, slice_get, subst, ap, sym, ◌∙◌, arith, zero, suc, add-zero, refl}
 use Rattle.std.specs.List.{range_with_len}
 use Rattle.std.specs.Option.{option_map}
 use Rattle.std.proofs.lemmas.List.{length-set, get_or-set_same, get_or-set_other, get_or-map, get_or_default, get_or_past, get_or-replicate, length-map, length-replicate, map-append, ext_get_or}
@@ -7,10 +7,10 @@ use Rattle.std.proofs.lemmas.List.FromFn.{length-map-range_with_len, get_or-map-
 use Rattle.std.proofs.lemmas.Bool.{cases_lt, cases_eq, false≢true, false_from_ne_true, or_cases, eqb-true}
 use Rattle.std.proofs.lemmas.Nat.{div-mul-add, mod-mul-add, div-add-mod', mul-add-lt}
 use Rattle.std.proofs.lemmas.Option.{slice_get-map}
-use Rattle.std.proofs.Math.Nat.{mod-lt, mul_comm}
+use Rattle.std.proofs.Math.Nat.{mod-lt, mul_comm, mul-le-mul_left}
 use Rattle.std.proofs.Math.ListN.{get_or-map as get_or-map_same}
 use Rattle.idx_links.specs.Links.{Links, has, without, Apart, list_at, IsFree, IsLinked}
-use Rattle.idx_links.specs.Families.{Families, lists_of, start, nodes_in, family_in, families_of, IsFamily, AreStarts}
+use Rattle.idx_links.specs.Families.{Families, lists_of, AreNodes, start, nodes_in, family_in, families_of, IsFamily, AreStarts}
 use Rattle.idx_links.proofs.Paths.{has-at, has-append, has-left, has-map, without-map, without-absent, apart-map, at-map}
 
 -- what a call finds: families side by side, seen as v
@@ -104,15 +104,20 @@ list_number {starts} shown k l low h =
     let within = list_within shown.good k l low h' in
     (h', within.0, within.1, within.2)
 
-pub node_number : {count nodes : ℕ} {starts : List ℕ} {links : Links} {v : Families} (shown : Shown count nodes starts links v) (k n : ℕ) → k < count → n < v.nodes
-    → (n * count + k < 2 ^ 64) × (n * count + k < links.nodes)
-node_number {count} {nodes} {starts} {links} {v} shown k n low h =
+number_below : {count nodes : ℕ} {starts : List ℕ} {links : Links} {v : Families} (shown : Shown count nodes starts links v) (k n : ℕ) → k < count → n < v.nodes → n * count + k < nodes * count
+number_below {count} {nodes} {starts} {links} {v} shown k n low h =
     let same : nodes ≡ v.nodes = ap (λ w. w.nodes) shown.seen in
     let below : n * count + k < count * nodes = mul-add-lt n count k nodes (omega arith) low in
     let turn : count * nodes ≡ nodes * count = mul_comm count nodes in
+    omega (arith, below, turn)
+
+pub node_number : {count nodes : ℕ} {starts : List ℕ} {links : Links} {v : Families} (shown : Shown count nodes starts links v) (k n : ℕ) → k < count → n < v.nodes
+    → (n * count + k < 2 ^ 64) × (n * count + k < links.nodes)
+node_number {count} {nodes} {starts} {links} {v} shown k n low h =
+    let below = number_below shown k n low h in
     let enough = shown.good.enough in
     let small = shown.good.small in
-    (omega (arith, below, turn, small), omega (arith, below, turn, enough))
+    (omega (arith, below, small), omega (arith, below, enough))
 
 has-family : {count nodes : ℕ} {starts : List ℕ} {links : Links} {v : Families} (shown : Shown count nodes starts links v) (k l n : ℕ) → k < count → l < count_in starts k
     → has (list_at (lists_of v k) l) n ≡ has (list_at links.lists (start starts k + l)) (n * count + k)
@@ -207,16 +212,35 @@ pushed_families {count} {nodes} {starts} {links} {v} shown k l n lists' low h is
           other k i (λ e. ne (omega (arith, e))) ∙ sym (list-family shown k i low b) ∙ sym (get_or-set_other old l i (list_at old l ++ n ∷ []) [] ne)
     ])
 
-pub pushed_family : {count nodes : ℕ} {starts : List ℕ} {links : Links} {v : Families} (shown : Shown count nodes starts links v) (k l n : ℕ) (new : Links) → k < count → l < length (lists_of v k)
+-- what is on the lists once a node is put at the end of one
+pushed_on : (lists : List (List ℕ)) (at m j x : ℕ) → at < length lists → has (list_at (set lists at (list_at lists at ++ m ∷ [])) j) x ≡ true
+    → (has (list_at lists j) x ≡ true) ⊎ ((j ≡ at) × (m ≡ x))
+pushed_on lists at m j x low on =
+    let xs = list_at lists at in
+    elim (cases_eq j at) [
+      | inl e ↦
+          let there : (has xs x || has (m ∷ []) x) ≡ true = sym (has-append xs (m ∷ []) x) ∙ ap (λ ys. has ys x) (sym (get_or-set_same lists at (xs ++ m ∷ []) [] low)) ∙ ap (λ i. has (list_at (set lists at (xs ++ m ∷ [])) i) x) (sym e) ∙ on in
+          elim (or_cases (has xs x) (has (m ∷ []) x) there) [
+            | inl s ↦ inl (ap (λ i. has (list_at lists i) x) e ∙ s)
+            | inr s ↦ inr (e, one_is m x s)
+          ]
+      | inr ne ↦ inl (ap (λ ys. has ys x) (sym (get_or-set_other lists at j (xs ++ m ∷ []) [] ne)) ∙ on)
+    ]
+  where
+    one_is : (a b : ℕ) → has (a ∷ []) b ≡ true → a ≡ b
+    one_is a b e = elim (or_cases (eqb a b) false e) [ inl s ↦ eqb-true a b s | inr s ↦ absurd (false≢true s) ]
+
+pub pushed_family : {count nodes : ℕ} {starts : List ℕ} {links : Links} {v : Families} (shown : Shown count nodes starts links v) (k l n : ℕ) (new : Links) → k < count → l < length (lists_of v k) → n < v.nodes
     → new.nodes ≡ links.nodes → new.lists ≡ set links.lists (start starts k + l) (list_at links.lists (start starts k + l) ++ (n * count + k) ∷ [])
     → IsFamily count nodes starts new
-pushed_family {count} {nodes} {starts} {links} {v} shown k l n new low h nodes_is is =
+pushed_family {count} {nodes} {starts} {links} {v} shown k l n new low h in_nodes nodes_is is =
     let at = start starts k + l in
     let m = n * count + k in
-    let xs = list_at links.lists at in
     let good = shown.good in
     let number = list_number shown k l low h in
     let enough = good.enough in
+    let before : (j x : ℕ) → has (list_at new.lists j) x ≡ true → (has (list_at links.lists j) x ≡ true) ⊎ ((j ≡ at) × (m ≡ x)) =
+    λ j x on. pushed_on links.lists at m j x number.2 (ap (λ ls. has (list_at ls j) x) (sym is) ∙ on) in
     record {
       counted = good.counted;
       rises = good.rises;
@@ -224,24 +248,18 @@ pushed_family {count} {nodes} {starts} {links} {v} shown k l n new low h nodes_i
       few = good.few;
       enough = omega (arith, nodes_is, enough);
       small = good.small;
-      own = λ j x on.
-          let on' : has (list_at (set links.lists at (xs ++ m ∷ [])) j) x ≡ true = ap (λ ls. has (list_at ls j) x) (sym is) ∙ on in
-          elim (cases_eq j at) [
-            | inl e ↦
-                let there : (has xs x || has (m ∷ []) x) ≡ true = sym (has-append xs (m ∷ []) x) ∙ ap (λ ys. has ys x) (sym (get_or-set_same links.lists at (xs ++ m ∷ []) [] number.2)) ∙ ap (λ i. has (list_at (set links.lists at (xs ++ m ∷ [])) i) x) (sym e) ∙ on' in
-                elim (or_cases (has xs x) (has (m ∷ []) x) there) [
-                  | inl s ↦ good.own j x (ap (λ i. has (list_at links.lists i) x) e ∙ s)
-                  | inr s ↦
-                      let x_is : m ≡ x = one_is m x s in
-                      let rest : x % count ≡ k = ap (λ z. z % count) (sym x_is) ∙ mod-mul-add n count k low in
-                      rw (rest, e) (omega arith, number.1)
-                ]
-            | inr ne ↦ good.own j x (ap (λ ys. has ys x) (sym (get_or-set_other links.lists at j (xs ++ m ∷ []) [] ne)) ∙ on')
-          ];
+      own = λ j x on. elim (before j x on) [
+        | inl s ↦ good.own j x s
+        | inr s ↦
+            let e = s.0 in
+            let rest : x % count ≡ k = ap (λ z. z % count) (sym s.1) ∙ mod-mul-add n count k low in
+            rw (rest, e) (omega arith, number.1)
+      ];
+      below = λ j x on. elim (before j x on) [
+        | inl s ↦ good.below j x s
+        | inr s ↦ (let P : ℕ → Type 0 = λ z. z < nodes * count in subst P s.1 (number_below shown k n low in_nodes))
+      ];
     }
-  where
-    one_is : (a b : ℕ) → has (a ∷ []) b ≡ true → a ≡ b
-    one_is a b e = elim (or_cases (eqb a b) false e) [ inl s ↦ eqb-true a b s | inr s ↦ absurd (false≢true s) ]
 
 -- ---- a node taken out
 
@@ -268,6 +286,8 @@ pub unlinked_family : {count nodes : ℕ} {starts : List ℕ} {links : Links} (g
     → new.nodes ≡ links.nodes → new.lists ≡ map (without m) links.lists → IsFamily count nodes starts new
 unlinked_family {count} {nodes} {starts} {links} good m new nodes_is is =
     let enough = good.enough in
+    let before : (j x : ℕ) → has (list_at new.lists j) x ≡ true → has (list_at links.lists j) x ≡ true =
+    λ j x on. has-left (list_at links.lists j) m x (ap (λ ys. has ys x) (sym (list_left links.lists m j)) ∙ ap (λ ls. has (list_at ls j) x) (sym is) ∙ on) in
     record {
       counted = good.counted;
       rises = good.rises;
@@ -275,7 +295,8 @@ unlinked_family {count} {nodes} {starts} {links} good m new nodes_is is =
       few = good.few;
       enough = omega (arith, nodes_is, enough);
       small = good.small;
-      own = λ j x on. good.own j x (has-left (list_at links.lists j) m x (ap (λ ys. has ys x) (sym (list_left links.lists m j)) ∙ ap (λ ls. has (list_at ls j) x) (sym is) ∙ on));
+      own = λ j x on. good.own j x (before j x on);
+      below = λ j x on. good.below j x (before j x on);
     }
 
 -- ---- what the calls tell
@@ -310,6 +331,21 @@ apart_tells {count} {nodes} {starts} {links} shown k l low apart =
           let one : (x y : ℕ) → has xs x ≡ true → has xs y ≡ true → x / count ≡ y / count → x ≡ y = λ x y ex ey e. only_in shown.good k l (y / count) low s x ex e ∙ sym (only_in shown.good k l (y / count) low s y ey refl) in
           subst Apart (sym (list-family shown k l low s)) (apart-map (λ m. m / count) xs one (apart (start starts k + l)))
       | inr s ↦ subst Apart (sym (list-none shown k l low s)) tt
+    ]
+
+-- a node of the family's lists is below the number of nodes
+pub below_tells : {count nodes : ℕ} {starts : List ℕ} {links : Links} {v : Families} (shown : Shown count nodes starts links v) (k : ℕ) → k < count → AreNodes v k
+below_tells {count} {nodes} {starts} {links} {v} shown k low l n on =
+    let h = list_with shown k l n low on in
+    let same : nodes ≡ v.nodes = ap (λ w. w.nodes) shown.seen in
+    let below = shown.good.below (start starts k + l) (n * count + k) (sym (has-family shown k l n low h) ∙ on) in
+    elim (cases_lt n nodes) [
+      | inl s ↦ omega (arith, s, same)
+      | inr s ↦
+          let wide = mul-le-mul_left count s in
+          let turn : count * nodes ≡ nodes * count = mul_comm count nodes in
+          let turned : count * n ≡ n * count = mul_comm count n in
+          absurd (omega (arith, below, wide, turn, turned))
     ]
 
 -- which of the family's lists has the node
@@ -348,6 +384,7 @@ new_family counts starts count nodes n links len are n_is lists nodes_is small =
   enough = omega (arith, nodes_is);
   small = small;
   own = λ l m on. absurd (false≢true (sym (none_on n l m) ∙ ap (λ ls. has (list_at ls l) m) (sym lists) ∙ on));
+  below = λ l m on. absurd (false≢true (sym (none_on n l m) ∙ ap (λ ls. has (list_at ls l) m) (sym lists) ∙ on));
 }
 
 pub new_families : (counts starts : List ℕ) (count n : ℕ) (lists : List (List ℕ)) → length counts ≡ count → AreStarts counts starts → n ≡ start starts count → lists ≡ replicate n []
@@ -377,8 +414,8 @@ new_families counts starts count n lists len are n_is is =
     ]
 
 pub grown_family : {count nodes : ℕ} {starts : List ℕ} {links : Links} (good : IsFamily count nodes starts links) (more : ℕ) (new : Links)
-    → new.lists ≡ links.lists → more * count ≤ new.nodes → more * count < 2 ^ 64 → IsFamily count more starts new
-grown_family {count} {nodes} {starts} {links} good more new is enough small = record {
+    → nodes ≤ more → new.lists ≡ links.lists → more * count ≤ new.nodes → more * count < 2 ^ 64 → IsFamily count more starts new
+grown_family {count} {nodes} {starts} {links} good more new grows is enough small = record {
   counted = good.counted;
   rises = good.rises;
   whole = rw is good.whole;
@@ -386,6 +423,12 @@ grown_family {count} {nodes} {starts} {links} good more new is enough small = re
   enough = enough;
   small = small;
   own = λ j x on. good.own j x (ap (λ ls. has (list_at ls j) x) (sym is) ∙ on);
+  below = λ j x on.
+      let low = good.below j x (ap (λ ls. has (list_at ls j) x) (sym is) ∙ on) in
+      let wide = mul-le-mul_left count grows in
+      let turn : count * nodes ≡ nodes * count = mul_comm count nodes in
+      let turned : count * more ≡ more * count = mul_comm count more in
+      omega (arith, low, wide, turn, turned);
 }
 
 -- how many lists a family has, after a change of one family that keeps its number

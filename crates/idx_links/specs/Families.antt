@@ -11,6 +11,10 @@ pub record Families : Type 0 where
 abbrev pub lists_of : Families → ℕ → List (List ℕ)
 lists_of f k = slice_index_or f.families k []
 
+-- each node on a list of the family is one of its nodes
+abbrev pub AreNodes : Families → ℕ → Type 0
+AreNodes f k = (l n : ℕ) → has (list_at (lists_of f k) l) n ≡ true → n < f.nodes
+
 -- ---- how the families stand side by side in one set of lists: the lists of one behind those of another,
 -- and node n of the k-th of so many families as node n * families + k
 
@@ -27,7 +31,7 @@ family_in families starts lists k = map (nodes_in families starts lists k) (rang
 abbrev pub families_of : ℕ → ℕ → List ℕ → Links → Families
 families_of families nodes starts links = record { nodes = nodes; families = map (family_in families starts links.lists) (range_with_len 0 families) }
 
--- so many families with places for so many nodes each; on a family's lists are only its own nodes
+-- so many families with places for so many nodes each; on a family's lists are only its own nodes, each below their number
 pub record IsFamily (families nodes : ℕ) (starts : List ℕ) (links : Links) : Type 0 where
   pub counted : length starts ≡ families + 1
   pub rises : (k : ℕ) → k < families → start starts k ≤ start starts (k + 1)
@@ -36,6 +40,7 @@ pub record IsFamily (families nodes : ℕ) (starts : List ℕ) (links : Links) :
   pub enough : nodes * families ≤ links.nodes
   pub small : nodes * families < 2 ^ 64
   pub own : (l m : ℕ) → has (list_at links.lists l) m ≡ true → (start starts (m % families) ≤ l) × (l < start starts (m % families + 1))
+  pub below : (l m : ℕ) → has (list_at links.lists l) m ≡ true → m < nodes * families
 
 -- each family starts where the lists of the one before end
 pub record AreStarts (counts starts : List ℕ) : Type 0 where

@@ -1,6 +1,6 @@
-ghost use Rattle.std.specs.Prelude.{◌≡◌, ℕ, ◌+◌, ◌^◌, ◌<◌, ◌∷◌, ◌++◌, List, [], All, length, map, replicate, slice_get, slice_set, slice_index_or, IfOk, IfSome, IfNone, Some, true, OnOk, OnErr};
+ghost use Rattle.std.specs.Prelude.{◌≡◌, ℕ, ◌+◌, ◌<◌, ◌∷◌, ◌++◌, [], length, map, replicate, slice_get, slice_set, slice_index_or, IfOk, IfSome, IfNone, Some, true, OnOk, OnErr};
 ghost use Rattle.idx_links.specs.Links.{has, without, Apart, list_at, IsFree, IsLinked};
-ghost use Rattle.idx_links.specs.Families.{Families, lists_of, families_of, IsFamily, AreStarts};
+ghost use Rattle.idx_links.specs.Families.{Families, lists_of, families_of, AreNodes, IsFamily, AreStarts};
 
 use crate::chains::Chains;
 use std::alloc::{AllocError, Global};
@@ -35,7 +35,6 @@ impl<const K: usize> Family<K> {
     /// Empty lists, so many in each family, over nodes that are on none of them. Refused where the lists
     /// and the nodes of all families are too many for numbers of 32 bits, too.
     pub fn new(alloc: Global, lists: [usize; K], nodes: usize) -> Result<Self, AllocError>
-        requires { All (λ count. count + nodes < 2 ^ 64) lists }
         ensures nodes { IfOk result (λ f. f.nodes ≡ nodes) }
         ensures lists { IfOk result (λ f. f.families ≡ map (λ count. replicate count []) lists.entry) }
     {
@@ -55,18 +54,25 @@ impl<const K: usize> Family<K> {
     /// Adds nodes, which are on no list. Where memory is refused, or the lists and the nodes of all
     /// families are too many for numbers of 32 bits, all stays as it was.
     pub fn grow(&mut self, more: usize) -> Result<(), AllocError>
-        requires nodes { self.old.nodes + more < 2 ^ 64 }
-        requires places { (k : ℕ) → k < K → length (lists_of self.old k) + (self.old.nodes + more) < 2 ^ 64 }
         ensures ok { OnOk result (self.new ≡ record self.old { nodes = self.old.nodes + more }) }
         ensures err { OnErr result (self.new ≡ self.old) }
     {
-        let nodes = self.nodes + more;
+        let Some(nodes) = self.nodes.checked_add(more) else {
+            return Err(AllocError)
+        };
         let Some(numbers) = nodes.checked_mul(K) else {
             return Err(AllocError)
         };
         self.chains.grow(numbers)?;
         self.nodes = nodes;
         Ok(())
+    }
+
+    /// How many nodes there are, on lists or not.
+    pub fn nodes(&self) -> usize
+        ensures { result ≡ self.now.nodes }
+    {
+        self.nodes
     }
 
     /// The first node of the list.
@@ -90,12 +96,14 @@ impl<const K: usize> Family<K> {
         Some(next / K)
     }
 
-    /// How many nodes the list has. No node stands on a list twice.
+    /// How many nodes the list has. No node stands on a list twice, and each that stands on one is
+    /// below the number of nodes.
     pub fn len(&self, family: usize, list: usize) -> usize
         requires family { family < K }
         requires list { list < length (lists_of self.now family) }
         ensures value { result ≡ length (list_at (lists_of self.now family) list) }
         ensures apart { (l : ℕ) → Apart (list_at (lists_of self.now family) l) }
+        ensures below { AreNodes self.now family }
     {
         self.chains.len(self.starts[family] + list)
     }

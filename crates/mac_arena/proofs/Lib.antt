@@ -4,3 +4,5 @@ pub mod Steps
 pub mod Tables
 pub mod Values
 pub mod Naming
+pub mod Looking
+pub mod Going

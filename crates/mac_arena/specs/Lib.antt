@@ -3,5 +3,6 @@ pub mod Entry
 pub mod Orders
 pub mod Learning
 pub mod ListsName
+pub mod Laws
 pub mod Nodes
 pub mod Slot

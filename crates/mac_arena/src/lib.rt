@@ -5,11 +5,16 @@
 //! and every change takes a constant number of steps.
 #![tactic(auto)]
 
+mod laws;
 pub mod orders;
 mod slot;
 pub mod station;
 pub mod table;
 
+pub use laws::{
+    due_one_by_one, entries_after_learning, entries_after_pinning, entries_after_removal,
+    exactly_due, exactly_flushed, flushed_one_by_one, lists_are_short,
+};
 pub use station::{Entry, Learned, Station};
 pub use table::{Learnt, MacTable};
 

@@ -90,10 +90,17 @@ impl MacTable {
         self.count
     }
 
+    /// Whether there is no room for another station.
+    pub fn is_full(&self) -> bool
+        ensures { result ≡ is_full self.now }
+    {
+        self.place().is_none()
+    }
+
     /// The bucket of a station: network and address as one number of 64 bits, mixed with the salt by
     /// one multiplication, of whose product the upper half counts.
-    pub fn bucket(&self, key: Station) -> usize
-        ensures { result ≡ bucket_in self.now key }
+    pub fn bucket(&self, key: &Station) -> usize
+        ensures { result ≡ bucket_in self.now key.now }
     {
         let number = (key.vni.number() as u64)
             .wrapping_mul(0x1_0000_0000_0000)
@@ -119,11 +126,11 @@ impl MacTable {
     }
 
     /// What is known of a station.
-    pub fn look(&self, key: Station) -> Option<Entry>
-        ensures { result ≡ entry_at self.now key }
+    pub fn look(&self, key: &Station) -> Option<Entry>
+        ensures { result ≡ entry_at self.now key.now }
     {
         let bucket = self.bucket(key);
-        match self.find(&key, bucket) {
+        match self.find(key, bucket) {
             Some((_node, learned)) => Some(learned.entry),
             None => None,
         }
@@ -185,37 +192,37 @@ impl MacTable {
     }
 
     /// Learns a station on a port, at a second that isn't below an earlier one.
-    pub fn learn(&mut self, key: Station, port: u8, second: u64) -> Learnt
+    pub fn learn(&mut self, key: &Station, port: u8, second: u64) -> Learnt
         requires some { 0 < port }
         requires port { port ≤ length self.old.ports }
         requires latest { IsLatest self.old second }
-        ensures answer { result ≡ learnt_of self.old key port }
-        ensures after { self.new ≡ after_learn self.old key port second result }
+        ensures answer { result ≡ learnt_of self.old key.now port }
+        ensures after { self.new ≡ after_learn self.old key.now port second result }
     {
         let bucket = self.bucket(key);
-        match self.find(&key, bucket) {
+        match self.find(key, bucket) {
             Some((node, learned)) => self.learn_again(node, &learned, port, second),
-            None => self.learn_new(&key, bucket, port, second),
+            None => self.learn_new(key, bucket, port, second),
         }
     }
 
     /// Pins a station on a port, whether it is known or not. Answers false, and changes nothing, where
     /// it isn't known and there is no room.
-    pub fn pin(&mut self, key: Station, port: u8) -> bool
+    pub fn pin(&mut self, key: &Station, port: u8) -> bool
         requires some { 0 < port }
         requires port { port ≤ length self.old.ports }
-        ensures answer { result ≡ can_pin self.old key }
-        ensures after { self.new ≡ after_pin self.old key port }
+        ensures answer { result ≡ can_pin self.old key.now }
+        ensures after { self.new ≡ after_pin self.old key.now port }
     {
         let bucket = self.bucket(key);
-        match self.find(&key, bucket) {
+        match self.find(key, bucket) {
             Some((node, learned)) => {
                 self.pin_known(node, &learned, port);
                 true
             }
             None => match self.place() {
                 Some(node) => {
-                    self.enter(node, &key, bucket, port);
+                    self.enter(node, key, bucket, port);
                     true
                 }
                 None => false,
@@ -224,12 +231,12 @@ impl MacTable {
     }
 
     /// Removes a station, and answers whether it was known.
-    pub fn remove(&mut self, key: Station) -> bool
-        ensures answer { result ≡ is_some (entry_at self.old key) }
-        ensures after { self.new ≡ after_removal self.old key }
+    pub fn remove(&mut self, key: &Station) -> bool
+        ensures answer { result ≡ is_some (entry_at self.old key.now) }
+        ensures after { self.new ≡ after_removal self.old key.now }
     {
         let bucket = self.bucket(key);
-        let Some((node, learned)) = self.find(&key, bucket) else {
+        let Some((node, learned)) = self.find(key, bucket) else {
             return false
         };
         if learned.entry.pinned {

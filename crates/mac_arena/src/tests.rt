@@ -55,7 +55,7 @@ impl Run {
         if port == 0 || port > PORTS || second < self.now {
             return None;
         }
-        let learnt = self.table.learn(key, port, second);
+        let learnt = self.table.learn(&key, port, second);
         self.now = second;
         Some(learnt)
     }
@@ -64,11 +64,11 @@ impl Run {
         if port == 0 || port > PORTS {
             return None;
         }
-        Some(self.table.pin(key, port))
+        Some(self.table.pin(&key, port))
     }
 
     fn remove(&mut self, key: Station) -> bool {
-        self.table.remove(key)
+        self.table.remove(&key)
     }
 
     fn first_of(&self, port: u8) -> Option<Station> {

@@ -157,7 +157,7 @@ const STATIONS: u64 = 24;
 // Whether the two tables answer alike about each station, each port and the oldest.
 fn agree(run: &Run, plain: &Plain) -> bool {
     for address in 0..STATIONS {
-        if run.table.look(station(address)) != plain.look(&station(address)) {
+        if run.table.look(&station(address)) != plain.look(&station(address)) {
             return false;
         }
     }

@@ -21,7 +21,7 @@ fn heard(port: u8, last: u64) -> Option<Entry> {
 #[test]
 fn station_falls_into_bucket_830(rt: HostRuntime) -> Result<(), Fail> {
     let run = Run::made(rt.alloc(), 4, 1024).ok_or("no table")?;
-    assert_eq!(rt; run.table.bucket(station(A)), 830);
+    assert_eq!(rt; run.table.bucket(&station(A)), 830);
     Ok(())
 }
 
@@ -53,7 +53,7 @@ fn moved_station_leaves_its_port(rt: HostRuntime) -> Result<(), Fail> {
     assert_eq!(rt; run.learn(station(A), 2, 6), Some(Learnt::Moved));
     assert_eq!(rt; run.first_of(1), None);
     assert_eq!(rt; run.first_of(2), Some(station(A)));
-    assert_eq!(rt; run.table.look(station(A)), heard(2, 6));
+    assert_eq!(rt; run.table.look(&station(A)), heard(2, 6));
     assert_eq!(rt; run.table.len(), 1);
     Ok(())
 }
@@ -64,8 +64,8 @@ fn full_table_keeps_what_it_has(rt: HostRuntime) -> Result<(), Fail> {
     assert_eq!(rt; run.learn(station(A), 1, 0), Some(Learnt::New));
     assert_eq!(rt; run.learn(station(B), 2, 0), Some(Learnt::Full));
     assert_eq!(rt; run.pin(station(B), 2), Some(false));
-    assert_eq!(rt; run.table.look(station(A)), heard(1, 0));
-    assert_eq!(rt; run.table.look(station(B)), None);
+    assert_eq!(rt; run.table.look(&station(A)), heard(1, 0));
+    assert_eq!(rt; run.table.look(&station(B)), None);
     assert_eq!(rt; run.table.len(), 1);
     Ok(())
 }
@@ -79,7 +79,7 @@ fn station_heard_longest_ago_is_oldest(rt: HostRuntime) -> Result<(), Fail> {
     assert_eq!(rt; run.table.oldest(), Some(station(B)));
     assert_eq!(rt; run.remove(station(B)), true);
     assert_eq!(rt; run.table.oldest(), Some(station(A)));
-    assert_eq!(rt; run.table.look(station(A)), heard(1, 5));
+    assert_eq!(rt; run.table.look(&station(A)), heard(1, 5));
     Ok(())
 }
 
@@ -96,7 +96,7 @@ fn pinned_station_neither_ages_nor_moves(rt: HostRuntime) -> Result<(), Fail> {
         last: 0,
         pinned: true,
     };
-    assert_eq!(rt; run.table.look(station(A)), Some(pinned));
+    assert_eq!(rt; run.table.look(&station(A)), Some(pinned));
     assert_eq!(rt; run.remove(station(A)), true);
     assert_eq!(rt; run.remove(station(A)), false);
     assert_eq!(rt; run.table.len(), 0);
@@ -118,7 +118,7 @@ fn table_works_after_refused_memory(rt: HostRuntime) -> Result<(), Fail> {
     assert_eq!(rt; run.first_of(2), Some(station(A)));
     assert_eq!(rt; run.remove(station(A)), true);
     assert_eq!(rt; run.learn(station(C), 1, 4), Some(Learnt::New));
-    assert_eq!(rt; run.table.look(station(C)), heard(1, 4));
+    assert_eq!(rt; run.table.look(&station(C)), heard(1, 4));
     assert_eq!(rt; run.table.len(), 2);
     Ok(())
 }

@@ -1,6 +1,6 @@
 use Rattle.std.proofs.Common.{rules, ap, ◌∙◌, ◌+◌, length}
 use Rattle.idx_links.specs.Links.{list_at}
-use Rattle.idx_links.proofs.FamilyCalls.{Shown, start_found, list_number, len_tells, apart_tells}
+use Rattle.idx_links.proofs.FamilyCalls.{Shown, start_found, list_number, len_tells, apart_tells, below_tells}
 use Rattle.idx_links.proofs.family.Family.len.Goals as goal
 
 pub overflow_add-index : goal.overflow_add-index
@@ -31,3 +31,9 @@ returns-clause-apart g c =
     let at = c.self.inside in
     let shown : Shown g.row.K at.nodes at.starts.items at.chains c.args.self.now = record { good = c.self.invariant; seen = c.self.view_is } in
     λ l. apart_tells shown c.args.family l c.requires.family c.len.ensures.apart
+
+pub returns-clause-below : goal.returns-clause-below
+returns-clause-below g c =
+    let at = c.self.inside in
+    let shown : Shown g.row.K at.nodes at.starts.items at.chains c.args.self.now = record { good = c.self.invariant; seen = c.self.view_is } in
+    below_tells shown c.args.family c.requires.family

@@ -31,7 +31,7 @@ invariant_of-self g c =
     let shown : Shown g.row.K at.nodes at.starts.items at.chains c.args.self.now = record { good = c.self.invariant; seen = c.self.view_is } in
     let start_is = start_found c.self.invariant c.args.family c.index.result.now c.requires.family c.index.ensures in
     let lists_is = c.push_back.ensures.lists ∙ ap (λ s. set at.chains.lists (s + c.args.list) (list_at at.chains.lists (s + c.args.list) ++ (c.args.node * g.row.K + c.args.family) ∷ [])) start_is in
-    pushed_family shown c.args.family c.args.list c.args.node c.push_back.new.self c.requires.family c.requires.list c.push_back.ensures.nodes lists_is
+    pushed_family shown c.args.family c.args.list c.args.node c.push_back.new.self c.requires.family c.requires.list c.requires.node c.push_back.ensures.nodes lists_is
 
 pub returns-clause-families : goal.returns-clause-families
 returns-clause-families g c =

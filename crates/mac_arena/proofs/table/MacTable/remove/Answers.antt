@@ -7,16 +7,16 @@ pub returns-then-learned-clause-after : goal.returns-then-learned-clause-after
 returns-then-learned-clause-after c =
     let t = c.args.self.now in
     let same = c.in-Some.ensures.same in
-    let known : entry_at t c.args.key ≡ Some c.in-Some.learned.entry = ap (entry_at t) (sym same) ∙ known_at t c.in-Some.node c.in-Some.learned c.in-Some.ensures.found in
-    c.leave.ensures ∙ ap (dropped t) same ∙ pinned_goes t c.args.key c.in-Some.learned.entry known (c.in-Some.ensures.still c.if-learned.true)
+    let known : entry_at t c.args.key.now ≡ Some c.in-Some.learned.entry = ap (entry_at t) (sym same) ∙ known_at t c.in-Some.node c.in-Some.learned c.in-Some.ensures.found in
+    c.leave.ensures ∙ ap (dropped t) same ∙ pinned_goes t c.args.key.now c.in-Some.learned.entry known (c.in-Some.ensures.still c.if-learned.true)
 
 pub returns-else-learned-clause-after : goal.returns-else-learned-clause-after
 returns-else-learned-clause-after c =
     let t = c.args.self.now in
     let x = c.in-Some.learned in
     let same = c.in-Some.ensures.same in
-    let known : entry_at t c.args.key ≡ Some x.entry = ap (entry_at t) (sym same) ∙ known_at t c.in-Some.node x c.in-Some.ensures.found in
+    let known : entry_at t c.args.key.now ≡ Some x.entry = ap (entry_at t) (sym same) ∙ known_at t c.in-Some.node x c.in-Some.ensures.found in
     c.leave-else-learned.ensures
     ∙ (λ i. dropped (c.hold.ensures.after i) (c.held-held.ensures i).station)
     ∙ ap (λ s. dropped (held t s x.entry.port) s) same
-    ∙ held_goes t c.args.key x.entry known
+    ∙ held_goes t c.args.key.now x.entry known
