@@ -1,18 +1,18 @@
 -- What the changes of a table do to its entries, and that no list is longer than they are many.
-use Rattle.std.proofs.Common.{ℕ, suc, ◌+◌, ◌-◌, ◌≤◌, ◌≡◌, ◌≢◌, inl, inr, Bool, true, false, cond, eqb, ◌&&◌, Option, Some, None, List, [], ◌∷◌, length, refl, ap, sym, ◌∙◌, arith}
-use Rattle.std.specs.Prelude.{is_some, IsSome, ◌||◌}
+use Rattle.std.proofs.Common.{ℕ, ◌+◌, ◌≤◌, ◌≡◌, ◌≢◌, inl, inr, Bool, true, false, cond, eqb, ◌&&◌, Option, Some, None, List, [], ◌∷◌, length, refl, ap, sym, ◌∙◌, arith}
+use Rattle.std.specs.Prelude.{is_some, ◌||◌}
 use Rattle.std.specs.FinMap.{get, insert, remove, len, same_map}
 use Rattle.std.proofs.lemmas.Bool.{false≢true, or_right}
 use Rattle.mac_arena.specs.declared.station.Station.{Station}
 use Rattle.mac_arena.specs.declared.station.Entry.{Entry}
 use Rattle.mac_arena.specs.declared.table.Learnt.{Learnt}
 use Rattle.mac_arena.specs.declared.table.Learnt.TheVariants.{New, Moved, Refreshed, Pinned, Full}
-use Rattle.mac_arena.specs.Station.{is_same, bucket_of}
+use Rattle.mac_arena.specs.Station.{is_same}
 use Rattle.mac_arena.specs.Entry.{pinned_at, heard_at}
-use Rattle.mac_arena.specs.Learning.{Learning, entry_at, is_full, bucket_in, stations_at, learnt_of, answer_of, after_learn, entered, can_pin, after_pin, after_pin_at, after_removal, after_removal_at}
+use Rattle.mac_arena.specs.Learning.{Learning, entry_at, is_full, stations_at, learnt_of, answer_of, after_learn, entered, after_pin, after_pin_at, after_removal, after_removal_at}
 use Rattle.mac_arena.specs.ListsName.{ListsName, stands, AreOnce, is_on, ages}
 use Rattle.mac_arena.specs.Laws.{ChangesEntry, entry_learnt, entry_pinned, known, more_learnt, more_pinned, fewer, AreFew}
-use Rattle.mac_arena.proofs.Entries.{Map, station_total, station_exact, same_or_other, same_self, same_true, eq_same, ne_same, get_here, get_there, gone_here, gone_there, len_new, len_known, len_gone, insert_same}
+use Rattle.mac_arena.proofs.Entries.{Map, station_total, station_exact, same_or_other, same_self, get_here, get_there, gone_here, gone_there, len_new, len_known}
 
 -- ---- one entry
 

@@ -1,5 +1,5 @@
 -- What the changes of a table do to the entries and to how many there are, and whom ageing and the flush of a port take.
-use Rattle.std.specs.Prelude.{◌≡◌, ◌≢◌, ℕ, ◌+◌, ◌-◌, ◌≤◌, ◌&&◌, Bool, true, false, Option, Some, None, IsSome, is_some, List, [], ◌∷◌, length, nat_le, if◌then◌else◌}
+use Rattle.std.specs.Prelude.{◌≡◌, ◌≢◌, ℕ, ◌-◌, ◌≤◌, Bool, false, Option, Some, None, IsSome, is_some, List, [], ◌∷◌, length, nat_le, if◌then◌else◌}
 use Rattle.std.specs.FinMap.{len}
 use Rattle.mac_arena.specs.declared.station.Station.{Station}
 use Rattle.mac_arena.specs.declared.station.Entry.{Entry}
@@ -7,7 +7,6 @@ use Rattle.mac_arena.specs.declared.table.Learnt.{Learnt}
 use Rattle.mac_arena.specs.declared.table.Learnt.TheVariants.{New, Moved, Refreshed, Pinned, Full}
 use Rattle.mac_arena.specs.Entry.{pinned_at, heard_at}
 use Rattle.mac_arena.specs.Learning.{Learning, entry_at, is_full, is_pinned, stations_at, can_pin, after_removal}
-use Rattle.mac_arena.specs.ListsName.{stands, ages, is_on}
 
 -- ---- one entry
 
