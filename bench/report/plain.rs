@@ -1,250 +1,615 @@
-//! The yardstick: `plain ORIGINATORS` does what `evpnd report` does, as a plain Rust program without proofs.
+//! The yardsticks: plain Rust programs without proofs that do what `evpnd report` does, written for speed.
+//!
+//! `plain ordered ORIGINATORS`: an ordered map from network and MAC to a group of registers in order, with its best advert kept.
+//! `plain flat ORIGINATORS`: a hash map from register to value. It is brought into order, and owners are found, at the end.
 
-use std::collections::{BTreeMap, HashSet};
+use std::cmp::Ordering;
+use std::collections::{BTreeMap, HashMap};
 use std::env;
-use std::fmt::{self, Display};
-use std::io::{self, BufReader, BufWriter, Read, Write};
-use std::net::{Ipv4Addr, Ipv6Addr};
+use std::hash::{BuildHasherDefault, Hasher};
+use std::io::{self, Read, StdinLock, StdoutLock, Write};
 use std::process::ExitCode;
 
-#[derive(Clone, Copy, PartialEq, Eq, PartialOrd, Ord)]
-enum Ip {
-    V4(Ipv4Addr),
-    V6(Ipv6Addr),
+/// A network and a MAC address in it, as one number in the order of a report: 24 bits, and 49 bits for the flood list (0) or one
+/// more than the MAC.
+type Subject = u128;
+
+fn subject(vni: u32, place: u64) -> Subject {
+    u128::from(vni) << 64 | u128::from(place)
 }
 
-/// In report order: flood lists have no MAC.
+/// None, version 4 and version 6 in this order, with the address's number behind.
 #[derive(Clone, Copy, PartialEq, Eq, PartialOrd, Ord)]
-struct Register {
-    vni: u32,
-    mac: Option<[u8; 6]>,
-    originator: Ipv4Addr,
-    ip: Option<Ip>,
+struct Ip {
+    version: u8,
+    octets: [u8; 16],
 }
 
+const NO_IP: Ip = Ip { version: 0, octets: [0; 16] };
+
+/// Who says it, by which IP address.
 #[derive(Clone, Copy, PartialEq, Eq, PartialOrd, Ord)]
-struct Advert {
-    is_static: bool,
-    sequence: u32,
-    label2: Option<u32>,
+struct Source {
+    originator: u32,
+    ip: Ip,
 }
 
 #[derive(Clone, Copy, PartialEq, Eq, PartialOrd, Ord)]
 struct Value {
     incarnation: u32,
     counter: u64,
-    /// None: withdrawn.
-    advert: Option<Advert>,
+    content: Content,
 }
 
-fn number(octets: &[u8]) -> u64 {
-    octets.iter().fold(0, |n, &octet| n << 8 | u64::from(octet))
+/// Withdrawn, dynamic or static (2 bits), the sequence number (32), and one more than the second label (25, 0 for none): in this
+/// order, so that contents compare as numbers.
+#[derive(Clone, Copy, PartialEq, Eq, PartialOrd, Ord)]
+struct Content(u64);
+
+impl Content {
+    fn new(rank: u64, sequence: u32, label2: u32) -> Content {
+        Content(rank << 57 | u64::from(sequence) << 25 | u64::from(label2))
+    }
+
+    fn rank(self) -> u64 {
+        self.0 >> 57
+    }
+
+    fn sequence(self) -> u32 {
+        (self.0 >> 25) as u32
+    }
+
+    fn label2(self) -> u32 {
+        self.0 as u32 & 0x1ff_ffff
+    }
+
+    /// Whether this advert of an address is better than another one, their places apart.
+    fn beats(self, other: Content) -> bool {
+        self.0 >> 25 > other.0 >> 25
+    }
 }
 
-impl Display for Ip {
-    fn fmt(&self, f: &mut fmt::Formatter) -> fmt::Result {
+#[derive(Clone, Copy)]
+struct Entry {
+    source: Source,
+    value: Value,
+}
+
+/// The place of the best advert; the first one of equals, which stand in the order of a report.
+fn best_of(entries: &[Entry]) -> Option<usize> {
+    let mut best: Option<usize> = None;
+    for (at, entry) in entries.iter().enumerate() {
+        let content = entry.value.content;
+        if content.rank() > 0 && best.is_none_or(|best| content.beats(entries[best].value.content)) {
+            best = Some(at);
+        }
+    }
+    best
+}
+
+#[derive(Default)]
+struct Group {
+    entries: Vec<Entry>,
+    best: Option<u32>,
+}
+
+impl Group {
+    fn take(&mut self, new: Entry) {
+        let few = self.entries.len() <= 32;
+        let found = if few { self.walk(&new.source) } else { self.entries.binary_search_by(|entry| entry.source.cmp(&new.source)) };
+        match found {
+            Ok(at) if new.value <= self.entries[at].value => {}
+            Ok(at) => {
+                let was = std::mem::replace(&mut self.entries[at].value, new.value).content;
+                if self.best != Some(at as u32) {
+                    self.compare(at);
+                } else if was.beats(new.value.content) {
+                    self.best = best_of(&self.entries).map(|at| at as u32);
+                }
+            }
+            Err(at) => {
+                self.entries.insert(at, new);
+                self.best = self.best.map(|best| best + u32::from(at as u32 <= best));
+                self.compare(at);
+            }
+        }
+    }
+
+    fn walk(&self, source: &Source) -> Result<usize, usize> {
+        for (at, entry) in self.entries.iter().enumerate() {
+            match source.cmp(&entry.source) {
+                Ordering::Greater => {}
+                Ordering::Equal => return Ok(at),
+                Ordering::Less => return Err(at),
+            }
+        }
+        Err(self.entries.len())
+    }
+
+    /// The entry at a place may be the best one now.
+    fn compare(&mut self, at: usize) {
+        let content = self.entries[at].value.content;
+        let wins = content.rank() > 0
+            && self.best.is_none_or(|best| {
+                let other = self.entries[best as usize].value.content;
+                content.beats(other) || (at < best as usize && !other.beats(content))
+            });
+        if wins {
+            self.best = Some(at as u32);
+        }
+    }
+}
+
+/// Multiplies and turns: enough for keys that nobody chose to collide.
+#[derive(Default)]
+struct Mixer(u64);
+
+impl Hasher for Mixer {
+    fn write(&mut self, octets: &[u8]) {
+        for part in octets.chunks(8) {
+            let mut word = [0; 8];
+            word[..part.len()].copy_from_slice(part);
+            self.write_u64(u64::from_le_bytes(word));
+        }
+    }
+
+    fn write_u64(&mut self, number: u64) {
+        self.0 = (self.0.rotate_left(23) ^ number).wrapping_mul(0x9e37_79b9_7f4a_7c15);
+    }
+
+    fn finish(&self) -> u64 {
+        let mixed = (self.0 ^ self.0 >> 32).wrapping_mul(0x9e37_79b9_7f4a_7c15);
+        mixed ^ mixed >> 32
+    }
+}
+
+/// A register, in parts of four octets.
+#[derive(Clone, Copy, PartialEq, Eq)]
+struct Register {
+    subject: [u32; 3],
+    source: Source,
+}
+
+impl Register {
+    fn about(&self) -> Subject {
+        let [vni, high, low] = self.subject;
+        subject(vni, u64::from(high) << 32 | u64::from(low))
+    }
+}
+
+impl std::hash::Hash for Register {
+    fn hash<H: Hasher>(&self, hasher: &mut H) {
+        let [vni, high, low] = self.subject;
+        hasher.write_u64(u64::from(vni) << 32 | u64::from(self.source.originator));
+        hasher.write_u64(u64::from(high) << 32 | u64::from(low));
+        if self.source.ip.version != 0 {
+            hasher.write(&self.source.ip.octets);
+        }
+    }
+}
+
+enum Table {
+    Ordered(BTreeMap<Subject, Group>),
+    Flat(HashMap<Register, Value, BuildHasherDefault<Mixer>>),
+}
+
+impl Table {
+    fn take(&mut self, subject: Subject, entry: Entry) {
         match self {
-            Ip::V4(ip) => write!(f, "{ip}"),
-            Ip::V6(ip) => {
-                let [a, b, c, d, e, g, h, i] = ip.segments();
-                write!(f, "{a:04x}:{b:04x}:{c:04x}:{d:04x}:{e:04x}:{g:04x}:{h:04x}:{i:04x}")
+            Table::Ordered(groups) => groups.entry(subject).or_default().take(entry),
+            Table::Flat(registers) => {
+                let parts = [(subject >> 64) as u32, (subject >> 32) as u32, subject as u32];
+                let register = Register { subject: parts, source: entry.source };
+                let known = registers.entry(register).or_insert(entry.value);
+                if *known < entry.value {
+                    *known = entry.value;
+                }
+            }
+        }
+    }
+
+    fn report(self, out: &mut Lines) -> io::Result<()> {
+        match self {
+            Table::Ordered(groups) => {
+                groups.iter().try_for_each(|(subject, group)| out.group(*subject, &group.entries, group.best.map(|best| best as usize)))
+            }
+            Table::Flat(registers) => {
+                let registers: Vec<(Register, Value)> = registers.into_iter().collect();
+                // a sort of numbers: what a register is about, who says it, and the register's place above
+                let mut order: Vec<(u128, u32)> = (registers.iter().zip(0..))
+                    .map(|((register, _), at)| (register.about() << 32 | u128::from(register.source.originator), at))
+                    .collect();
+                order.sort_unstable();
+                let mut entries = Vec::new();
+                for group in order.chunk_by(|a, b| a.0 >> 32 == b.0 >> 32) {
+                    entries.clear();
+                    entries.extend(group.iter().map(|(_, at)| {
+                        let (register, value) = registers[*at as usize];
+                        Entry { source: register.source, value }
+                    }));
+                    if entries.len() > 1 {
+                        entries.sort_unstable_by_key(|entry| entry.source);
+                    }
+                    out.group(group[0].0 >> 32, &entries, best_of(&entries))?;
+                }
+                Ok(())
             }
         }
     }
 }
 
-/// The fault that the beginning of a record shows, once its six octets are there.
-fn fault(header: &[u8; 6]) -> Option<u8> {
-    let length = number(&header[4..]);
-    let least = if header[2] == 1 { 15 } else { 19 };
-    if header[..2] != [0x45, 0x56] {
-        Some(1)
-    } else if !(1..=3).contains(&header[2]) {
-        Some(2)
-    } else if !(1..=2).contains(&header[3]) {
-        Some(3)
-    } else if length < least || 512 < length {
-        Some(4)
-    } else {
-        None
+const PIECE: usize = 1 << 16;
+
+/// More than the longest line has: a line begins only where it fits.
+const LINE: usize = 256;
+
+/// The decimal digits of each octet and a dot behind them, and how many characters that is.
+const DOTTED: [([u8; 4], u8); 256] = {
+    let mut table = [([0; 4], 0); 256];
+    let mut n = 0;
+    while n < 256 {
+        let digits = [b'0' + (n / 100) as u8, b'0' + (n / 10 % 10) as u8, b'0' + (n % 10) as u8];
+        table[n] = match n {
+            0..10 => ([digits[2], b'.', 0, 0], 2),
+            10..100 => ([digits[1], digits[2], b'.', 0], 3),
+            _ => ([digits[0], digits[1], digits[2], b'.'], 4),
+        };
+        n += 1;
+    }
+    table
+};
+
+/// The two hexadecimal digits of each octet.
+const HEX: [[u8; 2]; 256] = {
+    let digits = b"0123456789abcdef";
+    let mut table = [[0; 2]; 256];
+    let mut n = 0;
+    while n < 256 {
+        table[n] = [digits[n / 16], digits[n % 16]];
+        n += 1;
+    }
+    table
+};
+
+/// The two decimal digits of each number below 100.
+const PAIRS: [[u8; 2]; 100] = {
+    let mut table = [[0; 2]; 100];
+    let mut n = 0;
+    while n < 100 {
+        table[n] = [b'0' + (n / 10) as u8, b'0' + (n % 10) as u8];
+        n += 1;
+    }
+    table
+};
+
+/// Characters that are written one behind the other.
+struct Text<const N: usize> {
+    octets: [u8; N],
+    len: usize,
+}
+
+impl<const N: usize> Text<N> {
+    fn new() -> Self {
+        Text { octets: [0; N], len: 0 }
+    }
+
+    /// Writes an array, of which so many octets count.
+    #[inline(always)]
+    fn put_some<const M: usize>(&mut self, octets: &[u8; M], count: usize) {
+        self.octets[self.len..self.len + M].copy_from_slice(octets);
+        self.len += count;
+    }
+
+    #[inline(always)]
+    fn put<const M: usize>(&mut self, octets: &[u8; M]) {
+        self.put_some(octets, M);
+    }
+
+    #[inline]
+    fn decimal(&mut self, mut number: u64) {
+        let mut digits = [0; 20];
+        let mut at = 20;
+        while number >= 100 {
+            at -= 2;
+            digits[at..at + 2].copy_from_slice(&PAIRS[(number % 100) as usize]);
+            number /= 100;
+        }
+        at -= 2;
+        digits[at..at + 2].copy_from_slice(&PAIRS[number as usize]);
+        at += usize::from(number < 10);
+        for digit in &digits[at..] {
+            self.octets[self.len] = *digit;
+            self.len += 1;
+        }
+    }
+
+    #[inline]
+    fn address(&mut self, address: u32) {
+        for octet in address.to_be_bytes() {
+            let (text, count) = &DOTTED[usize::from(octet)];
+            self.put_some(text, usize::from(*count));
+        }
+        self.len -= 1;
+    }
+
+    fn ip(&mut self, ip: &Ip) {
+        if ip.version == 4 {
+            return self.address(big32(&ip.octets, 12));
+        }
+        for (at, octet) in ip.octets.into_iter().enumerate() {
+            if at > 0 && at % 2 == 0 {
+                self.put(b":");
+            }
+            self.put(&HEX[usize::from(octet)]);
+        }
     }
 }
 
-fn read_one(version: u8, withdrawn: bool, body: &[u8]) -> Result<(Register, Value), u8> {
+/// Lines, given on in large pieces.
+struct Lines {
+    out: StdoutLock<'static>,
+    held: Box<Text<PIECE>>,
+}
+
+impl Lines {
+    fn group(&mut self, subject: Subject, entries: &[Entry], best: Option<usize>) -> io::Result<()> {
+        // the network and the address, which the lines of a group share
+        let (vni, place) = ((subject >> 64) as u32, subject as u64);
+        let mut station: Text<32> = Text::new();
+        station.decimal(u64::from(vni));
+        if place > 0 {
+            for (at, octet) in (place - 1).to_be_bytes()[2..].iter().enumerate() {
+                station.put(if at == 0 { b" " } else { b":" });
+                station.put(&HEX[usize::from(*octet)]);
+            }
+        }
+        station.put(b" ");
+        for entry in entries {
+            self.room()?;
+            self.entry(place > 0, &station, entry);
+        }
+        if place > 0 {
+            self.room()?;
+            let line = &mut self.held;
+            line.put(b"owner ");
+            line.put_some(&station.octets, station.len);
+            match best {
+                None => line.put(b"none"),
+                Some(best) => line.address(entries[best].source.originator),
+            }
+            line.put(b"\n");
+        }
+        Ok(())
+    }
+
+    fn entry(&mut self, is_mac: bool, station: &Text<32>, entry: &Entry) {
+        let line = &mut self.held;
+        let Value { incarnation, counter, content } = entry.value;
+        if is_mac {
+            line.put(b"mac ");
+        } else {
+            line.put(b"flood ");
+        }
+        line.put_some(&station.octets, station.len);
+        line.address(entry.source.originator);
+        line.put(b" ");
+        if incarnation != 0 {
+            line.decimal(u64::from(incarnation));
+            line.put(b".");
+        }
+        line.decimal(counter);
+        match (content.rank(), is_mac) {
+            (0, _) => line.put(b" withdrawn"),
+            (_, false) => line.put(b" up"),
+            (1, _) => line.put(b" dynamic "),
+            _ => line.put(b" static "),
+        }
+        if is_mac && content.rank() > 0 {
+            line.decimal(u64::from(content.sequence()));
+        }
+        if entry.source.ip.version > 0 {
+            line.put(b" ip ");
+            line.ip(&entry.source.ip);
+        }
+        if content.label2() > 0 {
+            line.put(b" label2 ");
+            line.decimal(u64::from(content.label2() - 1));
+        }
+        line.put(b"\n");
+    }
+
+    /// Makes room for a line.
+    #[inline]
+    fn room(&mut self) -> io::Result<()> {
+        if self.held.len + LINE <= PIECE { Ok(()) } else { self.pass_on() }
+    }
+
+    fn pass_on(&mut self) -> io::Result<()> {
+        self.out.write_all(&self.held.octets[..self.held.len])?;
+        self.held.len = 0;
+        Ok(())
+    }
+}
+
+#[inline(always)]
+fn part<const N: usize>(octets: &[u8], at: usize) -> [u8; N] {
+    octets[at..at + N].try_into().unwrap()
+}
+
+#[inline(always)]
+fn big16(octets: &[u8], at: usize) -> u32 {
+    u32::from(u16::from_be_bytes(part(octets, at)))
+}
+
+#[inline(always)]
+fn big24(octets: &[u8], at: usize) -> u32 {
+    let [a, b, c] = part(octets, at);
+    u32::from_be_bytes([0, a, b, c])
+}
+
+#[inline(always)]
+fn big32(octets: &[u8], at: usize) -> u32 {
+    u32::from_be_bytes(part(octets, at))
+}
+
+#[inline(always)]
+fn big64(octets: &[u8], at: usize) -> u64 {
+    u64::from_be_bytes(part(octets, at))
+}
+
+/// The fault that the beginning of a record shows, once its six octets are there.
+fn fault(header: &[u8]) -> Option<u8> {
+    let least = if header[2] == 1 { 15 } else { 19 };
+    match () {
+        () if header[..2] != [0x45, 0x56] => Some(1),
+        () if !(1..=3).contains(&header[2]) => Some(2),
+        () if !(1..=2).contains(&header[3]) => Some(3),
+        () if !(least..=512).contains(&big16(header, 4)) => Some(4),
+        () => None,
+    }
+}
+
+/// What a route's length says of it: how many octets its IP address has, and whether a second label follows.
+fn form(is_mac: bool, length: u8) -> Option<(usize, bool)> {
+    match (is_mac, length) {
+        (true, 33) => Some((0, false)),
+        (true, 36) => Some((0, true)),
+        (true, 37) => Some((4, false)),
+        (true, 40) => Some((4, true)),
+        (true, 49) => Some((16, false)),
+        (true, 52) => Some((16, true)),
+        (false, 17) => Some((4, false)),
+        _ => None,
+    }
+}
+
+/// A record behind its six first octets.
+fn read_one(version: u8, withdrawn: bool, body: &[u8]) -> Result<(Subject, Entry), u8> {
     let after = if version == 1 { 4 } else { 8 };
-    let originator = Ipv4Addr::from(number(&body[..4]) as u32);
-    let incarnation = number(&body[4..after]) as u32;
-    let counter = number(&body[after..after + 8]);
-    let vni = number(&body[after + 8..after + 11]) as u32;
+    let originator = big32(body, 0);
+    let incarnation = if version == 1 { 0 } else { big32(body, 4) };
+    let counter = big64(body, after);
+    let vni = big24(body, after + 8);
     let route = &body[after + 11..];
     if !route.is_empty() && route[0] != 2 && route[0] != 3 {
         return Err(5);
     }
-    if route.len() < 2 || route.len() < 2 + route[1] as usize {
+    if route.len() < 2 || route.len() < 2 + usize::from(route[1]) {
         return Err(6);
     }
-    let (length, is_mac) = (route[1], route[0] == 2);
-    let (ip_octets, has_label2) = match (is_mac, length) {
-        (true, 33) => (0, false),
-        (true, 36) => (0, true),
-        (true, 37) => (4, false),
-        (true, 40) => (4, true),
-        (true, 49) => (16, false),
-        (true, 52) => (16, true),
-        (false, 17) => (4, false),
-        _ => return Err(6),
-    };
-    let (body, tail) = route[2..].split_at(length as usize);
-    let ip_at = if is_mac { 29 } else { 12 };
+    let is_mac = route[0] == 2;
+    let (ip_octets, has_label2) = form(is_mac, route[1]).ok_or(6)?;
+    let (route, tail) = route[2..].split_at(usize::from(route[1]));
     let is_community = is_mac && !withdrawn && tail.len() == 8 && tail[..2] == [6, 0];
-    if body[ip_at] as usize != 8 * ip_octets || !(tail.is_empty() || is_community) {
+    if usize::from(route[if is_mac { 29 } else { 12 }]) != 8 * ip_octets || !(tail.is_empty() || is_community) {
         return Err(6);
     }
-    if body[..2] != [0, 1] || body[2..6] != originator.octets() || (!is_mac && body[13..17] != originator.octets()) {
+    if route[..2] != [0, 1] || big32(route, 2) != originator || (!is_mac && big32(route, 13) != originator) {
         return Err(7);
     }
-    if is_mac && !withdrawn && body[8..18] != [0; 10] {
+    let advert_of_mac = is_mac && !withdrawn;
+    if advert_of_mac && route[8..18] != [0; 10] {
         return Err(8);
     }
-    let tag = if is_mac { 18 } else { 8 };
-    if body[tag..tag + 4] != [0; 4] {
+    if big32(route, if is_mac { 18 } else { 8 }) != 0 {
         return Err(9);
     }
-    if is_mac && !withdrawn && number(&body[30 + ip_octets..33 + ip_octets]) as u32 != vni {
+    if advert_of_mac && big24(route, 30 + ip_octets) != vni {
         return Err(10);
     }
-    if is_mac && (body[22] != 48 || body[23] & 1 == 1) {
+    if is_mac && (route[22] != 48 || route[23] & 1 == 1) {
         return Err(11);
     }
     if counter == 0 {
         return Err(14);
     }
-    let mac = is_mac.then(|| body[23..29].try_into().unwrap());
-    let ip = if !is_mac || (withdrawn && version < 3) {
-        None
-    } else {
-        match ip_octets {
-            0 => None,
-            4 => Some(Ip::V4(Ipv4Addr::from(number(&body[30..34]) as u32))),
-            _ => Some(Ip::V6(Ipv6Addr::from(<[u8; 16]>::try_from(&body[30..46]).unwrap()))),
-        }
-    };
-    let advert = (!withdrawn).then(|| Advert {
-        is_static: is_community && tail[2] & 1 == 1,
-        sequence: if is_community { number(&tail[4..]) as u32 } else { 0 },
-        label2: has_label2.then(|| number(&body[33 + ip_octets..]) as u32),
-    });
-    Ok((Register { vni, mac, originator, ip }, Value { incarnation, counter, advert }))
+    let place = if is_mac { (u64::from(big32(route, 23)) << 16 | u64::from(big16(route, 27))) + 1 } else { 0 };
+    let mut ip = NO_IP;
+    if is_mac && ip_octets > 0 && !(withdrawn && version < 3) {
+        ip.version = if ip_octets == 4 { 4 } else { 6 };
+        ip.octets[16 - ip_octets..].copy_from_slice(&route[30..30 + ip_octets]);
+    }
+    let mut content = Content::new(0, 0, 0);
+    if !withdrawn {
+        let (is_static, sequence) = if is_community { (tail[2] & 1, big32(tail, 4)) } else { (0, 0) };
+        let label2 = if has_label2 { 1 + big24(route, 33 + ip_octets) } else { 0 };
+        content = Content::new(1 + u64::from(is_static), sequence, label2);
+    }
+    let value = Value { incarnation, counter, content };
+    Ok((subject(vni, place), Entry { source: Source { originator, ip }, value }))
 }
 
-fn write_mac(out: &mut impl Write, mac: [u8; 6]) -> io::Result<()> {
-    let [a, b, c, d, e, g] = mac;
-    write!(out, "{a:02x}:{b:02x}:{c:02x}:{d:02x}:{e:02x}:{g:02x}")
+/// The input in large pieces. What is left of one is moved to the front before the next one is read.
+struct Input {
+    input: StdinLock<'static>,
+    piece: Box<[u8]>,
+    from: usize,
+    to: usize,
 }
 
-fn write_register(out: &mut impl Write, register: &Register, value: &Value) -> io::Result<()> {
-    match register.mac {
-        None => write!(out, "flood {} {} ", register.vni, register.originator)?,
-        Some(mac) => {
-            write!(out, "mac {} ", register.vni)?;
-            write_mac(out, mac)?;
-            write!(out, " {} ", register.originator)?;
-        }
-    }
-    if value.incarnation != 0 {
-        write!(out, "{}.", value.incarnation)?;
-    }
-    write!(out, "{} ", value.counter)?;
-    match (value.advert, register.mac) {
-        (None, _) => write!(out, "withdrawn")?,
-        (Some(_), None) => write!(out, "up")?,
-        (Some(advert), _) => write!(out, "{} {}", if advert.is_static { "static" } else { "dynamic" }, advert.sequence)?,
-    }
-    if let Some(ip) = register.ip {
-        write!(out, " ip {ip}")?;
-    }
-    if let Some(label2) = value.advert.and_then(|advert| advert.label2) {
-        write!(out, " label2 {label2}")?;
-    }
-    writeln!(out)
-}
-
-fn write_report(out: &mut impl Write, table: &BTreeMap<Register, Value>) -> io::Result<()> {
-    let mut registers = table.iter().peekable();
-    let mut best: Option<(bool, u32, Ipv4Addr)> = None;
-    while let Some((register, value)) = registers.next() {
-        write_register(out, register, value)?;
-        let Some(mac) = register.mac else { continue };
-        if let Some(advert) = value.advert {
-            let better = best.is_none_or(|(is_static, sequence, _)| (advert.is_static, advert.sequence) > (is_static, sequence));
-            if better {
-                best = Some((advert.is_static, advert.sequence, register.originator));
+impl Input {
+    /// The octets that are left, at least this many unless the input ends before.
+    fn peek(&mut self, least: usize) -> io::Result<&[u8]> {
+        while self.to - self.from < least {
+            self.piece.copy_within(self.from..self.to, 0);
+            (self.from, self.to) = (0, self.to - self.from);
+            match self.input.read(&mut self.piece[self.to..])? {
+                0 => break,
+                n => self.to += n,
             }
         }
-        if registers.peek().is_none_or(|(next, _)| (next.vni, next.mac) != (register.vni, register.mac)) {
-            write!(out, "owner {} ", register.vni)?;
-            write_mac(out, mac)?;
-            match best.take() {
-                Some((_, _, owner)) => writeln!(out, " {owner}")?,
-                None => writeln!(out, " none")?,
-            }
-        }
+        Ok(&self.piece[self.from..self.to])
     }
-    out.flush()
 }
 
-/// How many octets could be read; fewer than asked for only at the end of the input.
-fn read_full(input: &mut impl Read, buffer: &mut [u8]) -> io::Result<usize> {
-    let mut filled = 0;
-    while filled < buffer.len() {
-        match input.read(&mut buffer[filled..])? {
-            0 => break,
-            n => filled += n,
-        }
-    }
-    Ok(filled)
-}
-
-fn main() -> io::Result<ExitCode> {
-    let originators: HashSet<Ipv4Addr> = env::args().nth(1).expect("originators").split(',').map(|a| a.parse().expect("an address")).collect();
-    let mut input = BufReader::with_capacity(1 << 16, io::stdin().lock());
-    let mut notes = BufWriter::new(io::stderr().lock());
-    let mut table = BTreeMap::new();
-    let mut status = 0;
+/// Takes the records of the input, and answers the status.
+fn take_all(input: &mut Input, originators: &[u32], table: &mut Table, notes: &mut Vec<u8>) -> io::Result<u8> {
     for count in 1u64.. {
-        let mut header = [0; 6];
-        let n = read_full(&mut input, &mut header)?;
-        if n == 0 {
+        let mut octets = input.peek(6)?;
+        if octets.is_empty() {
             break;
         }
         // what a short beginning shows isn't looked at: the generator's streams end between records
-        if n < 6 {
-            writeln!(notes, "truncated {n} at record {count}")?;
-            status = 1;
-            break;
-        }
-        if let Some(fault) = fault(&header) {
-            writeln!(notes, "fault {fault} at record {count}")?;
-            status = 1;
-            break;
-        }
-        let mut body = [0; 512];
-        let length = number(&header[4..]) as usize;
-        let n = read_full(&mut input, &mut body[..length])?;
-        if n < length {
-            writeln!(notes, "truncated {} at record {count}", n + 6)?;
-            status = 1;
-            break;
-        }
-        match read_one(header[2], header[3] == 2, &body[..length]) {
-            Err(refusal) => writeln!(notes, "record {count} refused {refusal}")?,
-            Ok((register, _)) if !originators.contains(&register.originator) => writeln!(notes, "record {count} refused 12")?,
-            Ok((register, value)) => {
-                table.entry(register).and_modify(|old: &mut Value| *old = value.max(*old)).or_insert(value);
+        let mut length = 6;
+        if octets.len() >= 6 {
+            if let Some(fault) = fault(octets) {
+                writeln!(notes, "fault {fault} at record {count}")?;
+                return Ok(1);
+            }
+            length += big16(octets, 4) as usize;
+            if octets.len() < length {
+                octets = input.peek(length)?;
             }
         }
+        if octets.len() < length {
+            writeln!(notes, "truncated {} at record {count}", octets.len())?;
+            return Ok(1);
+        }
+        match read_one(octets[2], octets[3] == 2, &octets[6..length]) {
+            Err(refusal) => writeln!(notes, "record {count} refused {refusal}")?,
+            Ok((_, entry)) if !originators.contains(&entry.source.originator) => writeln!(notes, "record {count} refused 12")?,
+            Ok((subject, entry)) => table.take(subject, entry),
+        }
+        input.from += length;
     }
-    notes.flush()?;
-    write_report(&mut BufWriter::new(io::stdout().lock()), &table)?;
+    Ok(0)
+}
+
+fn main() -> io::Result<ExitCode> {
+    let words: Vec<String> = env::args().skip(1).collect();
+    let [table, list] = &words[..] else { panic!("usage: plain ordered|flat ORIGINATORS") };
+    let originators: Vec<u32> = list.split(',').map(|a| a.parse::<std::net::Ipv4Addr>().expect("an address").into()).collect();
+    let mut table = match table.as_str() {
+        "ordered" => Table::Ordered(BTreeMap::new()),
+        "flat" => Table::Flat(HashMap::default()),
+        other => panic!("no table is called {other}"),
+    };
+    let mut input = Input { input: io::stdin().lock(), piece: vec![0; PIECE].into(), from: 0, to: 0 };
+    let mut notes = Vec::new();
+    let status = take_all(&mut input, &originators, &mut table, &mut notes)?;
+    io::stderr().write_all(&notes)?;
+    let mut lines = Lines { out: io::stdout().lock(), held: Box::new(Text::new()) };
+    table.report(&mut lines)?;
+    lines.pass_on()?;
     Ok(ExitCode::from(status))
 }
