@@ -1,7 +1,6 @@
 //! A writer that gives its octets to another one in large pieces.
-ghost use Rattle.std.specs.Prelude.{◌≡◌, ◌+◌, ◌<◌, ◌^◌, [], OnOk};
-ghost use Rattle.std.specs.Io.KnownBytes.{append_known};
-ghost use Rattle.ether_wire.specs.Ends.{failures_after};
+ghost use Rattle.std.specs.Prelude.{◌≡◌, []};
+ghost use Rattle.ether_wire.specs.Ends.{End, IsOpen, Puts};
 
 use crate::ends::{Device, Out};
 use arrayvec::ArrayVec;
@@ -21,12 +20,11 @@ pub struct Buffered<W> {
 }
 
 impl<W: Out> Buffered<W> {
-    ghost use Rattle.ether_wire.specs.Buffered.{buffered_written, buffered_failed};
+    ghost use Rattle.ether_wire.specs.Buffered.{buffered_end};
 
     /// A writer that holds nothing yet.
     pub fn new(inner: W) -> Self
-        ensures written { buffered_written W.written result ≡ W.written inner }
-        ensures failed { buffered_failed W.failed result ≡ W.failed inner }
+        ensures { buffered_end W.end result ≡ W.end inner }
     {
         Buffered {
             inner,
@@ -36,28 +34,27 @@ impl<W: Out> Buffered<W> {
 
     /// Passes on what it holds, in one call if it is any, and gives the other writer back.
     pub fn finish(mut self) -> (W, Result<(), Device>)
-        requires { buffered_failed W.failed self + 1 < 2 ^ 64 }
-        ensures passes { OnOk result.1 (W.written result.0 ≡ buffered_written W.written self) }
-        ensures failures { W.failed result.0 ≡ failures_after (buffered_failed W.failed self) result.1 }
+        requires { IsOpen (buffered_end W.end self) }
+        ensures { Puts (buffered_end W.end self) (W.end result.0) [] result.1 }
     {
-        let result = self.flush();
+        let result = self.pass_on();
         let Buffered { inner, held: _ } = self;
         (inner, result)
     }
 
     /// Gives the other writer back, and lets go what it holds.
     pub fn abandon(self) -> W
-        ensures { W.failed result ≡ buffered_failed W.failed self }
+        ensures { (W.end result).failures ≡ (buffered_end W.end self).failures }
     {
         let Buffered { inner, held: _ } = self;
         inner
     }
 
+    #[tactic(auto, using(crate::proofs::Appending::with_text_none))]
     // Passes on what it holds. It holds nothing afterwards, whether that failed or not.
-    fn flush(&mut self) -> Result<(), Device>
-        requires { W.failed self.old.inner + 1 < 2 ^ 64 }
-        ensures passes { OnOk result (W.written self.new.inner ≡ append_known (W.written self.old.inner) self.old.held.items) }
-        ensures failures { W.failed self.new.inner ≡ failures_after (W.failed self.old.inner) result }
+    fn pass_on(&mut self) -> Result<(), Device>
+        requires { IsOpen (W.end self.old.inner) }
+        ensures passes { Puts (W.end self.old.inner) (W.end self.new.inner) self.old.held.items result }
         ensures empty { self.new.held.items ≡ [] }
     {
         if self.held.is_empty() {
@@ -70,24 +67,28 @@ impl<W: Out> Buffered<W> {
 }
 
 impl<W: Out> Out for Buffered<W> {
-    ghost use Rattle.ether_wire.specs.Buffered.{buffered_written, buffered_failed};
+    ghost use Rattle.ether_wire.specs.Buffered.{buffered_end};
 
-    ghost written = { buffered_written W.written };
-
-    ghost failed = { buffered_failed W.failed };
+    ghost end = { buffered_end W.end };
 
     fn failures(&self) -> u64 {
         self.inner.failures()
     }
 
+    #[tactic(auto, using(crate::proofs::Appending::with_text_twice, crate::proofs::Appending::with_text_none))]
     fn put(&mut self, octets: &[u8]) -> Result<(), Device> {
         if self.held.try_extend_from_slice(octets).is_ok() {
             return Ok(());
         }
-        self.flush()?;
+        self.pass_on()?;
         match self.held.try_extend_from_slice(octets) {
             Ok(()) => Ok(()),
             Err(_) => self.inner.put(octets),
         }
+    }
+
+    #[tactic(auto, using(crate::proofs::Appending::with_text_none))]
+    fn flush(&mut self) -> Result<(), Device> {
+        self.pass_on()
     }
 }

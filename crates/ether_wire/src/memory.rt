@@ -1,7 +1,6 @@
 //! Ends over memory, which tell their octets.
-ghost use Rattle.std.specs.Prelude.{◌≡◌, ◌+◌, ◌<◌, ◌≤◌, ◌^◌, ◌↔◌, ◌++◌, [], length, Some, IsOk, OnOk, OnErr};
-ghost use Rattle.std.specs.Io.KnownBytes.{append_known};
-ghost use Rattle.ether_wire.specs.Ends.{failures_after};
+ghost use Rattle.std.specs.Prelude.{◌≡◌, ◌+◌, ◌≤◌, ◌↔◌, [], length, Some, IsOk, OnErr};
+ghost use Rattle.ether_wire.specs.Ends.{IsOpen, Puts, end_of, source_of};
 
 use crate::ends::{Device, In, Out};
 use arrayvec::ArrayVec;
@@ -10,23 +9,27 @@ use arrayvec::ArrayVec;
 #[derive(Drop)]
 pub struct Octets<'a> {
     left: &'a [u8],
+    reads: u64,
 }
 
 impl<'a> Octets<'a> {
-    ghost use Rattle.ether_wire.specs.Memory.{octets_left};
+    ghost use Rattle.ether_wire.specs.Memory.{octets_end};
 
     /// A reader with all of the slice before it.
     pub fn new(octets: &'a [u8]) -> Self
-        ensures { octets_left result ≡ octets.now }
+        ensures { octets_end result ≡ source_of (Some octets.now) 0 0 }
     {
-        Octets { left: octets }
+        Octets {
+            left: octets,
+            reads: 0,
+        }
     }
 }
 
 impl In for Octets<'_> {
-    ghost left = { λ r. Some r.left.now };
+    ghost use Rattle.ether_wire.specs.Memory.{octets_end};
 
-    ghost failed = { λ _. 0 };
+    ghost end = { octets_end };
 
     fn failures(&self) -> u64 {
         0
@@ -37,6 +40,7 @@ impl In for Octets<'_> {
         let (front, rest) = self.left.split_at(n);
         buffer[..n].copy_from_slice(front);
         self.left = rest;
+        self.reads += 1;
         Ok(n)
     }
 }
@@ -50,12 +54,11 @@ pub struct Page<const N: usize> {
 }
 
 impl<const N: usize> Page<N> {
-    ghost use Rattle.ether_wire.specs.Memory.{page_octets, page_failures};
+    ghost use Rattle.ether_wire.specs.Memory.{page_octets, page_end};
 
     /// An empty page.
     pub fn new() -> Self
-        ensures empty { page_octets result ≡ [] }
-        ensures unfailed { page_failures result ≡ 0 }
+        ensures { page_end result ≡ end_of (Some []) 0 }
     {
         Page {
             octets: ArrayVec::new(),
@@ -72,20 +75,17 @@ impl<const N: usize> Page<N> {
 }
 
 impl<const N: usize> Out for Page<N> {
-    ghost use Rattle.ether_wire.specs.Memory.{page_octets};
+    ghost use Rattle.ether_wire.specs.Memory.{page_octets, page_end};
 
-    ghost written = { λ p. Some p.octets.items };
-
-    ghost failed = { λ p. p.failures };
+    ghost end = { page_end };
 
     fn failures(&self) -> u64 {
         self.failures
     }
 
     fn put(&mut self, octets: &[u8]) -> Result<(), Device>
-        requires { self.old.failures + 1 < 2 ^ 64 }
-        ensures appends { OnOk result (Some (page_octets self.new) ≡ append_known (Some (page_octets self.old)) octets.now) }
-        ensures failures { self.new.failures ≡ failures_after self.old.failures result }
+        requires { IsOpen (page_end self.old) }
+        ensures puts { Puts (page_end self.old) (page_end self.new) octets.now result }
         ensures fits { IsOk result ↔ (length (page_octets self.old) + length octets.now ≤ N) }
         ensures err { OnErr result (page_octets self.new ≡ page_octets self.old) }
     {

@@ -1,7 +1,6 @@
 //! A writer that gives its octets to another one in large pieces.
-ghost use Rattle.std.specs.Prelude.{◌≡◌, ◌+◌, ◌<◌, ◌^◌, None, OnOk, false, if◌then◌else◌};
-ghost use Rattle.std.specs.Io.KnownBytes.{append_known};
-ghost use Rattle.ether_wire.specs.Ends.{failures_after};
+ghost use Rattle.std.specs.Prelude.{◌≡◌, ◌++◌, None, false, if◌then◌else◌};
+ghost use Rattle.ether_wire.specs.Ends.{IsOpen, Puts, end_of};
 
 use crate::{Buffered, Device, Out, Page};
 
@@ -28,9 +27,7 @@ impl Calls {
 }
 
 impl Out for Calls {
-    ghost written = { λ _. None };
-
-    ghost failed = { λ w. if w.has_failed then 1 else 0 };
+    ghost end = { λ w. end_of None (if w.has_failed then 1 else 0) };
 
     fn failures(&self) -> u64 {
         u64::from(self.has_failed)
@@ -48,9 +45,10 @@ impl Out for Calls {
 }
 
 /// Puts one after the other.
+#[tactic(auto, using(crate::proofs::Appending::with_text_twice))]
 fn put_both<O: Out>(out: &mut O, first: &[u8], second: &[u8]) -> Result<(), Device>
-    requires { O.failed out.old + 1 < 2 ^ 64 }
-    ensures { O.failed out.new ≡ failures_after (O.failed out.old) result }
+    requires { IsOpen (O.end out.old) }
+    ensures { Puts (O.end out.old) (O.end out.new) (first.now ++ second.now) result }
 {
     out.put(first)?;
     out.put(second)
