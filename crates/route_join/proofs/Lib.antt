@@ -1,4 +1,3 @@
-pub mod Appending
 pub mod Stations
 pub mod Orders
 pub mod Tables

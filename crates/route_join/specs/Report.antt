@@ -63,6 +63,10 @@ station_text vni mac = decimal vni ++ spaced (mac_text mac)
 abbrev pub origin_text : ℕ → Value → List ℕ
 origin_text originator v = addr_text originator ++ spaced (counter_text v)
 
+-- what is said of a MAC address, with the IP address of its key and the second label
+abbrev pub mac_words : Option Ip → Content → List ℕ
+mac_words ip content = spaced (mac_state content) ++ ip_words ip ++ label2_words (label2_of content)
+
 -- ---- lines
 
 -- `flood VNI ORIGINATOR COUNTER up`, or `withdrawn` in the place of `up`
@@ -72,8 +76,7 @@ flood_line vni originator v = codes "flood " ++ decimal vni ++ spaced (origin_te
 -- `mac VNI MAC ORIGINATOR COUNTER STATE`, then ` ip IP` and ` label2 LABEL` where there are such
 abbrev pub mac_line : ℕ → ℕ → Option Ip → ℕ → Value → List ℕ
 mac_line vni mac ip originator v =
-    codes "mac " ++ station_text vni mac ++ spaced (origin_text originator v) ++ spaced (mac_state v.content)
-    ++ ip_words ip ++ label2_words (label2_of v.content) ++ codes "\n"
+    codes "mac " ++ station_text vni mac ++ spaced (origin_text originator v) ++ mac_words ip v.content ++ codes "\n"
 
 abbrev pub key_line : Key → ℕ → Value → List ℕ
 key_line (Flood vni) originator v = flood_line vni originator v

@@ -1,6 +1,5 @@
 ghost use Rattle.std.specs.Prelude.{◌≡◌, ◌+◌, ◌<◌, ◌^◌, IfOk, OnOk, OnErr, None, if◌then◌else◌};
-ghost use Rattle.std.specs.Io.KnownBytes.{append_known};
-ghost use Rattle.ether_wire.specs.Ends.{failures_after};
+ghost use Rattle.ether_wire.specs.Ends.{IsOpen, Puts};
 ghost use Rattle.std.specs.FinMap.Entries.{find};
 ghost use Rattle.route_wire.specs.Order.{register_cmp};
 ghost use Rattle.route_join.specs.Table.{entries_of, is_news};
@@ -56,13 +55,12 @@ pub(crate) fn take_in(
 
 /// Writes the report of a group: the lines of its registers, and behind them, where they are about
 /// an address, that of its owner.
-#[tactic(auto, using(ether_wire::proofs::Appending::append_known_twice))]
+#[tactic(auto, using(ether_wire::proofs::Appending::with_text_twice))]
 fn put_group<O: Out>(out: &mut O, subject: &Subject, group: &Group) -> Result<(), Device>
-    requires room { O.failed out.old + 1 < 2 ^ 64 }
+    requires room { IsOpen (O.end out.old) }
     requires about { AreAbout subject.now (entries_of group.now) }
     requires some { IsSome (entries_of group.now) }
-    ensures appends { OnOk result (O.written out.new ≡ append_known (O.written out.old) (report_lines (entries_of group.now))) }
-    ensures failures { O.failed out.new ≡ failures_after (O.failed out.old) result }
+    ensures { Puts (O.end out.old) (O.end out.new) (report_lines (entries_of group.now)) result }
 {
     put_updates(out, group.updates())?;
     match subject.mac {
@@ -76,10 +74,9 @@ pub(crate) fn put_groups<O: Out>(
     out: &mut O,
     groups: &BTreeMap<Subject, Group>,
 ) -> Result<(), Device>
-    requires room { O.failed out.old + 1 < 2 ^ 64 }
+    requires room { IsOpen (O.end out.old) }
     requires groups { AreGroups groups.now.entries }
-    ensures appends { OnOk result (O.written out.new ≡ append_known (O.written out.old) (group_lines groups.now.entries)) }
-    ensures failures { O.failed out.new ≡ failures_after (O.failed out.old) result }
+    ensures { Puts (O.end out.old) (O.end out.new) (group_lines groups.now.entries) result }
 {
     for (subject, group) in groups {
         put_group(out, subject, group)?;

@@ -1,21 +1,19 @@
 //! The text of a report, piece by piece. It takes no memory.
-ghost use Rattle.std.specs.Prelude.{◌≡◌, ◌+◌, ◌<◌, ◌^◌, ◌++◌, OnOk, codes, decimal};
-ghost use Rattle.std.specs.Io.KnownBytes.{append_known};
-ghost use Rattle.ether_wire.specs.Ends.{failures_after};
+ghost use Rattle.std.specs.Prelude.{◌≡◌, ◌++◌, codes, decimal};
+ghost use Rattle.ether_wire.specs.Ends.{IsOpen, Puts};
 ghost use Rattle.route_wire.specs.Order.{label2_of};
 ghost use Rattle.route_join.specs.Table.{entries_of};
 ghost use Rattle.route_join.specs.Lines.{register_lines};
-ghost use Rattle.route_join.specs.Report.{spaced, groups_text, addr6_text, ip_text, counter_text, flood_state, mac_state, ip_words, label2_words, station_text, origin_text, flood_line, mac_line, register_line, owner_name, owner_line};
+ghost use Rattle.route_join.specs.Report.{spaced, groups_text, addr6_text, ip_text, counter_text, flood_state, mac_state, ip_words, label2_words, station_text, origin_text, mac_words, flood_line, mac_line, register_line, owner_name, owner_line};
 
 use ether_wire::{Addr, Device, Mac, Out, Vni, put_addr, put_decimal, put_hex_group, put_mac};
 use route_wire::{Addr6, Advert, Content, Ip, Key, Register, Update, Value};
 
 /// Writes four groups of four hexadecimal digits with colons.
-#[tactic(auto, using(ether_wire::proofs::Appending::append_known_twice), unfolding(crate::specs::Report::groups_text))]
+#[tactic(auto, using(ether_wire::proofs::Appending::with_text_twice), unfolding(crate::specs::Report::groups_text))]
 fn put_groups<O: Out>(out: &mut O, number: u64) -> Result<(), Device>
-    requires { O.failed out.old + 1 < 2 ^ 64 }
-    ensures appends { OnOk result (O.written out.new ≡ append_known (O.written out.old) (groups_text number)) }
-    ensures failures { O.failed out.new ≡ failures_after (O.failed out.old) result }
+    requires { IsOpen (O.end out.old) }
+    ensures { Puts (O.end out.old) (O.end out.new) (groups_text number) result }
 {
     put_hex_group(out, (number / 0x1_0000_0000_0000 % 0x1_0000) as u16)?;
     out.put(b":")?;
@@ -27,11 +25,10 @@ fn put_groups<O: Out>(out: &mut O, number: u64) -> Result<(), Device>
 }
 
 /// Writes eight groups of four hexadecimal digits with colons.
-#[tactic(auto, using(ether_wire::proofs::Appending::append_known_twice))]
+#[tactic(auto, using(ether_wire::proofs::Appending::with_text_twice))]
 fn put_addr6<O: Out>(out: &mut O, address: Addr6) -> Result<(), Device>
-    requires { O.failed out.old + 1 < 2 ^ 64 }
-    ensures appends { OnOk result (O.written out.new ≡ append_known (O.written out.old) (addr6_text address)) }
-    ensures failures { O.failed out.new ≡ failures_after (O.failed out.old) result }
+    requires { IsOpen (O.end out.old) }
+    ensures { Puts (O.end out.old) (O.end out.new) (addr6_text address) result }
 {
     let number = address.number();
     put_groups(out, (number / 0x1_0000_0000_0000_0000) as u64)?;
@@ -40,9 +37,8 @@ fn put_addr6<O: Out>(out: &mut O, address: Addr6) -> Result<(), Device>
 }
 
 fn put_ip<O: Out>(out: &mut O, ip: Ip) -> Result<(), Device>
-    requires { O.failed out.old + 1 < 2 ^ 64 }
-    ensures appends { OnOk result (O.written out.new ≡ append_known (O.written out.old) (ip_text ip)) }
-    ensures failures { O.failed out.new ≡ failures_after (O.failed out.old) result }
+    requires { IsOpen (O.end out.old) }
+    ensures { Puts (O.end out.old) (O.end out.new) (ip_text ip) result }
 {
     match ip {
         Ip::V4(address) => put_addr(out, address),
@@ -51,11 +47,10 @@ fn put_ip<O: Out>(out: &mut O, ip: Ip) -> Result<(), Device>
 }
 
 /// Writes the IP address of a key that has one.
-#[tactic(auto, using(ether_wire::proofs::Appending::append_known_twice, crate::proofs::Appending::append_known_none))]
+#[tactic(auto, using(ether_wire::proofs::Appending::with_text_twice, ether_wire::proofs::Appending::with_text_none))]
 fn put_ip_words<O: Out>(out: &mut O, ip: Option<Ip>) -> Result<(), Device>
-    requires { O.failed out.old + 1 < 2 ^ 64 }
-    ensures appends { OnOk result (O.written out.new ≡ append_known (O.written out.old) (ip_words ip)) }
-    ensures failures { O.failed out.new ≡ failures_after (O.failed out.old) result }
+    requires { IsOpen (O.end out.old) }
+    ensures { Puts (O.end out.old) (O.end out.new) (ip_words ip) result }
 {
     match ip {
         None => Ok(()),
@@ -67,11 +62,10 @@ fn put_ip_words<O: Out>(out: &mut O, ip: Option<Ip>) -> Result<(), Device>
 }
 
 /// Writes the second label of an advert that has one.
-#[tactic(auto, using(ether_wire::proofs::Appending::append_known_twice, crate::proofs::Appending::append_known_none))]
+#[tactic(auto, using(ether_wire::proofs::Appending::with_text_twice, ether_wire::proofs::Appending::with_text_none))]
 fn put_label2_words<O: Out>(out: &mut O, label2: Option<Vni>) -> Result<(), Device>
-    requires { O.failed out.old + 1 < 2 ^ 64 }
-    ensures appends { OnOk result (O.written out.new ≡ append_known (O.written out.old) (label2_words label2)) }
-    ensures failures { O.failed out.new ≡ failures_after (O.failed out.old) result }
+    requires { IsOpen (O.end out.old) }
+    ensures { Puts (O.end out.old) (O.end out.new) (label2_words label2) result }
 {
     match label2 {
         None => Ok(()),
@@ -83,11 +77,10 @@ fn put_label2_words<O: Out>(out: &mut O, label2: Option<Vni>) -> Result<(), Devi
 }
 
 /// Writes a network and a MAC address in it.
-#[tactic(auto, using(ether_wire::proofs::Appending::append_known_twice))]
+#[tactic(auto, using(ether_wire::proofs::Appending::with_text_twice))]
 fn put_station<O: Out>(out: &mut O, vni: Vni, mac: Mac) -> Result<(), Device>
-    requires { O.failed out.old + 1 < 2 ^ 64 }
-    ensures appends { OnOk result (O.written out.new ≡ append_known (O.written out.old) (station_text vni mac)) }
-    ensures failures { O.failed out.new ≡ failures_after (O.failed out.old) result }
+    requires { IsOpen (O.end out.old) }
+    ensures { Puts (O.end out.old) (O.end out.new) (station_text vni mac) result }
 {
     put_decimal(out, u64::from(vni.number()))?;
     out.put(b" ")?;
@@ -95,11 +88,10 @@ fn put_station<O: Out>(out: &mut O, vni: Vni, mac: Mac) -> Result<(), Device>
 }
 
 /// Writes a counter, behind its incarnation where that isn't 0.
-#[tactic(auto, using(ether_wire::proofs::Appending::append_known_twice))]
+#[tactic(auto, using(ether_wire::proofs::Appending::with_text_twice))]
 fn put_counter<O: Out>(out: &mut O, value: &Value) -> Result<(), Device>
-    requires { O.failed out.old + 1 < 2 ^ 64 }
-    ensures appends { OnOk result (O.written out.new ≡ append_known (O.written out.old) (counter_text value.now)) }
-    ensures failures { O.failed out.new ≡ failures_after (O.failed out.old) result }
+    requires { IsOpen (O.end out.old) }
+    ensures { Puts (O.end out.old) (O.end out.new) (counter_text value.now) result }
 {
     if value.incarnation != 0 {
         put_decimal(out, u64::from(value.incarnation))?;
@@ -108,13 +100,13 @@ fn put_counter<O: Out>(out: &mut O, value: &Value) -> Result<(), Device>
     put_decimal(out, value.counter)
 }
 
-/// Writes an originator and the counter of its value.
-#[tactic(auto, using(ether_wire::proofs::Appending::append_known_twice))]
+/// Writes an originator and the counter of its value, with a space before them.
+#[tactic(auto, using(ether_wire::proofs::Appending::with_text_twice))]
 fn put_origin<O: Out>(out: &mut O, originator: Addr, value: &Value) -> Result<(), Device>
-    requires { O.failed out.old + 1 < 2 ^ 64 }
-    ensures appends { OnOk result (O.written out.new ≡ append_known (O.written out.old) (origin_text originator value.now)) }
-    ensures failures { O.failed out.new ≡ failures_after (O.failed out.old) result }
+    requires { IsOpen (O.end out.old) }
+    ensures { Puts (O.end out.old) (O.end out.new) (spaced (origin_text originator value.now)) result }
 {
+    out.put(b" ")?;
     put_addr(out, originator)?;
     out.put(b" ")?;
     put_counter(out, value)
@@ -122,9 +114,8 @@ fn put_origin<O: Out>(out: &mut O, originator: Addr, value: &Value) -> Result<()
 
 /// Writes what is said of a flood list.
 fn put_flood_state<O: Out>(out: &mut O, content: &Content) -> Result<(), Device>
-    requires { O.failed out.old + 1 < 2 ^ 64 }
-    ensures appends { OnOk result (O.written out.new ≡ append_known (O.written out.old) (flood_state content.now)) }
-    ensures failures { O.failed out.new ≡ failures_after (O.failed out.old) result }
+    requires { IsOpen (O.end out.old) }
+    ensures { Puts (O.end out.old) (O.end out.new) (flood_state content.now) result }
 {
     match content {
         Content::Withdrawn => out.put(b"withdrawn"),
@@ -133,11 +124,10 @@ fn put_flood_state<O: Out>(out: &mut O, content: &Content) -> Result<(), Device>
 }
 
 /// Writes what is said of a MAC address.
-#[tactic(auto, using(ether_wire::proofs::Appending::append_known_twice))]
+#[tactic(auto, using(ether_wire::proofs::Appending::with_text_twice))]
 fn put_mac_state<O: Out>(out: &mut O, content: &Content) -> Result<(), Device>
-    requires { O.failed out.old + 1 < 2 ^ 64 }
-    ensures appends { OnOk result (O.written out.new ≡ append_known (O.written out.old) (mac_state content.now)) }
-    ensures failures { O.failed out.new ≡ failures_after (O.failed out.old) result }
+    requires { IsOpen (O.end out.old) }
+    ensures { Puts (O.end out.old) (O.end out.new) (mac_state content.now) result }
 {
     match content {
         Content::Withdrawn => out.put(b"withdrawn"),
@@ -161,21 +151,31 @@ fn label2(content: &Content) -> Option<Vni>
     }
 }
 
+/// Writes what is said of a MAC address, with the IP address of its key and the second label.
+#[tactic(auto, using(ether_wire::proofs::Appending::with_text_twice))]
+fn put_mac_words<O: Out>(out: &mut O, ip: Option<Ip>, content: &Content) -> Result<(), Device>
+    requires { IsOpen (O.end out.old) }
+    ensures { Puts (O.end out.old) (O.end out.new) (mac_words ip content.now) result }
+{
+    out.put(b" ")?;
+    put_mac_state(out, content)?;
+    put_ip_words(out, ip)?;
+    put_label2_words(out, label2(content))
+}
+
 /// Writes the line of a flood list.
-#[tactic(auto, using(ether_wire::proofs::Appending::append_known_twice))]
+#[tactic(auto, using(ether_wire::proofs::Appending::with_text_twice))]
 fn put_flood_line<O: Out>(
     out: &mut O,
     vni: Vni,
     originator: Addr,
     value: &Value,
 ) -> Result<(), Device>
-    requires { O.failed out.old + 1 < 2 ^ 64 }
-    ensures appends { OnOk result (O.written out.new ≡ append_known (O.written out.old) (flood_line vni originator value.now)) }
-    ensures failures { O.failed out.new ≡ failures_after (O.failed out.old) result }
+    requires { IsOpen (O.end out.old) }
+    ensures { Puts (O.end out.old) (O.end out.new) (flood_line vni originator value.now) result }
 {
     out.put(b"flood ")?;
     put_decimal(out, u64::from(vni.number()))?;
-    out.put(b" ")?;
     put_origin(out, originator, value)?;
     out.put(b" ")?;
     put_flood_state(out, &value.content)?;
@@ -183,7 +183,7 @@ fn put_flood_line<O: Out>(
 }
 
 /// Writes the line of a MAC address.
-#[tactic(auto, using(ether_wire::proofs::Appending::append_known_twice))]
+#[tactic(auto, using(ether_wire::proofs::Appending::with_text_twice))]
 fn put_mac_line<O: Out>(
     out: &mut O,
     vni: Vni,
@@ -192,26 +192,20 @@ fn put_mac_line<O: Out>(
     originator: Addr,
     value: &Value,
 ) -> Result<(), Device>
-    requires { O.failed out.old + 1 < 2 ^ 64 }
-    ensures appends { OnOk result (O.written out.new ≡ append_known (O.written out.old) (mac_line vni mac ip originator value.now)) }
-    ensures failures { O.failed out.new ≡ failures_after (O.failed out.old) result }
+    requires { IsOpen (O.end out.old) }
+    ensures { Puts (O.end out.old) (O.end out.new) (mac_line vni mac ip originator value.now) result }
 {
     out.put(b"mac ")?;
     put_station(out, vni, mac)?;
-    out.put(b" ")?;
     put_origin(out, originator, value)?;
-    out.put(b" ")?;
-    put_mac_state(out, &value.content)?;
-    put_ip_words(out, ip)?;
-    put_label2_words(out, label2(&value.content))?;
+    put_mac_words(out, ip, &value.content)?;
     out.put(b"\n")
 }
 
 /// Writes the line of a register.
 pub(crate) fn put_update<O: Out>(out: &mut O, update: &Update) -> Result<(), Device>
-    requires { O.failed out.old + 1 < 2 ^ 64 }
-    ensures appends { OnOk result (O.written out.new ≡ append_known (O.written out.old) (register_line update.now.register update.now.value)) }
-    ensures failures { O.failed out.new ≡ failures_after (O.failed out.old) result }
+    requires { IsOpen (O.end out.old) }
+    ensures { Puts (O.end out.old) (O.end out.new) (register_line update.now.register update.now.value) result }
 {
     let Register { originator, key } = update.register();
     let value = update.value();
@@ -222,9 +216,8 @@ pub(crate) fn put_update<O: Out>(out: &mut O, update: &Update) -> Result<(), Dev
 }
 
 fn put_owner_name<O: Out>(out: &mut O, owner: Option<Addr>) -> Result<(), Device>
-    requires { O.failed out.old + 1 < 2 ^ 64 }
-    ensures appends { OnOk result (O.written out.new ≡ append_known (O.written out.old) (owner_name owner)) }
-    ensures failures { O.failed out.new ≡ failures_after (O.failed out.old) result }
+    requires { IsOpen (O.end out.old) }
+    ensures { Puts (O.end out.old) (O.end out.new) (owner_name owner) result }
 {
     match owner {
         None => out.put(b"none"),
@@ -233,16 +226,15 @@ fn put_owner_name<O: Out>(out: &mut O, owner: Option<Addr>) -> Result<(), Device
 }
 
 /// Writes the line of the owner of a MAC address.
-#[tactic(auto, using(ether_wire::proofs::Appending::append_known_twice))]
+#[tactic(auto, using(ether_wire::proofs::Appending::with_text_twice))]
 pub(crate) fn put_owner<O: Out>(
     out: &mut O,
     vni: Vni,
     mac: Mac,
     owner: Option<Addr>,
 ) -> Result<(), Device>
-    requires { O.failed out.old + 1 < 2 ^ 64 }
-    ensures appends { OnOk result (O.written out.new ≡ append_known (O.written out.old) (owner_line vni mac owner)) }
-    ensures failures { O.failed out.new ≡ failures_after (O.failed out.old) result }
+    requires { IsOpen (O.end out.old) }
+    ensures { Puts (O.end out.old) (O.end out.new) (owner_line vni mac owner) result }
 {
     out.put(b"owner ")?;
     put_station(out, vni, mac)?;
@@ -252,11 +244,10 @@ pub(crate) fn put_owner<O: Out>(
 }
 
 /// Writes the lines of updates, one after the other.
-#[tactic(auto, using(ether_wire::proofs::Appending::append_known_twice, crate::proofs::Appending::append_known_none))]
+#[tactic(auto, using(ether_wire::proofs::Appending::with_text_twice, ether_wire::proofs::Appending::with_text_none))]
 pub(crate) fn put_updates<O: Out>(out: &mut O, updates: &[Update]) -> Result<(), Device>
-    requires { O.failed out.old + 1 < 2 ^ 64 }
-    ensures appends { OnOk result (O.written out.new ≡ append_known (O.written out.old) (register_lines (entries_of updates.now))) }
-    ensures failures { O.failed out.new ≡ failures_after (O.failed out.old) result }
+    requires { IsOpen (O.end out.old) }
+    ensures { Puts (O.end out.old) (O.end out.new) (register_lines (entries_of updates.now)) result }
 {
     for update in updates {
         put_update(out, update)?;

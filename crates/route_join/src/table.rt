@@ -1,8 +1,7 @@
-ghost use Rattle.std.specs.Prelude.{◌≡◌, ◌+◌, ◌<◌, ◌^◌, ◌↔◌, false, Some, None, Ok, Err, IfOk, OnOk, OnErr, IfErr, MatchOption, ℕ, true};
+ghost use Rattle.std.specs.Prelude.{◌≡◌, ◌+◌, ◌↔◌, false, Some, None, Ok, Err, IfOk, OnOk, OnErr, IfErr, MatchOption, ℕ, true};
 ghost use Rattle.std.specs.List.{slice_get};
 ghost use Rattle.std.specs.FinMap.{empty};
-ghost use Rattle.std.specs.Io.KnownBytes.{append_known};
-ghost use Rattle.ether_wire.specs.Ends.{failures_after};
+ghost use Rattle.ether_wire.specs.Ends.{IsOpen, Puts};
 ghost use Rattle.route_join.specs.Report.{report_of};
 ghost use Rattle.route_join.specs.Table.{AreOriginators, AreWellFormed, IsListed, register_of, value_at, update_at, is_listed, with_update, with_updates};
 ghost use Rattle.route_join.specs.Owner.{owner, IsOwner, IsUnowned};
@@ -262,9 +261,8 @@ impl Table {
     ///
     /// `Device` exactly where a call of the writer failed; then no further call is made.
     pub fn write_report<W: Out>(&self, out: &mut W) -> Result<(), Device>
-        requires { W.failed out.old + 1 < 2 ^ 64 }
-        ensures appends { OnOk result (W.written out.new ≡ append_known (W.written out.old) (report_of self.now)) }
-        ensures failures { W.failed out.new ≡ failures_after (W.failed out.old) result }
+        requires { IsOpen (W.end out.old) }
+        ensures { Puts (W.end out.old) (W.end out.new) (report_of self.now) result }
     {
         put_groups(out, &self.groups)
     }

@@ -1,5 +1,5 @@
 use Rattle.std.proofs.Common.{◌≡◌, drop}
-use Rattle.std.specs.Io.KnownBytes.{append_known}
+use Rattle.ether_wire.specs.Ends.{with_text}
 use Rattle.route_join.specs.Table.{entries_of}
 use Rattle.route_join.specs.Lines.{register_lines}
 use Rattle.route_join.proofs.report.put_updates.Given as goal
@@ -7,6 +7,6 @@ use Rattle.route_join.proofs.report.put_updates.Given as goal
 -- what is left to write makes the whole of what was written
 abbrev pub invariant-loop-update : goal.invariant-loop-update
 invariant-loop-update g l = record {
-  whole : append_known (g.O.Out.written l.initial.out) (register_lines (entries_of l.updates)) ≡ append_known (g.O.Out.written l.out) (register_lines (entries_of (drop l.update-index l.updates)));
-  failed : g.O.Out.failed l.out ≡ g.O.Out.failed l.initial.out;
+  whole : with_text (g.O.Out.end l.initial.out) (register_lines (entries_of l.updates)) ≡ with_text (g.O.Out.end l.out) (register_lines (entries_of (drop l.update-index l.updates)));
+  failed : (g.O.Out.end l.out).failures ≡ (g.O.Out.end l.initial.out).failures;
 }
