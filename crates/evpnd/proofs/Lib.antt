@@ -1,6 +1,6 @@
-pub mod Appending
 pub mod Taking
 pub mod Reading
 pub mod Feeding
 pub mod Finishing
 pub mod Listing
+pub mod Refusals

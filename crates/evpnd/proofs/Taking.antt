@@ -1,25 +1,30 @@
 -- Records one after the other, the octets that spell them, and the table of all that were taken.
-use Rattle.std.proofs.Common.{◌≡◌, ℕ, ◌+◌, ◌<◌, ◌^◌, Bool, true, false, cond, ◌||◌, ◌==◌, List, [], ◌∷◌, ◌++◌, take, drop, length, length-append, Result, Ok, Err, refl, sym, ap, subst, ◌∙◌, append_assoc, arith}
+use Rattle.std.proofs.Common.{◌≡◌, ◌↔◌, ◌⊎◌, inl, inr, ℕ, ◌+◌, ◌<◌, ◌^◌, Bool, true, false, cond, ◌||◌, ◌==◌, List, [], ◌∷◌, ◌++◌, take, drop, length, length-append, Option, None, Result, Ok, Err, is_ok, refl, sym, ap, subst, ◌∙◌, append_assoc, arith}
 use Rattle.std.proofs.lemmas.List.{append-nil, nil_from_length, take-append-drop}
-use Rattle.std.specs.Io.KnownBytes.{append_known}
-use Rattle.ether_wire.proofs.Appending.{append_known_twice}
+use Rattle.std.specs.Prelude.{MatchBool}
+use Rattle.ether_wire.specs.declared.ends.Device.{Device}
+use Rattle.ether_wire.specs.Ends.{End, IsOpen, with_text, Puts}
+use Rattle.ether_wire.proofs.Appending.{with_text_twice, with_text_none}
+use Rattle.route_wire.specs.declared.stream.Next.{Next}
 use Rattle.route_wire.specs.Fields.{Fields}
-use Rattle.route_wire.specs.Feed.{Held, HasRead}
-use Rattle.route_join.specs.Table.{Table, with_update, with_updates, IsTableOf}
+use Rattle.route_wire.specs.Feed.{Held, HasRead, added}
+use Rattle.route_join.specs.declared.table.Taken.{Taken}
+use Rattle.route_join.specs.declared.table.TakeError.{TakeError}
+use Rattle.route_join.specs.declared.table.TakeError.TheVariants.{UnknownOriginator, NoMemory}
+use Rattle.route_join.specs.Taken.{number_of}
+use Rattle.route_join.specs.Table.{Table, is_listed, value_at, with_update, with_updates, IsTableOf}
 use Rattle.route_join.proofs.Edits.{new_table}
 use Rattle.route_join.proofs.Joins.{all_taken, none_taken}
-use Rattle.evpnd.specs.declared.stream.Progress.{Progress}
 use Rattle.evpnd.specs.Notes.{refused_line, refusals_from, has_starved}
-use Rattle.evpnd.specs.Ends.{End, Tells}
+use Rattle.evpnd.specs.Ends.{Tells}
 use Rattle.evpnd.specs.Runs.{Becomes, BecomeAll, table_after, table_after_all, taken_of, fresh}
-use Rattle.evpnd.specs.Progressing.{Counts, TakesAnswers, TakesOctets, TakesFront}
-use Rattle.evpnd.proofs.Appending.{append_known_none}
+use Rattle.evpnd.specs.Progressing.{State, state, outcome_of, Refuses, Counts, TakesAnswers, TakesOctets, TakesFront}
 
 -- ---- notes
 
 -- one text after the other
 pub tells_more : (a b c : End) (p q r : Bool) (s t : List ℕ) → Tells a b p q s → Tells b c q r t → Tells a c p r (s ++ t)
-tells_more a b c p q r s t h k = record { kept = λ e. kept e; written = written q h k; failures = λ e. failures q e h k }
+tells_more a b c p q r s t h k = record { kept = λ e. kept e; written = written q h k; failed = λ e f. failed q e f h k }
   where
     kept : p ≡ false → (r ≡ false) × (c ≡ a)
     kept e =
@@ -27,30 +32,35 @@ tells_more a b c p q r s t h k = record { kept = λ e. kept e; written = written
         let two = k.kept one.0 in
         (two.0, two.1 ∙ one.1)
 
-    written : (q : Bool) → Tells a b p q s → Tells b c q r t → r ≡ true → c.octets ≡ append_known a.octets (s ++ t)
-    written true h k e = k.written e ∙ ap (λ o. append_known o t) (h.written refl) ∙ append_known_twice a.octets s t
+    written : (q : Bool) → Tells a b p q s → Tells b c q r t → r ≡ true → c ≡ with_text a (s ++ t)
+    written true h k e = k.written e ∙ ap (λ x. with_text x t) (h.written refl) ∙ with_text_twice a s t
     written false h k e = let no = (k.kept refl).0 in cc
 
-    failures : (q : Bool) → p ≡ true → Tells a b p q s → Tells b c q r t → c.failures ≡ a.failures + cond r 0 1
-    failures true e h k = let one = h.failures e in k.failures refl ∙ ap (λ n. n + cond r 0 1) (one ∙ grind arith)
-    failures false e h k = let no = k.kept refl in ap (λ (x : End). x.failures) no.1 ∙ h.failures e ∙ ap (λ b. a.failures + cond b 0 1) (sym no.0)
+    failed : (q : Bool) → p ≡ true → r ≡ false → Tells a b p q s → Tells b c q r t → c.failures ≡ a.failures + 1
+    failed true e f h k = k.failed refl f ∙ ap (λ (x : End). x.failures + 1) (h.written refl)
+    failed false e f h k = ap (λ (x : End). x.failures) (k.kept refl).1 ∙ h.failed e refl
 
 -- nothing
 pub tells_none : (a : End) (p : Bool) → Tells a a p p []
-tells_none a p = record { kept = λ e. (e, refl); written = λ _. sym (append_known_none a.octets); failures = failures p }
+tells_none a p = record { kept = λ e. (e, refl); written = λ _. sym (with_text_none a); failed = λ e f. failed p e f }
   where
-    failures : (p : Bool) → p ≡ true → a.failures ≡ a.failures + cond p 0 1
-    failures true e = grind arith
-    failures false e = cc
+    failed : (p : Bool) → p ≡ true → p ≡ false → a.failures ≡ a.failures + 1
+    failed true e f = cc
+    failed false e f = cc
+
+-- a call
+pub tells_put : (a b : End) (r : Result (Unit {0}) Device) (text : List ℕ) → Puts a b text r → Tells a b true (is_ok r) text
+tells_put a b (Ok done) text h = record { kept = λ e. cc; written = λ e. h; failed = λ e f. cc }
+tells_put a b (Err device) text h = record { kept = λ e. cc; written = λ e. cc; failed = λ e f. h }
+
+-- no call
+pub tells_kept : (a : End) (text : List ℕ) → Tells a a false false text
+tells_kept a text = record { kept = λ e. (e, refl); written = λ e. cc; failed = λ e f. cc }
 
 -- a writer that hasn't failed may be called
-pub still_room : (a b : End) (p q : Bool) (t : List ℕ) → Tells a b p q t → (p ≡ true → a.failures + 1 < 2 ^ 64) → q ≡ true → b.failures + 1 < 2 ^ 64
-still_room a b p true t h room e = go p h room
-  where
-    go : (p : Bool) → Tells a b p true t → (p ≡ true → a.failures + 1 < 2 ^ 64) → b.failures + 1 < 2 ^ 64
-    go true h room = let same = h.failures refl in let x = room refl in omega arith
-    go false h room = let no = (h.kept refl).0 in cc
-still_room a b p false t h room e = cc
+pub still_open : (a b : End) (p q : Bool) (t : List ℕ) → Tells a b p q t → (p ≡ true → IsOpen a) → q ≡ true → IsOpen b
+still_open a b true q t h room e = let same : b.failures ≡ a.failures = ap (λ (x : End). x.failures) (h.written e) in let x = room refl in omega arith
+still_open a b false q t h room e = let no = (h.kept refl).0 in cc
 
 -- ---- records
 become_both : (t : Table) (xs os ys ps : List (Result Fields ℕ)) → BecomeAll t xs os → BecomeAll (table_after_all t os) ys ps → BecomeAll t (xs ++ ys) (os ++ ps)
@@ -67,10 +77,18 @@ or_assoc : (a b c : Bool) → a || (b || c) ≡ (a || b) || c
 or_assoc true b c = refl
 or_assoc false b c = refl
 
+pub or_false : (b : Bool) → b ≡ (b || false)
+or_false true = refl
+or_false false = refl
+
+pub or_true : (b : Bool) → true ≡ (b || true)
+or_true true = refl
+or_true false = refl
+
 starved_both : (os ps : List (Result Fields ℕ)) → has_starved (os ++ ps) ≡ (has_starved os || has_starved ps)
 starved_both [] ps = refl
 starved_both (Ok u ∷ os) ps = starved_both os ps
-starved_both (Err e ∷ os) ps = ap (λ b. (e == 15) || b) (starved_both os ps) ∙ or_assoc (e == 15) (has_starved os) (has_starved ps)
+starved_both (Err e ∷ os) ps = ap (λ b. (e == number_of NoMemory) || b) (starved_both os ps) ∙ or_assoc (e == number_of NoMemory) (has_starved os) (has_starved ps)
 
 next_number : (n : ℕ) (o : Result Fields ℕ) (os : List (Result Fields ℕ)) → (n + 1) + length os ≡ n + length (o ∷ os)
 next_number n o os = omega arith
@@ -83,73 +101,147 @@ refusals_both n (Err e ∷ os) ps =
     ∙ sym (append_assoc (refused_line n e) (refusals_from (n + 1) os) (refusals_from ((n + 1) + length os) ps))
     ∙ ap (λ k. refused_line n e ++ refusals_from (n + 1) os ++ refusals_from k ps) (next_number n (Err e) os)
 
-counts_both : (os ps : List (Result Fields ℕ)) (a b c : End) (p q r : Progress) → Counts os a b p q → Counts ps b c q r → Counts (os ++ ps) a c p r
-counts_both os ps a b c p q r h k = record {
+counts_both : (os ps : List (Result Fields ℕ)) (s t u : State) → Counts os s t → Counts ps t u → Counts (os ++ ps) s u
+counts_both os ps s t u h k = record {
   count = let x = h.count in let y = k.count in let l = length-append os ps in omega arith;
-  starved = k.starved ∙ ap (λ x. x || has_starved ps) h.starved ∙ sym (or_assoc p.is_starved (has_starved os) (has_starved ps)) ∙ ap (λ x. p.is_starved || x) (sym (starved_both os ps));
-  told = subst (λ text. Tells a c p.is_told r.is_told text) (sym (refusals_both (p.count + 1) os ps))
-      (tells_more a b c p.is_told q.is_told r.is_told (refusals_from (p.count + 1) os) (refusals_from ((p.count + 1) + length os) ps) h.told
-      (subst (λ x. Tells b c q.is_told r.is_told (refusals_from x ps)) number k.told));
+  starved = k.starved ∙ ap (λ x. x || has_starved ps) h.starved ∙ sym (or_assoc s.intake.is_starved (has_starved os) (has_starved ps))
+      ∙ ap (λ x. s.intake.is_starved || x) (sym (starved_both os ps));
+  told = subst (λ text. Tells s.notes u.notes s.intake.is_told u.intake.is_told text) (sym (refusals_both (s.intake.count + 1) os ps))
+      (tells_more s.notes t.notes u.notes s.intake.is_told t.intake.is_told u.intake.is_told (refusals_from (s.intake.count + 1) os)
+      (refusals_from ((s.intake.count + 1) + length os) ps) h.told
+      (subst (λ x. Tells t.notes u.notes t.intake.is_told u.intake.is_told (refusals_from x ps)) number k.told));
 }
   where
-    number : q.count + 1 ≡ (p.count + 1) + length os
+    number : t.intake.count + 1 ≡ (s.intake.count + 1) + length os
     number = let x = h.count in omega arith
 
-answers_both : (xs ys : List (Result Fields ℕ)) (t l t' : Table) (a b c : End) (p q r : Progress) → TakesAnswers xs t l a b p q → TakesAnswers ys l t' b c q r → TakesAnswers (xs ++ ys) t t' a c p r
-answers_both xs ys t l t' a b c p q r h k = record {
+answers_both : (xs ys : List (Result Fields ℕ)) (s t u : State) → TakesAnswers xs s t → TakesAnswers ys t u → TakesAnswers (xs ++ ys) s u
+answers_both xs ys s t u h k = record {
   outcomes = h.outcomes ++ k.outcomes;
-  became = become_both t xs h.outcomes ys k.outcomes h.became (subst (λ x. BecomeAll x ys k.outcomes) h.table_is k.became);
-  table_is = k.table_is ∙ ap (λ x. table_after_all x k.outcomes) h.table_is ∙ sym (after_both t h.outcomes k.outcomes);
-  counts = counts_both h.outcomes k.outcomes a b c p q r h.counts k.counts;
+  became = become_both s.intake.table xs h.outcomes ys k.outcomes h.became (subst (λ x. BecomeAll x ys k.outcomes) h.table_is k.became);
+  table_is = k.table_is ∙ ap (λ x. table_after_all x k.outcomes) h.table_is ∙ sym (after_both s.intake.table h.outcomes k.outcomes);
+  counts = counts_both h.outcomes k.outcomes s t u h.counts k.counts;
 }
 
-or_false : (b : Bool) → b ≡ (b || false)
-or_false true = refl
-or_false false = refl
-
-pub answers_none : (t : Table) (a : End) (p : Progress) → TakesAnswers [] t t a a p p
-answers_none t a p = record {
+-- no record, although the feed may have changed, and nothing but whether a note failed
+pub answers_none : (s t : State) → t.intake.table ≡ s.intake.table → t.intake.count ≡ s.intake.count → t.intake.is_starved ≡ s.intake.is_starved
+    → Tells s.notes t.notes s.intake.is_told t.intake.is_told [] → TakesAnswers [] s t
+answers_none s t table count starved told = record {
   outcomes = [];
   became = tt;
-  table_is = refl;
-  counts = record { count = grind arith; starved = or_false p.is_starved; told = tells_none a p.is_told };
+  table_is = table;
+  counts = record { count = count ∙ grind arith; starved = starved ∙ or_false s.intake.is_starved; told = told };
 }
 
-pub answers_one : (answer outcome : Result Fields ℕ) (t t' : Table) (a b : End) (p q : Progress) → Becomes t answer outcome → t' ≡ table_after t outcome → Counts (outcome ∷ []) a b p q
-    → TakesAnswers (answer ∷ []) t t' a b p q
-answers_one answer outcome t t' a b p q became is counts = record { outcomes = outcome ∷ []; became = (became, tt); table_is = is; counts = counts }
+-- the feed makes no difference
+pub answers_fed : (answers : List (Result Fields ℕ)) (s t : State) (h : Held) → TakesAnswers answers (state (record s.intake { feed = h }) s.notes) t → TakesAnswers answers s t
+answers_fed answers s t h k = record {
+  outcomes = k.outcomes;
+  became = k.became;
+  table_is = k.table_is;
+  counts = record { count = k.counts.count; starved = k.counts.starved; told = k.counts.told };
+}
+
+-- a record that was taken
+pub answers_taken : (u : Fields) (s t : State) → Becomes s.intake.table (Ok u) (Ok u) → t.intake.table ≡ with_update s.intake.table u → t.intake.count ≡ s.intake.count + 1
+    → t.intake.is_starved ≡ s.intake.is_starved → t.intake.is_told ≡ s.intake.is_told → t.notes ≡ s.notes → TakesAnswers (Ok u ∷ []) s t
+answers_taken u s t became table count starved told notes = record {
+  outcomes = Ok u ∷ [];
+  became = (became, tt);
+  table_is = table;
+  counts = record {
+    count = count;
+    starved = starved ∙ or_false s.intake.is_starved;
+    told = subst (λ b. Tells s.notes t.notes s.intake.is_told b []) (sym told) (subst (λ x. Tells s.notes x s.intake.is_told s.intake.is_told []) (sym notes) (tells_none s.notes s.intake.is_told));
+  };
+}
+
+-- a record that wasn't, where what went before may have said that memory was refused
+pub answers_refused : (answer : Result Fields ℕ) (refusal : ℕ) (s m t : State) → Becomes s.intake.table answer (Err refusal) → Refuses refusal m t
+    → m.intake ≡ record s.intake { is_starved = m.intake.is_starved } → m.notes ≡ s.notes → m.intake.is_starved ≡ (s.intake.is_starved || (refusal == number_of NoMemory)) → TakesAnswers (answer ∷ []) s t
+answers_refused answer refusal s m t became r kept notes starved = record {
+  outcomes = Err refusal ∷ [];
+  became = (became, tt);
+  table_is = ap (λ x. x.table) r.kept ∙ ap (λ x. x.table) kept;
+  counts = record {
+    count = ap (λ x. x.count) r.kept ∙ ap (λ x. x.count + 1) kept;
+    starved = ap (λ x. x.is_starved) r.kept ∙ starved ∙ ap (λ b. s.intake.is_starved || b) (or_false (refusal == number_of NoMemory));
+    told = subst (λ text. Tells s.notes t.notes s.intake.is_told t.intake.is_told text) (sym (append-nil (refused_line (s.intake.count + 1) refusal)))
+        (subst (λ n. Tells s.notes t.notes s.intake.is_told t.intake.is_told (refused_line (n + 1) refusal)) (ap (λ x. x.count) kept)
+        (subst (λ b. Tells s.notes t.notes b t.intake.is_told (refused_line (m.intake.count + 1) refusal)) (ap (λ x. x.is_told) kept)
+        (subst (λ e. Tells e t.notes m.intake.is_told t.intake.is_told (refused_line (m.intake.count + 1) refusal)) notes r.told)));
+  };
+}
+
+-- what a table's answer makes of a record
+module _ (t : Table) (u : Fields) where
+  pub becomes : (r : Result Taken TakeError) → ((r ≡ Err UnknownOriginator) ↔ (is_listed t u.register.originator ≡ false)) → (r ≡ Err NoMemory → value_at t u.register ≡ None) → Becomes t (Ok u) (outcome_of u r)
+  becomes r unknown memory = go (is_listed t u.register.originator) r refl unknown memory
+    where
+      go : (b : Bool) (r : Result Taken TakeError) → is_listed t u.register.originator ≡ b → ((r ≡ Err UnknownOriginator) ↔ (is_listed t u.register.originator ≡ false)) → (r ≡ Err NoMemory → value_at t u.register ≡ None)
+          → MatchBool b ((outcome_of u r ≡ Ok u) ⊎ ((outcome_of u r ≡ Err (number_of NoMemory)) × (value_at t u.register ≡ None))) (outcome_of u r ≡ Err (number_of UnknownOriginator))
+      go true (Ok x) e unknown memory = inl refl
+      go false (Ok x) e unknown memory = let no = unknown.1 e in cc
+      go true (Err UnknownOriginator) e unknown memory = let no = unknown.0 refl in cc
+      go false (Err UnknownOriginator) e unknown memory = refl
+      go true (Err NoMemory) e unknown memory = inr (refl, memory refl)
+      go false (Err NoMemory) e unknown memory = let no = unknown.1 e in cc
 
 -- ---- octets
-pub octets_none : (h : Held) (t : Table) (a : End) (p : Progress) → TakesOctets [] h h t t a a p p
-octets_none h t a p = record {
+pub octets_none : (s : State) → TakesOctets [] s s
+octets_none s = record {
   answers = [];
-  read = λ stream earlier r. subst (λ s. HasRead h s (earlier ++ [])) (sym (append-nil stream)) (subst (λ x. HasRead h stream x) (sym (append-nil earlier)) r);
-  taken = answers_none t a p;
+  read = λ stream earlier r. subst (λ x. HasRead s.intake.feed x (earlier ++ [])) (sym (append-nil stream)) (subst (λ x. HasRead s.intake.feed stream x) (sym (append-nil earlier)) r);
+  version = refl;
+  taken = answers_none s s refl refl refl (tells_none s.notes s.intake.is_told);
 }
 
-pub octets_both : (xs ys : List ℕ) (h i j : Held) (t l t' : Table) (a b c : End) (p q r : Progress) → TakesOctets xs h i t l a b p q → TakesOctets ys i j l t' b c q r → TakesOctets (xs ++ ys) h j t t' a c p r
-octets_both xs ys h i j t l t' a b c p q r f g = record {
+pub octets_both : (xs ys : List ℕ) (s t u : State) → TakesOctets xs s t → TakesOctets ys t u → TakesOctets (xs ++ ys) s u
+octets_both xs ys s t u f g = record {
   answers = f.answers ++ g.answers;
-  read = λ stream earlier s. subst (λ x. HasRead j x (earlier ++ (f.answers ++ g.answers))) (append_assoc stream xs ys)
-      (subst (λ x. HasRead j ((stream ++ xs) ++ ys) x) (append_assoc earlier f.answers g.answers) (g.read (stream ++ xs) (earlier ++ f.answers) (f.read stream earlier s)));
-  taken = answers_both f.answers g.answers t l t' a b c p q r f.taken g.taken;
+  read = λ stream earlier r. subst (λ x. HasRead u.intake.feed x (earlier ++ (f.answers ++ g.answers))) (append_assoc stream xs ys)
+      (subst (λ x. HasRead u.intake.feed ((stream ++ xs) ++ ys) x) (append_assoc earlier f.answers g.answers) (g.read (stream ++ xs) (earlier ++ f.answers) (f.read stream earlier r)));
+  version = g.version ∙ f.version;
+  taken = answers_both f.answers g.answers s t u f.taken g.taken;
+}
+
+-- the notes on a piece are given out
+pub octets_noted : (xs : List ℕ) (s t u : State) → TakesOctets xs s t → u.intake ≡ record t.intake { is_told = u.intake.is_told } → Tells t.notes u.notes t.intake.is_told u.intake.is_told [] → TakesOctets xs s u
+octets_noted xs s t u f kept told = subst (λ x. TakesOctets x s u) (append-nil xs) (octets_both xs [] s t u f none)
+  where
+    none : TakesOctets [] t u
+    none = record {
+      answers = [];
+      read = λ stream earlier r. subst (λ x. HasRead u.intake.feed x (earlier ++ [])) (sym (append-nil stream))
+          (subst (λ x. HasRead u.intake.feed stream x) (sym (append-nil earlier)) (subst (λ (h : Held). HasRead h stream earlier) (sym (ap (λ x. x.feed) kept)) r));
+      version = ap (λ x. x.feed.newest) kept;
+      taken = answers_none t u (ap (λ x. x.table) kept) (ap (λ x. x.count) kept) (ap (λ x. x.is_starved) kept) told;
+    }
+
+-- octets that a feed took, and what it has next then
+pub octets_next : (octets : List ℕ) (s t : State) (fed after : Held) (x : Next) → ((stream : List ℕ) (answers : List (Result Fields ℕ)) → HasRead s.intake.feed stream answers → HasRead fed (stream ++ octets) answers)
+    → ((stream : List ℕ) (answers : List (Result Fields ℕ)) → HasRead fed stream answers → HasRead after stream (answers ++ added x)) → after.newest ≡ s.intake.feed.newest
+    → t.intake.feed ≡ after → TakesAnswers (added x) s t → TakesOctets octets s t
+octets_next octets s t fed after x feeds next version same taken = record {
+  answers = added x;
+  read = λ stream earlier r. subst (λ (h : Held). HasRead h (stream ++ octets) (earlier ++ added x)) (sym same) (next (stream ++ octets) earlier (feeds stream earlier r));
+  version = ap (λ (h : Held). h.newest) same ∙ version;
+  taken = taken;
 }
 
 -- ---- a piece
-pub front_none : (piece : List ℕ) (h : Held) (t : Table) (a : End) (p : Progress) → TakesFront piece piece h h t t a a p p
-front_none piece h t a p = record { front = []; split = refl; octets = octets_none h t a p }
+pub front_none : (piece : List ℕ) (s : State) → TakesFront piece piece s s
+front_none piece s = record { front = []; split = refl; octets = octets_none s }
 
-pub front_more : (piece rest : List ℕ) (n : ℕ) (h i j : Held) (t l t' : Table) (a b c : End) (p q r : Progress) → TakesFront piece rest h i t l a b p q → TakesOctets (take n rest) i j l t' b c q r
-    → TakesFront piece (drop n rest) h j t t' a c p r
-front_more piece rest n h i j t l t' a b c p q r f g = record {
+pub front_more : (piece rest : List ℕ) (n : ℕ) (s t u : State) → TakesFront piece rest s t → TakesOctets (take n rest) t u → TakesFront piece (drop n rest) s u
+front_more piece rest n s t u f g = record {
   front = f.front ++ take n rest;
   split = f.split ∙ ap (λ x. f.front ++ x) (sym (take-append-drop n rest)) ∙ sym (append_assoc f.front (take n rest) (drop n rest));
-  octets = octets_both f.front (take n rest) h i j t l t' a b c p q r f.octets g;
+  octets = octets_both f.front (take n rest) s t u f.octets g;
 }
 
-pub front_all : (piece rest : List ℕ) (h i : Held) (t t' : Table) (a b : End) (p q : Progress) → TakesFront piece rest h i t t' a b p q → length rest ≡ 0 → TakesOctets piece h i t t' a b p q
-front_all piece rest h i t t' a b p q f none =
-    subst (λ x. TakesOctets x h i t t' a b p q) (sym (f.split ∙ ap (λ x. f.front ++ x) (nil_from_length rest none) ∙ append-nil f.front)) f.octets
+pub front_all : (piece rest : List ℕ) (s t : State) → TakesFront piece rest s t → length rest ≡ 0 → TakesOctets piece s t
+front_all piece rest s t f none = subst (λ x. TakesOctets x s t) (sym (f.split ∙ ap (λ x. f.front ++ x) (nil_from_length rest none) ∙ append-nil f.front)) f.octets
 
 -- ---- the table of all that were taken
 with_all : (t : Table) (outcomes : List (Result Fields ℕ)) → table_after_all t outcomes ≡ with_updates t (taken_of outcomes)

@@ -1,9 +1,10 @@
 -- What is noted of a stream of records: each record that wasn't taken, and what ended the stream.
 use Rattle.std.specs.Prelude.{ℕ, ◌+◌, Bool, true, false, not, ◌&&◌, ◌||◌, ◌==◌, if◌then◌else◌, List, [], ◌∷◌, ◌++◌, length, codes, decimal, Result, Ok, Err}
-use Rattle.route_wire.specs.declared.stream.Whole.{Whole}
-use Rattle.route_wire.specs.declared.stream.Whole.TheVariants.{Rest, Fault, Length}
 use Rattle.route_wire.specs.Fields.{Fields}
-use Rattle.route_wire.specs.Stream.{whole_of}
+use Rattle.route_join.specs.declared.table.TakeError.TheVariants.{NoMemory}
+use Rattle.route_join.specs.Taken.{number_of}
+use Rattle.evpnd.specs.declared.ending.Ending.{Ending}
+use Rattle.evpnd.specs.declared.ending.Ending.TheVariants.{Ended, Failed, Faulty, Unended}
 
 -- ---- lines
 
@@ -27,39 +28,38 @@ refusals_from number [] = []
 refusals_from number (Ok update ∷ outcomes) = refusals_from (number + 1) outcomes
 refusals_from number (Err refusal ∷ outcomes) = refused_line number refusal ++ refusals_from (number + 1) outcomes
 
--- the rest is the beginning of a record whose end won't come
-abbrev pub is_cut : Bool → List ℕ → Bool
-is_cut is_ended rest = is_ended && not (length rest == 0)
-
-abbrev pub end_note_at : Whole → Bool → ℕ → List ℕ → List ℕ
-end_note_at (Fault fault) is_ended number rest = fault_line fault number
-end_note_at Rest is_ended number rest = if is_cut is_ended rest then truncated_line (length rest) number else []
-end_note_at (Length n) is_ended number rest = []
-
--- a line for the fault that the rest shows, or for the cut record where the input ended there
-abbrev pub end_note : Bool → ℕ → List ℕ → List ℕ
-end_note is_ended number rest = end_note_at (whole_of rest) is_ended number rest
+-- a line for the fault that was shown, or for the record that the input's end cut
+abbrev pub end_note : Ending → ℕ → List ℕ → List ℕ
+end_note Ended number rest = if length rest == 0 then [] else truncated_line (length rest) number
+end_note Failed number rest = []
+end_note (Faulty fault) number rest = fault_line fault number
+end_note Unended number rest = []
 
 -- all notes on a stream of records, from number 1 on, and on the rest behind them
-abbrev pub notes_of : List (Result Fields ℕ) → Bool → List ℕ → List ℕ
-notes_of outcomes is_ended rest = refusals_from 1 outcomes ++ end_note is_ended (length outcomes + 1) rest
+abbrev pub notes_of : List (Result Fields ℕ) → Ending → List ℕ → List ℕ
+notes_of outcomes ending rest = refusals_from 1 outcomes ++ end_note ending (length outcomes + 1) rest
 
 -- ---- statuses
 
-abbrev pub is_broken_at : Whole → Bool → List ℕ → Bool
-is_broken_at (Fault fault) is_ended rest = true
-is_broken_at Rest is_ended rest = is_cut is_ended rest
-is_broken_at (Length n) is_ended rest = false
+-- a read failed, or none came to the end
+abbrev pub has_stopped : Ending → Bool
+has_stopped Ended = false
+has_stopped Failed = true
+has_stopped (Faulty fault) = false
+has_stopped Unended = true
 
 -- the stream ends with a fault or with a cut record
-abbrev pub is_broken : Bool → List ℕ → Bool
-is_broken is_ended rest = is_broken_at (whole_of rest) is_ended rest
+abbrev pub is_broken : Ending → List ℕ → Bool
+is_broken Ended rest = not (length rest == 0)
+is_broken Failed rest = false
+is_broken (Faulty fault) rest = true
+is_broken Unended rest = false
 
 -- there was no memory for some update
 abbrev pub has_starved : List (Result Fields ℕ) → Bool
 has_starved [] = false
 has_starved (Ok update ∷ outcomes) = has_starved outcomes
-has_starved (Err refusal ∷ outcomes) = refusal == 15 || has_starved outcomes
+has_starved (Err refusal ∷ outcomes) = refusal == number_of NoMemory || has_starved outcomes
 
 -- the greatest that applies: 4 where a device failed, 3 where memory was refused, 1 for a broken stream, else 0
 abbrev pub status_of : Bool → Bool → Bool → ℕ

@@ -1,86 +1,82 @@
 -- How far the records of a stream were taken.
-use Rattle.std.specs.Prelude.{◌≡◌, ℕ, ◌+◌, ◌≤◌, Bool, true, ◌||◌, ◌==◌, if◌then◌else◌, List, [], ◌++◌, length, Option, Some, None, Result}
-use Rattle.std.specs.Io.KnownBytes.{prepend_known}
-use Rattle.route_wire.specs.declared.stream.Whole.{Whole}
-use Rattle.route_wire.specs.declared.stream.Whole.TheVariants.{Rest, Fault, Length}
+use Rattle.std.specs.Prelude.{◌≡◌, ℕ, ◌+◌, Bool, true, false, ◌||◌, List, [], ◌∷◌, ◌++◌, length, Result, Ok, Err}
+use Rattle.std.specs.List.{concat}
+use Rattle.ether_wire.specs.Ends.{End, Source}
 use Rattle.route_wire.specs.Fields.{Fields}
-use Rattle.route_wire.specs.Feed.{Held, HasRead}
-use Rattle.route_join.specs.Table.{Table}
-use Rattle.evpnd.specs.declared.notes.Break.{Break}
-use Rattle.evpnd.specs.declared.notes.Break.TheVariants.{Faulty, Cut}
-use Rattle.evpnd.specs.declared.stream.Progress.{Progress}
-use Rattle.evpnd.specs.declared.stream.Stream.{Stream}
-use Rattle.evpnd.specs.Notes.{refusals_from, fault_line, truncated_line, notes_of, is_broken, has_starved}
-use Rattle.evpnd.specs.Ends.{End, Gave, Tells}
-use Rattle.evpnd.specs.Runs.{BecomeAll, table_after_all, IsTaken}
+use Rattle.route_wire.specs.Record.{is_length}
+use Rattle.route_wire.specs.Feed.{shown, HasRead}
+use Rattle.route_join.specs.declared.table.Taken.{Taken}
+use Rattle.route_join.specs.declared.table.TakeError.{TakeError}
+use Rattle.route_join.specs.Taken.{number_of}
+use Rattle.evpnd.specs.declared.ending.Ending.{Ending}
+use Rattle.evpnd.specs.declared.stream.Intake.{Intake}
+use Rattle.evpnd.specs.Notes.{refused_line, refusals_from, has_starved}
+use Rattle.evpnd.specs.Ends.{fault_in, fault_told, Gives, Gave, Tells}
+use Rattle.evpnd.specs.Runs.{BecomeAll, table_after_all, fresh}
+
+-- the records on their way into a table, and what the notes hold of them
+pub record State : Type 0 where
+  pub intake : Intake
+  pub notes : End
+
+abbrev pub state : Intake → End → State
+state intake notes = record { intake = intake; notes = notes }
+
+-- nothing was taken yet
+abbrev pub new_intake : List ℕ → Intake
+new_intake originators = record { feed = record { newest = 3; rest = [] }; table = fresh originators; count = 0; is_starved = false; is_told = true }
 
 -- ---- records
 
+-- what a table's answer makes of an update's record
+abbrev pub outcome_of : Fields → Result Taken TakeError → Result Fields ℕ
+outcome_of u (Ok taken) = Ok u
+outcome_of u (Err error) = Err (number_of error)
+
+-- a record more that wasn't taken, and its note
+pub record Refuses (refusal : ℕ) (old new : State) : Type 0 where
+  pub kept : new.intake ≡ record old.intake { count = old.intake.count + 1; is_told = new.intake.is_told }
+  pub told : Tells old.notes new.notes old.intake.is_told new.intake.is_told (refused_line (old.intake.count + 1) refusal)
+
 -- records more of which this became
-pub record Counts (outcomes : List (Result Fields ℕ)) (notes notes' : End) (before after : Progress) : Type 0 where
-  pub count : after.count ≡ before.count + length outcomes
-  pub starved : after.is_starved ≡ (before.is_starved || has_starved outcomes)
-  pub told : Tells notes notes' before.is_told after.is_told (refusals_from (before.count + 1) outcomes)
+pub record Counts (outcomes : List (Result Fields ℕ)) (old new : State) : Type 0 where
+  pub count : new.intake.count ≡ old.intake.count + length outcomes
+  pub starved : new.intake.is_starved ≡ (old.intake.is_starved || has_starved outcomes)
+  pub told : Tells old.notes new.notes old.intake.is_told new.intake.is_told (refusals_from (old.intake.count + 1) outcomes)
 
 -- records of these answers more, one after the other
-pub record TakesAnswers (answers : List (Result Fields ℕ)) (t t' : Table) (notes notes' : End) (before after : Progress) : Type 0 where
+pub record TakesAnswers (answers : List (Result Fields ℕ)) (old new : State) : Type 0 where
   pub outcomes : List (Result Fields ℕ)
-  pub became : BecomeAll t answers outcomes
-  pub table_is : t' ≡ table_after_all t outcomes
-  pub counts : Counts outcomes notes notes' before after
+  pub became : BecomeAll old.intake.table answers outcomes
+  pub table_is : new.intake.table ≡ table_after_all old.intake.table outcomes
+  pub counts : Counts outcomes old new
 
 -- ---- octets
 
--- octets more, of which a feed gives answers
-pub record TakesOctets (octets : List ℕ) (h h' : Held) (t t' : Table) (notes notes' : End) (before after : Progress) : Type 0 where
+-- octets more, of which the feed gives answers
+pub record TakesOctets (octets : List ℕ) (old new : State) : Type 0 where
   pub answers : List (Result Fields ℕ)
-  pub read : (stream : List ℕ) (earlier : List (Result Fields ℕ)) → HasRead h stream earlier → HasRead h' (stream ++ octets) (earlier ++ answers)
-  pub taken : TakesAnswers answers t t' notes notes' before after
+  pub read : (stream : List ℕ) (earlier : List (Result Fields ℕ)) → HasRead old.intake.feed stream earlier → HasRead new.intake.feed (stream ++ octets) (earlier ++ answers)
+  pub version : new.intake.feed.newest ≡ old.intake.feed.newest
+  pub taken : TakesAnswers answers old new
 
 -- the octets of a piece in front of its rest
-pub record TakesFront (piece rest : List ℕ) (h h' : Held) (t t' : Table) (notes notes' : End) (before after : Progress) : Type 0 where
+pub record TakesFront (piece rest : List ℕ) (old new : State) : Type 0 where
   pub front : List ℕ
   pub split : piece ≡ front ++ rest
-  pub octets : TakesOctets front h h' t t' notes notes' before after
+  pub octets : TakesOctets front old new
 
--- the octets of so many reads, none of which was empty or failed
-pub record TakesReads (reads : ℕ) (reader reader' : End) (h h' : Held) (t t' : Table) (notes notes' : End) (before after : Progress) : Type 0 where
+-- the octets that so many reads gave
+pub record TakesReads (turn : ℕ) (reader reader' : Source) (old new : State) : Type 0 where
+  pub pieces : List (List ℕ)
+  pub gives : Gives reader reader' pieces
+  pub many : length pieces ≡ turn
+  pub octets : TakesOctets (concat pieces) old new
+
+-- all octets that a reader gave, up to where the reading ended so
+pub record TakesInput (ending : Ending) (reader reader' : Source) (old new : State) : Type 0 where
   pub input : List ℕ
-  pub given : reader.octets ≡ prepend_known input reader'.octets
-  pub unfailed : reader'.failures ≡ reader.failures
-  pub many : reads ≤ length input
-  pub octets : TakesOctets input h h' t t' notes notes' before after
-
--- all octets that a reader gave
-pub record TakesInput (is_ended : Bool) (reader reader' : End) (h h' : Held) (t t' : Table) (notes notes' : End) (before after : Progress) : Type 0 where
-  pub input : List ℕ
-  pub gave : Gave reader reader' input is_ended
-  pub octets : TakesOctets input h h' t t' notes notes' before after
-
--- ---- the end
-
--- the beginning of a record, as one that was cut
-abbrev pub cut_at : List ℕ → Option Break
-cut_at rest = if length rest == 0 then None else Some (Cut (length rest))
-
--- what breaks a stream off: the fault that its rest shows, or the input's end within a record
-abbrev pub break_at : Whole → Bool → List ℕ → Option Break
-break_at (Fault fault) is_ended rest = Some (Faulty fault)
-break_at Rest is_ended rest = if is_ended then cut_at rest else None
-break_at (Length n) is_ended rest = None
-
-abbrev pub break_line : Option Break → ℕ → List ℕ
-break_line None number = []
-break_line (Some (Faulty fault)) number = fault_line fault number
-break_line (Some (Cut octets)) number = truncated_line octets number
-
--- all that a reader gives, at a table that has taken nothing
-pub record TakesStream (reader reader' : End) (t t' : Table) (notes notes' : End) (stream : Stream) : Type 0 where
-  pub input : List ℕ
-  pub outcomes : List (Result Fields ℕ)
-  pub rest : List ℕ
-  pub gave : Gave reader reader' input stream.is_ended
-  pub taken : IsTaken t.originators input outcomes rest t'
-  pub told : Tells notes notes' true stream.is_told (notes_of outcomes stream.is_ended rest)
-  pub starved : stream.is_starved ≡ has_starved outcomes
-  pub broken : stream.is_broken ≡ is_broken stream.is_ended rest
+  pub gave : Gave reader reader' input ending
+  pub octets : TakesOctets input old new
+  pub shows : fault_told ending ≡ fault_in (shown new.intake.feed)
+  pub none_held : is_length (shown new.intake.feed) ≡ false

@@ -1,19 +1,24 @@
 -- What a report is made from: a stream's records, one after the other, and the table that takes them.
-use Rattle.std.specs.Prelude.{◌≡◌, ℕ, Bool, not, ◌||◌, ◌⊎◌, List, [], ◌∷◌, MatchBool, None, Result, Ok, Err}
+use Rattle.std.specs.Prelude.{◌≡◌, ℕ, ◌||◌, ◌⊎◌, List, [], ◌∷◌, MatchBool, None, Result, Ok, Err}
 use Rattle.std.specs.FinMap.{empty}
 use Rattle.route_wire.specs.Fields.{Fields}
+use Rattle.route_wire.specs.Stream.{whole_of}
 use Rattle.route_wire.specs.Record.{Answers}
+use Rattle.route_join.specs.declared.table.TakeError.TheVariants.{UnknownOriginator, NoMemory}
+use Rattle.route_join.specs.Taken.{number_of}
 use Rattle.route_join.specs.Table.{Table, value_at, is_listed, with_update, IsTableOf}
 use Rattle.route_join.specs.Report.{report_of}
-use Rattle.evpnd.specs.Notes.{notes_of, is_broken, has_starved, status_of}
-use Rattle.evpnd.specs.Ends.{End, has_failed, Gave, Holds}
+use Rattle.evpnd.specs.declared.ending.Ending.{Ending}
+use Rattle.evpnd.specs.Notes.{notes_of, has_stopped, is_broken, has_starved, status_of}
+use Rattle.evpnd.specs.Ends.{Devices, has_failed, fault_in, fault_told, Gave, Holds}
 
--- A record's update is taken by the table, or there is no memory (15), which only a new register needs, or its originator
--- isn't listed (12). A refused record stays refused.
+-- A record's update is taken by the table, or there is no memory, which only a new register needs, or its originator isn't
+-- listed. A refused record stays refused.
 abbrev pub Becomes : Table → Result Fields ℕ → Result Fields ℕ → Type 0
 Becomes t (Err refusal) outcome = outcome ≡ Err refusal
 Becomes t (Ok u) outcome =
-    MatchBool (is_listed t u.register.originator) ((outcome ≡ Ok u) ⊎ ((outcome ≡ Err 15) × (value_at t u.register ≡ None))) (outcome ≡ Err 12)
+    MatchBool (is_listed t u.register.originator) ((outcome ≡ Ok u) ⊎ ((outcome ≡ Err (number_of NoMemory)) × (value_at t u.register ≡ None)))
+    (outcome ≡ Err (number_of UnknownOriginator))
 
 -- the table behind a record
 abbrev pub table_after : Table → Result Fields ℕ → Table
@@ -50,14 +55,16 @@ pub record IsTaken (originators input : List ℕ) (outcomes : List (Result Field
 
 -- The input was read and its records taken; the report is that of the table, the notes tell of every other record and of
 -- the end, and the status is the greatest that applies.
-pub record Reports (originators : List ℕ) (reader reader' out out' notes notes' : End) (status : ℕ) : Type 0 where
+pub record Reports (originators : List ℕ) (before after : Devices) (status : ℕ) : Type 0 where
   pub input : List ℕ
-  pub is_ended : Bool
+  pub ending : Ending
   pub outcomes : List (Result Fields ℕ)
   pub rest : List ℕ
   pub table : Table
-  pub gave : Gave reader reader' input is_ended
+  pub gave : Gave before.input after.input input ending
+  pub shows : fault_told ending ≡ fault_in (whole_of rest)
   pub taken : IsTaken originators input outcomes rest table
-  pub reported : Holds out out' (report_of table)
-  pub noted : Holds notes notes' (notes_of outcomes is_ended rest)
-  pub status_is : status ≡ status_of (not is_ended || (has_failed out out' || has_failed notes notes')) (has_starved outcomes) (is_broken is_ended rest)
+  pub reported : Holds before.out after.out (report_of table)
+  pub noted : Holds before.notes after.notes (notes_of outcomes ending rest)
+  pub status_is : status ≡ status_of (has_stopped ending || (has_failed before.out after.out || has_failed before.notes after.notes))
+      (has_starved outcomes) (is_broken ending rest)

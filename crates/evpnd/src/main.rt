@@ -1,9 +1,11 @@
 //! EVPN edge bridges: the program.
 #![tactic(auto)]
 
+mod ending;
 mod notes;
 mod originators;
 mod report;
+mod status;
 mod stream;
 #[cfg(test)]
 mod tests;
@@ -11,21 +13,13 @@ mod words;
 
 use crate::originators::read_originators;
 use crate::report::report_buffered;
+use crate::status::{DEVICE, MEMORY, USAGE};
 use crate::words::{Order, Refusal, order_of};
 use ether_wire::{Reader, Writer};
 use std::fmt::Display;
 use std::io;
 use std::io::Eprint;
 use std::process::ExitCode;
-
-/// The status of words that aren't the program's.
-const USAGE: u8 = 2;
-
-/// The status where memory was refused.
-const MEMORY: u8 = 3;
-
-/// The status where a device failed.
-const DEVICE: u8 = 4;
 
 fn main(rt: HostRuntime) -> ExitCode {
     ExitCode::from(run(&rt))

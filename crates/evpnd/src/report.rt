@@ -1,35 +1,44 @@
 //! The report of a stream of update records.
 ghost use Rattle.std.specs.Prelude.{◌≡◌, ◌+◌, ◌<◌, ◌^◌, ◌&&◌, ◌||◌, not, if◌then◌else◌};
-ghost use Rattle.ether_wire.specs.Buffered.{buffered_written, buffered_failed};
+ghost use Rattle.ether_wire.specs.Buffered.{buffered_end};
+ghost use Rattle.ether_wire.specs.Ends.{IsOpen, Allows};
 ghost use Rattle.route_join.specs.Table.{AreOriginators};
-ghost use Rattle.evpnd.specs.Notes.{status_of};
-ghost use Rattle.evpnd.specs.Ends.{End, Finishes};
+ghost use Rattle.evpnd.specs.Notes.{has_stopped, status_of};
+ghost use Rattle.evpnd.specs.Ends.{devices, Finishes};
 ghost use Rattle.evpnd.specs.Runs.{Reports};
 
-use crate::stream::{Stream, take_stream};
+use crate::ending::Ending;
+use crate::status::{BROKEN, DEVICE, DONE, MEMORY};
+use crate::stream::Intake;
 use arrayvec::ArrayVec;
 use ether_wire::{Addr, Buffered, In, Out};
-use route_join::Table;
 use std::alloc::Global;
 
-/// The greatest status that applies.
-fn status(is_reported: bool, stream: Stream) -> u8
-    ensures { result ≡ status_of (not stream.is_ended || (not is_reported || not stream.is_told)) stream.is_starved stream.is_broken }
+/// Whether a device failed, where the report and the notes were written so.
+fn has_failed(ending: Ending, is_reported: bool, is_told: bool) -> bool
+    ensures { result ≡ (has_stopped ending || (not is_reported || not is_told)) }
 {
-    if !(stream.is_ended && is_reported && stream.is_told) {
-        return 4;
-    }
-    if stream.is_starved {
-        return 3;
-    }
-    if stream.is_broken { 1 } else { 0 }
+    ending.has_stopped() || !is_reported || !is_told
 }
 
-/// Reads update records up to the reader's end, and writes the report of the table of those that
-/// were taken. `notes` gets a line for each record that wasn't, by its number from 1 on, and then
-/// one for what ended the stream: `record N refused C`, `fault C at record N`, `truncated K at
-/// record N`. A failed read ends the input; no record counts as cut then. An end that has failed
-/// is called no more.
+/// The greatest status that applies.
+fn status(has_failed: bool, is_starved: bool, is_broken: bool) -> u8
+    ensures { result ≡ status_of has_failed is_starved is_broken }
+{
+    if has_failed {
+        return DEVICE;
+    }
+    if is_starved {
+        return MEMORY;
+    }
+    if is_broken { BROKEN } else { DONE }
+}
+
+/// Reads update records up to the reader's end or the first fault, and writes the report of the
+/// table of those that were taken. `notes` gets a line for each record that wasn't, by its number
+/// from 1 on, and then one for what broke the stream off: `record N refused C`, `fault C at record
+/// N`, `truncated K at record N`. They are given out with each piece that was read. A failed read
+/// ends the input; no record counts as cut then. An end that has failed is called no more.
 ///
 /// The status is the greatest that applies: 4 where a read or a write failed, or 2^40 reads didn't
 /// reach the end, 3 where there was no memory for an update, 1 where the stream ends with a fault
@@ -42,37 +51,36 @@ pub fn report_run<R: In, W: Out, N: Out>(
     notes: &mut N,
 ) -> u8
     requires originators { AreOriginators originators.items }
-    requires reader { R.failed reader.old + 1 < 2 ^ 64 }
-    requires out { W.failed out.old + 1 < 2 ^ 64 }
-    requires notes { N.failed notes.old + 1 < 2 ^ 64 }
-    ensures { Reports originators.items
-        record { octets = R.left reader.old; failures = R.failed reader.old }
-        record { octets = R.left reader.new; failures = R.failed reader.new }
-        record { octets = W.written out.old; failures = W.failed out.old }
-        record { octets = W.written out.new; failures = W.failed out.new }
-        record { octets = N.written notes.old; failures = N.failed notes.old }
-        record { octets = N.written notes.new; failures = N.failed notes.new } result }
+    requires reader { Allows (2 ^ 40) (R.end reader.old) }
+    requires out { IsOpen (W.end out.old) }
+    requires notes { IsOpen (N.end notes.old) }
+    ensures { Reports originators.items (devices (R.end reader.old) (W.end out.old) (N.end notes.old))
+        (devices (R.end reader.new) (W.end out.new) (N.end notes.new)) result }
 {
-    let mut table = Table::new(alloc, originators);
-    let stream = take_stream(reader, &mut table, notes);
-    let is_reported = table.write_report(out).is_ok();
-    status(is_reported, stream)
+    let mut intake = Intake::new(alloc, originators);
+    let ending = intake.take_input(reader, notes);
+    let is_broken = intake.note_end(ending, notes);
+    let is_reported = intake.table().write_report(out).is_ok();
+    let has_failed = has_failed(ending, is_reported, intake.is_told());
+    status(has_failed, intake.is_starved(), is_broken)
 }
 
 /// The status so far, unless a writer has failed since.
 fn last_status(is_reported: bool, is_told: bool, status: u8) -> u8
     ensures { result ≡ (if is_reported && is_told then status else 4) }
 {
-    if is_reported && is_told { status } else { 4 }
+    if is_reported && is_told {
+        status
+    } else {
+        DEVICE
+    }
 }
 
 /// Gives a writer what is still held for it, and gives it back: whether no call of it has failed
 /// since it had this many failures. After a failed call it makes none.
 fn finish<W: Out>(out: Buffered<W>, failures: u64) -> (W, bool)
     requires { failures + 1 < 2 ^ 64 }
-    ensures { Finishes failures
-        record { octets = buffered_written W.written out; failures = buffered_failed W.failed out }
-        record { octets = W.written result.0; failures = W.failed result.0 } result.1 }
+    ensures { Finishes failures (buffered_end W.end out) (W.end result.0) result.1 }
 {
     if out.failures() != failures {
         return (out.abandon(), false);
@@ -92,16 +100,11 @@ pub fn report_buffered<R: In, W: Out, N: Out>(
     notes: N,
 ) -> (u8, W, N)
     requires originators { AreOriginators originators.items }
-    requires reader { R.failed reader.old + 1 < 2 ^ 64 }
-    requires out { W.failed out + 1 < 2 ^ 64 }
-    requires notes { N.failed notes + 1 < 2 ^ 64 }
-    ensures { Reports originators.items
-        record { octets = R.left reader.old; failures = R.failed reader.old }
-        record { octets = R.left reader.new; failures = R.failed reader.new }
-        record { octets = W.written out; failures = W.failed out }
-        record { octets = W.written result.1; failures = W.failed result.1 }
-        record { octets = N.written notes; failures = N.failed notes }
-        record { octets = N.written result.2; failures = N.failed result.2 } result.0 }
+    requires reader { Allows (2 ^ 40) (R.end reader.old) }
+    requires out { IsOpen (W.end out) }
+    requires notes { IsOpen (N.end notes) }
+    ensures { Reports originators.items (devices (R.end reader.old) (W.end out) (N.end notes))
+        (devices (R.end reader.new) (W.end result.1) (N.end result.2)) result.0 }
 {
     let (out_failures, notes_failures) = (out.failures(), notes.failures());
     let (mut out, mut notes) = (Buffered::new(out), Buffered::new(notes));

@@ -1,15 +1,19 @@
 //! The records of a stream, taken as its octets come.
-ghost use Rattle.std.specs.Prelude.{◌≡◌, ◌+◌, ◌*◌, ◌<◌, ◌≤◌, ◌^◌, ◌||◌, [], ◌∷◌, true, false, length, take, Ok};
+ghost use Rattle.std.specs.Prelude.{◌≡◌, ◌+◌, ◌*◌, ◌<◌, ◌≤◌, ◌^◌, [], ◌∷◌, true, false, length, take, Ok, ℕ};
+ghost use Rattle.ether_wire.specs.Ends.{IsOpen, Allows};
 ghost use Rattle.route_wire.specs.Record.{is_length};
-ghost use Rattle.route_wire.specs.Feed.{Held, shown};
-ghost use Rattle.evpnd.specs.Runs.{Becomes, table_after, fresh};
-ghost use Rattle.evpnd.specs.Ends.{End};
-ghost use Rattle.evpnd.specs.Progressing.{TakesInput, TakesStream};
+ghost use Rattle.route_wire.specs.Feed.{shown, added};
+ghost use Rattle.route_join.specs.Table.{AreOriginators};
+ghost use Rattle.evpnd.specs.Runs.{Becomes, table_after};
+ghost use Rattle.evpnd.specs.Ends.{fault_in, fault_told};
 
-use crate::notes::{Break, break_of, put_break, put_refused};
-use ether_wire::{Device, In, Out};
-use route_join::Table;
-use route_wire::{Feed, Next, Update};
+use crate::ending::Ending;
+use crate::notes::{put_fault, put_refused, put_truncated};
+use arrayvec::ArrayVec;
+use ether_wire::{Addr, Device, In, Out};
+use route_join::{Table, TakeError};
+use route_wire::{Feed, Next, Truncated, Update};
+use std::alloc::Global;
 
 /// A run makes at most this many reads. An input that hasn't ended by then counts as one whose
 /// reading failed.
@@ -18,206 +22,206 @@ const MOST_READS: u64 = 0x100_0000_0000;
 /// How many octets a read asks for.
 const PIECE: usize = 16_384;
 
-/// How far the records of a stream were taken.
-#[derive(Clone, Copy, Debug)]
-pub(crate) struct Progress {
+/// The records of a stream on their way into a table.
+#[derive(Drop)]
+pub(crate) struct Intake {
+    /// What is held of a record that isn't whole yet.
+    feed: Feed,
+    /// What took the updates so far.
+    table: Table,
     /// How many records there were so far.
-    pub count: u64,
+    count: u64,
     /// There was no memory for some update.
-    pub is_starved: bool,
+    is_starved: bool,
     /// No note has failed.
-    pub is_told: bool,
+    is_told: bool,
 }
 
-/// What became of a stream.
-#[derive(Clone, Copy, Debug)]
-pub(crate) struct Stream {
-    /// The reader came to its end.
-    pub is_ended: bool,
-    /// There was no memory for some update.
-    pub is_starved: bool,
-    /// It ends with a fault or with a record that was cut.
-    pub is_broken: bool,
-    /// No note has failed.
-    pub is_told: bool,
-}
-
-/// Takes an update: it, where the table took it, or the table's refusal.
-fn take_update(table: &mut Table, update: &Update) -> Result<Update, u8>
-    ensures outcome { Becomes table.old (Ok update.now) result }
-    ensures table { table.new ≡ table_after table.old result }
-{
-    match table.take(update) {
-        Ok(_) => Ok(*update),
-        Err(error) => Err(error.number()),
-    }
-}
-
-impl Progress {
-    ghost use Rattle.route_wire.specs.Feed.{added};
+impl Intake {
     ghost use Rattle.evpnd.specs.Ends.{Tells};
-    ghost use Rattle.evpnd.specs.Progressing.{Counts, TakesAnswers, TakesOctets, break_line};
+    ghost use Rattle.evpnd.specs.Notes.{end_note, is_broken};
+    ghost use Rattle.evpnd.specs.Progressing.{state, new_intake, Refuses, TakesAnswers, TakesOctets, TakesInput};
 
-    /// Counts one record more of which this became, and notes it where it wasn't taken.
-    fn outcome<N: Out>(self, outcome: Result<Update, u8>, notes: &mut N) -> Progress
-        requires count { self.count + 1 < 2 ^ 64 }
-        requires room { self.is_told ≡ true → N.failed notes.old + 1 < 2 ^ 64 }
-        ensures { Counts (outcome ∷ [])
-            record { octets = N.written notes.old; failures = N.failed notes.old }
-            record { octets = N.written notes.new; failures = N.failed notes.new } self result }
+    /// Before anything was read.
+    pub(crate) fn new(alloc: Global, originators: ArrayVec<Addr, 64>) -> Intake
+        requires { AreOriginators originators.items }
+        ensures { result ≡ new_intake originators.items }
     {
-        let count = self.count + 1;
-        match outcome {
-            Ok(_) => Progress { count, ..self },
-            Err(refusal) => Progress {
-                count,
-                is_starved: self.is_starved || refusal == 15,
-                is_told: self.is_told && put_refused(notes, count, refusal).is_ok(),
+        Intake {
+            feed: Feed::new(),
+            table: Table::new(alloc, originators),
+            count: 0,
+            is_starved: false,
+            is_told: true,
+        }
+    }
+
+    /// Counts a record that wasn't taken, and notes it.
+    fn refuse<N: Out>(&mut self, refusal: u8, notes: &mut N)
+        requires count { self.old.count + 1 < 2 ^ 64 }
+        requires room { self.old.is_told ≡ true → IsOpen (N.end notes.old) }
+        ensures { Refuses refusal (state self.old (N.end notes.old)) (state self.new (N.end notes.new)) }
+    {
+        self.count += 1;
+        self.is_told = self.is_told && put_refused(notes, self.count, refusal).is_ok();
+    }
+
+    /// Takes the update of a record, or notes why not.
+    fn take<N: Out>(&mut self, update: &Update, notes: &mut N)
+        requires count { self.old.count + 1 < 2 ^ 64 }
+        requires room { self.old.is_told ≡ true → IsOpen (N.end notes.old) }
+        ensures taken { TakesAnswers (Ok update.now ∷ []) (state self.old (N.end notes.old)) (state self.new (N.end notes.new)) }
+        ensures feed { self.new.feed ≡ self.old.feed }
+        ensures count { self.new.count ≡ self.old.count + 1 }
+    {
+        match self.table.take(update) {
+            Ok(_) => self.count += 1,
+            Err(TakeError::UnknownOriginator) => {
+                self.refuse(TakeError::UnknownOriginator.number(), notes);
+            }
+            Err(TakeError::NoMemory) => {
+                self.is_starved = true;
+                self.refuse(TakeError::NoMemory.number(), notes);
+            }
+        }
+    }
+
+    /// Takes octets at the front of a piece, up to a record's end, and tells how many.
+    fn step<N: Out>(&mut self, piece: &[u8], notes: &mut N) -> usize
+        requires feed { is_length (shown self.old.feed) ≡ false }
+        requires piece { 0 < length piece.now }
+        requires count { self.old.count + 1 < 2 ^ 64 }
+        requires room { self.old.is_told ≡ true → IsOpen (N.end notes.old) }
+        ensures taken { TakesOctets (take result piece.now) (state self.old (N.end notes.old)) (state self.new (N.end notes.new)) }
+        ensures some { 0 < result }
+        ensures fits { result ≤ length piece.now }
+        ensures feed { is_length (shown self.new.feed) ≡ false }
+        ensures few { self.new.count ≤ self.old.count + 1 }
+    {
+        let n = self.feed.feed(piece);
+        match self.feed.next() {
+            Next::More => {}
+            Next::Fault(_) => {}
+            Next::Record(update) => self.take(&update, notes),
+            Next::Refused(refusal) => self.refuse(refusal, notes),
+        }
+        n
+    }
+
+    /// Takes the octets of a piece.
+    fn take_piece<N: Out>(&mut self, piece: &[u8], notes: &mut N)
+        requires feed { is_length (shown self.old.feed) ≡ false }
+        requires count { self.old.count + length piece.now < 2 ^ 64 }
+        requires room { self.old.is_told ≡ true → IsOpen (N.end notes.old) }
+        ensures taken { TakesOctets piece.now (state self.old (N.end notes.old)) (state self.new (N.end notes.new)) }
+        ensures feed { is_length (shown self.new.feed) ≡ false }
+        ensures few { self.new.count ≤ self.old.count + length piece.now }
+    {
+        let mut rest = piece;
+        while !rest.is_empty() {
+            let n = self.step(rest, notes);
+            let (_, behind) = rest.split_at(n);
+            rest = behind;
+        }
+    }
+
+    /// Takes a piece that was read, and gives out the notes on it.
+    fn piece<N: Out>(&mut self, piece: &[u8], notes: &mut N)
+        requires feed { is_length (shown self.old.feed) ≡ false }
+        requires count { self.old.count + length piece.now < 2 ^ 64 }
+        requires room { self.old.is_told ≡ true → IsOpen (N.end notes.old) }
+        ensures taken { TakesOctets piece.now (state self.old (N.end notes.old)) (state self.new (N.end notes.new)) }
+        ensures feed { is_length (shown self.new.feed) ≡ false }
+        ensures few { self.new.count ≤ self.old.count + length piece.now }
+    {
+        self.take_piece(piece, notes);
+        self.is_told = self.is_told && notes.flush().is_ok();
+    }
+
+    /// The fault that the octets show.
+    fn fault(&mut self) -> Option<u8>
+        requires { is_length (shown self.old.feed) ≡ false }
+        ensures value { result ≡ fault_in (shown self.old.feed) }
+        ensures same { self.new ≡ self.old }
+    {
+        match self.feed.next() {
+            Next::Fault(fault) => Some(fault),
+            Next::More => None,
+            Next::Record(_) => None,
+            Next::Refused(_) => None,
+        }
+    }
+
+    /// Takes the records of a reader, piece by piece, up to its end or the first fault: how the
+    /// reading ended. After a fault, or a failed read, it makes no read more.
+    pub(crate) fn take_input<R: In, N: Out>(&mut self, reader: &mut R, notes: &mut N) -> Ending
+        requires feed { self.old.feed ≡ record { newest = 3; rest = [] } }
+        requires count { self.old.count ≡ 0 }
+        requires reader { Allows (2 ^ 40) (R.end reader.old) }
+        requires room { self.old.is_told ≡ true → IsOpen (N.end notes.old) }
+        ensures taken { TakesInput result (R.end reader.old) (R.end reader.new) (state self.old (N.end notes.old)) (state self.new (N.end notes.new)) }
+        ensures few { self.new.count + 1 < 2 ^ 64 }
+    {
+        let mut buffer = [0; PIECE];
+        for turn in 0..MOST_READS {
+            match reader.read(&mut buffer) {
+                Ok(0) => return Ending::Ended,
+                Ok(n) => self.piece(&buffer[..n], notes),
+                Err(Device) => return Ending::Failed,
+            }
+            if let Some(fault) = self.fault() {
+                return Ending::Faulty(fault);
+            }
+        }
+        Ending::Unended
+    }
+
+    /// Notes what broke the stream off, if anything did: whether so.
+    pub(crate) fn note_end<N: Out>(&mut self, ending: Ending, notes: &mut N) -> bool
+        requires none_held { is_length (shown self.old.feed) ≡ false }
+        requires shows { fault_told ending ≡ fault_in (shown self.old.feed) }
+        requires count { self.old.count + 1 < 2 ^ 64 }
+        requires room { self.old.is_told ≡ true → IsOpen (N.end notes.old) }
+        ensures broken { result ≡ is_broken ending self.old.feed.rest }
+        ensures kept { self.new ≡ record self.old { is_told = self.new.is_told } }
+        ensures told { Tells (N.end notes.old) (N.end notes.new) self.old.is_told self.new.is_told (end_note ending (self.old.count + 1) self.old.feed.rest) }
+    {
+        let number = self.count + 1;
+        match ending {
+            Ending::Failed | Ending::Unended => false,
+            Ending::Faulty(fault) => {
+                self.is_told = self.is_told && put_fault(notes, fault, number).is_ok();
+                true
+            }
+            Ending::Ended => match self.feed.end() {
+                Ok(()) => false,
+                Err(Truncated { octets }) => {
+                    self.is_told = self.is_told
+                        && put_truncated(notes, octets as u64, number).is_ok();
+                    true
+                }
             },
         }
     }
 
-    /// Takes what a feed has next.
-    fn next<N: Out>(self, table: &mut Table, next: &Next, notes: &mut N) -> Progress
-        requires count { self.count + 1 < 2 ^ 64 }
-        requires room { self.is_told ≡ true → N.failed notes.old + 1 < 2 ^ 64 }
-        ensures taken { TakesAnswers (added next.now) table.old table.new
-            record { octets = N.written notes.old; failures = N.failed notes.old }
-            record { octets = N.written notes.new; failures = N.failed notes.new } self result }
-        ensures few { result.count ≤ self.count + 1 }
+    /// What took the updates.
+    pub(crate) fn table(&self) -> &Table
+        ensures { result.now ≡ self.now.table }
     {
-        match next {
-            Next::More | Next::Fault(_) => self,
-            Next::Record(update) => self.outcome(take_update(table, update), notes),
-            Next::Refused(refusal) => self.outcome(Err(*refusal), notes),
-        }
+        &self.table
     }
 
-    /// Takes octets at the front of a piece, up to a record's end: how far then, and how many.
-    fn step<N: Out>(
-        self,
-        feed: &mut Feed,
-        table: &mut Table,
-        piece: &[u8],
-        notes: &mut N,
-    ) -> (Progress, usize)
-        requires feed { is_length (shown feed.old) ≡ false }
-        requires piece { 0 < length piece.now }
-        requires count { self.count + 1 < 2 ^ 64 }
-        requires room { self.is_told ≡ true → N.failed notes.old + 1 < 2 ^ 64 }
-        ensures taken { TakesOctets (take result.1 piece.now) feed.old feed.new table.old table.new
-            record { octets = N.written notes.old; failures = N.failed notes.old }
-            record { octets = N.written notes.new; failures = N.failed notes.new } self result.0 }
-        ensures some { 0 < result.1 }
-        ensures fits { result.1 ≤ length piece.now }
-        ensures feed { is_length (shown feed.new) ≡ false }
-        ensures version { feed.new.newest ≡ feed.old.newest }
-        ensures few { result.0.count ≤ self.count + 1 }
+    /// Whether there was no memory for some update.
+    pub(crate) fn is_starved(&self) -> bool
+        ensures { result ≡ self.now.is_starved }
     {
-        let n = feed.feed(piece);
-        let next = feed.next();
-        (self.next(table, &next, notes), n)
+        self.is_starved
     }
 
-    /// Takes a piece of a stream.
-    fn piece<N: Out>(
-        self,
-        feed: &mut Feed,
-        table: &mut Table,
-        piece: &[u8],
-        notes: &mut N,
-    ) -> Progress
-        requires feed { is_length (shown feed.old) ≡ false }
-        requires count { self.count + length piece.now < 2 ^ 64 }
-        requires room { self.is_told ≡ true → N.failed notes.old + 1 < 2 ^ 64 }
-        ensures taken { TakesOctets piece.now feed.old feed.new table.old table.new
-            record { octets = N.written notes.old; failures = N.failed notes.old }
-            record { octets = N.written notes.new; failures = N.failed notes.new } self result }
-        ensures feed { is_length (shown feed.new) ≡ false }
-        ensures version { feed.new.newest ≡ feed.old.newest }
-        ensures few { result.count ≤ self.count + length piece.now }
+    /// Whether no note has failed.
+    pub(crate) fn is_told(&self) -> bool
+        ensures { result ≡ self.now.is_told }
     {
-        let mut progress = self;
-        let mut rest = piece;
-        while !rest.is_empty() {
-            let (after, n) = progress.step(feed, table, rest, notes);
-            let (_, behind) = rest.split_at(n);
-            progress = after;
-            rest = behind;
-        }
-        progress
-    }
-
-    /// Notes what broke a stream off, if anything did: whether no note has failed.
-    fn end<N: Out>(self, broken: &Option<Break>, notes: &mut N) -> bool
-        requires count { self.count + 1 < 2 ^ 64 }
-        requires room { self.is_told ≡ true → N.failed notes.old + 1 < 2 ^ 64 }
-        ensures { Tells
-            record { octets = N.written notes.old; failures = N.failed notes.old }
-            record { octets = N.written notes.new; failures = N.failed notes.new }
-            self.is_told result (break_line broken.now (self.count + 1)) }
-    {
-        self.is_told && put_break(notes, broken, self.count + 1).is_ok()
-    }
-}
-
-/// Takes the records of a reader, piece by piece: how far, and whether the reader came to its end.
-fn take_input<R: In, N: Out>(
-    reader: &mut R,
-    feed: &mut Feed,
-    table: &mut Table,
-    notes: &mut N,
-) -> (Progress, bool)
-    requires feed { is_length (shown feed.old) ≡ false }
-    requires reader { R.failed reader.old + 1 < 2 ^ 64 }
-    requires notes { N.failed notes.old + 1 < 2 ^ 64 }
-    ensures taken { TakesInput result.1
-        record { octets = R.left reader.old; failures = R.failed reader.old }
-        record { octets = R.left reader.new; failures = R.failed reader.new }
-        feed.old feed.new table.old table.new
-        record { octets = N.written notes.old; failures = N.failed notes.old }
-        record { octets = N.written notes.new; failures = N.failed notes.new }
-        record { count = 0; is_starved = false; is_told = true } result.0 }
-    ensures feed { is_length (shown feed.new) ≡ false }
-    ensures version { feed.new.newest ≡ feed.old.newest }
-    ensures few { result.0.count + 1 < 2 ^ 64 }
-{
-    let mut progress = Progress {
-        count: 0,
-        is_starved: false,
-        is_told: true,
-    };
-    let mut buffer = [0; PIECE];
-    for turn in 0..MOST_READS {
-        match reader.read(&mut buffer) {
-            Ok(0) => return (progress, true),
-            Ok(n) => progress = progress.piece(feed, table, &buffer[..n], notes),
-            Err(Device) => return (progress, false),
-        }
-    }
-    (progress, false)
-}
-
-/// Takes all records of a reader, and notes those that the table didn't take and what broke the
-/// stream off. A failed read ends the stream; no record counts as cut then.
-pub(crate) fn take_stream<R: In, N: Out>(reader: &mut R, table: &mut Table, notes: &mut N) -> Stream
-    requires fresh { table.old ≡ fresh table.old.originators }
-    requires reader { R.failed reader.old + 1 < 2 ^ 64 }
-    requires notes { N.failed notes.old + 1 < 2 ^ 64 }
-    ensures { TakesStream
-        record { octets = R.left reader.old; failures = R.failed reader.old }
-        record { octets = R.left reader.new; failures = R.failed reader.new }
-        table.old table.new
-        record { octets = N.written notes.old; failures = N.failed notes.old }
-        record { octets = N.written notes.new; failures = N.failed notes.new } result }
-{
-    let mut feed = Feed::new();
-    let (progress, is_ended) = take_input(reader, &mut feed, table, notes);
-    let broken = break_of(&mut feed, is_ended);
-    Stream {
-        is_ended,
-        is_starved: progress.is_starved,
-        is_broken: broken.is_some(),
-        is_told: progress.end(&broken, notes),
+        self.is_told
     }
 }

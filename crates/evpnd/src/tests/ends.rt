@@ -1,6 +1,6 @@
 //! Readers that give little, or fail, and a writer that fails.
-ghost use Rattle.std.specs.Prelude.{◌≡◌, ◌+◌, ◌<◌, ◌^◌, Some, None, IfOk, OnErr};
-ghost use Rattle.ether_wire.specs.Ends.{Takes, failures_after};
+ghost use Rattle.std.specs.Prelude.{Some, None};
+ghost use Rattle.ether_wire.specs.Ends.{end_of, source_of};
 
 use ether_wire::{Device, In, Out};
 
@@ -8,18 +8,18 @@ use ether_wire::{Device, In, Out};
 #[derive(Drop)]
 pub(crate) struct Trickle<'a> {
     pub left: &'a [u8],
+    pub reads: u64,
 }
 
 impl In for Trickle<'_> {
-    ghost left = { λ r. Some r.left.now };
-
-    ghost failed = { λ _. 0 };
+    ghost end = { λ r. source_of (Some r.left.now) 0 r.reads };
 
     fn failures(&self) -> u64 {
         0
     }
 
     fn read(&mut self, buffer: &mut [u8]) -> Result<usize, Device> {
+        self.reads += 1;
         let n = self.left.len().min(buffer.len()).min(1);
         let (front, rest) = self.left.split_at(n);
         buffer[..n].copy_from_slice(front);
@@ -32,19 +32,19 @@ impl In for Trickle<'_> {
 #[derive(Drop)]
 pub(crate) struct Broken<'a> {
     pub left: &'a [u8],
+    pub reads: u64,
     pub failures: u64,
 }
 
 impl In for Broken<'_> {
-    ghost left = { λ r. Some r.left.now };
-
-    ghost failed = { λ r. r.failures };
+    ghost end = { λ r. source_of (Some r.left.now) r.failures r.reads };
 
     fn failures(&self) -> u64 {
         self.failures
     }
 
     fn read(&mut self, buffer: &mut [u8]) -> Result<usize, Device> {
+        self.reads += 1;
         if self.left.is_empty() {
             self.failures += 1;
             return Err(Device);
@@ -61,19 +61,19 @@ impl In for Broken<'_> {
 #[derive(Drop)]
 pub(crate) struct InTwo<'a> {
     pub left: &'a [u8],
+    pub reads: u64,
     pub first: usize,
 }
 
 impl In for InTwo<'_> {
-    ghost left = { λ r. Some r.left.now };
-
-    ghost failed = { λ _. 0 };
+    ghost end = { λ r. source_of (Some r.left.now) 0 r.reads };
 
     fn failures(&self) -> u64 {
         0
     }
 
     fn read(&mut self, buffer: &mut [u8]) -> Result<usize, Device> {
+        self.reads += 1;
         let most = if self.first == 0 {
             buffer.len()
         } else {
@@ -95,9 +95,7 @@ pub(crate) struct Full {
 }
 
 impl Out for Full {
-    ghost written = { λ _. None };
-
-    ghost failed = { λ w. w.failures };
+    ghost end = { λ w. end_of None w.failures };
 
     fn failures(&self) -> u64 {
         self.failures

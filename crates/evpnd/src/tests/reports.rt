@@ -50,6 +50,7 @@ fn octet_by_octet_as_at_once(rt: HostRuntime) -> Result<(), AllocError> {
     let stream = joined(rt.alloc(), &[&ADVERT, &ADVERT, &ADVERT])?;
     let mut reader = Trickle {
         left: stream.as_slice(),
+        reads: 0,
     };
     assert!(rt; gives(rt.alloc(), &mut reader, TWO_LINES, b"", 0));
     Ok(())
@@ -61,6 +62,7 @@ fn in_two_pieces_as_at_once(rt: HostRuntime) -> Result<(), AllocError> {
     for first in 1..168usize {
         let mut reader = InTwo {
             left: stream.as_slice(),
+            reads: 0,
             first,
         };
         assert!(rt; gives(rt.alloc(), &mut reader, TWO_LINES, b"", 0));
@@ -74,6 +76,7 @@ fn octets_after_a_fault_are_no_records(rt: HostRuntime) -> Result<(), AllocError
     for first in 1..169usize {
         let mut reader = InTwo {
             left: stream.as_slice(),
+            reads: 0,
             first,
         };
         let note = b"fault 1 at record 2\n";
@@ -81,6 +84,7 @@ fn octets_after_a_fault_are_no_records(rt: HostRuntime) -> Result<(), AllocError
     }
     let mut reader = Broken {
         left: stream.as_slice(),
+        reads: 0,
         failures: 0,
     };
     assert!(rt;
@@ -89,7 +93,7 @@ fn octets_after_a_fault_are_no_records(rt: HostRuntime) -> Result<(), AllocError
             &mut reader,
             TWO_LINES,
             b"fault 1 at record 2\n",
-            4
+            1
         )
     );
     Ok(())
@@ -217,6 +221,7 @@ fn failed_read_keeps_whole_records(rt: HostRuntime) -> Result<(), AllocError> {
     let stream = joined(rt.alloc(), &[&ADVERT, &ADVERT[..55]])?;
     let mut reader = Broken {
         left: stream.as_slice(),
+        reads: 0,
         failures: 0,
     };
     assert!(rt; gives(rt.alloc(), &mut reader, TWO_LINES, b"", 4));

@@ -1,33 +1,33 @@
-use Rattle.std.proofs.Common.{ℕ, List, not, sym, ap, subst, ◌∙◌}
+use Rattle.std.proofs.Common.{Bool, not, ◌||◌, is_ok, ap, subst, ◌∙◌}
+use Rattle.ether_wire.specs.Ends.{Puts}
 use Rattle.route_join.specs.Table.{Table}
 use Rattle.route_join.specs.Report.{report_of}
-use Rattle.evpnd.specs.Notes.{notes_of}
-use Rattle.evpnd.specs.Ends.{End, has_failed}
-use Rattle.evpnd.specs.Runs.{IsTaken}
-use Rattle.evpnd.proofs.Finishing.{tells_holds, tells_failed, put_holds, put_failed, same_status}
+use Rattle.evpnd.specs.declared.stream.Intake.{Intake}
+use Rattle.evpnd.specs.Notes.{has_stopped, is_broken, status_of}
+use Rattle.evpnd.specs.Progressing.{state, TakesInput}
+use Rattle.evpnd.proofs.Finishing.{reports}
 use Rattle.evpnd.proofs.report.report_run.Goals as goal
 
 pub returns : goal.returns
 returns g c =
-    let s = c.take_stream-stream.ensures in
-    let out : End = record { octets = g.W.Out.written c.args.out.now; failures = g.W.Out.failed c.args.out.now } in
-    let out' : End = record { octets = g.W.Out.written c.write_report.new.out; failures = g.W.Out.failed c.write_report.new.out } in
-    let notes : End = record { octets = g.N.Out.written c.args.notes.now; failures = g.N.Out.failed c.args.notes.now } in
-    let notes' : End = record { octets = g.N.Out.written c.take_stream-stream.new.notes; failures = g.N.Out.failed c.take_stream-stream.new.notes } in
-    let table = c.take_stream-stream.new.table in
-    let stream = c.take_stream-stream.result in
-    let text = notes_of s.outcomes stream.is_ended s.rest in
-    record {
-      input = s.input;
-      is_ended = stream.is_ended;
-      outcomes = s.outcomes;
-      rest = s.rest;
-      table = table;
-      gave = s.gave;
-      taken = subst (λ (x : List ℕ). IsTaken x s.input s.outcomes s.rest table) (ap (λ (t : Table). t.originators) c.new-table.ensures) s.taken;
-      reported = put_holds out out' c.write_report.result (report_of table) c.write_report.ensures.appends c.write_report.ensures.failures;
-      noted = tells_holds notes notes' stream.is_told text s.told;
-      status_is = c.status.ensures ∙ same_status stream.is_ended c.is_ok-is_reported.result stream.is_told _ _ (has_failed out out') (has_failed notes notes') _ _
-          (put_failed out out' c.write_report.result c.write_report.ensures.failures ∙ ap not (sym c.is_ok-is_reported.ensures.value))
-          (tells_failed notes notes' stream.is_told text s.told) s.starved s.broken;
-    }
+    let ending = c.take_input-ending.result in
+    let reader = g.R.In.end c.args.reader.now in
+    let reader' = g.R.In.end c.take_input-ending.new.reader in
+    let out = g.W.Out.end c.args.out.now in
+    let out' = g.W.Out.end c.write_report.new.out in
+    let notes = g.N.Out.end c.args.notes.now in
+    let mid = g.N.Out.end c.take_input-ending.new.notes in
+    let notes' = g.N.Out.end c.note_end-is_broken.new.notes in
+    let intake = c.take_input-ending.new.self in
+    let last = c.note_end-is_broken.new.self in
+    let r = c.write_report.result in
+    let broken = c.note_end-is_broken.result in
+    let starved = c.is_starved.result in
+    let failed = c.has_failed-has_failed.ensures ∙ ap (λ (b : Bool). has_stopped ending || (not b || not c.is_told.result)) c.is_ok-is_reported.ensures.value
+    ∙ ap (λ (b : Bool). has_stopped ending || (not (is_ok r) || not b)) c.is_told.ensures in
+    let all = has_stopped ending || (not (is_ok r) || not last.is_told) in
+    reports c.args.originators.items reader reader' out out' notes mid notes' intake last ending
+    (subst (λ (x : Intake). TakesInput ending reader reader' (state x notes) (state intake mid)) c.new-intake.ensures c.take_input-ending.ensures.taken)
+    c.note_end-is_broken.ensures.kept c.note_end-is_broken.ensures.told r (subst (λ (t : Table). Puts out out' (report_of t) r) c.table.ensures c.write_report.ensures) c.status.result
+    (c.status.ensures ∙ ap (λ (b : Bool). status_of b starved broken) failed ∙ ap (λ (b : Bool). status_of all b broken) c.is_starved.ensures
+    ∙ ap (λ (b : Bool). status_of all last.is_starved b) c.note_end-is_broken.ensures.broken)
