@@ -26,6 +26,13 @@ ip_number (Some (V6 n)) = n
 abbrev pub ip_cmp : Option Ip → Option Ip → Ordering
 ip_cmp a b = ordering_then (nat_cmp (ip_version a) (ip_version b)) (nat_cmp (ip_number a) (ip_number b))
 
+-- of addresses that are there
+abbrev pub ip_order : Ip → Ip → Ordering
+ip_order a b = ip_cmp (Some a) (Some b)
+
+abbrev pub addr6_cmp : ℕ → ℕ → Ordering
+addr6_cmp a b = nat_cmp a b
+
 -- ---- report order: VNI, then the flood list before the MACs, then MAC, then originator, then IP
 abbrev pub vni_of : Key → ℕ
 vni_of (Flood vni) = vni

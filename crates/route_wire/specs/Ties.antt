@@ -1,7 +1,8 @@
--- Keys and registers that `==` tells apart are those that report order tells apart.
+-- Addresses, keys and registers that `==` tells apart are those that report order tells apart.
 use Rattle.std.proofs.Common.{◌≡◌, ℕ, ◌==◌, ◌&&◌, Bool, true, false, Some, None, refl, sym, ap, ◌∙◌, eq-eqb}
 use Rattle.std.specs.Cmp.{both_ways, tied_itself}
 use Rattle.std.specs.Cmp.Lexicographic.{pointwise, bytes_decides}
+use Rattle.std.proofs.lemmas.Map.Lookups.{exact_unsigned}
 use Rattle.std.proofs.lemmas.Map.Views.{exact_unsigned_eq}
 use Rattle.std.specs.declared.cmp.Ordering.{Ordering}
 use Rattle.std.specs.declared.cmp.Ordering.TheVariants.{Less, Equal, Greater}
@@ -12,12 +13,13 @@ use Rattle.route_wire.specs.declared.update.Ip.TheVariants.{V4, V6}
 use Rattle.route_wire.specs.declared.update.Key.{Key}
 use Rattle.route_wire.specs.declared.update.Key.TheVariants.{Flood, Mac}
 use Rattle.route_wire.specs.declared.update.Register.{Register}
+use Rattle.route_wire.specs.contracts.update.Addr6PartialEq.TheImpl as addr6
 use Rattle.route_wire.specs.contracts.update.IpPartialEq.TheImpl as ip
 use Rattle.route_wire.specs.contracts.update.KeyPartialEq.TheImpl as key
 use Rattle.route_wire.specs.contracts.update.RegisterPartialEq.TheImpl as register
 use Rattle.route_wire.specs.Octets.{octets_of, number_of_octets}
-use Rattle.route_wire.specs.Order.{key_cmp, register_cmp}
-use Rattle.route_wire.specs.Totals.{key_total, key_exact, register_total, register_exact}
+use Rattle.route_wire.specs.Order.{addr6_cmp, ip_order, key_cmp, register_cmp}
+use Rattle.route_wire.specs.Totals.{addr6_total, ip_order_total, ip_order_exact, key_total, key_exact, register_total, register_exact}
 
 each : (a b : Bool) → a && b ≡ true → (a ≡ true) × (b ≡ true)
 each true b e = (refl, e)
@@ -26,6 +28,11 @@ each false b e = cc
 all : (a b : Bool) → a ≡ true → b ≡ true → a && b ≡ true
 all true b e f = f
 all false b e f = cc
+
+pub equal_from : (o : Ordering) → is_eq o ≡ true → o ≡ Equal
+equal_from Less e = cc
+equal_from Equal e = refl
+equal_from Greater e = cc
 
 -- an address of version 6 is kept in its octets
 same_octets : (m n : ℕ) → pointwise ◌==◌ (octets_of m) (octets_of n) ≡ true → m ≡ n
@@ -41,6 +48,18 @@ ip_same (V4 m) (V4 n) e = ap V4 (exact_unsigned_eq m n e)
 ip_same (V4 m) (V6 n) e = cc
 ip_same (V6 m) (V4 n) e = cc
 ip_same (V6 m) (V6 n) e = ap V6 (same_octets m n e)
+
+pub tied_addresses : (m n : ℕ) → addr6.eq-value.it m n ≡ eq_by_cmp addr6_cmp m n
+tied_addresses m n =
+    both_ways (addr6.eq-value.it m n) (eq_by_cmp addr6_cmp m n)
+    (λ e. ap (λ x. eq_by_cmp addr6_cmp m x) (sym (same_octets m n e)) ∙ ap is_eq (tied_itself addr6_total m))
+    (λ e. ap (λ x. addr6.eq-value.it m x) (sym (exact_unsigned m n (equal_from (addr6_cmp m n) e))) ∙ (bytes_decides (octets_of m) (octets_of m)).1 refl)
+
+pub tied_ips : (i j : Ip) → ip.eq-value.it i j ≡ eq_by_cmp ip_order i j
+tied_ips i j =
+    both_ways (ip.eq-value.it i j) (eq_by_cmp ip_order i j)
+    (λ e. ap (λ x. eq_by_cmp ip_order i x) (sym (ip_same i j e)) ∙ ap is_eq (tied_itself ip_order_total i))
+    (λ e. ap (λ x. ip.eq-value.it i x) (sym (ip_order_exact i j (equal_from (ip_order i j) e))) ∙ ip_itself i)
 
 key_itself : (k : Key) → key.eq-value.it k k ≡ true
 key_itself (Flood v) = eq-eqb v v refl
@@ -75,11 +94,6 @@ same q r e =
     let names = exact_unsigned_eq q.originator r.originator h.0 in
     let keys = key_same q.key r.key h.1 in
     λ k. record { originator = names k; key = keys k }
-
-pub equal_from : (o : Ordering) → is_eq o ≡ true → o ≡ Equal
-equal_from Less e = cc
-equal_from Equal e = refl
-equal_from Greater e = cc
 
 pub tied_keys : (j k : Key) → key.eq-value.it j k ≡ eq_by_cmp key_cmp j k
 tied_keys j k =

@@ -16,7 +16,7 @@ use Rattle.route_wire.specs.declared.update.Key.TheVariants.{Flood, Mac}
 use Rattle.route_wire.specs.declared.update.Content.{Content}
 use Rattle.route_wire.specs.declared.update.Content.TheVariants.{Withdrawn, Advert as Advertised}
 use Rattle.route_wire.specs.declared.update.Value.{Value}
-use Rattle.route_wire.specs.Order.{ip_version, ip_number, ip_cmp, vni_of, place_of, ip_of, key_cmp, register_cmp, rank_of, sequence_of, label2_of, content_cmp, value_cmp, is_newer}
+use Rattle.route_wire.specs.Order.{ip_version, ip_number, ip_cmp, ip_order, addr6_cmp, vni_of, place_of, ip_of, key_cmp, register_cmp, rank_of, sequence_of, label2_of, content_cmp, value_cmp, is_newer}
 
 -- an order that asks one thing after the other says equal only where both do
 both : (o p : Ordering) → ordering_then o p ≡ Equal → (o ≡ Equal) × (p ≡ Equal)
@@ -41,6 +41,15 @@ same_ip (Some (V6 x)) (Some (V6 y)) v n = ap (λ k. Some (V6 k)) n
 
 pub ip_exact : IsAntisymmetric ip_cmp
 ip_exact a b h = let e = both (nat_cmp (ip_version a) (ip_version b)) (nat_cmp (ip_number a) (ip_number b)) h in same_ip a b (exact_unsigned _ _ e.0) (exact_unsigned _ _ e.1)
+
+pub addr6_total : IsTotalOrder addr6_cmp
+addr6_total = nat_cmp_total
+
+pub ip_order_total : IsTotalOrder ip_order
+ip_order_total = on_total Some ip_total
+
+pub ip_order_exact : IsAntisymmetric ip_order
+ip_order_exact a b h = let e = ip_exact (Some a) (Some b) h in cc
 
 -- ---- keys and registers
 pub key_total : IsTotalOrder key_cmp

@@ -336,8 +336,8 @@ fn lengths_have_bounds(rt: HostRuntime) {
 
 // A table keeps an update for each register.
 #[test]
-fn an_update_takes_88_octets(rt: HostRuntime) {
-    assert_eq!(rt; size_of::<Update>(), 88);
+fn an_update_takes_80_octets(rt: HostRuntime) {
+    assert_eq!(rt; size_of::<Update>(), 80);
 }
 
 #[test]

@@ -8,7 +8,7 @@ use std::marker::Model;
 /// An IPv6 address, as the number of its sixteen octets, the first one highest.
 // Octets in the place of one number of 128 bits, which the machine would keep at multiples of 16 octets,
 // or of two of 64, at multiples of 8: an update is smaller by 56 octets, or by 8.
-#[derive(Clone, Copy, Debug, PartialEq, Eq, Hash, PartialOrd, Ord)]
+#[derive(Clone, Copy, Debug, PartialEq, Eq, Hash)]
 pub struct Addr6 {
     octets: [u8; 16],
 }
@@ -47,9 +47,42 @@ impl Addr6 {
     }
 }
 
+impl Ord for Addr6 {
+    ghost use Rattle.route_wire.specs.Order.{addr6_cmp};
+    ghost use Rattle.route_wire.specs.Totals.{addr6_total};
+    ghost use Rattle.route_wire.specs.Ties.{tied_addresses};
+
+    ghost cmp = { addr6_cmp };
+
+    ghost total = { addr6_total };
+
+    ghost matches_partial_cmp = { λ x y. refl };
+
+    ghost matches_eq = { tied_addresses };
+
+    fn cmp(&self, other: &Addr6) -> Ordering {
+        self.number().cmp(&other.number())
+    }
+}
+
+impl PartialOrd for Addr6 {
+    ghost use Rattle.std.specs.Cmp.{po};
+    ghost use Rattle.route_wire.specs.Order.{addr6_cmp};
+    ghost use Rattle.route_wire.specs.Totals.{addr6_total};
+    ghost use Rattle.route_wire.specs.Ties.{tied_addresses};
+
+    ghost partial_cmp = { λ x y. Some (addr6_cmp x y) };
+
+    ghost laws = { po addr6_total tied_addresses };
+
+    fn partial_cmp(&self, other: &Addr6) -> Option<Ordering> {
+        Some(self.cmp(other))
+    }
+}
+
 /// An IP address. All of version 4 come before those of version 6, and in one version the order of
 /// numbers is that of the octets.
-#[derive(Clone, Copy, Debug, PartialEq, Eq, Hash, PartialOrd, Ord)]
+#[derive(Clone, Copy, Debug, PartialEq, Eq, Hash)]
 pub enum Ip {
     /// Four octets.
     V4(Addr),
@@ -78,6 +111,41 @@ impl Ip {
             Ip::V4(address) => u128::from(address.number()),
             Ip::V6(address) => address.number(),
         }
+    }
+}
+
+impl Ord for Ip {
+    ghost use Rattle.route_wire.specs.Order.{ip_order};
+    ghost use Rattle.route_wire.specs.Totals.{ip_order_total};
+    ghost use Rattle.route_wire.specs.Ties.{tied_ips};
+
+    ghost cmp = { ip_order };
+
+    ghost total = { ip_order_total };
+
+    ghost matches_partial_cmp = { λ x y. refl };
+
+    ghost matches_eq = { tied_ips };
+
+    fn cmp(&self, other: &Ip) -> Ordering {
+        self.version()
+            .cmp(&other.version())
+            .then(self.number().cmp(&other.number()))
+    }
+}
+
+impl PartialOrd for Ip {
+    ghost use Rattle.std.specs.Cmp.{po};
+    ghost use Rattle.route_wire.specs.Order.{ip_order};
+    ghost use Rattle.route_wire.specs.Totals.{ip_order_total};
+    ghost use Rattle.route_wire.specs.Ties.{tied_ips};
+
+    ghost partial_cmp = { λ x y. Some (ip_order x y) };
+
+    ghost laws = { po ip_order_total tied_ips };
+
+    fn partial_cmp(&self, other: &Ip) -> Option<Ordering> {
+        Some(self.cmp(other))
     }
 }
 
@@ -255,13 +323,14 @@ pub enum Content {
 }
 
 /// What is said of a register, and when: the life of its originator, the number of the update in
-/// that life, and the content. The order of values is that of their fields.
-#[derive(Clone, Copy, Debug, PartialEq, Eq, PartialOrd, Ord)]
+/// that life, and the content.
+// The counter stands first, so that a value has 32 octets and not 40.
+#[derive(Clone, Copy, Debug, PartialEq, Eq)]
 pub struct Value {
+    /// The number of the update in the originator's life, from 1.
+    pub counter: u64,
     /// The life of the originator, from 0.
     pub incarnation: u32,
-    /// The number of the update in that life, from 1.
-    pub counter: u64,
     /// What is said.
     pub content: Content,
 }
@@ -269,11 +338,17 @@ pub struct Value {
 impl Value {
     ghost use Rattle.route_wire.specs.Order.{is_newer};
 
-    /// Whether this value of a register replaces the other one.
+    /// Whether this value of a register replaces the other one: by its incarnation, then its counter,
+    /// then its content.
     pub fn is_newer(&self, other: &Value) -> bool
         ensures { result ≡ is_newer self.now other.now }
     {
-        other.cmp(self).is_lt()
+        other
+            .incarnation
+            .cmp(&self.incarnation)
+            .then(other.counter.cmp(&self.counter))
+            .then(other.content.cmp(&self.content))
+            .is_lt()
     }
 }
 
