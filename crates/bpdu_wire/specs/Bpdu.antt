@@ -1,5 +1,6 @@
 -- The role that a BPDU says its sender's port has, and when it is too old (IEEE 802.1D-2004, 9.3.3 and 9.3.4).
 use Rattle.std.specs.Prelude.{ℕ, Bool, true, false, ◌&&◌, ◌==◌, nat_le, if◌then◌else◌, bit_and}
+use Rattle.bpdu_wire.specs.declared.flags.TheConstants.{ALTERNATE_OR_BACKUP_ROLE, ROLE_BITS, ROOT_ROLE, UNKNOWN_ROLE}
 use Rattle.bpdu_wire.specs.declared.bpdu.SenderRole.{SenderRole}
 use Rattle.bpdu_wire.specs.declared.bpdu.SenderRole.TheVariants.{Unknown, AlternateOrBackup, Root, Designated}
 use Rattle.bpdu_wire.specs.declared.bpdu.Message.{Message}
@@ -9,9 +10,9 @@ use Rattle.bpdu_wire.specs.declared.bpdu.Bpdu.TheVariants.{Config, Rst, Tcn}
 -- the two bits of the role
 abbrev pub role_of : ℕ → SenderRole
 role_of flags =
-    if bit_and flags 0x0c == 0x00 then Unknown
-    else if bit_and flags 0x0c == 0x04 then AlternateOrBackup
-    else if bit_and flags 0x0c == 0x08 then Root
+    if bit_and flags ROLE_BITS == UNKNOWN_ROLE then Unknown
+    else if bit_and flags ROLE_BITS == ALTERNATE_OR_BACKUP_ROLE then AlternateOrBackup
+    else if bit_and flags ROLE_BITS == ROOT_ROLE then Root
     else Designated
 
 abbrev pub is_designated : SenderRole → Bool

@@ -1,6 +1,9 @@
 -- BPDUs as octets, each field the number at its place (IEEE 802.1D-2004, 9.2 and 9.3).
 use Rattle.std.specs.Prelude.{ℕ, Bool, true, not, ◌&&◌, ◌==◌, nat_lt, if◌then◌else◌, List, [], ◌∷◌, length, drop, slice_index, Option, Some, None, Result, Ok, Err}
 use Rattle.byteorder.specs.Endian.{big_number}
+use Rattle.bpdu_wire.specs.declared.reading.TheConstants.{VERSION_PLACE, TYPE_PLACE, FLAGS_PLACE, ROOT_PLACE, COST_PLACE, BRIDGE_PLACE, PORT_PLACE}
+use Rattle.bpdu_wire.specs.declared.reading.TheConstants.{MESSAGE_AGE_PLACE, MAX_AGE_PLACE, HELLO_PLACE, FORWARD_DELAY_PLACE}
+use Rattle.bpdu_wire.specs.declared.reading.TheConstants.{CONFIG_TYPE, RST_TYPE, TCN_TYPE, RAPID_VERSION, CONFIG_SIZE, RST_SIZE, TCN_SIZE}
 use Rattle.bpdu_wire.specs.declared.bpdu.Message.{Message}
 use Rattle.bpdu_wire.specs.declared.bpdu.Bpdu.{Bpdu}
 use Rattle.bpdu_wire.specs.declared.bpdu.Bpdu.TheVariants.{Config, Rst, Tcn}
@@ -14,49 +17,48 @@ abbrev pub protocol_of : List ℕ → ℕ
 protocol_of octets = big_number 2 octets
 
 abbrev pub version_of : List ℕ → ℕ
-version_of octets = slice_index octets 2
+version_of octets = slice_index octets VERSION_PLACE
 
 abbrev pub type_of : List ℕ → ℕ
-type_of octets = slice_index octets 3
+type_of octets = slice_index octets TYPE_PLACE
 
 abbrev pub message_of : List ℕ → Message
 message_of octets = record {
-  flags = slice_index octets 4;
-  root = big_number 8 (drop 5 octets);
-  cost = big_number 4 (drop 13 octets);
-  bridge = big_number 8 (drop 17 octets);
-  port = big_number 2 (drop 25 octets);
-  message_age = big_number 2 (drop 27 octets);
-  max_age = big_number 2 (drop 29 octets);
-  hello = big_number 2 (drop 31 octets);
-  forward_delay = big_number 2 (drop 33 octets);
+  flags = slice_index octets FLAGS_PLACE;
+  root = big_number 8 (drop ROOT_PLACE octets);
+  cost = big_number 4 (drop COST_PLACE octets);
+  bridge = big_number 8 (drop BRIDGE_PLACE octets);
+  port = big_number 2 (drop PORT_PLACE octets);
+  message_age = big_number 2 (drop MESSAGE_AGE_PLACE octets);
+  max_age = big_number 2 (drop MAX_AGE_PLACE octets);
+  hello = big_number 2 (drop HELLO_PLACE octets);
+  forward_delay = big_number 2 (drop FORWARD_DELAY_PLACE octets);
 }
 
 -- ---- the kinds
 
--- A Configuration BPDU has type 0x00 and 35 octets, a Rapid Spanning Tree BPDU 0x02 and 36 octets,
--- a Topology Change Notification BPDU 0x80 and 4.
+-- a Configuration, a Rapid Spanning Tree, or a Topology Change Notification BPDU
 abbrev pub is_known : ℕ → Bool
-is_known type = if type == 0x00 then true else if type == 0x02 then true else type == 0x80
+is_known type = if type == CONFIG_TYPE then true else if type == RST_TYPE then true else type == TCN_TYPE
 
 abbrev pub size_of : ℕ → ℕ
-size_of type = if type == 0x00 then 35 else if type == 0x02 then 36 else 4
+size_of type = if type == CONFIG_TYPE then CONFIG_SIZE else if type == RST_TYPE then RST_SIZE else TCN_SIZE
 
 abbrev pub bpdu_of : List ℕ → Bpdu
 bpdu_of octets =
-    if type_of octets == 0x00 then Config (message_of octets)
-    else if type_of octets == 0x02 then Rst (message_of octets)
+    if type_of octets == CONFIG_TYPE then Config (message_of octets)
+    else if type_of octets == RST_TYPE then Rst (message_of octets)
     else Tcn
 
 -- ---- the refusals
 
 -- Rapid Spanning Tree BPDUs came with version 2. Those of later versions begin as they do (9.3.4).
 abbrev pub has_old_version : List ℕ → Bool
-has_old_version octets = type_of octets == 0x02 && nat_lt (version_of octets) 2
+has_old_version octets = type_of octets == RST_TYPE && nat_lt (version_of octets) RAPID_VERSION
 
 abbrev pub refusal_tests : List ℕ → List (Bool × Refusal)
 refusal_tests octets =
-    (nat_lt (length octets) 4, Short)
+    (nat_lt (length octets) TCN_SIZE, Short)
     ∷ (not (protocol_of octets == 0), BadProtocol)
     ∷ (not (is_known (type_of octets)), BadType)
     ∷ (has_old_version octets, BadVersion)

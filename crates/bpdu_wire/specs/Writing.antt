@@ -1,6 +1,7 @@
 -- The octets that are written for a BPDU (IEEE 802.1D-2004, 9.3).
 use Rattle.std.specs.Prelude.{ℕ, ◌<◌, ◌^◌, List, [], ◌∷◌, ◌++◌, Result, Ok, Err, if◌then◌else◌}
 use Rattle.byteorder.specs.Endian.{big_bytes}
+use Rattle.bpdu_wire.specs.declared.reading.TheConstants.{CONFIG_TYPE, OLD_VERSION, RAPID_VERSION, RST_TYPE, TCN_TYPE}
 use Rattle.bpdu_wire.specs.declared.bpdu.Message.{Message}
 use Rattle.bpdu_wire.specs.declared.bpdu.Bpdu.{Bpdu}
 use Rattle.bpdu_wire.specs.declared.bpdu.Bpdu.TheVariants.{Config, Rst, Tcn}
@@ -22,9 +23,9 @@ message_octets version type m after = 0 ∷ 0 ∷ version ∷ type ∷ m.flags �
 
 -- A Rapid Spanning Tree BPDU ends with Version 1 Length, 0.
 abbrev pub octets_of : Bpdu → List ℕ
-octets_of (Config m) = message_octets 0 0x00 m []
-octets_of (Rst m) = message_octets 2 0x02 m (0 ∷ [])
-octets_of Tcn = 0 ∷ 0 ∷ 0 ∷ 0x80 ∷ []
+octets_of (Config m) = message_octets OLD_VERSION CONFIG_TYPE m []
+octets_of (Rst m) = message_octets RAPID_VERSION RST_TYPE m (0 ∷ [])
+octets_of Tcn = 0 ∷ 0 ∷ OLD_VERSION ∷ TCN_TYPE ∷ []
 
 -- each of these fields fits its octets
 pub record HasVector (m : Message) : Type 0 where

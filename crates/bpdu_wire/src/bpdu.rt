@@ -1,3 +1,6 @@
+//! What a BPDU says: the fields of a message, and the three kinds.
+
+use crate::flags::{ALTERNATE_OR_BACKUP_ROLE, ROLE_BITS, ROOT_ROLE, UNKNOWN_ROLE};
 use crate::id::{BridgeId, PortId};
 
 /// The role that a Rapid Spanning Tree BPDU says its sender's port has (IEEE 802.1D-2004, 9.3.3).
@@ -13,9 +16,7 @@ pub enum SenderRole {
 /// fields are as they stand in the octets: times are in 1/256 of a second.
 #[derive(Clone, Copy, Debug, PartialEq, Eq)]
 pub struct Message {
-    /// 0x01 topology change, 0x02 proposal, 0x0c role (0x00 unknown, 0x04 alternate or backup, 0x08
-    /// root, 0x0c designated), 0x10 learning, 0x20 forwarding, 0x40 agreement, 0x80 topology change
-    /// acknowledgement. A Configuration BPDU has the first and the last alone.
+    /// The flags of `flags.rt`, as they stand in the octet.
     pub flags: u8,
     /// The bridge that the sender takes for the root.
     pub root: BridgeId,
@@ -43,10 +44,10 @@ impl Message {
     pub fn role(&self) -> SenderRole
         ensures { result ≡ role_of self.now.flags }
     {
-        match self.flags & 0x0c {
-            0x00 => SenderRole::Unknown,
-            0x04 => SenderRole::AlternateOrBackup,
-            0x08 => SenderRole::Root,
+        match self.flags & ROLE_BITS {
+            UNKNOWN_ROLE => SenderRole::Unknown,
+            ALTERNATE_OR_BACKUP_ROLE => SenderRole::AlternateOrBackup,
+            ROOT_ROLE => SenderRole::Root,
             _ => SenderRole::Designated,
         }
     }

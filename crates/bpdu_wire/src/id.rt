@@ -1,3 +1,5 @@
+//! Identifiers of bridges and ports.
+
 ghost use Rattle.std.specs.Prelude.{◌≡◌, ℕ, ◌+◌, ◌*◌, ◌%◌, ◌<◌, ◌^◌};
 ghost use Rattle.bpdu_wire.specs.Id.{bridge_priority, bridge_address, port_priority, port_number};
 

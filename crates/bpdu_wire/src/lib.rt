@@ -2,6 +2,7 @@
 #![tactic(auto)]
 
 mod bpdu;
+mod flags;
 mod id;
 mod reading;
 mod refusal;
@@ -10,6 +11,10 @@ mod tests;
 mod writing;
 
 pub use bpdu::{Bpdu, Message, SenderRole};
+pub use flags::{
+    AGREEMENT, ALTERNATE_OR_BACKUP_ROLE, CHANGE_ACKNOWLEDGEMENT, DESIGNATED_ROLE, FORWARDING,
+    LEARNING, PROPOSAL, ROLE_BITS, ROOT_ROLE, TOPOLOGY_CHANGE, UNKNOWN_ROLE,
+};
 pub use id::{BridgeId, PortId};
 pub use reading::read;
 pub use refusal::Refusal;

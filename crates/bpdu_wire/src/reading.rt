@@ -1,3 +1,21 @@
+//! A BPDU's octets (IEEE 802.1D-2004, 9.3). All numbers are big-endian.
+//!
+//! | Place | Octets | Field |
+//! |---|---|---|
+//! | 0 | 2 | protocol, 0 |
+//! | 2 | 1 | version: 0, or 2 of a Rapid Spanning Tree BPDU |
+//! | 3 | 1 | type: 0x00 Configuration, 0x02 Rapid Spanning Tree, 0x80 Topology Change Notification, which ends here |
+//! | 4 | 1 | flags |
+//! | 5 | 8 | root: the bridge that the sender takes for the root |
+//! | 13 | 4 | cost of the sender's path to it |
+//! | 17 | 8 | bridge: the sender |
+//! | 25 | 2 | port: the sender's |
+//! | 27 | 2 | message age, in 1/256 second, as the next three |
+//! | 29 | 2 | max age |
+//! | 31 | 2 | Hello time |
+//! | 33 | 2 | forward delay, where a Configuration BPDU ends |
+//! | 35 | 1 | Version 1 Length, 0, of a Rapid Spanning Tree BPDU |
+
 ghost use Rattle.std.specs.Prelude.{◌≡◌, ◌≤◌, true, length};
 ghost use Rattle.bpdu_wire.specs.Reading.{protocol_of, type_of, has_old_version, is_known, size_of, message_of, bpdu_of, reading};
 
@@ -6,10 +24,53 @@ use crate::id::{BridgeId, PortId};
 use crate::refusal::Refusal;
 use byteorder::{BigEndian, ByteOrder};
 
+/// The place of the version.
+pub(crate) const VERSION_PLACE: usize = 2;
+/// The place of the type.
+pub(crate) const TYPE_PLACE: usize = 3;
+/// The place of the flags.
+pub(crate) const FLAGS_PLACE: usize = 4;
+/// The place of the root's identifier.
+pub(crate) const ROOT_PLACE: usize = 5;
+/// The place of the cost.
+pub(crate) const COST_PLACE: usize = 13;
+/// The place of the sender's identifier.
+pub(crate) const BRIDGE_PLACE: usize = 17;
+/// The place of the identifier of the sender's port.
+pub(crate) const PORT_PLACE: usize = 25;
+/// The place of the message age.
+pub(crate) const MESSAGE_AGE_PLACE: usize = 27;
+/// The place of the max age.
+pub(crate) const MAX_AGE_PLACE: usize = 29;
+/// The place of the Hello time.
+pub(crate) const HELLO_PLACE: usize = 31;
+/// The place of the forward delay.
+pub(crate) const FORWARD_DELAY_PLACE: usize = 33;
+
+/// The type of a Configuration BPDU.
+pub(crate) const CONFIG_TYPE: u8 = 0x00;
+/// The type of a Rapid Spanning Tree BPDU.
+pub(crate) const RST_TYPE: u8 = 0x02;
+/// The type of a Topology Change Notification BPDU.
+pub(crate) const TCN_TYPE: u8 = 0x80;
+
+/// The version of the older protocol's BPDUs.
+pub(crate) const OLD_VERSION: u8 = 0;
+/// The version with which Rapid Spanning Tree BPDUs came.
+pub(crate) const RAPID_VERSION: u8 = 2;
+
+/// How many octets any BPDU has at least: those up to the type.
+pub(crate) const TCN_SIZE: usize = 4;
+/// How many octets a Configuration BPDU has.
+pub(crate) const CONFIG_SIZE: usize = 35;
+/// How many octets a Rapid Spanning Tree BPDU has.
+pub(crate) const RST_SIZE: usize = 36;
+
+/// Whether there are BPDUs of this type.
 fn is_known(kind: u8) -> bool
     ensures { result ≡ is_known kind }
 {
-    matches!(kind, 0x00 | 0x02 | 0x80)
+    matches!(kind, CONFIG_TYPE | RST_TYPE | TCN_TYPE)
 }
 
 /// How many octets a BPDU of this type has.
@@ -17,44 +78,47 @@ fn size(kind: u8) -> usize
     ensures { result ≡ size_of kind }
 {
     match kind {
-        0x00 => 35,
-        0x02 => 36,
-        _ => 4,
+        CONFIG_TYPE => CONFIG_SIZE,
+        RST_TYPE => RST_SIZE,
+        _ => TCN_SIZE,
     }
 }
 
+/// Whether the BPDU is of the rapid protocol's type, and of a version before it.
 fn has_old_version(octets: &[u8]) -> bool
-    requires { 4 ≤ length octets.now }
+    requires { TCN_SIZE ≤ length octets.now }
     ensures { result ≡ has_old_version octets.now }
 {
-    octets[3] == 0x02 && octets[2] < 2
+    octets[TYPE_PLACE] == RST_TYPE && octets[VERSION_PLACE] < RAPID_VERSION
 }
 
+/// The fields of a message.
 fn message_in(octets: &[u8]) -> Message
-    requires { 35 ≤ length octets.now }
+    requires { CONFIG_SIZE ≤ length octets.now }
     ensures { result ≡ message_of octets.now }
 {
     Message {
-        flags: octets[4],
-        root: BridgeId::new(BigEndian::read_u64(&octets[5..])),
-        cost: BigEndian::read_u32(&octets[13..]),
-        bridge: BridgeId::new(BigEndian::read_u64(&octets[17..])),
-        port: PortId::new(BigEndian::read_u16(&octets[25..])),
-        message_age: BigEndian::read_u16(&octets[27..]),
-        max_age: BigEndian::read_u16(&octets[29..]),
-        hello: BigEndian::read_u16(&octets[31..]),
-        forward_delay: BigEndian::read_u16(&octets[33..]),
+        flags: octets[FLAGS_PLACE],
+        root: BridgeId::new(BigEndian::read_u64(&octets[ROOT_PLACE..])),
+        cost: BigEndian::read_u32(&octets[COST_PLACE..]),
+        bridge: BridgeId::new(BigEndian::read_u64(&octets[BRIDGE_PLACE..])),
+        port: PortId::new(BigEndian::read_u16(&octets[PORT_PLACE..])),
+        message_age: BigEndian::read_u16(&octets[MESSAGE_AGE_PLACE..]),
+        max_age: BigEndian::read_u16(&octets[MAX_AGE_PLACE..]),
+        hello: BigEndian::read_u16(&octets[HELLO_PLACE..]),
+        forward_delay: BigEndian::read_u16(&octets[FORWARD_DELAY_PLACE..]),
     }
 }
 
+/// The BPDU of the type, with its fields.
 fn bpdu_in(octets: &[u8]) -> Bpdu
-    requires head { 4 ≤ length octets.now }
+    requires head { TCN_SIZE ≤ length octets.now }
     requires whole { size_of (type_of octets.now) ≤ length octets.now }
     ensures { result ≡ bpdu_of octets.now }
 {
-    match octets[3] {
-        0x00 => Bpdu::Config(message_in(octets)),
-        0x02 => Bpdu::Rst(message_in(octets)),
+    match octets[TYPE_PLACE] {
+        CONFIG_TYPE => Bpdu::Config(message_in(octets)),
+        RST_TYPE => Bpdu::Rst(message_in(octets)),
         _ => Bpdu::Tcn,
     }
 }
@@ -69,19 +133,19 @@ fn bpdu_in(octets: &[u8]) -> Bpdu
 pub fn read(octets: &[u8]) -> Result<Bpdu, Refusal>
     ensures { result ≡ reading octets.now }
 {
-    if octets.len() < 4 {
+    if octets.len() < TCN_SIZE {
         return Err(Refusal::Short);
     }
     if BigEndian::read_u16(octets) != 0 {
         return Err(Refusal::BadProtocol);
     }
-    if !is_known(octets[3]) {
+    if !is_known(octets[TYPE_PLACE]) {
         return Err(Refusal::BadType);
     }
     if has_old_version(octets) {
         return Err(Refusal::BadVersion);
     }
-    if octets.len() < size(octets[3]) {
+    if octets.len() < size(octets[TYPE_PLACE]) {
         return Err(Refusal::Short);
     }
     let bpdu = bpdu_in(octets);

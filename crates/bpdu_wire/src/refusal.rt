@@ -1,3 +1,5 @@
+//! Why octets are no BPDU, and by which number that is told.
+
 /// Why octets are no BPDU. The first cause in the order that `read` names is the one that is told.
 #[derive(Clone, Copy, Debug, PartialEq, Eq)]
 pub enum Refusal {

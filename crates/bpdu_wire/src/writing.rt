@@ -1,3 +1,5 @@
+//! The octets of a BPDU, as `reading.rt` lays them out.
+
 ghost use Rattle.std.specs.Prelude.{◌≡◌, ◌+◌, ◌≤◌, ◌++◌, ℕ, List, length};
 ghost use Rattle.arrayvec.specs.ArrayVec.{array_vec_len};
 ghost use Rattle.byteorder.specs.Endian.{big_bytes};
@@ -5,6 +7,7 @@ ghost use Rattle.bpdu_wire.specs.Reading.{reading};
 ghost use Rattle.bpdu_wire.specs.Writing.{HasVector, HasTimes, vector_octets, times_octets, message_octets, octets_of, read_again};
 
 use crate::bpdu::{Bpdu, Message};
+use crate::reading::{CONFIG_TYPE, OLD_VERSION, RAPID_VERSION, RST_TYPE, TCN_TYPE};
 use arrayvec::ArrayVec;
 
 /// Appends octets for which there is room.
@@ -19,6 +22,7 @@ fn put(out: &mut ArrayVec<u8, 36>, octets: &[u8])
     }
 }
 
+/// Appends a number of two octets.
 fn put_u16(out: &mut ArrayVec<u8, 36>, number: u16)
     requires { array_vec_len out.old + 2 ≤ 36 }
     ensures items { out.new.items ≡ out.old.items ++ big_bytes 2 number }
@@ -27,6 +31,7 @@ fn put_u16(out: &mut ArrayVec<u8, 36>, number: u16)
     put(out, &number.to_be_bytes());
 }
 
+/// Appends a number of four octets.
 fn put_u32(out: &mut ArrayVec<u8, 36>, number: u32)
     requires { array_vec_len out.old + 4 ≤ 36 }
     ensures items { out.new.items ≡ out.old.items ++ big_bytes 4 number }
@@ -35,6 +40,7 @@ fn put_u32(out: &mut ArrayVec<u8, 36>, number: u32)
     put(out, &number.to_be_bytes());
 }
 
+/// Appends a number of eight octets.
 fn put_u64(out: &mut ArrayVec<u8, 36>, number: u64)
     requires { array_vec_len out.old + 8 ≤ 36 }
     ensures items { out.new.items ≡ out.old.items ++ big_bytes 8 number }
@@ -56,6 +62,7 @@ fn put_vector(out: &mut ArrayVec<u8, 36>, message: &Message)
     put_u16(out, message.port.number());
 }
 
+/// Appends the four times.
 fn put_times(out: &mut ArrayVec<u8, 36>, message: &Message)
     requires { array_vec_len out.old + 8 ≤ 36 }
     ensures items { out.new.items ≡ out.old.items ++ times_octets message.now }
@@ -91,12 +98,12 @@ pub fn write(bpdu: &Bpdu) -> ArrayVec<u8, 36>
     let mut out = ArrayVec::new();
     match bpdu {
         Bpdu::Config(message) => {
-            put_message(&mut out, 0, 0x00, message, &[]);
+            put_message(&mut out, OLD_VERSION, CONFIG_TYPE, message, &[]);
         }
         Bpdu::Rst(message) => {
-            put_message(&mut out, 2, 0x02, message, &[0]);
+            put_message(&mut out, RAPID_VERSION, RST_TYPE, message, &[0]);
         }
-        Bpdu::Tcn => put(&mut out, &[0, 0, 0, 0x80]),
+        Bpdu::Tcn => put(&mut out, &[0, 0, OLD_VERSION, TCN_TYPE]),
     }
     out
 }

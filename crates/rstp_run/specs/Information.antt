@@ -1,87 +1,30 @@
 -- The information rules (IEEE 802.1D-2004, 17.27, in this project's own table).
-use Rattle.std.specs.Prelude.{ℕ, Bool, true, false, not, ◌&&◌, ◌||◌, ◌==◌, ◌*◌, nat_lt, if◌then◌else◌, Option, Some, None}
+use Rattle.std.specs.Prelude.{ℕ, Bool, true, false, not, ◌&&◌, ◌||◌, ◌==◌, ◌*◌, nat_lt, if◌then◌else◌, Option, Some}
+use Rattle.bpdu_wire.specs.declared.flags.TheConstants.{AGREEMENT, CHANGE_ACKNOWLEDGEMENT, LEARNING, PROPOSAL, TOPOLOGY_CHANGE}
 use Rattle.bpdu_wire.specs.declared.bpdu.Message.{Message}
 use Rattle.bpdu_wire.specs.declared.bpdu.Bpdu.{Bpdu}
 use Rattle.bpdu_wire.specs.declared.bpdu.Bpdu.TheVariants.{Config, Rst, Tcn}
-use Rattle.bpdu_wire.specs.declared.bpdu.SenderRole.{SenderRole}
-use Rattle.bpdu_wire.specs.declared.bpdu.SenderRole.TheVariants as sender
-use Rattle.bpdu_wire.specs.Bpdu.{role_of}
 use Rattle.rstp_state.specs.declared.port.PortState.{PortState}
 use Rattle.rstp_state.specs.declared.port.Information.TheVariants as information
 use Rattle.rstp_state.specs.declared.port.InfoIs.TheVariants as info_is
 use Rattle.rstp_state.specs.declared.vector.Vector.{Vector}
 use Rattle.rstp_state.specs.declared.vector.Times.{Times}
-use Rattle.rstp_state.specs.Vector.{is_less, same_vector, same_times, vector_of, times_of, superior}
+use Rattle.rstp_state.specs.Vector.{is_less, vector_of, times_of}
 use Rattle.rstp_state.specs.Port.{is_out, is_current, is_received, is_mine, has_flag}
-use Rattle.rstp_run.specs.declared.information.Class.{Class}
-use Rattle.rstp_run.specs.declared.information.Class.TheVariants as class
-
--- the class of the stored message
-
--- a designated port's message
-abbrev pub designated_class : PortState → Message → Class
-designated_class port message =
-    if superior (vector_of message) (times_of message) port.port_priority port.port_times then class.Superior
-    else (if same_vector (vector_of message) port.port_priority && (same_times (times_of message) port.port_times && is_received port.info_is)
-    then class.Repeated
-    else (if is_less port.port_priority (vector_of message) then class.Inferior else class.Other))
-
--- the message of a root, alternate or backup port
-abbrev pub answering_class : PortState → Message → Class
-answering_class port message =
-    if is_less (vector_of message) port.port_priority then class.Other else class.NotDesignated
-
--- the sender's role is Alternate, Backup or Root, not unknown or Designated
-abbrev pub is_answer : SenderRole → Bool
-is_answer sender.AlternateOrBackup = true
-is_answer sender.Root = true
-is_answer _ = false
-
-abbrev pub rst_class : PortState → Message → Class
-rst_class port message =
-    if is_answer (role_of message.flags) then answering_class port message else designated_class port message
-
-abbrev pub bpdu_class : PortState → Option Bpdu → Class
-bpdu_class port None = class.Other
-bpdu_class port (Some Tcn) = class.Other
-bpdu_class port (Some (Config message)) = designated_class port message
-bpdu_class port (Some (Rst message)) = rst_class port message
-
-abbrev pub class_of : PortState → Class
-class_of port = bpdu_class port port.message
-
-abbrev pub is_superior : Class → Bool
-is_superior class.Superior = true
-is_superior _ = false
-
-abbrev pub is_repeated : Class → Bool
-is_repeated class.Repeated = true
-is_repeated _ = false
-
-abbrev pub is_inferior : Class → Bool
-is_inferior class.Inferior = true
-is_inferior _ = false
-
-abbrev pub is_not_designated : Class → Bool
-is_not_designated class.NotDesignated = true
-is_not_designated _ = false
-
-abbrev pub is_other : Class → Bool
-is_other class.Other = true
-is_other _ = false
+use Rattle.rstp_run.specs.Class.{class_of, is_superior, is_repeated, is_inferior, is_not_designated, is_other}
 
 -- parts of the effects
 
--- a Config or RST message is stored, and has a flag of the mask
+-- a Config or RST message is stored, and has the flag
 abbrev pub message_has : ℕ → Option Bpdu → Bool
-message_has mask (Some (Config message)) = has_flag message.flags mask
-message_has mask (Some (Rst message)) = has_flag message.flags mask
-message_has mask _ = false
+message_has flag (Some (Config message)) = has_flag message.flags flag
+message_has flag (Some (Rst message)) = has_flag message.flags flag
+message_has flag _ = false
 
--- an RST message is stored, and has a flag of the mask
+-- an RST message is stored, and has the flag
 abbrev pub rst_has : ℕ → Option Bpdu → Bool
-rst_has mask (Some (Rst message)) = has_flag message.flags mask
-rst_has mask _ = false
+rst_has flag (Some (Rst message)) = has_flag message.flags flag
+rst_has flag _ = false
 
 abbrev pub is_tcn : Option Bpdu → Bool
 is_tcn (Some Tcn) = true
@@ -95,13 +38,13 @@ vector_or vector _ = vector
 
 -- the message proposes
 abbrev pub with_proposal : PortState → PortState
-with_proposal port = record port { proposed = port.proposed || rst_has 0x02 port.message }
+with_proposal port = record port { proposed = port.proposed || rst_has PROPOSAL port.message }
 
 -- the message tells of a topology change, or acknowledges one
 abbrev pub with_change_flags : PortState → PortState
 with_change_flags port = record port {
-  received_topology_change = port.received_topology_change || message_has 0x01 port.message;
-  received_acknowledgement = port.received_acknowledgement || message_has 0x80 port.message;
+  received_topology_change = port.received_topology_change || message_has TOPOLOGY_CHANGE port.message;
+  received_acknowledgement = port.received_acknowledgement || message_has CHANGE_ACKNOWLEDGEMENT port.message;
 }
 
 -- how long information of these times is kept: three Hello times, unless it is too old
@@ -247,7 +190,7 @@ inferior_guard port = may_take port && is_inferior (class_of port)
 
 abbrev pub inferior_effect : PortState → PortState
 inferior_effect port =
-    if rst_has 0x10 port.message
+    if rst_has LEARNING port.message
     then record port { disputed = true; agreed = false; received_message = false }
     else record port { received_message = false }
 
@@ -258,7 +201,7 @@ not_designated_guard port = may_take port && is_not_designated (class_of port)
 
 abbrev pub with_answer : PortState → PortState
 with_answer port =
-    if port.point_to_point && message_has 0x40 port.message
+    if port.point_to_point && message_has AGREEMENT port.message
     then record port { agreed = true; proposing = false }
     else record port { agreed = false }
 

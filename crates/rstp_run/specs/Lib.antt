@@ -1,4 +1,5 @@
 pub mod BridgeDetection
+pub mod Class
 pub mod Events
 pub mod Information
 pub mod Laws

@@ -1,5 +1,7 @@
 -- The transmit rules (IEEE 802.1D-2004, 17.26, in this project's own table).
 use Rattle.std.specs.Prelude.{ℕ, Bool, false, not, ◌&&◌, ◌||◌, ◌==◌, ◌+◌, ◌*◌, nat_lt, if◌then◌else◌, Some, is_none}
+use Rattle.bpdu_wire.specs.declared.flags.TheConstants.{AGREEMENT, ALTERNATE_OR_BACKUP_ROLE, CHANGE_ACKNOWLEDGEMENT, DESIGNATED_ROLE}
+use Rattle.bpdu_wire.specs.declared.flags.TheConstants.{FORWARDING, LEARNING, PROPOSAL, ROOT_ROLE, TOPOLOGY_CHANGE}
 use Rattle.bpdu_wire.specs.declared.bpdu.Message.{Message}
 use Rattle.bpdu_wire.specs.declared.bpdu.Bpdu.{Bpdu}
 use Rattle.bpdu_wire.specs.declared.bpdu.Bpdu.TheVariants.{Config, Rst, Tcn}
@@ -33,19 +35,20 @@ flag_if wanted flag = if wanted then flag else 0
 
 abbrev pub config_flags : PortState → ℕ
 config_flags port =
-    flag_if (not (port.topology_change_while == 0)) 0x01 + flag_if port.acknowledge_topology_change 0x80
+    flag_if (not (port.topology_change_while == 0)) TOPOLOGY_CHANGE
+    + flag_if port.acknowledge_topology_change CHANGE_ACKNOWLEDGEMENT
 
 -- a port's role as two bits of the flags
 abbrev pub role_flags : Role → ℕ
-role_flags role.Root = 0x08
-role_flags role.Designated = 0x0c
-role_flags _ = 0x04
+role_flags role.Root = ROOT_ROLE
+role_flags role.Designated = DESIGNATED_ROLE
+role_flags _ = ALTERNATE_OR_BACKUP_ROLE
 
 abbrev pub rst_flags : PortState → ℕ
 rst_flags port =
-    flag_if (not (port.topology_change_while == 0)) 0x01 + flag_if port.proposing 0x02
-    + role_flags port.role + flag_if port.learning 0x10 + flag_if port.forwarding 0x20
-    + flag_if port.agree 0x40
+    flag_if (not (port.topology_change_while == 0)) TOPOLOGY_CHANGE + flag_if port.proposing PROPOSAL
+    + role_flags port.role + flag_if port.learning LEARNING + flag_if port.forwarding FORWARDING
+    + flag_if port.agree AGREEMENT
 
 abbrev pub may_send : Timing → PortState → Bool
 may_send timing port =

@@ -17,27 +17,27 @@ fn finds_no_bridge(port: &PortState) -> bool
     port.edge_delay_while == 0 && port.auto_edge && port.send_rstp && port.proposing
 }
 
-pub fn edge_guard(port: &PortState) -> bool
+pub(crate) fn edge_guard(port: &PortState) -> bool
     ensures { result ≡ edge_guard port.now }
 {
     !port.oper_edge && ((!port.enabled && port.admin_edge) || finds_no_bridge(port))
 }
 
 /// The port leads to no bridge.
-pub fn edge(port: &mut PortState)
+pub(crate) fn edge(port: &mut PortState)
     ensures { port.new ≡ edge_effect port.old }
 {
     port.oper_edge = true;
 }
 
-pub fn not_edge_guard(port: &PortState) -> bool
+pub(crate) fn not_edge_guard(port: &PortState) -> bool
     ensures { result ≡ not_edge_guard port.now }
 {
     port.oper_edge && !port.enabled && !port.admin_edge
 }
 
 /// A port that went down is an edge only by its settings.
-pub fn not_edge(port: &mut PortState)
+pub(crate) fn not_edge(port: &mut PortState)
     ensures { port.new ≡ not_edge_effect port.old }
 {
     port.oper_edge = false;

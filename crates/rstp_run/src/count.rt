@@ -6,10 +6,10 @@ use crate::rule::Rule;
 
 /// How many firings there were, of how many at most, and which ports were flushed.
 #[derive(Clone, Copy)]
-pub struct Count {
-    pub fired: usize,
-    pub limit: usize,
-    pub flush: u64,
+pub(crate) struct Count {
+    pub(crate) fired: usize,
+    pub(crate) limit: usize,
+    pub(crate) flush: u64,
 }
 
 fn with_bit(mask: u64, p: usize) -> u64
@@ -23,7 +23,7 @@ impl Count {
     ghost use Rattle.rstp_run.specs.Runs.{counted};
 
     /// One more firing, of this rule at the port at place `p`.
-    pub fn add(&mut self, rule: Rule, p: usize)
+    pub(crate) fn add(&mut self, rule: Rule, p: usize)
         requires bit { p < 64 }
         requires below { self.old.fired < self.old.limit }
         ensures { self.new ≡ counted self.old rule p }

@@ -17,7 +17,11 @@ ghost use Rattle.rstp_run.specs.Rules.{
 
 use crate::count::Count;
 use crate::event::{Event, Outcome};
-use crate::firing::*;
+use crate::firing::{
+    detection_is_enabled, fire_detection, fire_information, fire_migration, fire_receive,
+    fire_topology, fire_transmit, information_is_enabled, migration_is_enabled, receive_is_enabled,
+    topology_is_enabled, transmit_is_enabled,
+};
 use crate::rule::{MAIN, Rule, SENDS};
 use arrayvec::ArrayVec;
 use bpdu_wire::Bpdu;
@@ -30,7 +34,7 @@ use std::marker::Model;
 
 /// A bridge that doesn't know whether it is settled.
 #[derive(Drop)]
-pub struct Engine {
+pub(crate) struct Engine {
     settings: Settings,
     root: Root,
     ports: ArrayVec<PortState, 64>,
@@ -165,7 +169,7 @@ impl Engine {
     };
 
     /// A bridge before its first event.
-    pub fn new(settings: Settings, ports: &[PortSettings]) -> Self
+    pub(crate) fn new(settings: Settings, ports: &[PortSettings]) -> Self
         requires { length ports.now ≤ 64 }
         ensures { result ≡ start settings ports.now }
     {
@@ -177,7 +181,7 @@ impl Engine {
     }
 
     /// How many ports there are.
-    pub fn len(&self) -> usize
+    pub(crate) fn len(&self) -> usize
         ensures value { result ≡ length self.now.ports }
         ensures few { result ≤ 64 }
     {
@@ -273,7 +277,7 @@ impl Engine {
     }
 
     /// Whether no rule is enabled.
-    pub fn is_settled(&self) -> bool
+    pub(crate) fn is_settled(&self) -> bool
         ensures yes { result ≡ true → IsSettled self.now }
         ensures no { result ≡ false → ¬ IsSettled self.now }
     {
@@ -312,7 +316,7 @@ impl Engine {
     }
 
     /// The event, and at most so many firings.
-    pub fn event_within(&mut self, event: Event, limit: usize) -> Outcome
+    pub(crate) fn event_within(&mut self, event: Event, limit: usize) -> Outcome
         requires { IsAt event (length self.old.ports) }
         ensures happens { Happens event limit self.old self.new result.settled result.flush }
         ensures yes { result.settled ≡ true → IsSettled self.new }
@@ -335,7 +339,7 @@ impl Engine {
     }
 
     /// The port of this number.
-    pub fn port(&self, p: u8) -> &PortState
+    pub(crate) fn port(&self, p: u8) -> &PortState
         requires { IsPort p (length self.now.ports) }
         ensures { slice_get self.now.ports (p - 1) ≡ Some result.now }
     {

@@ -16,18 +16,33 @@ ghost use Rattle.rstp_run.specs.Machines.{
   transmit_does,
 };
 
-use crate::bridge_detection::*;
-use crate::information::*;
-use crate::migration::*;
-use crate::receive::*;
+use crate::bridge_detection::{edge, edge_guard, not_edge, not_edge_guard};
+use crate::information::{
+    aged, aged_guard, disabled, disabled_guard, drop_guard, drop_message, enabled, enabled_guard,
+    inferior, inferior_guard, not_designated, not_designated_guard, other, other_guard, repeated,
+    repeated_guard, superior, superior_guard, update, update_guard,
+};
+use crate::migration::{
+    checked_guard, enter_checking, enter_selecting, enter_sensing, recheck_guard, selected_guard,
+    to_rstp_guard, to_stp_guard,
+};
+use crate::receive::{discard, discard_guard, receive, receive_guard};
 use crate::rule::{
     DetectionRule, InformationRule, MigrationRule, ReceiveRule, TopologyRule, TransmitRule,
 };
-use crate::topology_change::*;
-use crate::transmit::*;
+use crate::topology_change::{
+    acknowledged, acknowledged_guard, detected, detected_guard, flush, flush_guard, notified_tc,
+    notified_tc_guard, notified_tcn, notified_tcn_guard, propagating, propagating_guard, tc_back,
+    tc_back_guard, tc_clear, tc_clear_guard, tc_inactive, tc_inactive_guard, tc_learning,
+    tc_learning_guard,
+};
+use crate::transmit::{
+    periodic, periodic_guard, send_config, send_config_guard, send_rst, send_rst_guard, send_tcn,
+    send_tcn_guard,
+};
 use rstp_state::port::{PortState, Timing};
 
-pub fn receive_is_enabled(port: &PortState, rule: ReceiveRule) -> bool
+pub(crate) fn receive_is_enabled(port: &PortState, rule: ReceiveRule) -> bool
     ensures { result ≡ receive_asks rule port.now }
 {
     match rule {
@@ -36,7 +51,7 @@ pub fn receive_is_enabled(port: &PortState, rule: ReceiveRule) -> bool
     }
 }
 
-pub fn fire_receive(port: &mut PortState, rule: ReceiveRule)
+pub(crate) fn fire_receive(port: &mut PortState, rule: ReceiveRule)
     ensures { port.new ≡ receive_does rule port.old }
 {
     match rule {
@@ -45,7 +60,7 @@ pub fn fire_receive(port: &mut PortState, rule: ReceiveRule)
     }
 }
 
-pub fn migration_is_enabled(port: &PortState, rule: MigrationRule) -> bool
+pub(crate) fn migration_is_enabled(port: &PortState, rule: MigrationRule) -> bool
     ensures { result ≡ migration_asks rule port.now }
 {
     match rule {
@@ -57,7 +72,7 @@ pub fn migration_is_enabled(port: &PortState, rule: MigrationRule) -> bool
     }
 }
 
-pub fn fire_migration(port: &mut PortState, rule: MigrationRule)
+pub(crate) fn fire_migration(port: &mut PortState, rule: MigrationRule)
     ensures { port.new ≡ migration_does rule port.old }
 {
     match rule {
@@ -69,7 +84,7 @@ pub fn fire_migration(port: &mut PortState, rule: MigrationRule)
     }
 }
 
-pub fn detection_is_enabled(port: &PortState, rule: DetectionRule) -> bool
+pub(crate) fn detection_is_enabled(port: &PortState, rule: DetectionRule) -> bool
     ensures { result ≡ detection_asks rule port.now }
 {
     match rule {
@@ -78,7 +93,7 @@ pub fn detection_is_enabled(port: &PortState, rule: DetectionRule) -> bool
     }
 }
 
-pub fn fire_detection(port: &mut PortState, rule: DetectionRule)
+pub(crate) fn fire_detection(port: &mut PortState, rule: DetectionRule)
     ensures { port.new ≡ detection_does rule port.old }
 {
     match rule {
@@ -87,7 +102,7 @@ pub fn fire_detection(port: &mut PortState, rule: DetectionRule)
     }
 }
 
-pub fn information_is_enabled(port: &PortState, rule: InformationRule) -> bool
+pub(crate) fn information_is_enabled(port: &PortState, rule: InformationRule) -> bool
     ensures { result ≡ information_asks rule port.now }
 {
     match rule {
@@ -104,7 +119,7 @@ pub fn information_is_enabled(port: &PortState, rule: InformationRule) -> bool
     }
 }
 
-pub fn fire_information(port: &mut PortState, rule: InformationRule)
+pub(crate) fn fire_information(port: &mut PortState, rule: InformationRule)
     ensures { port.new ≡ information_does rule port.old }
 {
     match rule {
@@ -121,7 +136,7 @@ pub fn fire_information(port: &mut PortState, rule: InformationRule)
     }
 }
 
-pub fn topology_is_enabled(port: &PortState, rule: TopologyRule) -> bool
+pub(crate) fn topology_is_enabled(port: &PortState, rule: TopologyRule) -> bool
     ensures { result ≡ topology_asks rule port.now }
 {
     match rule {
@@ -139,7 +154,7 @@ pub fn topology_is_enabled(port: &PortState, rule: TopologyRule) -> bool
 }
 
 /// Fires the rule at the port at place `p`.
-pub fn fire_topology(timing: &Timing, ports: &mut [PortState], rule: TopologyRule, p: usize)
+pub(crate) fn fire_topology(timing: &Timing, ports: &mut [PortState], rule: TopologyRule, p: usize)
     requires { p < length ports.old }
     ensures { ports.new ≡ topology_does rule timing.now ports.old p }
 {
@@ -157,7 +172,7 @@ pub fn fire_topology(timing: &Timing, ports: &mut [PortState], rule: TopologyRul
     }
 }
 
-pub fn transmit_is_enabled(timing: &Timing, port: &PortState, rule: TransmitRule) -> bool
+pub(crate) fn transmit_is_enabled(timing: &Timing, port: &PortState, rule: TransmitRule) -> bool
     ensures { result ≡ transmit_asks rule timing.now port.now }
 {
     match rule {
@@ -168,7 +183,7 @@ pub fn transmit_is_enabled(timing: &Timing, port: &PortState, rule: TransmitRule
     }
 }
 
-pub fn fire_transmit(timing: &Timing, port: &mut PortState, rule: TransmitRule)
+pub(crate) fn fire_transmit(timing: &Timing, port: &mut PortState, rule: TransmitRule)
     requires { transmit_asks rule timing.now port.old ≡ true }
     ensures { port.new ≡ transmit_does rule timing.now port.old }
 {

@@ -3,11 +3,6 @@
 ghost use Rattle.std.specs.Prelude.{◌≡◌};
 ghost use Rattle.rstp_state.specs.Vector.{is_less};
 ghost use Rattle.rstp_run.specs.Information.{
-  designated_class,
-  answering_class,
-  is_answer,
-  rst_class,
-  class_of,
   message_has,
   rst_has,
   vector_or,
@@ -47,154 +42,49 @@ ghost use Rattle.rstp_run.specs.Information.{
   other_effect,
 };
 
-use bpdu_wire::{Bpdu, Message, SenderRole};
+use crate::class::class_of;
+use bpdu_wire::{
+    AGREEMENT, Bpdu, CHANGE_ACKNOWLEDGEMENT, LEARNING, Message, PROPOSAL, TOPOLOGY_CHANGE,
+};
 use rstp_state::port::{InfoIs, Information, PortState, has_flag};
-use rstp_state::vector::{Times, Vector, superior as is_superior_to};
+use rstp_state::vector::{Times, Vector};
 
-/// What a received message is to the port (17.21.8).
-#[derive(Clone, Copy, Debug, PartialEq, Eq)]
-pub enum Class {
-    /// Better information of a designated port.
-    Superior,
-    /// The information that the port has already.
-    Repeated,
-    /// Worse information of a designated port.
-    Inferior,
-    /// The answer of a root, alternate or backup port.
-    NotDesignated,
-    Other,
-}
-
-impl Class {
-    ghost use Rattle.rstp_run.specs.Information.{
-      is_superior,
-      is_repeated,
-      is_inferior,
-      is_not_designated,
-      is_other,
-    };
-
-    pub fn is_superior(self) -> bool
-        ensures { result ≡ is_superior self }
-    {
-        matches!(self, Class::Superior)
-    }
-
-    pub fn is_repeated(self) -> bool
-        ensures { result ≡ is_repeated self }
-    {
-        matches!(self, Class::Repeated)
-    }
-
-    pub fn is_inferior(self) -> bool
-        ensures { result ≡ is_inferior self }
-    {
-        matches!(self, Class::Inferior)
-    }
-
-    pub fn is_not_designated(self) -> bool
-        ensures { result ≡ is_not_designated self }
-    {
-        matches!(self, Class::NotDesignated)
-    }
-
-    pub fn is_other(self) -> bool
-        ensures { result ≡ is_other self }
-    {
-        matches!(self, Class::Other)
-    }
-}
-
-/// The class of a designated port's message.
-fn designated_class(port: &PortState, message: &Message) -> Class
-    ensures { result ≡ designated_class port.now message.now }
-{
-    let vector = Vector::of_message(message);
-    let times = Times::of_message(message);
-    if is_superior_to(&vector, &times, &port.port_priority, &port.port_times) {
-        return Class::Superior;
-    }
-    if vector == port.port_priority && times == port.port_times && port.info_is.is_received() {
-        return Class::Repeated;
-    }
-    if port.port_priority.is_less(&vector) {
-        Class::Inferior
-    } else {
-        Class::Other
-    }
-}
-
-/// The class of a root, alternate or backup port's message.
-fn answering_class(port: &PortState, message: &Message) -> Class
-    ensures { result ≡ answering_class port.now message.now }
-{
-    if Vector::of_message(message).is_less(&port.port_priority) {
-        Class::Other
-    } else {
-        Class::NotDesignated
-    }
-}
-
-/// Whether the sender's role is Alternate, Backup or Root.
-fn is_answer(role: SenderRole) -> bool
-    ensures { result ≡ is_answer role }
-{
-    matches!(role, SenderRole::AlternateOrBackup | SenderRole::Root)
-}
-
-fn rst_class(port: &PortState, message: &Message) -> Class
-    ensures { result ≡ rst_class port.now message.now }
-{
-    if is_answer(message.role()) {
-        answering_class(port, message)
-    } else {
-        designated_class(port, message)
-    }
-}
-
-/// The class of the stored message.
-pub fn class_of(port: &PortState) -> Class
-    ensures { result ≡ class_of port.now }
-{
-    match &port.message {
-        Some(Bpdu::Config(message)) => designated_class(port, message),
-        Some(Bpdu::Rst(message)) => rst_class(port, message),
-        _ => Class::Other,
-    }
-}
-
-fn message_has(mask: u8, message: Option<Bpdu>) -> bool
-    ensures { result ≡ message_has mask message }
+/// Whether a message with fields is stored that has the flag.
+fn message_has(flag: u8, message: Option<Bpdu>) -> bool
+    ensures { result ≡ message_has flag message }
 {
     match message {
-        Some(Bpdu::Config(message)) => has_flag(message.flags, mask),
-        Some(Bpdu::Rst(message)) => has_flag(message.flags, mask),
+        Some(Bpdu::Config(message)) => has_flag(message.flags, flag),
+        Some(Bpdu::Rst(message)) => has_flag(message.flags, flag),
         _ => false,
     }
 }
 
-fn rst_has(mask: u8, message: Option<Bpdu>) -> bool
-    ensures { result ≡ rst_has mask message }
+/// Whether a message of the rapid protocol is stored that has the flag.
+fn rst_has(flag: u8, message: Option<Bpdu>) -> bool
+    ensures { result ≡ rst_has flag message }
 {
     match message {
-        Some(Bpdu::Rst(message)) => has_flag(message.flags, mask),
+        Some(Bpdu::Rst(message)) => has_flag(message.flags, flag),
         _ => false,
     }
 }
 
+/// The message may ask for an agreement.
 fn note_proposal(port: &mut PortState)
     ensures { port.new ≡ with_proposal port.old }
 {
-    port.proposed = port.proposed || rst_has(0x02, port.message);
+    port.proposed = port.proposed || rst_has(PROPOSAL, port.message);
 }
 
+/// The message may tell of a topology change, or acknowledge one.
 fn note_change_flags(port: &mut PortState)
     ensures { port.new ≡ with_change_flags port.old }
 {
     port.received_topology_change = port.received_topology_change
-        || message_has(0x01, port.message);
+        || message_has(TOPOLOGY_CHANGE, port.message);
     port.received_acknowledgement = port.received_acknowledgement
-        || message_has(0x80, port.message);
+        || message_has(CHANGE_ACKNOWLEDGEMENT, port.message);
 }
 
 /// How long information of these times is kept, in seconds (17.21.23, updtRcvdInfoWhile).
@@ -241,14 +131,14 @@ fn age(port: &mut PortState)
     port.selected = false;
 }
 
-pub fn disabled_guard(port: &PortState) -> bool
+pub(crate) fn disabled_guard(port: &PortState) -> bool
     ensures { result ≡ disabled_guard port.now }
 {
     !port.enabled && !port.information.is_out()
 }
 
 /// The port went down.
-pub fn disabled(port: &mut PortState)
+pub(crate) fn disabled(port: &mut PortState)
     ensures { port.new ≡ disabled_effect port.old }
 {
     port.information = Information::Disabled;
@@ -263,33 +153,33 @@ pub fn disabled(port: &mut PortState)
     port.selected = false;
 }
 
-pub fn drop_guard(port: &PortState) -> bool
+pub(crate) fn drop_guard(port: &PortState) -> bool
     ensures { result ≡ drop_guard port.now }
 {
     port.information.is_out() && port.received_message
 }
 
 /// A message at a port that is down is dropped.
-pub fn drop_message(port: &mut PortState)
+pub(crate) fn drop_message(port: &mut PortState)
     ensures { port.new ≡ drop_effect port.old }
 {
     port.received_message = false;
 }
 
-pub fn enabled_guard(port: &PortState) -> bool
+pub(crate) fn enabled_guard(port: &PortState) -> bool
     ensures { result ≡ enabled_guard port.now }
 {
     port.information.is_out() && port.enabled
 }
 
 /// The port came up.
-pub fn enabled(port: &mut PortState)
+pub(crate) fn enabled(port: &mut PortState)
     ensures { port.new ≡ enabled_effect port.old }
 {
     age(port);
 }
 
-pub fn update_guard(port: &PortState) -> bool
+pub(crate) fn update_guard(port: &PortState) -> bool
     ensures { result ≡ update_guard port.now }
 {
     !port.information.is_out() && port.selected && port.update_info
@@ -302,7 +192,7 @@ fn keeps_agreed(port: &PortState) -> bool
 }
 
 /// The port takes over its designated vector and times.
-pub fn update(port: &mut PortState)
+pub(crate) fn update(port: &mut PortState)
     ensures { port.new ≡ update_effect port.old }
 {
     port.agreed = keeps_agreed(port);
@@ -317,7 +207,7 @@ pub fn update(port: &mut PortState)
     port.information = Information::Current;
 }
 
-pub fn aged_guard(port: &PortState) -> bool
+pub(crate) fn aged_guard(port: &PortState) -> bool
     ensures { result ≡ aged_guard port.now }
 {
     port.information.is_current()
@@ -328,7 +218,7 @@ pub fn aged_guard(port: &PortState) -> bool
 }
 
 /// What was received is too old.
-pub fn aged(port: &mut PortState)
+pub(crate) fn aged(port: &mut PortState)
     ensures { port.new ≡ aged_effect port.old }
 {
     age(port);
@@ -340,7 +230,7 @@ fn may_take(port: &PortState) -> bool
     port.information.is_current() && port.received_message && !port.update_info
 }
 
-pub fn superior_guard(port: &PortState) -> bool
+pub(crate) fn superior_guard(port: &PortState) -> bool
     ensures { result ≡ superior_guard port.now }
 {
     may_take(port) && class_of(port).is_superior()
@@ -375,7 +265,7 @@ fn set_superior_flags(port: &mut PortState)
 }
 
 /// Better information of a designated port is taken over.
-pub fn superior(port: &mut PortState)
+pub(crate) fn superior(port: &mut PortState)
     ensures { port.new ≡ superior_effect port.old }
 {
     note_proposal(port);
@@ -386,14 +276,14 @@ pub fn superior(port: &mut PortState)
     port.received_message = false;
 }
 
-pub fn repeated_guard(port: &PortState) -> bool
+pub(crate) fn repeated_guard(port: &PortState) -> bool
     ensures { result ≡ repeated_guard port.now }
 {
     may_take(port) && class_of(port).is_repeated()
 }
 
 /// The information that the port has already is kept on.
-pub fn repeated(port: &mut PortState)
+pub(crate) fn repeated(port: &mut PortState)
     ensures { port.new ≡ repeated_effect port.old }
 {
     note_proposal(port);
@@ -402,33 +292,34 @@ pub fn repeated(port: &mut PortState)
     port.received_message = false;
 }
 
-pub fn inferior_guard(port: &PortState) -> bool
+pub(crate) fn inferior_guard(port: &PortState) -> bool
     ensures { result ≡ inferior_guard port.now }
 {
     may_take(port) && class_of(port).is_inferior()
 }
 
 /// Worse information of a designated port is disputed if that port learns.
-pub fn inferior(port: &mut PortState)
+pub(crate) fn inferior(port: &mut PortState)
     ensures { port.new ≡ inferior_effect port.old }
 {
-    if rst_has(0x10, port.message) {
+    if rst_has(LEARNING, port.message) {
         port.disputed = true;
         port.agreed = false;
     }
     port.received_message = false;
 }
 
-pub fn not_designated_guard(port: &PortState) -> bool
+pub(crate) fn not_designated_guard(port: &PortState) -> bool
     ensures { result ≡ not_designated_guard port.now }
 {
     may_take(port) && class_of(port).is_not_designated()
 }
 
+/// An answer on a point to point link may be an agreement.
 fn take_answer(port: &mut PortState)
     ensures { port.new ≡ with_answer port.old }
 {
-    if port.point_to_point && message_has(0x40, port.message) {
+    if port.point_to_point && message_has(AGREEMENT, port.message) {
         port.agreed = true;
         port.proposing = false;
     } else {
@@ -437,7 +328,7 @@ fn take_answer(port: &mut PortState)
 }
 
 /// The answer of a root, alternate or backup port may be an agreement.
-pub fn not_designated(port: &mut PortState)
+pub(crate) fn not_designated(port: &mut PortState)
     ensures { port.new ≡ not_designated_effect port.old }
 {
     take_answer(port);
@@ -445,14 +336,14 @@ pub fn not_designated(port: &mut PortState)
     port.received_message = false;
 }
 
-pub fn other_guard(port: &PortState) -> bool
+pub(crate) fn other_guard(port: &PortState) -> bool
     ensures { result ≡ other_guard port.now }
 {
     may_take(port) && class_of(port).is_other()
 }
 
 /// Of any other message a notification is noted.
-pub fn other(port: &mut PortState)
+pub(crate) fn other(port: &mut PortState)
     ensures { port.new ≡ other_effect port.old }
 {
     if let Some(Bpdu::Tcn) = port.message {

@@ -3,17 +3,18 @@
 #![tactic(auto)]
 
 pub mod bridge;
-pub mod bridge_detection;
-pub mod count;
-pub mod engine;
+mod bridge_detection;
+mod class;
+mod count;
+mod engine;
 pub mod event;
-pub mod firing;
-pub mod information;
+mod firing;
+mod information;
 pub mod laws;
-pub mod migration;
-pub mod receive;
-pub mod rule;
+mod migration;
+mod receive;
+mod rule;
 #[cfg(test)]
 mod tests;
-pub mod topology_change;
-pub mod transmit;
+mod topology_change;
+mod transmit;

@@ -15,7 +15,7 @@ ghost use Rattle.rstp_run.specs.Migration.{
 use rstp_state::port::{Migration, PortState};
 
 /// The port sends the rapid protocol, and waits before it listens for the other.
-pub fn enter_checking(port: &mut PortState)
+pub(crate) fn enter_checking(port: &mut PortState)
     ensures { port.new ≡ enter_checking port.old }
 {
     port.migration = Migration::Checking;
@@ -25,7 +25,7 @@ pub fn enter_checking(port: &mut PortState)
 }
 
 /// The port sends the older protocol, and waits before it listens for the rapid one.
-pub fn enter_selecting(port: &mut PortState)
+pub(crate) fn enter_selecting(port: &mut PortState)
     ensures { port.new ≡ enter_selecting port.old }
 {
     port.migration = Migration::Selecting;
@@ -34,7 +34,7 @@ pub fn enter_selecting(port: &mut PortState)
 }
 
 /// The port listens for the other protocol.
-pub fn enter_sensing(port: &mut PortState)
+pub(crate) fn enter_sensing(port: &mut PortState)
     ensures { port.new ≡ enter_sensing port.old }
 {
     port.migration = Migration::Sensing;
@@ -43,21 +43,21 @@ pub fn enter_sensing(port: &mut PortState)
 }
 
 /// A port that is not enabled goes on checking.
-pub fn recheck_guard(port: &PortState) -> bool
+pub(crate) fn recheck_guard(port: &PortState) -> bool
     ensures { result ≡ recheck_guard port.now }
 {
     port.migration.is_checking() && port.migration_delay_while != 3 && !port.enabled
 }
 
 /// Checking is over.
-pub fn checked_guard(port: &PortState) -> bool
+pub(crate) fn checked_guard(port: &PortState) -> bool
     ensures { result ≡ checked_guard port.now }
 {
     port.migration.is_checking() && port.migration_delay_while == 0 && port.enabled
 }
 
 /// Selecting is over.
-pub fn selected_guard(port: &PortState) -> bool
+pub(crate) fn selected_guard(port: &PortState) -> bool
     ensures { result ≡ selected_guard port.now }
 {
     port.migration.is_selecting()
@@ -65,7 +65,7 @@ pub fn selected_guard(port: &PortState) -> bool
 }
 
 /// The port goes back to the rapid protocol.
-pub fn to_rstp_guard(port: &PortState) -> bool
+pub(crate) fn to_rstp_guard(port: &PortState) -> bool
     ensures { result ≡ to_rstp_guard port.now }
 {
     port.migration.is_sensing()
@@ -73,7 +73,7 @@ pub fn to_rstp_guard(port: &PortState) -> bool
 }
 
 /// The port goes over to the older protocol.
-pub fn to_stp_guard(port: &PortState) -> bool
+pub(crate) fn to_stp_guard(port: &PortState) -> bool
     ensures { result ≡ to_stp_guard port.now }
 {
     port.migration.is_sensing() && port.send_rstp && port.received_stp

@@ -6,14 +6,14 @@ ghost use Rattle.rstp_run.specs.Receive.{discard_guard, discard_effect, receive_
 use bpdu_wire::Bpdu;
 use rstp_state::port::PortState;
 
-pub fn discard_guard(port: &PortState) -> bool
+pub(crate) fn discard_guard(port: &PortState) -> bool
     ensures { result ≡ discard_guard port.now }
 {
     (port.received_bpdu || port.edge_delay_while != 3) && !port.enabled
 }
 
 /// A port that is not enabled forgets what came.
-pub fn discard(port: &mut PortState)
+pub(crate) fn discard(port: &mut PortState)
     ensures { port.new ≡ discard_effect port.old }
 {
     port.received_bpdu = false;
@@ -23,14 +23,14 @@ pub fn discard(port: &mut PortState)
     port.edge_delay_while = 3;
 }
 
-pub fn receive_guard(port: &PortState) -> bool
+pub(crate) fn receive_guard(port: &PortState) -> bool
     ensures { result ≡ receive_guard port.now }
 {
     port.received_bpdu && port.enabled && !port.received_message
 }
 
 /// The stored message goes to the other machines, and the port is no edge.
-pub fn receive(port: &mut PortState)
+pub(crate) fn receive(port: &mut PortState)
     ensures { port.new ≡ receive_effect port.old }
 {
     if let Some(Bpdu::Rst(_)) = port.message {

@@ -6,14 +6,14 @@ use rstp_roles::rule::{RoleRule, StateRule};
 
 /// A rule of the receive machine.
 #[derive(Clone, Copy, Debug, PartialEq, Eq)]
-pub enum ReceiveRule {
+pub(crate) enum ReceiveRule {
     Discard,
     Receive,
 }
 
 /// A rule of the protocol migration machine.
 #[derive(Clone, Copy, Debug, PartialEq, Eq)]
-pub enum MigrationRule {
+pub(crate) enum MigrationRule {
     Recheck,
     Checked,
     Selected,
@@ -23,14 +23,14 @@ pub enum MigrationRule {
 
 /// A rule of the bridge detection machine.
 #[derive(Clone, Copy, Debug, PartialEq, Eq)]
-pub enum DetectionRule {
+pub(crate) enum DetectionRule {
     Edge,
     NotEdge,
 }
 
 /// A rule of the information machine.
 #[derive(Clone, Copy, Debug, PartialEq, Eq)]
-pub enum InformationRule {
+pub(crate) enum InformationRule {
     Disabled,
     Drop,
     Enabled,
@@ -45,7 +45,7 @@ pub enum InformationRule {
 
 /// A rule of the topology change machine.
 #[derive(Clone, Copy, Debug, PartialEq, Eq)]
-pub enum TopologyRule {
+pub(crate) enum TopologyRule {
     TcLearning,
     Detected,
     TcClear,
@@ -60,7 +60,7 @@ pub enum TopologyRule {
 
 /// A rule of the transmit machine.
 #[derive(Clone, Copy, Debug, PartialEq, Eq)]
-pub enum TransmitRule {
+pub(crate) enum TransmitRule {
     Periodic,
     SendConfig,
     SendTcn,
@@ -69,7 +69,7 @@ pub enum TransmitRule {
 
 /// A rule of the table.
 #[derive(Clone, Copy, Debug, PartialEq, Eq)]
-pub enum Rule {
+pub(crate) enum Rule {
     /// The root and the roles are chosen anew. It is asked at the first port alone.
     Select,
     Receive(ReceiveRule),
@@ -86,7 +86,7 @@ impl Rule {
     ghost use Rattle.rstp_run.specs.Runs.{is_flush};
 
     /// Whether this is the rule that empties what was learnt at a port.
-    pub fn is_flush(self) -> bool
+    pub(crate) fn is_flush(self) -> bool
         ensures { result ≡ is_flush self }
     {
         matches!(self, Rule::Topology(TopologyRule::Flush))
@@ -94,7 +94,7 @@ impl Rule {
 }
 
 /// All rules but those that send, in their order.
-pub const MAIN: [Rule; 54] = [
+pub(crate) const MAIN: [Rule; 54] = [
     Rule::Select,
     Rule::Receive(ReceiveRule::Discard),
     Rule::Receive(ReceiveRule::Receive),
@@ -152,7 +152,7 @@ pub const MAIN: [Rule; 54] = [
 ];
 
 /// The rules that send.
-pub const SENDS: [Rule; 4] = [
+pub(crate) const SENDS: [Rule; 4] = [
     Rule::Transmit(TransmitRule::Periodic),
     Rule::Transmit(TransmitRule::SendConfig),
     Rule::Transmit(TransmitRule::SendTcn),

@@ -90,21 +90,21 @@ fn propagate_changes(ports: &mut [PortState])
     }
 }
 
-pub fn tc_learning_guard(port: &PortState) -> bool
+pub(crate) fn tc_learning_guard(port: &PortState) -> bool
     ensures { result ≡ tc_learning_guard port.now }
 {
     port.topology.is_inactive() && port.learn && !port.flush
 }
 
 /// The port begins to learn.
-pub fn tc_learning(port: &mut PortState)
+pub(crate) fn tc_learning(port: &mut PortState)
     ensures { port.new ≡ tc_learning_effect port.old }
 {
     clear_changes(port);
     port.topology = Topology::Learning;
 }
 
-pub fn detected_guard(port: &PortState) -> bool
+pub(crate) fn detected_guard(port: &PortState) -> bool
     ensures { result ≡ detected_guard port.now }
 {
     port.topology.is_learning() && is_in_tree(port) && port.forward && !port.oper_edge
@@ -119,7 +119,7 @@ fn detect(timing: &Timing, port: &mut PortState)
 }
 
 /// The port begins to forward, which is a change that every other port is to pass on.
-pub fn detected(timing: &Timing, ports: &mut [PortState], p: usize)
+pub(crate) fn detected(timing: &Timing, ports: &mut [PortState], p: usize)
     requires { p < length ports.old }
     ensures { ports.new ≡ detected_effect timing.now p ports.old }
 {
@@ -129,20 +129,20 @@ pub fn detected(timing: &Timing, ports: &mut [PortState], p: usize)
     ports[p] = port;
 }
 
-pub fn tc_clear_guard(port: &PortState) -> bool
+pub(crate) fn tc_clear_guard(port: &PortState) -> bool
     ensures { result ≡ tc_clear_guard port.now }
 {
     port.topology.is_learning() && has_changes(port) && !detected_guard(port)
 }
 
 /// A port that is not in the tree hears of no changes.
-pub fn tc_clear(port: &mut PortState)
+pub(crate) fn tc_clear(port: &mut PortState)
     ensures { port.new ≡ tc_clear_effect port.old }
 {
     clear_changes(port);
 }
 
-pub fn tc_inactive_guard(port: &PortState) -> bool
+pub(crate) fn tc_inactive_guard(port: &PortState) -> bool
     ensures { result ≡ tc_inactive_guard port.now }
 {
     port.topology.is_learning()
@@ -153,7 +153,7 @@ pub fn tc_inactive_guard(port: &PortState) -> bool
 }
 
 /// The port learns no longer, so what was learnt is forgotten.
-pub fn tc_inactive(port: &mut PortState)
+pub(crate) fn tc_inactive(port: &mut PortState)
     ensures { port.new ≡ tc_inactive_effect port.old }
 {
     port.topology = Topology::Inactive;
@@ -162,21 +162,21 @@ pub fn tc_inactive(port: &mut PortState)
     port.acknowledge_topology_change = false;
 }
 
-pub fn tc_back_guard(port: &PortState) -> bool
+pub(crate) fn tc_back_guard(port: &PortState) -> bool
     ensures { result ≡ tc_back_guard port.now }
 {
     port.topology.is_active() && (!is_in_tree(port) || port.oper_edge)
 }
 
 /// The port left the tree, or is an edge.
-pub fn tc_back(port: &mut PortState)
+pub(crate) fn tc_back(port: &mut PortState)
     ensures { port.new ≡ tc_back_effect port.old }
 {
     clear_changes(port);
     port.topology = Topology::Learning;
 }
 
-pub fn notified_tcn_guard(port: &PortState) -> bool
+pub(crate) fn notified_tcn_guard(port: &PortState) -> bool
     ensures { result ≡ notified_tcn_guard port.now }
 {
     port.topology.is_active() && port.received_notification
@@ -199,7 +199,7 @@ fn note_notification(timing: &Timing, port: &mut PortState)
 }
 
 /// A bridge of the older protocol tells of a change, which every other port is to pass on.
-pub fn notified_tcn(timing: &Timing, ports: &mut [PortState], p: usize)
+pub(crate) fn notified_tcn(timing: &Timing, ports: &mut [PortState], p: usize)
     requires { p < length ports.old }
     ensures { ports.new ≡ notified_tcn_effect timing.now p ports.old }
 {
@@ -209,14 +209,14 @@ pub fn notified_tcn(timing: &Timing, ports: &mut [PortState], p: usize)
     ports[p] = port;
 }
 
-pub fn notified_tc_guard(port: &PortState) -> bool
+pub(crate) fn notified_tc_guard(port: &PortState) -> bool
     ensures { result ≡ notified_tc_guard port.now }
 {
     port.topology.is_active() && port.received_topology_change
 }
 
 /// A message tells of a change, which every other port is to pass on.
-pub fn notified_tc(ports: &mut [PortState], p: usize)
+pub(crate) fn notified_tc(ports: &mut [PortState], p: usize)
     requires { p < length ports.old }
     ensures { ports.new ≡ notified_tc_effect p ports.old }
 {
@@ -226,14 +226,14 @@ pub fn notified_tc(ports: &mut [PortState], p: usize)
     ports[p] = port;
 }
 
-pub fn propagating_guard(port: &PortState) -> bool
+pub(crate) fn propagating_guard(port: &PortState) -> bool
     ensures { result ≡ propagating_guard port.now }
 {
     port.topology.is_active() && port.propagate_topology_change && !port.oper_edge
 }
 
 /// The port passes a change on, and what was learnt at it is forgotten.
-pub fn propagating(timing: &Timing, port: &mut PortState)
+pub(crate) fn propagating(timing: &Timing, port: &mut PortState)
     ensures { port.new ≡ propagating_effect timing.now port.old }
 {
     start_change_timer(timing, port);
@@ -241,28 +241,28 @@ pub fn propagating(timing: &Timing, port: &mut PortState)
     port.propagate_topology_change = false;
 }
 
-pub fn acknowledged_guard(port: &PortState) -> bool
+pub(crate) fn acknowledged_guard(port: &PortState) -> bool
     ensures { result ≡ acknowledged_guard port.now }
 {
     port.topology.is_active() && port.received_acknowledgement
 }
 
 /// The other end knows of the change.
-pub fn acknowledged(port: &mut PortState)
+pub(crate) fn acknowledged(port: &mut PortState)
     ensures { port.new ≡ acknowledged_effect port.old }
 {
     port.topology_change_while = 0;
     port.received_acknowledgement = false;
 }
 
-pub fn flush_guard(port: &PortState) -> bool
+pub(crate) fn flush_guard(port: &PortState) -> bool
     ensures { result ≡ flush_guard port.now }
 {
     port.flush
 }
 
 /// What was learnt at the port is forgotten; the event's answer tells so.
-pub fn flush(port: &mut PortState)
+pub(crate) fn flush(port: &mut PortState)
     ensures { port.new ≡ flush_effect port.old }
 {
     port.flush = false;

@@ -23,7 +23,10 @@ ghost use Rattle.rstp_run.specs.Transmit.{
   send_rst_effect,
 };
 
-use bpdu_wire::{Bpdu, Message};
+use bpdu_wire::{
+    AGREEMENT, ALTERNATE_OR_BACKUP_ROLE, Bpdu, CHANGE_ACKNOWLEDGEMENT, DESIGNATED_ROLE, FORWARDING,
+    LEARNING, Message, PROPOSAL, ROLE_BITS, ROOT_ROLE, TOPOLOGY_CHANGE,
+};
 use rstp_state::port::{PortState, Role, Timing};
 
 /// Seconds in 1/256 second. What doesn't fit the field is written as its greatest number.
@@ -50,6 +53,7 @@ fn message_with(flags: u8, port: &PortState) -> Message
     }
 }
 
+/// The flag, where it is wanted.
 fn flag_if(wanted: bool, flag: u8) -> u8
     ensures value { result ≡ flag_if wanted flag }
     ensures small { result ≤ flag }
@@ -57,41 +61,46 @@ fn flag_if(wanted: bool, flag: u8) -> u8
     if wanted { flag } else { 0 }
 }
 
+/// The flags of a message of the older protocol.
 fn config_flags(port: &PortState) -> u8
     ensures { result ≡ config_flags port.now }
 {
-    flag_if(port.topology_change_while != 0, 0x01) + flag_if(port.acknowledge_topology_change, 0x80)
+    flag_if(port.topology_change_while != 0, TOPOLOGY_CHANGE)
+        + flag_if(port.acknowledge_topology_change, CHANGE_ACKNOWLEDGEMENT)
 }
 
 /// The role as two bits of the flags (9.3.3).
 fn role_flags(role: Role) -> u8
     ensures value { result ≡ role_flags role }
-    ensures small { result < 0x10 }
+    ensures small { result ≤ ROLE_BITS }
 {
     match role {
-        Role::Root => 0x08,
-        Role::Designated => 0x0c,
-        _ => 0x04,
+        Role::Root => ROOT_ROLE,
+        Role::Designated => DESIGNATED_ROLE,
+        _ => ALTERNATE_OR_BACKUP_ROLE,
     }
 }
 
+/// The flags of a message of the rapid protocol.
 fn rst_flags(port: &PortState) -> u8
     ensures { result ≡ rst_flags port.now }
 {
-    flag_if(port.topology_change_while != 0, 0x01)
-        + flag_if(port.proposing, 0x02)
+    flag_if(port.topology_change_while != 0, TOPOLOGY_CHANGE)
+        + flag_if(port.proposing, PROPOSAL)
         + role_flags(port.role)
-        + flag_if(port.learning, 0x10)
-        + flag_if(port.forwarding, 0x20)
-        + flag_if(port.agree, 0x40)
+        + flag_if(port.learning, LEARNING)
+        + flag_if(port.forwarding, FORWARDING)
+        + flag_if(port.agree, AGREEMENT)
 }
 
+/// Whether the port has something new to send, and has sent few enough messages.
 fn may_send(timing: &Timing, port: &PortState) -> bool
     ensures { result ≡ may_send timing.now port.now }
 {
     port.may_act() && port.new_info && port.hello_when != 0 && port.transmit_count < timing.hold
 }
 
+/// Whether the port may send, has not sent at this event, and has a part in the tree.
 fn is_ready(timing: &Timing, port: &PortState) -> bool
     ensures { result ≡ is_ready timing.now port.now }
 {
@@ -110,7 +119,7 @@ fn send(timing: &Timing, bpdu: Bpdu, port: &mut PortState)
     port.hello_when = u32::from(timing.hello);
 }
 
-pub fn periodic_guard(port: &PortState) -> bool
+pub(crate) fn periodic_guard(port: &PortState) -> bool
     ensures { result ≡ periodic_guard port.now }
 {
     port.may_act() && port.hello_when == 0
@@ -118,7 +127,7 @@ pub fn periodic_guard(port: &PortState) -> bool
 
 /// A Hello time passed, so a designated port says again what it says, and a root port that it
 /// knows of a change.
-pub fn periodic(timing: &Timing, port: &mut PortState)
+pub(crate) fn periodic(timing: &Timing, port: &mut PortState)
     ensures { port.new ≡ periodic_effect timing.now port.old }
 {
     port.hello_when = u32::from(timing.hello);
@@ -127,14 +136,14 @@ pub fn periodic(timing: &Timing, port: &mut PortState)
         || (port.role.is_root() && port.topology_change_while != 0);
 }
 
-pub fn send_config_guard(timing: &Timing, port: &PortState) -> bool
+pub(crate) fn send_config_guard(timing: &Timing, port: &PortState) -> bool
     ensures { result ≡ send_config_guard timing.now port.now }
 {
     is_ready(timing, port) && !port.send_rstp && port.role.is_designated()
 }
 
 /// A designated port sends a message of the older protocol.
-pub fn send_config(timing: &Timing, port: &mut PortState)
+pub(crate) fn send_config(timing: &Timing, port: &mut PortState)
     requires { port.old.transmit_count < timing.now.hold }
     ensures { port.new ≡ send_config_effect timing.now port.old }
 {
@@ -143,28 +152,28 @@ pub fn send_config(timing: &Timing, port: &mut PortState)
     port.acknowledge_topology_change = false;
 }
 
-pub fn send_tcn_guard(timing: &Timing, port: &PortState) -> bool
+pub(crate) fn send_tcn_guard(timing: &Timing, port: &PortState) -> bool
     ensures { result ≡ send_tcn_guard timing.now port.now }
 {
     is_ready(timing, port) && !port.send_rstp && port.role.is_root()
 }
 
 /// The root port tells a bridge of the older protocol of a change.
-pub fn send_tcn(timing: &Timing, port: &mut PortState)
+pub(crate) fn send_tcn(timing: &Timing, port: &mut PortState)
     requires { port.old.transmit_count < timing.now.hold }
     ensures { port.new ≡ send_tcn_effect timing.now port.old }
 {
     send(timing, Bpdu::Tcn, port);
 }
 
-pub fn send_rst_guard(timing: &Timing, port: &PortState) -> bool
+pub(crate) fn send_rst_guard(timing: &Timing, port: &PortState) -> bool
     ensures { result ≡ send_rst_guard timing.now port.now }
 {
     is_ready(timing, port) && port.send_rstp
 }
 
 /// The port sends a message of the rapid protocol.
-pub fn send_rst(timing: &Timing, port: &mut PortState)
+pub(crate) fn send_rst(timing: &Timing, port: &mut PortState)
     requires { port.old.transmit_count < timing.now.hold }
     ensures { port.new ≡ send_rst_effect timing.now port.old }
 {
