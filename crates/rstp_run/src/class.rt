@@ -9,7 +9,7 @@ use rstp_state::vector::{Times, Vector, superior as is_superior_to};
 
 /// What a received message is to the port (17.21.8).
 #[derive(Clone, Copy, Debug, PartialEq, Eq)]
-pub(crate) enum Class {
+pub enum Class {
     /// Better information of a designated port.
     Superior,
     /// The information that the port has already.

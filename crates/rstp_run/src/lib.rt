@@ -4,7 +4,7 @@
 
 pub mod bridge;
 mod bridge_detection;
-mod class;
+pub mod class;
 mod count;
 mod engine;
 pub mod event;
@@ -13,7 +13,7 @@ mod information;
 pub mod laws;
 mod migration;
 mod receive;
-mod rule;
+pub mod rule;
 #[cfg(test)]
 mod tests;
 mod topology_change;

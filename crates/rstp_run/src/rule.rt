@@ -6,14 +6,14 @@ use rstp_roles::rule::{RoleRule, StateRule};
 
 /// A rule of the receive machine.
 #[derive(Clone, Copy, Debug, PartialEq, Eq)]
-pub(crate) enum ReceiveRule {
+pub enum ReceiveRule {
     Discard,
     Receive,
 }
 
 /// A rule of the protocol migration machine.
 #[derive(Clone, Copy, Debug, PartialEq, Eq)]
-pub(crate) enum MigrationRule {
+pub enum MigrationRule {
     Recheck,
     Checked,
     Selected,
@@ -23,14 +23,14 @@ pub(crate) enum MigrationRule {
 
 /// A rule of the bridge detection machine.
 #[derive(Clone, Copy, Debug, PartialEq, Eq)]
-pub(crate) enum DetectionRule {
+pub enum DetectionRule {
     Edge,
     NotEdge,
 }
 
 /// A rule of the information machine.
 #[derive(Clone, Copy, Debug, PartialEq, Eq)]
-pub(crate) enum InformationRule {
+pub enum InformationRule {
     Disabled,
     Drop,
     Enabled,
@@ -45,7 +45,7 @@ pub(crate) enum InformationRule {
 
 /// A rule of the topology change machine.
 #[derive(Clone, Copy, Debug, PartialEq, Eq)]
-pub(crate) enum TopologyRule {
+pub enum TopologyRule {
     TcLearning,
     Detected,
     TcClear,
@@ -60,7 +60,7 @@ pub(crate) enum TopologyRule {
 
 /// A rule of the transmit machine.
 #[derive(Clone, Copy, Debug, PartialEq, Eq)]
-pub(crate) enum TransmitRule {
+pub enum TransmitRule {
     Periodic,
     SendConfig,
     SendTcn,
@@ -69,7 +69,7 @@ pub(crate) enum TransmitRule {
 
 /// A rule of the table.
 #[derive(Clone, Copy, Debug, PartialEq, Eq)]
-pub(crate) enum Rule {
+pub enum Rule {
     /// The root and the roles are chosen anew. It is asked at the first port alone.
     Select,
     Receive(ReceiveRule),
@@ -94,7 +94,7 @@ impl Rule {
 }
 
 /// All rules but those that send, in their order.
-pub(crate) const MAIN: [Rule; 54] = [
+pub const MAIN: [Rule; 54] = [
     Rule::Select,
     Rule::Receive(ReceiveRule::Discard),
     Rule::Receive(ReceiveRule::Receive),
@@ -152,7 +152,7 @@ pub(crate) const MAIN: [Rule; 54] = [
 ];
 
 /// The rules that send.
-pub(crate) const SENDS: [Rule; 4] = [
+pub const SENDS: [Rule; 4] = [
     Rule::Transmit(TransmitRule::Periodic),
     Rule::Transmit(TransmitRule::SendConfig),
     Rule::Transmit(TransmitRule::SendTcn),
