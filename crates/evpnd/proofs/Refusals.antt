@@ -4,9 +4,9 @@ use Rattle.route_wire.specs.declared.stream.Whole.{Whole}
 use Rattle.route_wire.specs.declared.stream.Whole.TheVariants.{Rest, Fault, Length}
 use Rattle.route_wire.specs.declared.stream.Next.TheVariants.{Refused}
 use Rattle.route_wire.specs.Fields.{Fields}
-use Rattle.route_wire.specs.Stream.{first_of}
+use Rattle.ether_wire.specs.Frame.{first_of}
 use Rattle.route_wire.specs.Refusal.{refusal_of}
-use Rattle.route_wire.specs.Record.{reading, header_of, route_of, update_of, unless_refused}
+use Rattle.route_wire.specs.Record.{reading, header_in, route_of, update_in, unless_refused}
 use Rattle.route_wire.specs.Feed.{next_by, answer_of}
 
 other : (a b c d e f g h : Bool) (r : ℕ) → first_of ((a, 5) ∷ (b, 6) ∷ (c, 7) ∷ (d, 8) ∷ (e, 9) ∷ (f, 10) ∷ (g, 11) ∷ (h, 14) ∷ []) ≡ Some r → (r == 15) ≡ false
@@ -26,7 +26,7 @@ refused (Some x) u r k = cc
 
 not_memory : (bytes : List ℕ) (r : ℕ) → reading bytes ≡ Err r → (r == 15) ≡ false
 unfolding reading
-not_memory bytes r k = other _ _ _ _ _ _ _ _ r (refused (refusal_of (header_of bytes) (route_of bytes)) (update_of (header_of bytes) (route_of bytes)) r k)
+not_memory bytes r k = other _ _ _ _ _ _ _ _ r (refused (refusal_of (header_in bytes) (route_of bytes)) (update_in (header_in bytes) (route_of bytes)) r k)
 
 pub refused_otherwise : (w : Whole) (rest : List ℕ) (r : ℕ) → Refused r ≡ next_by w rest → (r == 15) ≡ false
 refused_otherwise Rest rest r k = cc

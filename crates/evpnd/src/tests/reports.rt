@@ -1,4 +1,7 @@
 //! Reports of streams.
+ghost use Rattle.std.specs.Prelude.{◌^◌};
+ghost use Rattle.ether_wire.specs.Ends.{Allows};
+
 use crate::originators::read_originators;
 use crate::report::{report_buffered, report_run};
 use crate::tests::ends::{Broken, Full, InTwo, Trickle};
@@ -14,10 +17,9 @@ const TWO_LINES: &[u8] =
     b"mac 5001 02:00:00:00:00:0a 10.0.0.1 1 dynamic 0\nowner 5001 02:00:00:00:00:0a 10.0.0.1\n";
 
 /// Whether a reader's octets give this report, these notes and this status.
-fn gives<R: In>(alloc: Global, reader: &mut R, report: &[u8], notes: &[u8], status: u8) -> bool {
-    if reader.failures() != 0 {
-        return false;
-    }
+fn gives<R: In>(alloc: Global, reader: &mut R, report: &[u8], notes: &[u8], status: u8) -> bool
+    requires { Allows (2 ^ 40) (R.end reader.old) }
+{
     let Some(originators) = read_originators(NINE) else {
         return false;
     };

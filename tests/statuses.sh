@@ -1,0 +1,149 @@
+#!/usr/bin/env bash
+# Runs the built program once for each cause of a status, and looks at the status, at the report and at the notes:
+#   0 all was done   1 a fault or a cut record   2 words that aren't the program's   3 memory refused   4 a device failed
+# EVPND names the program; by default it is the one that `rt run` leaves. The last line is 'N passed, M failed'.
+set -u
+tests=$(cd "$(dirname "$0")" && pwd)
+evpnd=${EVPND:-$tests/../crates/evpnd/out/evpnd}
+record=$tests/../crates/evpnd/stdin
+report=$tests/../crates/evpnd/stdout
+work=$(mktemp -d)
+trap 'rm -rf "$work"' EXIT
+passed=0
+failed=0
+
+# tell NAME CONDITION..: counts whether the condition holds
+tell() {
+  local name=$1
+  shift
+  if "$@"; then
+    passed=$((passed + 1))
+  else
+    failed=$((failed + 1))
+    echo "failed: $name (status $status)"
+    head -c 300 "$work/out" "$work/notes"
+  fi
+}
+
+# run WORD..: the program on the file in $work/in, with ten seconds; sets `status`
+run() {
+  status=0
+  timeout 10 "$evpnd" "$@" < "$work/in" > "$work/out" 2> "$work/notes" || status=$?
+}
+
+gives() { [ "$status" = "$1" ] && cmp -s "$2" "$work/out" && [ "$(cat "$work/notes")" = "$3" ]; }
+
+is_usage() { [ "$status" = 2 ] && [ ! -s "$work/out" ] && [ -s "$work/notes" ]; }
+
+: > "$work/empty"
+
+# ---- 2: words
+cp "$record" "$work/in"
+long=$(seq -s, -f '10.0.0.%g' 0 64)
+run
+tell "no words" is_usage
+for words in "--help" "report --help" "help" "-h" "report" "reports" "report --originators" "report --originator 10.0.0.1" \
+  "report 10.0.0.1" "report --originators 10.0.0.1 10.0.0.2" "report --originators 10.0.0.1 --originators 10.0.0.2" \
+  "report --originators 10.0.0.1,10.0.0.1" "report --originators 10.0.0.01" "report --originators 10.0.0.256" \
+  "report --originators 10.0.0.1," "report --originators ,10.0.0.1" "report --originators 10.0.0" "report --originators $long"; do
+  # shellcheck disable=SC2086
+  run $words
+  tell "words: $words" is_usage
+done
+run report --originators ""
+tell "an empty list" is_usage
+run report --originators $'10.0.0.1\xff'
+tell "a word that isn't UTF-8" is_usage
+
+# ---- 0
+run report --originators 10.0.0.1
+tell "one record" gives 0 "$report" ""
+run report --originators=10.0.0.2,10.0.0.1
+tell "a list behind an equals sign" gives 0 "$report" ""
+cp "$work/empty" "$work/in"
+run report --originators 10.0.0.1
+tell "empty input" gives 0 "$work/empty" ""
+cp "$record" "$work/in"
+run report --originators 10.0.0.2
+tell "an originator that isn't listed" gives 0 "$work/empty" "record 1 refused 12"
+
+# ---- 1
+head -c 55 "$record" > "$work/in"
+run report --originators 10.0.0.1
+tell "a cut record" gives 1 "$work/empty" "truncated 55 at record 1"
+(cat "$record" && printf 'EW') > "$work/in"
+run report --originators 10.0.0.1
+tell "a fault" gives 1 "$report" "fault 1 at record 2"
+(cat "$record" && printf 'EW' && cat "$record") > "$work/in"
+run report --originators 10.0.0.1
+tell "a fault before a record" gives 1 "$report" "fault 1 at record 2"
+status=0
+timeout 10 "$evpnd" report --originators 10.0.0.1 < /dev/zero > "$work/out" 2> "$work/notes" || status=$?
+tell "a fault before an endless stream" gives 1 "$work/empty" "fault 1 at record 1"
+begun=$SECONDS
+status=0
+timeout 20 "$evpnd" report --originators 10.0.0.1 < <(cat "$record" && printf 'XX' && exec sleep 15) > "$work/out" 2> "$work/notes" || status=$?
+took=$((SECONDS - begun))
+tell "a fault before silence" gives 1 "$report" "fault 1 at record 2"
+tell "a fault is told at once" [ "$took" -lt 10 ]
+
+# ---- the notes on a piece are there while the next one is awaited
+cp "$record" "$work/in"
+mkfifo "$work/pipe"
+"$evpnd" report --originators 10.0.0.9 < "$work/pipe" > "$work/out" 2> "$work/notes" &
+program=$!
+exec 8> "$work/pipe"
+cat "$record" >&8
+for _ in $(seq 50); do
+  [ -s "$work/notes" ] && break
+  sleep 0.1
+done
+tell "a note before the input's end" [ "$(cat "$work/notes")" = "record 1 refused 12" ]
+exec 8>&-
+status=0
+wait "$program" || status=$?
+tell "nothing more after it" gives 0 "$work/empty" "record 1 refused 12"
+
+# ---- 4
+cp "$record" "$work/in"
+: > "$work/out"
+status=0
+"$evpnd" report --originators 10.0.0.1 < "$record" > /dev/full 2> "$work/notes" || status=$?
+tell "a full output" gives 4 "$work/empty" ""
+status=0
+"$evpnd" report --originators 10.0.0.2 < "$record" > "$work/out" 2> /dev/full || status=$?
+tell "full notes" [ "$status" = 4 ]
+status=0
+"$evpnd" report < "$record" > "$work/out" 2> /dev/full || status=$?
+tell "a usage that can't be told" [ "$status" = 4 ]
+status=0
+"$evpnd" report --originators 10.0.0.1 < "$work" > "$work/out" 2> "$work/notes" || status=$?
+tell "a directory as input" gives 4 "$work/empty" ""
+status=0
+(cat "$record" && printf 'EW') | "$evpnd" report --originators 10.0.0.1 > /dev/full 2> "$work/notes" || status=$?
+tell "a full output and a fault: the greater status" [ "$status" = 4 ]
+
+# ---- 3: each allocation refused, where there is a C compiler
+if command -v cc > /dev/null && cc -shared -fPIC -O1 -o "$work/refuse.so" "$tests/refuse_allocation.c" 2> /dev/null; then
+  asked() { REFUSE=$1 LD_PRELOAD="$work/refuse.so" "$evpnd" report --originators 10.0.0.1 < "$2" > "$work/out" 2> "$work/notes" 3> "$work/asked" || status=$?; }
+  status=0
+  asked 0 "$record"
+  all=$(cat "$work/asked")
+  status=0
+  asked 0 "$work/empty"
+  words=$(cat "$work/asked")
+  tell "allocations are counted" [ "${words:-0}" -gt 0 ]
+  for n in $(seq "${words:-0}"); do
+    status=0
+    asked "$n" "$record"
+    if [ "$status" != 0 ]; then tell "no memory for the words (allocation $n)" gives 3 "$work/empty" ""; else tell "allocation $n made up for" gives 0 "$report" ""; fi
+  done
+  for n in $(seq $((words + 1)) "${all:-0}"); do
+    status=0
+    asked "$n" "$record"
+    tell "no memory for a register (allocation $n)" gives 3 "$work/empty" "record 1 refused 15"
+  done
+fi
+
+echo "$passed passed, $failed failed"
+[ "$failed" = 0 ]
