@@ -47,6 +47,11 @@ def nearest(crates: Crates, name: str) -> List[str]:
     return [below for below in crates[name] if below not in further]
 
 
+def mean(places: List[float]) -> float:
+    """The middle of some places; 0 of none."""
+    return sum(places) / max(1, len(places))
+
+
 def rows_of(crates: Crates) -> List[List[str]]:
     """The crates by height, lowest first; in a row each stands near those below it."""
     heights: Dict[str, int] = {}
@@ -60,7 +65,7 @@ def rows_of(crates: Crates) -> List[List[str]]:
     place: Dict[str, float] = {}
     for row, names in enumerate(rows):
         names += [name for name in crates if heights[name] == row]
-        names.sort(key=lambda name: sum(place[below] for below in nearest(crates, name)) / max(1, len(nearest(crates, name))))
+        names.sort(key=lambda name: mean([place[below] for below in nearest(crates, name)]))
         for across, name in enumerate(names):
             place[name] = across - len(names) / 2
     return rows
@@ -80,16 +85,19 @@ def drawing_of(crates: Crates) -> str:
             middle[name] = start + across * (BOX_WIDTH + GAP_ACROSS) + BOX_WIDTH // 2
             top[name] = height - MARGIN - BOX_HEIGHT - row * (BOX_HEIGHT + GAP_DOWN)
     lines = [f'<svg xmlns="http://www.w3.org/2000/svg" viewBox="0 0 {width} {height}" width="{width}" height="{height}">']
-    lines += ["  <title>Each crate stands above those that it names</title>", STYLE, '  <rect width="100%" height="100%" style="fill: white; stroke: none"/>']
+    lines += ["  <title>Each crate stands above those that it names</title>", STYLE]
+    lines += ['  <rect width="100%" height="100%" style="fill: white; stroke: none"/>']
     for name in crates:
         for below in nearest(crates, name):
             start, end = top[name] + BOX_HEIGHT, top[below]
             bend = (start + end) // 2 if end - start <= GAP_DOWN else start + GAP_DOWN // 2
-            lines.append(f'  <path d="M{middle[name]} {start} C{middle[name]} {bend} {middle[below]} {bend} {middle[below]} {end}"/>')
+            high, low = middle[name], middle[below]
+            lines.append(f'  <path d="M{high} {start} C{high} {bend} {low} {bend} {low} {end}"/>')
     for name in crates:
         is_program = os.path.exists(os.path.join(TOP, "crates", name, "src", "main.rt"))
         lines.append('  <g class="program">' if is_program else "  <g>")
-        lines.append(f'    <rect x="{middle[name] - BOX_WIDTH // 2}" y="{top[name]}" width="{BOX_WIDTH}" height="{BOX_HEIGHT}"/>')
+        left = middle[name] - BOX_WIDTH // 2
+        lines.append(f'    <rect x="{left}" y="{top[name]}" width="{BOX_WIDTH}" height="{BOX_HEIGHT}"/>')
         lines.append(f'    <text x="{middle[name]}" y="{top[name] + BOX_HEIGHT // 2 + 5}">{name}</text>\n  </g>')
     return "\n".join(lines + ["</svg>"]) + "\n"
 

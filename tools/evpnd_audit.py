@@ -159,9 +159,11 @@ def run_report(program: str, updates: List[records.Update]) -> str:
             stream.write(records.record_of(update))
         stream.seek(0)
         try:
-            done = subprocess.run([program, "report", "--originators", names], stdin=stream, capture_output=True, check=False)
+            words = [program, "report", "--originators", names]
+            done = subprocess.run(words, stdin=stream, capture_output=True, check=False)
         except OSError as fault:
-            raise Unreadable(f"{program}: {fault.strerror} (build it by `rt run` in crates/evpnd, or name it by --evpnd)") from None
+            what = f"{program}: {fault.strerror} (build it by `rt run` in crates/evpnd, or name it by --evpnd)"
+            raise Unreadable(what) from None
     if done.returncode != 0 or done.stderr:
         note = done.stderr.decode("utf-8", "replace").split("\n")[0]
         raise Unreadable(f"{program} gave status {done.returncode}: {note}")
@@ -176,7 +178,8 @@ def parts_of(stations: Dict[Station, List[records.Update]]) -> Iterator[List[rec
         more = {update.originator for update in updates}
         if len(more) > records.MOST_ORIGINATORS:
             where = f"{updates[0].vni} {records.mac_text(updates[0].mac or b'')}"
-            raise Unreadable(f"{where} is advertised by {len(more)} routers, and a table has {records.MOST_ORIGINATORS} at most")
+            most = records.MOST_ORIGINATORS
+            raise Unreadable(f"{where} is advertised by {len(more)} routers, and a table has {most} at most")
         if len(originators | more) > records.MOST_ORIGINATORS:
             yield part
             part, originators = [], set()
@@ -273,7 +276,9 @@ def view_of(texts: Texts, vni: int, arguments: argparse.Namespace) -> View:
     snapshot = frr_routes.snapshot_of(routes, io.StringIO(texts.routes), f"{texts.name}: routes")
     own, best, zebra, kernel = set(snapshot.own), None, None, None
     if texts.best is not None:
-        best, more = read_best(texts.best, f"{texts.name}: best paths", frr_routes.Routes([vni], arguments.any_rd, arguments.rt))
+        best, more = read_best(
+            texts.best, f"{texts.name}: best paths", frr_routes.Routes([vni], arguments.any_rd, arguments.rt)
+        )
         own |= more
     if texts.macs is not None:
         zebra = read_zebra(texts.macs, f"{texts.name}: MACs of zebra", vni)
@@ -387,8 +392,13 @@ def verdicts_of(
     if wanted:
         macs &= wanted
     nobody = Owned([], None)
-    verdicts = [verdict_of(view, (vni, mac), report.get((vni, mac), nobody), (vni, mac) in unjudged) for mac in sorted(macs)]
-    return [verdict for verdict in verdicts if verdict.owner != "none" or verdict.kind != "equal" or (vni, verdict.mac) in report]
+    stations = [(vni, mac) for mac in sorted(macs)]
+    verdicts = [verdict_of(view, each, report.get(each, nobody), each in unjudged) for each in stations]
+    return [
+        verdict
+        for verdict in verdicts
+        if verdict.owner != "none" or verdict.kind != "equal" or (vni, verdict.mac) in report
+    ]
 
 
 def line_of(vni: int, verdict: Verdict) -> str:
@@ -469,8 +479,12 @@ def mac_word(text: str) -> bytes:
 def parser() -> argparse.ArgumentParser:
     """The words of the command line."""
     words = argparse.ArgumentParser(description=__doc__, formatter_class=argparse.RawDescriptionHelpFormatter)
-    words.add_argument("--vni", type=evpnd_records.vnis_of, metavar="N[,N]", help="the VNIs; on a host all, if none is named")
-    words.add_argument("--mac", type=mac_word, action="append", default=[], metavar="MAC", help="only this MAC; may stand more than once")
+    words.add_argument(
+        "--vni", type=evpnd_records.vnis_of, metavar="N[,N]", help="the VNIs; on a host all, if none is named"
+    )
+    words.add_argument(
+        "--mac", type=mac_word, action="append", default=[], metavar="MAC", help="only this MAC; may stand more than once"
+    )
     words.add_argument("--json", action="store_true", help="print JSON")
     words.add_argument("--evpnd", metavar="PROGRAM", help="the program evpnd")
     words.add_argument("--report", metavar="FILE", help="a report that was made before, in the place of running evpnd")

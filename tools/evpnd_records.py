@@ -108,7 +108,12 @@ def target_of(text: str) -> Tuple[str, int]:
 def add_route_words(words: argparse.ArgumentParser) -> None:
     """The words that say which routes are taken."""
     words.add_argument(
-        "--rt", type=target_of, action="append", default=[], metavar="RT=N", help="a route target that stands for VNI N; may stand more than once"
+        "--rt",
+        type=target_of,
+        action="append",
+        default=[],
+        metavar="RT=N",
+        help="a route target that stands for VNI N; may stand more than once",
     )
     words.add_argument("--any-rd", action="store_true", help="take routes whose RD isn't an address too")
 
@@ -123,7 +128,9 @@ def parser() -> argparse.ArgumentParser:
     routes = commands.add_parser("frr", help="FRR's routes to records")
     routes.add_argument("--vni", type=vnis_of, required=True, metavar="N[,N]", help="the VNIs whose routes are taken")
     routes.add_argument("--time", action="store_true", help="counters are the times of the last updates (detail json)")
-    routes.add_argument("--before", metavar="FILE", help="an older table of the same router: what has vanished since is withdrawn")
+    routes.add_argument(
+        "--before", metavar="FILE", help="an older table of the same router: what has vanished since is withdrawn"
+    )
     add_route_words(routes)
     routes.add_argument("files", nargs="*", metavar="FILE", help="what FRR printed; standard input if none is named")
     return words
