@@ -15,7 +15,6 @@ that can't be read. docs/audit.md says what each difference means. Nothing here 
 """
 
 import argparse
-import io
 import json
 import os
 import re
@@ -24,7 +23,7 @@ import shutil
 import subprocess
 import sys
 import tempfile
-from typing import Dict, Iterator, List, NamedTuple, Optional, Set, Tuple
+from typing import Callable, Dict, Iterator, List, NamedTuple, Optional, Set, TextIO, Tuple
 
 import evpnd_records
 import frr_routes
@@ -60,11 +59,11 @@ class Owned(NamedTuple):
 
 
 class Texts(NamedTuple):
-    """What one router printed; None where a text isn't there."""
+    """What one router printed; None where a text isn't there. The two that may be large are opened when they are read."""
 
     name: str
-    routes: str
-    best: Optional[str]
+    routes: Callable[[], TextIO]
+    best: Optional[Callable[[], TextIO]]
     macs: Optional[str]
     fdb: Optional[str]
 
@@ -257,11 +256,11 @@ def octets_of(mac: object, name: str) -> bytes:
     return bytes.fromhex(mac.replace(":", ""))
 
 
-def read_best(text: str, name: str, routes: frr_routes.Routes) -> Tuple[Dict[bytes, str], Set[bytes]]:
+def read_best(stream: TextIO, name: str, routes: frr_routes.Routes) -> Tuple[Dict[bytes, str], Set[bytes]]:
     """Where bgpd's own best path of each MAC leads, and the router's own addresses."""
     best: Dict[bytes, List[Said]] = {}
     own: Set[bytes] = set()
-    for path in routes.read(io.StringIO(text), name):
+    for path in routes.read(stream, name):
         if path.is_own:
             own.add(path.vtep)
         if path.is_best and path.mac is not None:
@@ -273,12 +272,13 @@ def read_best(text: str, name: str, routes: frr_routes.Routes) -> Tuple[Dict[byt
 def view_of(texts: Texts, vni: int, arguments: argparse.Namespace) -> View:
     """What a router's texts show of a VNI."""
     routes = frr_routes.Routes([vni], arguments.any_rd, arguments.rt)
-    snapshot = frr_routes.snapshot_of(routes, io.StringIO(texts.routes), f"{texts.name}: routes")
+    with texts.routes() as stream:
+        snapshot = frr_routes.snapshot_of(routes, stream, f"{texts.name}: routes")
     own, best, zebra, kernel = set(snapshot.own), None, None, None
     if texts.best is not None:
-        best, more = read_best(
-            texts.best, f"{texts.name}: best paths", frr_routes.Routes([vni], arguments.any_rd, arguments.rt)
-        )
+        routes = frr_routes.Routes([vni], arguments.any_rd, arguments.rt)
+        with texts.best() as stream:
+            best, more = read_best(stream, f"{texts.name}: best paths", routes)
         own |= more
     if texts.macs is not None:
         zebra = read_zebra(texts.macs, f"{texts.name}: MACs of zebra", vni)
@@ -293,51 +293,57 @@ def view_of(texts: Texts, vni: int, arguments: argparse.Namespace) -> View:
 def texts_of_directory(path: str) -> Texts:
     """The texts of a directory."""
 
-    def text(name: str) -> Optional[str]:
-        try:
-            with open(os.path.join(path, name), encoding="utf-8") as stream:
-                return stream.read()
-        except FileNotFoundError:
-            return None
-        except (OSError, UnicodeDecodeError) as fault:
-            raise Unreadable(f"{path}/{name}: {fault}") from None
+    def opened(name: str) -> Optional[Callable[[], TextIO]]:
+        place = os.path.join(path, name)
+        return (lambda: records.open_text(place)) if os.path.exists(place) else None
 
-    routes = text("routes.json")
+    routes, macs, fdb = opened("routes.json"), opened("macs.json"), opened("fdb.json")
     if routes is None:
         raise Unreadable(f"{path}/routes.json: no such file")
-    return Texts(path, routes, text("best.json"), text("macs.json"), text("fdb.json"))
+    return Texts(path, routes, opened("best.json"), macs and whole(macs(), path), fdb and whole(fdb(), path))
 
 
-def output_of(words: List[str]) -> str:
-    """What a command of this host prints."""
+def whole(stream: TextIO, name: str) -> str:
+    """A stream's text."""
+    with stream:
+        try:
+            return stream.read()
+        except (OSError, UnicodeDecodeError) as fault:
+            raise Unreadable(f"{name}: {fault}") from None
+
+
+def output_of(words: List[str]) -> TextIO:
+    """What a command of this host prints: it is run now, and read later."""
+    out = tempfile.TemporaryFile("w+", encoding="utf-8")
     try:
-        done = subprocess.run(words, capture_output=True, check=False, encoding="utf-8")
-    except (OSError, UnicodeDecodeError) as fault:
-        raise Unreadable(f"{words[0]}: {getattr(fault, 'strerror', None) or 'no UTF-8'}") from None
+        done = subprocess.run(words, stdout=out, stderr=subprocess.PIPE, check=False)
+    except OSError as fault:
+        raise Unreadable(f"{words[0]}: {fault.strerror}") from None
+    out.seek(0)
     if done.returncode != 0:
-        said = (done.stderr or done.stdout).strip().split("\n")[0]
+        said = (done.stderr.decode("utf-8", "replace") or whole(out, words[0])).strip().split("\n")[0]
         raise Unreadable(f"{shlex.join(words)}: status {done.returncode}: {said}")
-    return done.stdout
+    return out
 
 
 def vnis_of_host(shell: List[str]) -> Dict[int, str]:
     """The host's VNIs of layer 2, each with its VXLAN device."""
-    table = read_json(output_of(shell + ["show evpn vni json"]), "show evpn vni json")
+    name = "show evpn vni json"
+    table = read_json(whole(output_of(shell + [name]), name), name)
     if not isinstance(table, dict):
-        raise Unreadable("show evpn vni json: not a table of VNIs")
+        raise Unreadable(f"{name}: not a table of VNIs")
     entries = [entry for entry in table.values() if isinstance(entry, dict) and entry.get("type", "L2") == "L2"]
-    return {int(entry["vni"]): str(entry.get("vxlanIf", "")) for entry in entries if "vni" in entry}
+    return {entry["vni"]: str(entry.get("vxlanIf", "")) for entry in entries if isinstance(entry.get("vni"), int)}
 
 
 def texts_of_host(shell: List[str], vni: int, device: str) -> Texts:
-    """The texts that this host prints."""
-    return Texts(
-        "this host",
-        output_of(shell + ["show bgp l2vpn evpn route json"]),
-        output_of(shell + [f"show bgp l2vpn evpn route vni {vni} json"]),
-        output_of(shell + [f"show evpn mac vni {vni} json"]),
-        output_of(["bridge", "-j", "fdb", "show", "dev", device]),
-    )
+    """The texts that this host prints; the four commands run one right behind the other."""
+    name = "this host"
+    routes = output_of(shell + ["show bgp l2vpn evpn route json"])
+    best = output_of(shell + [f"show bgp l2vpn evpn route vni {vni} json"])
+    macs = output_of(shell + [f"show evpn mac vni {vni} json"])
+    fdb = output_of(["bridge", "-j", "fdb", "show", "dev", device])
+    return Texts(name, lambda: routes, lambda: best, whole(macs, name), whole(fdb, name))
 
 
 # ---- the comparison -----------------------------------------------------------------------------------------

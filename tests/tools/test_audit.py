@@ -172,6 +172,14 @@ class Views:
         return path
 
 
+VTYSH = """case "$2" in
+  "show evpn vni json") echo 'VNIS' ;;
+  "show bgp l2vpn evpn route json") cat 'SHORT/routes.json' ;;
+  "show bgp l2vpn evpn route vni 5001 json") cat 'SHORT/best.json' ;;
+  "show evpn mac vni 5001 json") cat 'SHORT/macs.json' ;;
+  *) echo '{}' ;;
+esac
+"""
 GONE = (
     "wrong 5001 02:00:00:00:00:0a owner 10.0.0.1 (the only advert); bgpd 10.0.0.1, zebra 10.0.0.2, kernel 10.0.0.2; "
     "after a withdrawal nowhere; differs from bgpd's own best path: a fault of the forwarding plane"
@@ -288,6 +296,35 @@ class Audits(unittest.TestCase):
                     done = run(*words)
                     self.assertEqual((done.returncode, done.stdout), (2, ""))
                     self.assertRegex(done.stderr, r"^evpnd_audit: [^\n]+\n$")
+
+    def on_a_host(self, *words: str, vnis: str = '{"5001":{"vni":5001,"type":"L2","vxlanIf":"vxlan5001"}}', last: str = "") -> subprocess.CompletedProcess:
+        """The audit on a host whose vtysh and bridge print the stored texts."""
+        with Views() as views:
+            for name, text in (("vtysh", VTYSH), ("bridge", f"cat '{SHORT}/fdb.json'\n{last}")):
+                path = os.path.join(views.folder, name)
+                with open(path, "w", encoding="utf-8") as stream:
+                    stream.write("#!/bin/sh\n" + text.replace("VNIS", vnis).replace("SHORT", SHORT))
+                os.chmod(path, 0o755)
+            there = {**os.environ, "PATH": views.folder + os.pathsep + os.environ["PATH"]}
+            tool = os.path.join(TOP, "tools", "evpnd_audit.py")
+            command = [sys.executable, tool, "--evpnd", PROGRAM, *words]
+            return subprocess.run(command, capture_output=True, encoding="utf-8", check=False, env=there)
+
+    def test_on_the_host(self):
+        for words in ((), ("--vni", "5001"), ("--device", "vxlan5001")):
+            done = self.on_a_host(*words)
+            self.assertEqual((done.returncode, done.stdout.splitlines()[:2]), (1, [GONE, STATIC]), done.stderr)
+
+    def test_on_a_host_that_fails(self):
+        cases = [
+            ((), {"vnis": ""}), ((), {"vnis": "{}"}), ((), {"vnis": "[]"}), ((), {"vnis": '{"5001":{"vni":"x"}}'}), (("--vni", "77"), {}),
+            ((), {"last": "echo broken >&2; exit 3"}), (("--vtysh", "false"), {}), ((), {"vnis": '{"5001":{"vni":5001,"type":"L2"}}'}),
+        ]
+        for words, how in cases:
+            with self.subTest(words=words, how=how):
+                done = self.on_a_host(*words, **how)
+                self.assertEqual((done.returncode, done.stdout), (2, ""))
+                self.assertRegex(done.stderr, r"^evpnd_audit: [^\n]+\n$")
 
     def test_usage(self):
         for words in (("--vni", "x"), ("--mac", "x"), ("--colour",)):
