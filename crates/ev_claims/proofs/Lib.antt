@@ -1,0 +1,13 @@
+pub mod Values
+pub mod Numbers
+pub mod Said
+pub mod Hearing
+pub mod Learnt
+pub mod Opened
+pub mod Flushing
+pub mod Changed
+pub mod Members
+pub mod Keeping
+pub mod Queue
+pub mod Ageing
+pub mod Due

@@ -1,0 +1,109 @@
+-- what is kept once the flood lists are said
+use Rattle.std.proofs.Common.{◌≡◌, ◌≢◌, ◌⊎◌, inl, inr, ℕ, zero, suc, ◌+◌, ◌≤◌, ◌<◌, Some, None, List, [], ◌∷◌, length, get_or, refl, sym, ap, subst, ◌∙◌, arith}
+use Rattle.std.specs.Prelude.{IsSome, Contains, ◌↔◌}
+use Rattle.std.specs.List.{refill}
+use Rattle.std.specs.Option.{option_map}
+use Rattle.std.specs.FinMap.{get-empty, len, len-empty}
+use Rattle.std.proofs.lemmas.List.{length-replicate}
+use Rattle.route_wire.specs.declared.update.Key.{Key}
+use Rattle.route_wire.specs.declared.update.Key.TheVariants.{Flood, Mac}
+use Rattle.route_wire.specs.declared.update.Advert.{Advert}
+use Rattle.route_wire.specs.declared.update.Content.TheVariants.{Advert as Advertised}
+use Rattle.route_wire.specs.declared.update.Value.{Value}
+use Rattle.route_wire.specs.Fields.{flood_advert}
+use Rattle.route_wire.specs.Order.{register_cmp}
+use Rattle.route_join.specs.Owner.{advert_of}
+use Rattle.mac_arena.specs.declared.station.Station.{Station}
+use Rattle.mac_arena.specs.declared.station.Entry.{Entry}
+use Rattle.mac_arena.specs.Station.{station_cmp}
+use Rattle.mac_arena.specs.Learning.{entry_at, nothing_learnt}
+use Rattle.ev_claims.specs.Voice.{Voice, own_register, own_advert, after_saying, silent}
+use Rattle.ev_claims.specs.Opening.{after_floods}
+use Rattle.ev_claims.specs.Claims.{KeepsClaims, claims_of}
+use Rattle.ev_claims.proofs.Numbers.{key_or_other, own_same, key_stays}
+
+-- other keys are as they were
+pub floods_other : (e : Voice) (vs : List ℕ) (k : Key) → ((v : ℕ) → k ≢ Flood v) → own_advert (after_floods e vs) k ≡ own_advert e k
+floods_other e [] k ne = refl
+floods_other e (v ∷ vs) k ne = floods_other (after_saying e (Flood v) (Advertised flood_advert)) vs k ne ∙ key_stays e (Flood v) (Advertised flood_advert) k e.address (ne v)
+
+said_there : (e : Voice) (v : ℕ) → IsSome (own_advert (after_saying e (Flood v) (Advertised flood_advert)) (Flood v))
+said_there e v = subst IsSome (sym (ap advert_of (own_same e (Flood v) (Advertised flood_advert)))) refl
+
+-- one list more
+floods_more : (e : Voice) (w : ℕ) (ws : List ℕ) (v : ℕ) → IsSome (own_advert (after_floods (after_saying e (Flood w) (Advertised flood_advert)) ws) (Flood v)) ↔ (IsSome (own_advert (after_saying e (Flood w) (Advertised flood_advert)) (Flood v)) ⊎ Contains ws v)
+    → IsSome (own_advert (after_floods e (w ∷ ws)) (Flood v)) ↔ (IsSome (own_advert e (Flood v)) ⊎ Contains (w ∷ ws) v)
+floods_more e w ws v rest = (
+  λ p. elim (rest.0 p) as (λ _. IsSome (own_advert e (Flood v)) ⊎ Contains (w ∷ ws) v) [
+    | inl there ↦ elim (key_or_other (Flood v) (Flood w)) as (λ _. IsSome (own_advert e (Flood v)) ⊎ Contains (w ∷ ws) v) [
+      | inl same ↦ inr (0, omega arith, let is : v ≡ w = cc in sym is)
+      | inr ne ↦ inl (subst IsSome (key_stays e (Flood w) (Advertised flood_advert) (Flood v) e.address ne) there)
+    ]
+    | inr later ↦ inr (suc later.0, (let less = later.1 in omega (arith, less)), later.2)
+  ],
+  λ q. elim q as (λ _. IsSome (own_advert (after_floods (after_saying e (Flood w) (Advertised flood_advert)) ws) (Flood v))) [
+    | inl there ↦ elim (key_or_other (Flood v) (Flood w)) as (λ _. IsSome (own_advert (after_floods (after_saying e (Flood w) (Advertised flood_advert)) ws) (Flood v))) [
+      | inl same ↦ rest.1 (inl (subst (λ k. IsSome (own_advert (after_saying e (Flood w) (Advertised flood_advert)) k)) (sym same) (said_there e w)))
+      | inr ne ↦ rest.1 (inl (subst IsSome (sym (key_stays e (Flood w) (Advertised flood_advert) (Flood v) e.address ne)) there))
+    ]
+    | inr c ↦ among c.0 c.1 c.2
+  ],
+)
+  where
+    among : (k : ℕ) → k < length (w ∷ ws) → get_or (w ∷ ws) k v ≡ v → IsSome (own_advert (after_floods (after_saying e (Flood w) (Advertised flood_advert)) ws) (Flood v))
+    among zero less is = rest.1 (inl (subst (λ x. IsSome (own_advert (after_saying e (Flood w) (Advertised flood_advert)) (Flood x))) is (said_there e w)))
+    among (suc k) less is = rest.1 (inr (k, omega (arith, less), is))
+
+-- a flood list is advertised where it was, or is said
+pub floods_are : (e : Voice) (vs : List ℕ) (v : ℕ) → IsSome (own_advert (after_floods e vs) (Flood v)) ↔ (IsSome (own_advert e (Flood v)) ⊎ Contains vs v)
+floods_are e [] v = (λ p. inl p, λ q. elim q as (λ _. IsSome (own_advert e (Flood v))) [ inl p ↦ p | inr c ↦ absurd (let less = c.1 in omega (arith, less)) ])
+floods_are e (w ∷ ws) v = floods_more e w ws v (floods_are (after_saying e (Flood w) (Advertised flood_advert)) ws v)
+
+pub floods_counter : (e : Voice) (vs : List ℕ) → (after_floods e vs).counter ≡ e.counter + length vs
+floods_counter e [] = omega arith
+floods_counter e (v ∷ vs) = let rest = floods_counter (after_saying e (Flood v) (Advertised flood_advert)) vs in omega (arith, rest)
+
+nothing_said : (address incarnation : ℕ) (originators : List ℕ) (k : Key) → own_advert (silent address incarnation originators) k ≡ None
+nothing_said address incarnation originators k = ap advert_of (get-empty {X = Value} register_cmp (own_register (silent address incarnation originators) k))
+
+nobody : (capacity ports buckets salt : ℕ) (s : Station) → entry_at (nothing_learnt capacity ports buckets salt) s ≡ None
+nobody capacity ports buckets salt s = get-empty {X = Entry} station_cmp s
+
+pub opened_claims : (address incarnation : ℕ) (originators vs ports : List ℕ) (capacity buckets salt : ℕ) → capacity ≤ 65536 → length ports ≤ 64 → length vs ≤ 64
+    → KeepsClaims (claims_of (after_floods (silent address incarnation originators) vs) (nothing_learnt capacity (length ports) buckets salt) ports vs)
+opened_claims address incarnation originators vs ports capacity buckets salt small few listed = record {
+  kinds = λ s. ap (option_map (λ (x : Entry). x.pinned)) (nobody capacity (length ports) buckets salt s) ∙ ap (option_map (λ (a : Advert). a.is_static)) (sym (none (Mac s.vni s.mac None) (λ v q. cc)));
+  bare = λ s ip. none (Mac s.vni s.mac (Some ip)) (λ v q. cc);
+  ports = λ s x at. absurd (let no = nobody capacity (length ports) buckets salt s in let bad : None ≡ Some x = sym no ∙ at in cc);
+  floods = λ v. (
+    λ p. elim ((floods_are start vs v).0 p) as (λ _. Contains vs v) [
+      | inl there ↦ absurd (let no = nothing_said address incarnation originators (Flood v) in let bad : IsSome {T = Advert} None = subst IsSome no there in cc)
+      | inr c ↦ c
+    ],
+    λ c. (floods_are start vs v).1 (inr c),
+  );
+  fits = omega (arith, empty, places);
+  small = omega (arith, places, small);
+  left = let counted = floods_counter start vs in omega (arith, empty, places, counted, listed);
+  lists = length-replicate (length ports) [];
+  few = few;
+}
+  where
+    start : Voice
+    start = silent address incarnation originators
+
+    none : (k : Key) → ((v : ℕ) → k ≢ Flood v) → own_advert (after_floods (silent address incarnation originators) vs) k ≡ None
+    none k ne = floods_other start vs k ne ∙ nothing_said address incarnation originators k
+
+    empty : len (nothing_learnt capacity (length ports) buckets salt).entries ≡ 0
+    empty = len-empty station_cmp Entry
+
+    places : length (nothing_learnt capacity (length ports) buckets salt).places ≡ capacity
+    places = length-replicate capacity None
+
+-- a list that is written over another of its length
+pub refilled : (xs ws : List ℕ) → length ws ≡ length xs → refill (length xs) xs ws ≡ ws
+refilled [] [] same = refl
+refilled [] (w ∷ ws) same = absurd (omega (arith, same))
+refilled (x ∷ xs) [] same = absurd (omega (arith, same))
+refilled (x ∷ xs) (w ∷ ws) same = ap (λ ys. w ∷ ys) (refilled xs ws (omega (arith, same)))

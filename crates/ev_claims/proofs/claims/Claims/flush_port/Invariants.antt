@@ -1,0 +1,13 @@
+use Rattle.std.proofs.Common.{◌≡◌, length}
+use Rattle.ev_claims.specs.Claims.{after_removals}
+use Rattle.ev_claims.specs.Leaving.{unpinned_on, AreKept}
+use Rattle.ev_claims.proofs.claims.Claims.flush_port.Given as goal
+
+abbrev pub invariant-loop-station : goal.invariant-loop-station
+invariant-loop-station l = record {
+  same : after_removals l.self (unpinned_on l.self.learned l.port) ≡ after_removals l.initial.self (unpinned_on l.initial.self.learned l.port);
+  others : AreKept l.initial.self.learned l.self.learned l.port;
+}
+
+abbrev pub decreases-loop-station : goal.decreases-loop-station
+decreases-loop-station l = length (unpinned_on l.self.learned l.port)

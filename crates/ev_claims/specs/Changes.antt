@@ -1,0 +1,37 @@
+-- Which of its own registers an edge changes at an event, and under which numbers.
+use Rattle.std.specs.Prelude.{◌≡◌, ℕ, ◌+◌, Some, List, [], ◌∷◌, Contains, length, map, slice_get}
+use Rattle.route_wire.specs.declared.update.Register.{Register}
+use Rattle.route_wire.specs.declared.update.Value.{Value}
+use Rattle.route_join.specs.Table.{value_at}
+use Rattle.mac_arena.specs.declared.station.Station.{Station}
+use Rattle.ev_claims.specs.Pending.{marked}
+use Rattle.ev_claims.specs.Voice.{Voice, own_register}
+use Rattle.ev_claims.specs.Claims.{key_of}
+
+-- the registers are marked one after the other
+abbrev pub all_marked : List Register → List Register → List Register
+all_marked rs [] = rs
+all_marked rs (x ∷ xs) = all_marked (marked rs x) xs
+
+-- the register has a value of this life with this number
+pub record IsNumbered (e : Voice) (r : Register) (n : ℕ) : Type 0 where
+  pub value : Value
+  pub there : value_at e.table r ≡ Some value
+  pub present : value.incarnation ≡ e.incarnation
+  pub number : value.counter ≡ n
+
+-- The edge changes these own registers, in the order of their numbers, and no other one. They take the numbers after
+-- the counter without a gap, and the last is the new counter. What is pending afterwards is what was pending, then
+-- those of them that weren't.
+pub record OwnChanges (old new : Voice) (changed : List Register) : Type 0 where
+  pub address : new.address ≡ old.address
+  pub incarnation : new.incarnation ≡ old.incarnation
+  pub own : (i : ℕ) (r : Register) → slice_get changed i ≡ Some r → r.originator ≡ old.address
+  pub numbers : (i : ℕ) (r : Register) → slice_get changed i ≡ Some r → IsNumbered new r (old.counter + (i + 1))
+  pub others : (r : Register) → r.originator ≡ old.address → (Contains changed r → ⊥) → value_at new.table r ≡ value_at old.table r
+  pub counter : new.counter ≡ old.counter + length changed
+  pub pending : new.pending ≡ all_marked old.pending changed
+
+-- the registers under which an edge advertises these stations
+abbrev pub registers_of : Voice → List Station → List Register
+registers_of e ss = map (λ s. own_register e (key_of s)) ss

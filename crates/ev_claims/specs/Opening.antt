@@ -1,0 +1,24 @@
+-- What an edge says and has learnt when it is opened.
+use Rattle.std.specs.Prelude.{◌≡◌, ℕ, List, [], ◌∷◌, length, IsPermutation, IsSorted}
+use Rattle.std.specs.Ordering.{nat_cmp}
+use Rattle.route_wire.specs.declared.update.Key.TheVariants.{Flood}
+use Rattle.route_wire.specs.declared.update.Content.TheVariants.{Advert as Advertised}
+use Rattle.route_wire.specs.Fields.{flood_advert}
+use Rattle.mac_arena.specs.Learning.{nothing_learnt}
+use Rattle.ev_claims.specs.declared.opening.Start.{Start}
+use Rattle.ev_claims.specs.Voice.{Voice, after_saying, silent}
+use Rattle.ev_claims.specs.Claims.{Claims}
+
+-- the flood list of each VNI is advertised, in this order
+abbrev pub after_floods : Voice → List ℕ → Voice
+after_floods e [] = e
+after_floods e (v ∷ vs) = after_floods (after_saying e (Flood v) (Advertised flood_advert)) vs
+
+-- Nothing is learnt. In a table that has heard nothing the edge advertises the flood list of each VNI, the lowest
+-- first: so these updates have the numbers from 1, and are pending in this order.
+pub record IsOpening (s : Start) (e : Claims) : Type 0 where
+  pub vnis : IsPermutation s.vnis.items e.vnis
+  pub ascending : IsSorted nat_cmp e.vnis
+  pub voice : e.voice ≡ after_floods (silent s.address s.incarnation s.originators.items) e.vnis
+  pub learned : e.learned ≡ nothing_learnt s.capacity (length s.ports.items) s.buckets s.salt
+  pub ports : e.ports ≡ s.ports.items

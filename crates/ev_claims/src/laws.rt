@@ -1,0 +1,19 @@
+ghost use Rattle.ev_claims.specs.Laws.{AgesOut, FlushesOut};
+
+use crate::claims::Claims;
+
+/// Exactly the unpinned stations that were last heard at the limit or before go by age, and their
+/// withdrawals are numbered in the order in which they were last heard.
+pub fn aged_out(claims: &Claims, limit: u64)
+    ensures { AgesOut claims.now limit }
+{
+    claims.always_good();
+}
+
+/// Exactly the unpinned stations behind the ports of a set go when these are flushed, and their
+/// withdrawals are numbered port by port, in the order in which they came to each.
+pub fn flushed_out(claims: &Claims, ports: u64)
+    ensures { FlushesOut claims.now ports }
+{
+    claims.always_good();
+}

@@ -1,0 +1,144 @@
+ghost use Rattle.std.specs.Prelude.{◌≡◌, ◌++◌, ◌∷◌, [], ℕ, ◌≤◌, ◌<◌, ◌^◌, IfOk, OnOk, OnErr, Contains, drop, slice_get, length};
+ghost use Rattle.idx_links.specs.Families.{lists_of};
+ghost use Rattle.ev_claims.specs.Pending.{marked};
+
+use crate::named::Named;
+use idx_links::Family;
+use route_wire::Register;
+use std::alloc::{AllocError, Global};
+use std::collections::BTreeMap;
+use std::marker::Model;
+
+/// The registers that an edge says something of, each with a node of one linked list: those that are still to be
+/// announced stand on it.
+#[derive(Drop)]
+pub struct Pending {
+    links: Family<1>,
+    registers: Vec<Named>,
+    nodes: BTreeMap<Named, usize>,
+    room: usize,
+}
+
+impl Model for Pending {
+    ghost use Rattle.std.specs.Coded.{codes};
+    ghost use Rattle.ev_claims.specs.Pending.{Pending as Waiting, pending_of, IsPending};
+
+    ghost Value = { Waiting };
+
+    ghost coded = { Prim.hlevel codes };
+
+    ghost view = { λ p. pending_of p.links p.registers.items };
+
+    ghost invariant = { λ p. IsPending p.links p.registers.items p.nodes.entries p.room };
+}
+
+impl Pending {
+    /// Nothing is known, and nothing waits.
+    pub fn new(alloc: Global) -> Result<Self, AllocError>
+        ensures { IfOk result (λ p. p ≡ record { known = []; waiting = [] }) }
+    {
+        let links = Family::new(alloc, [1], 0)?;
+        Ok(Pending {
+            links,
+            registers: Vec::new(alloc),
+            nodes: BTreeMap::new(alloc),
+            room: 0,
+        })
+    }
+
+    /// Gives a register a node, unless it has one. Where memory is refused, all stays as it was.
+    pub fn make_room(&mut self, register: &Register) -> Result<(), AllocError>
+        ensures waiting { self.new.waiting ≡ self.old.waiting }
+        ensures known { OnOk result (Contains self.new.known register.now) }
+        ensures kept { (r : Register) → Contains self.old.known r → Contains self.new.known r }
+        ensures err { OnErr result (self.new ≡ self.old) }
+    {
+        if let Some(_node) = self.nodes.get(&Named::new(*register)) {
+            return Ok(());
+        }
+        let registers = self.registers.as_slice();
+        let node = registers.len();
+        self.registers.reserve(1)?;
+        spare_node(&mut self.links, &mut self.room, node)?;
+        if self.nodes.insert(Named::new(*register), node).is_err() {
+            return Err(AllocError);
+        }
+        self.registers.push_reserved(Named::new(*register));
+        Ok(())
+    }
+
+    /// Puts a register that has a node at the end of those that wait, unless it waits already.
+    pub fn mark(&mut self, register: Register)
+        requires { Contains self.old.known register }
+        ensures { self.new ≡ record self.old { waiting = marked self.old.waiting register } }
+    {
+        let Some(node) = self.nodes.get(&Named::new(register)) else {
+            return
+        };
+        let node = *node;
+        if self.links.list_of(0, node).is_none() {
+            self.links.push_back(0, 0, node);
+        }
+    }
+
+    /// How many registers have a node.
+    pub fn len(&self) -> usize
+        ensures { result ≡ length self.now.known }
+    {
+        self.registers.as_slice().len()
+    }
+
+    /// A register that has a node, by its node.
+    pub fn register(&self, node: usize) -> Option<Register>
+        ensures { result ≡ slice_get self.now.known node }
+    {
+        let named = self.registers.get(node)?;
+        Some(named.register())
+    }
+
+    /// The register that waits longest.
+    pub fn first(&self) -> Option<Register>
+        ensures { result ≡ slice_get self.now.waiting 0 }
+    {
+        let Some(node) = self.links.front(0, 0) else {
+            return None
+        };
+        let Some(named) = self.registers.get(node) else {
+            return None
+        };
+        Some(named.register())
+    }
+
+    /// The one that waits longest waits no more.
+    pub fn unmark_first(&mut self)
+        ensures { self.new ≡ record self.old { waiting = drop 1 self.old.waiting } }
+    {
+        let Some(node) = self.links.front(0, 0) else {
+            return
+        };
+        self.links.unlink(0, node);
+    }
+}
+
+// Sees to it that there are more nodes than so many.
+fn spare_node(links: &mut Family<1>, room: &mut usize, used: usize) -> Result<(), AllocError>
+    requires list { length (lists_of links.old 0) ≡ 1 }
+    requires counted { links.old.nodes ≡ room.old }
+    requires small { room.old < 2 ^ 32 }
+    requires fits { used ≤ room.old }
+    ensures families { links.new.families ≡ links.old.families }
+    ensures counted { links.new.nodes ≡ room.new }
+    ensures small { room.new < 2 ^ 32 }
+    ensures kept { room.old ≤ room.new }
+    ensures enough { OnOk result (used < room.new) }
+{
+    if used < *room {
+        return Ok(());
+    }
+    if *room >= 0xffff_fff0 {
+        return Err(AllocError);
+    }
+    links.grow(1)?;
+    *room += 1;
+    Ok(())
+}
