@@ -6,8 +6,13 @@ ghost use Rattle.route_join.specs.Table.{entries_of};
 ghost use Rattle.route_join.specs.Lines.{register_lines};
 ghost use Rattle.route_join.specs.Report.{spaced, groups_text, addr6_text, ip_text, counter_text, flood_state, mac_state, ip_words, label2_words, station_text, origin_text, mac_words, flood_line, mac_line, register_line, owner_name, owner_line};
 
-use ether_wire::{Addr, Device, Mac, Out, Vni, put_addr, put_decimal, put_hex_group, put_mac};
+use ether_wire::{
+    Addr, Device, Mac, Out, Page, Vni, put_addr, put_decimal, put_hex_group, put_mac,
+};
 use route_wire::{Addr6, Advert, Content, Ip, Key, Register, Update, Value};
+
+/// Room for a line: the longest one has 158 octets. A line that had no room would be written part by part.
+const LINE: usize = 256;
 
 /// Writes four groups of four hexadecimal digits with colons.
 #[tactic(auto, using(ether_wire::proofs::Appending::with_text_twice), unfolding(crate::specs::Report::groups_text))]
@@ -202,8 +207,8 @@ fn put_mac_line<O: Out>(
     out.put(b"\n")
 }
 
-/// Writes the line of a register.
-pub(crate) fn put_update<O: Out>(out: &mut O, update: &Update) -> Result<(), Device>
+/// Writes the line of a register, part by part.
+fn put_register_line<O: Out>(out: &mut O, update: &Update) -> Result<(), Device>
     requires { IsOpen (O.end out.old) }
     ensures { Puts (O.end out.old) (O.end out.new) (register_line update.now.register update.now.value) result }
 {
@@ -212,6 +217,18 @@ pub(crate) fn put_update<O: Out>(out: &mut O, update: &Update) -> Result<(), Dev
     match key {
         Key::Flood(vni) => put_flood_line(out, vni, originator, &value),
         Key::Mac(vni, mac, ip) => put_mac_line(out, vni, mac, ip, originator, &value),
+    }
+}
+
+/// Writes the line of a register, in one call of the writer.
+pub(crate) fn put_update<O: Out>(out: &mut O, update: &Update) -> Result<(), Device>
+    requires { IsOpen (O.end out.old) }
+    ensures { Puts (O.end out.old) (O.end out.new) (register_line update.now.register update.now.value) result }
+{
+    let mut line = Page::<LINE>::new();
+    match put_register_line(&mut line, update) {
+        Ok(()) => out.put(line.octets()),
+        Err(_) => put_register_line(out, update),
     }
 }
 
@@ -225,8 +242,25 @@ fn put_owner_name<O: Out>(out: &mut O, owner: Option<Addr>) -> Result<(), Device
     }
 }
 
-/// Writes the line of the owner of a MAC address.
+/// Writes the line of the owner of a MAC address, part by part.
 #[tactic(auto, using(ether_wire::proofs::Appending::with_text_twice))]
+fn put_owner_line<O: Out>(
+    out: &mut O,
+    vni: Vni,
+    mac: Mac,
+    owner: &Option<Addr>,
+) -> Result<(), Device>
+    requires { IsOpen (O.end out.old) }
+    ensures { Puts (O.end out.old) (O.end out.new) (owner_line vni mac owner.now) result }
+{
+    out.put(b"owner ")?;
+    put_station(out, vni, mac)?;
+    out.put(b" ")?;
+    put_owner_name(out, *owner)?;
+    out.put(b"\n")
+}
+
+/// Writes the line of the owner of a MAC address, in one call of the writer.
 pub(crate) fn put_owner<O: Out>(
     out: &mut O,
     vni: Vni,
@@ -236,11 +270,11 @@ pub(crate) fn put_owner<O: Out>(
     requires { IsOpen (O.end out.old) }
     ensures { Puts (O.end out.old) (O.end out.new) (owner_line vni mac owner) result }
 {
-    out.put(b"owner ")?;
-    put_station(out, vni, mac)?;
-    out.put(b" ")?;
-    put_owner_name(out, owner)?;
-    out.put(b"\n")
+    let mut line = Page::<LINE>::new();
+    match put_owner_line(&mut line, vni, mac, &owner) {
+        Ok(()) => out.put(line.octets()),
+        Err(_) => put_owner_line(out, vni, mac, &owner),
+    }
 }
 
 /// Writes the lines of updates, one after the other.
