@@ -232,3 +232,28 @@ are_from set a n one all = record {
 pub are_ports : (set : ℕ) → ArePortsOf set (ports_of set)
 unfolding ports_after
 are_ports set = are_from set 1 64 refl refl
+
+-- what a set of 64 bits has is a port
+pub is_port : (set p : ℕ) → set < 2 ^ 64 → has_port set p ≡ true → IsPort p
+unfolding has_port
+is_port set zero small there = absurd (true≢false (sym there))
+is_port set (suc bit) small there = record {
+  least = omega arith;
+  most = elim (leb_tells 65 (suc bit)) [
+    | inl high ↦ absurd (true≢false (sym there ∙ has_port-above set (suc bit) small high.1))
+    | inr low ↦ omega (arith, low.1)
+  ];
+}
+
+-- what is left of a set was in it
+pub has_port-less : (set p q : ℕ) → has_port (without_port set p) q ≡ true → has_port set q ≡ true
+unfolding has_port without_port
+has_port-less set p zero there = there
+has_port-less set p (suc bit) there =
+    let rest : ℕ = bit_not w64 (2 ^ (p - 1)) in
+    first (bit_at set bit == 1) (bit_at rest bit == 1)
+    (sym (ap (λ b. b == 1) (bit_at_and set rest bit) ∙ min_is (bit_at set bit) (bit_at rest bit) (bit_at-lt set bit) (bit_at-lt rest bit)) ∙ there)
+  where
+    first : (a b : Bool) → (a && b) ≡ true → a ≡ true
+    first true b h = refl
+    first false b h = h

@@ -1,3 +1,2 @@
 pub mod DatagramLemmas
-pub mod PortLemmas
 pub mod DecisionLemmas

@@ -1,6 +1,8 @@
 -- Where a frame goes (RFC 7432, section 11, and RFC 8365, section 5, for flooding by ingress replication and for split
 -- horizon: what came out of a tunnel goes into none).
-use Rattle.std.specs.Prelude.{ℕ, ◌==◌, not, List, [], ◌∷◌, filter, Option}
+use Rattle.std.specs.Prelude.{ℕ, ◌==◌, ◌&&◌, not, Bool, false, if◌then◌else◌, List, [], ◌∷◌, filter, Option}
+use Rattle.ether_wire.specs.Ports.{IsPort, has_port, no_ports, with_port, without_port, common_ports}
+use Rattle.ev_tunnel.specs.declared.decision.Ports.{Ports}
 use Rattle.ev_tunnel.specs.declared.decision.Source.{Source}
 use Rattle.ev_tunnel.specs.declared.decision.Source.TheVariants.{Port, Tunnel}
 use Rattle.ev_tunnel.specs.declared.place.Place.{Place}
@@ -9,7 +11,6 @@ use Rattle.route_join.specs.Table.{Table}
 use Rattle.route_join.specs.Owner.{owner}
 use Rattle.route_join.specs.Flood.{flood_of}
 use Rattle.ev_tunnel.specs.Place.{place_of}
-use Rattle.ev_tunnel.specs.Ports.{IsPort, only, in_both, without}
 
 -- the port that a frame came from is one
 abbrev pub IsFrom : Source → Type 0
@@ -22,16 +23,25 @@ IsPlace Everywhere = Unit {0}
 IsPlace (AtPort port) = IsPort port
 IsPlace (AtEdge edge) = Unit {0}
 
+-- did the frame come from this port
+abbrev pub is_from : Source → ℕ → Bool
+is_from (Port p) port = p == port
+is_from Tunnel port = false
+
 -- the members of the network that pass, but for the port that the frame came from
-abbrev pub open_ports : Source → ℕ → ℕ → ℕ
-open_ports (Port p) members passing = without (in_both members passing) p
-open_ports Tunnel members passing = in_both members passing
+abbrev pub open_ports : Source → Ports → ℕ
+open_ports (Port p) ports = without_port (common_ports ports.members ports.passing) p
+open_ports Tunnel ports = common_ports ports.members ports.passing
+
+-- the port alone, if it passes and the frame didn't come from it
+abbrev pub port_alone : ℕ → Source → Ports → ℕ
+port_alone port from ports = if has_port ports.passing port && not (is_from from port) then with_port no_ports port else no_ports
 
 -- the access ports that get the frame
-abbrev pub local_of : Place → Source → ℕ → ℕ → ℕ
-local_of Everywhere from members passing = open_ports from members passing
-local_of (AtPort port) from members passing = in_both (open_ports from members passing) (only port)
-local_of (AtEdge edge) from members passing = 0
+abbrev pub local_of : Place → Source → Ports → ℕ
+local_of Everywhere from ports = open_ports from ports
+local_of (AtPort port) from ports = port_alone port from ports
+local_of (AtEdge edge) from ports = no_ports
 
 -- the edges that are not this one
 abbrev pub others_of : ℕ → List ℕ → List ℕ
@@ -47,7 +57,7 @@ remote_of (AtEdge edge) (Port p) flood own = edge ∷ []
 -- the same for a frame of this network and destination, at this edge with this table
 abbrev pub local_for : Table → ℕ → ℕ → Option ℕ → ℕ → Source → ℕ → ℕ → ℕ
 local_for t vni destination entry own from members passing =
-    local_of (place_of destination entry (owner t vni destination) own) from members passing
+    local_of (place_of destination entry (owner t vni destination) own) from (record { members = members; passing = passing })
 
 abbrev pub remote_for : Table → ℕ → ℕ → Option ℕ → ℕ → Source → List ℕ
 remote_for t vni destination entry own from =

@@ -4,7 +4,7 @@ use Rattle.std.specs.List.Sorted.{IsStrictlyIncreasing}
 use Rattle.route_wire.specs.declared.update.Key.TheVariants.{Flood}
 use Rattle.route_join.specs.Table.{Table}
 use Rattle.route_join.specs.Owner.{advert_at}
-use Rattle.ev_tunnel.specs.Ports.{IsPort, has_port}
+use Rattle.ether_wire.specs.Ports.{IsPort, has_port}
 
 -- the access ports and the edges that get a frame are one at most
 pub record IsOneCopy (local : ℕ) (remote : List ℕ) : Type 0 where

@@ -2,4 +2,3 @@ pub mod Datagram
 pub mod Decision
 pub mod Laws
 pub mod Place
-pub mod Ports

@@ -2,14 +2,13 @@ ghost use Rattle.std.specs.Prelude.{◌≡◌, [], ◌∷◌};
 ghost use Rattle.std.specs.Option.{ForSome};
 ghost use Rattle.route_join.specs.Owner.{owner};
 ghost use Rattle.route_join.specs.Flood.{flood_of};
-ghost use Rattle.ev_tunnel.specs.Ports.{IsPort};
+ghost use Rattle.ether_wire.specs.Ports.{IsPort};
 ghost use Rattle.ev_tunnel.specs.Place.{place_of};
-ghost use Rattle.ev_tunnel.specs.Decision.{IsFrom, IsPlace, open_ports, local_of, others_of, remote_of, local_for, remote_for};
+ghost use Rattle.ev_tunnel.specs.Decision.{IsFrom, IsPlace, is_from, open_ports, port_alone, local_of, others_of, remote_of, local_for, remote_for};
 
 use crate::place::{Place, place_of};
-use crate::ports::{only, without};
 use arrayvec::ArrayVec;
-use ether_wire::{Addr, Mac, Vni};
+use ether_wire::{Addr, Mac, NO_PORTS, Vni, common_ports, has_port, with_port, without_port};
 use route_join::Table;
 
 /// Where a frame came from.
@@ -30,29 +29,63 @@ pub struct Decision {
     pub remote: ArrayVec<Addr, 64>,
 }
 
-fn open_ports(from: Source, members: u64, passing: u64) -> u64
-    requires { IsFrom from }
-    ensures { result ≡ open_ports from members passing }
+/// Two sets of access ports, by name: below `decide` they aren't passed side by side.
+#[derive(Clone, Copy)]
+pub(crate) struct Ports {
+    /// The ports of the frame's network.
+    pub(crate) members: u64,
+    /// The ports that pass.
+    pub(crate) passing: u64,
+}
+
+/// Whether the frame came from this port.
+fn is_from(from: Source, port: u8) -> bool
+    ensures { result ≡ is_from from port }
 {
-    let open = members & passing;
     match from {
-        Source::Port(port) => without(open, port),
+        Source::Port(p) => p == port,
+        Source::Tunnel => false,
+    }
+}
+
+/// The members that pass, without the port that the frame came from.
+fn open_ports(from: Source, ports: Ports) -> u64
+    requires { IsFrom from }
+    ensures { result ≡ open_ports from ports }
+{
+    let open = common_ports(ports.members, ports.passing);
+    match from {
+        Source::Port(port) => without_port(open, port),
         Source::Tunnel => open,
     }
 }
 
-fn local_of(place: &Place, from: Source, members: u64, passing: u64) -> u64
-    requires from { IsFrom from }
-    requires place { IsPlace place.now }
-    ensures { result ≡ local_of place.now from members passing }
+/// The port alone, if it passes and the frame didn't come from it.
+fn port_alone(port: u8, from: Source, ports: Ports) -> u64
+    requires { IsPort port }
+    ensures { result ≡ port_alone port from ports }
 {
-    match place {
-        Place::Everywhere => open_ports(from, members, passing),
-        Place::AtPort(port) => open_ports(from, members, passing) & only(*port),
-        Place::AtEdge(_) => 0,
+    if has_port(ports.passing, port) && !is_from(from, port) {
+        with_port(NO_PORTS, port)
+    } else {
+        NO_PORTS
     }
 }
 
+/// The access ports that get a frame whose destination is at this place.
+fn local_of(place: &Place, from: Source, ports: Ports) -> u64
+    requires from { IsFrom from }
+    requires place { IsPlace place.now }
+    ensures { result ≡ local_of place.now from ports }
+{
+    match place {
+        Place::Everywhere => open_ports(from, ports),
+        Place::AtPort(port) => port_alone(*port, from, ports),
+        Place::AtEdge(_) => NO_PORTS,
+    }
+}
+
+/// The edges but for this one.
 fn others_of(own: Addr, edges: &ArrayVec<Addr, 64>) -> ArrayVec<Addr, 64>
     ensures { result.items ≡ others_of own edges.now.items }
 {
@@ -66,6 +99,7 @@ fn others_of(own: Addr, edges: &ArrayVec<Addr, 64>) -> ArrayVec<Addr, 64>
     others
 }
 
+/// This edge alone.
 fn one_edge(edge: Addr) -> ArrayVec<Addr, 64>
     ensures { result.items ≡ edge ∷ [] }
 {
@@ -74,6 +108,7 @@ fn one_edge(edge: Addr) -> ArrayVec<Addr, 64>
     edges
 }
 
+/// The edges that get a frame whose destination is at this place.
 fn remote_of(place: &Place, from: Source, vni: Vni, table: &Table, own: Addr) -> ArrayVec<Addr, 64>
     ensures { result.items ≡ remote_of place.now from (flood_of table.now vni) own }
 {
@@ -108,7 +143,8 @@ pub fn decide(
     ensures remote { result.remote.items ≡ remote_for table.now vni destination entry own from }
 {
     let place = place_of(destination, vni, entry, table, own);
-    let local = local_of(&place, from, members, passing);
+    let ports = Ports { members, passing };
+    let local = local_of(&place, from, ports);
     let remote = remote_of(&place, from, vni, table, own);
     Decision { local, remote }
 }

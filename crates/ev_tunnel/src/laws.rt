@@ -1,10 +1,10 @@
 //! Laws on decisions, each a function that does nothing and whose contract is the law.
-ghost use Rattle.std.specs.Prelude.{◌≡◌, ◌≢◌, [], true, false};
+ghost use Rattle.std.specs.Prelude.{◌≡◌, ◌≢◌, ℕ, Contains, [], Some, true, false};
 ghost use Rattle.std.specs.Option.{ForSome};
 ghost use Rattle.route_join.specs.Owner.{owner};
 ghost use Rattle.ev_tunnel.specs.declared.decision.Source.TheVariants.{Port, Tunnel};
 ghost use Rattle.ev_tunnel.specs.declared.place.Place.TheVariants.{Everywhere};
-ghost use Rattle.ev_tunnel.specs.Ports.{IsPort, has_port};
+ghost use Rattle.ether_wire.specs.Ports.{IsPort, has_port};
 ghost use Rattle.ev_tunnel.specs.Place.{place_of};
 ghost use Rattle.ev_tunnel.specs.Decision.{local_for, remote_for};
 ghost use Rattle.ev_tunnel.specs.Laws.{IsOneCopy, ArePassing, AreOthers};
@@ -39,7 +39,7 @@ pub fn never_back(
     ensures { has_port (local_for table.now vni destination entry own (Port port) members passing) port ≡ false }
 {}
 
-/// Only members that pass get a frame.
+/// Only members that pass get a frame, where a destination is learnt at members alone.
 pub fn members_that_pass(
     destination: Mac,
     vni: Vni,
@@ -50,10 +50,12 @@ pub fn members_that_pass(
     members: u64,
     passing: u64,
 )
+    requires { ForSome entry (λ q. has_port members q ≡ true) }
     ensures { ArePassing members passing (local_for table.now vni destination entry own from members passing) }
 {}
 
-/// A frame for an individual address that is learnt or owned by another edge goes to one place at most.
+/// A frame for an individual address that is learnt or owned by another edge goes to one place at
+/// most: to the port where it was learnt, or to the edge that owns it.
 pub fn known_goes_to_one_place(
     destination: Mac,
     vni: Vni,
@@ -64,9 +66,10 @@ pub fn known_goes_to_one_place(
     members: u64,
     passing: u64,
 )
-    requires entry { ForSome entry IsPort }
-    requires known { place_of destination entry (owner table.now vni destination) own ≢ Everywhere }
-    ensures { IsOneCopy (local_for table.now vni destination entry own from members passing) (remote_for table.now vni destination entry own from) }
+    requires { place_of destination entry (owner table.now vni destination) own ≢ Everywhere }
+    ensures port { (p : ℕ) → has_port (local_for table.now vni destination entry own from members passing) p ≡ true → entry ≡ Some p }
+    ensures edge { (o : ℕ) → Contains (remote_for table.now vni destination entry own from) o → owner table.now vni destination ≡ Some o }
+    ensures one { IsOneCopy (local_for table.now vni destination entry own from members passing) (remote_for table.now vni destination entry own from) }
 {}
 
 /// A frame from a port that is flooded goes to exactly the other edges that advertise the network's

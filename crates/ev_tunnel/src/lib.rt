@@ -5,7 +5,6 @@ mod datagram;
 mod decision;
 mod laws;
 mod place;
-mod ports;
 
 pub use datagram::{unwrap_datagram, wrap, wrapped_frame_is_unwrapped};
 pub use decision::{Decision, Source, decide};

@@ -1,6 +1,6 @@
 ghost use Rattle.std.specs.Prelude.{◌≡◌, false, None};
 ghost use Rattle.route_wire.specs.Fields.{FitsKey};
-ghost use Rattle.ev_tunnel.specs.Ports.{IsPort};
+ghost use Rattle.ether_wire.specs.Ports.{IsPort};
 ghost use Rattle.ev_tunnel.specs.Decision.{IsFrom};
 ghost use Rattle.std.specs.Option.{ForSome};
 
@@ -141,6 +141,23 @@ fn learnt_address_on_a_blocked_or_its_own_port_goes_nowhere(rt: HostRuntime) -> 
     let table = flooded(rt.alloc())?;
     assert!(rt; goes(&decided(host(), Source::Port(1), Some(2), &table), 0, &[]));
     assert!(rt; goes(&decided(host(), Source::Port(3), Some(3), &table), 0, &[]));
+    Ok(())
+}
+
+#[test]
+fn learnt_port_is_not_asked_for_membership(rt: HostRuntime) -> Result<(), Fail> {
+    let table = flooded(rt.alloc())?;
+    let decision = decide(
+        host(),
+        vni(),
+        Source::Port(1),
+        Some(4),
+        &table,
+        addr(1),
+        7,
+        0xd,
+    );
+    assert!(rt; goes(&decision, 8, &[]));
     Ok(())
 }
 
