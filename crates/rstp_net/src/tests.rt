@@ -178,9 +178,7 @@ impl Ring {
     fn passes(&self, spot: Spot) -> bool {
         match self.bridges.get(spot.bridge) {
             Some(bridge) => {
-                1 <= spot.port
-                    && usize::from(spot.port) <= bridge.len()
-                    && bridge.passes(spot.port)
+                1 <= spot.port && usize::from(spot.port) <= bridge.len() && bridge.passes(spot.port)
             }
             None => false,
         }
@@ -239,12 +237,11 @@ impl Ring {
 
 /// What passes at each of four bridges in the seconds after the ports came up, and after the link was cut.
 const COMING_UP: [[u8; 4]; 3] = [[0, 2, 2, 1], [3, 3, 2, 1], [3, 3, 2, 3]];
+
 const AFTER_CUT: [[u8; 4]; 3] = [[2, 1, 1, 3], [2, 1, 1, 3], [2, 1, 3, 3]];
 
 #[test]
-fn ring_rests_three_seconds_after_it_came_up_and_after_a_cut(
-    rt: HostRuntime,
-) -> Result<(), Fail> {
+fn ring_rests_three_seconds_after_it_came_up_and_after_a_cut(rt: HostRuntime) -> Result<(), Fail> {
     let mut ring = Ring::new(false);
     assert_eq!(rt; ring.passing(), [0, 0, 0, 0]);
     for second in 1usize..31 {
