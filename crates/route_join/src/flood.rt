@@ -1,3 +1,4 @@
+//! The flood list of a network (RFC 7432, section 7.3).
 ghost use Rattle.std.specs.Prelude.{◌≡◌, ◌≤◌, length};
 ghost use Rattle.route_join.specs.Table.{entries_of};
 ghost use Rattle.route_join.specs.Flood.{is_flood, floods, flooding};

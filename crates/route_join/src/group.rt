@@ -1,3 +1,4 @@
+//! The updates of one subject in the order of their registers, and the best advert among them.
 ghost use Rattle.std.specs.Prelude.{◌≡◌, ◌≢◌, true, Some, ◌∷◌, [], ◌+◌, ◌<◌, ◌≤◌, ◌^◌, vec_len, is_ok, Ok, Err, None, IfOk, IfSome, OnOk, OnErr, MatchOption, if◌then◌else◌};
 ghost use Rattle.std.specs.List.{insert};
 ghost use Rattle.std.specs.FinMap.Entries.{find, put};

@@ -1,3 +1,4 @@
+//! What is advertised, and which of two adverts of an address is better (RFC 7432, section 15).
 ghost use Rattle.std.specs.Prelude.{◌≡◌};
 ghost use Rattle.route_join.specs.Owner.{advert_in, is_better};
 

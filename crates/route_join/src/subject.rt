@@ -1,3 +1,4 @@
+//! What routes are about: a network's flood list, or a MAC address in it.
 ghost use Rattle.std.specs.Prelude.{◌≡◌};
 ghost use Rattle.route_join.specs.Subject.{subject_of};
 
