@@ -1,12 +1,12 @@
 -- What an event answers is about ports that are there.
-use Rattle.std.proofs.Common.{◌≡◌, ℕ, zero, suc, ◌+◌, ◌-◌, ◌%◌, ◌^◌, ◌<◌, ◌≤◌, ◌&&◌, ◌||◌, ◌==◌, ◌⊎◌, inl, inr, Bool, true, false, if◌then◌else◌, List, [], ◌∷◌, Option, Some, None, All, length, slice_get, refl, sym, ap, ◌∙◌, arith}
+use Rattle.std.proofs.Common.{◌≡◌, ℕ, zero, suc, ◌+◌, ◌-◌, ◌%◌, ◌^◌, ◌<◌, ◌≤◌, ◌&&◌, ◌||◌, ◌==◌, ◌⊎◌, inl, inr, Bool, true, false, List, [], ◌∷◌, Option, Some, None, All, length, slice_get, refl, sym, ap, ◌∙◌, arith}
 use Rattle.std.proofs.lemmas.Bool.{eqb-true}
 use Rattle.std.proofs.lemmas.List.Elements.{All-nil, All-cons, All-head, All-tail}
 use Rattle.std.proofs.lemmas.Option.{slice_get_cases}
-use Rattle.std.specs.Int.{bit_at}
 use Rattle.std.specs.Option.{option_map_or}
 use Rattle.bpdu_wire.specs.declared.bpdu.Bpdu.{Bpdu}
 use Rattle.bpdu_wire.specs.Id.{port_number}
+use Rattle.ether_wire.specs.Ports.{has_port}
 use Rattle.rstp_state.specs.declared.port.PortState.{PortState}
 use Rattle.rstp_state.specs.declared.start.PortSettings.{PortSettings}
 use Rattle.rstp_state.specs.declared.start.Settings.{Settings}
@@ -51,17 +51,17 @@ flushes_within (f ∷ earlier) s t p (mid, run, fires) h =
       | inr before ↦ flushes_within earlier s mid p run before
     ]
 
-one_only : (b : Bool) (bit : ℕ) → bit ≡ (if b then 1 else 0) → bit ≡ 1 → b ≡ true
-one_only true bit h k = refl
-one_only false bit h k = let e : ⊥ = omega arith in absurd e
-
--- the mask has ports alone that are there
+-- the set has ports alone that are there
 pub flush-within : (event : Event) (limit : ℕ) (s t : Tree) (settled : Bool) (mask : ℕ) → Happens event limit s t settled mask
-    → (p : ℕ) → bit_at mask p ≡ 1 → p < length t.ports
-flush-within event limit s t settled mask happens p bit =
-    let within = flushes_within happens.firings _ t p happens.run (one_only (flushes p happens.firings) (bit_at mask p) (happens.flush p) bit) in
+    → (p : ℕ) → has_port mask p ≡ true → IsPort p (length t.ports)
+unfolding has_port
+flush-within event limit s t settled mask happens zero there = let e : ⊥ = cc in absurd e
+flush-within event limit s t settled mask happens (suc p) there =
+    let next : suc p ≡ p + 1 = omega arith in
+    let flushed : flushes p happens.firings ≡ true = sym (happens.flush p) ∙ ap (has_port mask) (sym next) ∙ there in
+    let within = flushes_within happens.firings _ t p happens.run flushed in
     let same = run_length happens.firings _ t happens.run in
-    omega arith
+    (omega arith, omega arith)
 
 -- a message at one of so many ports, of which the first has this number
 abbrev IsFrom : ℕ → ℕ → ℕ × Bpdu → Type 0
@@ -120,3 +120,10 @@ port-number ports p port low high at h = number_at 1 ports (p - 1) port at h ∙
 pub length-start : (settings : Settings) (ports : List PortSettings) → 1 ≤ length ports → 1 ≤ length (start settings ports).ports
 length-start settings [] some = let e : ⊥ = omega arith in absurd e
 length-start settings (x ∷ xs) some = omega arith
+
+swapped : (p : ℕ) → 1 + p ≡ p + 1
+swapped p = omega arith
+
+pub number-at : (ports : List PortState) (p : ℕ) (port : PortState) → slice_get ports p ≡ Some port → AreNumberedFrom 1 ports
+    → port_number port.identifier ≡ (p + 1) % 2 ^ 12
+number-at ports p port at h = number_at 1 ports p port at h ∙ ap (λ m. m % 2 ^ 12) (swapped p)

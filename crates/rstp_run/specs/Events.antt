@@ -1,7 +1,7 @@
 -- What an event may do to a bridge, and what it answers.
-use Rattle.std.specs.Prelude.{ℕ, Bool, true, false, ◌≡◌, ◌+◌, ◌-◌, ◌*◌, ◌≤◌, ◌&&◌, ◌==◌, if◌then◌else◌, List, [], ◌∷◌, length, map, Option, Some, None, IsTrue}
+use Rattle.std.specs.Prelude.{ℕ, Bool, true, false, ◌≡◌, ◌+◌, ◌-◌, ◌*◌, ◌≤◌, ◌&&◌, ◌==◌, List, [], ◌∷◌, length, map, Option, Some, None, IsTrue}
 use Rattle.std.specs.List.{list_any}
-use Rattle.std.specs.Int.{bit_at}
+use Rattle.ether_wire.specs.Ports.{has_port}
 use Rattle.bpdu_wire.specs.declared.bpdu.Bpdu as bpdu
 use Rattle.rstp_state.specs.declared.port.PortState.{PortState}
 use Rattle.rstp_state.specs.declared.start.PortSettings.{PortSettings}
@@ -11,7 +11,7 @@ use Rattle.rstp_state.specs.Port.{change_at, test_at}
 use Rattle.rstp_state.specs.Selection.{own_root}
 use Rattle.rstp_state.specs.Start.{ports_from}
 use Rattle.rstp_run.specs.Rules.{Tree}
-use Rattle.rstp_run.specs.Runs.{Firing, Run, IsSettled, is_flush}
+use Rattle.rstp_run.specs.Runs.{Firing, Run, IsSettled, flushed, is_flush}
 use Rattle.rstp_run.specs.declared.event.Event.{Event}
 use Rattle.rstp_run.specs.declared.event.Event.TheVariants as events
 
@@ -51,7 +51,13 @@ pub record Happens (event : Event) (limit : ℕ) (s t : Tree) (settled : Bool) (
   pub run : Run firings (direct event s) t
   pub few : length firings ≤ limit
   pub unsettled : settled ≡ false → length firings ≡ limit
-  pub flush : (p : ℕ) → bit_at mask p ≡ (if flushes p firings then 1 else 0)
+  pub flush : (p : ℕ) → has_port mask (p + 1) ≡ flushes p firings
+
+-- firings within the limit that lead on from the event's direct effect are what the event may do
+abbrev pub RunsHappen : Type 0
+RunsHappen =
+    (event : Event) (limit : ℕ) (s t : Tree) (firings : List Firing) → Run firings (direct event s) t → length firings ≤ limit
+    → Happens event limit s t true (flushed firings 0)
 
 -- the greatest number of firings at an event
 abbrev pub firings_at : Tree → ℕ

@@ -9,5 +9,6 @@ pub mod Receive
 pub mod RootPort
 pub mod Rules
 pub mod Runs
+pub mod Settled
 pub mod TopologyChange
 pub mod Transmit

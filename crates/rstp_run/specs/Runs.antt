@@ -1,6 +1,7 @@
 -- Runs of a bridge, and what an event may answer.
-use Rattle.std.specs.Prelude.{ℕ, Bool, true, false, ◌≡◌, ◌+◌, ◌≤◌, ◌<◌, ◌^◌, if◌then◌else◌, List, [], ◌∷◌, length, bit_or}
+use Rattle.std.specs.Prelude.{ℕ, Bool, true, false, ◌≡◌, ◌+◌, ◌≤◌, ◌<◌, if◌then◌else◌, List, [], ◌∷◌, length}
 use Rattle.std.specs.List.{list_any}
+use Rattle.ether_wire.specs.Ports.{with_port}
 use Rattle.rstp_run.specs.Rules.{Tree, guard, after}
 use Rattle.rstp_run.specs.declared.rule.Rule.{Rule}
 use Rattle.rstp_run.specs.declared.rule.Rule.TheVariants.{Topology}
@@ -35,7 +36,7 @@ is_flush _ = false
 
 -- the ports that were flushed, after one more firing
 abbrev pub flush_after : Rule → ℕ → ℕ → ℕ
-flush_after rule p before = if is_flush rule then bit_or before (2 ^ p) else before
+flush_after rule p before = if is_flush rule then with_port before (p + 1) else before
 
 -- the ports that were flushed, with those before
 abbrev pub flushed : List Firing → ℕ → ℕ

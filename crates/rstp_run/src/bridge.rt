@@ -1,8 +1,8 @@
 //! A bridge of the spanning tree.
 
-ghost use Rattle.std.specs.Prelude.{ℕ, ◌≡◌, ◌≤◌, ◌<◌, ◌-◌, ◌↔◌, All, length, slice_get, IsTrue, true, false};
-ghost use Rattle.std.specs.Int.{bit_at};
+ghost use Rattle.std.specs.Prelude.{ℕ, ◌≡◌, ◌≤◌, ◌-◌, ◌↔◌, All, length, slice_get, IsTrue, true, false};
 ghost use Rattle.bpdu_wire.specs.Id.{port_number};
+ghost use Rattle.ether_wire.specs.Ports.{has_port};
 ghost use Rattle.rstp_run.specs.Events.{
   firings_at,
   Happens,
@@ -95,7 +95,7 @@ impl Bridge {
         ensures ports { length self.new.ports ≡ length self.old.ports }
 
         // The ports that are flushed, and those at which is sent, are there.
-        ensures flushed_at { (p : ℕ) → bit_at result.flush p ≡ 1 → p < length self.new.ports }
+        ensures flushed_at { (p : ℕ) → has_port result.flush p ≡ true → IsPort p (length self.new.ports) }
         ensures sent_at { All (λ sent. IsPort sent.0 (length self.new.ports)) result.out.items }
     {
         let outcome = self.engine.event_within(event, limit);
@@ -112,7 +112,7 @@ impl Bridge {
         ensures ports { length self.new.ports ≡ length self.old.ports }
 
         // The ports that are flushed, and those at which is sent, are there.
-        ensures flushed_at { (p : ℕ) → bit_at result.flush p ≡ 1 → p < length self.new.ports }
+        ensures flushed_at { (p : ℕ) → has_port result.flush p ≡ true → IsPort p (length self.new.ports) }
         ensures sent_at { All (λ sent. IsPort sent.0 (length self.new.ports)) result.out.items }
     {
         let limit = 64 * (self.len() + 1);

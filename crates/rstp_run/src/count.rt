@@ -1,8 +1,9 @@
 //! How many rules fired in an event, and which ports were flushed.
 
-ghost use Rattle.std.specs.Prelude.{◌≡◌, ◌<◌, ◌≤◌, ◌^◌, bit_or};
+ghost use Rattle.std.specs.Prelude.{◌≡◌, ◌<◌};
 
 use crate::rule::Rule;
+use ether_wire::with_port;
 
 /// How many firings there were, of how many at most, and which ports were flushed.
 #[derive(Clone, Copy)]
@@ -10,13 +11,6 @@ pub(crate) struct Count {
     pub(crate) fired: usize,
     pub(crate) limit: usize,
     pub(crate) flush: u64,
-}
-
-fn with_bit(mask: u64, p: usize) -> u64
-    requires { p < 64 }
-    ensures { result ≡ bit_or mask (2 ^ p) }
-{
-    mask | 1 << p
 }
 
 impl Count {
@@ -30,7 +24,7 @@ impl Count {
     {
         self.fired += 1;
         if rule.is_flush() {
-            self.flush = with_bit(self.flush, p);
+            self.flush = with_port(self.flush, (p + 1) as u8);
         }
     }
 }

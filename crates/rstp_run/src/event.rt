@@ -23,7 +23,7 @@ pub enum Event {
 pub struct Outcome {
     /// No rule is enabled any more.
     pub settled: bool,
-    /// The ports at which what was learnt is to be forgotten: port `p` is bit `p - 1`.
+    /// The ports at which what was learnt is to be forgotten: a set of `ether_wire`'s.
     pub flush: u64,
     /// The messages to be sent, with their ports' numbers, by ascending ports.
     pub out: ArrayVec<(u8, Bpdu), 64>,

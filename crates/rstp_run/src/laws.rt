@@ -1,8 +1,53 @@
 //! What holds of every bridge that came from its start by events.
 
+ghost use Rattle.rstp_run.specs.Events.{RunsHappen};
 ghost use Rattle.rstp_run.specs.RootPort.{OneRootPort};
+ghost use Rattle.rstp_run.specs.Settled.{
+  OfSettledPorts,
+  Sends,
+  HasWhatItSends,
+  IsFollowedAsRoot,
+  PassingIsInTree,
+  PortsAreNumbered,
+  SettledByLists,
+};
 
 /// A settled bridge has one root port at most, whatever the events were that led to it.
 pub fn one_root_port()
     ensures { OneRootPort }
+{}
+
+/// A port of a settled bridge sends the root's vector and times.
+pub fn settled_port_sends()
+    ensures { OfSettledPorts Sends }
+{}
+
+/// A designated port of a settled bridge has the vector that it sends.
+pub fn designated_port_has()
+    ensures { OfSettledPorts HasWhatItSends }
+{}
+
+/// The bridge is one further from the root than what its root port has heard, which isn't too old.
+pub fn root_port_is_followed()
+    ensures { OfSettledPorts IsFollowedAsRoot }
+{}
+
+/// A port that passes is the root port or a designated one.
+pub fn passing_is_in_tree()
+    ensures { PassingIsInTree }
+{}
+
+/// Each port's identifier has its number.
+pub fn ports_are_numbered()
+    ensures { PortsAreNumbered }
+{}
+
+/// A bridge is settled where no rule is enabled at any of its ports.
+pub fn settled_by_lists()
+    ensures { SettledByLists }
+{}
+
+/// Firings within the limit that lead on from an event's direct effect are what the event may do.
+pub fn runs_happen()
+    ensures { RunsHappen }
 {}

@@ -1,3 +1,4 @@
 pub mod Least
 pub mod Paths
 pub mod Places
+pub mod Vectors

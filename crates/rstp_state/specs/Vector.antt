@@ -1,5 +1,5 @@
 -- Vectors and times, and when a message is superior to what a port knows.
-use Rattle.std.specs.Prelude.{ℕ, Bool, not, ◌&&◌, ◌||◌, ◌==◌, ◌+◌, ◌/◌, max}
+use Rattle.std.specs.Prelude.{◌≡◌, ℕ, Bool, false, not, ◌&&◌, ◌||◌, ◌==◌, ◌+◌, ◌/◌, max}
 use Rattle.std.specs.declared.cmp.Ordering.{Ordering}
 use Rattle.std.specs.Ordering.{nat_cmp, ordering_then, is_lt}
 use Rattle.bpdu_wire.specs.declared.bpdu.Message.{Message}
@@ -47,3 +47,7 @@ same_sender a b = bridge_address a.bridge == bridge_address b.bridge && port_num
 -- A message's vector v and times t are superior to a port's vector w and times u (IEEE 802.1D-2004, 17.6).
 abbrev pub superior : Vector → Times → Vector → Times → Bool
 superior v t w u = is_less v w || (same_sender v w && (not (same_vector v w) || not (same_times t u)))
+
+-- of two different vectors one is better
+abbrev pub NeverEquallyGood : Type 0
+NeverEquallyGood = (a b : Vector) → is_less a b ≡ false → is_less b a ≡ false → a ≡ b

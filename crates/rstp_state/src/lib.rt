@@ -3,6 +3,7 @@
 #![tactic(auto)]
 
 pub mod direct;
+pub mod laws;
 pub mod port;
 pub mod selection;
 pub mod start;

@@ -2,4 +2,4 @@ use Rattle.rstp_net.proofs.Ways.{comes_back_by_none}
 use Rattle.rstp_net.proofs.laws.no_quiet_circle.Goals as goal
 
 pub returns : goal.returns
-returns c = λ net is x ports way. comes_back_by_none net is x ports way
+returns c = λ net is x ports way. comes_back_by_none c.bridge_laws.ensures net is x ports way

@@ -1,0 +1,13 @@
+-- What a network needs of its bridges: laws of `rstp_run` and `rstp_state`.
+use Rattle.rstp_state.specs.Vector.{NeverEquallyGood}
+use Rattle.rstp_run.specs.RootPort.{OneRootPort}
+use Rattle.rstp_run.specs.Settled.{OfSettledPorts, Sends, HasWhatItSends, IsFollowedAsRoot, PassingIsInTree, PortsAreNumbered}
+
+pub record BridgeLaws : Type 0 where
+  pub sends : OfSettledPorts Sends
+  pub has : OfSettledPorts HasWhatItSends
+  pub followed : OfSettledPorts IsFollowedAsRoot
+  pub one_root : OneRootPort
+  pub in_tree : PassingIsInTree
+  pub numbered : PortsAreNumbered
+  pub good : NeverEquallyGood

@@ -1,0 +1,52 @@
+-- What the ports of a settled bridge know and send, of every bridge that came from its start by events.
+use Rattle.std.specs.Prelude.{ℕ, true, ◌≡◌, ◌+◌, ◌<◌, ◌%◌, ◌^◌, List}
+use Rattle.bpdu_wire.specs.Id.{port_number}
+use Rattle.rstp_state.specs.declared.port.PortState.{PortState}
+use Rattle.rstp_state.specs.declared.start.PortSettings.{PortSettings}
+use Rattle.rstp_state.specs.declared.start.Settings.{Settings}
+use Rattle.rstp_state.specs.Port.{is_designated, is_root}
+use Rattle.rstp_state.specs.Selection.{designated_times, designated_vector, times_beyond}
+use Rattle.rstp_run.specs.declared.rule.TheConstants.{MAIN, SENDS}
+use Rattle.rstp_run.specs.Events.{Passes}
+use Rattle.rstp_run.specs.Laws.{IsInTree}
+use Rattle.rstp_run.specs.RootPort.{CanBe, IsAtPlace}
+use Rattle.rstp_run.specs.Rules.{Tree}
+use Rattle.rstp_run.specs.Runs.{AreOff, IsSettled}
+
+-- the bridge came from its start by events
+abbrev pub IsReached : Tree → Type 0
+IsReached s = (settings : Settings) × (ports : List PortSettings) × CanBe settings ports s
+
+-- a fact of each port of a settled bridge
+abbrev pub OfSettledPorts : (Tree → PortState → Type 0) → Type 0
+OfSettledPorts fact = (s : Tree) → IsReached s → IsSettled s → (p : ℕ) (port : PortState) → IsAtPlace s p port → fact s port
+
+-- it sends the root's vector, as its bridge and itself, and the root's times
+pub record Sends (s : Tree) (port : PortState) : Type 0 where
+  pub vector : port.designated_priority ≡ designated_vector s.settings s.root port.identifier
+  pub times : port.designated_times ≡ designated_times s.settings s.root
+
+-- a designated port has the vector that it sends
+abbrev pub HasWhatItSends : Tree → PortState → Type 0
+HasWhatItSends s port = is_designated port.role ≡ true → port.port_priority ≡ port.designated_priority
+
+-- the root's times are those of the root port, one bridge further, and the root port's aren't too old
+pub record IsFollowed (s : Tree) (port : PortState) : Type 0 where
+  pub further : s.root.times ≡ times_beyond port.port_times
+  pub young : port.port_times.message_age < port.port_times.max_age
+
+abbrev pub IsFollowedAsRoot : Tree → PortState → Type 0
+IsFollowedAsRoot s port = is_root port.role ≡ true → IsFollowed s port
+
+-- what passes is the root port or a designated one
+abbrev pub PassingIsInTree : Type 0
+PassingIsInTree = (s : Tree) → IsReached s → (p : ℕ) → Passes s p → IsInTree s p
+
+-- the port at place p has the number p + 1, of 12 bits
+abbrev pub PortsAreNumbered : Type 0
+PortsAreNumbered =
+    (s : Tree) → IsReached s → (p : ℕ) (port : PortState) → IsAtPlace s p port → port_number port.identifier ≡ (p + 1) % 2 ^ 12
+
+-- a bridge is settled where no rule of the two lists is enabled at any of its ports
+abbrev pub SettledByLists : Type 0
+SettledByLists = (s : Tree) → AreOff MAIN s → AreOff SENDS s → IsSettled s
