@@ -219,12 +219,11 @@ octets_noted xs s t u f kept told = subst (λ x. TakesOctets x s u) (append-nil 
     }
 
 -- octets that a feed took, and what it has next then
-pub octets_next : (octets : List ℕ) (s t : State) (fed after : Held) (x : Next) → ((stream : List ℕ) (answers : List (Result Fields ℕ)) → HasRead s.intake.feed stream answers → HasRead fed (stream ++ octets) answers)
-    → ((stream : List ℕ) (answers : List (Result Fields ℕ)) → HasRead fed stream answers → HasRead after stream (answers ++ added x)) → after.newest ≡ s.intake.feed.newest
-    → t.intake.feed ≡ after → TakesAnswers (added x) s t → TakesOctets octets s t
-octets_next octets s t fed after x feeds next version same taken = record {
+pub octets_next : (octets : List ℕ) (s t : State) (after : Held) (x : Next) → ((stream : List ℕ) (answers : List (Result Fields ℕ)) → HasRead s.intake.feed stream answers → HasRead after (stream ++ octets) (answers ++ added x))
+    → after.newest ≡ s.intake.feed.newest → t.intake.feed ≡ after → TakesAnswers (added x) s t → TakesOctets octets s t
+octets_next octets s t after x took version same taken = record {
   answers = added x;
-  read = λ stream earlier r. subst (λ (h : Held). HasRead h (stream ++ octets) (earlier ++ added x)) (sym same) (next (stream ++ octets) earlier (feeds stream earlier r));
+  read = λ stream earlier r. subst (λ (h : Held). HasRead h (stream ++ octets) (earlier ++ added x)) (sym same) (took stream earlier r);
   version = ap (λ (h : Held). h.newest) same ∙ version;
   taken = taken;
 }

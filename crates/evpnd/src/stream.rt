@@ -98,8 +98,8 @@ impl Intake {
         ensures feed { is_length (shown self.new.feed) ≡ false }
         ensures few { self.new.count ≤ self.old.count + 1 }
     {
-        let n = self.feed.feed(piece);
-        match self.feed.next() {
+        let (n, next) = self.feed.take(piece);
+        match next {
             Next::More => {}
             Next::Fault(_) => {}
             Next::Record(update) => self.take(&update, notes),
