@@ -1,7 +1,7 @@
 -- The program's words, as `clap` reads them.
-use Rattle.std.specs.Prelude.{◌≡◌, ◌≢◌, true, List, [], codes, Option, Some, None, Result, Ok, Err, if◌then◌else◌}
+use Rattle.std.specs.Prelude.{◌≡◌, true, List, [], codes, Option, Some, None, Result, Ok, Err, if◌then◌else◌}
 use Rattle.std.specs.Str.{bytes_eq}
-use Rattle.clap.specs.Words.{App, Row, Rule, Text, first_of, new_app, new_rule, subcommand_of, with_rule, with_subcommand, fault_of}
+use Rattle.clap.specs.Words.{App, Row, Rule, Text, first_of, new_app, new_rule, subcommand_of, with_rule, with_subcommand, fault_of, IsAmong, kind_of}
 use Rattle.clap.specs.declared.builder.ArgAction.TheVariants.{Set}
 use Rattle.evpnd.specs.declared.words.Order.{Order}
 use Rattle.evpnd.specs.declared.words.Order.TheVariants.{Report}
@@ -27,12 +27,16 @@ abbrev pub text_at : Text → Text → Option (Text × List Row) → Option Text
 text_at name option None = None
 text_at name option (Some found) = if bytes_eq found.0 name then first_of option found.1 else None
 
+-- the list that an order names
+abbrev pub list_of : Order → Text
+list_of (Report list) = list.now
+
 -- the matches of the subcommand give this order
 abbrev pub IsOrderIn : Option (Text × List Row) → Order → Type 0
-IsOrderIn found (Report list) = text_at (codes "report") (codes "originators") found ≡ Some list.now
+IsOrderIn found order = text_at (codes "report") (codes "originators") found ≡ Some (list_of order)
 
--- The words are this order, or `clap` refuses them; only memory excuses any.
+-- The words have no fault and are this order, or `clap` finds the fault in them that the error tells; only memory excuses any.
 abbrev pub Orders : List Text → Result Order Refusal → Type 0
-Orders words (Ok order) = IsOrderIn (subcommand_of program words) order
-Orders words (Err (Usage e)) = fault_of program words ≢ []
+Orders words (Ok order) = (fault_of program words ≡ []) × IsOrderIn (subcommand_of program words) order
+Orders words (Err (Usage e)) = IsAmong (kind_of e) (fault_of program words)
 Orders words (Err NoMemory) = Unit {0}

@@ -2,7 +2,7 @@
 ghost use Rattle.std.specs.Prelude.{◌≡◌, codes, map, OnOk, string_bytes, IfOk, IfSome, option_map, false, true, ◌⊎◌, ◌≢◌};
 ghost use Rattle.clap.specs.Words.{app_of, kind_of, rule_of, subcommand_rows_of};
 ghost use Rattle.clap.specs.declared.builder.command.Command.TheViews.{out-Command};
-ghost use Rattle.evpnd.specs.Words.{IsOrderIn, text_at, Orders, program, order_app, option_rule};
+ghost use Rattle.evpnd.specs.Words.{list_of, text_at, Orders, program, order_app, option_rule};
 
 use clap::error::ErrorKind;
 use clap::{Arg, ArgAction, ArgMatches, Command, Error};
@@ -71,8 +71,11 @@ pub(crate) fn order_of<'a>(alloc: Global, words: &'a [String]) -> Result<Order<'
     }
 }
 
+/// What an error of `clap` says of the words: they aren't the program's, or there was no memory.
 fn refusal_of(error: Error) -> Refusal
-    ensures { result ≡ Refusal.NoMemory ⊎ ((result ≡ Refusal.Usage error) × (kind_of error ≢ ErrorKind.OutOfMemory)) }
+    ensures either { result ≡ Refusal.NoMemory ⊎ ((result ≡ Refusal.Usage error) × (kind_of error ≢ ErrorKind.OutOfMemory)) }
+    ensures memory { kind_of error ≡ ErrorKind.OutOfMemory → result ≡ Refusal.NoMemory }
+    ensures usage { kind_of error ≢ ErrorKind.OutOfMemory → result ≡ Refusal.Usage error }
 {
     if error.kind() == ErrorKind::OutOfMemory {
         Refusal::NoMemory
@@ -95,8 +98,9 @@ fn text_at<'a>(matches: &ArgMatches<'a>, name: &str, option: &str) -> Option<&'a
     }
 }
 
+/// The order at the subcommand that was used.
 fn order_in<'a>(matches: &ArgMatches<'a>) -> Option<Order<'a>>
-    ensures { IfSome result (IsOrderIn (subcommand_rows_of matches.now)) }
+    ensures { option_map list_of result ≡ text_at (codes "report") (codes "originators") (subcommand_rows_of matches.now) }
 {
     match text_at(matches, "report", "originators") {
         Some(list) => Some(Order::Report(list)),
