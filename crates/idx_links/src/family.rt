@@ -2,7 +2,7 @@ ghost use Rattle.std.specs.Prelude.{◌≡◌, ℕ, ◌+◌, ◌<◌, ◌∷◌,
 ghost use Rattle.idx_links.specs.Links.{has, without, Apart, list_at, IsFree, IsLinked};
 ghost use Rattle.idx_links.specs.Families.{Families, lists_of, families_of, AreNodes, IsFamily, AreStarts};
 
-use crate::chains::Chains;
+use crate::linked_lists::LinkedLists;
 use std::alloc::{AllocError, Global};
 use std::marker::Model;
 
@@ -17,7 +17,7 @@ pub struct Family<const K: usize> {
     // Where each family's lists start among the lists of all, and where the last one's end.
     starts: Vec<usize>,
     // All lists. A node has a number for each family, which stand side by side.
-    chains: Chains,
+    linked: LinkedLists,
 }
 
 impl<const K: usize> Model for Family<K> {
@@ -26,9 +26,9 @@ impl<const K: usize> Model for Family<K> {
 
     ghost Value = { Families };
 
-    ghost view = { λ f. families_of K f.nodes f.starts.items f.chains };
+    ghost view = { λ f. families_of K f.nodes f.starts.items f.linked };
 
-    ghost invariant = { λ f. IsFamily K f.nodes f.starts.items f.chains };
+    ghost invariant = { λ f. IsFamily K f.nodes f.starts.items f.linked };
 }
 
 impl<const K: usize> Family<K> {
@@ -43,11 +43,11 @@ impl<const K: usize> Family<K> {
         let Some(numbers) = nodes.checked_mul(K) else {
             return Err(AllocError)
         };
-        let chains = Chains::new(alloc, starts[K], numbers)?;
+        let linked = LinkedLists::new(alloc, starts[K], numbers)?;
         Ok(Family {
             nodes,
             starts,
-            chains,
+            linked,
         })
     }
 
@@ -63,7 +63,7 @@ impl<const K: usize> Family<K> {
         let Some(numbers) = nodes.checked_mul(K) else {
             return Err(AllocError)
         };
-        self.chains.grow(numbers)?;
+        self.linked.grow(numbers)?;
         self.nodes = nodes;
         Ok(())
     }
@@ -81,7 +81,7 @@ impl<const K: usize> Family<K> {
         requires list { list < length (lists_of self.now family) }
         ensures { result ≡ slice_get (list_at (lists_of self.now family) list) 0 }
     {
-        let first = self.chains.front(self.starts[family] + list)?;
+        let first = self.linked.front(self.starts[family] + list)?;
         Some(first / K)
     }
 
@@ -92,7 +92,7 @@ impl<const K: usize> Family<K> {
         requires linked { IsLinked (lists_of self.now family) node }
         ensures { (l i : ℕ) → slice_get (list_at (lists_of self.now family) l) i ≡ Some node → result ≡ slice_get (list_at (lists_of self.now family) l) (i + 1) }
     {
-        let next = self.chains.next(node * K + family)?;
+        let next = self.linked.next(node * K + family)?;
         Some(next / K)
     }
 
@@ -105,7 +105,7 @@ impl<const K: usize> Family<K> {
         ensures apart { (l : ℕ) → Apart (list_at (lists_of self.now family) l) }
         ensures below { AreNodes self.now family }
     {
-        self.chains.len(self.starts[family] + list)
+        self.linked.len(self.starts[family] + list)
     }
 
     /// Which list of the family the node is on.
@@ -117,7 +117,7 @@ impl<const K: usize> Family<K> {
         ensures within { IfSome result (λ l. l < length (lists_of self.now family)) }
         ensures off { IfNone result (IsFree (lists_of self.now family) node) }
     {
-        let list = self.chains.list_of(node * K + family)?;
+        let list = self.linked.list_of(node * K + family)?;
         Some(list - self.starts[family])
     }
 
@@ -130,7 +130,7 @@ impl<const K: usize> Family<K> {
         ensures nodes { self.new.nodes ≡ self.old.nodes }
         ensures families { let lists = lists_of self.old family in self.new.families ≡ slice_set self.old.families family (slice_set lists list (list_at lists list ++ node ∷ [])) }
     {
-        self.chains
+        self.linked
             .push_back(self.starts[family] + list, node * K + family);
     }
 
@@ -142,7 +142,7 @@ impl<const K: usize> Family<K> {
         ensures nodes { self.new.nodes ≡ self.old.nodes }
         ensures families { self.new.families ≡ slice_set self.old.families family (map (without node) (lists_of self.old family)) }
     {
-        self.chains.unlink(node * K + family);
+        self.linked.unlink(node * K + family);
     }
 }
 

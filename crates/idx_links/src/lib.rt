@@ -4,8 +4,8 @@
 //! entry is a node, each order is a family of lists, and an entry leaves any list in constant steps.
 #![tactic(auto)]
 
-mod chains;
 mod family;
+mod linked_lists;
 mod places;
 
 pub use family::Family;

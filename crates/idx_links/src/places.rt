@@ -22,7 +22,7 @@ struct Link {
 /// Places in rings, the first of which are the lists' own, and the others the nodes'. All that is known of a place stands
 /// together.
 #[derive(Drop)]
-pub struct Places {
+pub(crate) struct Places {
     lists: usize,
     links: Vec<Link>,
 }
@@ -42,7 +42,7 @@ impl Model for Places {
 
 impl Places {
     /// Each place leads to itself, and is on no list. Refused where the places are too many for 32 bits.
-    pub fn new(alloc: Global, lists: usize, nodes: usize) -> Result<Places, AllocError>
+    pub(crate) fn new(alloc: Global, lists: usize, nodes: usize) -> Result<Places, AllocError>
         ensures next { IfOk result (λ p. p.next ≡ range_with_len 0 (lists + nodes)) }
         ensures prev { IfOk result (λ p. p.prev ≡ range_with_len 0 (lists + nodes)) }
         ensures owner { IfOk result (λ p. p.owner ≡ replicate (lists + nodes) None) }
@@ -60,7 +60,7 @@ impl Places {
     }
 
     /// How many lists there are. All places are counted by 32 bits.
-    pub fn lists(&self) -> usize
+    pub(crate) fn lists(&self) -> usize
         ensures count { result ≡ length self.now.lens }
         ensures small { length self.now.next < 2 ^ 32 }
     {
@@ -68,7 +68,7 @@ impl Places {
     }
 
     /// Where the place leads.
-    pub fn next(&self, place: usize) -> usize
+    pub(crate) fn next(&self, place: usize) -> usize
         requires { place < length self.now.next }
         ensures { result ≡ slice_index_or self.now.next place 0 }
     {
@@ -76,7 +76,7 @@ impl Places {
     }
 
     /// Where the place leads back.
-    pub fn prev(&self, place: usize) -> usize
+    pub(crate) fn prev(&self, place: usize) -> usize
         requires { place < length self.now.next }
         ensures { result ≡ slice_index_or self.now.prev place 0 }
     {
@@ -84,7 +84,7 @@ impl Places {
     }
 
     /// The list that the node's place is on.
-    pub fn owner(&self, place: usize) -> Option<usize>
+    pub(crate) fn owner(&self, place: usize) -> Option<usize>
         requires node { length self.now.lens ≤ place }
         requires place { place < length self.now.next }
         ensures { result ≡ slice_index_or self.now.owner place None }
@@ -97,7 +97,7 @@ impl Places {
     }
 
     /// How many nodes the list has.
-    pub fn len(&self, list: usize) -> usize
+    pub(crate) fn len(&self, list: usize) -> usize
         requires { list < length self.now.lens }
         ensures { result ≡ slice_index_or self.now.lens list 0 }
     {
@@ -105,7 +105,7 @@ impl Places {
     }
 
     /// Makes one place lead to another, and that one lead back.
-    pub fn join(&mut self, before: usize, behind: usize)
+    pub(crate) fn join(&mut self, before: usize, behind: usize)
         requires before { before < length self.old.next }
         requires behind { behind < length self.old.next }
         ensures next { self.new.next ≡ slice_set self.old.next before behind }
@@ -119,7 +119,7 @@ impl Places {
     }
 
     /// Puts the node's place on the list, as its owner and its length say.
-    pub fn enter(&mut self, list: usize, place: usize)
+    pub(crate) fn enter(&mut self, list: usize, place: usize)
         requires list { list < length self.old.lens }
         requires node { length self.old.lens ≤ place }
         requires place { place < length self.old.next }
@@ -135,7 +135,7 @@ impl Places {
     }
 
     /// Takes the node's place off its list, as its owner and the list's length say.
-    pub fn leave(&mut self, list: usize, place: usize)
+    pub(crate) fn leave(&mut self, list: usize, place: usize)
         requires list { list < length self.old.lens }
         requires node { length self.old.lens ≤ place }
         requires place { place < length self.old.next }
@@ -151,7 +151,7 @@ impl Places {
 
     /// Makes so many places, unless there are as many. A new one leads to itself, and is on no list.
     /// Refused where they are too many for 32 bits, too.
-    pub fn grow(&mut self, places: usize) -> Result<(), AllocError>
+    pub(crate) fn grow(&mut self, places: usize) -> Result<(), AllocError>
         ensures next { OnOk result (self.new.next ≡ self.old.next ++ range_with_len (length self.old.next) (places - length self.old.next)) }
         ensures prev { OnOk result (self.new.prev ≡ self.old.prev ++ range_with_len (length self.old.prev) (places - length self.old.prev)) }
         ensures owner { OnOk result (self.new.owner ≡ self.old.owner ++ replicate (places - length self.old.owner) None) }

@@ -6,10 +6,10 @@
 #![tactic(auto)]
 
 mod laws;
-pub mod orders;
+mod orders;
 mod slot;
-pub mod station;
-pub mod table;
+mod station;
+mod table;
 
 pub use laws::{
     due_one_by_one, entries_after_learning, entries_after_pinning, entries_after_removal,

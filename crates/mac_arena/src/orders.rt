@@ -20,7 +20,7 @@ const FREE: usize = 1;
 /// The orders in which the table's nodes stand: a chain for each bucket, a list for each port, the
 /// ageing list with the node heard longest ago first, and the free nodes.
 #[derive(Drop)]
-pub struct NodeOrders {
+pub(crate) struct NodeOrders {
     links: Family<3>,
 }
 
@@ -36,7 +36,7 @@ impl Model for NodeOrders {
 
 impl NodeOrders {
     /// Every node is free.
-    pub fn new(
+    pub(crate) fn new(
         alloc: Global,
         buckets: usize,
         ports: usize,
@@ -55,7 +55,7 @@ impl NodeOrders {
     }
 
     /// The first node of the bucket's chain.
-    pub fn first_in_chain(&self, bucket: usize) -> Option<usize>
+    pub(crate) fn first_in_chain(&self, bucket: usize) -> Option<usize>
         requires { bucket < length self.now.chains }
         ensures { result ≡ slice_get (list_at self.now.chains bucket) 0 }
     {
@@ -63,7 +63,7 @@ impl NodeOrders {
     }
 
     /// The node behind the node on its chain.
-    pub fn next_in_chain(&self, node: usize) -> Option<usize>
+    pub(crate) fn next_in_chain(&self, node: usize) -> Option<usize>
         requires node { node < self.now.nodes }
         requires linked { IsLinked self.now.chains node }
         ensures { (b i : ℕ) → slice_get (list_at self.now.chains b) i ≡ Some node → result ≡ slice_get (list_at self.now.chains b) (i + 1) }
@@ -72,7 +72,7 @@ impl NodeOrders {
     }
 
     /// How many nodes the bucket's chain has.
-    pub fn chain_len(&self, bucket: usize) -> usize
+    pub(crate) fn chain_len(&self, bucket: usize) -> usize
         requires { bucket < length self.now.chains }
         ensures { result ≡ length (list_at self.now.chains bucket) }
     {
@@ -80,7 +80,7 @@ impl NodeOrders {
     }
 
     /// The first node of the port's list.
-    pub fn first_at_port(&self, port: usize) -> Option<usize>
+    pub(crate) fn first_at_port(&self, port: usize) -> Option<usize>
         requires { port < length self.now.ports }
         ensures { result ≡ slice_get (list_at self.now.ports port) 0 }
     {
@@ -88,7 +88,7 @@ impl NodeOrders {
     }
 
     /// The node behind the node on its port's list.
-    pub fn next_at_port(&self, node: usize) -> Option<usize>
+    pub(crate) fn next_at_port(&self, node: usize) -> Option<usize>
         requires node { node < self.now.nodes }
         requires linked { IsLinked self.now.ports node }
         ensures { (p i : ℕ) → slice_get (list_at self.now.ports p) i ≡ Some node → result ≡ slice_get (list_at self.now.ports p) (i + 1) }
@@ -97,7 +97,7 @@ impl NodeOrders {
     }
 
     /// How many nodes the port's list has.
-    pub fn port_len(&self, port: usize) -> usize
+    pub(crate) fn port_len(&self, port: usize) -> usize
         requires { port < length self.now.ports }
         ensures { result ≡ length (list_at self.now.ports port) }
     {
@@ -105,21 +105,21 @@ impl NodeOrders {
     }
 
     /// The node that was heard longest ago.
-    pub fn oldest(&self) -> Option<usize>
+    pub(crate) fn oldest(&self) -> Option<usize>
         ensures { result ≡ slice_get self.now.ageing 0 }
     {
         self.links.front(AGES, AGEING)
     }
 
     /// A free node.
-    pub fn first_free(&self) -> Option<usize>
+    pub(crate) fn first_free(&self) -> Option<usize>
         ensures { result ≡ slice_get self.now.free 0 }
     {
         self.links.front(AGES, FREE)
     }
 
     /// Takes a free node into use: it goes to the end of its bucket's chain and of its port's list.
-    pub fn enter(&mut self, node: usize, bucket: usize, port: usize)
+    pub(crate) fn enter(&mut self, node: usize, bucket: usize, port: usize)
         requires bucket { bucket < length self.old.chains }
         requires port { port < length self.old.ports }
         requires node { node < self.old.nodes }
@@ -135,7 +135,7 @@ impl NodeOrders {
     }
 
     /// Puts a node that doesn't age, and isn't free, at the end of the ageing list.
-    pub fn age(&mut self, node: usize)
+    pub(crate) fn age(&mut self, node: usize)
         requires node { node < self.old.nodes }
         requires ageless { has self.old.ageing node ≡ false }
         requires used { has self.old.free node ≡ false }
@@ -145,7 +145,7 @@ impl NodeOrders {
     }
 
     /// Takes a node out of the ageing list.
-    pub fn hold(&mut self, node: usize)
+    pub(crate) fn hold(&mut self, node: usize)
         requires node { node < self.old.nodes }
         requires ageing { has self.old.ageing node ≡ true }
         requires used { has self.old.free node ≡ false }
@@ -155,7 +155,7 @@ impl NodeOrders {
     }
 
     /// Moves a node to the end of another port's list.
-    pub fn shift(&mut self, node: usize, port: usize)
+    pub(crate) fn shift(&mut self, node: usize, port: usize)
         requires port { port < length self.old.ports }
         requires node { node < self.old.nodes }
         requires linked { IsLinked self.old.ports node }
@@ -167,7 +167,7 @@ impl NodeOrders {
     }
 
     /// Frees a node that doesn't age.
-    pub fn leave(&mut self, node: usize)
+    pub(crate) fn leave(&mut self, node: usize)
         requires node { node < self.old.nodes }
         requires chained { IsLinked self.old.chains node }
         requires ported { IsLinked self.old.ports node }

@@ -1,7 +1,7 @@
 use Rattle.std.proofs.Common.{rules, ◌+◌, Some, ap, ◌∙◌, set, get_or}
 use Rattle.std.proofs.lemmas.List.{length-set}
 use Rattle.idx_links.proofs.Calls.{Found, list_place, node_place, push_owes}
-use Rattle.idx_links.proofs.chains.Chains.push_back.Goals as goal
+use Rattle.idx_links.proofs.linked_lists.LinkedLists.push_back.Goals as goal
 
 pub prev-last-requires : goal.prev-last-requires
 prev-last-requires c =

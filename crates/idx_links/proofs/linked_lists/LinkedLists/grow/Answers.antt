@@ -1,7 +1,7 @@
 use Rattle.std.proofs.Common.{rules, ap, ◌≡◌, ◌+◌, ◌-◌, ◌++◌, ◌∙◌, None, length, replicate}
 use Rattle.idx_links.proofs.Rings.{more_links}
 use Rattle.idx_links.proofs.Calls.{Found, grow_owes}
-use Rattle.idx_links.proofs.chains.Chains.grow.Goals as goal
+use Rattle.idx_links.proofs.linked_lists.LinkedLists.grow.Goals as goal
 
 pub invariant_of-self-2 : goal.invariant_of-self-2
 invariant_of-self-2 c =

@@ -1,6 +1,6 @@
 use Rattle.std.proofs.Common.{refl, length}
 use Rattle.idx_links.proofs.Calls.{Found, list_place, len_owes, apart_owes}
-use Rattle.idx_links.proofs.chains.Chains.len.Goals as goal
+use Rattle.idx_links.proofs.linked_lists.LinkedLists.len.Goals as goal
 
 pub len-requires : goal.len-requires
 len-requires c =

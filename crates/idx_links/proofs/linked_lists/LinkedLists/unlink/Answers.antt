@@ -1,6 +1,6 @@
 use Rattle.std.proofs.Common.{rules, ◌+◌, ◌-◌, None, ap, ◌∙◌, set, get_or}
 use Rattle.idx_links.proofs.Calls.{Found, node_place, node_past, linked_is, unlink_owes}
-use Rattle.idx_links.proofs.chains.Chains.unlink.Goals as goal
+use Rattle.idx_links.proofs.linked_lists.LinkedLists.unlink.Goals as goal
 
 pub owner-requires : goal.owner-requires
 owner-requires c =

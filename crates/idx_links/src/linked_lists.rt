@@ -10,11 +10,11 @@ use std::marker::Model;
 ///
 /// List `l` is a ring through place `l`, its sentinel; node `n` is at the place `n` past the sentinels.
 #[derive(Drop)]
-pub struct Chains {
+pub(crate) struct LinkedLists {
     places: Places,
 }
 
-impl Model for Chains {
+impl Model for LinkedLists {
     ghost Value = { Links };
 
     ghost view = { λ c. links_of c.places.next c.places.lens };
@@ -22,19 +22,19 @@ impl Model for Chains {
     ghost invariant = { λ c. IsGood c.places.next c.places.prev c.places.owner c.places.lens };
 }
 
-impl Chains {
+impl LinkedLists {
     /// Empty lists, over nodes that are on none of them. Refused where lists and nodes are too many
     /// for numbers of 32 bits, too.
-    pub fn new(alloc: Global, lists: usize, nodes: usize) -> Result<Chains, AllocError>
+    pub(crate) fn new(alloc: Global, lists: usize, nodes: usize) -> Result<LinkedLists, AllocError>
         ensures nodes { IfOk result (λ c. c.nodes ≡ nodes) }
         ensures lists { IfOk result (λ c. c.lists ≡ replicate lists []) }
     {
         let places = Places::new(alloc, lists, nodes)?;
-        Ok(Chains { places })
+        Ok(LinkedLists { places })
     }
 
     /// The first node of the list.
-    pub fn front(&self, list: usize) -> Option<usize>
+    pub(crate) fn front(&self, list: usize) -> Option<usize>
         requires { list < length self.now.lists }
         ensures { result ≡ slice_get (list_at self.now.lists list) 0 }
     {
@@ -47,7 +47,7 @@ impl Chains {
     }
 
     /// The node after the node, on its list.
-    pub fn next(&self, node: usize) -> Option<usize>
+    pub(crate) fn next(&self, node: usize) -> Option<usize>
         requires node { node < self.now.nodes }
         requires linked { IsLinked self.now.lists node }
         ensures { (l i : ℕ) → slice_get (list_at self.now.lists l) i ≡ Some node → result ≡ slice_get (list_at self.now.lists l) (i + 1) }
@@ -61,7 +61,7 @@ impl Chains {
     }
 
     /// How many nodes the list has.
-    pub fn len(&self, list: usize) -> usize
+    pub(crate) fn len(&self, list: usize) -> usize
         requires { list < length self.now.lists }
         ensures value { result ≡ length (list_at self.now.lists list) }
         ensures apart { (l : ℕ) → Apart (list_at self.now.lists l) }
@@ -70,7 +70,7 @@ impl Chains {
     }
 
     /// Which list the node is on.
-    pub fn list_of(&self, node: usize) -> Option<usize>
+    pub(crate) fn list_of(&self, node: usize) -> Option<usize>
         requires { node < self.now.nodes }
         ensures on { IfSome result (λ l. has (list_at self.now.lists l) node ≡ true) }
         ensures only { IfSome result (λ l. (k : ℕ) → has (list_at self.now.lists k) node ≡ true → k ≡ l) }
@@ -81,7 +81,7 @@ impl Chains {
     }
 
     /// Puts the node at the end of the list.
-    pub fn push_back(&mut self, list: usize, node: usize)
+    pub(crate) fn push_back(&mut self, list: usize, node: usize)
         requires list { list < length self.old.lists }
         requires node { node < self.old.nodes }
         requires free { IsFree self.old.lists node }
@@ -96,7 +96,7 @@ impl Chains {
     }
 
     /// Takes the node out of its list.
-    pub fn unlink(&mut self, node: usize)
+    pub(crate) fn unlink(&mut self, node: usize)
         requires node { node < self.old.nodes }
         requires linked { IsLinked self.old.lists node }
         ensures nodes { self.new.nodes ≡ self.old.nodes }
@@ -115,7 +115,7 @@ impl Chains {
 
     /// Gives the lists so many nodes at least. A new node is on no list. Refused where lists and nodes
     /// are too many for numbers of 32 bits, too.
-    pub fn grow(&mut self, nodes: usize) -> Result<(), AllocError>
+    pub(crate) fn grow(&mut self, nodes: usize) -> Result<(), AllocError>
         ensures lists { self.new.lists ≡ self.old.lists }
         ensures kept { self.old.nodes ≤ self.new.nodes }
         ensures enough { OnOk result (nodes ≤ self.new.nodes) }

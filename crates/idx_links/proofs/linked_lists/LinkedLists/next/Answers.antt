@@ -1,6 +1,6 @@
 use Rattle.std.proofs.Common.{rules}
 use Rattle.idx_links.proofs.Calls.{Found, node_place, next_at_owes}
-use Rattle.idx_links.proofs.chains.Chains.next.Goals as goal
+use Rattle.idx_links.proofs.linked_lists.LinkedLists.next.Goals as goal
 
 pub next-place-requires : goal.next-place-requires
 next-place-requires c =

@@ -1,5 +1,5 @@
 use Rattle.idx_links.proofs.Calls.{Found, list_place, front_owes}
-use Rattle.idx_links.proofs.chains.Chains.front.Goals as goal
+use Rattle.idx_links.proofs.linked_lists.LinkedLists.front.Goals as goal
 
 pub next-place-requires : goal.next-place-requires
 next-place-requires c =

@@ -1,6 +1,6 @@
 use Rattle.std.proofs.Common.{rules}
 use Rattle.idx_links.proofs.Calls.{Found, node_place, node_past, list_of_owes}
-use Rattle.idx_links.proofs.chains.Chains.list_of.Goals as goal
+use Rattle.idx_links.proofs.linked_lists.LinkedLists.list_of.Goals as goal
 
 pub owner-requires : goal.owner-requires
 owner-requires c =
