@@ -1,5 +1,6 @@
 -- Sets of access ports as numbers of 64 bits: port p, from 1 to 64, is bit p - 1.
-use Rattle.std.specs.Prelude.{◌≡◌, ℕ, zero, suc, ◌+◌, ◌-◌, ◌^◌, ◌<◌, ◌≤◌, Bool, true, false, ◌==◌, List, ◌∷◌, filter, Contains, ◌↔◌, bit_and, bit_or}
+use Rattle.std.specs.Prelude.{◌≡◌, ℕ, zero, suc, ◌+◌, ◌-◌, ◌^◌, ◌<◌, ◌≤◌, Bool, true, false, ◌==◌, List, [], ◌∷◌, ◌++◌, codes, filter, Contains, ◌↔◌, bit_and, bit_or}
+use Rattle.std.specs.Fmt.{decimal}
 use Rattle.std.specs.Int.{bit_at, bit_not, w64}
 use Rattle.std.specs.List.{range_with_len}
 use Rattle.std.specs.List.Sorted.{IsStrictlyIncreasing}
@@ -47,3 +48,17 @@ pub record IsNextPort (set after p : ℕ) : Type 0 where
 pub record ArePortsOf (set : ℕ) (ports : List ℕ) : Type 0 where
   pub ascending : IsStrictlyIncreasing ports
   pub exact : (p : ℕ) → Contains ports p ↔ (IsPort p × (has_port set p ≡ true))
+
+-- ---- as text: their numbers with commas, or a dash for none
+
+-- each number with a comma before it
+abbrev pub comma_text : List ℕ → List ℕ
+comma_text [] = []
+comma_text (p ∷ ports) = codes "," ++ decimal p ++ comma_text ports
+
+abbrev pub list_text : List ℕ → List ℕ
+list_text [] = codes "-"
+list_text (p ∷ ports) = decimal p ++ comma_text ports
+
+abbrev pub ports_text : ℕ → List ℕ
+ports_text set = list_text (ports_of set)

@@ -1,6 +1,11 @@
 //! Sets of access ports, as numbers of 64 bits: port p, from 1 to 64, is bit p - 1.
-ghost use Rattle.std.specs.Prelude.{◌≡◌, ℕ, ◌==◌, ◌&&◌, ◌||◌, not, false, [], IfSome, IfNone};
-ghost use Rattle.ether_wire.specs.Ports.{IsPort, IsNextPort, has_port, no_ports, with_port, without_port, common_ports, ports_after, ports_of, ArePortsOf};
+ghost use Rattle.std.specs.Prelude.{◌≡◌, ℕ, ◌==◌, ◌&&◌, ◌||◌, not, false, [], ◌++◌, codes, IfSome, IfNone};
+ghost use Rattle.std.specs.Fmt.{decimal};
+ghost use Rattle.ether_wire.specs.Ends.{IsOpen, Puts};
+ghost use Rattle.ether_wire.specs.Ports.{IsPort, IsNextPort, has_port, no_ports, with_port, without_port, common_ports, ports_after, ports_of, ArePortsOf, comma_text, ports_text};
+
+use crate::ends::{Device, Out};
+use crate::text::put_decimal;
 
 /// The set of no port.
 pub const NO_PORTS: u64 = 0;
@@ -53,6 +58,41 @@ pub fn next_port(set: u64, after: u8) -> Option<u8>
         return None;
     }
     Some(after + 1 + later.trailing_zeros() as u8)
+}
+
+/// Writes the numbers of the ports, ascending and with commas between, or a dash where there is none.
+pub fn put_ports<O: Out>(out: &mut O, set: u64) -> Result<(), Device>
+    requires { IsOpen (O.end out.old) }
+    ensures { Puts (O.end out.old) (O.end out.new) (ports_text set) result }
+{
+    let Some(first) = next_port(set, 0) else {
+        return out.put(b"-")
+    };
+    put_decimal(out, u64::from(first))?;
+    put_later(out, set, first)
+}
+
+/// Writes the numbers of the ports after one, a comma before each.
+fn put_later<O: Out>(out: &mut O, set: u64, first: u8) -> Result<(), Device>
+    requires { IsOpen (O.end out.old) }
+    ensures { Puts (O.end out.old) (O.end out.new) (comma_text (ports_after set first)) result }
+{
+    let mut port = first;
+    while let Some(next) = next_port(set, port) {
+        put_behind_comma(out, next)?;
+        port = next;
+    }
+    Ok(())
+}
+
+/// Writes a comma, and the number of a port.
+#[tactic(auto, using(crate::proofs::Appending::with_text_twice))]
+fn put_behind_comma<O: Out>(out: &mut O, port: u8) -> Result<(), Device>
+    requires { IsOpen (O.end out.old) }
+    ensures { Puts (O.end out.old) (O.end out.new) (codes "," ++ decimal port) result }
+{
+    out.put(b",")?;
+    put_decimal(out, u64::from(port))
 }
 
 /// No port is in the set of none.
