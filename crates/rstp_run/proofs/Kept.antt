@@ -1,9 +1,8 @@
 -- What every event keeps: each port is sound and has its number, and one role at most is selected as root.
-use Rattle.std.proofs.Common.{◌≡◌, ℕ, zero, suc, ◌+◌, ◌*◌, ◌/◌, ◌%◌, ◌^◌, Bool, true, false, not, ◌&&◌, ◌||◌, ◌==◌, cond, List, [], ◌∷◌, Option, Some, None, slice_get, map, refl, sym, ap, subst, ◌∙◌, arith}
+use Rattle.std.proofs.Common.{◌≡◌, ℕ, zero, suc, ◌+◌, ◌*◌, ◌/◌, ◌%◌, ◌^◌, Bool, true, false, not, ◌&&◌, ◌||◌, ◌==◌, List, [], ◌∷◌, Option, Some, None, slice_get, map, refl, sym, ap, subst, ◌∙◌, arith}
 use Rattle.std.proofs.lemmas.Bool.Decides.{nat_tests}
 use Rattle.std.specs.List.{enumerate_from}
 use Rattle.std.specs.Option.{option_map_or}
-use Rattle.bpdu_wire.specs.declared.bpdu.Bpdu.{Bpdu}
 use Rattle.bpdu_wire.specs.Id.{port_number}
 use Rattle.rstp_state.specs.declared.port.PortState.{PortState}
 use Rattle.rstp_state.specs.declared.port.InfoIs.{InfoIs}
@@ -13,27 +12,20 @@ use Rattle.rstp_state.specs.declared.selection.Path.{Path}
 use Rattle.rstp_state.specs.declared.selection.Root.{Root}
 use Rattle.rstp_state.specs.declared.start.PortSettings.{PortSettings}
 use Rattle.rstp_state.specs.declared.start.Settings.{Settings}
-use Rattle.rstp_state.specs.Direct.{with_enabled, with_message, with_migration_check, with_second, without_slot}
 use Rattle.rstp_state.specs.Port.{is_root, is_out}
 use Rattle.rstp_state.specs.Selection.{role_by, updates_by, with_choice, is_through, best_path, selected_root, selected_ports, is_better, is_own, is_same}
 use Rattle.rstp_state.specs.Start.{ports_from}
 use Rattle.rstp_run.specs.declared.event.Event.{Event}
-use Rattle.rstp_run.specs.declared.event.Event.TheVariants as events
-use Rattle.rstp_run.specs.declared.rule.Rule.{Rule}
-use Rattle.rstp_run.specs.declared.rule.Rule.TheVariants as rules
-use Rattle.rstp_run.specs.Events.{direct, Happens, ports_at, start}
+use Rattle.rstp_run.specs.Events.{Happens, start}
 use Rattle.rstp_run.specs.Laws.{AreNumbered, AreNumberedFrom}
-use Rattle.rstp_run.specs.Machines.{receive_asks, receive_does, migration_asks, migration_does, detection_asks, detection_does, information_asks, information_does, transmit_asks, transmit_does}
-use Rattle.rstp_run.specs.Rules.{Tree, guard, after, timing_in}
-use Rattle.rstp_run.specs.Runs.{Firing, Run}
-use Rattle.rstp_roles.specs.Rules.{state_asks, state_does}
+use Rattle.rstp_run.specs.Rules.{Tree}
 use Rattle.rstp_run.specs.RootPort.{Comes}
-use Rattle.rstp_run.proofs.Sound.{IsSound, Keeps, is_down, or_right, receive_keeps, migration_keeps, detection_keeps, information_keeps, state_keeps, transmit_keeps}
-use Rattle.rstp_run.proofs.Keeping.{EachKeeps, each_map, each_change, each_at, each_then, topology_keeps, role_keeps}
+use Rattle.rstp_run.proofs.Sound.{IsSound, Keeps, is_down, or_right, information_keeps, keeps_quiet}
+use Rattle.rstp_run.proofs.Each.{Each, EachIs, each_is}
+use Rattle.rstp_run.proofs.Walk.{Walks, comes_holds, happens_holds}
 
 abbrev pub AllSound : List PortState → Type 0
-AllSound [] = Unit {0}
-AllSound (x ∷ xs) = IsSound x × AllSound xs
+AllSound ports = EachIs IsSound ports
 
 abbrev pub roles_of : List PortState → List Role
 roles_of ports = map (λ port. port.selected_role) ports
@@ -48,29 +40,23 @@ pub record IsKept (ports : List PortState) : Type 0 where
 
 -- ---- where each port is kept
 
-each_sound : (a b : List PortState) → EachKeeps a b → AllSound a → AllSound b
-each_sound [] [] h s = tt
-each_sound [] (y ∷ ys) h s = absurd h
-each_sound (x ∷ xs) [] h s = absurd h
-each_sound (x ∷ xs) (y ∷ ys) h s = (h.0.0 s.0, each_sound xs ys h.1 s.1)
-
-each_role : (a b : List PortState) → EachKeeps a b → roles_of a ≡ roles_of b
+each_role : (a b : List PortState) → Each Keeps a b → roles_of a ≡ roles_of b
 each_role [] [] h = refl
 each_role [] (y ∷ ys) h = absurd h
 each_role (x ∷ xs) [] h = absurd h
 each_role (x ∷ xs) (y ∷ ys) h = λ i. sym h.0.1 i ∷ each_role xs ys h.1 i
 
-each_number : (n : ℕ) (a b : List PortState) → EachKeeps a b → AreNumberedFrom n a → AreNumberedFrom n b
+each_number : (n : ℕ) (a b : List PortState) → Each Keeps a b → AreNumberedFrom n a → AreNumberedFrom n b
 each_number n [] [] h s = tt
 each_number n [] (y ∷ ys) h s = absurd h
 each_number n (x ∷ xs) [] h s = absurd h
 each_number n (x ∷ xs) (y ∷ ys) h s = (ap port_number h.0.2 ∙ s.0, each_number (n + 1) xs ys h.1 s.1)
 
-kept_by : (a b : List PortState) → EachKeeps a b → IsKept a → IsKept b
+kept_by : (a b : List PortState) → Each Keeps a b → IsKept a → IsKept b
 kept_by a b h k =
     let P : List Role → Type 0 = λ roles. OneRoot roles in
     record {
-      sound = each_sound a b h k.sound;
+      sound = each_is Keeps IsSound (λ a b h. h.0) a b h k.sound;
       roots = subst P (each_role a b h) k.roots;
       numbered = each_number 1 a b h k.numbered;
     }
@@ -148,48 +134,25 @@ selection_kept s ports k = record {
   numbered = selection_numbered s ports k.numbered;
 }
 
--- ---- the rules and the events
+-- ---- the walk
 
-message_at : (b : Bool) (message : Bpdu) (port : PortState) → Keeps port (cond b port (record port { message = Some message; received_bpdu = true }))
-message_at true message port = (λ h. h, refl, refl)
-message_at false message port = (λ h. h, refl, refl)
+kept_walks : Walks (λ s. IsKept s.ports) (λ s. Keeps)
+kept_walks = record {
+  by = λ s ports h k. kept_by s.ports ports h k;
+  quiet = λ s. keeps_quiet;
+  informed = λ s. information_keeps;
+  second = λ s port. (λ h. h, refl, refl);
+  chosen = λ s p k. selection_kept s.settings s.ports k;
+}
 
-event_keeps : (event : Event) (ports : List PortState) → EachKeeps ports (ports_at event ports)
-event_keeps (events.Bpdu p message) ports =
-    each_change (with_message message) ports _ (λ port at. message_at (port.received_bpdu || port.received_message) message port)
-event_keeps events.Second ports = each_map with_second (λ port. (λ h. h, refl, refl)) ports
-event_keeps (events.PortUp p) ports = each_change (with_enabled true) ports _ (λ port at. (λ h. h, refl, refl))
-event_keeps (events.PortDown p) ports = each_change (with_enabled false) ports _ (λ port at. (λ h. h, refl, refl))
-event_keeps (events.Mcheck p) ports = each_change with_migration_check ports _ (λ port at. (λ h. h, refl, refl))
-
--- a fact of the ports that stays where each port is kept, and over selection, stays over events
-module _ (P : List PortState → Type 0) (by : (a b : List PortState) → EachKeeps a b → P a → P b)
-    (chosen : (settings : Settings) (ports : List PortState) → P ports → P (selected_ports settings ports)) where
-  rule_holds : (rule : Rule) (s : Tree) (p : ℕ) → guard rule s p ≡ true → P s.ports → P (after rule s p).ports
-  rule_holds rules.Select s p g k = chosen s.settings s.ports k
-  rule_holds (rules.Receive rule) s p g k = by s.ports _ (each_at (receive_asks rule) (receive_does rule) s.ports p (receive_keeps rule) g) k
-  rule_holds (rules.Migration rule) s p g k = by s.ports _ (each_at (migration_asks rule) (migration_does rule) s.ports p (migration_keeps rule) g) k
-  rule_holds (rules.Detection rule) s p g k = by s.ports _ (each_at (detection_asks rule) (detection_does rule) s.ports p (detection_keeps rule) g) k
-  rule_holds (rules.Information rule) s p g k = by s.ports _ (each_at (information_asks rule) (information_does rule) s.ports p (information_keeps rule) g) k
-  rule_holds (rules.Role rule) s p g k = by s.ports _ (role_keeps rule (timing_in s) s.ports p) k
-  rule_holds (rules.State rule) s p g k = by s.ports _ (each_at (state_asks rule) (state_does rule) s.ports p (state_keeps rule) g) k
-  rule_holds (rules.Topology rule) s p g k = by s.ports _ (topology_keeps rule (timing_in s) s.ports p) k
-  rule_holds (rules.Transmit rule) s p g k =
-      by s.ports _ (each_at (transmit_asks rule (timing_in s)) (transmit_does rule (timing_in s)) s.ports p (transmit_keeps rule (timing_in s)) g) k
-
-  run_holds : (firings : List Firing) (s t : Tree) → Run firings s t → P s.ports → P t.ports
-  run_holds [] s t run k = let Q : Tree → Type 0 = λ x. P x.ports in subst Q (sym run) k
-  run_holds (f ∷ earlier) s t run k =
-      let Q : Tree → Type 0 = λ x. P x.ports in
-      subst Q (sym run.2.1) (rule_holds f.rule run.0 f.place run.2.0 (run_holds earlier s run.0 run.1 k))
-
-  direct_holds : (event : Event) (s : Tree) → P s.ports → P (direct event s).ports
-  direct_holds event s k =
-      let cleared = map without_slot s.ports in
-      by s.ports _ (each_then s.ports cleared _ (each_map without_slot (λ port. (λ h. h, refl, refl)) s.ports) (event_keeps event cleared)) k
-
-  pub happens_holds : (event : Event) (limit : ℕ) (s t : Tree) (settled : Bool) (mask : ℕ) → Happens event limit s t settled mask → P s.ports → P t.ports
-  happens_holds event limit s t settled mask happens k = run_holds happens.firings (direct event s) t happens.run (direct_holds event s k)
+numbered_walks : Walks AreNumbered (λ s. Keeps)
+numbered_walks = record {
+  by = λ s ports h k. each_number 1 s.ports ports h k;
+  quiet = λ s. keeps_quiet;
+  informed = λ s. information_keeps;
+  second = λ s port. (λ h. h, refl, refl);
+  chosen = λ s p k. selection_numbered s.settings s.ports k;
+}
 
 start_sound : (n : ℕ) (settings : Settings) (ports : List PortSettings) → AllSound (ports_from n settings ports)
 start_sound n settings [] = tt
@@ -216,11 +179,10 @@ start_kept settings ports = record {
 }
 
 pub comes_kept : (history : List Event) (settings : Settings) (ports : List PortSettings) (s : Tree) → Comes history (start settings ports) s → IsKept s.ports
-comes_kept [] settings ports s comes = let P : Tree → Type 0 = λ x. IsKept x.ports in subst P (sym comes) (start_kept settings ports)
-comes_kept (event ∷ earlier) settings ports s comes =
-    happens_holds IsKept kept_by selection_kept event comes.1 comes.0 s comes.2 comes.3 comes.5 (comes_kept earlier settings ports comes.0 comes.4)
+comes_kept history settings ports s comes =
+    comes_holds (λ s. IsKept s.ports) (λ s. Keeps) kept_walks history (start settings ports) s comes (start_kept settings ports)
 
 -- the ports keep their numbers
 pub happens_numbered : (event : Event) (limit : ℕ) (s t : Tree) (settled : Bool) (mask : ℕ) → Happens event limit s t settled mask → AreNumbered s → AreNumbered t
 happens_numbered event limit s t settled mask happens all =
-    happens_holds (AreNumberedFrom 1) (each_number 1) selection_numbered event limit s t settled mask happens all
+    happens_holds AreNumbered (λ s. Keeps) numbered_walks event limit s t settled mask happens all
