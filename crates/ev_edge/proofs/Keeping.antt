@@ -1,0 +1,99 @@
+-- An edge stays good when what it claims changes.
+use Rattle.std.proofs.Common.{◌≡◌, ℕ, ◌+◌, ◌≤◌, ◌^◌, Bool, true, false, cond, Result, Ok, Err, List, [], ◌∷◌, length, refl, sym, ap, subst, ◌∙◌, arith}
+use Rattle.std.specs.Prelude.{OnOk, OnErr, nat_le, ◌==◌, ◌-◌}
+use Rattle.std.proofs.lemmas.Bool.Decides.{nat_tests}
+use Rattle.route_wire.specs.declared.update.Key.{Key}
+use Rattle.route_wire.specs.declared.update.Key.TheVariants.{Flood, Mac}
+use Rattle.route_wire.specs.Fields.{Fields}
+use Rattle.mac_arena.specs.declared.station.Station.{Station}
+use Rattle.mac_arena.proofs.Values.{latest_learn, latest_pin, latest_later}
+use Rattle.mac_arena.specs.Learning.{learnt_of}
+use Rattle.ev_claims.specs.Claims.{Claims, after_removals, after_removal, after_update, after_losing, after_take, after_refresh, after_shift, is_lost}
+use Rattle.ev_edge.specs.Edge.{Edge, IsEdge}
+use Rattle.std.specs.FinMap.{FinMap}
+use Rattle.mac_arena.specs.Station.{station_cmp}
+use Rattle.ev_mobility.specs.declared.window.Window.{Window}
+use Rattle.rstp_run.specs.Rules.{Tree}
+use Rattle.ev_claims.specs.Leaving.{after_ageing, after_flush, due_in, flushed_in}
+use Rattle.ev_edge.specs.Edge.{ArePassing}
+use Rattle.ev_edge.specs.Bridging.{next_second, aged}
+use Rattle.ev_edge.proofs.Owning.{Holds, removals_hold}
+
+pub holds_of : (e : Edge) (passing : ℕ) → IsEdge e passing → Holds e.claims e.clock
+holds_of e passing h = record { owns = h.keeps.owns; latest = h.keeps.latest }
+
+-- ---- the same ports
+pub removals_ports : (c : Claims) (ss : List Station) → (after_removals c ss).ports ≡ c.ports
+removals_ports c [] = refl
+removals_ports c (s ∷ ss) = removals_ports (after_removal c s) ss
+
+pub taken_ports : (c : Claims) (u : Fields) → (after_take c u).ports ≡ c.ports
+taken_ports c u = go u.register.key
+  where
+    pick : (s : Station) (b : Bool) → (cond b (after_removal (after_update c u) s) (after_update c u)).ports ≡ c.ports
+    pick s true = refl
+    pick s false = refl
+
+    go : (k : Key) → (after_losing (after_update c u) k).ports ≡ c.ports
+    go (Flood v) = refl
+    go (Mac v m ip) = pick (record { vni = v; mac = m }) (is_lost (after_update c u) (record { vni = v; mac = m }))
+
+-- ---- other claims
+pub kept : (e : Edge) (passing : ℕ) (c d : Claims) → IsEdge e passing → d ≡ c → Holds c e.clock → c.ports ≡ e.claims.ports → IsEdge (record e { claims = d }) passing
+kept e passing c d h is holds ports = subst (λ x. IsEdge (record e { claims = x }) passing) (sym is) (record {
+  keeps = record { owns = holds.owns; latest = holds.latest; ports = h.keeps.ports ∙ sym (ap length ports); early = h.keeps.early };
+  exact = h.exact;
+})
+
+pub either : {X E : Type 0} (e : Edge) (passing : ℕ) (c d : Claims) (r : Result X E) → IsEdge e passing → OnOk r (d ≡ c) → OnErr r (d ≡ e.claims) → Holds c e.clock → c.ports ≡ e.claims.ports
+    → IsEdge (record e { claims = d }) passing
+either e passing c d (Ok x) h ok err holds ports = kept e passing c d h ok holds ports
+either e passing c d (Err x) h ok err holds ports = kept e passing e.claims d h err (holds_of e passing h) refl
+
+pub refresh_holds : (c : Claims) (s : Station) (port second : ℕ) → Holds c second → Holds (after_refresh c s port second) second
+refresh_holds c s port second h = record { owns = h.owns; latest = latest_learn c.learned s port second (learnt_of c.learned s port) h.latest }
+
+pub shift_holds : (c : Claims) (s : Station) (port second : ℕ) → Holds c second → Holds (after_shift c s port) second
+shift_holds c s port second h = record { owns = h.owns; latest = latest_pin c.learned s port second h.latest }
+
+-- other windows
+pub other_windows : (e : Edge) (passing : ℕ) (windows : FinMap station_cmp Window) → IsEdge e passing → IsEdge (record e { windows = windows }) passing
+other_windows e passing windows h = record {
+  keeps = record { owns = h.keeps.owns; latest = h.keeps.latest; ports = h.keeps.ports; early = h.keeps.early };
+  exact = h.exact;
+}
+
+-- ---- the bridge goes on
+pub bridged : (e : Edge) (was passing clock : ℕ) (tree : Tree) (c d : Claims) → IsEdge e was → length tree.ports ≡ length e.tree.ports → ArePassing tree passing → clock ≤ 2 ^ 63 → d ≡ c → Holds c clock → c.ports ≡ e.claims.ports
+    → IsEdge (record e { tree = tree; clock = clock; claims = d }) passing
+bridged e was passing clock tree c d h size exact early is holds ports = subst (λ x. IsEdge (record e { tree = tree; clock = clock; claims = x }) passing) (sym is) (record {
+  keeps = record { owns = holds.owns; latest = holds.latest; ports = size ∙ h.keeps.ports ∙ sym (ap length ports); early = early };
+  exact = exact;
+})
+
+pub second_early : (clock : ℕ) → clock ≤ 2 ^ 63 → (clock ≤ next_second clock) × (next_second clock ≤ 2 ^ 63)
+second_early clock low = go (clock == 2 ^ 63) refl
+  where
+    go : (b : Bool) → (clock == 2 ^ 63) ≡ b → (clock ≤ cond b clock (clock + 1)) × (cond b clock (clock + 1) ≤ 2 ^ 63)
+    go true e = (omega arith, low)
+    go false e = (omega arith, grind (arith, nat_tests))
+
+pub later_holds : (c : Claims) (second later : ℕ) → second ≤ later → Holds c second → Holds c later
+later_holds c second later less h = record { owns = h.owns; latest = latest_later c.learned second later less h.latest }
+
+pub flush_holds : (c : Claims) (set second : ℕ) → Holds c second → Holds (after_flush c set) second
+flush_holds c set second h = removals_hold c (flushed_in c.learned set) second h
+
+pub aged_holds : (c : Claims) (ageing clock : ℕ) → Holds c clock → Holds (aged c ageing clock) clock
+aged_holds c ageing clock h = go (nat_le ageing clock)
+  where
+    go : (b : Bool) → Holds (cond b (after_ageing c (clock - ageing)) c) clock
+    go true = removals_hold c (due_in c.learned (clock - ageing)) clock h
+    go false = h
+
+pub aged_ports : (c : Claims) (ageing clock : ℕ) → (aged c ageing clock).ports ≡ c.ports
+aged_ports c ageing clock = go (nat_le ageing clock)
+  where
+    go : (b : Bool) → (cond b (after_ageing c (clock - ageing)) c).ports ≡ c.ports
+    go true = removals_ports c (due_in c.learned (clock - ageing))
+    go false = refl

@@ -1,0 +1,76 @@
+-- An edge that is opened is good: it advertises no station, has heard none, and no port passes.
+use Rattle.std.proofs.Common.{◌≡◌, ℕ, zero, suc, ◌+◌, ◌-◌, true, false, Option, Some, None, List, [], ◌∷◌, length, refl, sym, ap, subst, ◌∙◌, arith}
+use Rattle.std.specs.Prelude.{IsSome, ◌&&◌}
+use Rattle.std.specs.FinMap.{get-empty}
+use Rattle.route_wire.specs.declared.update.Key.TheVariants.{Flood, Mac}
+use Rattle.route_wire.specs.declared.update.Advert.{Advert}
+use Rattle.route_wire.specs.declared.update.Value.{Value}
+use Rattle.route_wire.specs.declared.update.Content.TheVariants.{Advert as Advertised}
+use Rattle.route_wire.specs.Order.{register_cmp}
+use Rattle.route_wire.specs.Fields.{flood_advert}
+use Rattle.route_join.specs.Table.{register_of}
+use Rattle.route_join.specs.Owner.{advert_of}
+use Rattle.ether_wire.proofs.PortLemmas.{has_port-none}
+use Rattle.mac_arena.specs.declared.station.Station.{Station}
+use Rattle.mac_arena.specs.Learning.{IsLatest}
+use Rattle.mac_arena.proofs.Values.{latest_nothing}
+use Rattle.rstp_state.specs.declared.start.PortSettings.{PortSettings}
+use Rattle.rstp_state.specs.declared.start.Settings.{Settings}
+use Rattle.rstp_state.specs.Start.{ports_from}
+use Rattle.rstp_state.specs.Port.{test_at}
+use Rattle.rstp_run.specs.Events.{start}
+use Rattle.rstp_run.specs.Rules.{Tree}
+use Rattle.ev_claims.specs.declared.opening.Start.{Start}
+use Rattle.ev_claims.specs.Voice.{Voice, own_advert, after_saying, silent}
+use Rattle.ev_claims.specs.Claims.{Claims, key_of}
+use Rattle.ev_claims.specs.Opening.{IsOpening, after_floods}
+use Rattle.ev_mobility.specs.Moves.{Moves}
+use Rattle.ev_edge.specs.Edge.{ArePassing, IsEdge, edge_of}
+use Rattle.ev_edge.proofs.Owning.{said_other}
+
+-- ---- nothing is advertised but flood lists
+floods_address : (e : Voice) (vs : List ℕ) → (after_floods e vs).address ≡ e.address
+floods_address e [] = refl
+floods_address e (v ∷ vs) = floods_address (after_saying e (Flood v) (Advertised flood_advert)) vs
+
+floods_silent : (e : Voice) (vs : List ℕ) (s : Station) → own_advert (after_floods e vs) (key_of s) ≡ own_advert e (key_of s)
+floods_silent e [] s = refl
+floods_silent e (v ∷ vs) s =
+    floods_silent (after_saying e (Flood v) (Advertised flood_advert)) vs s
+    ∙ said_other e (Flood v) (Advertised flood_advert) (key_of s) e.address (λ same. let both : Mac s.vni s.mac None ≡ Flood v = same in cc)
+
+nothing_said : (address incarnation : ℕ) (originators vs : List ℕ) (s : Station) → own_advert (after_floods (silent address incarnation originators) vs) (key_of s) ≡ None
+nothing_said address incarnation originators vs s =
+    floods_silent (silent address incarnation originators) vs s ∙ ap advert_of (get-empty {X = Value} register_cmp (register_of address (key_of s)))
+
+never_some : (o : Option Advert) → o ≡ None → IsSome o → ⊥
+never_some None is some = cc
+never_some (Some a) is some = cc
+
+-- ---- no port is up
+down : (settings : Settings) (ports : List PortSettings) (n k : ℕ) → test_at k (λ port. port.enabled && port.forwarding) (ports_from n settings ports) ≡ false
+down settings [] n k = refl
+down settings (p ∷ ports) n zero = refl
+down settings (p ∷ ports) n (suc k) = down settings ports (n + 1) k
+
+ports_length : (settings : Settings) (ports : List PortSettings) (n : ℕ) → length (ports_from n settings ports) ≡ length ports
+ports_length settings [] n = refl
+ports_length settings (p ∷ ports) n = ap suc (ports_length settings ports (n + 1))
+
+none_passing : (settings : Settings) (ports : List PortSettings) → ArePassing (start settings ports) 0
+none_passing settings ports p = (
+  λ h. absurd (let no : false ≡ true = sym (has_port-none p) ∙ h in cc),
+  λ h. absurd (let up : test_at (p - 1) (λ port. port.enabled && port.forwarding) (ports_from 1 settings ports) ≡ true = h.1.1 in let no : false ≡ true = sym (down settings ports 1 (p - 1)) ∙ up in cc),
+)
+
+pub opened : (s : Start) (c : Claims) (settings : Settings) (ports : List PortSettings) (ageing : ℕ) (tree : Tree) (moves : Moves) → IsOpening s c → tree ≡ start settings ports → length s.ports.items ≡ length ports
+    → IsEdge (edge_of c 0 ageing tree moves) 0
+opened s c settings ports ageing tree moves h is size = subst (λ t. IsEdge (edge_of c 0 ageing t moves) 0) (sym is) (record {
+  keeps = record {
+    owns = λ r some. absurd (never_some (own_advert c.voice (key_of r)) (ap (λ v. own_advert v (key_of r)) h.voice ∙ nothing_said s.address s.incarnation s.originators.items c.vnis r) some);
+    latest = subst (λ l. IsLatest l 0) (sym h.learned) (latest_nothing s.capacity (length s.ports.items) s.buckets s.salt 0);
+    ports = ports_length settings ports 1 ∙ sym size ∙ sym (ap length h.ports);
+    early = omega arith;
+  };
+  exact = none_passing settings ports;
+})

@@ -1,0 +1,110 @@
+-- An edge owns what it advertises, and has heard no station later than now, through each change of what it claims.
+use Rattle.std.proofs.Common.{◌≡◌, ◌≢◌, inl, inr, ℕ, Bool, true, false, cond, not, Option, Some, None, List, [], ◌∷◌, refl, sym, ap, subst, ◌∙◌, arith}
+use Rattle.std.specs.Prelude.{IsSome, is_some, ◌&&◌, MatchOption}
+use Rattle.std.proofs.lemmas.Bool.Decides.{nat_tests}
+use Rattle.route_wire.specs.declared.update.Ip.{Ip}
+use Rattle.route_wire.specs.declared.update.Key.{Key}
+use Rattle.route_wire.specs.declared.update.Key.TheVariants.{Flood, Mac}
+use Rattle.route_wire.specs.declared.update.Register.{Register}
+use Rattle.route_wire.specs.declared.update.Advert.{Advert}
+use Rattle.route_wire.specs.declared.update.Content.{Content}
+use Rattle.route_wire.specs.declared.update.Content.TheVariants.{Withdrawn}
+use Rattle.route_wire.specs.Fields.{Fields}
+use Rattle.route_join.specs.Table.{Table, register_of, with_update}
+use Rattle.route_join.specs.Owner.{advert_of, advert_at, owner, IsOwner, IsUnowned}
+use Rattle.route_join.proofs.Owners.{owner_is, owner_along}
+use Rattle.route_join.proofs.Joins.{others_stay}
+use Rattle.route_join.proofs.Tables.{at_same, at_other}
+use Rattle.mac_arena.specs.declared.station.Station.{Station}
+use Rattle.mac_arena.specs.Learning.{IsLatest}
+use Rattle.mac_arena.proofs.Entries.{same_or_other}
+use Rattle.mac_arena.proofs.Values.{latest_removal}
+use Rattle.ev_claims.specs.Voice.{Voice, own_register, own_advert, is_at, next_value, after_saying}
+use Rattle.ev_claims.specs.Claims.{Claims, key_of, after_removal, after_removals, after_update, after_losing_at, after_losing, after_take, is_lost}
+use Rattle.ev_edge.specs.Edge.{OwnsAt}
+
+-- ---- another key is said
+pub other_key : (r s : Station) (i j : Option Ip) → r ≢ s → Mac r.vni r.mac i ≢ Mac s.vni s.mac j
+other_key r s i j ne e =
+    let vnis : r.vni ≡ s.vni = cc in
+    let macs : r.mac ≡ s.mac = cc in
+    ne (λ k. record { vni = vnis k; mac = macs k })
+
+pub said_other : (e : Voice) (k : Key) (c : Content) (j : Key) (o : ℕ) → j ≢ k → advert_at (after_saying e k c).table o j ≡ advert_at e.table o j
+said_other e k c j o ne = ap advert_of (at_other e.table (own_register e k) (next_value e c) (register_of o j) (λ h. ne (ap (λ (q : Register). q.key) h)))
+
+-- a station whose key isn't said, by whatever IP address, is owned as it was
+pub saying_owns : (c : Claims) (k : Key) (content : Content) (r : Station) → ((j : Option Ip) → Mac r.vni r.mac j ≢ k) → OwnsAt c r → OwnsAt (record c { voice = after_saying c.voice k content }) r
+saying_owns c k content r ne h some =
+    owner_along c.voice.table (after_saying c.voice k content).table r.vni r.mac c.voice.address (λ o j. sym (said_other c.voice k content (Mac r.vni r.mac j) o (ne j)))
+    (h (subst IsSome (said_other c.voice k content (key_of r) c.voice.address (ne None)) some))
+
+-- ---- a removal
+never_some : (o : Option Advert) → o ≡ None → IsSome o → ⊥
+never_some None is some = cc
+never_some (Some a) is some = cc
+
+removed_owns : (c : Claims) (s : Station) → OwnsAt (after_removal c s) s
+removed_owns c s some = absurd (never_some (own_advert (after_removal c s).voice (key_of s)) (ap advert_of (at_same c.voice.table (own_register c.voice (key_of s)) (next_value c.voice Withdrawn))) some)
+
+pub removal_owns : (c : Claims) (s : Station) → ((r : Station) → r ≢ s → OwnsAt c r) → (r : Station) → OwnsAt (after_removal c s) r
+removal_owns c s others r = elim (same_or_other r s) as (λ _. OwnsAt (after_removal c s) r) [
+  | inl same ↦ subst (OwnsAt (after_removal c s)) (sym same) (removed_owns c s)
+  | inr ne ↦ saying_owns c (key_of s) Withdrawn r (λ j. other_key r s j None ne) (others r ne)
+]
+
+-- ---- several removals
+
+pub record Holds (c : Claims) (second : ℕ) : Type 0 where
+  pub owns : (s : Station) → OwnsAt c s
+  pub latest : IsLatest c.learned second
+
+pub removal_holds : (c : Claims) (s : Station) (second : ℕ) → Holds c second → Holds (after_removal c s) second
+removal_holds c s second h = record { owns = removal_owns c s (λ r ne. h.owns r); latest = latest_removal c.learned s second h.latest }
+
+pub removals_hold : (c : Claims) (ss : List Station) (second : ℕ) → Holds c second → Holds (after_removals c ss) second
+removals_hold c [] second h = h
+removals_hold c (s ∷ ss) second h = removals_hold (after_removal c s) ss second (removal_holds c s second h)
+
+-- ---- another's update
+update_stays : (t : Table) (u : Fields) (k : Key) (o : ℕ) → k ≢ u.register.key → advert_at (with_update t u) o k ≡ advert_at t o k
+update_stays t u k o ne = ap advert_of (others_stay t u (register_of o k) (λ same. ne (ap (λ (r : Register). r.key) same)))
+
+elsewhere : (c : Claims) (u : Fields) (r : Station) → ((j : Option Ip) → Mac r.vni r.mac j ≢ u.register.key) → OwnsAt c r → OwnsAt (after_update c u) r
+elsewhere c u r ne h some =
+    owner_along c.voice.table (with_update c.voice.table u) r.vni r.mac c.voice.address (λ o j. sym (update_stays c.voice.table u (Mac r.vni r.mac j) o (ne j)))
+    (h (subst IsSome (update_stays c.voice.table u (key_of r) c.voice.address (ne None)) some))
+
+-- an edge that isn't beaten is the owner
+not_lost : (c : Claims) (s : Station) → is_lost c s ≡ false → OwnsAt c s
+not_lost c s h some = go (owner c.voice.table s.vni s.mac) (at (own_advert c.voice (key_of s)) some h) (owner_is c.voice.table s.vni s.mac)
+  where
+    at : (o : Option Advert) → IsSome o → (is_some o && not (is_at (owner c.voice.table s.vni s.mac) c.voice.address)) ≡ false → is_at (owner c.voice.table s.vni s.mac) c.voice.address ≡ true
+    at None some h = cc
+    at (Some a) some h = tests (is_at (owner c.voice.table s.vni s.mac) c.voice.address) h
+      where
+        tests : (b : Bool) → not b ≡ false → b ≡ true
+        tests true e = refl
+        tests false e = absurd cc
+
+    go : (o : Option ℕ) → is_at o c.voice.address ≡ true → MatchOption o (IsUnowned c.voice.table s.vni s.mac) (IsOwner c.voice.table s.vni s.mac) → IsOwner c.voice.table s.vni s.mac c.voice.address
+    go None p q = cc
+    go (Some o) p q = let same : o ≡ c.voice.address = grind (arith, nat_tests) in subst (IsOwner c.voice.table s.vni s.mac) same q
+
+losing_holds : (c : Claims) (s : Station) (second : ℕ) → ((r : Station) → r ≢ s → OwnsAt c r) → IsLatest c.learned second → Holds (after_losing_at c s) second
+losing_holds c s second others latest = go (is_lost c s) refl
+  where
+    go : (x : Bool) → is_lost c s ≡ x → Holds (cond x (after_removal c s) c) second
+    go true lost = record { owns = removal_owns c s others; latest = latest_removal c.learned s second latest }
+    go false lost = record {
+      owns = λ r. elim (same_or_other r s) as (λ _. OwnsAt c r) [ inl same ↦ subst (OwnsAt c) (sym same) (not_lost c s lost) | inr ne ↦ others r ne ];
+      latest = latest;
+    }
+
+pub taken_holds : (c : Claims) (u : Fields) (second : ℕ) → Holds c second → Holds (after_take c u) second
+taken_holds c u second h = go u.register.key refl
+  where
+    go : (k : Key) → u.register.key ≡ k → Holds (after_losing (after_update c u) k) second
+    go (Flood v) key = record { owns = λ r. elsewhere c u r (λ j q. let both : Mac r.vni r.mac j ≡ Flood v = q ∙ key in cc) (h.owns r); latest = h.latest }
+    go (Mac v m ip) key =
+        losing_holds (after_update c u) (record { vni = v; mac = m }) second (λ r ne. elsewhere c u r (λ j q. other_key r (record { vni = v; mac = m }) j ip ne (q ∙ key)) (h.owns r)) h.latest

@@ -1,0 +1,139 @@
+-- An edge that advertises a station with the next number above all others', or as static where no other does, owns it.
+use Rattle.std.proofs.Common.{◌≡◌, ◌≢◌, inl, inr, ℕ, ◌<◌, Bool, true, false, cond, eqb, not, ◌&&◌, Option, Some, None, refl, sym, ap, subst, ◌∙◌, arith}
+use Rattle.std.specs.declared.cmp.Ordering.{Ordering}
+use Rattle.std.proofs.lemmas.Bool.{eq-eqb}
+use Rattle.std.proofs.lemmas.Bool.Decides.{nat_tests}
+use Rattle.route_wire.specs.declared.update.Ip.{Ip}
+use Rattle.route_wire.specs.declared.update.Key.TheVariants.{Mac}
+use Rattle.route_wire.specs.declared.update.Advert.{Advert}
+use Rattle.route_wire.specs.declared.update.Content.TheVariants.{Advert as Advertised}
+use Rattle.route_wire.specs.declared.update.Register.{Register}
+use Rattle.route_wire.specs.Order.{register_cmp}
+use Rattle.route_join.specs.Table.{Table, register_of}
+use Rattle.route_join.specs.Owner.{advert_of, advert_at, IsBetter, IsBetterBy}
+use Rattle.route_join.specs.Updates.{updates_of}
+use Rattle.route_join.proofs.Abouts.{updates_of_are}
+use Rattle.route_join.proofs.Tables.{at_same, at_other}
+use Rattle.mac_arena.specs.declared.station.Station.{Station}
+use Rattle.mac_arena.specs.declared.station.Entry.{Entry}
+use Rattle.mac_arena.specs.declared.table.Learnt.TheVariants.{New}
+use Rattle.mac_arena.specs.Learning.{is_full}
+use Rattle.mac_arena.proofs.Entries.{same_or_other}
+use Rattle.mac_arena.proofs.Values.{latest_learn, latest_pin}
+use Rattle.ev_mobility.specs.declared.seq.Seq.{Seq}
+use Rattle.ev_mobility.specs.declared.seq.Seq.TheVariants.{Next, Static, Spent}
+use Rattle.ev_mobility.specs.Seq.{EveryElsewhere, IsSeqFor, seq_for}
+use Rattle.ev_mobility.proofs.Hearing.{seq_is}
+use Rattle.ev_mobility.specs.declared.alert.Alert.TheVariants.{StaticElsewhere, CounterSpent, TableFull}
+use Rattle.ev_claims.specs.Voice.{Voice, own_register, next_value, after_saying}
+use Rattle.ev_claims.specs.Claims.{Claims, KeepsClaims, key_of, after_advert, after_pin}
+use Rattle.ev_edge.specs.declared.pinning.PinCase.TheVariants.{Keep, Shift, Deny, Pin}
+use Rattle.ev_edge.specs.Edge.{Edge, OwnsAt, table_of, address_of}
+use Rattle.ev_edge.specs.Learning.{is_spent}
+use Rattle.ev_edge.specs.Pinning.{is_static, unpinned_case, pin_case_at}
+use Rattle.ev_edge.proofs.Owning.{Holds, other_key, said_other, saying_owns}
+
+pub seq_exact : (t : Table) (own vni mac : ℕ) → IsSeqFor t own vni mac (seq_for t own vni mac)
+seq_exact t own vni mac = seq_is t own vni mac (updates_of t vni mac) (updates_of_are t vni mac)
+
+-- what beats every other edge's advert
+abbrev Beats : Claims → Station → Advert → Type 0
+Beats c s a = (b : Advert) (o : Ordering) (p : ℕ) (j : Option Ip) → p ≢ c.voice.address → advert_at c.voice.table p (Mac s.vni s.mac j) ≡ Some b → IsBetterBy a.is_static b.is_static a.sequence b.sequence o
+
+said_owns : (c : Claims) (s : Station) (a : Advert) → KeepsClaims c → Beats c s a → OwnsAt (record c { voice = after_saying c.voice (key_of s) (Advertised a) }) s
+said_owns c s a good beats some = record {
+  ip = None;
+  advert = a;
+  own = ap advert_of (at_same c.voice.table (own_register c.voice (key_of s)) (next_value c.voice (Advertised a)));
+  best = λ p j b ne is. go p j b ne is (eqb p c.voice.address) refl;
+}
+  where
+    now : Voice
+    now = after_saying c.voice (key_of s) (Advertised a)
+
+    same_ip : (p : ℕ) (j : Option Ip) (b : Advert) → p ≡ c.voice.address → register_of p (Mac s.vni s.mac j) ≢ register_of c.voice.address (Mac s.vni s.mac None) → advert_at now.table p (Mac s.vni s.mac j) ≡ Some b → ⊥
+    same_ip p None b same ne is = ne (λ i. register_of (same i) (Mac s.vni s.mac None))
+    same_ip p (Some ip) b same ne is =
+        let differ : Mac s.vni s.mac (Some ip) ≢ key_of s = λ e. (let no : Some ip ≡ None = cc in cc) in
+        let none : advert_at now.table p (Mac s.vni s.mac (Some ip)) ≡ None = said_other c.voice (key_of s) (Advertised a) (Mac s.vni s.mac (Some ip)) p differ ∙ ap (λ o. advert_at c.voice.table o (Mac s.vni s.mac (Some ip))) same ∙ good.bare s ip in
+        let no : None ≡ Some b = sym none ∙ is in cc
+
+    key_other : (p : ℕ) (j : Option Ip) → p ≢ c.voice.address → advert_at now.table p (Mac s.vni s.mac j) ≡ advert_at c.voice.table p (Mac s.vni s.mac j)
+    key_other p j ne = ap advert_of (at_other c.voice.table (own_register c.voice (key_of s)) (next_value c.voice (Advertised a)) (register_of p (Mac s.vni s.mac j)) (λ h. ne (ap (λ (q : Register). q.originator) h)))
+
+    go : (p : ℕ) (j : Option Ip) (b : Advert) → register_of p (Mac s.vni s.mac j) ≢ register_of c.voice.address (Mac s.vni s.mac None) → advert_at now.table p (Mac s.vni s.mac j) ≡ Some b → (x : Bool) → eqb p c.voice.address ≡ x
+        → IsBetter a (register_of c.voice.address (Mac s.vni s.mac None)) b (register_of p (Mac s.vni s.mac j))
+    go p j b ne is true t = let same : p ≡ c.voice.address = grind (arith, nat_tests) in absurd (same_ip p j b same ne is)
+    go p j b ne is false t =
+        let other : p ≢ c.voice.address = λ same. (let yes = eq-eqb p c.voice.address same in cc) in
+        beats b (register_cmp (register_of c.voice.address (Mac s.vni s.mac None)) (register_of p (Mac s.vni s.mac j))) p j other (sym (key_other p j other) ∙ is)
+
+said_holds : (c : Claims) (s : Station) (a : Advert) → KeepsClaims c → Beats c s a → ((r : Station) → OwnsAt c r) → (r : Station) → OwnsAt (record c { voice = after_saying c.voice (key_of s) (Advertised a) }) r
+said_holds c s a good beats owns r = elim (same_or_other r s) as (λ _. OwnsAt (record c { voice = after_saying c.voice (key_of s) (Advertised a) }) r) [
+  | inl same ↦ subst (OwnsAt (record c { voice = after_saying c.voice (key_of s) (Advertised a) })) (sym same) (said_owns c s a good beats)
+  | inr ne ↦ saying_owns c (key_of s) (Advertised a) r (λ j. other_key r s j None ne) (owns r)
+]
+
+-- ---- learning
+
+next_beats : (c : Claims) (s : Station) (n : ℕ) → seq_for c.voice.table c.voice.address s.vni s.mac ≡ Next n → Beats c s (record { is_static = false; sequence = n; label2 = None })
+next_beats c s n next b o p j other is = pick b.is_static loose
+  where
+    exact : IsSeqFor c.voice.table c.voice.address s.vni s.mac (Next n)
+    exact = subst (IsSeqFor c.voice.table c.voice.address s.vni s.mac) next (seq_exact c.voice.table c.voice.address s.vni s.mac)
+
+    loose : b.is_static ≡ false
+    loose = exact.0 p j b other is
+
+    less : b.sequence < n
+    less = exact.1 p j b other is
+
+    pick : (x : Bool) → x ≡ false → IsBetterBy false x n b.sequence o
+    pick true e = cc
+    pick false e = (omega (arith, less), λ same. absurd (omega (arith, less, same)))
+
+pub advert_holds : (c : Claims) (s : Station) (port second n : ℕ) → KeepsClaims c → seq_for c.voice.table c.voice.address s.vni s.mac ≡ Next n → Holds c second → Holds (after_advert c s port second n) second
+advert_holds c s port second n good next h = record {
+  owns = said_holds c s (record { is_static = false; sequence = n; label2 = None }) good (next_beats c s n next) h.owns;
+  latest = latest_learn c.learned s port second New h.latest;
+}
+
+-- ---- pinning
+
+static_beats : (c : Claims) (s : Station) → is_static (seq_for c.voice.table c.voice.address s.vni s.mac) ≡ false → Beats c s (record { is_static = true; sequence = 0; label2 = None })
+static_beats c s free b o p j other is = pick b.is_static (loose (seq_for c.voice.table c.voice.address s.vni s.mac) free (seq_exact c.voice.table c.voice.address s.vni s.mac) p j b other is)
+  where
+    loose : (q : Seq) → is_static q ≡ false → IsSeqFor c.voice.table c.voice.address s.vni s.mac q → EveryElsewhere c.voice.table c.voice.address s.vni s.mac (λ a. a.is_static ≡ false)
+    loose Static e x = cc
+    loose Spent e x = x.0
+    loose (Next n) e x = x.0
+
+    pick : (x : Bool) → x ≡ false → IsBetterBy true x 0 b.sequence o
+    pick true e = cc
+    pick false e = tt
+
+pub pin_holds : (c : Claims) (s : Station) (port second : ℕ) → KeepsClaims c → is_static (seq_for c.voice.table c.voice.address s.vni s.mac) ≡ false → Holds c second → Holds (after_pin c s port) second
+pin_holds c s port second good free h = record {
+  owns = said_holds c s (record { is_static = true; sequence = 0; label2 = None }) good (static_beats c s free) h.owns;
+  latest = latest_pin c.learned s port second h.latest;
+}
+
+-- what is pinned isn't static elsewhere
+not_static : (e : Edge) (s : Station) (known : Bool) → unpinned_case e s known ≡ Pin → is_static (seq_for (table_of e) (address_of e) s.vni s.mac) ≡ false
+not_static e s known is = go (is_static (seq_for (table_of e) (address_of e) s.vni s.mac)) refl is
+  where
+    go : (b : Bool) → is_static (seq_for (table_of e) (address_of e) s.vni s.mac) ≡ b → cond b (Deny StaticElsewhere) (cond (is_spent e.claims) (Deny CounterSpent) (cond (not known && is_full e.claims.learned) (Deny TableFull) Pin)) ≡ Pin → is_static (seq_for (table_of e) (address_of e) s.vni s.mac) ≡ false
+    go true t q = cc
+    go false t q = t
+
+pub pinned_alone : (e : Edge) (s : Station) (port : ℕ) (o : Option Entry) → pin_case_at e s port o ≡ Pin → is_static (seq_for (table_of e) (address_of e) s.vni s.mac) ≡ false
+pinned_alone e s port None is = not_static e s false is
+pinned_alone e s port (Some x) is = go x.pinned is
+  where
+    inner : (b : Bool) → cond b Keep Shift ≡ Pin → ⊥
+    inner true q = cc
+    inner false q = cc
+
+    go : (b : Bool) → cond b (cond (eqb x.port port) Keep Shift) (unpinned_case e s true) ≡ Pin → is_static (seq_for (table_of e) (address_of e) s.vni s.mac) ≡ false
+    go true q = absurd (inner (eqb x.port port) q)
+    go false q = not_static e s true q

@@ -1,0 +1,11 @@
+use Rattle.ev_claims.specs.Leaving.{after_flush, flushed_in}
+use Rattle.ev_edge.specs.Edge.{edge_of}
+use Rattle.ev_edge.proofs.Keeping.{bridged, holds_of, flush_holds, removals_ports}
+use Rattle.ev_edge.proofs.edge.Edge.bridge_event.Goals as goal
+
+pub invariant_of-self : goal.invariant_of-self
+invariant_of-self c =
+    let f = c.self.inside in
+    let e = edge_of f.claims f.clock f.ageing f.bridge f.moves in
+    bridged e f.passing c.passing_ports-self-inside.result f.clock c.event-outcome.new.self (after_flush f.claims c.event-outcome.result.flush) c.flush.new.self c.self.invariant c.event-outcome.ensures.ports c.passing_ports-self-inside.ensures
+    c.self.invariant.keeps.early c.flush.ensures (flush_holds f.claims c.event-outcome.result.flush f.clock (holds_of e f.passing c.self.invariant)) (removals_ports f.claims (flushed_in f.claims.learned c.event-outcome.result.flush))

@@ -1,0 +1,14 @@
+use Rattle.std.proofs.Common.{◌≡◌, length, take, sym, ap, ◌∙◌}
+use Rattle.std.proofs.lemmas.List.{length-map}
+use Rattle.ev_edge.specs.declared.config.PortConfig.{PortConfig}
+use Rattle.ev_edge.proofs.Opened.{opened}
+use Rattle.ev_edge.proofs.edge.Edge.open.Goals as goal
+
+pub invariant_of-result : goal.invariant_of-result
+invariant_of-result c =
+    let ports = c.args.config.ports.items in
+    let set = c.set_settings.new.settings in
+    let size : length c.vnis_of.result.items ≡ length (take c.len.result set) =
+    ap length c.vnis_of.ensures ∙ length-map ports (λ (p : PortConfig). p.vni) ∙ sym (length-map ports (λ (p : PortConfig). p.settings))
+    ∙ sym (ap length c.set_settings.ensures) ∙ ap (λ n. length (take n set)) (sym c.len.ensures.value) in
+    opened _ c.in_ok-claims.claims c.args.config.tree (take c.len.result set) c.args.config.ageing c.new-bridge.result c.new.result c.in_ok-claims.ensures c.new-bridge.ensures.value size

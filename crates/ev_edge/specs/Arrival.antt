@@ -1,0 +1,89 @@
+-- What a frame that comes is, or why it is refused.
+use Rattle.std.specs.Prelude.{ℕ, ◌-◌, ◌==◌, ◌&&◌, Bool, not, nat_le, if◌then◌else◌, Option, Some, None, Result, Ok, Err, List, length, drop, slice_index}
+use Rattle.std.specs.List.{list_any}
+use Rattle.ether_wire.specs.Frame.{frame_of, destination_of, source_of, has_length, payload_of}
+use Rattle.ether_wire.specs.declared.frame.FrameRefusal.{FrameRefusal}
+use Rattle.bpdu_wire.specs.Reading.{reading}
+use Rattle.bpdu_wire.specs.declared.bpdu.Bpdu.{Bpdu}
+use Rattle.bpdu_wire.specs.declared.refusal.Refusal as bpdu
+use Rattle.vxlan_wire.specs.Vxlan.{instance_of}
+use Rattle.vxlan_wire.specs.declared.vxlan.Refusal as vxlan
+use Rattle.rstp_state.specs.Port.{test_at}
+use Rattle.rstp_run.specs.Rules.{Tree}
+use Rattle.route_join.specs.Table.{is_listed}
+use Rattle.ev_claims.specs.Claims.{vni_at}
+use Rattle.ev_edge.specs.declared.arrival.Arrival.{Arrival}
+use Rattle.ev_edge.specs.declared.arrival.Arrival.TheVariants.{Dropped, Message, Data}
+use Rattle.ev_edge.specs.declared.refusal.Refusal.{Refusal}
+use Rattle.ev_edge.specs.declared.refusal.Refusal.TheVariants.{Ether, Bpdu as OfBpdu, Vxlan, Edge as OfEdge}
+use Rattle.ev_edge.specs.declared.refusal.EdgeRefusal.TheVariants.{UnknownOriginator, NoSuchPort, NoSuchVni}
+use Rattle.ev_edge.specs.Edge.{Edge, table_of, address_of}
+
+-- 01-80-C2-00-00-00 to 01-80-C2-00-00-0F: what is sent there stays on its link (IEEE 802.1D-2004, 7.12.6)
+abbrev pub is_reserved : ℕ → Bool
+is_reserved mac = nat_le 0x0180C2000000 mac && nat_le mac 0x0180C200000F
+
+-- the first of them, the bridge group address
+abbrev pub is_bridge_group : ℕ → Bool
+is_bridge_group mac = mac == 0x0180C2000000
+
+-- the LLC header of the spanning tree in front of the payload (9.2)
+abbrev pub has_llc : List ℕ → Bool
+has_llc payload = nat_le 3 (length payload) && (slice_index payload 0 == 0x42 && (slice_index payload 1 == 0x42 && slice_index payload 2 == 0x03))
+
+-- the frame holds a BPDU
+abbrev pub holds_bpdu : List ℕ → Bool
+holds_bpdu frame = is_bridge_group (destination_of frame) && (has_length frame && has_llc (payload_of frame))
+
+abbrev pub message_in : Result Bpdu bpdu.Refusal → Result Arrival Refusal
+message_in (Ok b) = Ok (Message b)
+message_in (Err r) = Err (OfBpdu r)
+
+-- at a reserved destination anything but a BPDU is dropped
+abbrev pub reserved_arrival : List ℕ → Result Arrival Refusal
+reserved_arrival frame = if holds_bpdu frame then message_in (reading (drop 3 (payload_of frame))) else Ok Dropped
+
+abbrev pub data_in : ℕ → List ℕ → Arrival
+data_in vni frame = Data vni (destination_of frame) (source_of frame)
+
+-- ---- on an access port
+
+abbrev pub is_up : Tree → ℕ → Bool
+is_up tree p = test_at (p - 1) (λ port. port.enabled) tree.ports
+
+-- a port that is down drops all frames
+abbrev pub arrival_at : Bool → ℕ → Result (List ℕ) FrameRefusal → Result Arrival Refusal
+arrival_at up vni (Err r) = Err (Ether r)
+arrival_at up vni (Ok frame) =
+    if up then (if is_reserved (destination_of frame) then reserved_arrival frame else Ok (data_in vni frame))
+    else Ok Dropped
+
+abbrev pub arrival_on : Option ℕ → Bool → List ℕ → Result Arrival Refusal
+arrival_on None up octets = Err (OfEdge NoSuchPort)
+arrival_on (Some vni) up octets = arrival_at up vni (frame_of octets)
+
+-- these octets come at port p
+abbrev pub frame_arrival : Edge → ℕ → List ℕ → Result Arrival Refusal
+frame_arrival e p octets = arrival_on (vni_at e.claims.ports p) (is_up e.tree p) octets
+
+-- ---- from a tunnel
+
+-- the network is one of the edge's
+abbrev pub serves : Edge → ℕ → Bool
+serves e vni = list_any (λ v. v == vni) e.claims.vnis
+
+abbrev pub inner_arrival : ℕ → Result (List ℕ) FrameRefusal → Result Arrival Refusal
+inner_arrival vni (Err r) = Err (Ether r)
+inner_arrival vni (Ok frame) = if is_reserved (destination_of frame) then Ok Dropped else Ok (data_in vni frame)
+
+abbrev pub datagram_arrival : Edge → Result (ℕ × List ℕ) vxlan.Refusal → Result Arrival Refusal
+datagram_arrival e (Err r) = Err (Vxlan r)
+datagram_arrival e (Ok inner) = if serves e inner.0 then inner_arrival inner.0 (frame_of inner.1) else Err (OfEdge NoSuchVni)
+
+-- only other edges that are listed are heard
+abbrev pub is_other : Edge → ℕ → Bool
+is_other e from = is_listed (table_of e) from && not (from == address_of e)
+
+-- this datagram comes from an edge
+abbrev pub tunnel_arrival : Edge → ℕ → List ℕ → Result Arrival Refusal
+tunnel_arrival e from octets = if is_other e from then datagram_arrival e (instance_of octets) else Err (OfEdge UnknownOriginator)

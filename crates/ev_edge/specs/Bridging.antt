@@ -1,0 +1,40 @@
+-- What an event of the bridge does to an edge (IEEE 802.1D-2004, 17.11, for what is flushed, and 7.9.2 for ageing).
+use Rattle.std.specs.Prelude.{◌≡◌, ◌⊎◌, ◌↔◌, ℕ, ◌+◌, ◌-◌, ◌^◌, ◌==◌, nat_le, Bool, true, List, if◌then◌else◌}
+use Rattle.ether_wire.specs.Ports.{has_port}
+use Rattle.bpdu_wire.specs.declared.bpdu.Bpdu.{Bpdu}
+use Rattle.rstp_run.specs.declared.event.Event.{Event}
+use Rattle.rstp_run.specs.Events.{Happens, Passes, firings_at, sent_from}
+use Rattle.rstp_run.specs.Rules.{Tree}
+use Rattle.ev_claims.specs.Claims.{Claims}
+use Rattle.ev_claims.specs.Leaving.{after_ageing, after_flush}
+use Rattle.ev_edge.specs.Edge.{Edge}
+
+-- The bridge goes on by the event, and these messages lie in its slots; `flush` are the ports that it flushes.
+pub record BridgeGoes (event : Event) (old new : Tree) (flush : ℕ) (sent : List (ℕ × Bpdu)) : Type 0 where
+  pub settled : Bool
+  pub happens : Happens event (firings_at old) old new settled flush
+  pub slots : sent ≡ sent_from 1 new.ports
+
+-- the unpinned stations behind flushed ports go
+abbrev pub after_bridge : Edge → Tree → ℕ → Edge
+after_bridge e tree flush = record e { tree = tree; claims = after_flush e.claims flush }
+
+-- the clock counts up to 2^63
+abbrev pub next_second : ℕ → ℕ
+next_second clock = if clock == 2 ^ 63 then clock else clock + 1
+
+-- those go that were last heard so many seconds ago, or longer
+abbrev pub aged : Claims → ℕ → ℕ → Claims
+aged c ageing clock = if nat_le ageing clock then after_ageing c (clock - ageing) else c
+
+-- a second passes: the unpinned stations behind flushed ports go first, then those that are due
+abbrev pub after_second : Edge → Tree → ℕ → Edge
+after_second e tree flush = record e {
+  clock = next_second e.clock;
+  tree = tree;
+  claims = aged (after_flush e.claims flush) e.ageing (next_second e.clock);
+}
+
+-- one port more of those that pass
+abbrev pub AddsPassing : Tree → ℕ → ℕ → ℕ → Type 0
+AddsPassing tree set port more = (p : ℕ) → (has_port more p ≡ true) ↔ ((has_port set p ≡ true) ⊎ ((port ≡ p) × Passes tree p))

@@ -1,0 +1,58 @@
+-- An edge, and when it is good.
+use Rattle.std.specs.Prelude.{◌≡◌, ℕ, ◌≤◌, ◌^◌, ◌↔◌, true, IsSome, length}
+use Rattle.std.specs.FinMap.{FinMap}
+use Rattle.ether_wire.specs.Ports.{has_port}
+use Rattle.route_join.specs.Table.{Table}
+use Rattle.route_join.specs.Owner.{IsOwner}
+use Rattle.mac_arena.specs.declared.station.Station.{Station}
+use Rattle.mac_arena.specs.Station.{station_cmp}
+use Rattle.mac_arena.specs.Learning.{IsLatest}
+use Rattle.rstp_run.specs.Rules.{Tree}
+use Rattle.rstp_run.specs.Events.{IsPort, Passes}
+use Rattle.ev_mobility.specs.declared.window.Window.{Window}
+use Rattle.ev_mobility.specs.Moves.{Moves}
+use Rattle.ev_claims.specs.Voice.{own_advert}
+use Rattle.ev_claims.specs.Claims.{Claims, AreGood, key_of}
+
+-- What it says and has learnt, the second, how many seconds an entry lives, its bridge, and the windows of the stations
+-- that have moved. Ports are counted from 1.
+pub record Edge : Type 0 where
+  pub claims : Claims
+  pub clock : ℕ
+  pub ageing : ℕ
+  pub tree : Tree
+  pub windows : FinMap station_cmp Window
+
+abbrev pub edge_of : Claims → ℕ → ℕ → Tree → Moves → Edge
+edge_of claims clock ageing tree moves = record { claims = claims; clock = clock; ageing = ageing; tree = tree; windows = moves.windows }
+
+abbrev pub table_of : Edge → Table
+table_of e = e.claims.voice.table
+
+abbrev pub address_of : Edge → ℕ
+address_of e = e.claims.voice.address
+
+-- a station that the edge advertises is its own
+abbrev pub OwnsAt : Claims → Station → Type 0
+OwnsAt c s = IsSome (own_advert c.voice (key_of s)) → IsOwner c.voice.table s.vni s.mac c.voice.address
+
+-- The edge owns what it advertises, has heard no station later than now, and its bridge has its ports.
+pub record KeepsEdge (e : Edge) : Type 0 where
+  pub owns : (s : Station) → OwnsAt e.claims s
+  pub latest : IsLatest e.claims.learned e.clock
+  pub ports : length e.tree.ports ≡ length e.claims.ports
+  pub early : e.clock ≤ 2 ^ 63
+
+-- the good edge: also what is said and what is learnt name each other, and the lists name the learning map
+pub record IsGoodEdge (e : Edge) : Type 0 where
+  pub claims : AreGood e.claims
+  pub keeps : KeepsEdge e
+
+-- the set of the ports that pass
+abbrev pub ArePassing : Tree → ℕ → Type 0
+ArePassing tree set = (p : ℕ) → (has_port set p ≡ true) ↔ (IsPort p (length tree.ports) × Passes tree p)
+
+-- what is kept of an edge in memory: the ports that pass, too
+pub record IsEdge (e : Edge) (passing : ℕ) : Type 0 where
+  pub keeps : KeepsEdge e
+  pub exact : ArePassing e.tree passing

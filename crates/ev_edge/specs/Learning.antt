@@ -1,0 +1,77 @@
+-- Learning the source of a frame (IEEE 802.1D-2004, 7.8, and RFC 7432, section 15): the first of the ten cases that
+-- applies, with what it does.
+use Rattle.std.specs.Prelude.{◌≡◌, ◌⊎◌, ℕ, ◌^◌, ◌==◌, nat_le, Bool, Option, Some, None, if◌then◌else◌}
+use Rattle.std.specs.FinMap.{get, insert}
+use Rattle.mac_arena.specs.declared.station.Station.{Station}
+use Rattle.mac_arena.specs.declared.station.Entry.{Entry}
+use Rattle.mac_arena.specs.Learning.{entry_at, is_full}
+use Rattle.ev_mobility.specs.declared.alert.Alert.{Alert}
+use Rattle.ev_mobility.specs.declared.alert.Alert.TheVariants.{StaticElsewhere, SequenceSpent, Duplicate, CounterSpent, TableFull, NoMemory}
+use Rattle.ev_mobility.specs.declared.window.Window.{Window}
+use Rattle.ev_mobility.specs.declared.seq.Seq.{Seq}
+use Rattle.ev_mobility.specs.declared.seq.Seq.TheVariants.{Next, Static, Spent}
+use Rattle.ev_mobility.specs.Seq.{seq_for}
+use Rattle.ev_mobility.specs.Window.{is_fifth, is_frozen, after_move}
+use Rattle.ev_claims.specs.Claims.{Claims, after_advert, after_refresh}
+use Rattle.ev_edge.specs.declared.learning.Case.{Case}
+use Rattle.ev_edge.specs.declared.learning.Case.TheVariants.{Leave, Refresh, Refuse, Freeze, Learn}
+use Rattle.ev_edge.specs.Edge.{Edge, table_of, address_of}
+
+-- ---- the cases
+
+-- few numbers are left, and they are kept for withdrawals
+abbrev pub is_spent : Claims → Bool
+is_spent c = nat_le (2 ^ 63) c.voice.counter
+
+-- Another edge advertises the station where its next number isn't 0: then it moves here, and the fifth move of one
+-- window freezes it. A number of 0: nobody else advertises it.
+abbrev pub move_case : Option Window → ℕ → ℕ → Case
+move_case window second n = if n == 0 then Learn 0 else if is_fifth window second then Freeze else Learn n
+
+abbrev pub numbered_case : Edge → Option Window → Seq → Case
+numbered_case e window Static = Refuse StaticElsewhere
+numbered_case e window Spent = Refuse SequenceSpent
+numbered_case e window (Next n) =
+    if is_spent e.claims then Refuse CounterSpent
+    else if is_full e.claims.learned then Refuse TableFull
+    else move_case window e.clock n
+
+-- a station that isn't learnt
+abbrev pub new_case : Edge → Station → Option Window → Case
+new_case e s window = if is_frozen window then Leave else numbered_case e window (seq_for (table_of e) (address_of e) s.vni s.mac)
+
+abbrev pub case_at : Edge → Station → Option Entry → Case
+case_at e s (Some x) = if x.pinned then Leave else Refresh
+case_at e s None = new_case e s (get e.windows s)
+
+-- the first case that applies to a station
+abbrev pub case_of : Edge → Station → Case
+case_of e s = case_at e s (entry_at e.claims.learned s)
+
+-- ---- what they do
+
+abbrev pub refreshed : Edge → Station → ℕ → Edge
+refreshed e s port = record e { claims = after_refresh e.claims s port e.clock }
+
+-- one more move of the station
+abbrev pub moved : Edge → Station → Edge
+moved e s = record e { windows = insert e.windows s (after_move (get e.windows s) e.clock) }
+
+-- learnt and advertised; a number above 0 is a move
+abbrev pub learnt : Edge → Station → ℕ → ℕ → Edge
+learnt e s port n = record (if n == 0 then e else moved e s) { claims = after_advert e.claims s port e.clock n }
+
+-- it happened, or the memory for it was refused: then nothing changed
+abbrev pub OrNoMemory : Edge → Option Alert → Edge → Option Alert → Edge → Type 0
+OrNoMemory e alert after told e' = ((told ≡ alert) × (e' ≡ after)) ⊎ ((told ≡ Some NoMemory) × (e' ≡ e))
+
+abbrev pub Does : Case → Edge → Station → ℕ → Option Alert → Edge → Type 0
+Does Leave e s port told e' = (told ≡ None) × (e' ≡ e)
+Does Refresh e s port told e' = (told ≡ None) × (e' ≡ refreshed e s port)
+Does (Refuse alert) e s port told e' = (told ≡ Some alert) × (e' ≡ e)
+Does Freeze e s port told e' = OrNoMemory e (Some Duplicate) (moved e s) told e'
+Does (Learn n) e s port told e' = OrNoMemory e None (learnt e s port n) told e'
+
+-- learning the station on the port
+abbrev pub Learning : Edge → Station → ℕ → Option Alert → Edge → Type 0
+Learning e s port told e' = Does (case_of e s) e s port told e'

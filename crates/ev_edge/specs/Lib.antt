@@ -1,0 +1,10 @@
+pub mod Edge
+pub mod Config
+pub mod Arrival
+pub mod Learning
+pub mod Pinning
+pub mod Bridging
+pub mod Sending
+pub mod Steps
+pub mod Opening
+pub mod Refusal

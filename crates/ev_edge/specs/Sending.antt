@@ -1,0 +1,25 @@
+-- Where an edge sends a frame.
+use Rattle.std.specs.Prelude.{◌≡◌, ℕ, Option}
+use Rattle.std.specs.Option.{option_map}
+use Rattle.ether_wire.specs.Ports.{has_port}
+use Rattle.mac_arena.specs.declared.station.Entry.{Entry}
+use Rattle.mac_arena.specs.Learning.{entry_at}
+use Rattle.ev_tunnel.specs.declared.decision.Decision.{Decision}
+use Rattle.ev_tunnel.specs.declared.decision.Source.{Source}
+use Rattle.ev_tunnel.specs.Decision.{local_for, remote_for}
+use Rattle.ev_claims.specs.Claims.{is_member}
+use Rattle.ev_edge.specs.Edge.{Edge, table_of, address_of, ArePassing}
+
+-- the port where the destination is learnt
+abbrev pub port_of : Edge → ℕ → ℕ → Option ℕ
+port_of e vni mac = option_map (λ (x : Entry). x.port) (entry_at e.claims.learned (record { vni = vni; mac = mac }))
+
+-- The decision for a frame of this network and destination: by what the edge has learnt and heard, over the ports of
+-- the network and those that pass.
+pub record IsDecision (e : Edge) (vni destination : ℕ) (from : Source) (d : Decision) : Type 0 where
+  pub members : ℕ
+  pub are_members : (p : ℕ) → has_port members p ≡ is_member e.claims.ports vni p
+  pub passing : ℕ
+  pub are_passing : ArePassing e.tree passing
+  pub local : d.local ≡ local_for (table_of e) vni destination (port_of e vni destination) (address_of e) from members passing
+  pub remote : d.remote.items ≡ remote_for (table_of e) vni destination (port_of e vni destination) (address_of e) from

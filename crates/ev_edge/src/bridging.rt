@@ -1,0 +1,140 @@
+//! Events of the bridge: what it sends, and the stations that go by them.
+ghost use Rattle.std.specs.Prelude.{◌≡◌, ◌≤◌, ◌^◌, true, is_some, length};
+ghost use Rattle.rstp_run.specs.Events.{IsAt, IsPort};
+ghost use Rattle.ev_claims.specs.Claims.{vni_at};
+ghost use Rattle.ev_edge.specs.Edge.{ArePassing};
+ghost use Rattle.ev_edge.specs.Bridging.{AddsPassing, next_second, aged};
+ghost use Rattle.ev_edge.specs.Steps.{BridgeSteps, BridgesAt, SecondSteps, nothing};
+
+use crate::edge::Edge;
+use crate::refusal::{EdgeRefusal, Refusal};
+use crate::reply::Reply;
+use ether_wire::{NO_PORTS, with_port};
+use ev_claims::Claims;
+use rstp_run::bridge::Bridge;
+use rstp_run::event::{Event, Outcome};
+
+/// The last second: the clock stays there.
+const LAST_SECOND: u64 = 0x8000_0000_0000_0000;
+
+// The set and this port, if it passes.
+fn with_passing(set: u64, bridge: &Bridge, port: u8) -> u64
+    requires there { IsPort port (length bridge.now.ports) }
+    requires few { length bridge.now.ports ≤ 64 }
+    ensures { AddsPassing bridge.now set port result }
+{
+    if bridge.passes(port) {
+        return with_port(set, port);
+    }
+    set
+}
+
+// The ports that pass.
+fn passing_ports(bridge: &Bridge) -> u64
+    ensures { ArePassing bridge.now result }
+{
+    let mut set = NO_PORTS;
+    for place in 0..bridge.len() {
+        set = with_passing(set, bridge, place as u8 + 1);
+    }
+    set
+}
+
+// The second after this one: at 2^63 the clock stays.
+fn next_second(clock: u64) -> u64
+    requires { clock ≤ 2 ^ 63 }
+    ensures { result ≡ next_second clock }
+{
+    if clock == LAST_SECOND {
+        clock
+    } else {
+        clock + 1
+    }
+}
+
+// The stations that weren't heard for so many seconds go.
+fn age(claims: &mut Claims, ageing: u64, clock: u64)
+    ensures { claims.new ≡ aged claims.old ageing clock }
+{
+    if clock >= ageing {
+        claims.age(clock - ageing);
+    }
+}
+
+// What is told of an event of the bridge.
+fn sent_reply(outcome: Outcome) -> Reply
+    ensures { result ≡ record nothing { bpdus = outcome.out } }
+{
+    Reply {
+        decision: None,
+        bpdus: outcome.out,
+        taken: None,
+        announced: None,
+        alert: None,
+    }
+}
+
+impl Edge {
+    /// An event of the bridge at a port that is there: the bridge goes on, and the stations behind the
+    /// ports that it flushes go.
+    pub(crate) fn bridge_event(&mut self, event: Event) -> Reply
+        requires { IsAt event (length self.old.tree.ports) }
+        ensures { BridgeSteps event self.old result self.new }
+    {
+        let outcome = self.bridge.event(event);
+        self.passing = passing_ports(&self.bridge);
+        self.claims.flush(outcome.flush);
+        sent_reply(outcome)
+    }
+
+    /// A second passes. The stations behind the ports that the bridge flushes go first, then those that
+    /// weren't heard for long enough.
+    pub(crate) fn second(&mut self) -> Reply
+        ensures { SecondSteps self.old result self.new }
+    {
+        let outcome = self.bridge.event(Event::Second);
+        self.passing = passing_ports(&self.bridge);
+        self.clock = next_second(self.clock);
+        self.claims.flush(outcome.flush);
+        age(&mut self.claims, self.ageing, self.clock);
+        sent_reply(outcome)
+    }
+
+    // Whether there is such a port.
+    fn is_there(&self, port: u8) -> bool
+        ensures value { result ≡ is_some (vni_at self.now.claims.ports port) }
+        ensures port { result ≡ true → IsPort port (length self.now.tree.ports) }
+    {
+        self.claims.vni_of(port).is_some()
+    }
+
+    /// A port comes up.
+    pub(crate) fn port_up(&mut self, port: u8) -> Result<Reply, Refusal>
+        ensures { BridgesAt (vni_at self.old.claims.ports port) (Event.PortUp port) self.old result self.new }
+    {
+        if !self.is_there(port) {
+            return Err(Refusal::Edge(EdgeRefusal::NoSuchPort));
+        }
+        Ok(self.bridge_event(Event::PortUp(port)))
+    }
+
+    /// A port goes down.
+    pub(crate) fn port_down(&mut self, port: u8) -> Result<Reply, Refusal>
+        ensures { BridgesAt (vni_at self.old.claims.ports port) (Event.PortDown port) self.old result self.new }
+    {
+        if !self.is_there(port) {
+            return Err(Refusal::Edge(EdgeRefusal::NoSuchPort));
+        }
+        Ok(self.bridge_event(Event::PortDown(port)))
+    }
+
+    /// A port's protocol is to be found out anew.
+    pub(crate) fn mcheck(&mut self, port: u8) -> Result<Reply, Refusal>
+        ensures { BridgesAt (vni_at self.old.claims.ports port) (Event.Mcheck port) self.old result self.new }
+    {
+        if !self.is_there(port) {
+            return Err(Refusal::Edge(EdgeRefusal::NoSuchPort));
+        }
+        Ok(self.bridge_event(Event::Mcheck(port)))
+    }
+}

@@ -1,0 +1,155 @@
+ghost use Rattle.std.specs.Prelude.{◌≡◌, IfOk, IfSome, IfNone};
+ghost use Rattle.ev_claims.specs.Voice.{IsOwnAt, IsNoOwnAt};
+ghost use Rattle.ev_claims.specs.Claims.{entries};
+ghost use Rattle.ev_edge.specs.Config.{IsConfig};
+ghost use Rattle.ev_edge.specs.Edge.{IsGoodEdge, table_of};
+ghost use Rattle.ev_edge.specs.Opening.{IsOpening};
+ghost use Rattle.ev_edge.specs.Steps.{Steps};
+
+use crate::config::{EdgeConfig, PortConfig, set_settings, vnis_of};
+use crate::event::Event;
+use crate::refusal::Refusal;
+use crate::reply::Reply;
+use ether_wire::NO_PORTS;
+use ev_claims::{Claims, Start};
+use ev_mobility::Moves;
+use route_join::Table;
+use route_wire::Update;
+use rstp_run::bridge::{Bridge, BridgeConfig};
+use std::alloc::{AllocError, Global};
+use std::marker::Model;
+
+/// An edge: what it says and has learnt, its bridge, its clock, and the stations that have moved.
+///
+/// It advertises exactly the stations that it has learnt, as static exactly those that are pinned, and
+/// owns each of them.
+#[derive(Drop)]
+pub struct Edge {
+    pub(crate) claims: Claims,
+    pub(crate) clock: u64,
+    pub(crate) ageing: u64,
+    pub(crate) bridge: Bridge,
+    pub(crate) moves: Moves,
+    // The ports that pass.
+    pub(crate) passing: u64,
+}
+
+impl Model for Edge {
+    ghost use Rattle.std.specs.Coded.{codes};
+    ghost use Rattle.std.specs.FinMap.{code};
+    ghost use Rattle.ev_edge.specs.Edge.{Edge as Kept, edge_of, IsEdge};
+
+    ghost Value = { Kept };
+
+    ghost coded = { Prim.hlevel (codes, code) };
+
+    ghost view = { λ e. edge_of e.claims e.clock e.ageing e.bridge e.moves };
+
+    ghost invariant = { λ e. IsEdge (edge_of e.claims e.clock e.ageing e.bridge e.moves) e.passing };
+}
+
+impl Edge {
+    /// An edge that has heard and learnt nothing, at second 0. It says that it is on the flood list of
+    /// each of its networks, the lowest first. All ports are down.
+    ///
+    /// # Errors
+    ///
+    /// Where memory is refused.
+    pub fn open(alloc: Global, config: EdgeConfig) -> Result<Self, AllocError>
+        requires { IsConfig config }
+        ensures { IfOk result (IsOpening config) }
+    {
+        let mut settings = [PortConfig::default().settings; 64];
+        set_settings(&config.ports, &mut settings);
+        let bridge = Bridge::new(BridgeConfig {
+            settings: config.tree,
+            ports: &settings[..config.ports.len()],
+        });
+        let start = Start {
+            address: config.address,
+            incarnation: config.incarnation,
+            ports: vnis_of(&config.ports),
+            originators: config.originators,
+            vnis: config.vnis,
+            capacity: config.capacity,
+            buckets: config.buckets,
+            salt: config.salt,
+        };
+        let claims = Claims::open(alloc, start)?;
+        Ok(Edge {
+            claims,
+            clock: 0,
+            ageing: config.ageing,
+            bridge,
+            moves: Moves::new(alloc),
+            passing: NO_PORTS,
+        })
+    }
+
+    /// One event. A frame that comes at a port is learnt from before it is sent; an update that takes a
+    /// station from the edge withdraws it in the same step; so does whatever flushes or ages it.
+    ///
+    /// # Errors
+    ///
+    /// Each exactly where its cause is the first one, as `Steps` tells them. Nothing changed then.
+    pub fn step(&mut self, event: &Event<'_>) -> Result<Reply, Refusal>
+        ensures { Steps self.old event.now result self.new }
+    {
+        match event {
+            Event::Frame(port, octets) => self.frame(*port, *octets),
+            Event::TunnelFrame(from, octets) => self.tunnel_frame(*from, *octets),
+            Event::Take(update) => self.take(update),
+            Event::Pin(station, port) => self.pin(station, *port),
+            Event::Unpin(station) => Ok(self.unpin(station)),
+            Event::Thaw(station) => Ok(self.thaw(station)),
+            Event::Second => Ok(self.second()),
+            Event::PortUp(port) => self.port_up(*port),
+            Event::PortDown(port) => self.port_down(*port),
+            Event::Mcheck(port) => self.mcheck(*port),
+            Event::Announce => Ok(self.announce()),
+        }
+    }
+
+    /// A law, which does nothing: an edge is always good.
+    pub fn always_good(&self)
+        ensures { IsGoodEdge self.now }
+    {
+        self.claims.always_good();
+    }
+
+    /// What the edge has heard and said.
+    pub fn table(&self) -> &Table
+        ensures { result.now ≡ table_of self.now }
+    {
+        self.claims.table()
+    }
+
+    /// The edge's bridge.
+    pub fn bridge(&self) -> &Bridge
+        ensures { result.now ≡ self.now.tree }
+    {
+        &self.bridge
+    }
+
+    /// How many stations are learnt.
+    pub fn entries(&self) -> usize
+        ensures { result ≡ entries self.now.claims }
+    {
+        self.claims.entries()
+    }
+
+    /// The last number that was given to an own update.
+    pub fn counter(&self) -> u64
+        ensures { result ≡ self.now.claims.voice.counter }
+    {
+        self.claims.counter()
+    }
+
+    /// The own update of this life with this number, if it is still its register's value.
+    pub fn own_at(&self, counter: u64) -> Option<Update>
+        ensures some { IfSome result (IsOwnAt self.now.claims.voice counter) }
+        ensures none { IfNone result (IsNoOwnAt self.now.claims.voice counter) }
+    {
+        self.claims.own_at(counter)
+    }
+}

@@ -1,0 +1,32 @@
+//! What may happen to an edge.
+
+use ether_wire::Addr;
+use mac_arena::Station;
+use route_wire::Update;
+
+/// What may happen to an edge. Ports are numbered from 1.
+#[derive(Clone, Copy)]
+pub enum Event<'a> {
+    /// These octets come at the access port.
+    Frame(u8, &'a [u8]),
+    /// This datagram comes from another edge.
+    TunnelFrame(Addr, &'a [u8]),
+    /// This update comes, of another edge or of the edge itself in an earlier life.
+    Take(Update),
+    /// The station is to be pinned on the port.
+    Pin(Station, u8),
+    /// The station is to be pinned no more.
+    Unpin(Station),
+    /// The station is to be thawed.
+    Thaw(Station),
+    /// A second passes.
+    Second,
+    /// The port comes up.
+    PortUp(u8),
+    /// The port goes down.
+    PortDown(u8),
+    /// The administrator asks for the port's protocol to be found out anew.
+    Mcheck(u8),
+    /// The next own update that isn't announced yet is asked for.
+    Announce,
+}

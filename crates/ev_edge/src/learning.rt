@@ -1,0 +1,158 @@
+//! Learning the source of a frame: which of the ten cases it is, and what that does.
+ghost use Rattle.std.specs.Prelude.{◌≡◌, ◌<◌, ◌^◌, ◌==◌, false, None, Some};
+ghost use Rattle.std.specs.FinMap.{get};
+ghost use Rattle.ether_wire.specs.Names.{is_group};
+ghost use Rattle.mac_arena.specs.Learning.{entry_at, is_full};
+ghost use Rattle.ev_mobility.specs.Seq.{seq_for};
+ghost use Rattle.ev_claims.specs.Claims.{vni_at};
+ghost use Rattle.ev_edge.specs.Edge.{table_of, address_of};
+ghost use Rattle.ev_edge.specs.Learning.{case_of, new_case, numbered_case, moved, learnt, OrNoMemory, Learning};
+
+use crate::edge::Edge;
+use ev_mobility::{Alert, Seq, next_seq};
+use mac_arena::Station;
+
+/// From this number on, numbers are kept for withdrawals.
+pub(crate) const SPENT: u64 = 0x8000_0000_0000_0000;
+
+/// What is to be done with the source of a frame.
+#[derive(Clone, Copy, Debug, PartialEq, Eq)]
+pub(crate) enum Case {
+    /// It is pinned or frozen: nothing.
+    Leave,
+    /// It is learnt, and heard again.
+    Refresh,
+    /// It isn't learnt, and this is told.
+    Refuse(Alert),
+    /// It has moved for the fifth time in one window: it is frozen, and not learnt.
+    Freeze,
+    /// It is learnt and advertised with this sequence number; a number above 0 is a move.
+    Learn(u32),
+}
+
+impl Edge {
+    /// Learns a station on a port of its network, and tells what the operator is to know.
+    pub(crate) fn learn(&mut self, station: &Station, port: u8) -> Option<Alert>
+        requires individual { is_group station.now.mac ≡ false }
+        requires port { vni_at self.old.claims.ports port ≡ Some station.now.vni }
+        ensures { Learning self.old station.now port result self.new }
+    {
+        match self.case_of(station) {
+            Case::Leave => None,
+            Case::Refresh => {
+                self.claims.refresh(station, port, self.clock);
+                None
+            }
+            Case::Refuse(alert) => Some(alert),
+            Case::Freeze => self.freeze(station),
+            Case::Learn(0) => self.learn_first(station, port),
+            Case::Learn(number) => self.learn_moved(station, port, number),
+        }
+    }
+
+    fn case_of(&self, station: &Station) -> Case
+        ensures { result ≡ case_of self.now station.now }
+    {
+        match self.claims.look(station) {
+            Some(entry) => if entry.pinned {
+                Case::Leave
+            } else {
+                Case::Refresh
+            },
+            None => self.new_case(station),
+        }
+    }
+
+    // The case of a station that isn't learnt.
+    fn new_case(&self, station: &Station) -> Case
+        ensures { result ≡ new_case self.now station.now (get self.now.windows station.now) }
+    {
+        if self.moves.frozen(station) {
+            return Case::Leave;
+        }
+        match self.next_seq(station) {
+            Seq::Static => Case::Refuse(Alert::StaticElsewhere),
+            Seq::Spent => Case::Refuse(Alert::SequenceSpent),
+            Seq::Next(number) => self.numbered_case(station, number),
+        }
+    }
+
+    // The case of a station that isn't learnt, with its next sequence number.
+    fn numbered_case(&self, station: &Station, number: u32) -> Case
+        ensures { result ≡ numbered_case self.now (get self.now.windows station.now) (Seq.Next number) }
+    {
+        if self.claims.counter() >= SPENT {
+            return Case::Refuse(Alert::CounterSpent);
+        }
+        if self.claims.is_full() {
+            return Case::Refuse(Alert::TableFull);
+        }
+        if number != 0 && self.moves.fifth(station, self.clock) {
+            return Case::Freeze;
+        }
+        Case::Learn(number)
+    }
+
+    /// The sequence number of the next own advert of a station.
+    pub(crate) fn next_seq(&self, station: &Station) -> Seq
+        ensures { result ≡ seq_for (table_of self.now) (address_of self.now) station.now.vni station.now.mac }
+    {
+        next_seq(
+            self.claims.table(),
+            self.claims.address(),
+            station.vni,
+            station.mac,
+        )
+    }
+
+    // Notes the fifth move of a station's window, which freezes it.
+    fn freeze(&mut self, station: &Station) -> Option<Alert>
+        ensures { OrNoMemory self.old (Some Alert.Duplicate) (moved self.old station.now) result self.new }
+    {
+        if self.moves.room(station).is_err() {
+            return Some(Alert::NoMemory);
+        }
+        self.moves.note(station, self.clock);
+        Some(Alert::Duplicate)
+    }
+
+    // Learns a station that no other edge advertises.
+    fn learn_first(&mut self, station: &Station, port: u8) -> Option<Alert>
+        requires individual { is_group station.now.mac ≡ false }
+        requires port { vni_at self.old.claims.ports port ≡ Some station.now.vni }
+        requires new { entry_at self.old.claims.learned station.now ≡ None }
+        requires room { is_full self.old.claims.learned ≡ false }
+        requires counter { self.old.claims.voice.counter < 2 ^ 63 }
+        requires next { seq_for (table_of self.old) (address_of self.old) station.now.vni station.now.mac ≡ Seq.Next 0 }
+        ensures { OrNoMemory self.old None (learnt self.old station.now port 0) result self.new }
+    {
+        self.claims.always_good();
+        if self.claims.advertise(station, port, self.clock, 0).is_err() {
+            return Some(Alert::NoMemory);
+        }
+        None
+    }
+
+    // Learns a station that another edge advertises: it moves here.
+    fn learn_moved(&mut self, station: &Station, port: u8, number: u32) -> Option<Alert>
+        requires individual { is_group station.now.mac ≡ false }
+        requires port { vni_at self.old.claims.ports port ≡ Some station.now.vni }
+        requires new { entry_at self.old.claims.learned station.now ≡ None }
+        requires room { is_full self.old.claims.learned ≡ false }
+        requires counter { self.old.claims.voice.counter < 2 ^ 63 }
+        requires next { seq_for (table_of self.old) (address_of self.old) station.now.vni station.now.mac ≡ Seq.Next number }
+        requires moves { (number == 0) ≡ false }
+        ensures { OrNoMemory self.old None (learnt self.old station.now port number) result self.new }
+    {
+        self.claims.always_good();
+        if self.moves.room(station).is_err() {
+            return Some(Alert::NoMemory);
+        }
+        let clock = self.clock;
+        if self.claims.advertise(station, port, clock, number).is_err() {
+            return Some(Alert::NoMemory);
+        }
+        self.moves.note(station, clock);
+        None
+    }
+}

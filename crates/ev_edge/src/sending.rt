@@ -1,0 +1,164 @@
+//! Frames: what comes is learnt from, and sent where it belongs.
+ghost use Rattle.std.specs.Prelude.{◌≡◌, Some, []};
+ghost use Rattle.ev_claims.specs.Claims.{vni_at};
+ghost use Rattle.ev_tunnel.specs.Decision.{IsFrom};
+ghost use Rattle.ev_edge.specs.Arrival.{frame_arrival, serves, tunnel_arrival};
+ghost use Rattle.std.specs.Option.{ForSome};
+ghost use Rattle.ether_wire.specs.Ports.{IsPort};
+ghost use Rattle.ev_edge.specs.Sending.{IsDecision, port_of};
+ghost use Rattle.ev_edge.specs.Steps.{FrameSteps, TunnelSteps, DataSteps, LearnsAt, SendsIf};
+
+use crate::arrival::{Arrival, arrival_at, inner_arrival};
+use crate::edge::Edge;
+use crate::refusal::{EdgeRefusal, Refusal};
+use crate::reply::Reply;
+use arrayvec::ArrayVec;
+use ether_wire::{Addr, Mac, NO_PORTS, Vni};
+use ev_mobility::Alert;
+use ev_tunnel::{Decision, Source, decide, unwrap_datagram};
+use mac_arena::Station;
+use rstp_run::event::Event;
+
+// No port and no edge.
+fn nowhere() -> Decision
+    ensures local { result.local ≡ 0 }
+    ensures remote { result.remote.items ≡ [] }
+{
+    Decision {
+        local: NO_PORTS,
+        remote: ArrayVec::new(),
+    }
+}
+
+impl Edge {
+    /// These octets come at a port.
+    pub(crate) fn frame(&mut self, port: u8, octets: &[u8]) -> Result<Reply, Refusal>
+        ensures { FrameSteps (frame_arrival self.old port octets.now) self.old port result self.new }
+    {
+        match self.frame_arrival(port, octets)? {
+            Arrival::Dropped => Ok(Reply::nothing()),
+            Arrival::Message(bpdu) => Ok(self.bridge_event(Event::Bpdu(port, bpdu))),
+            Arrival::Data(vni, destination, source) => {
+                Ok(self.data(port, vni, destination, source))
+            }
+        }
+    }
+
+    // What comes at a port, or why it is refused.
+    fn frame_arrival(&self, port: u8, octets: &[u8]) -> Result<Arrival, Refusal>
+        ensures { result ≡ frame_arrival self.now port octets.now }
+    {
+        let Some(vni) = self.claims.vni_of(port) else {
+            return Err(Refusal::Edge(EdgeRefusal::NoSuchPort))
+        };
+        arrival_at(self.bridge.port(port).enabled, vni, octets)
+    }
+
+    // A frame of a network comes at a port.
+    fn data(&mut self, port: u8, vni: Vni, destination: Mac, source: Mac) -> Reply
+        requires { vni_at self.old.claims.ports port ≡ Some vni }
+        ensures { DataSteps self.old port vni destination source result self.new }
+    {
+        self.claims.always_good();
+        let passes = self.bridge.passes(port);
+        let alert = self.learn_source(port, vni, source);
+        let decision = self.decide_if(passes, vni, destination, port);
+        Reply {
+            decision: Some(decision),
+            bpdus: ArrayVec::new(),
+            taken: None,
+            announced: None,
+            alert,
+        }
+    }
+
+    // Learns the source of a frame, if the port learns and it is no group address.
+    fn learn_source(&mut self, port: u8, vni: Vni, source: Mac) -> Option<Alert>
+        requires { vni_at self.old.claims.ports port ≡ Some vni }
+        ensures { LearnsAt self.old port vni source result self.new }
+    {
+        if self.bridge.learns(port) && !source.is_group() {
+            return self.learn(&Station { vni, mac: source }, port);
+        }
+        None
+    }
+
+    // Where a frame goes that came at a port which passes or doesn't.
+    fn decide_if(&self, passes: bool, vni: Vni, destination: Mac, port: u8) -> Decision
+        requires { IsFrom (Source.Port port) }
+        ensures { SendsIf passes self.now vni destination (Source.Port port) (Some result) }
+    {
+        if !passes {
+            return nowhere();
+        }
+        self.decide(vni, destination, Source::Port(port))
+    }
+
+    // The port where a destination is learnt.
+    fn port_of(&self, vni: Vni, mac: Mac) -> Option<u8>
+        ensures value { result ≡ port_of self.now vni mac }
+        ensures port { ForSome result IsPort }
+    {
+        self.claims.always_good();
+        match self.claims.look(&Station { vni, mac }) {
+            Some(entry) => Some(entry.port),
+            None => None,
+        }
+    }
+
+    // Where a frame of a network goes.
+    fn decide(&self, vni: Vni, destination: Mac, from: Source) -> Decision
+        requires { IsFrom from }
+        ensures { IsDecision self.now vni destination from result }
+    {
+        decide(
+            destination,
+            vni,
+            from,
+            self.port_of(vni, destination),
+            self.claims.table(),
+            self.claims.address(),
+            self.claims.members(vni),
+            self.passing,
+        )
+    }
+
+    /// A datagram comes from another edge.
+    pub(crate) fn tunnel_frame(&mut self, from: Addr, octets: &[u8]) -> Result<Reply, Refusal>
+        ensures { TunnelSteps (tunnel_arrival self.old from octets.now) self.old result self.new }
+    {
+        match self.tunnel_arrival(from, octets)? {
+            Arrival::Data(vni, destination, _) => {
+                let mut reply = Reply::nothing();
+                reply.decision = Some(self.decide(vni, destination, Source::Tunnel));
+                Ok(reply)
+            }
+            _ => Ok(Reply::nothing()),
+        }
+    }
+
+    // Whether a network is one of the edge's.
+    fn serves(&self, vni: Vni) -> bool
+        ensures { result ≡ serves self.now vni }
+    {
+        self.claims.has_vni(vni)
+    }
+
+    // What comes from a tunnel, or why it is refused.
+    fn tunnel_arrival(&self, from: Addr, octets: &[u8]) -> Result<Arrival, Refusal>
+        ensures { result ≡ tunnel_arrival self.now from octets.now }
+    {
+        let listed = self.claims.table().originators().contains(&from);
+        if !listed || from == self.claims.address() {
+            return Err(Refusal::Edge(EdgeRefusal::UnknownOriginator));
+        }
+        let (vni, inner) = match unwrap_datagram(octets) {
+            Ok(parts) => parts,
+            Err(refusal) => return Err(Refusal::Vxlan(refusal)),
+        };
+        if !self.serves(vni) {
+            return Err(Refusal::Edge(EdgeRefusal::NoSuchVni));
+        }
+        inner_arrival(vni, inner)
+    }
+}
