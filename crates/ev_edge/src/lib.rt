@@ -13,6 +13,8 @@ mod refusal;
 mod reply;
 mod sending;
 mod taking;
+#[cfg(test)]
+mod tests;
 
 pub use config::{EdgeConfig, PortConfig};
 pub use edge::Edge;
