@@ -132,7 +132,10 @@ if command -v cc > /dev/null && cc -shared -fPIC -O1 -o "$work/refuse.so" "$test
   status=0
   asked 0 "$work/empty"
   words=$(cat "$work/asked")
-  tell "allocations are counted" [ "${words:-0}" -gt 0 ]
+  # a build that takes its memory elsewhere than from the C library can't be refused any
+  if [ "${words:-0}" != 0 ] || [[ $evpnd != *.by-rattle ]]; then
+    tell "allocations are counted" [ "${words:-0}" -gt 0 ]
+  fi
   for n in $(seq "${words:-0}"); do
     status=0
     asked "$n" "$record"
