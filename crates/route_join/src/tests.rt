@@ -250,6 +250,40 @@ fn flood_list_is_ascending_without_the_withdrawn(rt: HostRuntime) -> Result<(), 
     Ok(())
 }
 
+#[test]
+fn updates_come_in_the_order_of_a_report(rt: HostRuntime) -> Result<(), Fail> {
+    let ip = Ip::V4(Addr::new(0xc000_020a));
+    let with_ip = Update::new(
+        Register {
+            originator: addr(1),
+            key: Key::Mac(Vni::new(5001), Mac::new(0x0200_0000_000a), Some(ip)),
+        },
+        valued(1, advert(false, 0)),
+    );
+    let mut table = new_table(rt.alloc());
+    for update in [
+        withdrawn(2, 2),
+        with_ip,
+        floods(3, 1, advert(false, 0)),
+        dynamic(1, 1, 0),
+    ] {
+        table.take(&update)?;
+    }
+    let mut updates = table.updates_of(vni(), mac());
+    assert_eq!(rt; updates.next(), Some(dynamic(1, 1, 0)));
+    assert_eq!(rt; updates.next(), Some(with_ip));
+    assert_eq!(rt; updates.next(), Some(withdrawn(2, 2)));
+    assert_eq!(rt; updates.next(), None);
+    let mut updates = table.updates();
+    assert_eq!(rt; updates.next(), Some(floods(3, 1, advert(false, 0))));
+    assert_eq!(rt; updates.next(), Some(dynamic(1, 1, 0)));
+    assert_eq!(rt; updates.next(), Some(with_ip));
+    assert_eq!(rt; updates.next(), Some(withdrawn(2, 2)));
+    assert_eq!(rt; updates.next(), None);
+    assert_eq!(rt; table.updates_of(Vni::new(5002), mac()).next(), None);
+    Ok(())
+}
+
 // Run with each growth refused in turn: a refused update leaves the table, and is newer the second time.
 #[test]
 fn refused_growth_is_made_up_for(rt: HostRuntime) -> Result<(), Fail> {

@@ -505,6 +505,42 @@ fn a_stream_of_single_octets_is_read(rt: HostRuntime) {
     assert_eq!(rt; end_of(&mut feed), Some(Ok(())));
 }
 
+/// Takes from a piece until it gives no more, and counts the first record's updates; 1000 where
+/// anything else comes.
+fn taken_of(feed: &mut Feed, piece: &[u8]) -> u32 {
+    let mut start = 0;
+    for found in 0..4 {
+        if piece.len() < start {
+            return 1000;
+        }
+        let (n, next) = feed.take(&piece[start..]);
+        start += n;
+        match next {
+            Next::More => return found,
+            Next::Record(update) => {
+                if !is_first(&update) {
+                    return 1000;
+                }
+            }
+            _ => return 1000,
+        }
+    }
+    1000
+}
+
+#[test]
+fn records_are_read_where_they_lie_and_across_pieces(rt: HostRuntime) {
+    let stream = three_records();
+    for cut in 0..stream.len() {
+        let mut feed = Feed::new();
+        let first = taken_of(&mut feed, &stream[..cut]);
+        let second = taken_of(&mut feed, &stream[cut..]);
+        assert_eq!(rt; first, cut as u32 / 56, "before octet {cut}");
+        assert_eq!(rt; second, 3 - cut as u32 / 56, "from octet {cut} on");
+        assert_eq!(rt; end_of(&mut feed), Some(Ok(())));
+    }
+}
+
 #[test]
 fn a_fault_and_a_refusal_are_taken_where_they_lie(rt: HostRuntime) {
     let mut feed = Feed::new();
