@@ -41,7 +41,7 @@ nothing_changes e = record {
 }
 
 -- ---- one register, then others
-more_changes : (e : Voice) (k : Key) (c : Content) (new : Voice) (rs : List Register) → (Contains rs (own_register e k) → ⊥) → OwnChanges (after_saying e k c) new rs → OwnChanges e new (own_register e k ∷ rs)
+pub more_changes : (e : Voice) (k : Key) (c : Content) (new : Voice) (rs : List Register) → (Contains rs (own_register e k) → ⊥) → OwnChanges (after_saying e k c) new rs → OwnChanges e new (own_register e k ∷ rs)
 more_changes e k c new rs once h = record {
   address = h.address;
   incarnation = h.incarnation;
@@ -71,7 +71,7 @@ pub one_changes : (e : Voice) (k : Key) (c : Content) → OwnChanges e (after_sa
 one_changes e k c = more_changes e k c (after_saying e k c) [] (λ in'. let less = in'.1 in omega (arith, less)) (nothing_changes (after_saying e k c))
 
 -- ---- stations that go
-stands_among : (e : Voice) (s : Station) (ss : List Station) → Contains (registers_of e ss) (own_register e (key_of s)) → stands ss s ≡ true
+pub stands_among : (e : Voice) (s : Station) (ss : List Station) → Contains (registers_of e ss) (own_register e (key_of s)) → stands ss s ≡ true
 stands_among e s [] (k, less, is) = absurd (omega (arith, less))
 stands_among e s (x ∷ ss) (zero, less, is) =
     let keys : key_of x ≡ key_of s = ap (λ (r : Register). r.key) is in
@@ -111,7 +111,7 @@ due_stands t limit (x ∷ ss) s h = go (is_due limit (entry_at t x)) (is_same x 
     go true false is h rest = ap (λ d. d || stands (due_among t limit ss) s) is ∙ rest h
     go false false is h rest = refl
 
-due_once : (t : Learning) (limit : ℕ) (ss : List Station) → AreOnce ss → AreOnce (due_among t limit ss)
+pub due_once : (t : Learning) (limit : ℕ) (ss : List Station) → AreOnce ss → AreOnce (due_among t limit ss)
 due_once t limit [] h = tt
 due_once t limit (x ∷ ss) h = go (is_due limit (entry_at t x)) (due_once t limit ss h.1)
   where
@@ -153,20 +153,20 @@ unpinned_stands t (x ∷ xs) s = go (is_pinned (entry_at t x)) refl (is_same x s
     go false free false ne rest = ap (λ d. d || stands (unpinned_among t xs) s) ne ∙ rest ∙ sym (ap (λ d. (d || stands xs s) && not (is_pinned (entry_at t s))) ne)
 
 -- whether an entry is behind one of these ports
-abbrev on_any : List ℕ → Option Entry → Bool
+abbrev pub on_any : List ℕ → Option Entry → Bool
 on_any ps o = list_any (is_on o) ps
 
 -- ports that rise from a number on
-abbrev Climbs : ℕ → List ℕ → Type 0
+abbrev pub Climbs : ℕ → List ℕ → Type 0
 Climbs a [] = Unit {0}
 Climbs a (p ∷ ps) = (a < p) × Climbs p ps
 
-behind_stands : (t : Learning) (lists : ListsName t) (p : ℕ) (s : Station) → 0 < p → stands (unpinned_on t p) s ≡ (is_on (entry_at t s) p && not (is_pinned (entry_at t s)))
+pub behind_stands : (t : Learning) (lists : ListsName t) (p : ℕ) (s : Station) → 0 < p → stands (unpinned_on t p) s ≡ (is_on (entry_at t s) p && not (is_pinned (entry_at t s)))
 behind_stands t lists p s some =
     let port : p - 1 + 1 ≡ p = omega (arith, some) in
     unpinned_stands t (stations_at t.ports (p - 1)) s ∙ ap (λ b. b && not (is_pinned (entry_at t s))) (lists.ports (p - 1) s ∙ ap (is_on (entry_at t s)) port)
 
-flushed_stands : (t : Learning) (lists : ListsName t) (a : ℕ) (ps : List ℕ) (s : Station) → Climbs a ps → stands (flushed_at t ps) s ≡ (on_any ps (entry_at t s) && not (is_pinned (entry_at t s)))
+pub flushed_stands : (t : Learning) (lists : ListsName t) (a : ℕ) (ps : List ℕ) (s : Station) → Climbs a ps → stands (flushed_at t ps) s ≡ (on_any ps (entry_at t s) && not (is_pinned (entry_at t s)))
 flushed_stands t lists a [] s climbs = refl
 flushed_stands t lists a (p ∷ ps) s climbs =
     stands_append (unpinned_on t p) (flushed_at t ps) s
@@ -188,7 +188,7 @@ not_later (Some x) p a (q ∷ ps) on low climbs =
     let more = climbs.0 in
     ap (λ b. b || on_any ps (Some x)) (ne_eqb x.port q (λ same. omega (arith, here, same, low, more))) ∙ not_later (Some x) p q ps on (omega (arith, low, more)) climbs.1
 
-once_joined : (xs ys : List Station) → AreOnce xs → AreOnce ys → ((s : Station) → stands xs s ≡ true → stands ys s ≡ false) → AreOnce (xs ++ ys)
+pub once_joined : (xs ys : List Station) → AreOnce xs → AreOnce ys → ((s : Station) → stands xs s ≡ true → stands ys s ≡ false) → AreOnce (xs ++ ys)
 once_joined [] ys a b apart' = b
 once_joined (x ∷ xs) ys a b apart' = (
   stands_append xs ys x ∙ (λ i. a.0 i || apart' x (ap (λ d. d || stands xs x) (same_self x)) i),
@@ -214,7 +214,7 @@ and_first : (a b : Bool) → (a && b) ≡ true → a ≡ true
 and_first true b h = refl
 and_first false b h = h
 
-flushed_once : (t : Learning) (lists : ListsName t) (a : ℕ) (ps : List ℕ) → Climbs a ps → AreOnce (flushed_at t ps)
+pub flushed_once : (t : Learning) (lists : ListsName t) (a : ℕ) (ps : List ℕ) → Climbs a ps → AreOnce (flushed_at t ps)
 flushed_once t lists a [] climbs = tt
 flushed_once t lists a (p ∷ ps) climbs = once_joined (unpinned_on t p) (flushed_at t ps) (unpinned_once t (stations_at t.ports (p - 1)) (lists.ports_once (p - 1))) (flushed_once t lists p ps climbs.1)
     (λ s h.
@@ -234,7 +234,7 @@ climbs_from p a (suc n) = go (p (a + 1)) (climbs_from p (a + 1) n)
     go true rest = (omega arith, rest)
     go false rest = lower (filter p (range_with_len (a + 1 + 1) n)) rest
 
-ports_climb : (set : ℕ) → Climbs 0 (ports_of set)
+pub ports_climb : (set : ℕ) → Climbs 0 (ports_of set)
 unfolding ports_after
 ports_climb set = climbs_from (has_port set) 0 64
 
@@ -265,7 +265,7 @@ any_is set n port = both_ways (list_any (λ p. eqb n p) (ports_of set)) (has_por
     (λ h. (((are_ports set).exact n).0 (any_contains (ports_of set) n h)).1)
     (λ h. contains_any (ports_of set) n (((are_ports set).exact n).1 (port, h)))
 
-none_on : (ps : List ℕ) → on_any ps None ≡ false
+pub none_on : (ps : List ℕ) → on_any ps None ≡ false
 none_on [] = refl
 none_on (p ∷ ps) = none_on ps
 

@@ -58,17 +58,17 @@ not_said e u h mine newest past = go (own e u.register.key) refl
     go (Some v) at = ap advert_of at ∙ none (advert_in v.content) (λ some. not_present e u v newest past (ap (value_at e.table) (register_is e u mine) ∙ at) (h.alive u.register.key v at some))
 
 -- the value that a withdrawal of an earlier life leaves
-there_now : (e : Voice) (u : Fields) → u.register.originator ≡ e.address → is_newest e u ≡ true → own (after_hearing e u) u.register.key ≡ Some u.value
+pub there_now : (e : Voice) (u : Fields) → u.register.originator ≡ e.address → is_newest e u ≡ true → own (after_hearing e u) u.register.key ≡ Some u.value
 there_now e u mine newest =
     ap (λ t. value_at t (own_register e u.register.key)) (ap (λ b. cond b (with_value e.table u.register u.value) e.table) newest)
     ∙ ap (value_at (with_value e.table u.register u.value)) (sym (register_is e u mine)) ∙ at_same e.table u.register u.value
 
-elsewhere : (e : Voice) (u : Fields) (k : Key) → k ≢ u.register.key → own (after_hearing e u) k ≡ own e k
+pub elsewhere : (e : Voice) (u : Fields) (k : Key) → k ≢ u.register.key → own (after_hearing e u) k ≡ own e k
 elsewhere e u k ne = update_other e.table u.register u.value (own_register e k) (λ same. ne (ap (λ (r : Register). r.key) same))
 
 -- ---- what is said of each key stays
 
-unheard : (e : Voice) (u : Fields) → is_newest e u ≡ false → after_hearing e u ≡ e
+pub unheard : (e : Voice) (u : Fields) → is_newest e u ≡ false → after_hearing e u ≡ e
 unheard e u known = λ i. record e { table = cond (known i) (with_value e.table u.register u.value) e.table }
 
 withdrawn_said : (e : Voice) (u : Fields) → KeepsNumbers e → u.register.originator ≡ e.address → is_newest e u ≡ true → u.value.incarnation < e.incarnation → advert_in u.value.content ≡ None → (k : Key) → own_advert (after_hearing e u) k ≡ own_advert e k

@@ -6,6 +6,8 @@ pub mod Learnt
 pub mod Opened
 pub mod Flushing
 pub mod Changed
+pub mod Sayings
+pub mod Leaving
 pub mod Members
 pub mod Keeping
 pub mod Queue

@@ -1,11 +1,14 @@
 -- Which of its own registers an edge changes at an event, and under which numbers.
-use Rattle.std.specs.Prelude.{◌≡◌, ℕ, ◌+◌, Some, List, [], ◌∷◌, Contains, length, map, slice_get}
+use Rattle.std.specs.Prelude.{◌≡◌, ◌≢◌, ℕ, ◌+◌, Some, List, [], ◌∷◌, Contains, length, map, slice_get}
+use Rattle.route_wire.specs.declared.update.Key.{Key}
 use Rattle.route_wire.specs.declared.update.Register.{Register}
+use Rattle.route_wire.specs.declared.update.Content.{Content}
 use Rattle.route_wire.specs.declared.update.Value.{Value}
-use Rattle.route_join.specs.Table.{value_at}
+use Rattle.route_wire.specs.Fields.{Fields}
+use Rattle.route_join.specs.Table.{value_at, with_updates}
 use Rattle.mac_arena.specs.declared.station.Station.{Station}
 use Rattle.ev_claims.specs.Pending.{marked}
-use Rattle.ev_claims.specs.Voice.{Voice, own_register}
+use Rattle.ev_claims.specs.Voice.{Voice, IsOwnAt, own_register, next_value, after_saying}
 use Rattle.ev_claims.specs.Claims.{key_of}
 
 -- the registers are marked one after the other
@@ -35,3 +38,29 @@ pub record OwnChanges (old new : Voice) (changed : List Register) : Type 0 where
 -- the registers under which an edge advertises these stations
 abbrev pub registers_of : Voice → List Station → List Register
 registers_of e ss = map (λ s. own_register e (key_of s)) ss
+
+-- ---- what is said, one thing after the other
+
+-- the registers of updates
+abbrev pub registers_in : List Fields → List Register
+registers_in us = map (λ (u : Fields). u.register) us
+
+-- these keys get these contents, one after the other
+abbrev pub after_sayings : Voice → List (Key × Content) → Voice
+after_sayings e [] = e
+after_sayings e (s ∷ ss) = after_sayings (after_saying e s.0 s.1) ss
+
+-- what is said so, as updates with the numbers after the counter
+abbrev pub said_updates : Voice → List (Key × Content) → List Fields
+said_updates e [] = []
+said_updates e (s ∷ ss) = record { register = own_register e s.0; value = next_value e s.1 } ∷ said_updates (after_saying e s.0 s.1) ss
+
+-- The edge says these things and no other, no key twice: so exactly their registers change, each is then its register's
+-- value and is found by its number, and the table has taken them.
+pub record Says (old new : Voice) (said : List (Key × Content)) : Type 0 where
+  pub after : new ≡ after_sayings old said
+  pub changes : OwnChanges old new (registers_in (said_updates old said))
+  pub count : length (said_updates old said) ≡ length said
+  pub numbered : (i : ℕ) (u : Fields) → slice_get (said_updates old said) i ≡ Some u → IsOwnAt new (old.counter + (i + 1)) u
+  pub table : new.table ≡ with_updates old.table (said_updates old said)
+  pub foreign : (r : Register) → r.originator ≢ old.address → value_at new.table r ≡ value_at old.table r

@@ -1,13 +1,16 @@
 -- What an edge says and has learnt when it is opened.
-use Rattle.std.specs.Prelude.{◌≡◌, ℕ, List, [], ◌∷◌, length, IsPermutation, IsSorted}
+use Rattle.std.specs.Prelude.{◌≡◌, ℕ, List, [], ◌∷◌, length, map, IsPermutation, IsSorted}
 use Rattle.std.specs.Ordering.{nat_cmp}
+use Rattle.route_wire.specs.declared.update.Key.{Key}
 use Rattle.route_wire.specs.declared.update.Key.TheVariants.{Flood}
+use Rattle.route_wire.specs.declared.update.Content.{Content}
 use Rattle.route_wire.specs.declared.update.Content.TheVariants.{Advert as Advertised}
 use Rattle.route_wire.specs.Fields.{flood_advert}
 use Rattle.mac_arena.specs.Learning.{nothing_learnt}
 use Rattle.ev_claims.specs.declared.opening.Start.{Start}
 use Rattle.ev_claims.specs.Voice.{Voice, after_saying, silent}
 use Rattle.ev_claims.specs.Claims.{Claims}
+use Rattle.ev_claims.specs.Changes.{Says}
 
 -- the flood list of each VNI is advertised, in this order
 abbrev pub after_floods : Voice → List ℕ → Voice
@@ -22,3 +25,12 @@ pub record IsOpening (s : Start) (e : Claims) : Type 0 where
   pub voice : e.voice ≡ after_floods (silent s.address s.incarnation s.originators.items) e.vnis
   pub learned : e.learned ≡ nothing_learnt s.capacity (length s.ports.items) s.buckets s.salt
   pub ports : e.ports ≡ s.ports.items
+
+-- the flood lists as what is said
+abbrev pub floods_of : List ℕ → List (Key × Content)
+floods_of vs = map (λ v. (Flood v, Advertised flood_advert)) vs
+
+-- The opening is a change like any other: from nothing said and counter 0 the edge says the flood list of each VNI.
+pub record Opens (s : Start) (e : Claims) : Type 0 where
+  pub says : Says (silent s.address s.incarnation s.originators.items) e.voice (floods_of e.vnis)
+  pub count : length e.vnis ≡ length s.vnis.items

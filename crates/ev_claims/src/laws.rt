@@ -1,6 +1,10 @@
+ghost use Rattle.std.specs.Prelude.{eqb};
+ghost use Rattle.std.specs.List.{IsDistinct};
 ghost use Rattle.ev_claims.specs.Laws.{AgesOut, FlushesOut};
+ghost use Rattle.ev_claims.specs.Opening.{IsOpening, Opens};
 
 use crate::claims::Claims;
+use crate::opening::Start;
 
 /// Exactly the unpinned stations that were last heard at the limit or before go by age, and their
 /// withdrawals are numbered in the order in which they were last heard.
@@ -17,3 +21,11 @@ pub fn flushed_out(claims: &Claims, ports: u64)
 {
     claims.always_good();
 }
+
+/// The opening is a change like any other: from nothing said and counter 0, the flood list of each VNI
+/// is said, each once.
+pub fn opening_says(start: &Start, claims: &Claims)
+    requires distinct { IsDistinct eqb start.now.vnis.items }
+    requires opening { IsOpening start.now claims.now }
+    ensures { Opens start.now claims.now }
+{}

@@ -10,5 +10,5 @@ mod pending;
 mod voice;
 
 pub use claims::{Claims, Heard, OwnError};
-pub use laws::{aged_out, flushed_out};
+pub use laws::{aged_out, flushed_out, opening_says};
 pub use opening::Start;

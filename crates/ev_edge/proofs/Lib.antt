@@ -6,3 +6,7 @@ pub mod Winning
 pub mod Returning
 pub mod Returned
 pub mod Opened
+pub mod Changing
+pub mod Frames
+pub mod Memory
+pub mod Advertised

@@ -6,5 +6,7 @@ pub mod Pinning
 pub mod Bridging
 pub mod Sending
 pub mod Steps
+pub mod Changes
+pub mod Laws
 pub mod Opening
 pub mod Refusal

@@ -1,5 +1,5 @@
 -- Where an edge sends a frame.
-use Rattle.std.specs.Prelude.{◌≡◌, ℕ, Option}
+use Rattle.std.specs.Prelude.{◌≡◌, ℕ, ◌<◌, ◌^◌, Option}
 use Rattle.std.specs.Option.{option_map}
 use Rattle.ether_wire.specs.Ports.{has_port}
 use Rattle.mac_arena.specs.declared.station.Entry.{Entry}
@@ -15,11 +15,13 @@ abbrev pub port_of : Edge → ℕ → ℕ → Option ℕ
 port_of e vni mac = option_map (λ (x : Entry). x.port) (entry_at e.claims.learned (record { vni = vni; mac = mac }))
 
 -- The decision for a frame of this network and destination: by what the edge has learnt and heard, over the ports of
--- the network and those that pass.
+-- the network and those that pass, each set a word.
 pub record IsDecision (e : Edge) (vni destination : ℕ) (from : Source) (d : Decision) : Type 0 where
   pub members : ℕ
+  pub members_fit : members < 2 ^ 64
   pub are_members : (p : ℕ) → has_port members p ≡ is_member e.claims.ports vni p
   pub passing : ℕ
+  pub passing_fit : passing < 2 ^ 64
   pub are_passing : ArePassing e.tree passing
   pub local : d.local ≡ local_for (table_of e) vni destination (port_of e vni destination) (address_of e) from members passing
   pub remote : d.remote.items ≡ remote_for (table_of e) vni destination (port_of e vni destination) (address_of e) from

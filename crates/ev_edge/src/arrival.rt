@@ -9,7 +9,7 @@ use ether_wire::{Frame, Kind, Mac, Vni};
 
 /// What a frame is.
 #[derive(Clone, Copy, Debug, PartialEq, Eq)]
-pub(crate) enum Arrival {
+pub enum Arrival {
     /// One that goes nowhere: its port is down, or its destination is reserved.
     Dropped,
     /// A BPDU.

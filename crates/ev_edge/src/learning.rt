@@ -17,7 +17,7 @@ pub(crate) const SPENT: u64 = 0x8000_0000_0000_0000;
 
 /// What is to be done with the source of a frame.
 #[derive(Clone, Copy, Debug, PartialEq, Eq)]
-pub(crate) enum Case {
+pub enum Case {
     /// It is pinned or frozen: nothing.
     Leave,
     /// It is learnt, and heard again.

@@ -7,6 +7,7 @@ mod bridging;
 mod config;
 mod edge;
 mod event;
+mod laws;
 mod learning;
 mod pinning;
 mod refusal;
@@ -14,8 +15,15 @@ mod reply;
 mod sending;
 mod taking;
 
+pub use arrival::Arrival;
 pub use config::{EdgeConfig, PortConfig};
 pub use edge::Edge;
 pub use event::Event;
+pub use laws::{
+    advertises_its_own, leaves_by_members_that_pass, never_from_tunnel_to_tunnel, opening_says,
+    own_changes, reserved_goes_nowhere, reserved_in_tunnel_goes_nowhere, takes_no_memory,
+};
+pub use learning::Case;
+pub use pinning::PinCase;
 pub use refusal::{EdgeRefusal, Refusal};
 pub use reply::Reply;

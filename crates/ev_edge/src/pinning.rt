@@ -14,7 +14,7 @@ use mac_arena::Station;
 
 /// What is to be done with a station that is to be pinned.
 #[derive(Clone, Copy, Debug, PartialEq, Eq)]
-pub(crate) enum PinCase {
+pub enum PinCase {
     /// It is pinned on this port already: nothing.
     Keep,
     /// It is pinned on another port: it goes to this one, and nothing is said.

@@ -1,0 +1,62 @@
+-- What an event changes in what an edge says: it hears the update that is accepted, and then says some things itself.
+use Rattle.std.specs.Prelude.{◌≡◌, ℕ, ◌+◌, ◌≤◌, Result, Ok, Err, List, [], ◌∷◌, ◌++◌, length}
+use Rattle.route_wire.specs.declared.update.Key.{Key}
+use Rattle.route_wire.specs.declared.update.Content.{Content}
+use Rattle.route_wire.specs.Fields.{Fields}
+use Rattle.route_join.specs.Table.{with_updates}
+use Rattle.ev_claims.specs.Voice.{Voice, after_hearing, after_announcing}
+use Rattle.ev_claims.specs.Claims.{entries}
+use Rattle.ev_claims.specs.Changes.{Says, said_updates}
+use Rattle.ev_edge.specs.declared.event.Event.{Event}
+use Rattle.ev_edge.specs.declared.event.Event.TheVariants as events
+use Rattle.ev_edge.specs.declared.reply.Reply.{Reply}
+use Rattle.ev_edge.specs.declared.refusal.Refusal.{Refusal}
+use Rattle.ev_edge.specs.Edge.{Edge, table_of}
+
+-- the update that an event brings
+abbrev pub brought : Event → List Fields
+brought (events.Frame port octets) = []
+brought (events.TunnelFrame from octets) = []
+brought (events.Take u) = u ∷ []
+brought (events.Pin s port) = []
+brought (events.Unpin s) = []
+brought (events.Thaw s) = []
+brought events.Second = []
+brought (events.PortUp port) = []
+brought (events.PortDown port) = []
+brought (events.Mcheck port) = []
+brought events.Announce = []
+
+-- it is accepted unless it is refused; one that the table knew already is accepted, too
+abbrev pub accepted : Event → Result Reply Refusal → List Fields
+accepted event (Ok reply) = brought event
+accepted event (Err r) = []
+
+-- what an edge says once it has heard what the event brings, or has announced the first register that was pending
+abbrev pub heard_in : Event → Voice → Voice
+heard_in (events.Frame port octets) v = v
+heard_in (events.TunnelFrame from octets) v = v
+heard_in (events.Take u) v = after_hearing v u
+heard_in (events.Pin s port) v = v
+heard_in (events.Unpin s) v = v
+heard_in (events.Thaw s) v = v
+heard_in events.Second v = v
+heard_in (events.PortUp port) v = v
+heard_in (events.PortDown port) v = v
+heard_in (events.Mcheck port) v = v
+heard_in events.Announce v = after_announcing v
+
+abbrev pub heard : Event → Result Reply Refusal → Voice → Voice
+heard event (Ok reply) v = heard_in event v
+heard event (Err r) v = v
+
+-- From there the edge says some things, no key twice: `Says` tells its own changes, their numbers and what is pending.
+-- They are one more at the most than it had stations. The table takes the accepted update, and then what is said.
+pub record Changes (e : Edge) (event : Event) (result : Result Reply Refusal) (e' : Edge) : Type 0 where
+  pub said : List (Key × Content)
+  pub few : length said ≤ entries e.claims + 1
+  pub says : Says (heard event result e.claims.voice) e'.claims.voice said
+  pub address : e'.claims.voice.address ≡ e.claims.voice.address
+  pub incarnation : e'.claims.voice.incarnation ≡ e.claims.voice.incarnation
+  pub counter : e'.claims.voice.counter ≡ e.claims.voice.counter + length said
+  pub table : table_of e' ≡ with_updates (table_of e) (accepted event result ++ said_updates (heard event result e.claims.voice) said)

@@ -1,0 +1,91 @@
+-- What the laws of edges say.
+use Rattle.std.specs.Prelude.{◌≡◌, ◌≢◌, ◌↔◌, ℕ, ◌==◌, ◌&&◌, Bool, true, false, not, Option, Some, None, IsSome, is_some, Result, Ok, Err, List, []}
+use Rattle.ether_wire.specs.Ports.{IsPort, has_port}
+use Rattle.ether_wire.specs.Frame.{frame_of, destination_of}
+use Rattle.vxlan_wire.specs.Vxlan.{instance_of}
+use Rattle.route_wire.specs.declared.update.Advert.{Advert}
+use Rattle.route_wire.specs.declared.update.Ip.{Ip}
+use Rattle.route_wire.specs.declared.update.Key.TheVariants.{Mac}
+use Rattle.route_join.specs.Table.{value_at}
+use Rattle.route_join.specs.Owner.{IsOwner}
+use Rattle.mac_arena.specs.declared.station.Station.{Station}
+use Rattle.mac_arena.specs.declared.station.Entry.{Entry}
+use Rattle.mac_arena.specs.Learning.{entry_at}
+use Rattle.rstp_run.specs.Events.{Passes}
+use Rattle.ev_tunnel.specs.declared.decision.Decision.{Decision}
+use Rattle.ev_mobility.specs.declared.alert.Alert.TheVariants.{NoMemory as Unroomed}
+use Rattle.ev_claims.specs.Voice.{own_advert}
+use Rattle.ev_claims.specs.Claims.{key_of, vni_at, is_member}
+use Rattle.ev_edge.specs.declared.arrival.Arrival.{Arrival}
+use Rattle.ev_edge.specs.declared.arrival.Arrival.TheVariants.{Dropped, Message, Data}
+use Rattle.ev_edge.specs.declared.event.Event.{Event}
+use Rattle.ev_edge.specs.declared.event.Event.TheVariants as events
+use Rattle.ev_edge.specs.declared.refusal.EdgeRefusal.TheVariants.{NoMemory}
+use Rattle.ev_edge.specs.declared.refusal.Refusal.{Refusal}
+use Rattle.ev_edge.specs.declared.refusal.Refusal.TheVariants.{Edge as OfEdge}
+use Rattle.ev_edge.specs.declared.reply.Reply.{Reply}
+use Rattle.ev_edge.specs.Edge.{Edge, table_of, address_of}
+use Rattle.ev_edge.specs.Arrival.{is_reserved, frame_arrival}
+
+-- ---- where frames go
+
+-- where the answer sends a frame, if anywhere
+abbrev pub decision_in : Result Reply Refusal → Option Decision
+decision_in (Ok reply) = reply.decision
+decision_in (Err r) = None
+
+-- each access port that a frame from this port leaves by is of its network, passes, and is another one
+abbrev pub LeavesBy : Edge → ℕ → Decision → Type 0
+LeavesBy e port d = (p : ℕ) → IsPort p → has_port d.local p ≡ true → (vni_at e.claims.ports p ≡ vni_at e.claims.ports port) × Passes e.tree p × (p ≢ port)
+
+-- a frame of this network from a tunnel goes into no tunnel, and leaves only by ports of the network that pass
+pub record LeavesTunnel (e : Edge) (octets : List ℕ) (d : Decision) : Type 0 where
+  pub remote : d.remote.items ≡ []
+  pub local : (vni : ℕ) (inner : List ℕ) → instance_of octets ≡ Ok (vni, inner) → (p : ℕ) → IsPort p → has_port d.local p ≡ true → (vni_at e.claims.ports p ≡ Some vni) × Passes e.tree p
+
+-- the octets are a frame whose destination is reserved
+abbrev pub IsReserved : List ℕ → Type 0
+IsReserved octets = (frame : List ℕ) × (frame_of octets ≡ Ok frame) × (is_reserved (destination_of frame) ≡ true)
+
+-- the datagram holds such a frame
+abbrev pub HoldsReserved : List ℕ → Type 0
+HoldsReserved octets = (vni : ℕ) × (inner : List ℕ) × (instance_of octets ≡ Ok (vni, inner)) × IsReserved inner
+
+-- ---- what is learnt is what is advertised and owned
+
+-- The stations that the edge has learnt or pinned are exactly those that it advertises, as static exactly the pinned
+-- ones, none of them with an IP address, and it owns each.
+pub record AdvertisesItsOwn (e : Edge) : Type 0 where
+  pub learnt : (s : Station) → IsSome (entry_at e.claims.learned s) ↔ IsSome (own_advert e.claims.voice (key_of s))
+  pub pinned : (s : Station) (x : Entry) (a : Advert) → entry_at e.claims.learned s ≡ Some x → own_advert e.claims.voice (key_of s) ≡ Some a → x.pinned ≡ a.is_static
+  pub bare : (s : Station) (ip : Ip) → own_advert e.claims.voice (Mac s.vni s.mac (Some ip)) ≡ None
+  pub owned : (s : Station) → IsSome (entry_at e.claims.learned s) → IsOwner (table_of e) s.vni s.mac (address_of e)
+
+-- ---- memory
+
+-- what comes is to be learnt from
+abbrev pub is_data : Result Arrival Refusal → Bool
+is_data (Err r) = false
+is_data (Ok Dropped) = false
+is_data (Ok (Message b)) = false
+is_data (Ok (Data vni destination source)) = true
+
+-- Whether an event never needs memory: no frame to be learnt from, no pin, and no update but another's of a register
+-- that is there.
+abbrev pub takes_none : Edge → Event → Bool
+takes_none e (events.Frame port octets) = not (is_data (frame_arrival e port octets.now))
+takes_none e (events.TunnelFrame from octets) = true
+takes_none e (events.Take u) = not (u.register.originator == address_of e) && is_some (value_at (table_of e) u.register)
+takes_none e (events.Pin s port) = false
+takes_none e (events.Unpin s) = true
+takes_none e (events.Thaw s) = true
+takes_none e events.Second = true
+takes_none e (events.PortUp port) = true
+takes_none e (events.PortDown port) = true
+takes_none e (events.Mcheck port) = true
+takes_none e events.Announce = true
+
+-- the answer tells of refused memory, as a refusal or as an alert
+abbrev pub TellsNoMemory : Result Reply Refusal → Type 0
+TellsNoMemory (Ok reply) = reply.alert ≡ Some Unroomed
+TellsNoMemory (Err r) = r ≡ OfEdge NoMemory
