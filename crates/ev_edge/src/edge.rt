@@ -1,4 +1,6 @@
 ghost use Rattle.std.specs.Prelude.{◌≡◌, IfOk, IfSome, IfNone};
+ghost use Rattle.ether_wire.specs.Ends.{IsOpen, Puts};
+ghost use Rattle.route_join.specs.Report.{report_of};
 ghost use Rattle.ev_claims.specs.Voice.{IsOwnAt, IsNoOwnAt};
 ghost use Rattle.ev_claims.specs.Claims.{entries};
 ghost use Rattle.ev_edge.specs.Config.{IsConfig};
@@ -10,7 +12,7 @@ use crate::config::{EdgeConfig, PortConfig, set_settings, vnis_of};
 use crate::event::Event;
 use crate::refusal::Refusal;
 use crate::reply::Reply;
-use ether_wire::NO_PORTS;
+use ether_wire::{Device, NO_PORTS, Out};
 use ev_claims::{Claims, Start};
 use ev_mobility::Moves;
 use route_join::Table;
@@ -122,6 +124,19 @@ impl Edge {
         ensures { result.now ≡ table_of self.now }
     {
         self.claims.table()
+    }
+
+    /// Writes the report of the edge's table: a line for each register, and one for the owner of each
+    /// MAC address behind its last register. It takes no memory.
+    ///
+    /// # Errors
+    ///
+    /// `Device` exactly where a call of the writer failed; then no further call is made.
+    pub fn report<W: Out>(&self, out: &mut W) -> Result<(), Device>
+        requires { IsOpen (W.end out.old) }
+        ensures { Puts (W.end out.old) (W.end out.new) (report_of (table_of self.now)) result }
+    {
+        self.table().write_report(out)
     }
 
     /// The edge's bridge.

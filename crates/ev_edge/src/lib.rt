@@ -14,6 +14,7 @@ mod refusal;
 mod reply;
 mod sending;
 mod taking;
+mod words;
 
 pub use arrival::Arrival;
 pub use config::{EdgeConfig, PortConfig};
