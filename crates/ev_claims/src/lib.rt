@@ -7,6 +7,8 @@ mod laws;
 mod named;
 mod opening;
 mod pending;
+#[cfg(test)]
+mod tests;
 mod voice;
 
 pub use claims::{Claims, Heard, OwnError};
