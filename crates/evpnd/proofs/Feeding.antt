@@ -1,5 +1,5 @@
 -- A stream that a feed takes piece by piece, and its end.
-use Rattle.std.proofs.Common.{◌≡◌, ℕ, ◌+◌, ◌<◌, ◌⊎◌, inl, inr, Bool, true, false, nat_lt, List, [], ◌++◌, take, length, Some, None, Option, Result, Ok, Err, refl, sym, ap, ◌∙◌, arith}
+use Rattle.std.proofs.Common.{◌≡◌, ℕ, ◌<◌, ◌⊎◌, inl, inr, Bool, true, false, nat_lt, List, ◌++◌, take, length, Some, None, Option, refl, sym, ap, ◌∙◌, arith}
 use Rattle.std.proofs.lemmas.List.{append-nil}
 use Rattle.std.proofs.lemmas.Bool.Decides.{nat_tests}
 use Rattle.std.specs.Bool.{OnTrue, OnFalse}
@@ -7,10 +7,9 @@ use Rattle.route_wire.specs.declared.stream.Whole.{Whole}
 use Rattle.route_wire.specs.declared.stream.Whole.TheVariants.{Rest, Fault, Length}
 use Rattle.route_wire.specs.declared.stream.Next.{Next}
 use Rattle.route_wire.specs.declared.stream.Next.TheVariants.{More, Record, Refused, Fault as Faulty}
-use Rattle.route_wire.specs.Fields.{Fields}
 use Rattle.route_wire.specs.Stream.{whole_up_to}
 use Rattle.route_wire.specs.Record.{is_length}
-use Rattle.route_wire.specs.Feed.{Held, is_rest, is_fault, shown, answer_of, next_by, rest_by, after_next, Feeds, Takes, Skips}
+use Rattle.route_wire.specs.Feed.{Held, is_rest, is_fault, shown, next_by, rest_by, after_next, Feeds, Takes, Skips}
 use Rattle.evpnd.specs.declared.ending.Ending.{Ending}
 use Rattle.evpnd.specs.declared.ending.Ending.TheVariants.{Ended, Failed, Unended, Faulty as Faults}
 use Rattle.evpnd.specs.Notes.{end_note, is_broken}

@@ -2,19 +2,18 @@
 use Rattle.std.proofs.Common.{◌≡◌, ◌≢◌, ◌⊎◌, inl, inr, ℕ, ◌+◌, Bool, true, false, cond, not, ◌&&◌, ◌||◌, List, [], length, Result, Ok, Err, is_ok, refl, sym, ap, subst, ◌∙◌, arith}
 use Rattle.std.proofs.lemmas.Bool.Decides.{nat_tests}
 use Rattle.ether_wire.specs.declared.ends.Device.{Device}
-use Rattle.ether_wire.specs.Ends.{End, Source, Puts, with_text}
-use Rattle.route_wire.specs.Stream.{whole_up_to, whole_of}
+use Rattle.ether_wire.specs.Ends.{End, Source, Puts}
+use Rattle.route_wire.specs.Stream.{whole_up_to}
 use Rattle.route_wire.specs.Record.{AnswersUpTo}
-use Rattle.route_wire.specs.Feed.{Held, HasRead, shown}
+use Rattle.route_wire.specs.Feed.{HasRead, shown}
 use Rattle.route_wire.proofs.Cuttings.{read_whole_stream}
 use Rattle.route_join.specs.Table.{Table, IsTableOf}
-use Rattle.route_join.specs.Report.{report_of}
 use Rattle.evpnd.specs.declared.ending.Ending.{Ending}
 use Rattle.evpnd.specs.declared.stream.Intake.{Intake}
 use Rattle.evpnd.specs.Notes.{refusals_from, end_note, notes_of, has_stopped, is_broken, has_starved, status_of}
-use Rattle.evpnd.specs.Ends.{devices, has_failed, fault_in, fault_told, Holds, Tells, Finishes}
-use Rattle.evpnd.specs.Runs.{taken_of, Reports}
-use Rattle.evpnd.specs.Progressing.{State, state, new_intake, TakesInput}
+use Rattle.evpnd.specs.Ends.{devices, has_failed, fault_in, Holds, Tells, Finishes}
+use Rattle.evpnd.specs.Runs.{taken_of, Output, Runs}
+use Rattle.evpnd.specs.Progressing.{state, new_intake, TakesInput}
 use Rattle.evpnd.proofs.Taking.{tells_more, table_of_all}
 use Rattle.evpnd.proofs.Feeding.{same_note, same_broken}
 
@@ -43,19 +42,19 @@ same_status e p q x y s t k l hx hy hs hk =
     ap (λ z. status_of (e || (z || not q)) s k) (sym hx) ∙ ap (λ z. status_of (e || (x || z)) s k) (sym hy)
     ∙ ap (λ z. status_of (e || (x || y)) z k) hs ∙ ap (λ z. status_of (e || (x || y)) t z) hk
 
--- the records of a reader were taken, the end was noted, and the report written
-module _ (originators : List ℕ) (reader reader' : Source) (out out' notes mid notes' : End) (intake last : Intake) (ending : Ending) where
-  pub reports : TakesInput ending reader reader' (state (new_intake originators) notes) (state intake mid) → last ≡ record intake { is_told = last.is_told }
-      → Tells mid notes' intake.is_told last.is_told (end_note ending (intake.count + 1) intake.feed.rest) → (r : Result (Unit {0}) Device) → Puts out out' (report_of last.table) r
-      → (status : ℕ) → status ≡ status_of (has_stopped ending || (not (is_ok r) || not last.is_told)) last.is_starved (is_broken ending intake.feed.rest)
-      → Reports originators (devices reader out notes) (devices reader' out' notes') status
-  reports i kept told r put status is =
+-- the records of a reader were taken, the end was noted, and what is made of them written
+module _ (newest : ℕ) (output : Output) (originators : List ℕ) (reader reader' : Source) (out out' notes mid notes' : End) (intake last : Intake) (ending : Ending) where
+  pub runs : (i : TakesInput newest ending reader reader' (state (new_intake newest originators) notes) (state intake mid)) → last ≡ record intake { is_told = last.is_told }
+      → Tells mid notes' intake.is_told last.is_told (end_note ending (intake.count + 1) intake.feed.rest) → (r : Result (Unit {0}) Device) → (text : List ℕ) → Puts out out' text r
+      → text ≡ output ending i.octets.taken.outcomes last.table → (status : ℕ) → status ≡ status_of (has_stopped ending || (not (is_ok r) || not last.is_told)) last.is_starved (is_broken ending intake.feed.rest)
+      → Runs newest output originators (devices reader out notes) (devices reader' out' notes') status
+  runs i kept told r text put makes status is =
       let o = i.octets in
       let outcomes = o.taken.outcomes in
-      let first : HasRead (new_intake originators).feed [] [] = record { skipped = []; reads = refl; faulty = λ _. refl } in
+      let first : HasRead (new_intake newest originators).feed [] [] = record { skipped = []; reads = refl; faulty = λ _. refl } in
       let found = read_whole_stream intake.feed i.input o.answers (o.read [] [] first) i.none_held in
       let rest = found.0 in
-      let shows : whole_of rest ≡ shown intake.feed = ap (λ v. whole_up_to v rest) (sym o.version) ∙ found.2 in
+      let shows : whole_up_to newest rest ≡ shown intake.feed = ap (λ v. whole_up_to v rest) (sym o.version) ∙ found.2 in
       let number : intake.count ≡ length outcomes = o.taken.counts.count ∙ grind arith in
       let same = same_note (shown intake.feed) rest intake.feed.rest i.none_held found.3 ending (length outcomes + 1) i.shows in
       let all : Tells notes notes' true last.is_told (notes_of outcomes ending rest) =
@@ -77,10 +76,10 @@ module _ (originators : List ℕ) (reader reader' : Source) (out out' notes mid 
           became = o.taken.became;
           table_of = subst (λ (x : Table). IsTableOf (taken_of outcomes) x) (sym (table_is ∙ o.taken.table_is)) (table_of_all originators outcomes);
         };
-        reported = put_holds out out' r (report_of last.table) put;
+        written = subst (λ (x : List ℕ). Holds out out' x) makes (put_holds out out' r text put);
         noted = tells_holds notes notes' last.is_told (notes_of outcomes ending rest) all;
         status_is = is ∙ same_status (has_stopped ending) (is_ok r) last.is_told (has_failed out out') (has_failed notes notes') last.is_starved (has_starved outcomes) (is_broken ending intake.feed.rest) (is_broken ending rest)
-            (put_failed out out' r (report_of last.table) put) (tells_failed notes notes' last.is_told (notes_of outcomes ending rest) all)
+            (put_failed out out' r text put) (tells_failed notes notes' last.is_told (notes_of outcomes ending rest) all)
             (ap (λ (x : Intake). x.is_starved) kept ∙ o.taken.counts.starved) (same_broken (shown intake.feed) rest intake.feed.rest i.none_held found.3 ending i.shows);
       }
 
@@ -125,11 +124,11 @@ last_status true true true s k x y status last h l f g = l ∙ h
 last_status true false q s k x y status last h l f g = l
 last_status true true false s k x y status last h l f g = l
 
-pub buffered_reports : (originators : List ℕ) (reader reader' : Source) (out held out' notes kept notes' : End) (p q : Bool) (status last : ℕ)
-    → Reports originators (devices reader out notes) (devices reader' held kept) status → Finishes out.failures held out' p → Finishes notes.failures kept notes' q
-    → last ≡ cond (p && q) status 4 → Reports originators (devices reader out notes) (devices reader' out' notes') last
-buffered_reports originators reader reader' out held out' notes kept notes' p q status last r f g l =
-    let text = report_of r.table in
+pub buffered_runs : (newest : ℕ) (output : Output) (originators : List ℕ) (reader reader' : Source) (out held out' notes kept notes' : End) (p q : Bool) (status last : ℕ)
+    → Runs newest output originators (devices reader out notes) (devices reader' held kept) status → Finishes out.failures held out' p → Finishes notes.failures kept notes' q
+    → last ≡ cond (p && q) status 4 → Runs newest output originators (devices reader out notes) (devices reader' out' notes') last
+buffered_runs newest output originators reader reader' out held out' notes kept notes' p q status last r f g l =
+    let text = output r.ending r.outcomes r.table in
     let lines = notes_of r.outcomes r.ending r.rest in
     let starved = has_starved r.outcomes in
     let broken = is_broken r.ending r.rest in
@@ -142,10 +141,10 @@ buffered_reports originators reader reader' out held out' notes kept notes' p q 
       gave = r.gave;
       shows = r.shows;
       taken = r.taken;
-      reported = finish_holds out held out' p text r.reported f;
+      written = finish_holds out held out' p text r.written f;
       noted = finish_holds notes kept notes' q lines r.noted g;
       status_is = last_status (has_stopped r.ending) p q starved broken (has_failed out held) (has_failed notes kept) status last r.status_is l
           (finish_unfailed out held out' p f) (finish_unfailed notes kept notes' q g)
-          ∙ ap (λ x. status_of (has_stopped r.ending || (x || not q)) starved broken) (sym (finish_failed out held out' p text r.reported f))
+          ∙ ap (λ x. status_of (has_stopped r.ending || (x || not q)) starved broken) (sym (finish_failed out held out' p text r.written f))
           ∙ ap (λ x. status_of (has_stopped r.ending || (has_failed out out' || x)) starved broken) (sym (finish_failed notes kept notes' q lines r.noted g));
     }

@@ -4,3 +4,4 @@ pub mod Feeding
 pub mod Finishing
 pub mod Listing
 pub mod Refusals
+pub mod Migrating

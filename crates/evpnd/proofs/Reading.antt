@@ -1,5 +1,5 @@
 -- What a reader gave, read after read, and how its reading ended.
-use Rattle.std.proofs.Common.{◌≡◌, ℕ, ◌+◌, ◌≤◌, ◌<◌, ◌^◌, false, List, [], ◌∷◌, ◌++◌, take, length, length-append, length-take-le, Option, Some, None, Result, Ok, Err, refl, sym, ap, subst, ◌∙◌, append_assoc, arith}
+use Rattle.std.proofs.Common.{◌≡◌, ℕ, ◌+◌, ◌<◌, ◌^◌, false, List, [], ◌∷◌, ◌++◌, take, length, length-append, length-take-le, Option, Some, None, Ok, Err, refl, sym, ap, subst, ◌∙◌, append_assoc, arith}
 use Rattle.std.proofs.lemmas.List.{append-nil}
 use Rattle.std.specs.Prelude.{IfSome}
 use Rattle.std.specs.List.{concat}
@@ -64,12 +64,12 @@ pub reads_none : (reader : Source) (s : State) → TakesReads 0 reader reader s 
 reads_none reader s = record { pieces = []; gives = gives_none reader; many = refl; octets = octets_none s }
 
 -- what was taken so far shows no fault
-faultless_octets : (octets : List ℕ) (s t : State) → s.intake.feed ≡ record { newest = 3; rest = [] } → TakesOctets octets s t → is_length (shown t.intake.feed) ≡ false → fault_in (shown t.intake.feed) ≡ None
-    → IsFaultless octets
-faultless_octets octets s t new o whole none =
+faultless_octets : (newest : ℕ) (octets : List ℕ) (s t : State) → s.intake.feed ≡ record { newest = newest; rest = [] } → TakesOctets octets s t → is_length (shown t.intake.feed) ≡ false → fault_in (shown t.intake.feed) ≡ None
+    → IsFaultless newest octets
+faultless_octets newest octets s t new o whole none =
     let first : HasRead s.intake.feed [] [] = subst (λ (h : Held). HasRead h [] []) (sym new) (record { skipped = []; reads = refl; faulty = λ _. refl }) in
     let found = read_whole_stream t.intake.feed octets o.answers (o.read [] [] first) whole in
-    let version : t.intake.feed.newest ≡ 3 = o.version ∙ ap (λ (h : Held). h.newest) new in
+    let version : t.intake.feed.newest ≡ newest = o.version ∙ ap (λ (h : Held). h.newest) new in
     record {
       answers = o.answers;
       rest = found.0;
@@ -87,15 +87,15 @@ module _ (turn : ℕ) (reader mid : Source) (s t : State) (r : TakesReads turn r
     octets = subst (λ x. TakesOctets x s u) (sym (concat_more r.pieces (take n buffer))) (octets_both (concat r.pieces) (take n buffer) s t u r.octets o);
   }
 
-  module _ (new : s.intake.feed ≡ record { newest = 3; rest = [] }) (whole : is_length (shown t.intake.feed) ≡ false) (none : fault_in (shown t.intake.feed) ≡ None) where
-    pub input_ended : (last : Source) (buffer : List ℕ) → turn < 2 ^ 40 → 0 < length buffer → Gets mid last buffer (Ok 0) → TakesInput Ended reader last s t
+  module _ (newest : ℕ) (new : s.intake.feed ≡ record { newest = newest; rest = [] }) (whole : is_length (shown t.intake.feed) ≡ false) (none : fault_in (shown t.intake.feed) ≡ None) where
+    pub input_ended : (last : Source) (buffer : List ℕ) → turn < 2 ^ 40 → 0 < length buffer → Gets mid last buffer (Ok 0) → TakesInput newest Ended reader last s t
     input_ended last buffer turns room g = record {
       input = concat r.pieces;
       gave = record {
         pieces = r.pieces;
         behind = mid;
         gives = r.gives;
-        faultless = faultless_octets (concat r.pieces) s t new r.octets whole none;
+        faultless = faultless_octets newest (concat r.pieces) s t new r.octets whole none;
         ends = (at_end mid.octets (g.takes.ends room refl), same_source last (record mid { reads = mid.reads + 1 }) (sym (g.takes.next ∙ prepend_known_none last.octets)) (g.failures ∙ grind arith) g.reads, refl);
         few = let a = r.gives.reads in let b = g.reads in let k = r.many in omega arith;
       };
@@ -104,14 +104,14 @@ module _ (turn : ℕ) (reader mid : Source) (s t : State) (r : TakesReads turn r
       none_held = whole;
     }
 
-    pub input_failed : (last : Source) (buffer : List ℕ) (device : Device) → turn < 2 ^ 40 → Gets mid last buffer (Err device) → TakesInput Failed reader last s t
+    pub input_failed : (last : Source) (buffer : List ℕ) (device : Device) → turn < 2 ^ 40 → Gets mid last buffer (Err device) → TakesInput newest Failed reader last s t
     input_failed last buffer device turns g = record {
       input = concat r.pieces;
       gave = record {
         pieces = r.pieces;
         behind = mid;
         gives = r.gives;
-        faultless = faultless_octets (concat r.pieces) s t new r.octets whole none;
+        faultless = faultless_octets newest (concat r.pieces) s t new r.octets whole none;
         ends = (same_source last (record mid { failures = mid.failures + 1; reads = mid.reads + 1 }) g.keeps g.failures g.reads, refl);
         few = let a = r.gives.reads in let b = g.reads in let k = r.many in omega arith;
       };
@@ -120,14 +120,14 @@ module _ (turn : ℕ) (reader mid : Source) (s t : State) (r : TakesReads turn r
       none_held = whole;
     }
 
-    pub input_unended : turn ≡ 2 ^ 40 → TakesInput Unended reader mid s t
+    pub input_unended : turn ≡ 2 ^ 40 → TakesInput newest Unended reader mid s t
     input_unended turns = record {
       input = concat r.pieces;
       gave = record {
         pieces = r.pieces;
         behind = mid;
         gives = r.gives;
-        faultless = faultless_octets (concat r.pieces) s t new r.octets whole none;
+        faultless = faultless_octets newest (concat r.pieces) s t new r.octets whole none;
         ends = (refl, r.many ∙ turns, refl);
         few = let a = r.gives.reads in let k = r.many in omega arith;
       };
@@ -137,14 +137,14 @@ module _ (turn : ℕ) (reader mid : Source) (s t : State) (r : TakesReads turn r
     }
 
     pub input_faulty : (last : Source) (u : State) (buffer : List ℕ) (n fault : ℕ) → turn < 2 ^ 40 → Gets mid last buffer (Ok n) → 0 < n → TakesOctets (take n buffer) t u
-        → is_length (shown u.intake.feed) ≡ false → Some fault ≡ fault_in (shown u.intake.feed) → TakesInput (Faulty fault) reader last s u
+        → is_length (shown u.intake.feed) ≡ false → Some fault ≡ fault_in (shown u.intake.feed) → TakesInput newest (Faulty fault) reader last s u
     input_faulty last u buffer n fault turns g some o held shows = record {
       input = concat r.pieces ++ take n buffer;
       gave = record {
         pieces = r.pieces;
         behind = mid;
         gives = r.gives;
-        faultless = faultless_octets (concat r.pieces) s t new r.octets whole none;
+        faultless = faultless_octets newest (concat r.pieces) s t new r.octets whole none;
         ends = (take n buffer, gives_one mid last buffer n g some, refl);
         few = let a = r.gives.reads in let b = g.reads in let k = r.many in omega arith;
       };

@@ -1,13 +1,13 @@
 -- What became of the program's devices: a reader and two writers.
-use Rattle.std.specs.Prelude.{◌≡◌, ◌≢◌, ℕ, ◌+◌, ◌^◌, ◌≤◌, ◌<◌, Bool, true, false, ◌⊎◌, nat_lt, if◌then◌else◌, List, [], ◌∷◌, ◌++◌, length, Option, Some, None}
+use Rattle.std.specs.Prelude.{◌≡◌, ◌≢◌, ℕ, ◌+◌, ◌^◌, ◌≤◌, ◌<◌, Bool, true, false, ◌⊎◌, nat_lt, List, [], ◌∷◌, ◌++◌, length, Option, Some, None}
 use Rattle.std.specs.List.{concat}
 use Rattle.std.specs.Io.KnownBytes.{prepend_known, IsAtEnd}
 use Rattle.ether_wire.specs.Ends.{End, Source, with_text}
 use Rattle.route_wire.specs.declared.stream.Whole.{Whole}
 use Rattle.route_wire.specs.declared.stream.Whole.TheVariants.{Rest, Fault, Length}
 use Rattle.route_wire.specs.Fields.{Fields}
-use Rattle.route_wire.specs.Stream.{whole_of}
-use Rattle.route_wire.specs.Record.{Answers}
+use Rattle.route_wire.specs.Stream.{whole_up_to}
+use Rattle.route_wire.specs.Record.{AnswersUpTo}
 use Rattle.std.specs.Prelude.{Result}
 use Rattle.evpnd.specs.declared.ending.Ending.{Ending}
 use Rattle.evpnd.specs.declared.ending.Ending.TheVariants.{Ended, Failed, Faulty, Unended}
@@ -36,12 +36,12 @@ fault_told Failed = None
 fault_told (Faulty fault) = Some fault
 fault_told Unended = None
 
--- the stream of these octets shows no fault
-pub record IsFaultless (octets : List ℕ) : Type 0 where
+-- the stream of these octets, of records up to a version, shows no fault
+pub record IsFaultless (newest : ℕ) (octets : List ℕ) : Type 0 where
   pub answers : List (Result Fields ℕ)
   pub rest : List ℕ
-  pub answered : Answers octets answers rest
-  pub faultless : fault_in (whole_of rest) ≡ None
+  pub answered : AnswersUpTo newest octets answers rest
+  pub faultless : fault_in (whole_up_to newest rest) ≡ None
 
 -- each piece has an octet
 abbrev pub AreSome : List (List ℕ) → Type 0
@@ -62,12 +62,13 @@ EndsBy Failed old new pieces input = (new ≡ record old { failures = old.failur
 EndsBy (Faulty fault) old new pieces input = (last : List ℕ) × Gives old new (last ∷ []) × (input ≡ concat pieces ++ last)
 EndsBy Unended old new pieces input = (new ≡ old) × (length pieces ≡ 2 ^ 40) × (input ≡ concat pieces)
 
--- The reader gave these octets, in at most 2^40 reads: pieces that show no fault, and then it ended so.
-pub record Gave (old new : Source) (input : List ℕ) (ending : Ending) : Type 0 where
+-- The reader gave these octets, in at most 2^40 reads: pieces that show no fault in records up to a version, and then it
+-- ended so.
+pub record Gave (newest : ℕ) (old new : Source) (input : List ℕ) (ending : Ending) : Type 0 where
   pub pieces : List (List ℕ)
   pub behind : Source
   pub gives : Gives old behind pieces
-  pub faultless : IsFaultless (concat pieces)
+  pub faultless : IsFaultless newest (concat pieces)
   pub ends : EndsBy ending behind new pieces input
   pub few : new.reads ≤ old.reads + 2 ^ 40
 

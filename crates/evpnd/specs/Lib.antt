@@ -4,3 +4,5 @@ pub mod Runs
 pub mod Progressing
 pub mod Originators
 pub mod Words
+pub mod Migrated
+pub mod Migrations

@@ -1,5 +1,5 @@
 -- What is noted of a stream of records: each record that wasn't taken, and what ended the stream.
-use Rattle.std.specs.Prelude.{ℕ, ◌+◌, Bool, true, false, not, ◌&&◌, ◌||◌, ◌==◌, if◌then◌else◌, List, [], ◌∷◌, ◌++◌, length, codes, decimal, Result, Ok, Err}
+use Rattle.std.specs.Prelude.{ℕ, ◌+◌, Bool, true, false, not, ◌||◌, ◌==◌, if◌then◌else◌, List, [], ◌∷◌, ◌++◌, length, codes, decimal, Result, Ok, Err}
 use Rattle.route_wire.specs.Fields.{Fields}
 use Rattle.route_join.specs.declared.table.TakeError.TheVariants.{NoMemory}
 use Rattle.route_join.specs.Taken.{number_of}

@@ -1,5 +1,5 @@
 -- How far the records of a stream were taken.
-use Rattle.std.specs.Prelude.{◌≡◌, ℕ, ◌+◌, Bool, true, false, ◌||◌, List, [], ◌∷◌, ◌++◌, length, Result, Ok, Err}
+use Rattle.std.specs.Prelude.{◌≡◌, ℕ, ◌+◌, true, false, ◌||◌, List, [], ◌++◌, length, Result, Ok, Err}
 use Rattle.std.specs.List.{concat}
 use Rattle.ether_wire.specs.Ends.{End, Source}
 use Rattle.route_wire.specs.Fields.{Fields}
@@ -22,9 +22,9 @@ pub record State : Type 0 where
 abbrev pub state : Intake → End → State
 state intake notes = record { intake = intake; notes = notes }
 
--- nothing was taken yet
-abbrev pub new_intake : List ℕ → Intake
-new_intake originators = record { feed = record { newest = 3; rest = [] }; table = fresh originators; count = 0; is_starved = false; is_told = true }
+-- nothing was taken yet of records up to a version
+abbrev pub new_intake : ℕ → List ℕ → Intake
+new_intake newest originators = record { feed = record { newest = newest; rest = [] }; table = fresh originators; count = 0; is_starved = false; is_told = true }
 
 -- ---- records
 
@@ -74,9 +74,9 @@ pub record TakesReads (turn : ℕ) (reader reader' : Source) (old new : State) :
   pub octets : TakesOctets (concat pieces) old new
 
 -- all octets that a reader gave, up to where the reading ended so
-pub record TakesInput (ending : Ending) (reader reader' : Source) (old new : State) : Type 0 where
+pub record TakesInput (newest : ℕ) (ending : Ending) (reader reader' : Source) (old new : State) : Type 0 where
   pub input : List ℕ
-  pub gave : Gave reader reader' input ending
+  pub gave : Gave newest reader reader' input ending
   pub octets : TakesOctets input old new
   pub shows : fault_told ending ≡ fault_in (shown new.intake.feed)
   pub none_held : is_length (shown new.intake.feed) ≡ false

@@ -2,8 +2,8 @@
 use Rattle.std.specs.Prelude.{◌≡◌, ℕ, ◌||◌, ◌⊎◌, List, [], ◌∷◌, MatchBool, None, Result, Ok, Err}
 use Rattle.std.specs.FinMap.{empty}
 use Rattle.route_wire.specs.Fields.{Fields}
-use Rattle.route_wire.specs.Stream.{whole_of}
-use Rattle.route_wire.specs.Record.{Answers}
+use Rattle.route_wire.specs.Stream.{whole_up_to}
+use Rattle.route_wire.specs.Record.{AnswersUpTo}
 use Rattle.route_join.specs.declared.table.TakeError.TheVariants.{UnknownOriginator, NoMemory}
 use Rattle.route_join.specs.Taken.{number_of}
 use Rattle.route_join.specs.Table.{Table, value_at, is_listed, with_update, IsTableOf}
@@ -46,25 +46,34 @@ taken_of (Err refusal ∷ outcomes) = taken_of outcomes
 abbrev pub fresh : List ℕ → Table
 fresh originators = record { originators = originators; registers = empty }
 
--- The input's answers, up to its rest; what became of each; and the table of the updates that were taken.
-pub record IsTaken (originators input : List ℕ) (outcomes : List (Result Fields ℕ)) (rest : List ℕ) (t : Table) : Type 0 where
+-- The answers of the input's records up to a version, up to its rest; what became of each; and the table of the updates
+-- that were taken.
+pub record IsTaken (newest : ℕ) (originators input : List ℕ) (outcomes : List (Result Fields ℕ)) (rest : List ℕ) (t : Table) : Type 0 where
   pub answers : List (Result Fields ℕ)
-  pub answered : Answers input answers rest
+  pub answered : AnswersUpTo newest input answers rest
   pub became : BecomeAll (fresh originators) answers outcomes
   pub table_of : IsTableOf (taken_of outcomes) t
 
--- The input was read and its records taken; the report is that of the table, the notes tell of every other record and of
--- the end, and the status is the greatest that applies.
-pub record Reports (originators : List ℕ) (before after : Devices) (status : ℕ) : Type 0 where
+-- what a program puts out, by how the reading ended, what became of the records, and the table that took them
+abbrev pub Output : Type 0
+Output = Ending → List (Result Fields ℕ) → Table → List ℕ
+
+-- The input was read and its records, up to a version, were taken; the output is what is made of them, the notes tell of
+-- every other record and of the end, and the status is the greatest that applies.
+pub record Runs (newest : ℕ) (output : Output) (originators : List ℕ) (before after : Devices) (status : ℕ) : Type 0 where
   pub input : List ℕ
   pub ending : Ending
   pub outcomes : List (Result Fields ℕ)
   pub rest : List ℕ
   pub table : Table
-  pub gave : Gave before.input after.input input ending
-  pub shows : fault_told ending ≡ fault_in (whole_of rest)
-  pub taken : IsTaken originators input outcomes rest table
-  pub reported : Holds before.out after.out (report_of table)
+  pub gave : Gave newest before.input after.input input ending
+  pub shows : fault_told ending ≡ fault_in (whole_up_to newest rest)
+  pub taken : IsTaken newest originators input outcomes rest table
+  pub written : Holds before.out after.out (output ending outcomes table)
   pub noted : Holds before.notes after.notes (notes_of outcomes ending rest)
   pub status_is : status ≡ status_of (has_stopped ending || (has_failed before.out after.out || has_failed before.notes after.notes))
       (has_starved outcomes) (is_broken ending rest)
+
+-- A report is that of the table, of records of all versions, up to 3.
+abbrev pub Reports : List ℕ → Devices → Devices → ℕ → Type 0
+Reports originators before after status = Runs 3 (λ ending outcomes t. report_of t) originators before after status

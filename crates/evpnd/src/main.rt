@@ -2,6 +2,7 @@
 #![tactic(auto)]
 
 mod ending;
+mod migrate;
 mod notes;
 mod originators;
 mod report;

@@ -12,17 +12,18 @@ use crate::status::{BROKEN, DEVICE, DONE, MEMORY};
 use crate::stream::Intake;
 use arrayvec::ArrayVec;
 use ether_wire::{Addr, Buffered, In, Out};
+use route_wire::Feed;
 use std::alloc::Global;
 
 /// Whether a device failed, where the report and the notes were written so.
-fn has_failed(ending: Ending, is_reported: bool, is_told: bool) -> bool
+pub(crate) fn has_failed(ending: Ending, is_reported: bool, is_told: bool) -> bool
     ensures { result ≡ (has_stopped ending || (not is_reported || not is_told)) }
 {
     ending.has_stopped() || !is_reported || !is_told
 }
 
 /// The greatest status that applies.
-fn status(has_failed: bool, is_starved: bool, is_broken: bool) -> u8
+pub(crate) fn status(has_failed: bool, is_starved: bool, is_broken: bool) -> u8
     ensures { result ≡ status_of has_failed is_starved is_broken }
 {
     if has_failed {
@@ -57,7 +58,8 @@ pub fn report_run<R: In, W: Out, N: Out>(
     ensures { Reports originators.items (devices (R.end reader.old) (W.end out.old) (N.end notes.old))
         (devices (R.end reader.new) (W.end out.new) (N.end notes.new)) result }
 {
-    let mut intake = Intake::new(alloc, originators);
+    let feed = Feed::new();
+    let mut intake = Intake::new(alloc, originators, feed);
     let ending = intake.take_input(reader, notes);
     let is_broken = intake.note_end(ending, notes);
     let is_reported = intake.table().write_report(out).is_ok();
@@ -66,7 +68,7 @@ pub fn report_run<R: In, W: Out, N: Out>(
 }
 
 /// The status so far, unless a writer has failed since.
-fn last_status(is_reported: bool, is_told: bool, status: u8) -> u8
+pub(crate) fn last_status(is_reported: bool, is_told: bool, status: u8) -> u8
     ensures { result ≡ (if is_reported && is_told then status else 4) }
 {
     if is_reported && is_told {
@@ -78,7 +80,7 @@ fn last_status(is_reported: bool, is_told: bool, status: u8) -> u8
 
 /// Gives a writer what is still held for it, and gives it back: whether no call of it has failed
 /// since it had this many failures. After a failed call it makes none.
-fn finish<W: Out>(out: Buffered<W>, failures: u64) -> (W, bool)
+pub(crate) fn finish<W: Out>(out: Buffered<W>, failures: u64) -> (W, bool)
     requires { failures + 1 < 2 ^ 64 }
     ensures { Finishes failures (buffered_end W.end out) (W.end result.0) result.1 }
 {

@@ -42,13 +42,14 @@ impl Intake {
     ghost use Rattle.evpnd.specs.Notes.{end_note, is_broken};
     ghost use Rattle.evpnd.specs.Progressing.{state, new_intake, Refuses, TakesAnswers, TakesOctets, TakesInput};
 
-    /// Before anything was read.
-    pub(crate) fn new(alloc: Global, originators: ArrayVec<Addr, 64>) -> Intake
-        requires { AreOriginators originators.items }
-        ensures { result ≡ new_intake originators.items }
+    /// Before anything was read, with a feed that holds nothing.
+    pub(crate) fn new(alloc: Global, originators: ArrayVec<Addr, 64>, feed: Feed) -> Intake
+        requires originators { AreOriginators originators.items }
+        requires feed { feed.rest ≡ [] }
+        ensures { result ≡ new_intake feed.newest originators.items }
     {
         Intake {
-            feed: Feed::new(),
+            feed,
             table: Table::new(alloc, originators),
             count: 0,
             is_starved: false,
@@ -155,11 +156,11 @@ impl Intake {
     /// Takes the records of a reader, piece by piece, up to its end or the first fault: how the
     /// reading ended. After a fault, or a failed read, it makes no read more.
     pub(crate) fn take_input<R: In, N: Out>(&mut self, reader: &mut R, notes: &mut N) -> Ending
-        requires feed { self.old.feed ≡ record { newest = 3; rest = [] } }
+        requires feed { self.old.feed.rest ≡ [] }
         requires count { self.old.count ≡ 0 }
         requires reader { Allows (2 ^ 40) (R.end reader.old) }
         requires room { self.old.is_told ≡ true → IsOpen (N.end notes.old) }
-        ensures taken { TakesInput result (R.end reader.old) (R.end reader.new) (state self.old (N.end notes.old)) (state self.new (N.end notes.new)) }
+        ensures taken { TakesInput self.old.feed.newest result (R.end reader.old) (R.end reader.new) (state self.old (N.end notes.old)) (state self.new (N.end notes.new)) }
         ensures few { self.new.count + 1 < 2 ^ 64 }
     {
         let mut buffer = [0; PIECE];

@@ -1,6 +1,7 @@
 //! Streams of records, and the reports and notes that they give.
 mod ends;
 mod lists;
+mod migrations;
 mod records;
 mod refusals;
 mod reports;

@@ -1,5 +1,5 @@
-use Rattle.std.proofs.Common.{◌≡◌, ◌≢◌, ◌⊎◌, inl, inr, List, ℕ, map, string_bytes, true, refl, sym, subst, Err}
-use Rattle.clap.specs.Words.{App, Text, app_of, kind_of, fault_of, is_simple_and_free, HasKind}
+use Rattle.std.proofs.Common.{◌≡◌, ◌≢◌, ◌⊎◌, inl, inr, List, map, string_bytes, true, refl, sym, subst, Err}
+use Rattle.clap.specs.Words.{App, Text, kind_of, fault_of, is_simple_and_free, HasKind}
 use Rattle.clap.specs.declared.error.Error.{Error}
 use Rattle.clap.specs.declared.error.kind.ErrorKind.TheVariants.{OutOfMemory}
 use Rattle.evpnd.specs.declared.words.Refusal.{Refusal}

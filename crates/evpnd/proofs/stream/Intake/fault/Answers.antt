@@ -1,7 +1,6 @@
-use Rattle.std.proofs.Common.{ap, ◌≡◌, ◌∙◌}
+use Rattle.std.proofs.Common.{ap, ◌∙◌}
 use Rattle.route_wire.specs.declared.stream.Next.TheVariants.{More, Record, Refused, Fault}
 use Rattle.route_wire.specs.Feed.{Held, shown}
-use Rattle.evpnd.specs.declared.stream.Intake.{Intake}
 use Rattle.evpnd.proofs.Feeding.{none_next, same_after}
 use Rattle.evpnd.proofs.stream.Intake.fault.Goals as goal
 

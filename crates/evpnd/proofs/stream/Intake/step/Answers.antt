@@ -1,4 +1,4 @@
-use Rattle.std.proofs.Common.{ℕ, List, ◌++◌, Result, Ok, Err, take, false, refl, sym, ap, subst, ◌||◌, ◌==◌, ◌≡◌, ◌∙◌, [], ◌∷◌}
+use Rattle.std.proofs.Common.{ℕ, List, ◌++◌, Result, Ok, Err, take, false, refl, sym, ap, subst, ◌||◌, ◌≡◌, ◌∙◌, [], ◌∷◌}
 use Rattle.route_wire.specs.declared.stream.Next.TheVariants.{More, Record, Refused, Fault}
 use Rattle.route_wire.specs.Record.{is_length}
 use Rattle.route_wire.specs.declared.stream.Next.{Next}

@@ -1,4 +1,4 @@
-use Rattle.std.proofs.Common.{Ok, Err, ℕ, true, ◌+◌, refl, ap, subst, ◌≡◌}
+use Rattle.std.proofs.Common.{Ok, Err, ℕ, true, ◌+◌, refl, ap, subst}
 use Rattle.route_join.specs.Table.{Table}
 use Rattle.route_join.specs.Taken.{number_of}
 use Rattle.route_join.specs.declared.table.TakeError.{TakeError}
