@@ -12,8 +12,13 @@ pub enum SenderRole {
     Designated,
 }
 
+/// How many units of a message's times are a second (IEEE 802.1D-2004, 9.2.8).
+pub const TIME_UNITS: u16 = 256;
+/// The greatest number that a field for a time holds.
+pub const MOST_TIME: u16 = 65535;
+
 /// What a Configuration or a Rapid Spanning Tree BPDU says (IEEE 802.1D-2004, 9.3.1 and 9.3.3). The
-/// fields are as they stand in the octets: times are in 1/256 of a second.
+/// fields are as they stand in the octets: times are in units of which `TIME_UNITS` are a second.
 #[derive(Clone, Copy, Debug, PartialEq, Eq)]
 pub struct Message {
     /// The flags of `flags.rt`, as they stand in the octet.
@@ -78,7 +83,7 @@ impl Bpdu {
 
     /// Whether the BPDU is refused for its age: it speaks for the root, as a Configuration BPDU or
     /// a designated port's Rapid Spanning Tree BPDU, and its message age isn't below its max age.
-    pub fn is_aged(&self) -> bool
+    pub(crate) fn is_aged(&self) -> bool
         ensures { result ≡ is_aged self.now }
     {
         match self {

@@ -10,12 +10,12 @@ mod refusal;
 mod tests;
 mod writing;
 
-pub use bpdu::{Bpdu, Message, SenderRole};
+pub use bpdu::{Bpdu, MOST_TIME, Message, SenderRole, TIME_UNITS};
 pub use flags::{
     AGREEMENT, ALTERNATE_OR_BACKUP_ROLE, CHANGE_ACKNOWLEDGEMENT, DESIGNATED_ROLE, FORWARDING,
     LEARNING, PROPOSAL, ROLE_BITS, ROOT_ROLE, TOPOLOGY_CHANGE, UNKNOWN_ROLE,
 };
 pub use id::{BridgeId, PortId};
 pub use reading::read;
-pub use refusal::Refusal;
+pub use refusal::{BAD_PROTOCOL, BAD_TYPE, BAD_VERSION, OVER_AGE, Refusal, TOO_SHORT};
 pub use writing::write;

@@ -1,5 +1,16 @@
 //! Why octets are no BPDU, and by which number that is told.
 
+/// There are fewer than four octets: asked first. Or, once the type is known, fewer than its kind has.
+pub const TOO_SHORT: u8 = 1;
+/// The protocol identifier isn't 0: asked behind four octets.
+pub const BAD_PROTOCOL: u8 = 2;
+/// Then: the type is none of 0x00, 0x02 and 0x80.
+pub const BAD_TYPE: u8 = 3;
+/// Then: the type is 0x02 and the version below 2. Behind it the kind's length is asked.
+pub const BAD_VERSION: u8 = 4;
+/// Last: it speaks for the root, and its message age isn't below its max age.
+pub const OVER_AGE: u8 = 5;
+
 /// Why octets are no BPDU. The first cause in the order that `read` names is the one that is told.
 #[derive(Clone, Copy, Debug, PartialEq, Eq)]
 pub enum Refusal {
@@ -19,16 +30,16 @@ impl Refusal {
     ghost use Rattle.std.specs.Prelude.{◌≡◌};
     ghost use Rattle.bpdu_wire.specs.Refusal.{refusal_number};
 
-    /// The refusal's number, from 1 to 5.
+    /// The number by which it is told.
     pub fn number(self) -> u8
         ensures { result ≡ refusal_number self }
     {
         match self {
-            Refusal::Short => 1,
-            Refusal::BadProtocol => 2,
-            Refusal::BadType => 3,
-            Refusal::BadVersion => 4,
-            Refusal::Aged => 5,
+            Refusal::Short => TOO_SHORT,
+            Refusal::BadProtocol => BAD_PROTOCOL,
+            Refusal::BadType => BAD_TYPE,
+            Refusal::BadVersion => BAD_VERSION,
+            Refusal::Aged => OVER_AGE,
         }
     }
 }

@@ -1,3 +1,4 @@
+//! BPDUs of a bridge that comes up, as octets both ways, and each refusal.
 use crate::{Bpdu, BridgeId, Message, PortId, SenderRole, read, write};
 
 /// What a designated port of bridge 8000.02:aa:00:00:00:01 first sends: it takes itself for the root,

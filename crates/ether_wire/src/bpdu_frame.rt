@@ -13,6 +13,7 @@ ghost use Rattle.ether_wire.specs.BpduFrame.{bpdu_header, bpdu_frame_of};
 
 use crate::names::Mac;
 
+/// What stands in front of a BPDU of this size.
 fn header(source: Mac, size: u8) -> [u8; 17]
     requires { size ≤ 43 }
     ensures { result ≡ bpdu_header source size }

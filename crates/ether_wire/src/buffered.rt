@@ -51,7 +51,7 @@ impl<W: Out> Buffered<W> {
     }
 
     #[tactic(auto, using(crate::proofs::Appending::with_text_none))]
-    // Passes on what it holds. It holds nothing afterwards, whether that failed or not.
+    /// Passes on what it holds. It holds nothing afterwards, whether that failed or not.
     fn pass_on(&mut self) -> Result<(), Device>
         requires { IsOpen (W.end self.old.inner) }
         ensures passes { Puts (W.end self.old.inner) (W.end self.new.inner) self.old.held.items result }

@@ -64,6 +64,7 @@ impl<'a> Model for Frame<'a> {
     ghost invariant = { λ f. IsFrame f.octets.now };
 }
 
+/// The two octets after the addresses.
 fn type_or_length(octets: &[u8]) -> u16
     requires { 14 ≤ length octets.now }
     ensures { result ≡ type_or_length octets.now }

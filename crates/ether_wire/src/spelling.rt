@@ -9,6 +9,7 @@ ghost use Rattle.ether_wire.specs.Spelling.{parted, is_decimal, decimal_of_text,
 
 use crate::names::{Addr, Mac, Vni};
 
+/// Where such an octet stands first.
 fn place_of(octet: u8, text: &[u8]) -> Option<usize>
     ensures value { result ≡ position (λ x. x == octet) text.now }
     ensures within { IfSome result (λ at. at < length text.now) }
@@ -27,6 +28,7 @@ pub fn parted(octet: u8, text: &[u8]) -> Option<(&[u8], &[u8])>
     }
 }
 
+/// Whether all octets are decimal digits.
 fn are_digits(text: &[u8]) -> bool
     ensures { result ≡ list_all is_ascii_digit text.now }
 {
@@ -49,6 +51,7 @@ fn parsed(text: &[u8]) -> Option<u64>
     std::str::from_utf8(text).ok()?.parse().ok()
 }
 
+/// The number that the text spells in decimal; none where it spells none of at most `max`.
 #[tactic(auto, unfolding(crate::specs::Spelling::decimal_of_text))]
 fn decimal_of_text(text: &[u8], max: u64) -> Option<u64>
     ensures { result ≡ decimal_of_text max text.now }
@@ -70,6 +73,7 @@ pub fn read_decimal(text: &[u8], max: u64) -> Option<u64>
     decimal_of_text(text, max)
 }
 
+/// The octet that the text spells in decimal.
 fn read_octet(text: &[u8]) -> Option<u8>
     ensures { result ≡ decimal_of_text 255 text.now }
 {
@@ -77,6 +81,7 @@ fn read_octet(text: &[u8]) -> Option<u8>
     Some(number as u8)
 }
 
+/// The value of a lower case hexadecimal digit.
 fn hex_value(octet: u8) -> Option<u8>
     ensures value { result ≡ hex_value octet }
     ensures small { IfSome result (λ value. value < 16) }
@@ -88,6 +93,7 @@ fn hex_value(octet: u8) -> Option<u8>
     }
 }
 
+/// The octet that two lower case hexadecimal digits spell.
 #[tactic(auto, unfolding(crate::specs::Spelling::pair_of_text))]
 fn read_pair(text: &[u8]) -> Option<u8>
     ensures { result ≡ pair_of_text text.now }
@@ -114,6 +120,7 @@ impl Vni {
     }
 }
 
+/// The address that six pairs of digits with colons spell.
 #[tactic(auto, unfolding(crate::specs::Spelling::mac_of_text))]
 fn mac_of_text(text: &[u8]) -> Option<Mac>
     ensures { result ≡ mac_of_text text.now }
@@ -143,6 +150,7 @@ impl Mac {
     }
 }
 
+/// The address that four decimal numbers with dots spell.
 #[tactic(auto, unfolding(crate::specs::Spelling::addr_of_text))]
 fn addr_of_text(text: &[u8]) -> Option<Addr>
     ensures { result ≡ addr_of_text text.now }

@@ -1,3 +1,4 @@
+//! Tests of the layer below all others, a file a thing.
 mod buffered;
 mod ends;
 mod frames;

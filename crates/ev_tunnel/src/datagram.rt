@@ -1,3 +1,4 @@
+//! A frame in a datagram between edges: the VXLAN header in front of it.
 ghost use Rattle.std.specs.Prelude.{◌≡◌, ◌+◌, ◌≤◌, ◌++◌, length, drop, Ok};
 ghost use Rattle.std.specs.Result.{result_map_both};
 ghost use Rattle.vxlan_wire.specs.Vxlan.{instance_of};

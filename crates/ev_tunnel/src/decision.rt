@@ -1,3 +1,4 @@
+//! Where a frame goes: the access ports and the edges that get it.
 ghost use Rattle.std.specs.Prelude.{◌≡◌, [], ◌∷◌};
 ghost use Rattle.std.specs.Option.{ForSome};
 ghost use Rattle.route_join.specs.Owner.{owner};

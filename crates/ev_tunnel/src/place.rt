@@ -1,3 +1,4 @@
+//! Where a frame's destination is: everywhere, behind an access port, or at another edge.
 ghost use Rattle.std.specs.Prelude.{◌≡◌};
 ghost use Rattle.route_join.specs.Owner.{owner};
 ghost use Rattle.ev_tunnel.specs.Place.{place_of};

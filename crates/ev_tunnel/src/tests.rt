@@ -1,3 +1,4 @@
+//! Decisions with a few edges and ports, and a datagram.
 ghost use Rattle.std.specs.Prelude.{◌≡◌, false, None};
 ghost use Rattle.route_wire.specs.Fields.{FitsKey};
 ghost use Rattle.ether_wire.specs.Ports.{IsPort};

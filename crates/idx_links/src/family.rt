@@ -1,3 +1,4 @@
+//! Families of lists over the same nodes: a place for each node in each family.
 ghost use Rattle.std.specs.Prelude.{◌≡◌, ℕ, ◌+◌, ◌<◌, ◌∷◌, ◌++◌, [], length, map, replicate, slice_get, slice_set, slice_index_or, IfOk, IfSome, IfNone, Some, true, OnOk, OnErr};
 ghost use Rattle.idx_links.specs.Links.{has, without, Apart, list_at, IsFree, IsLinked};
 ghost use Rattle.idx_links.specs.Families.{Families, lists_of, families_of, AreNodes, IsFamily, AreStarts};
@@ -146,7 +147,7 @@ impl<const K: usize> Family<K> {
     }
 }
 
-// Where each family's lists start, if they have so many, and where the last one's end.
+/// Where each family's lists start, if they have so many, and where the last one's end.
 fn starts_of(alloc: Global, counts: &Vec<usize>) -> Result<Vec<usize>, AllocError>
     ensures { IfOk result (λ v. AreStarts counts.now.items v.items) }
 {

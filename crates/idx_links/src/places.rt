@@ -1,3 +1,4 @@
+//! Rings of places: who comes behind whom, who before, and the mark of the list.
 ghost use Rattle.std.specs.Prelude.{◌≡◌, ℕ, ◌+◌, ◌-◌, ◌^◌, ◌<◌, ◌≤◌, ◌++◌, List, length, map, take, replicate, slice_set, slice_index_or, vec_len, vec_capacity, IfOk, OnOk, OnErr, None, Some};
 ghost use Rattle.std.specs.List.{range_with_len};
 ghost use Rattle.idx_links.specs.Columns.{Columns, Fits, owners};
@@ -171,7 +172,7 @@ impl Places {
     }
 }
 
-// Up to so many places, each new one alone.
+/// Up to so many places, each new one alone.
 fn add_lone(links: &mut Vec<Link>, places: usize)
     requires more { vec_len links.old ≤ places }
     requires room { places ≤ vec_capacity links.old }

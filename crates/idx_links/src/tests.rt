@@ -1,3 +1,4 @@
+//! Lists by index: a random walk beside plain vectors.
 ghost use Rattle.std.specs.Prelude.{◌≡◌, ℕ, ◌<◌, ◌^◌, length};
 ghost use Rattle.idx_links.specs.Families.{lists_of};
 

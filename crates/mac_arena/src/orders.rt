@@ -1,3 +1,4 @@
+//! The orders in which the nodes of a learning table stand: three families of linked lists.
 ghost use Rattle.std.specs.Prelude.{◌≡◌, ℕ, ◌+◌, ◌^◌, ◌<◌, ◌∷◌, ◌++◌, [], length, map, replicate, slice_get, true, false, Some, IfOk};
 ghost use Rattle.std.specs.List.{range_with_len};
 ghost use Rattle.idx_links.specs.Links.{has, without, list_at, IsFree, IsLinked};
@@ -7,14 +8,21 @@ use idx_links::Family;
 use std::alloc::{AllocError, Global};
 use std::marker::Model;
 
+// ---- the families of lists, and the two lists of the last one
+
+/// The family of the buckets' chains.
 const CHAINS: usize = 0;
 
+/// The family of the ports' lists.
 const PORTS: usize = 1;
 
+/// The family of the ageing list and the list of free nodes.
 const AGES: usize = 2;
 
+/// The ageing list.
 const AGEING: usize = 0;
 
+/// The list of free nodes.
 const FREE: usize = 1;
 
 /// The orders in which the table's nodes stand: a chain for each bucket, a list for each port, the

@@ -1,3 +1,4 @@
+//! A place of the learning table: a station with what is known of it, or nobody.
 ghost use Rattle.std.specs.Prelude.{◌≡◌, None, Some};
 ghost use Rattle.std.specs.Option.{option_map};
 ghost use Rattle.mac_arena.specs.Entry.{pinned_at};

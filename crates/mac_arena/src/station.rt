@@ -1,3 +1,4 @@
+//! Stations, and what is known of them.
 ghost use Rattle.std.specs.Prelude.{◌≡◌};
 ghost use Rattle.mac_arena.specs.Slot.{held_on, shifted_to};
 
@@ -29,7 +30,7 @@ pub struct Learned {
 }
 
 impl Learned {
-    // Pinned on the port where it is.
+    /// Pinned on the port where it is.
     pub(crate) fn held(&self) -> Learned
         ensures { result ≡ held_on self.now }
     {
@@ -44,7 +45,7 @@ impl Learned {
         }
     }
 
-    // On another port.
+    /// On another port.
     pub(crate) fn shifted(&self, port: u8) -> Learned
         ensures { result ≡ shifted_to port self.now }
     {

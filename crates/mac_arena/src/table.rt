@@ -1,3 +1,4 @@
+//! The learning table: a map from stations to their ports, over slots and the orders of their nodes.
 ghost use Rattle.std.specs.Prelude.{◌≡◌, ℕ, ◌+◌, ◌<◌, ◌≤◌, ◌^◌, true, false, Some, None, length, slice_get, IfOk, IfSome, IfNone, MatchOption};
 ghost use Rattle.std.specs.FinMap.{len};
 ghost use Rattle.mac_arena.specs.Learning.{Learning, nothing_learnt, entry_at, is_full, bucket_in, stations_at, learned_at, left, first_unpinned, IsLatest, entered, heard, held, shifted, dropped, learnt_of, after_learn, can_pin, after_pin, after_removal};
@@ -117,7 +118,8 @@ impl MacTable {
         self.orders.chain_len(bucket)
     }
 
-    /// Who stands at a node, with what is known of it.
+    /// Who stands at a node, with what is known of it; nobody at a free node. It is a step of a walk over
+    /// all nodes: the caller goes from node to node.
     pub fn walk(&self, node: usize) -> Option<Learned>
         requires { node < length self.now.places }
         ensures { result ≡ learned_at self.now node }
@@ -149,7 +151,7 @@ impl MacTable {
         Some(learned.station)
     }
 
-    // The node where a station of a bucket stands, with what stands there.
+    /// The node where a station of a bucket stands, with what stands there.
     fn find(&self, key: &Station, bucket: usize) -> Option<(usize, Learned)>
         requires { bucket ≡ bucket_in self.now key.now }
         ensures found { IfSome result (λ f. learned_at self.now f.0 ≡ Some f.1) }
@@ -242,6 +244,8 @@ impl MacTable {
         if learned.entry.pinned {
             self.leave(node, &learned);
         } else {
+            // `leave` frees nodes that don't age: so the node leaves the ageing list first, as if its
+            // station were pinned.
             let held = learned.held();
             self.hold(node, &learned);
             self.leave(node, &held);
@@ -249,7 +253,7 @@ impl MacTable {
         true
     }
 
-    // The node that a new station takes, if there is room.
+    /// The node that a new station takes, if there is room.
     fn place(&self) -> Option<usize>
         ensures some { IfSome result (λ n. slice_get self.now.free 0 ≡ Some n) }
         ensures room { IfSome result (λ n. is_full self.now ≡ false) }
@@ -258,7 +262,7 @@ impl MacTable {
         self.orders.first_free()
     }
 
-    // Learns a station that isn't known.
+    /// Learns a station that isn't known.
     fn learn_new(&mut self, key: &Station, bucket: usize, port: u8, second: u64) -> Learnt
         requires bucket { bucket ≡ bucket_in self.old key.now }
         requires some { 0 < port }
@@ -277,7 +281,7 @@ impl MacTable {
         Learnt::New
     }
 
-    // Learns a station that is known.
+    /// Learns a station that is known.
     fn learn_again(&mut self, node: usize, learned: &Learned, port: u8, second: u64) -> Learnt
         requires some { 0 < port }
         requires port { port ≤ length self.old.ports }
@@ -303,7 +307,7 @@ impl MacTable {
         Learnt::Moved
     }
 
-    // Pins a station that is known.
+    /// Pins a station that is known.
     fn pin_known(&mut self, node: usize, learned: &Learned, port: u8)
         requires some { 0 < port }
         requires port { port ≤ length self.old.ports }
@@ -325,7 +329,7 @@ impl MacTable {
         }
     }
 
-    // A new station takes the first free node, pinned on the port.
+    /// A new station takes the first free node, pinned on the port.
     fn enter(&mut self, node: usize, key: &Station, bucket: usize, port: u8)
         requires bucket { bucket ≡ bucket_in self.old key.now }
         requires some { 0 < port }
@@ -340,7 +344,7 @@ impl MacTable {
         self.count += 1;
     }
 
-    // A pinned station is heard on its port, and ages from then on.
+    /// A pinned station is heard on its port, and ages from then on.
     fn hear(&mut self, node: usize, learned: &Learned, second: u64)
         requires at { learned_at self.old node ≡ Some learned.now }
         requires pinned { learned.now.entry.pinned ≡ true }
@@ -351,7 +355,7 @@ impl MacTable {
         self.slots[node].hear(second);
     }
 
-    // An ageing station is pinned on its port.
+    /// An ageing station is pinned on its port.
     fn hold(&mut self, node: usize, learned: &Learned)
         requires at { learned_at self.old node ≡ Some learned.now }
         requires ageing { learned.now.entry.pinned ≡ false }
@@ -362,7 +366,7 @@ impl MacTable {
         self.slots[node].hold();
     }
 
-    // A station goes to another port.
+    /// A station goes to another port.
     fn shift(&mut self, node: usize, learned: &Learned, port: u8)
         requires some { 0 < port }
         requires port { port ≤ length self.old.ports }
@@ -374,7 +378,7 @@ impl MacTable {
         self.slots[node].shift(port);
     }
 
-    // A pinned station leaves the table.
+    /// A pinned station leaves the table.
     fn leave(&mut self, node: usize, learned: &Learned)
         requires at { learned_at self.old node ≡ Some learned.now }
         requires pinned { learned.now.entry.pinned ≡ true }
@@ -386,14 +390,14 @@ impl MacTable {
     }
 }
 
-// So many places with nobody.
+/// So many places with nobody.
 fn nobody(alloc: Global, places: usize) -> Result<Vec<Slot>, AllocError>
     ensures { IfOk result (λ v. v.items ≡ replicate places None) }
 {
     vec![in alloc; Slot::nobody(); places]
 }
 
-// A station that is pinned on a port.
+/// A station that is pinned on a port.
 fn pinned_on(station: &Station, port: u8) -> Learned
     ensures { result ≡ record { station = station.now; entry = pinned_at port } }
 {

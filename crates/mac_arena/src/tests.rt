@@ -1,3 +1,4 @@
+//! The learning table, small.
 ghost use Rattle.std.specs.Prelude.{◌≡◌, ◌<◌, ◌≤◌, length};
 ghost use Rattle.mac_arena.specs.Learning.{IsLatest};
 

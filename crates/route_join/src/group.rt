@@ -151,6 +151,7 @@ impl Group {
         Ok(Group { updates, winner })
     }
 
+    /// The updates, in the order of their registers.
     pub(crate) fn updates(&self) -> &[Update]
         ensures value { result.now ≡ self.now }
         ensures ordered { IsOrdered self.now }
@@ -179,7 +180,7 @@ impl Group {
         }
     }
 
-    // A newer update comes to the place of its register.
+    /// A newer update comes to the place of its register.
     fn replace(&mut self, at: usize, update: &Update)
         requires { place_of self.old update.now.register ≡ Ok at }
         ensures { entries_of self.new ≡ put register_cmp update.now.register update.now.value (entries_of self.old) }
@@ -191,7 +192,7 @@ impl Group {
         self.winner = winner_after(&self.updates, at, self.winner, stays);
     }
 
-    // The first update of its register comes to the gap where it belongs.
+    /// The first update of its register comes to the gap where it belongs.
     fn insert(&mut self, at: usize, update: &Update) -> Result<(), AllocError>
         requires { place_of self.old update.now.register ≡ Err at }
         ensures ok { OnOk result (entries_of self.new ≡ put register_cmp update.now.register update.now.value (entries_of self.old)) }

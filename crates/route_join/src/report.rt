@@ -41,6 +41,7 @@ fn put_addr6<O: Out>(out: &mut O, address: Addr6) -> Result<(), Device>
     put_groups(out, (number % 0x1_0000_0000_0000_0000) as u64)
 }
 
+/// Writes the text of an IP address.
 fn put_ip<O: Out>(out: &mut O, ip: Ip) -> Result<(), Device>
     requires { IsOpen (O.end out.old) }
     ensures { Puts (O.end out.old) (O.end out.new) (ip_text ip) result }
@@ -147,6 +148,7 @@ fn put_mac_state<O: Out>(out: &mut O, content: &Content) -> Result<(), Device>
     }
 }
 
+/// The second label of an advert that has one.
 fn label2(content: &Content) -> Option<Vni>
     ensures { result ≡ label2_of content.now }
 {
@@ -232,6 +234,7 @@ pub(crate) fn put_update<O: Out>(out: &mut O, update: &Update) -> Result<(), Dev
     }
 }
 
+/// Writes the address of an owner, or that there is none.
 fn put_owner_name<O: Out>(out: &mut O, owner: Option<Addr>) -> Result<(), Device>
     requires { IsOpen (O.end out.old) }
     ensures { Puts (O.end out.old) (O.end out.new) (owner_name owner) result }

@@ -163,8 +163,8 @@ impl Table {
         Ok(taken)
     }
 
-    // Takes updates of listed originators, one after the other. Where memory is refused, it tells how
-    // many were taken before.
+    /// Takes updates of listed originators, one after the other. Where memory is refused, it tells how
+    /// many were taken before.
     fn take_all(&mut self, updates: &[Update]) -> Result<(), usize>
         requires { (k : ℕ) → (u : Fields) → slice_get updates.now k ≡ Some u → is_listed self.old u.register.originator ≡ true }
         ensures taken { OnOk result (self.new ≡ with_updates self.old updates.now) }

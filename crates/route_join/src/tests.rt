@@ -1,3 +1,4 @@
+//! Tables of a few updates: newest values, owners, flood lists, reports.
 ghost use Rattle.std.specs.Prelude.{◌≡◌, ◌<◌, ◌∷◌, [], None};
 ghost use Rattle.route_wire.specs.Fields.{FitsKey};
 

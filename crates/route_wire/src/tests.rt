@@ -1,3 +1,4 @@
+//! Records as octets: each refusal, each fault, every cutting.
 use super::*;
 use ether_wire::{Addr, Mac, Vni};
 use std::mem::size_of;

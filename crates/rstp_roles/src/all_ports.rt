@@ -11,14 +11,17 @@ ghost use Rattle.rstp_roles.specs.AllPorts.{
   with_sync,
 };
 
+use crate::role_transitions::has_role;
 use rstp_state::port::PortState;
 
+/// The port is to come in step: sync.
 fn want_sync(port: &mut PortState)
     ensures { port.new ≡ with_sync port.old }
 {
     port.sync = true;
 }
 
+/// The port is to leave the old root: reRoot.
 fn want_re_root(port: &mut PortState)
     ensures { port.new ≡ with_re_root port.old }
 {
@@ -26,7 +29,7 @@ fn want_re_root(port: &mut PortState)
 }
 
 /// Every port is to be synced (17.21.14, setSyncTree).
-pub fn set_sync(ports: &mut [PortState])
+pub(crate) fn set_sync(ports: &mut [PortState])
     ensures { ports.new ≡ map with_sync ports.old }
 {
     for port in ports.iter_mut() {
@@ -35,7 +38,7 @@ pub fn set_sync(ports: &mut [PortState])
 }
 
 /// Every port is to leave the old root (17.21.15, setReRootTree).
-pub fn set_re_root(ports: &mut [PortState])
+pub(crate) fn set_re_root(ports: &mut [PortState])
     ensures { ports.new ≡ map with_re_root ports.old }
 {
     for port in ports.iter_mut() {
@@ -43,19 +46,21 @@ pub fn set_re_root(ports: &mut [PortState])
     }
 }
 
+/// Whether the port has taken its role and is, unless it is the root port, synced.
 fn is_in_step(port: &PortState) -> bool
     ensures { result ≡ is_in_step port.now }
 {
-    port.may_act() && port.has_role() && (port.role.is_root() || port.synced)
+    port.may_act() && has_role(port) && (port.role.is_root() || port.synced)
 }
 
 /// Whether every port has taken its role and is, unless it is the root port, synced (17.20.3).
-pub fn all_synced(ports: &[PortState]) -> bool
+pub(crate) fn all_synced(ports: &[PortState]) -> bool
     ensures { result ≡ all_synced ports.now }
 {
     ports.iter().all(|port| is_in_step(port))
 }
 
+/// Whether none of these ports was the root port lately.
 fn are_not_recent(ports: &[PortState]) -> bool
     ensures { result ≡ list_all is_not_recent ports.now }
 {
@@ -63,7 +68,7 @@ fn are_not_recent(ports: &[PortState]) -> bool
 }
 
 /// Whether no other port was the root port lately (17.20.10).
-pub fn re_rooted(ports: &[PortState], p: usize) -> bool
+pub(crate) fn re_rooted(ports: &[PortState], p: usize) -> bool
     requires { p < length ports.now }
     ensures { result ≡ re_rooted p ports.now }
 {

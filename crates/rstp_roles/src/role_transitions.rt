@@ -2,6 +2,7 @@
 //! each rule, in the table's order, its guard and then what it does.
 
 ghost use Rattle.std.specs.Prelude.{◌≡◌, ◌<◌, length};
+ghost use Rattle.rstp_state.specs.Port.{edge_delay, has_role, is_backup, is_blocked, is_discarding};
 ghost use Rattle.rstp_roles.specs.RoleTransitions.{
   acts_as_disabled,
   acts_as_root,
@@ -63,36 +64,82 @@ ghost use Rattle.rstp_roles.specs.RoleTransitions.{
 use crate::all_ports::{set_re_root, set_sync};
 use rstp_state::port::{PortState, Role, Timing};
 
+/// Whether the role is Backup.
+fn is_backup(role: Role) -> bool
+    ensures { result ≡ is_backup role }
+{
+    matches!(role, Role::Backup)
+}
+
+/// Whether the role is Alternate or Backup.
+fn is_blocked(role: Role) -> bool
+    ensures { result ≡ is_blocked role }
+{
+    matches!(role, Role::Alternate | Role::Backup)
+}
+
+/// The port has taken its selected role.
+pub(crate) fn has_role(port: &PortState) -> bool
+    ensures { result ≡ has_role port.now }
+{
+    port.role == port.selected_role
+}
+
+/// The port neither learns nor forwards.
+fn is_discarding(port: &PortState) -> bool
+    ensures { result ≡ is_discarding port.now }
+{
+    !port.learning && !port.forwarding
+}
+
+/// How long the port waits before it may be an edge, in seconds (17.20.4).
+fn edge_delay(port: &PortState, timing: &Timing) -> u32
+    ensures { result ≡ edge_delay timing.now port.now }
+{
+    if port.point_to_point {
+        3
+    } else {
+        u32::from(timing.max_age)
+    }
+}
+
+/// Whether the port is a Disabled port, and is to be one.
 fn acts_as_disabled(port: &PortState) -> bool
     ensures { result ≡ acts_as_disabled port.now }
 {
     port.may_act() && port.role.is_disabled() && port.selected_role.is_disabled()
 }
 
+/// Whether the port is the root port, and is to be it.
 fn acts_as_root(port: &PortState) -> bool
     ensures { result ≡ acts_as_root port.now }
 {
     port.may_act() && port.role.is_root() && port.selected_role.is_root()
 }
 
+/// Whether the port is Designated, and is to be so.
 fn acts_as_designated(port: &PortState) -> bool
     ensures { result ≡ acts_as_designated port.now }
 {
     port.may_act() && port.role.is_designated() && port.selected_role.is_designated()
 }
 
+/// Whether the port is Alternate or Backup, as is selected.
 fn acts_as_blocked(port: &PortState) -> bool
     ensures { result ≡ acts_as_blocked port.now }
 {
-    port.may_act() && port.has_role() && port.role.is_blocked()
+    port.may_act() && has_role(port) && is_blocked(port.role)
 }
 
+/// Whether the port is Backup, and is to be so.
 fn acts_as_backup(port: &PortState) -> bool
     ensures { result ≡ acts_as_backup port.now }
 {
-    port.may_act() && port.role.is_backup() && port.selected_role.is_backup()
+    port.may_act() && is_backup(port.role) && is_backup(port.selected_role)
 }
 
+/// Whether a discarding port has yet something to lay down: a timer that isn't at this delay, a wish
+/// to sync or to leave the old root, or that it isn't synced.
 fn is_unrested(port: &PortState, delay: u32) -> bool
     ensures { result ≡ is_unrested port.now delay }
 {
@@ -103,30 +150,35 @@ fn is_unrested(port: &PortState, delay: u32) -> bool
         || port.recent_root_while != 0
 }
 
+/// Whether the port has to agree: all are synced and it hasn't, or it is asked once more.
 fn may_agree(port: &PortState, all_synced: bool) -> bool
     ensures { result ≡ may_agree port.now all_synced }
 {
     (all_synced && !port.agree) || (port.proposed && port.agree)
 }
 
+/// Whether the root port has waited long enough, or needn't wait, as no other port was it lately.
 fn may_go_on_as_root(port: &PortState, re_rooted: bool) -> bool
     ensures { result ≡ may_go_on_as_root port.now re_rooted }
 {
     port.forward_delay_while == 0 || (re_rooted && port.recent_backup_while == 0)
 }
 
+/// Whether a port that isn't synced has what makes it so: it discards, is agreed to, or is an edge.
 fn may_be_synced(port: &PortState) -> bool
     ensures { result ≡ may_be_synced port.now }
 {
-    !port.synced && (port.is_discarding() || port.agreed || port.oper_edge)
+    !port.synced && (is_discarding(port) || port.agreed || port.oper_edge)
 }
 
+/// Whether a port that isn't an edge has to go back to discarding.
 fn must_discard(port: &PortState) -> bool
     ensures { result ≡ must_discard port.now }
 {
     (port.sync && !port.synced) || (port.re_root && port.recent_root_while != 0) || port.disputed
 }
 
+/// Whether a designated port may take its next step to forwarding.
 fn may_go_on(port: &PortState) -> bool
     ensures { result ≡ may_go_on port.now }
 {
@@ -135,6 +187,7 @@ fn may_go_on(port: &PortState) -> bool
         && (port.recent_root_while == 0 || !port.re_root)
 }
 
+/// Whether the port is to become Disabled.
 pub fn disable_guard(port: &PortState) -> bool
     ensures { result ≡ disable_guard port.now }
 {
@@ -150,10 +203,11 @@ pub fn disable(port: &mut PortState)
     port.forward = false;
 }
 
+/// Whether a Disabled port hasn't come to rest.
 pub fn disabled_port_guard(timing: &Timing, port: &PortState) -> bool
     ensures { result ≡ disabled_port_guard timing.now port.now }
 {
-    acts_as_disabled(port) && port.is_discarding() && is_unrested(port, u32::from(timing.max_age))
+    acts_as_disabled(port) && is_discarding(port) && is_unrested(port, u32::from(timing.max_age))
 }
 
 /// A Disabled port comes to rest.
@@ -167,6 +221,7 @@ pub fn disabled_port(timing: &Timing, port: &mut PortState)
     port.re_root = false;
 }
 
+/// Whether the port is to become the root port, or its time as such is to be begun anew.
 pub fn root_guard(timing: &Timing, port: &PortState) -> bool
     ensures { result ≡ root_guard timing.now port.now }
 {
@@ -183,6 +238,7 @@ pub fn root(timing: &Timing, port: &mut PortState)
     port.recent_root_while = u32::from(timing.forward_delay);
 }
 
+/// Whether the root port is proposed to, and hasn't agreed.
 pub fn root_proposed_guard(port: &PortState) -> bool
     ensures { result ≡ root_proposed_guard port.now }
 {
@@ -198,6 +254,7 @@ pub fn root_proposed(ports: &mut [PortState], p: usize)
     ports[p].proposed = false;
 }
 
+/// Whether the root port has to agree.
 pub fn root_agreed_guard(port: &PortState, all_synced: bool) -> bool
     ensures { result ≡ root_agreed_guard port.now all_synced }
 {
@@ -214,6 +271,7 @@ pub fn root_agreed(port: &mut PortState)
     port.new_info = true;
 }
 
+/// Whether the root port doesn't forward, and no port was told to leave the old root.
 pub fn reroot_guard(port: &PortState) -> bool
     ensures { result ≡ reroot_guard port.now }
 {
@@ -227,6 +285,7 @@ pub fn reroot(ports: &mut [PortState])
     set_re_root(ports);
 }
 
+/// Whether the root port forwards, and is told to leave the old root.
 pub fn rerooted_guard(port: &PortState) -> bool
     ensures { result ≡ rerooted_guard port.now }
 {
@@ -240,6 +299,7 @@ pub fn rerooted(port: &mut PortState)
     port.re_root = false;
 }
 
+/// Whether the root port may begin to learn.
 pub fn root_learn_guard(port: &PortState, re_rooted: bool) -> bool
     ensures { result ≡ root_learn_guard port.now re_rooted }
 {
@@ -254,6 +314,7 @@ pub fn root_learn(timing: &Timing, port: &mut PortState)
     port.learn = true;
 }
 
+/// Whether the root port may begin to forward.
 pub fn root_forward_guard(port: &PortState, re_rooted: bool) -> bool
     ensures { result ≡ root_forward_guard port.now re_rooted }
 {
@@ -268,6 +329,7 @@ pub fn root_forward(port: &mut PortState)
     port.forward = true;
 }
 
+/// Whether the port is to become Designated.
 pub fn designated_guard(port: &PortState) -> bool
     ensures { result ≡ designated_guard port.now }
 {
@@ -281,6 +343,7 @@ pub fn designated(port: &mut PortState)
     port.role = Role::Designated;
 }
 
+/// Whether a designated port hasn't asked yet to be agreed to.
 pub fn propose_guard(port: &PortState) -> bool
     ensures { result ≡ propose_guard port.now }
 {
@@ -293,9 +356,10 @@ pub fn propose(timing: &Timing, port: &mut PortState)
 {
     port.proposing = true;
     port.new_info = true;
-    port.edge_delay_while = port.edge_delay(timing);
+    port.edge_delay_while = edge_delay(port, timing);
 }
 
+/// Whether a designated port is in step with the tree, and isn't marked so.
 pub fn synced_guard(port: &PortState) -> bool
     ensures { result ≡ synced_guard port.now }
 {
@@ -311,6 +375,7 @@ pub fn synced(port: &mut PortState)
     port.sync = false;
 }
 
+/// Whether a designated port still leaves an old root that is no longer recent.
 pub fn retired_guard(port: &PortState) -> bool
     ensures { result ≡ retired_guard port.now }
 {
@@ -324,6 +389,7 @@ pub fn retired(port: &mut PortState)
     port.re_root = false;
 }
 
+/// Whether a designated port that learns or forwards has to go back.
 pub fn designated_discard_guard(port: &PortState) -> bool
     ensures { result ≡ designated_discard_guard port.now }
 {
@@ -343,6 +409,7 @@ pub fn designated_discard(timing: &Timing, port: &mut PortState)
     port.forward_delay_while = port.forward_delay(timing);
 }
 
+/// Whether a designated port may begin to learn.
 pub fn designated_learn_guard(port: &PortState) -> bool
     ensures { result ≡ designated_learn_guard port.now }
 {
@@ -357,6 +424,7 @@ pub fn designated_learn(timing: &Timing, port: &mut PortState)
     port.forward_delay_while = port.forward_delay(timing);
 }
 
+/// Whether a designated port may begin to forward.
 pub fn designated_forward_guard(port: &PortState) -> bool
     ensures { result ≡ designated_forward_guard port.now }
 {
@@ -372,10 +440,11 @@ pub fn designated_forward(port: &mut PortState)
     port.agreed = port.send_rstp;
 }
 
+/// Whether the port is to become Alternate or Backup.
 pub fn block_guard(port: &PortState) -> bool
     ensures { result ≡ block_guard port.now }
 {
-    port.may_act() && port.selected_role.is_blocked() && !port.has_role()
+    port.may_act() && is_blocked(port.selected_role) && !has_role(port)
 }
 
 /// The port becomes Alternate or Backup.
@@ -387,10 +456,11 @@ pub fn block(port: &mut PortState)
     port.forward = false;
 }
 
+/// Whether an Alternate or Backup port hasn't come to rest.
 pub fn alternate_guard(timing: &Timing, port: &PortState) -> bool
     ensures { result ≡ alternate_guard timing.now port.now }
 {
-    acts_as_blocked(port) && port.is_discarding() && is_unrested(port, port.forward_delay(timing))
+    acts_as_blocked(port) && is_discarding(port) && is_unrested(port, port.forward_delay(timing))
 }
 
 /// An Alternate or Backup port comes to rest.
@@ -404,6 +474,7 @@ pub fn alternate(timing: &Timing, port: &mut PortState)
     port.re_root = false;
 }
 
+/// Whether a blocked port is proposed to, and hasn't agreed.
 pub fn alternate_proposed_guard(port: &PortState) -> bool
     ensures { result ≡ alternate_proposed_guard port.now }
 {
@@ -419,6 +490,7 @@ pub fn alternate_proposed(ports: &mut [PortState], p: usize)
     ports[p].proposed = false;
 }
 
+/// Whether a blocked port has to agree.
 pub fn alternate_agreed_guard(port: &PortState, all_synced: bool) -> bool
     ensures { result ≡ alternate_agreed_guard port.now all_synced }
 {
@@ -434,6 +506,7 @@ pub fn alternate_agreed(port: &mut PortState)
     port.new_info = true;
 }
 
+/// Whether the time of a Backup port isn't at its whole.
 pub fn backup_guard(timing: &Timing, port: &PortState) -> bool
     ensures { result ≡ backup_guard timing.now port.now }
 {

@@ -12,6 +12,7 @@ ghost use Rattle.rstp_roles.specs.StateTransitions.{
 
 use rstp_state::port::PortState;
 
+/// Whether the port is to learn and doesn't.
 pub fn to_learning_guard(port: &PortState) -> bool
     ensures { result ≡ to_learning_guard port.now }
 {
@@ -25,6 +26,7 @@ pub fn to_learning(port: &mut PortState)
     port.learning = true;
 }
 
+/// Whether the port learns, is to forward, and doesn't.
 pub fn to_forwarding_guard(port: &PortState) -> bool
     ensures { result ≡ to_forwarding_guard port.now }
 {
@@ -38,6 +40,7 @@ pub fn to_forwarding(port: &mut PortState)
     port.forwarding = true;
 }
 
+/// Whether the port learns or forwards, and is to do so no longer.
 pub fn to_discarding_guard(port: &PortState) -> bool
     ensures { result ≡ to_discarding_guard port.now }
 {

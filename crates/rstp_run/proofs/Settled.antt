@@ -120,9 +120,6 @@ both-ways b P is_so not_so = (is_so, from b not_so)
 pub found : (r b : Bool) → r ≡ b → r ≡ true → b ≡ false → ⊥
 found r b is is_so not_so = cc
 
-pub off-both : (s : Tree) (m n : Bool) → (m ≡ false → AreOff MAIN s) → (n ≡ false → AreOff SENDS s) → m ≡ false → n ≡ false → IsSettled s
-off-both s m n main sends em en = settled-off s (main em) (sends en)
-
 pub not-true : (b : Bool) → not b ≡ true → b ≡ false
 not-true true h = cc
 not-true false h = refl

@@ -82,16 +82,6 @@ goes-one s t a rule p holds is below = record {
   within = omega arith;
 }
 
-pub goes-none : (s t : Tree) (a : Count) → t ≡ s → a.fired ≤ a.limit → Goes s a t a
-goes-none s t a same within = record {
-  firings = [];
-  run = same;
-  fired = omega arith;
-  flush = refl;
-  limit = refl;
-  within = within;
-}
-
 pub run-append : (fs gs : List Firing) (s t u : Tree) → Run fs s t → Run gs t u → Run (gs ++ fs) s u
 run-append fs [] s t u first second =
     let P : Tree → Type 0 = λ v. Run fs s v in subst P (sym second) first
@@ -117,13 +107,6 @@ fires-one s t a rule p holds is below = record {
   goes = goes-one s t a rule p holds is below;
   idle = λ none. absurd (omega (arith, none.same));
   ports = ap (λ (v : Tree). length v.ports) is ∙ length-ports_after rule s p;
-}
-
-pub fires-none : (P : Tree → Type 0) (s : Tree) (a : Count) → a.fired ≤ a.limit → (a.fired < a.limit → P s) → Sweeps P s a s a
-fires-none P s a within off = record {
-  goes = goes-none s s a refl within;
-  idle = λ none. (off none.below, refl);
-  ports = refl;
 }
 
 -- two sweeps make one

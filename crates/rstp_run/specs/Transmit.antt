@@ -1,5 +1,6 @@
 -- The transmit rules (IEEE 802.1D-2004, 17.26, in this project's own table).
 use Rattle.std.specs.Prelude.{ℕ, Bool, false, not, ◌&&◌, ◌||◌, ◌==◌, ◌+◌, ◌*◌, nat_lt, if◌then◌else◌, Some, is_none}
+use Rattle.bpdu_wire.specs.declared.bpdu.TheConstants.{TIME_UNITS, MOST_TIME}
 use Rattle.bpdu_wire.specs.declared.flags.TheConstants.{AGREEMENT, ALTERNATE_OR_BACKUP_ROLE, CHANGE_ACKNOWLEDGEMENT, DESIGNATED_ROLE}
 use Rattle.bpdu_wire.specs.declared.flags.TheConstants.{FORWARDING, LEARNING, PROPOSAL, ROOT_ROLE, TOPOLOGY_CHANGE}
 use Rattle.bpdu_wire.specs.declared.bpdu.Message.{Message}
@@ -11,9 +12,9 @@ use Rattle.rstp_state.specs.declared.port.Role.{Role}
 use Rattle.rstp_state.specs.declared.port.Role.TheVariants as role
 use Rattle.rstp_state.specs.Port.{may_act, is_disabled, is_root, is_designated}
 
--- seconds in 1/256 second; what does not fit the field is written as its greatest number
+-- seconds in the units of a message; what does not fit the field is written as its greatest number
 abbrev pub field_of : ℕ → ℕ
-field_of seconds = if nat_lt seconds 256 then seconds * 256 else 65535
+field_of seconds = if nat_lt seconds TIME_UNITS then seconds * TIME_UNITS else MOST_TIME
 
 -- the port's designated vector and times, with these flags
 abbrev pub message_with : ℕ → PortState → Message

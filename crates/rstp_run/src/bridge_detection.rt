@@ -11,12 +11,14 @@ ghost use Rattle.rstp_run.specs.BridgeDetection.{
 
 use rstp_state::port::PortState;
 
+/// Whether a port that asked for an agreement has waited in vain for a bridge (17.25).
 fn finds_no_bridge(port: &PortState) -> bool
     ensures { result ≡ finds_no_bridge port.now }
 {
     port.edge_delay_while == 0 && port.auto_edge && port.send_rstp && port.proposing
 }
 
+/// Whether a port that isn't an edge is one by its settings, or has found no bridge.
 pub(crate) fn edge_guard(port: &PortState) -> bool
     ensures { result ≡ edge_guard port.now }
 {
@@ -30,6 +32,7 @@ pub(crate) fn edge(port: &mut PortState)
     port.oper_edge = true;
 }
 
+/// Whether an edge went down that isn't one by its settings.
 pub(crate) fn not_edge_guard(port: &PortState) -> bool
     ensures { result ≡ not_edge_guard port.now }
 {

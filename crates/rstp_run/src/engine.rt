@@ -60,12 +60,14 @@ fn timing_of(settings: &Settings, root: &Root) -> Timing
     }
 }
 
+/// Whether a port asks for roles to be selected anew.
 fn wants_selection(ports: &[PortState]) -> bool
     ensures { result ≡ list_any wants_selection ports.now }
 {
     ports.iter().any(|port| port.reselect)
 }
 
+/// No port has anything to send.
 fn clear_slots(ports: &mut [PortState])
     ensures { ports.new ≡ map without_slot ports.old }
 {
@@ -74,6 +76,7 @@ fn clear_slots(ports: &mut [PortState])
     }
 }
 
+/// A second passes at every port.
 fn pass_seconds(ports: &mut [PortState])
     ensures { ports.new ≡ map with_second ports.old }
 {
@@ -257,6 +260,7 @@ impl Engine {
         }
     }
 
+    /// Whether one of these rules is enabled at the port at place `p`.
     fn has_enabled_at(&self, rules: &[Rule], p: usize) -> bool
         requires { p < length self.now.ports }
         ensures { result ≡ list_any (λ rule. guard rule self.now p) rules.now }
@@ -264,6 +268,7 @@ impl Engine {
         rules.iter().any(|rule| self.is_enabled(*rule, p))
     }
 
+    /// Whether one of these rules is enabled at any port.
     fn has_enabled(&self, rules: &[Rule]) -> bool
         ensures off { result ≡ false → AreOff rules.now self.now }
         ensures on { result ≡ true → ¬ AreOff rules.now self.now }

@@ -42,6 +42,7 @@ use crate::transmit::{
 };
 use rstp_state::port::{PortState, Timing};
 
+/// Whether a receive rule is enabled at a port.
 pub(crate) fn receive_is_enabled(port: &PortState, rule: ReceiveRule) -> bool
     ensures { result ≡ receive_asks rule port.now }
 {
@@ -51,6 +52,7 @@ pub(crate) fn receive_is_enabled(port: &PortState, rule: ReceiveRule) -> bool
     }
 }
 
+/// Fires a receive rule at a port.
 pub(crate) fn fire_receive(port: &mut PortState, rule: ReceiveRule)
     ensures { port.new ≡ receive_does rule port.old }
 {
@@ -60,6 +62,7 @@ pub(crate) fn fire_receive(port: &mut PortState, rule: ReceiveRule)
     }
 }
 
+/// Whether a rule of protocol migration is enabled at a port.
 pub(crate) fn migration_is_enabled(port: &PortState, rule: MigrationRule) -> bool
     ensures { result ≡ migration_asks rule port.now }
 {
@@ -72,6 +75,7 @@ pub(crate) fn migration_is_enabled(port: &PortState, rule: MigrationRule) -> boo
     }
 }
 
+/// Fires a rule of protocol migration at a port.
 pub(crate) fn fire_migration(port: &mut PortState, rule: MigrationRule)
     ensures { port.new ≡ migration_does rule port.old }
 {
@@ -84,6 +88,7 @@ pub(crate) fn fire_migration(port: &mut PortState, rule: MigrationRule)
     }
 }
 
+/// Whether a rule of bridge detection is enabled at a port.
 pub(crate) fn detection_is_enabled(port: &PortState, rule: DetectionRule) -> bool
     ensures { result ≡ detection_asks rule port.now }
 {
@@ -93,6 +98,7 @@ pub(crate) fn detection_is_enabled(port: &PortState, rule: DetectionRule) -> boo
     }
 }
 
+/// Fires a rule of bridge detection at a port.
 pub(crate) fn fire_detection(port: &mut PortState, rule: DetectionRule)
     ensures { port.new ≡ detection_does rule port.old }
 {
@@ -102,6 +108,7 @@ pub(crate) fn fire_detection(port: &mut PortState, rule: DetectionRule)
     }
 }
 
+/// Whether an information rule is enabled at a port.
 pub(crate) fn information_is_enabled(port: &PortState, rule: InformationRule) -> bool
     ensures { result ≡ information_asks rule port.now }
 {
@@ -119,6 +126,7 @@ pub(crate) fn information_is_enabled(port: &PortState, rule: InformationRule) ->
     }
 }
 
+/// Fires an information rule at a port.
 pub(crate) fn fire_information(port: &mut PortState, rule: InformationRule)
     ensures { port.new ≡ information_does rule port.old }
 {
@@ -136,6 +144,7 @@ pub(crate) fn fire_information(port: &mut PortState, rule: InformationRule)
     }
 }
 
+/// Whether a rule of topology change is enabled at a port.
 pub(crate) fn topology_is_enabled(port: &PortState, rule: TopologyRule) -> bool
     ensures { result ≡ topology_asks rule port.now }
 {
@@ -172,6 +181,7 @@ pub(crate) fn fire_topology(timing: &Timing, ports: &mut [PortState], rule: Topo
     }
 }
 
+/// Whether a transmit rule is enabled at a port.
 pub(crate) fn transmit_is_enabled(timing: &Timing, port: &PortState, rule: TransmitRule) -> bool
     ensures { result ≡ transmit_asks rule timing.now port.now }
 {
@@ -183,6 +193,7 @@ pub(crate) fn transmit_is_enabled(timing: &Timing, port: &PortState, rule: Trans
     }
 }
 
+/// Fires a transmit rule at a port.
 pub(crate) fn fire_transmit(timing: &Timing, port: &mut PortState, rule: TransmitRule)
     requires { transmit_asks rule timing.now port.old ≡ true }
     ensures { port.new ≡ transmit_does rule timing.now port.old }

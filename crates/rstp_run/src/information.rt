@@ -1,6 +1,7 @@
 //! The information rules (17.27): what a received message says of the tree.
 
 ghost use Rattle.std.specs.Prelude.{◌≡◌};
+ghost use Rattle.rstp_state.specs.Port.{is_current, is_mine, is_out};
 ghost use Rattle.rstp_state.specs.Vector.{is_less};
 ghost use Rattle.rstp_run.specs.Information.{
   message_has,
@@ -48,6 +49,27 @@ use bpdu_wire::{
 };
 use rstp_state::port::{InfoIs, Information, PortState, has_flag};
 use rstp_state::vector::{Times, Vector};
+
+/// Whether the machine is in its state Disabled.
+pub(crate) fn is_out(state: Information) -> bool
+    ensures { result ≡ is_out state }
+{
+    matches!(state, Information::Disabled)
+}
+
+/// Whether the machine is in its state Current.
+fn is_current(state: Information) -> bool
+    ensures { result ≡ is_current state }
+{
+    matches!(state, Information::Current)
+}
+
+/// Whether the information is the port's own.
+fn is_mine(info: InfoIs) -> bool
+    ensures { result ≡ is_mine info }
+{
+    matches!(info, InfoIs::Mine)
+}
 
 /// Whether a message with fields is stored that has the flag.
 fn message_has(flag: u8, message: Option<Bpdu>) -> bool
@@ -98,6 +120,7 @@ fn info_time(times: &Times) -> u32
     }
 }
 
+/// The time in which the port's information is kept is begun.
 fn start_info_time(port: &mut PortState)
     ensures { port.new ≡ with_info_time port.old }
 {
@@ -115,6 +138,7 @@ fn take_message_info(port: &mut PortState)
     }
 }
 
+/// The message's vector and times are the port's.
 fn set_info(port: &mut PortState, message: &Message)
     ensures { port.new ≡ with_info message.now port.old }
 {
@@ -122,6 +146,7 @@ fn set_info(port: &mut PortState, message: &Message)
     port.port_times = Times::of_message(message);
 }
 
+/// The port's information is no longer good: roles are to be selected anew.
 fn age(port: &mut PortState)
     ensures { port.new ≡ aging port.old }
 {
@@ -131,10 +156,11 @@ fn age(port: &mut PortState)
     port.selected = false;
 }
 
+/// Whether a port went down whose machine isn't Disabled yet.
 pub(crate) fn disabled_guard(port: &PortState) -> bool
     ensures { result ≡ disabled_guard port.now }
 {
-    !port.enabled && !port.information.is_out()
+    !port.enabled && !is_out(port.information)
 }
 
 /// The port went down.
@@ -153,10 +179,11 @@ pub(crate) fn disabled(port: &mut PortState)
     port.selected = false;
 }
 
+/// Whether a message waits at a port that is down.
 pub(crate) fn drop_guard(port: &PortState) -> bool
     ensures { result ≡ drop_guard port.now }
 {
-    port.information.is_out() && port.received_message
+    is_out(port.information) && port.received_message
 }
 
 /// A message at a port that is down is dropped.
@@ -166,10 +193,11 @@ pub(crate) fn drop_message(port: &mut PortState)
     port.received_message = false;
 }
 
+/// Whether a port came up whose machine is Disabled still.
 pub(crate) fn enabled_guard(port: &PortState) -> bool
     ensures { result ≡ enabled_guard port.now }
 {
-    port.information.is_out() && port.enabled
+    is_out(port.information) && port.enabled
 }
 
 /// The port came up.
@@ -179,16 +207,18 @@ pub(crate) fn enabled(port: &mut PortState)
     age(port);
 }
 
+/// Whether the port's designated vector and times wait to be taken over.
 pub(crate) fn update_guard(port: &PortState) -> bool
     ensures { result ≡ update_guard port.now }
 {
-    !port.information.is_out() && port.selected && port.update_info
+    !is_out(port.information) && port.selected && port.update_info
 }
 
+/// Whether the other end still agrees: it agreed to the port's own vector, which gets no worse.
 fn keeps_agreed(port: &PortState) -> bool
     ensures { result ≡ keeps_agreed port.now }
 {
-    port.agreed && port.info_is.is_mine() && !port.port_priority.is_less(&port.designated_priority)
+    port.agreed && is_mine(port.info_is) && !port.port_priority.is_less(&port.designated_priority)
 }
 
 /// The port takes over its designated vector and times.
@@ -207,10 +237,11 @@ pub(crate) fn update(port: &mut PortState)
     port.information = Information::Current;
 }
 
+/// Whether received information is too old, and nothing newer waits.
 pub(crate) fn aged_guard(port: &PortState) -> bool
     ensures { result ≡ aged_guard port.now }
 {
-    port.information.is_current()
+    is_current(port.information)
         && port.info_is.is_received()
         && port.received_info_while == 0
         && !port.update_info
@@ -224,18 +255,21 @@ pub(crate) fn aged(port: &mut PortState)
     age(port);
 }
 
+/// Whether a message waits that may be looked at.
 fn may_take(port: &PortState) -> bool
     ensures { result ≡ may_take port.now }
 {
-    port.information.is_current() && port.received_message && !port.update_info
+    is_current(port.information) && port.received_message && !port.update_info
 }
 
+/// Whether a message waits that is better information of a designated port.
 pub(crate) fn superior_guard(port: &PortState) -> bool
     ensures { result ≡ superior_guard port.now }
 {
     may_take(port) && class_of(port).is_superior()
 }
 
+/// Whether the port still agrees: it agreed to received information, and the message says none worse.
 fn keeps_agree(port: &PortState) -> bool
     ensures { result ≡ keeps_agree port.now }
 {
@@ -253,6 +287,7 @@ fn is_worse(port: &PortState, message: Option<Bpdu>) -> bool
     }
 }
 
+/// The port is the other end's now: roles are to be selected anew.
 fn set_superior_flags(port: &mut PortState)
     ensures { port.new ≡ with_superior_flags port.old }
 {
@@ -276,6 +311,7 @@ pub(crate) fn superior(port: &mut PortState)
     port.received_message = false;
 }
 
+/// Whether a message waits that says what the port knows.
 pub(crate) fn repeated_guard(port: &PortState) -> bool
     ensures { result ≡ repeated_guard port.now }
 {
@@ -292,6 +328,7 @@ pub(crate) fn repeated(port: &mut PortState)
     port.received_message = false;
 }
 
+/// Whether a message waits that is worse information of a designated port.
 pub(crate) fn inferior_guard(port: &PortState) -> bool
     ensures { result ≡ inferior_guard port.now }
 {
@@ -309,6 +346,7 @@ pub(crate) fn inferior(port: &mut PortState)
     port.received_message = false;
 }
 
+/// Whether a message waits that a root, alternate or backup port sent.
 pub(crate) fn not_designated_guard(port: &PortState) -> bool
     ensures { result ≡ not_designated_guard port.now }
 {
@@ -336,6 +374,7 @@ pub(crate) fn not_designated(port: &mut PortState)
     port.received_message = false;
 }
 
+/// Whether any other message waits.
 pub(crate) fn other_guard(port: &PortState) -> bool
     ensures { result ≡ other_guard port.now }
 {

@@ -1,6 +1,7 @@
 //! The protocol migration rules (17.24): which protocol the port sends.
 
 ghost use Rattle.std.specs.Prelude.{◌≡◌};
+ghost use Rattle.rstp_state.specs.Port.{is_checking, is_selecting, is_sensing};
 ghost use Rattle.rstp_run.specs.Migration.{
   enter_checking,
   enter_selecting,
@@ -13,6 +14,27 @@ ghost use Rattle.rstp_run.specs.Migration.{
 };
 
 use rstp_state::port::{Migration, PortState};
+
+/// Whether the machine is in its state Checking.
+pub(crate) fn is_checking(state: Migration) -> bool
+    ensures { result ≡ is_checking state }
+{
+    matches!(state, Migration::Checking)
+}
+
+/// Whether the machine is in its state Selecting.
+fn is_selecting(state: Migration) -> bool
+    ensures { result ≡ is_selecting state }
+{
+    matches!(state, Migration::Selecting)
+}
+
+/// Whether the machine is in its state Sensing.
+fn is_sensing(state: Migration) -> bool
+    ensures { result ≡ is_sensing state }
+{
+    matches!(state, Migration::Sensing)
+}
 
 /// The port sends the rapid protocol, and waits before it listens for the other.
 pub(crate) fn enter_checking(port: &mut PortState)
@@ -46,21 +68,21 @@ pub(crate) fn enter_sensing(port: &mut PortState)
 pub(crate) fn recheck_guard(port: &PortState) -> bool
     ensures { result ≡ recheck_guard port.now }
 {
-    port.migration.is_checking() && port.migration_delay_while != 3 && !port.enabled
+    is_checking(port.migration) && port.migration_delay_while != 3 && !port.enabled
 }
 
 /// Checking is over.
 pub(crate) fn checked_guard(port: &PortState) -> bool
     ensures { result ≡ checked_guard port.now }
 {
-    port.migration.is_checking() && port.migration_delay_while == 0 && port.enabled
+    is_checking(port.migration) && port.migration_delay_while == 0 && port.enabled
 }
 
 /// Selecting is over.
 pub(crate) fn selected_guard(port: &PortState) -> bool
     ensures { result ≡ selected_guard port.now }
 {
-    port.migration.is_selecting()
+    is_selecting(port.migration)
         && (port.migration_delay_while == 0 || !port.enabled || port.check_migration)
 }
 
@@ -68,7 +90,7 @@ pub(crate) fn selected_guard(port: &PortState) -> bool
 pub(crate) fn to_rstp_guard(port: &PortState) -> bool
     ensures { result ≡ to_rstp_guard port.now }
 {
-    port.migration.is_sensing()
+    is_sensing(port.migration)
         && (!port.enabled || port.check_migration || (!port.send_rstp && port.received_rstp))
 }
 
@@ -76,5 +98,5 @@ pub(crate) fn to_rstp_guard(port: &PortState) -> bool
 pub(crate) fn to_stp_guard(port: &PortState) -> bool
     ensures { result ≡ to_stp_guard port.now }
 {
-    port.migration.is_sensing() && port.send_rstp && port.received_stp
+    is_sensing(port.migration) && port.send_rstp && port.received_stp
 }

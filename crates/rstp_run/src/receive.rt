@@ -6,6 +6,7 @@ ghost use Rattle.rstp_run.specs.Receive.{discard_guard, discard_effect, receive_
 use bpdu_wire::Bpdu;
 use rstp_state::port::PortState;
 
+/// Whether a port that isn't enabled has something to forget.
 pub(crate) fn discard_guard(port: &PortState) -> bool
     ensures { result ≡ discard_guard port.now }
 {
@@ -23,6 +24,7 @@ pub(crate) fn discard(port: &mut PortState)
     port.edge_delay_while = 3;
 }
 
+/// Whether a message came that may be handed on: the one before it is done with.
 pub(crate) fn receive_guard(port: &PortState) -> bool
     ensures { result ≡ receive_guard port.now }
 {

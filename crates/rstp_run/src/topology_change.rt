@@ -2,6 +2,7 @@
 //! the bridges tell each other so.
 
 ghost use Rattle.std.specs.Prelude.{◌≡◌, ◌<◌, length, map};
+ghost use Rattle.rstp_state.specs.Port.{is_active, is_inactive, is_learning};
 ghost use Rattle.rstp_run.specs.TopologyChange.{
   is_in_tree,
   has_changes,
@@ -37,12 +38,35 @@ ghost use Rattle.rstp_run.specs.TopologyChange.{
 
 use rstp_state::port::{PortState, Timing, Topology};
 
+/// Whether the machine is in its state Inactive.
+fn is_inactive(state: Topology) -> bool
+    ensures { result ≡ is_inactive state }
+{
+    matches!(state, Topology::Inactive)
+}
+
+/// Whether the machine is in its state Learning.
+fn is_learning(state: Topology) -> bool
+    ensures { result ≡ is_learning state }
+{
+    matches!(state, Topology::Learning)
+}
+
+/// Whether the machine is in its state Active.
+pub(crate) fn is_active(state: Topology) -> bool
+    ensures { result ≡ is_active state }
+{
+    matches!(state, Topology::Active)
+}
+
+/// Whether the port's role has it in the tree: root or designated.
 fn is_in_tree(port: &PortState) -> bool
     ensures { result ≡ is_in_tree port.now }
 {
     port.role.is_root() || port.role.is_designated()
 }
 
+/// Whether the port was told of a change that it hasn't dealt with.
 fn has_changes(port: &PortState) -> bool
     ensures { result ≡ has_changes port.now }
 {
@@ -52,6 +76,7 @@ fn has_changes(port: &PortState) -> bool
         || port.propagate_topology_change
 }
 
+/// Forgets what the port was told of changes.
 fn clear_changes(port: &mut PortState)
     ensures { port.new ≡ without_changes port.old }
 {
@@ -76,12 +101,14 @@ fn start_change_timer(timing: &Timing, port: &mut PortState)
     }
 }
 
+/// The port is to pass a change on.
 fn propagate_change(port: &mut PortState)
     ensures { port.new ≡ with_propagation port.old }
 {
     port.propagate_topology_change = true;
 }
 
+/// Every port is to pass a change on.
 fn propagate_changes(ports: &mut [PortState])
     ensures { ports.new ≡ map with_propagation ports.old }
 {
@@ -90,10 +117,11 @@ fn propagate_changes(ports: &mut [PortState])
     }
 }
 
+/// Whether the machine is Inactive at a port that begins to learn.
 pub(crate) fn tc_learning_guard(port: &PortState) -> bool
     ensures { result ≡ tc_learning_guard port.now }
 {
-    port.topology.is_inactive() && port.learn && !port.flush
+    is_inactive(port.topology) && port.learn && !port.flush
 }
 
 /// The port begins to learn.
@@ -104,12 +132,14 @@ pub(crate) fn tc_learning(port: &mut PortState)
     port.topology = Topology::Learning;
 }
 
+/// Whether a port of the tree begins to forward: a change.
 pub(crate) fn detected_guard(port: &PortState) -> bool
     ensures { result ≡ detected_guard port.now }
 {
-    port.topology.is_learning() && is_in_tree(port) && port.forward && !port.oper_edge
+    is_learning(port.topology) && is_in_tree(port) && port.forward && !port.oper_edge
 }
 
+/// The port is active now, which is a change: it tells of it for a while.
 fn detect(timing: &Timing, port: &mut PortState)
     ensures { port.new ≡ detected_at timing.now port.old }
 {
@@ -129,10 +159,11 @@ pub(crate) fn detected(timing: &Timing, ports: &mut [PortState], p: usize)
     ports[p] = port;
 }
 
+/// Whether a port that isn't active was told of a change.
 pub(crate) fn tc_clear_guard(port: &PortState) -> bool
     ensures { result ≡ tc_clear_guard port.now }
 {
-    port.topology.is_learning() && has_changes(port) && !detected_guard(port)
+    is_learning(port.topology) && has_changes(port) && !detected_guard(port)
 }
 
 /// A port that is not in the tree hears of no changes.
@@ -142,10 +173,11 @@ pub(crate) fn tc_clear(port: &mut PortState)
     clear_changes(port);
 }
 
+/// Whether a port out of the tree learns no longer.
 pub(crate) fn tc_inactive_guard(port: &PortState) -> bool
     ensures { result ≡ tc_inactive_guard port.now }
 {
-    port.topology.is_learning()
+    is_learning(port.topology)
         && !is_in_tree(port)
         && !port.learn
         && !port.learning
@@ -162,10 +194,11 @@ pub(crate) fn tc_inactive(port: &mut PortState)
     port.acknowledge_topology_change = false;
 }
 
+/// Whether an active port left the tree, or is an edge.
 pub(crate) fn tc_back_guard(port: &PortState) -> bool
     ensures { result ≡ tc_back_guard port.now }
 {
-    port.topology.is_active() && (!is_in_tree(port) || port.oper_edge)
+    is_active(port.topology) && (!is_in_tree(port) || port.oper_edge)
 }
 
 /// The port left the tree, or is an edge.
@@ -176,12 +209,14 @@ pub(crate) fn tc_back(port: &mut PortState)
     port.topology = Topology::Learning;
 }
 
+/// Whether a bridge of the older protocol told an active port of a change.
 pub(crate) fn notified_tcn_guard(port: &PortState) -> bool
     ensures { result ≡ notified_tcn_guard port.now }
 {
-    port.topology.is_active() && port.received_notification
+    is_active(port.topology) && port.received_notification
 }
 
+/// What was told is dealt with; a designated port is to acknowledge it.
 fn note(port: &mut PortState)
     ensures { port.new ≡ notified_at port.old }
 {
@@ -191,6 +226,7 @@ fn note(port: &mut PortState)
         || port.role.is_designated();
 }
 
+/// The port tells the change for a while, and what it was told is dealt with.
 fn note_notification(timing: &Timing, port: &mut PortState)
     ensures { port.new ≡ notified_tcn_at timing.now port.old }
 {
@@ -209,10 +245,11 @@ pub(crate) fn notified_tcn(timing: &Timing, ports: &mut [PortState], p: usize)
     ports[p] = port;
 }
 
+/// Whether a message told an active port of a change.
 pub(crate) fn notified_tc_guard(port: &PortState) -> bool
     ensures { result ≡ notified_tc_guard port.now }
 {
-    port.topology.is_active() && port.received_topology_change
+    is_active(port.topology) && port.received_topology_change
 }
 
 /// A message tells of a change, which every other port is to pass on.
@@ -226,10 +263,11 @@ pub(crate) fn notified_tc(ports: &mut [PortState], p: usize)
     ports[p] = port;
 }
 
+/// Whether an active port that isn't an edge is to pass a change on.
 pub(crate) fn propagating_guard(port: &PortState) -> bool
     ensures { result ≡ propagating_guard port.now }
 {
-    port.topology.is_active() && port.propagate_topology_change && !port.oper_edge
+    is_active(port.topology) && port.propagate_topology_change && !port.oper_edge
 }
 
 /// The port passes a change on, and what was learnt at it is forgotten.
@@ -241,10 +279,11 @@ pub(crate) fn propagating(timing: &Timing, port: &mut PortState)
     port.propagate_topology_change = false;
 }
 
+/// Whether an active port's change was acknowledged.
 pub(crate) fn acknowledged_guard(port: &PortState) -> bool
     ensures { result ≡ acknowledged_guard port.now }
 {
-    port.topology.is_active() && port.received_acknowledgement
+    is_active(port.topology) && port.received_acknowledgement
 }
 
 /// The other end knows of the change.
@@ -255,6 +294,7 @@ pub(crate) fn acknowledged(port: &mut PortState)
     port.received_acknowledgement = false;
 }
 
+/// Whether what was learnt at the port is to be forgotten.
 pub(crate) fn flush_guard(port: &PortState) -> bool
     ensures { result ≡ flush_guard port.now }
 {

@@ -25,15 +25,19 @@ ghost use Rattle.rstp_run.specs.Transmit.{
 
 use bpdu_wire::{
     AGREEMENT, ALTERNATE_OR_BACKUP_ROLE, Bpdu, CHANGE_ACKNOWLEDGEMENT, DESIGNATED_ROLE, FORWARDING,
-    LEARNING, Message, PROPOSAL, ROLE_BITS, ROOT_ROLE, TOPOLOGY_CHANGE,
+    LEARNING, MOST_TIME, Message, PROPOSAL, ROLE_BITS, ROOT_ROLE, TIME_UNITS, TOPOLOGY_CHANGE,
 };
 use rstp_state::port::{PortState, Role, Timing};
 
-/// Seconds in 1/256 second. What doesn't fit the field is written as its greatest number.
+/// Seconds in the units of a message. What doesn't fit the field is written as its greatest number.
 fn field_of(seconds: u16) -> u16
     ensures { result ≡ field_of seconds }
 {
-    if seconds < 256 { seconds * 256 } else { 65535 }
+    if seconds < TIME_UNITS {
+        seconds * TIME_UNITS
+    } else {
+        MOST_TIME
+    }
 }
 
 /// The port's designated vector and times, with these flags.
@@ -119,6 +123,7 @@ fn send(timing: &Timing, bpdu: Bpdu, port: &mut PortState)
     port.hello_when = u32::from(timing.hello);
 }
 
+/// Whether a Hello time is over.
 pub(crate) fn periodic_guard(port: &PortState) -> bool
     ensures { result ≡ periodic_guard port.now }
 {
@@ -136,6 +141,7 @@ pub(crate) fn periodic(timing: &Timing, port: &mut PortState)
         || (port.role.is_root() && port.topology_change_while != 0);
 }
 
+/// Whether a designated port is to send by the older protocol.
 pub(crate) fn send_config_guard(timing: &Timing, port: &PortState) -> bool
     ensures { result ≡ send_config_guard timing.now port.now }
 {
@@ -152,6 +158,7 @@ pub(crate) fn send_config(timing: &Timing, port: &mut PortState)
     port.acknowledge_topology_change = false;
 }
 
+/// Whether the root port is to tell of a change by the older protocol.
 pub(crate) fn send_tcn_guard(timing: &Timing, port: &PortState) -> bool
     ensures { result ≡ send_tcn_guard timing.now port.now }
 {
@@ -166,6 +173,7 @@ pub(crate) fn send_tcn(timing: &Timing, port: &mut PortState)
     send(timing, Bpdu::Tcn, port);
 }
 
+/// Whether the port is to send by the rapid protocol.
 pub(crate) fn send_rst_guard(timing: &Timing, port: &PortState) -> bool
     ensures { result ≡ send_rst_guard timing.now port.now }
 {

@@ -8,6 +8,7 @@ use Rattle.std.specs.List.{list_all, filter_map, enumerate_from}
 use Rattle.std.specs.declared.cmp.Ordering.{Ordering}
 use Rattle.std.specs.Ordering.{nat_cmp, ordering_then, is_lt}
 use Rattle.bpdu_wire.specs.Id.{bridge_address}
+use Rattle.bpdu_wire.specs.declared.bpdu.TheConstants.{MOST_TIME}
 use Rattle.rstp_state.specs.declared.port.InfoIs.{InfoIs}
 use Rattle.rstp_state.specs.declared.port.InfoIs.TheVariants as info_is
 use Rattle.rstp_state.specs.declared.port.PortState.{PortState}
@@ -73,7 +74,7 @@ best_path s ports = unwrap_or (find (is_least (candidates s ports)) (candidates 
 
 -- a bridge further from the root, the message age is 1 more
 abbrev pub times_beyond : Times → Times
-times_beyond t = record t { message_age = min (t.message_age + 1) 65535 }
+times_beyond t = record t { message_age = min (t.message_age + 1) MOST_TIME }
 
 -- the root's times: those of the root port, one bridge further, or the bridge's own
 abbrev pub root_along : Settings → List PortState → Path → Root

@@ -1,7 +1,8 @@
 -- Vectors and times, and when a message is superior to what a port knows.
-use Rattle.std.specs.Prelude.{◌≡◌, ℕ, Bool, false, not, ◌&&◌, ◌||◌, ◌==◌, ◌+◌, ◌/◌, max}
+use Rattle.std.specs.Prelude.{◌≡◌, ℕ, Bool, false, not, ◌&&◌, ◌||◌, ◌==◌, ◌+◌, ◌-◌, ◌/◌, max}
 use Rattle.std.specs.declared.cmp.Ordering.{Ordering}
 use Rattle.std.specs.Ordering.{nat_cmp, ordering_then, is_lt}
+use Rattle.bpdu_wire.specs.declared.bpdu.TheConstants.{TIME_UNITS}
 use Rattle.bpdu_wire.specs.declared.bpdu.Message.{Message}
 use Rattle.bpdu_wire.specs.Id.{bridge_address, port_number}
 use Rattle.rstp_state.specs.declared.vector.Vector.{Vector}
@@ -27,9 +28,9 @@ same_times a b = a.message_age == b.message_age && (a.max_age == b.max_age && (a
 abbrev pub vector_of : Message → Vector
 vector_of m = record { root = m.root; cost = m.cost; bridge = m.bridge; port = m.port }
 
--- a number of 1/256 seconds in whole seconds, rounded up
+-- a time of a message in whole seconds, rounded up
 abbrev pub seconds_of : ℕ → ℕ
-seconds_of n = (n + 255) / 256
+seconds_of n = (n + (TIME_UNITS - 1)) / TIME_UNITS
 
 -- a message's times, in seconds; a Hello time is at least 1
 abbrev pub times_of : Message → Times

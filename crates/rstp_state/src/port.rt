@@ -188,7 +188,7 @@ pub struct Timing {
 }
 
 impl Role {
-    ghost use Rattle.rstp_state.specs.Port.{is_disabled, is_root, is_designated, is_backup, is_blocked};
+    ghost use Rattle.rstp_state.specs.Port.{is_disabled, is_root, is_designated};
 
     /// Whether the role is Disabled.
     pub fn is_disabled(self) -> bool
@@ -210,92 +210,10 @@ impl Role {
     {
         matches!(self, Role::Designated)
     }
-
-    /// Whether the role is Backup.
-    pub fn is_backup(self) -> bool
-        ensures { result ≡ is_backup self }
-    {
-        matches!(self, Role::Backup)
-    }
-
-    /// Whether the role is Alternate or Backup.
-    pub fn is_blocked(self) -> bool
-        ensures { result ≡ is_blocked self }
-    {
-        matches!(self, Role::Alternate | Role::Backup)
-    }
-}
-
-impl Migration {
-    ghost use Rattle.rstp_state.specs.Port.{is_checking, is_selecting, is_sensing};
-
-    /// Whether the machine is in its state Checking.
-    pub fn is_checking(self) -> bool
-        ensures { result ≡ is_checking self }
-    {
-        matches!(self, Migration::Checking)
-    }
-
-    /// Whether the machine is in its state Selecting.
-    pub fn is_selecting(self) -> bool
-        ensures { result ≡ is_selecting self }
-    {
-        matches!(self, Migration::Selecting)
-    }
-
-    /// Whether the machine is in its state Sensing.
-    pub fn is_sensing(self) -> bool
-        ensures { result ≡ is_sensing self }
-    {
-        matches!(self, Migration::Sensing)
-    }
-}
-
-impl Information {
-    ghost use Rattle.rstp_state.specs.Port.{is_out, is_current};
-
-    /// Whether the machine is in its state Disabled.
-    pub fn is_out(self) -> bool
-        ensures { result ≡ is_out self }
-    {
-        matches!(self, Information::Disabled)
-    }
-
-    /// Whether the machine is in its state Current.
-    pub fn is_current(self) -> bool
-        ensures { result ≡ is_current self }
-    {
-        matches!(self, Information::Current)
-    }
-}
-
-impl Topology {
-    ghost use Rattle.rstp_state.specs.Port.{is_inactive, is_learning, is_active};
-
-    /// Whether the machine is in its state Inactive.
-    pub fn is_inactive(self) -> bool
-        ensures { result ≡ is_inactive self }
-    {
-        matches!(self, Topology::Inactive)
-    }
-
-    /// Whether the machine is in its state Learning.
-    pub fn is_learning(self) -> bool
-        ensures { result ≡ is_learning self }
-    {
-        matches!(self, Topology::Learning)
-    }
-
-    /// Whether the machine is in its state Active.
-    pub fn is_active(self) -> bool
-        ensures { result ≡ is_active self }
-    {
-        matches!(self, Topology::Active)
-    }
 }
 
 impl InfoIs {
-    ghost use Rattle.rstp_state.specs.Port.{is_received, is_mine};
+    ghost use Rattle.rstp_state.specs.Port.{is_received};
 
     /// Whether the information was received.
     pub fn is_received(self) -> bool
@@ -303,22 +221,12 @@ impl InfoIs {
     {
         matches!(self, InfoIs::Received)
     }
-
-    /// Whether the information is the port's own.
-    pub fn is_mine(self) -> bool
-        ensures { result ≡ is_mine self }
-    {
-        matches!(self, InfoIs::Mine)
-    }
 }
 
 impl PortState {
     ghost use Rattle.rstp_state.specs.Port.{
       may_act,
-      has_role,
-      is_discarding,
       forward_delay,
-      edge_delay,
     };
 
     /// The roles are chosen, and nothing waits to be taken over.
@@ -326,20 +234,6 @@ impl PortState {
         ensures { result ≡ may_act self.now }
     {
         self.selected && !self.update_info
-    }
-
-    /// The port has taken its selected role.
-    pub fn has_role(&self) -> bool
-        ensures { result ≡ has_role self.now }
-    {
-        self.role == self.selected_role
-    }
-
-    /// The port neither learns nor forwards.
-    pub fn is_discarding(&self) -> bool
-        ensures { result ≡ is_discarding self.now }
-    {
-        !self.learning && !self.forwarding
     }
 
     /// How long the port waits in each state on its way to forwarding, in seconds: with the rapid
@@ -352,17 +246,6 @@ impl PortState {
         } else {
             timing.forward_delay
         })
-    }
-
-    /// How long the port waits before it may be an edge, in seconds (17.20.4).
-    pub fn edge_delay(&self, timing: &Timing) -> u32
-        ensures { result ≡ edge_delay timing.now self.now }
-    {
-        if self.point_to_point {
-            3
-        } else {
-            u32::from(timing.max_age)
-        }
     }
 }
 

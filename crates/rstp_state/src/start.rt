@@ -40,7 +40,7 @@ pub struct PortSettings {
 
 impl Settings {
     /// The times of a root: no message age, and the configured others.
-    pub fn own_times(&self) -> Times
+    pub(crate) fn own_times(&self) -> Times
         ensures { result ≡ own_times self.now }
     {
         Times {
@@ -52,7 +52,7 @@ impl Settings {
     }
 
     /// The vector by which the bridge, as root, would send at the port.
-    pub fn own_vector(&self, port: PortId) -> Vector
+    pub(crate) fn own_vector(&self, port: PortId) -> Vector
         ensures { result ≡ own_vector self.now port }
     {
         Vector {
@@ -72,7 +72,7 @@ fn port_identifier(priority: u8, number: u8) -> PortId
 }
 
 /// A port before its first event: not enabled, and with nothing to do.
-pub fn start_port(settings: &Settings, port: &PortSettings, number: u8) -> PortState
+pub(crate) fn start_port(settings: &Settings, port: &PortSettings, number: u8) -> PortState
     ensures { result ≡ start_port settings.now port.now number }
 {
     let identifier = port_identifier(port.priority, number);

@@ -3,7 +3,7 @@
 ghost use Rattle.std.specs.Prelude.{◌≡◌};
 ghost use Rattle.rstp_state.specs.Vector.{is_less, vector_of, times_of, superior};
 
-use bpdu_wire::{BridgeId, Message, PortId};
+use bpdu_wire::{BridgeId, Message, PortId, TIME_UNITS};
 
 /// A priority vector: what a bridge says of its way to the root. Vectors are compared field by
 /// field in this order, and the lesser one is the better (IEEE 802.1D-2004, 17.5).
@@ -56,10 +56,10 @@ impl Times {
         ensures { result ≡ times_of message.now }
     {
         Times {
-            message_age: message.message_age.div_ceil(256),
-            max_age: message.max_age.div_ceil(256),
-            hello: message.hello.div_ceil(256).max(1),
-            forward_delay: message.forward_delay.div_ceil(256),
+            message_age: message.message_age.div_ceil(TIME_UNITS),
+            max_age: message.max_age.div_ceil(TIME_UNITS),
+            hello: message.hello.div_ceil(TIME_UNITS).max(1),
+            forward_delay: message.forward_delay.div_ceil(TIME_UNITS),
         }
     }
 }

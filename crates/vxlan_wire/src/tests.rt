@@ -1,3 +1,4 @@
+//! The header both ways, and each refusal.
 use crate::{Refusal, header, read};
 use ether_wire::Vni;
 

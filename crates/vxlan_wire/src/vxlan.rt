@@ -1,3 +1,11 @@
+//! The VXLAN header (RFC 7348, section 5), in front of a frame:
+//!
+//! | Octets | Field |
+//! |---|---|
+//! | 1 | flags: `08`, the I flag, must be set; all others are written 0 and ignored when read |
+//! | 3 | reserved: written 0, ignored when read |
+//! | 3 | VXLAN network identifier |
+//! | 1 | reserved: written 0, ignored when read |
 ghost use Rattle.std.specs.Prelude.{◌≡◌, ◌++◌, Ok};
 ghost use Rattle.std.specs.Result.{result_map_both};
 ghost use Rattle.vxlan_wire.specs.Vxlan.{header_of, instance_of, refusal_number};

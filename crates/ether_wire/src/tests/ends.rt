@@ -1,3 +1,4 @@
+//! Ends over memory and over readers and writers of the library, that fail and that don't.
 use crate::{Device, In, Octets, Out, Page, Reader, Writer};
 use std::io;
 use std::io::{Read, Write};

@@ -1,3 +1,4 @@
+//! Frames at the bounds of their lengths, and the frame of a BPDU.
 use crate::{Frame, FrameRefusal, Kind, Mac, write_bpdu_frame};
 
 // A frame from 02:00:00:00:00:0b to all, with this type or length and no more.

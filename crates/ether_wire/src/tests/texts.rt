@@ -1,3 +1,4 @@
+//! Addresses and numbers as text, both ways.
 ghost use Rattle.std.specs.Prelude.{◌≡◌};
 
 use crate::{

@@ -1,3 +1,4 @@
+//! The learning table beside a plain model, by random calls.
 ghost use Rattle.std.specs.Prelude.{◌<◌, ◌≤◌};
 
 use super::{PORTS, Run, station};

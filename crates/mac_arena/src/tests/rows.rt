@@ -1,3 +1,4 @@
+//! The learning table: what each call does, one after the other.
 use super::{Run, station};
 use crate::{Entry, Learnt};
 use std::test::Fail;

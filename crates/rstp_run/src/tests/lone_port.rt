@@ -1,3 +1,4 @@
+//! A bridge with one port that nobody answers.
 use super::{
     FIRST_PROPOSAL, USUAL_PORT, bridge_of_one, happen, learns, passes, sent_by, sent_in_second,
 };

@@ -6,7 +6,10 @@ use super::{
 };
 use crate::bridge::{Bridge, BridgeConfig};
 use crate::event::{Event, Outcome};
+use crate::information::is_out;
+use crate::migration::is_checking;
 use crate::rule::{MAIN, SENDS};
+use crate::topology_change::is_active;
 use arrayvec::ArrayVec;
 use bpdu_wire::{BridgeId, write};
 use rstp_state::port::Role;
@@ -75,10 +78,10 @@ fn have_come(bridge: &Bridge) -> [bool; 8] {
     let port = bridge.port(1);
     [
         port.edge_delay_while == 3,
-        port.migration.is_checking(),
+        is_checking(port.migration),
         !port.oper_edge,
-        port.information.is_out(),
-        port.topology.is_active(),
+        is_out(port.information),
+        is_active(port.topology),
         port.selected_role.is_disabled(),
         port.role.is_disabled(),
         !port.learning,

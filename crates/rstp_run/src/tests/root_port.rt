@@ -1,3 +1,4 @@
+//! A bridge with one port that hears a root.
 use super::{FIRST_PROPOSAL, USUAL_PORT, bridge_of_one, happen, passes, receive, sent_by};
 use crate::bridge::Bridge;
 use crate::event::Event;

@@ -1,3 +1,4 @@
+//! Two bridges that send each other what they say.
 use super::{USUAL_PORT, happen};
 use crate::bridge::{Bridge, BridgeConfig};
 use crate::event::{Event, Outcome};

@@ -1,3 +1,4 @@
+//! Roots and roles chosen among a few ports.
 use crate::port::{InfoIs, PortState, Role};
 use crate::selection::{Root, select_roles};
 use crate::start::{PortSettings, Settings, start_port};
