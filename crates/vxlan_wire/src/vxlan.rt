@@ -12,23 +12,37 @@ ghost use Rattle.vxlan_wire.specs.Vxlan.{header_of, instance_of, refusal_number}
 
 use ether_wire::Vni;
 
+/// How long the header is, in octets.
+const HEADER_LEN: usize = 8;
+/// Where the identifier stands, behind the flags and the first reserved octets.
+const VNI_PLACE: usize = 4;
+/// The I flag: there is an identifier.
+const INSTANCE_FLAG: u8 = 0x08;
+
+// ---- the numbers by which it is told that octets begin with no header: of both the first applies
+
+/// There are fewer octets than a header has.
+pub const TOO_SHORT: u8 = 1;
+/// Then: the I flag isn't set.
+pub const NO_INSTANCE: u8 = 2;
+
 /// Why octets begin with no VXLAN header.
 #[derive(Clone, Copy, Debug, PartialEq, Eq)]
 pub enum Refusal {
-    /// Below 8 octets.
+    /// Below 8 octets: asked first.
     Short,
     /// The I flag isn't set, so there is no identifier.
     NoInstance,
 }
 
 impl Refusal {
-    /// The number by which it is told: 1 or 2.
+    /// The number by which it is told.
     pub fn number(self) -> u8
         ensures { result ≡ refusal_number self }
     {
         match self {
-            Refusal::Short => 1,
-            Refusal::NoInstance => 2,
+            Refusal::Short => TOO_SHORT,
+            Refusal::NoInstance => NO_INSTANCE,
         }
     }
 }
@@ -38,14 +52,14 @@ impl Refusal {
 pub fn read(octets: &[u8]) -> Result<(Vni, &[u8]), Refusal>
     ensures { result_map_both (λ p. (p.0, p.1.now)) (λ e. e) result ≡ instance_of octets.now }
 {
-    if octets.len() < 8 {
+    if octets.len() < HEADER_LEN {
         return Err(Refusal::Short);
     }
-    if octets[0] / 0x08 % 2 == 0 {
+    if octets[0] / INSTANCE_FLAG % 2 == 0 {
         return Err(Refusal::NoInstance);
     }
-    let (head, frame) = octets.split_at(8);
-    let (_, vni) = head.split_at(4);
+    let (head, frame) = octets.split_at(HEADER_LEN);
+    let (_, vni) = head.split_at(VNI_PLACE);
     Ok((Vni::from_octets(vni), frame))
 }
 
@@ -54,7 +68,7 @@ pub fn header(vni: Vni) -> [u8; 8]
     ensures { result ≡ header_of vni }
 {
     let [a, b, c] = vni.octets();
-    [0x08, 0, 0, 0, a, b, c, 0]
+    [INSTANCE_FLAG, 0, 0, 0, a, b, c, 0]
 }
 
 /// A header that was written is read again, whatever follows it.
