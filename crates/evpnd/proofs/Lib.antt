@@ -5,3 +5,4 @@ pub mod Finishing
 pub mod Listing
 pub mod Refusals
 pub mod Migrating
+pub mod Owning

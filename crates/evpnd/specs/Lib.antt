@@ -6,3 +6,4 @@ pub mod Originators
 pub mod Words
 pub mod Migrated
 pub mod Migrations
+pub mod MigrationLaws

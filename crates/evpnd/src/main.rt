@@ -3,6 +3,7 @@
 
 mod ending;
 mod migrate;
+mod migration_laws;
 mod notes;
 mod originators;
 mod report;
