@@ -35,6 +35,15 @@ gives() { [ "$status" = "$1" ] && cmp -s "$2" "$work/out" && [ "$(cat "$work/not
 
 is_usage() { [ "$status" = 2 ] && [ ! -s "$work/out" ] && [ -s "$work/notes" ]; }
 
+# tells TEXT..: a usage whose notes hold each of these texts
+tells() {
+  is_usage || return 1
+  local text
+  for text in "$@"; do
+    grep -qF -- "$text" "$work/notes" || return 1
+  done
+}
+
 : > "$work/empty"
 
 # ---- 2: words
@@ -53,7 +62,38 @@ done
 run report --originators ""
 tell "an empty list" is_usage
 run report --originators $'10.0.0.1\xff'
-tell "a word that isn't UTF-8" is_usage
+tell "a word that isn't UTF-8" tells "isn't UTF-8"
+
+# ---- 2: the word that is wrong, and what was expected
+run reports --originators 10.0.0.1
+tell "a subcommand of another name" tells "'reports'" "'report'" "Usage: evpnd"
+run report --originator 10.0.0.1
+tell "an option of another name" tells "'--originator'" "--originators"
+run report
+tell "an option that is left out" tells "--originators <LIST>" "Usage: evpnd report"
+run report --originators
+tell "an option without its value" tells "--originators <LIST>"
+run report --originators 10.0.0.1 10.0.0.2
+tell "a word too many" tells "'10.0.0.2'" "Usage: evpnd report"
+run report --originators 10.0.0.1 --originators 10.0.0.2
+tell "an option twice" tells "--originators <LIST>"
+expected="expected 1 to 64 different IPv4 addresses with commas between them, as in 10.0.0.1,10.0.0.2"
+run report --originators 10.0.0.1,10.0.0.01
+tell "a leading zero" tells "'10.0.0.01' has a number that begins with 0" "$expected"
+run report --originators 10.0.0.1,10.0.0.2,10.0.0.1
+tell "an address twice" tells "'10.0.0.1' stands there twice" "$expected"
+run report --originators 10.0.0.1,10.0.0.256,x
+tell "no address" tells "'10.0.0.256' isn't an IPv4 address" "$expected"
+run report --originators "$long"
+tell "an address too many" tells "'10.0.0.64' is one more than the 64 that there may be" "$expected"
+
+# ---- 2: help
+run --help
+tell "help" tells "report" "Usage: evpnd" "Example:" "0 done"
+run report --help
+tell "help on report" tells "--originators <LIST>" "standard input" "standard output" "Standard error" "  0  " "  1  " "  2  " "  3  " "  4  " "Example:"
+run help report
+tell "help on report, the other way" tells "--originators <LIST>" "Example:"
 
 # ---- 0
 run report --originators 10.0.0.1
@@ -86,6 +126,21 @@ timeout 20 "$evpnd" report --originators 10.0.0.1 < <(cat "$record" && printf 'X
 took=$((SECONDS - begun))
 tell "a fault before silence" gives 1 "$report" "fault 1 at record 2"
 tell "a fault is told at once" [ "$took" -lt 10 ]
+
+# ---- a migration: records of version 3, whose report is that of the old ones
+cp "$record" "$work/in"
+run migrate --originators 10.0.0.1
+tell "a migration" [ "$status" = 0 ]
+tell "a migrated record" [ "$(head -c 3 "$work/out" | od -An -tx1 | tr -d ' ')" = 455603 ]
+cp "$work/out" "$work/in"
+run report --originators 10.0.0.1
+tell "the report of what was migrated" gives 0 "$report" ""
+run migrate --originators 10.0.0.1
+tell "a migration of what was migrated" [ "$status" = 1 ]
+run migrate --originators 10.0.0.1,10.0.0.01
+tell "a leading zero, for a migration" tells "'10.0.0.01' has a number that begins with 0" "$expected"
+run migrate --help
+tell "help on migrate" tells "--originators <LIST>" "standard input" "standard output" "Standard error" "  0  " "  4  " "Example:"
 
 # ---- the notes on a piece are there while the next one is awaited
 cp "$record" "$work/in"

@@ -6,3 +6,5 @@ pub mod Listing
 pub mod Refusals
 pub mod Migrating
 pub mod Owning
+pub mod Given
+pub mod Telling

@@ -7,3 +7,4 @@ pub mod Words
 pub mod Migrated
 pub mod Migrations
 pub mod MigrationLaws
+pub mod Program

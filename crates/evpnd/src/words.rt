@@ -1,18 +1,28 @@
 //! The program's words.
-ghost use Rattle.std.specs.Prelude.{◌≡◌, codes, map, OnOk, string_bytes, IfOk, IfSome, option_map, false, true, ◌⊎◌, ◌≢◌};
+ghost use Rattle.std.specs.Prelude.{◌≡◌, ◌≢◌, ◌+◌, ◌<◌, ◌^◌, map, string_bytes, IfOk, OnOk, OnErr, ℕ, option_map, false};
 ghost use Rattle.clap.specs.Words.{app_of, kind_of, rule_of, subcommand_rows_of};
 ghost use Rattle.clap.specs.declared.builder.command.Command.TheViews.{out-Command};
-ghost use Rattle.evpnd.specs.Words.{list_of, text_at, Orders, program, order_app, option_rule};
+ghost use Rattle.evpnd.specs.Words.{name_of, option_of, named, order_in, parts_of, IsAnswer, Parses, Orders, program, order_app, option_rule};
 
 use clap::error::ErrorKind;
 use clap::{Arg, ArgAction, ArgMatches, Command, Error};
 use std::alloc::{AllocError, Global};
 
+/// What the program can do.
+#[derive(Clone, Copy, Debug, PartialEq, Eq)]
+pub(crate) enum Subcommand {
+    /// `evpnd report --originators LIST`
+    Report,
+    /// `evpnd migrate --originators LIST`
+    Migrate,
+}
+
 /// What the program is to do.
 #[derive(Clone, Copy, Debug, Drop)]
-pub(crate) enum Order<'a> {
-    /// The report of the records on standard input, of these originators.
-    Report(&'a str),
+pub(crate) struct Order<'a> {
+    pub(crate) subcommand: Subcommand,
+    /// The value of the subcommand's option.
+    pub(crate) value: &'a str,
 }
 
 /// Why the words are no order.
@@ -24,56 +34,235 @@ pub(crate) enum Refusal {
     NoMemory,
 }
 
-fn option_of<'a>(alloc: Global, name: &'a str) -> Arg<'a>
-    ensures rule { rule_of result ≡ option_rule name.entry.now }
+impl Subcommand {
+    /// Its word.
+    fn name<'a>(self) -> &'a str
+        ensures { result.now ≡ name_of self }
+    {
+        match self {
+            Subcommand::Report => "report",
+            Subcommand::Migrate => "migrate",
+        }
+    }
+
+    /// The option that it has to be given.
+    fn option<'a>(self) -> &'a str
+        ensures { result.now ≡ option_of self }
+    {
+        match self {
+            Subcommand::Report | Subcommand::Migrate => "originators",
+        }
+    }
+
+    /// What help calls the option's value.
+    fn value_name<'a>(self) -> &'a str {
+        match self {
+            Subcommand::Report | Subcommand::Migrate => "LIST",
+        }
+    }
+
+    /// What the option's value is.
+    fn value_help<'a>(self) -> &'a str {
+        match self {
+            Subcommand::Report | Subcommand::Migrate => {
+                "1 to 64 different IPv4 addresses with commas between them"
+            }
+        }
+    }
+
+    /// What it does, in a line.
+    fn about<'a>(self) -> &'a str {
+        match self {
+            Subcommand::Report => "Report the table that a stream of route updates defines",
+            Subcommand::Migrate => "Write records of versions 1 and 2 anew in version 3",
+        }
+    }
+
+    /// What it reads and prints, its statuses, and an example.
+    fn help<'a>(self) -> &'a str {
+        match self {
+            Subcommand::Report => {
+                "\
+Reads update records on standard input, up to its end or to the first fault. Then standard output
+has the report of the records that were taken: a line for each register, and each MAC's owner.
+Standard error has a line for each record that wasn't taken, and one for what broke the stream off.
+
+Status, the greatest that applies:
+  0  the input was read to its end
+  1  it shows a fault, or ends within a record
+  2  the words are wrong, or ask for help: nothing is read
+  3  memory was refused
+  4  reading or writing failed
+
+Example:
+  evpnd report --originators 10.0.0.1,10.0.0.2 < records"
+            }
+            Subcommand::Migrate => {
+                "\
+Reads update records of versions 1 and 2 on standard input, up to its end or to the first fault.
+Then standard output has records of version 3, in which the IP address is a part of the key: what each
+edge said last of each MAC, and a withdrawal for each address that it replaced; none where reading
+failed or memory was refused. Standard error has a line for each record that wasn't taken, and one
+for what broke the stream off.
+
+Status, the greatest that applies:
+  0  the input was read to its end
+  1  it shows a fault, or ends within a record
+  2  the words are wrong, or ask for help: nothing is read
+  3  memory was refused
+  4  reading or writing failed
+
+Example:
+  evpnd migrate --originators 10.0.0.1,10.0.0.2 < old > new"
+            }
+        }
+    }
+}
+
+/// The subcommand of this name.
+fn named(name: &str) -> Option<Subcommand>
+    ensures { result ≡ named name.now }
+{
+    if name == Subcommand::Report.name() {
+        return Some(Subcommand::Report);
+    }
+    if name == Subcommand::Migrate.name() {
+        return Some(Subcommand::Migrate);
+    }
+    None
+}
+
+fn option_arg<'a>(alloc: Global, subcommand: Subcommand) -> Arg<'a>
+    ensures rule { rule_of result ≡ option_rule (option_of subcommand) }
     ensures local { result.global ≡ false }
 {
-    Arg::new(alloc, name)
-        .long(name)
+    Arg::new(alloc, subcommand.option())
+        .long(subcommand.option())
         .action(ArgAction::Set)
+        .value_name(subcommand.value_name())
+        .help(subcommand.value_help())
         .required(true)
 }
 
-fn order_command<'a>(
-    alloc: Global,
-    name: &'a str,
-    option: &'a str,
-) -> Result<Command<'a>, AllocError>
-    ensures app { IfOk result (λ c. app_of c ≡ order_app name.entry.now option.entry.now) }
+fn order_command<'a>(alloc: Global, subcommand: Subcommand) -> Result<Command<'a>, AllocError>
+    ensures app { IfOk result (λ c. app_of c ≡ order_app subcommand) }
     ensures local { IfOk result (λ c. (out-Command c).has_globals ≡ false) }
 {
-    Command::new(alloc, name).arg(option_of(alloc, option))
+    let command = Command::new(alloc, subcommand.name())
+        .about(subcommand.about())
+        .after_help(subcommand.help());
+    command.arg(option_arg(alloc, subcommand))
 }
+
+/// What the program does, and what help tells of all subcommands.
+const ABOUT: &str = "What a stream of EVPN route updates defines, proved from octet to octet";
+
+const HELP: &str = "\
+Each subcommand's --help says what it reads and prints, and its statuses: 0 done, 1 broken input,
+2 wrong words or a request for help, 3 no memory, 4 a failed device.
+
+Example:
+  evpnd report --originators 10.0.0.1,10.0.0.2 < records";
 
 fn program<'a>(alloc: Global) -> Result<Command<'a>, AllocError>
     ensures { IfOk result (λ c. app_of c ≡ program) }
 {
-    let report = order_command(alloc, "report", "originators")?;
-    let command = Command::new(alloc, "evpnd").subcommand(report)?;
+    let report = order_command(alloc, Subcommand::Report)?;
+    let migrate = order_command(alloc, Subcommand::Migrate)?;
+    let start = Command::new(alloc, "evpnd")
+        .about(ABOUT)
+        .after_help(HELP)
+        .subcommand(report)?;
+    let command = start.subcommand(migrate)?;
     Ok(command.subcommand_required(true))
 }
 
-/// The order that the words give: the first is the program's name.
-pub(crate) fn order_of<'a>(alloc: Global, words: &'a [String]) -> Result<Order<'a>, Refusal>
-    ensures { Orders (map string_bytes words.entry.now) result }
+/// What reads the program's words, and tells what is wrong with them. It may be refused memory.
+pub(crate) trait Parser {
+    /// How often it was refused memory.
+    ghost refusals: { Self → ℕ };
+
+    /// Reads the words: the first is the program's name. An error is of the kind `OutOfMemory`
+    /// exactly where memory was refused once more.
+    fn parse<'a>(&mut self, words: &'a [String]) -> Result<ArgMatches<'a>, Error>
+        requires { refusals self.old + 1 < 2 ^ 64 }
+        ensures { Parses (map string_bytes words.entry.now) (refusals self.old) (refusals self.new) result };
+
+    /// The text of an error for the user. It fails exactly where memory was refused once more.
+    fn text_of(&mut self, error: &Error) -> Result<String, AllocError>
+        requires { refusals self.old + 1 < 2 ^ 64 }
+        ensures kept { OnOk result (refusals self.new ≡ refusals self.old) }
+        ensures refused { OnErr result (refusals self.new ≡ refusals self.old + 1) };
+}
+
+/// `clap`, over the program's memory.
+#[derive(Debug, Drop)]
+pub(crate) struct ClapParser {
+    alloc: Global,
+    refusals: u64,
+}
+
+impl ClapParser {
+    /// A parser that wasn't refused anything yet.
+    pub(crate) fn new(alloc: Global) -> ClapParser
+        ensures { result.refusals ≡ 0 }
+    {
+        ClapParser { alloc, refusals: 0 }
+    }
+}
+
+/// What `clap` makes of the words.
+fn matches_of<'a>(alloc: Global, words: &'a [String]) -> Result<ArgMatches<'a>, Error>
+    ensures { IsAnswer (map string_bytes words.entry.now) result }
 {
-    let command = match program(alloc) {
-        Ok(command) => command,
-        Err(_) => return Err(Refusal::NoMemory),
-    };
-    let matches = match command.try_get_matches_from(words) {
-        Ok(matches) => matches,
-        Err(error) => return Err(refusal_of(error)),
-    };
-    match order_in(&matches) {
-        Some(order) => Ok(order),
-        None => Err(Refusal::NoMemory),
+    program(alloc)?.try_get_matches_from(words)
+}
+
+impl Parser for ClapParser {
+    ghost refusals = { λ p. p.refusals };
+
+    fn parse<'a>(&mut self, words: &'a [String]) -> Result<ArgMatches<'a>, Error> {
+        match matches_of(self.alloc, words) {
+            Ok(matches) => Ok(matches),
+            Err(error) => {
+                if error.kind() == ErrorKind::OutOfMemory {
+                    self.refusals += 1;
+                }
+                Err(error)
+            }
+        }
+    }
+
+    fn text_of(&mut self, error: &Error) -> Result<String, AllocError> {
+        match error.to_string(self.alloc) {
+            Ok(text) => Ok(text),
+            Err(error) => {
+                self.refusals += 1;
+                Err(error)
+            }
+        }
+    }
+}
+
+/// The order that the words give: the first is the program's name.
+pub(crate) fn order_of<'a, P: Parser>(
+    parser: &mut P,
+    words: &'a [String],
+) -> Result<Order<'a>, Refusal>
+    requires { P.refusals parser.old + 1 < 2 ^ 64 }
+    ensures { Orders (map string_bytes words.entry.now) (P.refusals parser.old) (P.refusals parser.new) result }
+{
+    match parser.parse(words) {
+        Ok(matches) => match order_in(&matches) {
+            Some(order) => Ok(order),
+            None => unreachable!(),
+        },
+        Err(error) => Err(refusal_of(error)),
     }
 }
 
 /// What an error of `clap` says of the words: they aren't the program's, or there was no memory.
 fn refusal_of(error: Error) -> Refusal
-    ensures either { result ≡ Refusal.NoMemory ⊎ ((result ≡ Refusal.Usage error) × (kind_of error ≢ ErrorKind.OutOfMemory)) }
     ensures memory { kind_of error ≡ ErrorKind.OutOfMemory → result ≡ Refusal.NoMemory }
     ensures usage { kind_of error ≢ ErrorKind.OutOfMemory → result ≡ Refusal.Usage error }
 {
@@ -84,26 +273,12 @@ fn refusal_of(error: Error) -> Refusal
     }
 }
 
-/// The text of an option at a subcommand, where that one was used.
-fn text_at<'a>(matches: &ArgMatches<'a>, name: &str, option: &str) -> Option<&'a str>
-    ensures { option_map (λ s. s.now) result ≡ text_at name.now option.now (subcommand_rows_of matches.now) }
-{
-    match matches.subcommand() {
-        Some((found, inner)) => if found == name {
-            inner.get_str(option)
-        } else {
-            None
-        },
-        None => None,
-    }
-}
-
 /// The order at the subcommand that was used.
 fn order_in<'a>(matches: &ArgMatches<'a>) -> Option<Order<'a>>
-    ensures { option_map list_of result ≡ text_at (codes "report") (codes "originators") (subcommand_rows_of matches.now) }
+    ensures { option_map parts_of result ≡ order_in (subcommand_rows_of matches.now) }
 {
-    match text_at(matches, "report", "originators") {
-        Some(list) => Some(Order::Report(list)),
-        None => None,
-    }
+    let (name, inner) = matches.subcommand()?;
+    let subcommand = named(name)?;
+    let value = inner.get_str(subcommand.option())?;
+    Some(Order { subcommand, value })
 }

@@ -1,11 +1,11 @@
 //! Lists of originators.
-use crate::originators::read_originators;
+use crate::originators::{ListFault, read_originators};
 use std::alloc::{AllocError, Global};
 
 fn count(list: &[u8]) -> usize {
     match read_originators(list) {
-        Some(originators) => originators.len(),
-        None => 0,
+        Ok(originators) => originators.len(),
+        Err(_) => 0,
     }
 }
 
@@ -13,6 +13,25 @@ fn count(list: &[u8]) -> usize {
 fn lists_of_different_addresses(rt: HostRuntime) {
     assert_eq!(rt; count(b"10.0.0.1"), 1);
     assert_eq!(rt; count(b"10.0.0.2,255.255.255.255,0.0.0.0"), 3);
+}
+
+/// Whether this part of a list is the first wrong one, for this reason.
+fn is_wrong(list: &[u8], part: &[u8], fault: ListFault) -> bool {
+    match read_originators(list) {
+        Ok(_) => false,
+        Err(wrong) => wrong.part == part && wrong.fault == fault,
+    }
+}
+
+#[test]
+fn the_wrong_part_and_why(rt: HostRuntime) {
+    assert!(rt; is_wrong(b"", b"", ListFault::NotAnAddress));
+    assert!(rt; is_wrong(b"10.0.0.1,", b"", ListFault::NotAnAddress));
+    assert!(rt; is_wrong(b"10.0.0.1,10.0.0,x", b"10.0.0", ListFault::NotAnAddress));
+    assert!(rt; is_wrong(b"10.0.0.256", b"10.0.0.256", ListFault::NotAnAddress));
+    assert!(rt; is_wrong(b"10.0.0.1,10.0.0.01", b"10.0.0.01", ListFault::LeadingZero));
+    assert!(rt; is_wrong(b"00.0.0.1", b"00.0.0.1", ListFault::LeadingZero));
+    assert!(rt; is_wrong(b"10.0.0.1,10.0.0.2,10.0.0.1", b"10.0.0.1", ListFault::Twice));
 }
 
 #[test]

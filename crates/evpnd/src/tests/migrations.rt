@@ -32,7 +32,7 @@ const REPLACED: [u8; 64] = [
 fn gives<R: In>(alloc: Global, reader: &mut R, records: &[u8], notes: &[u8], status: u8) -> bool
     requires { Allows (2 ^ 40) (R.end reader.old) }
 {
-    let Some(originators) = read_originators(ONE) else {
+    let Ok(originators) = read_originators(ONE) else {
         return false;
     };
     let (answer, out, told) = migrate_buffered(
@@ -47,7 +47,7 @@ fn gives<R: In>(alloc: Global, reader: &mut R, records: &[u8], notes: &[u8], sta
 
 /// Whether records over memory give this report.
 fn reports(alloc: Global, stream: &[u8], report: &[u8]) -> bool {
-    let Some(originators) = read_originators(ONE) else {
+    let Ok(originators) = read_originators(ONE) else {
         return false;
     };
     let mut reader = Octets::new(stream);

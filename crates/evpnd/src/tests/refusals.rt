@@ -22,7 +22,7 @@ fn gives(
     status: u8,
 ) -> Result<bool, AllocError> {
     let stream = joined(alloc, parts)?;
-    let Some(originators) = read_originators(TWO) else {
+    let Ok(originators) = read_originators(TWO) else {
         return Ok(false);
     };
     let mut out = Page::<1024>::new();
@@ -157,7 +157,7 @@ fn lengths_out_of_range_are_faults(rt: HostRuntime) -> Result<(), AllocError> {
 #[test]
 fn each_cut_is_no_record(rt: HostRuntime) -> Result<(), AllocError> {
     for n in 1..56usize {
-        let Some(originators) = read_originators(TWO) else {
+        let Ok(originators) = read_originators(TWO) else {
             return Ok(());
         };
         let mut out = Page::<1024>::new();
@@ -177,7 +177,7 @@ fn each_cut_is_no_record(rt: HostRuntime) -> Result<(), AllocError> {
 
 /// The status of the first record with one octet changed.
 fn status_of(alloc: Global, at: usize, octet: u8) -> u8 {
-    let Some(originators) = read_originators(TWO) else {
+    let Ok(originators) = read_originators(TWO) else {
         return 4;
     };
     let mut out = Page::<1024>::new();

@@ -20,7 +20,7 @@ const TWO_LINES: &[u8] =
 fn gives<R: In>(alloc: Global, reader: &mut R, report: &[u8], notes: &[u8], status: u8) -> bool
     requires { Allows (2 ^ 40) (R.end reader.old) }
 {
-    let Some(originators) = read_originators(NINE) else {
+    let Ok(originators) = read_originators(NINE) else {
         return false;
     };
     let (answer, out, told) = report_buffered(
@@ -232,7 +232,7 @@ fn failed_read_keeps_whole_records(rt: HostRuntime) -> Result<(), AllocError> {
 
 #[test]
 fn failed_writers_give_status_4(rt: HostRuntime) {
-    let Some(originators) = read_originators(NINE) else {
+    let Ok(originators) = read_originators(NINE) else {
         return;
     };
     let mut out = Page::<20>::new();
@@ -245,7 +245,7 @@ fn failed_writers_give_status_4(rt: HostRuntime) {
         &mut told,
     );
     assert_eq!(rt; status, 4);
-    let Some(originators) = read_originators(NINE) else {
+    let Ok(originators) = read_originators(NINE) else {
         return;
     };
     let mut out = Page::<1024>::new();
@@ -262,7 +262,7 @@ fn failed_writers_give_status_4(rt: HostRuntime) {
 
 #[test]
 fn failed_flush_gives_status_4(rt: HostRuntime) {
-    let Some(originators) = read_originators(NINE) else {
+    let Ok(originators) = read_originators(NINE) else {
         return;
     };
     let (status, out, told) = report_buffered(
@@ -275,7 +275,7 @@ fn failed_flush_gives_status_4(rt: HostRuntime) {
     assert_eq!(rt; status, 4);
     assert_eq!(rt; out.failures(), 1);
     assert!(rt; told.octets().is_empty());
-    let Some(originators) = read_originators(NINE) else {
+    let Ok(originators) = read_originators(NINE) else {
         return;
     };
     let (status, out, told) = report_buffered(

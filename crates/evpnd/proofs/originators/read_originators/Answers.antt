@@ -1,38 +1,37 @@
-use Rattle.std.proofs.Common.{List, ℕ, None, option_map, ap, sym, subst, ◌∙◌, ◌≡◌}
-use Rattle.arrayvec.specs.ArrayVec.{ArrayVec}
-use Rattle.ether_wire.specs.declared.names.Addr.{Addr}
+use Rattle.std.proofs.Common.{List, ℕ, ap, sym, subst, ◌∙◌}
 use Rattle.std.specs.Prelude.{eqb}
 use Rattle.std.specs.List.{IsDistinct}
-use Rattle.evpnd.specs.Originators.{originators_from}
-use Rattle.evpnd.proofs.Listing.{commas, split_some, split_none, shorter_after, text_some, text_none, text_last, distinct_none}
+use Rattle.evpnd.specs.Originators.{parts, originators_from}
+use Rattle.evpnd.proofs.Listing.{split_some, split_none, shorter_after, part_taken, part_wrong, part_last, listed_wrong, distinct_none}
 use Rattle.evpnd.proofs.originators.read_originators.Goals as goal
 
-pub loop-text-init : goal.loop-text-init
-loop-text-init c = record {
-  value = ap (λ (os : List ℕ). originators_from os (commas c.args.list.now)) c.new-originators.ensures;
+pub loop-part-init : goal.loop-part-init
+loop-part-init c = record {
+  value = ap (λ (os : List ℕ). originators_from os (parts 44 c.args.list.now)) c.new-originators.ensures;
   distinct = subst (λ (os : List ℕ). IsDistinct eqb os) (sym c.new-originators.ensures) distinct_none;
 }
 
 pub returns-in_err-originators-clause-value : goal.returns-in_err-originators-clause-value
 returns-in_err-originators-clause-value c =
-    let items = c.loop-text.originators.items in
-    let none : option_map (λ (o : ArrayVec Addr). o.items) c.from_residual.result ≡ None = ap (option_map (λ (o : ArrayVec Addr). o.items)) c.from_residual.ensures in
-    none ∙ sym (text_none items c.in-Some.text.now (commas c.in-Some.after.now) c.in_err-originators.ensures.value)
-    ∙ ap (originators_from items) (sym (split_some c.loop-text.rest.now c.in-Some.text.now c.in-Some.after.now (sym c.in-Some.ensures))) ∙ c.loop-text.invariant.value
+    let items = c.loop-part.originators.items in
+    let wrong = c.in_err-originators.field-0.0 in
+    listed_wrong c.from_residual.result wrong c.from_residual.ensures.1
+    ∙ sym (part_wrong items (wrong.part.now, wrong.fault) c.in-Some.part.now (parts 44 c.in-Some.after.now) c.in_err-originators.ensures.value)
+    ∙ ap (originators_from items) (sym (split_some 44 c.loop-part.rest.now c.in-Some.part.now c.in-Some.after.now (sym c.in-Some.ensures))) ∙ c.loop-part.invariant.value
 
-pub loop-text-smaller : goal.loop-text-smaller
-loop-text-smaller c = shorter_after c.loop-text.rest.now c.in-Some.text.now c.in-Some.after.now (sym c.in-Some.ensures)
+pub loop-part-smaller : goal.loop-part-smaller
+loop-part-smaller c = shorter_after 44 c.loop-part.rest.now c.in-Some.part.now c.in-Some.after.now (sym c.in-Some.ensures)
 
-pub loop-text-preserved : goal.loop-text-preserved
-loop-text-preserved c =
-    let items = c.loop-text.originators.items in
+pub loop-part-preserved : goal.loop-part-preserved
+loop-part-preserved c =
+    let items = c.loop-part.originators.items in
     record {
-      value = sym (text_some items c.in_ok-originators.originators.items c.in-Some.text.now (commas c.in-Some.after.now) c.in_ok-originators.ensures.value)
-          ∙ ap (originators_from items) (sym (split_some c.loop-text.rest.now c.in-Some.text.now c.in-Some.after.now (sym c.in-Some.ensures))) ∙ c.loop-text.invariant.value;
+      value = sym (part_taken items c.in_ok-originators.originators.items c.in-Some.part.now (parts 44 c.in-Some.after.now) c.in_ok-originators.ensures.value)
+          ∙ ap (originators_from items) (sym (split_some 44 c.loop-part.rest.now c.in-Some.part.now c.in-Some.after.now (sym c.in-Some.ensures))) ∙ c.loop-part.invariant.value;
       distinct = c.in_ok-originators.ensures.some.distinct;
     }
 
 pub returns-clause-value : goal.returns-clause-value
 returns-clause-value c =
-    c.with_text-2.ensures.value ∙ sym (text_last c.loop-text.originators.items c.loop-text.rest.now)
-    ∙ ap (originators_from c.loop-text.originators.items) (sym (split_none c.loop-text.rest.now (sym c.in_default.ensures))) ∙ c.loop-text.invariant.value
+    c.with_part-2.ensures.value ∙ sym (part_last c.loop-part.originators.items c.loop-part.rest.now)
+    ∙ ap (originators_from c.loop-part.originators.items) (sym (split_none 44 c.loop-part.rest.now (sym c.in_default.ensures))) ∙ c.loop-part.invariant.value

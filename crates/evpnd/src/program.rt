@@ -1,0 +1,178 @@
+//! A run of the program: from its words, over its devices, to its status.
+ghost use Rattle.std.specs.Prelude.{◌≡◌, ◌≢◌, ◌+◌, ◌<◌, ◌^◌, map, string_bytes, [], is_ok, if◌then◌else◌};
+ghost use Rattle.ether_wire.specs.Ends.{IsOpen, Allows};
+ghost use Rattle.clap.specs.Words.{fault_of};
+ghost use Rattle.evpnd.specs.Ends.{devices};
+ghost use Rattle.evpnd.specs.Originators.{originators_of_text, list_text};
+ghost use Rattle.evpnd.specs.Words.{program, parts_of};
+ghost use Rattle.evpnd.specs.Program.{world, IsTold, TellsUsage, TellsFault, not_text, FollowsAs, Follows, RunsWords, RunsProgram};
+
+use crate::migrate::migrate_buffered;
+use crate::originators::{WrongPart, put_wrong_part, read_originators};
+use crate::report::report_buffered;
+use crate::status::{DEVICE, MEMORY, USAGE};
+use crate::words::{Order, Parser, Refusal, Subcommand, order_of};
+use clap::Error;
+use ether_wire::{Device, In, Out};
+use std::alloc::Global;
+
+/// What the system gives as words.
+#[derive(Debug, Drop)]
+pub(crate) enum Line {
+    /// The words, of which the first is the program's name.
+    Words(Vec<String>),
+    /// One of them isn't UTF-8.
+    NotText,
+    /// There was no memory for them.
+    NoMemory,
+}
+
+/// The status of a usage, by whether it could be told.
+fn usage_status(told: Result<(), Device>) -> u8
+    ensures { result ≡ (if is_ok told then 2 else 4) }
+{
+    match told {
+        Ok(()) => USAGE,
+        Err(Device) => DEVICE,
+    }
+}
+
+/// Tells a text on the words.
+fn tell<N: Out>(text: &[u8], notes: &mut N) -> u8
+    requires { IsOpen (N.end notes.old) }
+    ensures { IsTold text.now (N.end notes.old) (N.end notes.new) result }
+{
+    usage_status(notes.put(text))
+}
+
+/// Tells which part of a list is wrong.
+fn tell_list<N: Out>(wrong: WrongPart<'_>, notes: &mut N) -> u8
+    requires { IsOpen (N.end notes.old) }
+    ensures { IsTold (list_text (wrong.entry.part.now, wrong.entry.fault)) (N.end notes.old) (N.end notes.new) result }
+{
+    usage_status(put_wrong_part(notes, wrong))
+}
+
+/// Tells what is wrong with the words, in the words of `clap`.
+fn tell_fault<P: Parser, N: Out>(parser: &mut P, error: &Error, notes: &mut N) -> u8
+    requires parser { P.refusals parser.old + 1 < 2 ^ 64 }
+    requires notes { IsOpen (N.end notes.old) }
+    ensures { TellsFault (P.refusals parser.old) (P.refusals parser.new) (N.end notes.old) (N.end notes.new) result }
+{
+    match parser.text_of(error) {
+        Ok(text) => tell(text.as_str().as_bytes(), notes),
+        Err(_) => MEMORY,
+    }
+}
+
+/// Reports the records of these originators.
+fn report<R: In, W: Out, N: Out>(
+    alloc: Global,
+    list: &str,
+    reader: &mut R,
+    out: W,
+    mut notes: N,
+) -> (u8, W, N)
+    requires reader { Allows (2 ^ 40) (R.end reader.old) }
+    requires out { IsOpen (W.end out) }
+    requires notes { IsOpen (N.end notes) }
+    ensures { FollowsAs Subcommand.Report list.now (devices (R.end reader.old) (W.end out) (N.end notes))
+        (devices (R.end reader.new) (W.end result.1) (N.end result.2)) result.0 }
+{
+    match read_originators(list.as_bytes()) {
+        Ok(originators) => report_buffered(alloc, originators, reader, out, notes),
+        Err(wrong) => (tell_list(wrong, &mut notes), out, notes),
+    }
+}
+
+/// Migrates the records of these originators.
+fn migrate<R: In, W: Out, N: Out>(
+    alloc: Global,
+    list: &str,
+    reader: &mut R,
+    out: W,
+    mut notes: N,
+) -> (u8, W, N)
+    requires reader { Allows (2 ^ 40) (R.end reader.old) }
+    requires out { IsOpen (W.end out) }
+    requires notes { IsOpen (N.end notes) }
+    ensures { FollowsAs Subcommand.Migrate list.now (devices (R.end reader.old) (W.end out) (N.end notes))
+        (devices (R.end reader.new) (W.end result.1) (N.end result.2)) result.0 }
+{
+    match read_originators(list.as_bytes()) {
+        Ok(originators) => migrate_buffered(alloc, originators, reader, out, notes),
+        Err(wrong) => (tell_list(wrong, &mut notes), out, notes),
+    }
+}
+
+/// Does what the words say.
+fn follow<R: In, W: Out, N: Out>(
+    alloc: Global,
+    order: Order<'_>,
+    reader: &mut R,
+    out: W,
+    notes: N,
+) -> (u8, W, N)
+    requires reader { Allows (2 ^ 40) (R.end reader.old) }
+    requires out { IsOpen (W.end out) }
+    requires notes { IsOpen (N.end notes) }
+    ensures { Follows (parts_of order.entry) (devices (R.end reader.old) (W.end out) (N.end notes))
+        (devices (R.end reader.new) (W.end result.1) (N.end result.2)) result.0 }
+{
+    match order.subcommand {
+        Subcommand::Report => report(alloc, order.value, reader, out, notes),
+        Subcommand::Migrate => migrate(alloc, order.value, reader, out, notes),
+    }
+}
+
+/// A run over these words.
+fn run_words<P: Parser, R: In, W: Out, N: Out>(
+    alloc: Global,
+    parser: &mut P,
+    words: &[String],
+    reader: &mut R,
+    out: W,
+    mut notes: N,
+) -> (u8, W, N)
+    requires parser { P.refusals parser.old + 1 < 2 ^ 64 }
+    requires reader { Allows (2 ^ 40) (R.end reader.old) }
+    requires out { IsOpen (W.end out) }
+    requires notes { IsOpen (N.end notes) }
+    ensures { RunsWords (map string_bytes words.now)
+        (world (P.refusals parser.old) (R.end reader.old) (W.end out) (N.end notes))
+        (world (P.refusals parser.new) (R.end reader.new) (W.end result.1) (N.end result.2)) result.0 }
+{
+    match order_of(parser, words) {
+        Ok(order) => follow(alloc, order, reader, out, notes),
+        Err(Refusal::Usage(error)) => (tell_fault(parser, &error, &mut notes), out, notes),
+        Err(Refusal::NoMemory) => (MEMORY, out, notes),
+    }
+}
+
+/// A run of the program: it follows the order that the words are, or tells on `notes` what is wrong
+/// with them. It takes the writers, and gives them back.
+///
+/// The status is the greatest that applies: 4 where a device failed, 3 where memory was refused, 2
+/// where the words aren't the program's or ask for help, 1 where the input is broken, else 0.
+pub(crate) fn run<P: Parser, R: In, W: Out, N: Out>(
+    alloc: Global,
+    parser: &mut P,
+    line: &Line,
+    reader: &mut R,
+    out: W,
+    mut notes: N,
+) -> (u8, W, N)
+    requires parser { P.refusals parser.old + 1 < 2 ^ 64 }
+    requires reader { Allows (2 ^ 40) (R.end reader.old) }
+    requires out { IsOpen (W.end out) }
+    requires notes { IsOpen (N.end notes) }
+    ensures { RunsProgram line.now
+        (world (P.refusals parser.old) (R.end reader.old) (W.end out) (N.end notes))
+        (world (P.refusals parser.new) (R.end reader.new) (W.end result.1) (N.end result.2)) result.0 }
+{
+    match line {
+        Line::Words(words) => run_words(alloc, parser, words.as_slice(), reader, out, notes),
+        Line::NotText => (tell(b"error: a word isn't UTF-8\n", &mut notes), out, notes),
+        Line::NoMemory => (MEMORY, out, notes),
+    }
+}
