@@ -1,0 +1,98 @@
+-- One step of a fabric: of the named edge, and of no other.
+use Rattle.std.specs.Prelude.{◌≡◌, ◌⊎◌, ℕ, ◌-◌, ◌<◌, ◌≤◌, Option, Some, None, Result, Ok, Err, List, [], ◌∷◌, ◌++◌, slice_set}
+use Rattle.std.specs.Option.{MatchOption}
+use Rattle.route_wire.specs.Fields.{Fields}
+use Rattle.ev_edge.specs.declared.config.EdgeConfig.{EdgeConfig}
+use Rattle.ev_edge.specs.declared.event.Event.{Event}
+use Rattle.ev_edge.specs.declared.event.Event.TheVariants as events
+use Rattle.ev_edge.specs.declared.reply.Reply.{Reply}
+use Rattle.ev_edge.specs.declared.refusal.Refusal as edge
+use Rattle.ev_edge.specs.Edge.{Edge, IsGoodEdge}
+use Rattle.ev_edge.specs.Opening.{IsOpening}
+use Rattle.ev_edge.specs.Steps.{Steps, nothing}
+use Rattle.ev_fabric.specs.declared.refusal.Refusal.{Refusal}
+use Rattle.ev_fabric.specs.declared.refusal.Refusal.TheVariants.{NoSuchEdge, NoSuchUpdate, NoHigher, NoMemory, Edge as OfEdge}
+use Rattle.ev_fabric.specs.declared.step.Step.{Step}
+use Rattle.ev_fabric.specs.declared.step.Step.TheVariants.{Local, Announce, Deliver, Restart}
+use Rattle.ev_fabric.specs.Fabric.{Fabric, nth, life_of}
+use Rattle.ev_fabric.specs.Local.{event_of}
+
+-- an edge's answer as the fabric's
+abbrev pub of_edge : Result Reply edge.Refusal → Result Reply Refusal
+of_edge (Ok reply) = Ok reply
+of_edge (Err r) = Err (OfEdge r)
+
+-- the fabric with another edge at this place, counted from 1
+abbrev pub with_edge : Fabric → ℕ → Edge → Fabric
+with_edge f e b = record f { edges = slice_set f.edges (e - 1) b }
+
+-- the pool has the announced update at its end, if there is one
+abbrev pub with_announced : List Fields → Option Fields → List Fields
+with_announced pool None = pool
+with_announced pool (Some u) = pool ++ u ∷ []
+
+-- nothing changes
+abbrev pub IsRefused : Refusal → Fabric → Result Reply Refusal → Fabric → Type 0
+IsRefused why old result new = (result ≡ Err why) × (new ≡ old)
+
+-- the edge at place e of a list steps by the event, and is good, as its type says; the others stay
+pub record OneSteps (old : List Edge) (e : ℕ) (event : Event) (result : Result Reply Refusal) (new : List Edge) : Type 0 where
+  pub before : Edge
+  pub there : nth old e ≡ Some before
+  pub after : Edge
+  pub answer : Result Reply edge.Refusal
+  pub steps : Steps before event answer after
+  pub good : IsGoodEdge after
+  pub result_is : result ≡ of_edge answer
+  pub new_is : new ≡ slice_set old (e - 1) after
+
+-- the edge a at place e steps by the event, and answers; all else stays
+pub record StepsAt (old : Fabric) (e : ℕ) (a : Edge) (event : Event) (result : Result Reply Refusal) (new : Fabric) : Type 0 where
+  pub after : Edge
+  pub answer : Result Reply edge.Refusal
+  pub steps : Steps a event answer after
+  pub result_is : result ≡ of_edge answer
+  pub new_is : new ≡ with_edge old e after
+
+-- The edge a at place e announces, and what it announces is put at the pool's end. Where there is no memory for that,
+-- it is still pending.
+abbrev pub AnnouncesAt : Fabric → ℕ → Edge → Result Reply Refusal → Fabric → Type 0
+AnnouncesAt old e a (Ok reply) new =
+    (b : Edge) × Steps a events.Announce (Ok reply) b × (new ≡ record (with_edge old e b) { pool = with_announced old.pool reply.announced })
+AnnouncesAt old e a (Err why) new = (why ≡ NoMemory) × (new ≡ old)
+
+-- what an edge is opened with in the life n
+abbrev pub in_life : EdgeConfig → ℕ → EdgeConfig
+in_life c n = record c { incarnation = n }
+
+-- the fabric with an edge at place e that is opened with c
+abbrev pub with_opened : Fabric → ℕ → Edge → EdgeConfig → Fabric
+with_opened f e b c = record (with_edge f e b) { configs = slice_set f.configs (e - 1) c }
+
+-- The edge a at place e is opened anew in the life n, which is a higher one, with all else that it was opened with; all
+-- else stays.
+pub record OpensAnew (old : Fabric) (e : ℕ) (a : Edge) (n : ℕ) (reply : Reply) (new : Fabric) : Type 0 where
+  pub higher : life_of a < n
+  pub config : EdgeConfig
+  pub config_is : nth old.configs e ≡ Some config
+  pub after : Edge
+  pub opened : IsOpening (in_life config n) after
+  pub reply_is : reply ≡ nothing
+  pub new_is : new ≡ with_opened old e after (in_life config n)
+
+-- where there is no memory for a new edge, the old one stays
+abbrev pub RestartsAt : Fabric → ℕ → Edge → ℕ → Result Reply Refusal → Fabric → Type 0
+RestartsAt old e a n (Ok reply) new = OpensAnew old e a n reply new
+RestartsAt old e a n (Err why) new = (((why ≡ NoHigher) × (n ≤ life_of a)) ⊎ ((why ≡ NoMemory) × (life_of a < n))) × (new ≡ old)
+
+-- a step of the fabric; the edge and the update that it names are counted from 1
+abbrev pub FabricSteps : Fabric → Step → Result Reply Refusal → Fabric → Type 0
+FabricSteps old (Local e event) result new =
+    MatchOption (nth old.edges e) (IsRefused NoSuchEdge old result new) (λ a. StepsAt old e a (event_of event) result new)
+FabricSteps old (Announce e) result new =
+    MatchOption (nth old.edges e) (IsRefused NoSuchEdge old result new) (λ a. AnnouncesAt old e a result new)
+FabricSteps old (Deliver e k) result new =
+    MatchOption (nth old.edges e) (IsRefused NoSuchEdge old result new) (λ a.
+    MatchOption (nth old.pool k) (IsRefused NoSuchUpdate old result new) (λ u. StepsAt old e a (events.Take u) result new))
+FabricSteps old (Restart e n) result new =
+    MatchOption (nth old.edges e) (IsRefused NoSuchEdge old result new) (λ a. RestartsAt old e a n result new)

@@ -1,0 +1,60 @@
+//! What may happen in a fabric.
+ghost use Rattle.std.specs.Prelude.{◌≡◌};
+ghost use Rattle.ev_fabric.specs.Local.{event_of};
+
+use ether_wire::Addr;
+use ev_edge::Event;
+use mac_arena::Station;
+
+/// What comes to an edge from outside the fabric. Ports are numbered from 1.
+#[derive(Clone, Copy)]
+pub enum LocalEvent<'a> {
+    /// These octets come at the access port.
+    Frame(u8, &'a [u8]),
+    /// This datagram comes from another edge.
+    TunnelFrame(Addr, &'a [u8]),
+    /// The station is to be pinned on the port.
+    Pin(Station, u8),
+    /// The station is to be pinned no more.
+    Unpin(Station),
+    /// The station is to be thawed.
+    Thaw(Station),
+    /// A second passes.
+    Second,
+    /// The port comes up.
+    PortUp(u8),
+    /// The port goes down.
+    PortDown(u8),
+    /// The administrator asks for the port's protocol to be found out anew.
+    Mcheck(u8),
+}
+
+/// A step of a fabric. Edges and updates are numbered from 1.
+#[derive(Clone, Copy)]
+pub enum Step<'a> {
+    /// Something comes to an edge from outside.
+    Local(usize, LocalEvent<'a>),
+    /// The edge announces the own update that waits longest.
+    Announce(usize),
+    /// The edge takes this update of the pool.
+    Deliver(usize, usize),
+    /// The edge is opened anew in this life.
+    Restart(usize, u32),
+}
+
+/// The same as an event of an edge.
+pub(crate) fn event_of<'a>(local: &LocalEvent<'a>) -> Event<'a>
+    ensures { result ≡ event_of local.now }
+{
+    match local {
+        LocalEvent::Frame(port, octets) => Event::Frame(*port, *octets),
+        LocalEvent::TunnelFrame(from, octets) => Event::TunnelFrame(*from, *octets),
+        LocalEvent::Pin(station, port) => Event::Pin(*station, *port),
+        LocalEvent::Unpin(station) => Event::Unpin(*station),
+        LocalEvent::Thaw(station) => Event::Thaw(*station),
+        LocalEvent::Second => Event::Second,
+        LocalEvent::PortUp(port) => Event::PortUp(*port),
+        LocalEvent::PortDown(port) => Event::PortDown(*port),
+        LocalEvent::Mcheck(port) => Event::Mcheck(*port),
+    }
+}
