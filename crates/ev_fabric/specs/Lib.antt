@@ -6,3 +6,4 @@ pub mod Steps
 pub mod Sound
 pub mod Agreed
 pub mod Runs
+pub mod Laws

@@ -1,10 +1,11 @@
 -- What every fabric keeps: each edge is good, and edge and pool know of each other. Two edges are compared by their
 -- addresses alone.
-use Rattle.std.specs.Prelude.{◌≡◌, ◌≢◌, ◌⊎◌, ⊥, ℕ, ◌<◌, true, Some, List, length, slice_get, Contains}
+use Rattle.std.specs.Prelude.{◌≡◌, ◌≢◌, ◌⊎◌, ℕ, ◌<◌, true, Some, List, length, slice_get, Contains}
 use Rattle.route_wire.specs.declared.update.Register.{Register}
 use Rattle.route_wire.specs.declared.update.Value.{Value}
 use Rattle.route_wire.specs.Fields.{Fields}
 use Rattle.route_join.specs.Table.{Table, value_at, is_listed}
+use Rattle.ev_claims.specs.Voice.{Voice}
 use Rattle.ev_edge.specs.declared.config.EdgeConfig.{EdgeConfig}
 use Rattle.ev_edge.specs.Config.{IsConfig}
 use Rattle.ev_edge.specs.Edge.{Edge, IsGoodEdge, table_of, address_of}
@@ -21,12 +22,12 @@ pub record IsBehind (n : ℕ) (t : Table) (u : Fields) : Type 0 where
   pub alive : says.incarnation ≡ n
   pub order : (u.value ≡ says) ⊎ (u.value.counter < says.counter)
 
--- What the edge has of others was announced; what it says itself was announced or is pending; what it announced in an
--- earlier life is of that life, and what it announced in this one is what it says, or has a lower number.
-pub record IsTold (pool : List Fields) (a : Edge) : Type 0 where
-  pub foreign : (r : Register) (v : Value) → r.originator ≢ address_of a → value_at (table_of a) r ≡ Some v → Contains pool (update_of r v)
-  pub own : (r : Register) (v : Value) → r.originator ≡ address_of a → value_at (table_of a) r ≡ Some v → (Contains a.claims.voice.pending r → ⊥) → Contains pool (update_of r v)
-  pub behind : (u : Fields) → Contains pool u → u.register.originator ≡ address_of a → (u.value.incarnation < life_of a) ⊎ IsBehind (life_of a) (table_of a) u
+-- What the pool and what an edge says know of each other: what the edge has of others was announced; what it says
+-- itself was announced or is pending; what it announced in this life is what it says, or has a lower number.
+pub record IsTold (pool : List Fields) (e : Voice) : Type 0 where
+  pub foreign : (r : Register) (v : Value) → r.originator ≢ e.address → value_at e.table r ≡ Some v → Contains pool (update_of r v)
+  pub own : (r : Register) (v : Value) → r.originator ≡ e.address → value_at e.table r ≡ Some v → (Contains e.pending r → ⊥) → Contains pool (update_of r v)
+  pub behind : (u : Fields) → Contains pool u → u.register.originator ≡ e.address → (u.value.incarnation < e.incarnation) ⊎ IsBehind e.incarnation e.table u
 
 -- of one register, life and number there is one update
 abbrev pub SaidOnce : List Fields → Type 0
@@ -42,7 +43,7 @@ pub record IsOf (c : EdgeConfig) (a : Edge) : Type 0 where
 pub record IsSound (f : Fabric) : Type 0 where
   pub apart : (i j : ℕ) (a b : Edge) → IsEdge f i a → IsEdge f j b → address_of a ≡ address_of b → i ≡ j
   pub good : (i : ℕ) (a : Edge) → IsEdge f i a → IsGoodEdge a
-  pub told : (i : ℕ) (a : Edge) → IsEdge f i a → IsTold f.pool a
+  pub told : (i : ℕ) (a : Edge) → IsEdge f i a → IsTold f.pool a.claims.voice
   pub once : SaidOnce f.pool
   pub sources : (u : Fields) → Contains f.pool u → (i : ℕ) × (a : Edge) × IsEdge f i a × (address_of a ≡ u.register.originator)
   pub listed : (i j : ℕ) (a b : Edge) → IsEdge f i a → IsEdge f j b → is_listed (table_of a) (address_of b) ≡ true

@@ -1,0 +1,367 @@
+-- Every step keeps a fabric sound.
+use Rattle.std.proofs.Common.{◌≡◌, ◌≢◌, ◌⊎◌, inl, inr, ℕ, zero, suc, ◌-◌, ◌<◌, Bool, true, false, Option, Some, None, Result, Ok, Err, List, [], ◌∷◌, ◌++◌, length, refl, sym, ap, subst, ◌∙◌, arith}
+use Rattle.std.proofs.lemmas.Bool.{cases_eq}
+use Rattle.std.proofs.lemmas.List.Elements.{Contains-append_left, Contains-push_cases}
+use Rattle.std.specs.Prelude.{Contains, slice_get, slice_set, drop}
+use Rattle.std.specs.Option.{MatchOption, option_map}
+use Rattle.std.specs.List.{list_any}
+use Rattle.std.specs.Prelude.{eqb}
+use Rattle.route_wire.specs.declared.update.Register.{Register}
+use Rattle.route_wire.specs.declared.update.Value.{Value}
+use Rattle.route_wire.specs.Fields.{Fields}
+use Rattle.route_join.specs.Table.{value_at, is_listed, update_at}
+use Rattle.ev_claims.specs.Voice.{Voice, KeepsNumbers, announced, announced_of, after_announcing}
+use Rattle.ev_claims.specs.Claims.{after_announcement}
+use Rattle.ev_edge.specs.declared.config.EdgeConfig.{EdgeConfig}
+use Rattle.ev_edge.specs.declared.reply.Reply.{Reply}
+use Rattle.ev_edge.specs.declared.refusal.Refusal as edge
+use Rattle.ev_edge.specs.declared.event.Event.{Event}
+use Rattle.ev_edge.specs.declared.event.Event.TheVariants as events
+use Rattle.ev_edge.specs.Config.{IsConfig}
+use Rattle.ev_edge.specs.Edge.{Edge, IsGoodEdge, table_of, address_of}
+use Rattle.ev_edge.specs.Opening.{IsOpening}
+use Rattle.ev_edge.specs.Steps.{Steps, nothing}
+use Rattle.ev_fabric.specs.declared.refusal.Refusal.{Refusal}
+use Rattle.ev_fabric.specs.declared.refusal.Refusal.TheVariants.{NoSuchEdge, NoSuchUpdate, NoHigher, NoMemory, Edge as OfEdge}
+use Rattle.ev_fabric.specs.declared.step.LocalEvent.{LocalEvent}
+use Rattle.ev_fabric.specs.declared.step.Step.{Step}
+use Rattle.ev_fabric.specs.declared.step.Step.TheVariants.{Local, Announce, Deliver, Restart}
+use Rattle.ev_fabric.specs.Fabric.{Fabric, IsEdge, nth, life_of}
+use Rattle.ev_fabric.specs.Local.{event_of}
+use Rattle.ev_fabric.specs.Sound.{update_of, IsBehind, IsTold, SaidOnce, IsOf, IsSound}
+use Rattle.ev_fabric.specs.Steps.{of_edge, with_edge, with_announced, IsRefused, StepsAt, AnnouncesAt, in_life, with_opened, OpensAnew, RestartsAt, FabricSteps}
+use Rattle.ev_fabric.specs.Runs.{AreGood, Runs}
+use Rattle.ev_fabric.proofs.Places.{set_cases, set_same, set_other, set_length, contains_at}
+use Rattle.ev_fabric.proofs.Voices.{AreOne, talks_told, talks_one, grown_told, announced_told, one_itself}
+use Rattle.ev_fabric.proofs.Events.{Leaves, local_talks, takes_told}
+use Rattle.ev_fabric.proofs.Opened.{opened_told, opened_of}
+
+-- ---- one edge becomes another of the same name
+
+-- the edge at one place of the fabric becomes this one; the pool may grow
+record Becomes (old new : Fabric) (i : ℕ) (before after : Edge) : Type 0 where
+  is : IsEdge old i before
+  edges : new.edges ≡ slice_set old.edges i after
+  address : address_of after ≡ address_of before
+  originators : (table_of after).originators ≡ (table_of before).originators
+
+at_place : (old new : Fabric) (i : ℕ) (before after : Edge) → Becomes old new i before after → (j : ℕ) (a : Edge) → IsEdge new j a → ((j ≡ i) × (a ≡ after)) ⊎ ((j ≢ i) × (IsEdge old j a))
+at_place old new i before after b j a is = set_cases old.edges i after j a (subst (λ l. slice_get l j ≡ Some a) b.edges is)
+
+-- each edge has the name of the edge that was there, and its listeners
+record WasThere (old : Fabric) (j : ℕ) (a : Edge) : Type 0 where
+  was : Edge
+  is : IsEdge old j was
+  address : address_of a ≡ address_of was
+  originators : (table_of a).originators ≡ (table_of was).originators
+
+was_there : (old new : Fabric) (i : ℕ) (before after : Edge) → Becomes old new i before after → (j : ℕ) (a : Edge) → IsEdge new j a → WasThere old j a
+was_there old new i before after b j a is = elim (at_place old new i before after b j a is) as (λ _. WasThere old j a) [
+  | inl p ↦ record {
+    was = before;
+    is = subst (λ n. IsEdge old n before) (sym p.0) b.is;
+    address = ap address_of p.1 ∙ b.address;
+    originators = ap (λ (x : Edge). (table_of x).originators) p.1 ∙ b.originators;
+  }
+  | inr p ↦ record { was = a; is = p.1; address = refl; originators = refl }
+]
+
+apart_still : (old new : Fabric) (i : ℕ) (before after : Edge) → Becomes old new i before after → IsSound old → (j k : ℕ) (a b : Edge) → IsEdge new j a → IsEdge new k b → address_of a ≡ address_of b → j ≡ k
+apart_still old new i before after step h j k a b at_a at_b same =
+    let x = was_there old new i before after step j a at_a in
+    let y = was_there old new i before after step k b at_b in
+    h.apart j k x.was y.was x.is y.is (sym x.address ∙ same ∙ y.address)
+
+listed_still : (old new : Fabric) (i : ℕ) (before after : Edge) → Becomes old new i before after → IsSound old → (j k : ℕ) (a b : Edge) → IsEdge new j a → IsEdge new k b → is_listed (table_of a) (address_of b) ≡ true
+listed_still old new i before after step h j k a b at_a at_b =
+    let x = was_there old new i before after step j a at_a in
+    let y = was_there old new i before after step k b at_b in
+    ap (λ os. list_any (λ o. eqb o (address_of b)) os) x.originators ∙ ap (λ p. is_listed (table_of x.was) p) y.address ∙ h.listed j k x.was y.was x.is y.is
+
+-- every update of the old pool has its source still
+source_still : (old new : Fabric) (i : ℕ) (before after : Edge) → Becomes old new i before after → IsSound old → (u : Fields) → Contains old.pool u → (j : ℕ) × (a : Edge) × IsEdge new j a × (address_of a ≡ u.register.originator)
+source_still old new i before after step h u in' = go (h.sources u in')
+  where
+    go : ((j : ℕ) × (a : Edge) × IsEdge old j a × (address_of a ≡ u.register.originator)) → (j : ℕ) × (a : Edge) × IsEdge new j a × (address_of a ≡ u.register.originator)
+    go (j, a, is, names) = elim (cases_eq j i) as (λ _. (j : ℕ) × (a : Edge) × IsEdge new j a × (address_of a ≡ u.register.originator)) [
+      | inl same ↦
+          let here : before ≡ a = (let p : IsEdge old i a = subst (λ n. IsEdge old n a) same is in let q = step.is in cc) in
+          (i, after, subst (λ l. slice_get l i ≡ Some after) (sym step.edges) (set_same old.edges i before after step.is), step.address ∙ ap address_of here ∙ names)
+      | inr ne ↦ (j, a, subst (λ l. slice_get l j ≡ Some a) (sym step.edges) (set_other old.edges i after j a ne is), names)
+    ]
+
+-- what an edge was opened with, where it goes on
+goes_on : (c : EdgeConfig) (a b : Edge) → AreOne a.claims.voice b.claims.voice → IsOf c a → IsOf c b
+goes_on c a b one h = record { config = h.config; address = one.address ∙ h.address; life = one.incarnation ∙ h.life; originators = one.originators ∙ h.originators }
+
+configs_still : (old new : Fabric) (i : ℕ) (before after : Edge) → Becomes old new i before after → new.configs ≡ old.configs → AreOne before.claims.voice after.claims.voice → IsSound old
+    → (j : ℕ) (c : EdgeConfig) (a : Edge) → slice_get new.configs j ≡ Some c → IsEdge new j a → IsOf c a
+configs_still old new i before after step same one h j c a at_c at_a = elim (at_place old new i before after step j a at_a) as (λ _. IsOf c a) [
+  | inl p ↦ subst (IsOf c) (sym p.1) (goes_on c before after one (h.configs i c before (subst (λ n. slice_get old.configs n ≡ Some c) p.0 was) step.is))
+  | inr p ↦ h.configs j c a was p.1
+]
+  where
+    was : slice_get old.configs j ≡ Some c
+    was = subst (λ l. slice_get l j ≡ Some c) same at_c
+
+count_still : (old new : Fabric) (i : ℕ) (after : Edge) → new.edges ≡ slice_set old.edges i after → length new.configs ≡ length old.configs → IsSound old → length new.configs ≡ length new.edges
+count_still old new i after edges same h = same ∙ h.count ∙ sym (ap length edges ∙ set_length old.edges i after)
+
+-- ---- the pool stays
+pool_stays : (old new : Fabric) (i : ℕ) (before after : Edge) → Becomes old new i before after → new.pool ≡ old.pool → new.configs ≡ old.configs → AreOne before.claims.voice after.claims.voice → AreGood new → IsTold old.pool after.claims.voice → IsSound old → IsSound new
+pool_stays old new i before after step pool configs one good told h = record {
+  apart = apart_still old new i before after step h;
+  good = good;
+  told = λ j a at_a. subst (λ l. IsTold l a.claims.voice) (sym pool) (elim (at_place old new i before after step j a at_a) as (λ _. IsTold old.pool a.claims.voice) [
+    | inl p ↦ subst (λ (x : Edge). IsTold old.pool x.claims.voice) (sym p.1) told
+    | inr p ↦ h.told j a p.1
+  ]);
+  once = subst SaidOnce (sym pool) h.once;
+  sources = λ u in'. source_still old new i before after step h u (subst (λ l. Contains l u) pool in');
+  listed = listed_still old new i before after step h;
+  count = count_still old new i after step.edges (ap length configs) h;
+  configs = configs_still old new i before after step configs one h;
+}
+
+-- the edge steps
+steps_at : (old new : Fabric) (i : ℕ) (a : Edge) (event : Event) (result : Result Reply Refusal) → IsEdge old i a → (s : StepsAt old (suc i) a event result new) → Leaves old.pool a.claims.voice s.after.claims.voice → AreGood new → IsSound old → IsSound new
+steps_at old new i a event result at s leaves good h = pool_stays old new i a s.after step (ap (λ (f : Fabric). f.pool) s.new_is) (ap (λ (f : Fabric). f.configs) s.new_is) leaves.one good (leaves.told (h.told i a at)) h
+  where
+    index : suc i - 1 ≡ i
+    index = omega arith
+
+    step : Becomes old new i a s.after
+    step = record {
+      is = at;
+      edges = ap (λ (f : Fabric). f.edges) s.new_is ∙ ap (λ n. slice_set old.edges n s.after) index;
+      address = leaves.one.address;
+      originators = leaves.one.originators;
+    }
+
+numbers_of : (f : Fabric) (i : ℕ) (a : Edge) → IsSound f → IsEdge f i a → KeepsNumbers a.claims.voice
+numbers_of f i a h at = (h.good i a at).claims.numbers
+
+local_leaves : (old : Fabric) (i : ℕ) (a b : Edge) (event : LocalEvent) (answer : Result Reply edge.Refusal) → IsSound old → IsEdge old i a → Steps a (event_of event) answer b → Leaves old.pool a.claims.voice b.claims.voice
+local_leaves old i a b event answer h at steps =
+    let talks = local_talks a event answer b steps in
+    record { told = talks_told old.pool a.claims.voice b.claims.voice talks (numbers_of old i a h at); one = talks_one a.claims.voice b.claims.voice talks }
+
+-- ---- an announcement
+
+-- the first pending register, and what is announced of it
+record IsAnnounced (a : Edge) (o : Option Fields) (rs : List Register) : Type 0 where
+  register : Register
+  value : Value
+  first : a.claims.voice.pending ≡ register ∷ rs
+  there : value_at (table_of a) register ≡ Some value
+  alive : value.incarnation ≡ life_of a
+  own : register.originator ≡ address_of a
+  is : o ≡ Some (update_of register value)
+
+-- nothing is pending, or the first register is
+announced_cases : (a : Edge) (rs : List Register) → a.claims.voice.pending ≡ rs → KeepsNumbers a.claims.voice → ((rs ≡ []) × (announced a.claims.voice ≡ None)) ⊎ IsAnnounced a (announced a.claims.voice) (drop 1 rs)
+announced_cases a [] at h = inl (refl, ap (announced_of a.claims.voice) at)
+announced_cases a (r ∷ rs) at h =
+    let p = h.pending r (subst (λ l. Contains l r) (sym at) (0, omega arith, refl)) in
+    inr (record {
+      register = r;
+      value = p.0;
+      first = at;
+      there = p.1;
+      alive = p.2;
+      own = p.3;
+      is = ap (announced_of a.claims.voice) at ∙ ap (option_map (λ (v : Value). update_of r v)) p.1;
+    })
+
+-- an update of the present number is the one that the edge says
+present_once : (pool : List Fields) (e : Voice) (r : Register) (v : Value) → r.originator ≡ e.address → value_at e.table r ≡ Some v → v.incarnation ≡ e.incarnation → IsTold pool e
+    → (w : Fields) → Contains pool w → w.register ≡ r → w.value.incarnation ≡ v.incarnation → w.value.counter ≡ v.counter → w ≡ update_of r v
+present_once pool e r v mine is alive told w in' same life number = elim (told.behind w in' (ap (λ (q : Register). q.originator) same ∙ mine)) as (λ _. w ≡ update_of r v) [
+  | inl earlier ↦ absurd (omega (arith, earlier, life, alive))
+  | inr b ↦
+      let here : value_at e.table w.register ≡ Some v = ap (value_at e.table) same ∙ is in
+      let says : b.says ≡ v = (let there = b.there in cc) in
+      elim b.order as (λ _. w ≡ update_of r v) [
+        | inl equal ↦ λ j. update_of (same j) ((equal ∙ says) j)
+        | inr less ↦ let counters = ap (λ (x : Value). x.counter) says in absurd (omega (arith, less, counters, number))
+      ]
+]
+
+grown_once : (pool : List Fields) (u : Fields) → ((w : Fields) → Contains pool w → w.register ≡ u.register → w.value.incarnation ≡ u.value.incarnation → w.value.counter ≡ u.value.counter → w ≡ u) → SaidOnce pool → SaidOnce (pool ++ u ∷ [])
+grown_once pool u one once w x in_w in_x same life number = elim (Contains-push_cases pool u w in_w) as (λ _. w ≡ x) [
+  | inl w_old ↦ elim (Contains-push_cases pool u x in_x) as (λ _. w ≡ x) [
+    | inl x_old ↦ once w x w_old x_old same life number
+    | inr x_new ↦ one w w_old (same ∙ ap (λ (y : Fields). y.register) (sym x_new)) (life ∙ ap (λ (y : Fields). y.value.incarnation) (sym x_new)) (number ∙ ap (λ (y : Fields). y.value.counter) (sym x_new)) ∙ x_new
+  ]
+  | inr w_new ↦ elim (Contains-push_cases pool u x in_x) as (λ _. w ≡ x) [
+    | inl x_old ↦ sym w_new ∙ sym (one x x_old (sym same ∙ ap (λ (y : Fields). y.register) (sym w_new)) (sym life ∙ ap (λ (y : Fields). y.value.incarnation) (sym w_new)) (sym number ∙ ap (λ (y : Fields). y.value.counter) (sym w_new)))
+    | inr x_new ↦ sym w_new ∙ x_new
+  ]
+]
+
+-- something is announced
+pool_grows : (old new : Fabric) (i : ℕ) (a b : Edge) (rs : List Register) (r : Register) (v : Value) → Becomes old new i a b → new.pool ≡ old.pool ++ update_of r v ∷ [] → new.configs ≡ old.configs → b.claims.voice ≡ record a.claims.voice { pending = rs }
+    → a.claims.voice.pending ≡ r ∷ rs → value_at (table_of a) r ≡ Some v → v.incarnation ≡ life_of a → r.originator ≡ address_of a → AreGood new → IsSound old → IsSound new
+pool_grows old new i a b rs r v step pool configs voice at is alive mine good h = record {
+  apart = apart_still old new i a b step h;
+  good = good;
+  told = λ j x at_x. subst (λ l. IsTold l x.claims.voice) (sym pool) (elim (at_place old new i a b step j x at_x) as (λ _. IsTold (old.pool ++ update_of r v ∷ []) x.claims.voice) [
+    | inl p ↦ subst (λ (y : Edge). IsTold (old.pool ++ update_of r v ∷ []) y.claims.voice) (sym p.1) (subst (IsTold (old.pool ++ update_of r v ∷ [])) (sym voice) (announced_told old.pool a.claims.voice r rs v at is alive (h.told i a step.is)))
+    | inr p ↦ grown_told old.pool (update_of r v) x.claims.voice (λ same. p.0 (h.apart j i x a p.1 step.is (sym same ∙ mine))) (h.told j x p.1)
+  ]);
+  once = subst SaidOnce (sym pool) (grown_once old.pool (update_of r v) (present_once old.pool a.claims.voice r v mine is alive (h.told i a step.is)) h.once);
+  sources = λ u in'. elim (Contains-push_cases old.pool (update_of r v) u (subst (λ l. Contains l u) pool in')) as (λ _. (j : ℕ) × (x : Edge) × IsEdge new j x × (address_of x ≡ u.register.originator)) [
+    | inl before ↦ source_still old new i a b step h u before
+    | inr same ↦ (i, b, subst (λ l. slice_get l i ≡ Some b) (sym step.edges) (set_same old.edges i a b step.is), step.address ∙ sym mine ∙ ap (λ (x : Fields). x.register.originator) same)
+  ];
+  listed = listed_still old new i a b step h;
+  count = count_still old new i b step.edges (ap length configs) h;
+  configs = configs_still old new i a b step configs (subst (AreOne a.claims.voice) (sym voice) (record { address = refl; incarnation = refl; originators = refl })) h;
+}
+
+announces_at : (old new : Fabric) (i : ℕ) (a : Edge) (result : Result Reply Refusal) → IsEdge old i a → AnnouncesAt old (suc i) a result new → AreGood new → IsSound old → IsSound new
+announces_at old new i a (Err why) at s good h = subst IsSound (sym s.1) h
+announces_at old new i a (Ok reply) at s good h = go (announced_cases a a.claims.voice.pending refl (numbers_of old i a h at))
+  where
+    b : Edge
+    b = s.0
+
+    index : suc i - 1 ≡ i
+    index = omega arith
+
+    says : reply ≡ record nothing { announced = announced a.claims.voice }
+    says = let p = s.1.0 in cc
+
+    after : b ≡ record a { claims = after_announcement a.claims }
+    after = s.1.1
+
+    step : Becomes old new i a b
+    step = record {
+      is = at;
+      edges = ap (λ (f : Fabric). f.edges) s.2 ∙ ap (λ n. slice_set old.edges n b) index;
+      address = ap address_of after;
+      originators = ap (λ (x : Edge). (table_of x).originators) after;
+    }
+
+    pool : new.pool ≡ with_announced old.pool (announced a.claims.voice)
+    pool = ap (λ (f : Fabric). f.pool) s.2 ∙ ap (λ (r : Reply). with_announced old.pool r.announced) says
+
+    configs : new.configs ≡ old.configs
+    configs = ap (λ (f : Fabric). f.configs) s.2
+
+    voice : b.claims.voice ≡ after_announcing a.claims.voice
+    voice = ap (λ (x : Edge). x.claims.voice) after
+
+    quiet : a.claims.voice.pending ≡ [] → b.claims.voice ≡ a.claims.voice
+    quiet none = voice ∙ ap (λ l. record a.claims.voice { pending = l }) (ap (drop 1) none ∙ sym none)
+
+    go : ((a.claims.voice.pending ≡ []) × (announced a.claims.voice ≡ None)) ⊎ IsAnnounced a (announced a.claims.voice) (drop 1 a.claims.voice.pending) → IsSound new
+    go (inl none) = pool_stays old new i a b step (pool ∙ ap (with_announced old.pool) none.1) configs (subst (AreOne a.claims.voice) (sym (quiet none.0)) (one_itself a.claims.voice)) good (subst (IsTold old.pool) (sym (quiet none.0)) (h.told i a at)) h
+    go (inr first) =
+        pool_grows old new i a b (drop 1 a.claims.voice.pending) first.register first.value step (pool ∙ ap (with_announced old.pool) first.is) configs voice
+        first.first first.there first.alive first.own good h
+
+-- ---- a restart
+restart_sound : (old new : Fabric) (i : ℕ) (a : Edge) (n : ℕ) (reply : Reply) → IsEdge old i a → OpensAnew old (suc i) a n reply new → AreGood new → IsSound old → IsSound new
+restart_sound old new i a n reply at s good h = record {
+  apart = apart_still old new i a s.after step h;
+  good = good;
+  told = λ j x at_x. subst (λ l. IsTold l x.claims.voice) (sym pool) (elim (at_place old new i a s.after step j x at_x) as (λ _. IsTold old.pool x.claims.voice) [
+    | inl p ↦ subst (λ (y : Edge). IsTold old.pool y.claims.voice) (sym p.1) told
+    | inr p ↦ h.told j x p.1
+  ]);
+  once = subst SaidOnce (sym pool) h.once;
+  sources = λ u in'. source_still old new i a s.after step h u (subst (λ l. Contains l u) pool in');
+  listed = listed_still old new i a s.after step h;
+  count = count_still old new i s.after step.edges (ap length configs ∙ set_length old.configs i (in_life s.config n)) h;
+  configs = λ j c x at_c at_x. elim (at_place old new i a s.after step j x at_x) as (λ _. IsOf c x) [
+    | inl p ↦ elim (set_cases old.configs i (in_life s.config n) j c (subst (λ l. slice_get l j ≡ Some c) configs at_c)) as (λ _. IsOf c x) [
+      | inl q ↦ subst (λ d. IsOf d x) (sym q.1) (subst (IsOf (in_life s.config n)) (sym p.1) anew)
+      | inr q ↦ absurd (q.0 p.0)
+    ]
+    | inr p ↦ elim (set_cases old.configs i (in_life s.config n) j c (subst (λ l. slice_get l j ≡ Some c) configs at_c)) as (λ _. IsOf c x) [
+      | inl q ↦ absurd (p.0 q.0)
+      | inr q ↦ h.configs j c x q.1 p.1
+    ]
+  ];
+}
+  where
+    index : suc i - 1 ≡ i
+    index = omega arith
+
+    was : IsOf s.config a
+    was = h.configs i s.config a s.config_is at
+
+    fit : IsConfig (in_life s.config n)
+    fit = let c = was.config in record { originators = c.originators; listed = c.listed; distinct = c.distinct; some_port = c.some_port; served = c.served; some_place = c.some_place; places = c.places; some_bucket = c.some_bucket; buckets = c.buckets; hello = c.hello }
+
+    anew : IsOf (in_life s.config n) s.after
+    anew = opened_of (in_life s.config n) s.after fit s.opened
+
+    step : Becomes old new i a s.after
+    step = record {
+      is = at;
+      edges = ap (λ (f : Fabric). f.edges) s.new_is ∙ ap (λ m. slice_set old.edges m s.after) index;
+      address = anew.address ∙ sym was.address;
+      originators = anew.originators ∙ sym was.originators;
+    }
+
+    pool : new.pool ≡ old.pool
+    pool = ap (λ (f : Fabric). f.pool) s.new_is
+
+    configs : new.configs ≡ slice_set old.configs i (in_life s.config n)
+    configs = ap (λ (f : Fabric). f.configs) s.new_is ∙ ap (λ m. slice_set old.configs m (in_life s.config n)) index
+
+    -- what was announced under this name was said in the old life, or earlier
+    earlier : (u : Fields) → Contains old.pool u → u.register.originator ≡ s.config.address → u.value.incarnation < n
+    earlier u in' mine = elim ((h.told i a at).behind u in' (mine ∙ sym was.address)) as (λ _. u.value.incarnation < n) [
+      | inl before ↦ let higher = s.higher in omega (arith, before, higher)
+      | inr b ↦ let higher = s.higher in let present = b.present in omega (arith, present, higher)
+    ]
+
+    told : IsTold old.pool s.after.claims.voice
+    told = opened_told old.pool (in_life s.config n) s.after fit s.opened earlier
+
+restarts_at : (old new : Fabric) (i : ℕ) (a : Edge) (n : ℕ) (result : Result Reply Refusal) → IsEdge old i a → RestartsAt old (suc i) a n result new → AreGood new → IsSound old → IsSound new
+restarts_at old new i a n (Ok reply) at s good h = restart_sound old new i a n reply at s good h
+restarts_at old new i a n (Err why) at s good h = subst IsSound (sym s.1) h
+
+-- ---- one step
+delivers_at : (old new : Fabric) (i : ℕ) (a : Edge) (result : Result Reply Refusal) (k : ℕ) (o : Option Fields) → nth old.pool k ≡ o → IsEdge old i a
+    → MatchOption o (IsRefused NoSuchUpdate old result new) (λ u. StepsAt old (suc i) a (events.Take u) result new) → AreGood new → IsSound old → IsSound new
+delivers_at old new i a result k None is at s good h = subst IsSound (sym s.1) h
+delivers_at old new i a result zero (Some u) is at s good h = cc
+delivers_at old new i a result (suc k) (Some u) is at s good h =
+    steps_at old new i a (events.Take u) result at s (takes_told old.pool a u s.answer s.after (contains_at old.pool k u is) (numbers_of old i a h at) s.steps) good h
+
+pub step_sound : (old new : Fabric) (step : Step) (result : Result Reply Refusal) → FabricSteps old step result new → AreGood new → IsSound old → IsSound new
+step_sound old new (Local e event) result s good h = go e (nth old.edges e) refl s
+  where
+    go : (e : ℕ) (o : Option Edge) → nth old.edges e ≡ o → MatchOption o (IsRefused NoSuchEdge old result new) (λ a. StepsAt old e a (event_of event) result new) → IsSound new
+    go e None is s = subst IsSound (sym s.1) h
+    go zero (Some a) is s = cc
+    go (suc i) (Some a) is s = steps_at old new i a (event_of event) result is s (local_leaves old i a s.after event s.answer h is s.steps) good h
+step_sound old new (Announce e) result s good h = go e (nth old.edges e) refl s
+  where
+    go : (e : ℕ) (o : Option Edge) → nth old.edges e ≡ o → MatchOption o (IsRefused NoSuchEdge old result new) (λ a. AnnouncesAt old e a result new) → IsSound new
+    go e None is s = subst IsSound (sym s.1) h
+    go zero (Some a) is s = cc
+    go (suc i) (Some a) is s = announces_at old new i a result is s good h
+step_sound old new (Deliver e k) result s good h = go e (nth old.edges e) refl s
+  where
+    go : (e : ℕ) (o : Option Edge) → nth old.edges e ≡ o
+        → MatchOption o (IsRefused NoSuchEdge old result new) (λ a. MatchOption (nth old.pool k) (IsRefused NoSuchUpdate old result new) (λ u. StepsAt old e a (events.Take u) result new)) → IsSound new
+    go e None is s = subst IsSound (sym s.1) h
+    go zero (Some a) is s = cc
+    go (suc i) (Some a) is s = delivers_at old new i a result k (nth old.pool k) refl is s good h
+step_sound old new (Restart e n) result s good h = go e (nth old.edges e) refl s
+  where
+    go : (e : ℕ) (o : Option Edge) → nth old.edges e ≡ o → MatchOption o (IsRefused NoSuchEdge old result new) (λ a. RestartsAt old e a n result new) → IsSound new
+    go e None is s = subst IsSound (sym s.1) h
+    go zero (Some a) is s = cc
+    go (suc i) (Some a) is s = restarts_at old new i a n result is s good h
+
+-- ---- lists of steps
+pub runs_sound : (steps : List Step) (old new : Fabric) → Runs old steps new → IsSound old → IsSound new
+runs_sound [] old new s h = subst IsSound (sym s) h
+runs_sound (step ∷ steps) old new s h = runs_sound steps s.0 new s.4 (step_sound old s.0 step s.1 s.2 s.3 h)

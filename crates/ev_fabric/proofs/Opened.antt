@@ -1,0 +1,127 @@
+-- An edge as it is opened, and a fabric of such edges.
+use Rattle.std.proofs.Common.{◌≡◌, inl, ℕ, zero, suc, ◌<◌, Bool, true, false, Some, None, List, [], ◌∷◌, length, refl, sym, ap, subst, ◌∙◌, arith}
+use Rattle.std.proofs.lemmas.Bool.{eq-eqb}
+use Rattle.std.specs.Prelude.{Contains, slice_get, eqb, map, ◌||◌}
+use Rattle.std.specs.List.{IsDistinct, list_any, AllByRecursion}
+use Rattle.route_wire.specs.declared.update.Key.TheVariants.{Flood}
+use Rattle.route_wire.specs.declared.update.Content.TheVariants.{Advert as Advertised}
+use Rattle.route_wire.specs.Fields.{Fields, flood_advert}
+use Rattle.std.specs.FinMap.{get, empty, get-empty}
+use Rattle.route_wire.specs.declared.update.Register.{Register}
+use Rattle.route_wire.specs.declared.update.Value.{Value}
+use Rattle.route_wire.specs.Order.{register_cmp}
+use Rattle.route_join.specs.Table.{value_at}
+use Rattle.ev_claims.specs.Voice.{Voice, after_saying, silent}
+use Rattle.ev_claims.proofs.Hearing.{silent_voice}
+use Rattle.ev_claims.specs.Opening.{after_floods}
+use Rattle.ev_edge.specs.declared.config.EdgeConfig.{EdgeConfig}
+use Rattle.ev_edge.specs.Config.{IsConfig}
+use Rattle.ev_edge.specs.Edge.{Edge, address_of}
+use Rattle.ev_edge.specs.Opening.{IsOpening}
+use Rattle.ev_fabric.specs.Fabric.{Fabric, IsEdge, addresses_of}
+use Rattle.ev_fabric.specs.Opening.{AreConfigs, IsStart}
+use Rattle.ev_fabric.specs.Sound.{IsTold, IsOf, IsSound}
+use Rattle.ev_fabric.proofs.Voices.{Talks, Quiet, Says, talks_one, talks_told, talks_further}
+use Rattle.ev_fabric.proofs.Places.{contains_at, there_at, below_length}
+
+-- opening is saying
+floods_talk : (e : Voice) (vs : List ℕ) → Talks e (after_floods e vs)
+floods_talk e [] = Quiet
+floods_talk e (v ∷ vs) = talks_further e (after_saying e (Flood v) (Advertised flood_advert)) (after_floods (after_saying e (Flood v) (Advertised flood_advert)) vs) (Says e (Flood v) (Advertised flood_advert) Quiet) (floods_talk (after_saying e (Flood v) (Advertised flood_advert)) vs)
+
+abbrev start_voice : EdgeConfig → Voice
+start_voice c = silent c.address c.incarnation c.originators.items
+
+opened_talks : (c : EdgeConfig) (a : Edge) → IsOpening c a → Talks (start_voice c) a.claims.voice
+opened_talks c a h = subst (Talks (start_voice c)) (sym h.claims.voice) (floods_talk (start_voice c) a.claims.vnis)
+
+pub opened_of : (c : EdgeConfig) (a : Edge) → IsConfig c → IsOpening c a → IsOf c a
+opened_of c a fit h = let one = talks_one (start_voice c) a.claims.voice (opened_talks c a h) in record { config = fit; address = one.address; life = one.incarnation; originators = one.originators }
+
+nothing_there : (e : Voice) (r : Register) (v : Value) → e.table.registers ≡ empty → value_at e.table r ≡ Some v → ⊥
+nothing_there e r v is at = let none = ap (λ m. get m r) is ∙ get-empty {X = Value} register_cmp r in let bad : None ≡ Some v = sym none ∙ at in cc
+
+-- nothing is said yet, and what was announced under this name was said in an earlier life
+silent_told : (pool : List Fields) (address incarnation : ℕ) (originators : List ℕ) → ((u : Fields) → Contains pool u → u.register.originator ≡ address → u.value.incarnation < incarnation) → IsTold pool (silent address incarnation originators)
+silent_told pool address incarnation originators earlier = record {
+  foreign = λ r v other is. absurd (nothing_there (silent address incarnation originators) r v refl is);
+  own = λ r v mine is quiet. absurd (nothing_there (silent address incarnation originators) r v refl is);
+  behind = λ u in' mine. inl (earlier u in' mine);
+}
+
+pub opened_told : (pool : List Fields) (c : EdgeConfig) (a : Edge) → IsConfig c → IsOpening c a → ((u : Fields) → Contains pool u → u.register.originator ≡ c.address → u.value.incarnation < c.incarnation) → IsTold pool a.claims.voice
+opened_told pool c a fit h earlier =
+    talks_told pool (start_voice c) a.claims.voice (opened_talks c a h) (silent_voice c.address c.incarnation c.originators.items fit.listed).numbers (silent_told pool c.address c.incarnation c.originators.items earlier)
+
+-- ---- lists whose elements differ
+all_at : {A : Type 0} (P : A → Type 0) (xs : List A) (j : ℕ) (y : A) → AllByRecursion P xs → slice_get xs j ≡ Some y → P y
+all_at P [] j y h is = cc
+all_at P (x ∷ xs) zero y h is = let same : x ≡ y = cc in subst P same h.0
+all_at P (x ∷ xs) (suc j) y h is = all_at P xs j y h.1 is
+
+one_place : (xs : List ℕ) (i j a : ℕ) → IsDistinct eqb xs → slice_get xs i ≡ Some a → slice_get xs j ≡ Some a → i ≡ j
+unfolding IsDistinct
+one_place [] i j a h at_i at_j = cc
+one_place (x ∷ xs) zero zero a h at_i at_j = refl
+one_place (x ∷ xs) zero (suc j) a h at_i at_j = absurd (let differs = all_at (λ y. eqb x y ≡ false) xs j a h.0 at_j in let same : x ≡ a = cc in let yes = eq-eqb x a same in cc)
+one_place (x ∷ xs) (suc i) zero a h at_i at_j = absurd (let differs = all_at (λ y. eqb x y ≡ false) xs i a h.0 at_i in let same : x ≡ a = cc in let yes = eq-eqb x a same in cc)
+one_place (x ∷ xs) (suc i) (suc j) a h at_i at_j = ap suc (one_place xs i j a h.1 at_i at_j)
+
+map_at : {A B : Type 0} (f : A → B) (xs : List A) (i : ℕ) (a : A) → slice_get xs i ≡ Some a → slice_get (map f xs) i ≡ Some (f a)
+map_at f [] i a is = cc
+map_at f (x ∷ xs) zero a is = let same : x ≡ a = cc in ap (λ y. Some (f y)) same
+map_at f (x ∷ xs) (suc i) a is = map_at f xs i a is
+
+any_there : (os : List ℕ) (a : ℕ) → Contains os a → list_any (λ x. eqb x a) os ≡ true
+any_there [] a (k, less, is) = absurd (omega (arith, less))
+any_there (x ∷ os) a (zero, less, is) = ap (λ b. b || list_any (λ x. eqb x a) os) (eq-eqb x a is)
+any_there (x ∷ os) a (suc k, less, is) = go (eqb x a) (any_there os a (k, omega (arith, less), is))
+  where
+    go : (b : Bool) → list_any (λ x. eqb x a) os ≡ true → (b || list_any (λ x. eqb x a) os) ≡ true
+    go true h = refl
+    go false h = h
+
+-- ---- a fabric as it is opened
+
+-- what the edge at a place was opened with
+record HasConfig (cs : List EdgeConfig) (i : ℕ) (a : Edge) : Type 0 where
+  config : EdgeConfig
+  there : slice_get cs i ≡ Some config
+  opened : IsOpening config a
+  is_of : IsOf config a
+
+has_config : (cs : List EdgeConfig) (f : Fabric) → AreConfigs cs → IsStart cs f → (i : ℕ) (a : Edge) → IsEdge f i a → HasConfig cs i a
+has_config cs f fit h i a at = go (there_at cs i (let less = below_length f.edges i a at in let same = h.opened.count in omega (arith, less, same)))
+  where
+    go : ((c : EdgeConfig) × (slice_get cs i ≡ Some c)) → HasConfig cs i a
+    go (c, there) = record { config = c; there = there; opened = h.opened.opened i c a there at; is_of = opened_of c a (fit.configs c (contains_at cs i c there)) (h.opened.opened i c a there at) }
+
+pub start_sound : (cs : List EdgeConfig) (f : Fabric) → AreConfigs cs → IsStart cs f → IsSound f
+start_sound cs f fit h = record {
+  apart = λ i j a b at_a at_b same.
+      let x = has_config cs f fit h i a at_a in
+      let y = has_config cs f fit h j b at_b in
+      one_place (addresses_of cs) i j (address_of a) fit.apart
+      (map_at (λ (c : EdgeConfig). c.address) cs i x.config x.there ∙ ap Some (sym x.is_of.address))
+      (map_at (λ (c : EdgeConfig). c.address) cs j y.config y.there ∙ ap Some (sym y.is_of.address ∙ sym same));
+  good = λ i a at. h.opened.good i a at;
+  told = λ i a at.
+      let x = has_config cs f fit h i a at in
+      opened_told f.pool x.config a x.is_of.config x.opened (λ u in' mine. absurd (none in'));
+  once = λ u w in' other same life number. absurd (none in');
+  sources = λ u in'. absurd (none in');
+  listed = λ i j a b at_a at_b.
+      let x = has_config cs f fit h i a at_a in
+      let y = has_config cs f fit h j b at_b in
+      ap (λ os. list_any (λ o. eqb o (address_of b)) os) x.is_of.originators
+      ∙ any_there x.config.originators.items (address_of b) (fit.listed x.config (contains_at cs i x.config x.there) (address_of b)
+        (subst (Contains (addresses_of cs)) (sym y.is_of.address) (contains_at (addresses_of cs) j y.config.address (map_at (λ (c : EdgeConfig). c.address) cs j y.config y.there))));
+  count = ap length h.configs ∙ sym h.opened.count;
+  configs = λ i c a at_c at_a.
+      let x = has_config cs f fit h i a at_a in
+      let same : x.config ≡ c = (let p = x.there in let q : slice_get cs i ≡ Some c = subst (λ l. slice_get l i ≡ Some c) h.configs at_c in cc) in
+      subst (λ d. IsOf d a) same x.is_of;
+}
+  where
+    none : {u : Fields} → Contains f.pool u → ⊥
+    none {u} in' = let in'' : Contains [] u = subst (λ l. Contains l u) h.quiet in' in omega (arith, in''.1)

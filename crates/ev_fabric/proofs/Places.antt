@@ -1,0 +1,67 @@
+-- Places of lists, and one edge of a list.
+use Rattle.std.proofs.Common.{◌≡◌, ◌≢◌, ◌⊎◌, inl, inr, ℕ, zero, suc, ◌-◌, ◌<◌, ◌≤◌, Option, Some, None, List, [], ◌∷◌, length, get_or, refl, sym, ap, subst, ◌∙◌, arith}
+use Rattle.std.specs.Prelude.{Contains, slice_get, slice_set}
+use Rattle.std.specs.Option.{MatchOption}
+use Rattle.std.proofs.lemmas.Option.{slice_get_past, slice_get-get_or}
+use Rattle.ev_fabric.specs.Fabric.{nth}
+
+-- ---- one element of a list is replaced
+pub set_cases : {A : Type 0} (xs : List A) (i : ℕ) (b : A) (j : ℕ) (c : A) → slice_get (slice_set xs i b) j ≡ Some c → ((j ≡ i) × (c ≡ b)) ⊎ ((j ≢ i) × (slice_get xs j ≡ Some c))
+set_cases [] i b j c is = cc
+set_cases (x ∷ xs) zero b zero c is = inl (refl, cc)
+set_cases (x ∷ xs) zero b (suc j) c is = inr (omega arith, is)
+set_cases (x ∷ xs) (suc i) b zero c is = inr (omega arith, is)
+set_cases (x ∷ xs) (suc i) b (suc j) c is = elim (set_cases xs i b j c is) as (λ _. ((suc j ≡ suc i) × (c ≡ b)) ⊎ ((suc j ≢ suc i) × (slice_get xs j ≡ Some c))) [
+  | inl h ↦ inl (ap suc h.0, h.1)
+  | inr h ↦ inr (let ne = h.0 in omega (arith, ne), h.1)
+]
+
+pub set_same : {A : Type 0} (xs : List A) (i : ℕ) (a b : A) → slice_get xs i ≡ Some a → slice_get (slice_set xs i b) i ≡ Some b
+set_same [] i a b is = cc
+set_same (x ∷ xs) zero a b is = refl
+set_same (x ∷ xs) (suc i) a b is = set_same xs i a b is
+
+pub set_other : {A : Type 0} (xs : List A) (i : ℕ) (b : A) (j : ℕ) (c : A) → j ≢ i → slice_get xs j ≡ Some c → slice_get (slice_set xs i b) j ≡ Some c
+set_other [] i b j c ne is = is
+set_other (x ∷ xs) zero b zero c ne is = absurd (ne refl)
+set_other (x ∷ xs) zero b (suc j) c ne is = is
+set_other (x ∷ xs) (suc i) b zero c ne is = is
+set_other (x ∷ xs) (suc i) b (suc j) c ne is = set_other xs i b j c (λ same. ne (ap suc same)) is
+
+pub set_length : {A : Type 0} (xs : List A) (i : ℕ) (b : A) → length (slice_set xs i b) ≡ length xs
+set_length [] i b = refl
+set_length (x ∷ xs) zero b = refl
+set_length (x ∷ xs) (suc i) b = ap suc (set_length xs i b)
+
+pub contains_at : {A : Type 0} (xs : List A) (i : ℕ) (a : A) → slice_get xs i ≡ Some a → Contains xs a
+contains_at [] i a is = cc
+contains_at (x ∷ xs) zero a is = (0, omega arith, cc)
+contains_at (x ∷ xs) (suc i) a is = let h = contains_at xs i a is in (suc h.0, omega (arith, h.1), h.2)
+
+-- an element below the length is there
+pub there_at : {A : Type 0} (xs : List A) (i : ℕ) → i < length xs → (a : A) × (slice_get xs i ≡ Some a)
+there_at [] i less = absurd (omega (arith, less))
+there_at (x ∷ xs) zero less = (x, refl)
+there_at (x ∷ xs) (suc i) less = there_at xs i (omega (arith, less))
+
+pub below_length : {A : Type 0} (xs : List A) (i : ℕ) (a : A) → slice_get xs i ≡ Some a → i < length xs
+below_length [] i a is = cc
+below_length (x ∷ xs) zero a is = omega arith
+below_length (x ∷ xs) (suc i) a is = let h = below_length xs i a is in omega (arith, h)
+
+-- ---- places counted from 1
+pub no_past : {A : Type 0} (xs : List A) (e : ℕ) → length xs < e → nth xs e ≡ None
+no_past xs zero less = refl
+no_past xs (suc i) less = slice_get_past xs i (omega (arith, less))
+
+pub at_index : {A : Type 0} (xs : List A) (e : ℕ) (a d : A) → (e ≡ 0 → ⊥) → e ≤ length xs → a ≡ get_or xs (e - 1) d → nth xs e ≡ Some a
+at_index xs zero a d pos in' at = absurd (pos refl)
+at_index xs (suc i) a d pos in' at =
+    let index : suc i - 1 ≡ i = omega arith in
+    slice_get-get_or xs i d (omega (arith, in')) ∙ ap Some (sym (at ∙ ap (λ n. get_or xs n d) index))
+
+pub at_some : {A : Type 0} {o : Option A} (P : Type 0) (Q : A → Type 0) (x : A) → o ≡ Some x → Q x → MatchOption o P Q
+at_some P Q x e h = rw e h
+
+pub at_none : {A : Type 0} {o : Option A} (P : Type 0) (Q : A → Type 0) → o ≡ None → P → MatchOption o P Q
+at_none P Q e h = rw e h

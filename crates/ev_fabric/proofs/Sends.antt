@@ -1,0 +1,306 @@
+-- Where an edge sends a frame for a station that some edge advertises.
+use Rattle.std.proofs.Common.{◌≡◌, ◌≢◌, inl, inr, ℕ, zero, suc, ◌-◌, ◌<◌, ◌≤◌, ◌==◌, ◌&&◌, Bool, true, false, cond, not, Option, Some, None, Result, Ok, Err, List, [], ◌∷◌, length, refl, sym, ap, subst, ◌∙◌, arith}
+use Rattle.std.specs.Prelude.{IsTrue, IsSome, ◌↔◌, ◌||◌, slice_get}
+use Rattle.std.specs.Option.{MatchOption, option_map}
+use Rattle.std.proofs.lemmas.Bool.Decides.{nat_tests}
+use Rattle.ether_wire.specs.Names.{is_group}
+use Rattle.ether_wire.specs.Ports.{IsPort, has_port, with_port}
+use Rattle.ether_wire.proofs.PortLemmas.{has_port-none, has_port-with}
+use Rattle.route_wire.specs.declared.update.Ip.{Ip}
+use Rattle.route_wire.specs.declared.update.Key.TheVariants.{Mac}
+use Rattle.route_wire.specs.declared.update.Advert.{Advert}
+use Rattle.route_join.specs.Table.{Table}
+use Rattle.route_join.specs.Owner.{advert_at, owner, IsOwner, IsUnowned}
+use Rattle.route_join.proofs.Owners.{one_owner, owner_is, owner_along}
+use Rattle.mac_arena.specs.declared.station.Station.{Station}
+use Rattle.mac_arena.specs.declared.station.Entry.{Entry}
+use Rattle.mac_arena.specs.declared.table.Learnt.{Learnt as Answer}
+use Rattle.mac_arena.specs.declared.table.Learnt.TheVariants.{New, Moved, Refreshed, Pinned, Full}
+use Rattle.mac_arena.specs.Entry.{heard_at}
+use Rattle.mac_arena.specs.Learning.{Learning as Learned, entry_at, after_learn, learnt_of}
+use Rattle.mac_arena.proofs.Entries.{get_there}
+use Rattle.ev_mobility.specs.declared.alert.Alert.{Alert}
+use Rattle.ev_tunnel.specs.declared.decision.Decision.{Decision}
+use Rattle.ev_tunnel.specs.declared.decision.Source.{Source}
+use Rattle.ev_tunnel.specs.declared.decision.Source.TheVariants.{Port, Tunnel}
+use Rattle.ev_tunnel.specs.Decision.{local_for, remote_for}
+use Rattle.ev_claims.specs.Voice.{own_advert}
+use Rattle.ev_claims.specs.Claims.{key_of, vni_at, moving}
+use Rattle.ev_edge.specs.declared.arrival.Arrival.{Arrival}
+use Rattle.ev_edge.specs.declared.arrival.Arrival.TheVariants.{Data}
+use Rattle.ev_edge.specs.declared.learning.Case.{Case}
+use Rattle.ev_edge.specs.declared.learning.Case.TheVariants.{Leave, Refresh, Refuse, Freeze, Learn}
+use Rattle.ev_edge.specs.declared.event.Event.{Event}
+use Rattle.ev_edge.specs.declared.event.Event.TheVariants as events
+use Rattle.ev_edge.specs.declared.reply.Reply.{Reply}
+use Rattle.ev_edge.specs.declared.refusal.Refusal.{Refusal}
+use Rattle.rstp_run.specs.Events.{Passes}
+use Rattle.ev_edge.specs.Edge.{Edge, IsGoodEdge, table_of, address_of}
+use Rattle.ev_edge.specs.Arrival.{frame_arrival, tunnel_arrival}
+use Rattle.ev_edge.specs.Learning.{OrNoMemory, Does, case_of, learnt as after_learning, moved}
+use Rattle.ev_edge.specs.Sending.{port_of, IsDecision}
+use Rattle.ev_edge.specs.Steps.{LearnsIf, SendsIf, DataSteps, FrameSteps, TunnelSteps, Steps}
+use Rattle.ev_edge.proofs.Owning.{other_key, said_other}
+use Rattle.ev_fabric.specs.Fabric.{Fabric, IsEdge}
+use Rattle.ev_fabric.specs.Sound.{IsSound}
+use Rattle.ev_fabric.specs.Agreed.{AllAgree, Advertises}
+use Rattle.ev_fabric.specs.Laws.{IsBehindPort, frame_in, tunnel_frame_in, IsFrameFor, IsTunnelFrameFor, GoesTo, GoesOut, FramesGo, FramesComeOut, TunnelFramesComeOut}
+use Rattle.ev_fabric.proofs.Agreements.{learnt, owner_of_all, one_of_all}
+
+-- ---- learning a station leaves the others
+
+record LeavesBe (a b : Edge) (s : Station) : Type 0 where
+  address : address_of b ≡ address_of a
+  tree : b.tree ≡ a.tree
+  entry : entry_at b.claims.learned s ≡ entry_at a.claims.learned s
+  adverts : (o : ℕ) (ip : Option Ip) → advert_at (table_of b) o (Mac s.vni s.mac ip) ≡ advert_at (table_of a) o (Mac s.vni s.mac ip)
+
+leaves_itself : (a : Edge) (s : Station) → LeavesBe a a s
+leaves_itself a s = record { address = refl; tree = refl; entry = refl; adverts = λ o ip. refl }
+
+same_leaves : (a b : Edge) (s : Station) → b ≡ a → LeavesBe a b s
+same_leaves a b s is = subst (λ x. LeavesBe a x s) (sym is) (leaves_itself a s)
+
+heard_other : (t : Learned) (q : Station) (port second : ℕ) (answer : Answer) (s : Station) → s ≢ q → entry_at (after_learn t q port second answer) s ≡ entry_at t s
+heard_other t q port second New s ne = get_there t.entries q (heard_at port second) s ne
+heard_other t q port second Moved s ne = get_there t.entries q (heard_at port second) s ne
+heard_other t q port second Refreshed s ne = get_there t.entries q (heard_at port second) s ne
+heard_other t q port second Pinned s ne = refl
+heard_other t q port second Full s ne = refl
+
+learning_leaves : (e : Edge) (q : Station) (port n : ℕ) (s : Station) → s ≢ q → LeavesBe e (after_learning e q port n) s
+learning_leaves e q port n s ne = record {
+  address = refl;
+  tree = elim (n == 0) as (λ b. (cond b e (moved e q)).tree ≡ e.tree) [ true ↦ refl | false ↦ refl ];
+  entry = get_there e.claims.learned.entries q (heard_at port e.clock) s ne;
+  adverts = λ o ip. said_other e.claims.voice (key_of q) (moving n) (Mac s.vni s.mac ip) o (other_key s q ip None ne);
+}
+
+either_leaves : (e after e' : Edge) (alert told : Option Alert) (s : Station) → LeavesBe e after s → OrNoMemory e alert after told e' → LeavesBe e e' s
+either_leaves e after e' alert told s l (inl h) = subst (λ x. LeavesBe e x s) (sym h.1) l
+either_leaves e after e' alert told s l (inr h) = same_leaves e e' s h.1
+
+does_leave : (c : Case) (e : Edge) (q : Station) (port : ℕ) (told : Option Alert) (e' : Edge) (s : Station) → s ≢ q → Does c e q port told e' → LeavesBe e e' s
+does_leave Leave e q port told e' s ne h = same_leaves e e' s h.1
+does_leave Refresh e q port told e' s ne h = subst (λ x. LeavesBe e x s) (sym h.1) (record { address = refl; tree = refl; entry = heard_other e.claims.learned q port e.clock (learnt_of e.claims.learned q port) s ne; adverts = λ o ip. refl })
+does_leave (Refuse alert) e q port told e' s ne h = same_leaves e e' s h.1
+does_leave Freeze e q port told e' s ne h = either_leaves e (moved e q) e' _ told s (record { address = refl; tree = refl; entry = refl; adverts = λ o ip. refl }) h
+does_leave (Learn n) e q port told e' s ne h = either_leaves e (after_learning e q port n) e' _ told s (learning_leaves e q port n s ne) h
+
+learns_leave : (b : Bool) (e : Edge) (q : Station) (port : ℕ) (told : Option Alert) (e' : Edge) (s : Station) → s ≢ q → LearnsIf b e q port told e' → LeavesBe e e' s
+learns_leave true e q port told e' s ne h = does_leave (case_of e q) e q port told e' s ne h
+learns_leave false e q port told e' s ne h = same_leaves e e' s h.1
+
+-- ---- what a frame does
+
+frame_step : (a : Edge) (event : Event) (result : Result Reply Refusal) (b : Edge) (port : ℕ) (octets : List ℕ) → frame_in event ≡ Some (port, octets) → Steps a event result b → FrameSteps (frame_arrival a port octets) a port result b
+frame_step a (events.Frame p bytes) result b port octets is h =
+    let ports : p ≡ port = cc in
+    let same : bytes.now ≡ octets = cc in
+    subst (λ q. FrameSteps (frame_arrival a q octets) a q result b) ports (subst (λ l. FrameSteps (frame_arrival a p l) a p result b) same h)
+frame_step a (events.TunnelFrame from bytes) result b port octets is h = absurd cc
+frame_step a (events.Take u) result b port octets is h = absurd cc
+frame_step a (events.Pin s p) result b port octets is h = absurd cc
+frame_step a (events.Unpin s) result b port octets is h = absurd cc
+frame_step a (events.Thaw s) result b port octets is h = absurd cc
+frame_step a events.Second result b port octets is h = absurd cc
+frame_step a (events.PortUp p) result b port octets is h = absurd cc
+frame_step a (events.PortDown p) result b port octets is h = absurd cc
+frame_step a (events.Mcheck p) result b port octets is h = absurd cc
+frame_step a events.Announce result b port octets is h = absurd cc
+
+tunnel_step : (a : Edge) (event : Event) (result : Result Reply Refusal) (b : Edge) (from : ℕ) (octets : List ℕ) → tunnel_frame_in event ≡ Some (from, octets) → Steps a event result b → TunnelSteps (tunnel_arrival a from octets) a result b
+tunnel_step a (events.TunnelFrame o bytes) result b from octets is h =
+    let edges : o ≡ from = cc in
+    let same : bytes.now ≡ octets = cc in
+    subst (λ q. TunnelSteps (tunnel_arrival a q octets) a result b) edges (subst (λ l. TunnelSteps (tunnel_arrival a o l) a result b) same h)
+tunnel_step a (events.Frame p bytes) result b from octets is h = absurd cc
+tunnel_step a (events.Take u) result b from octets is h = absurd cc
+tunnel_step a (events.Pin s p) result b from octets is h = absurd cc
+tunnel_step a (events.Unpin s) result b from octets is h = absurd cc
+tunnel_step a (events.Thaw s) result b from octets is h = absurd cc
+tunnel_step a events.Second result b from octets is h = absurd cc
+tunnel_step a (events.PortUp p) result b from octets is h = absurd cc
+tunnel_step a (events.PortDown p) result b from octets is h = absurd cc
+tunnel_step a (events.Mcheck p) result b from octets is h = absurd cc
+tunnel_step a events.Announce result b from octets is h = absurd cc
+
+-- a frame for the station: its source is learnt, and it is sent
+record IsSent (a b : Edge) (s : Station) (from : Source) (reply : Reply) : Type 0 where
+  leaves : LeavesBe a b s
+  decision : Decision
+  there : reply.decision ≡ Some decision
+  is : IsDecision b s.vni s.mac from decision
+
+sent : (passes : Bool) (o : Option Decision) (b : Edge) (vni destination : ℕ) (from : Source) → IsTrue passes → SendsIf passes b vni destination from o → (d : Decision) × (o ≡ Some d) × IsDecision b vni destination from d
+sent passes None b vni destination from yes h = absurd h
+sent true (Some d) b vni destination from yes h = (d, refl, h)
+sent false (Some d) b vni destination from yes h = absurd cc
+
+frame_sent : (a b : Edge) (event : Event) (port : ℕ) (s : Station) (reply : Reply) → IsFrameFor a event port s → Steps a event (Ok reply) b → IsSent a b s (Port port) reply
+frame_sent a b event port s reply frame steps =
+    let d = sent steps_are.passes reply.decision b s.vni s.mac (Port port) (steps_are.are_passed.1 frame.passes) steps_are.sending in
+    record { leaves = learns_leave _ a (record { vni = s.vni; mac = frame.source }) port reply.alert b s other steps_are.learning.learning; decision = d.0; there = d.1; is = d.2 }
+  where
+    steps_are : DataSteps a port s.vni s.mac frame.source reply b
+    steps_are = subst (λ r. FrameSteps r a port (Ok reply) b) frame.arrives (frame_step a event (Ok reply) b port frame.octets frame.frame steps)
+
+    other : s ≢ record { vni = s.vni; mac = frame.source }
+    other same = frame.other (ap (λ (q : Station). q.mac) (sym same))
+
+tunnel_sent : (a b : Edge) (event : Event) (s : Station) (reply : Reply) → IsTunnelFrameFor a event s → Steps a event (Ok reply) b → IsSent a b s Tunnel reply
+tunnel_sent a b event s reply frame steps =
+    let d = sent true reply.decision b s.vni s.mac Tunnel refl steps_are.0 in
+    record { leaves = same_leaves a b s steps_are.2; decision = d.0; there = d.1; is = d.2 }
+  where
+    steps_are : TunnelSteps (Ok (Data s.vni s.mac frame.source)) a (Ok reply) b
+    steps_are = subst (λ r. TunnelSteps r a (Ok reply) b) frame.arrives (tunnel_step a event (Ok reply) b frame.from frame.octets frame.frame steps)
+
+-- ---- to another edge
+
+-- the walk finds an owner that there is
+owner_found : (t : Table) (vni mac o : ℕ) → IsOwner t vni mac o → owner t vni mac ≡ Some o
+owner_found t vni mac o h = go (owner t vni mac) (owner_is t vni mac)
+  where
+    go : (x : Option ℕ) → MatchOption x (IsUnowned t vni mac) (IsOwner t vni mac) → x ≡ Some o
+    go None none = let some = h.own in let no = none o h.ip in cc
+    go (Some p) is = ap Some (one_owner t vni mac p o is h)
+
+-- what an edge doesn't advertise it hasn't learnt
+no_entry : (a : Edge) (s : Station) → IsGoodEdge a → (Advertises a s → ⊥) → entry_at a.claims.learned s ≡ None
+no_entry a s h none = go (entry_at a.claims.learned s) refl (own_advert a.claims.voice (key_of s)) refl
+  where
+    go : (x : Option Entry) → entry_at a.claims.learned s ≡ x → (y : Option Advert) → own_advert a.claims.voice (key_of s) ≡ y → entry_at a.claims.learned s ≡ None
+    go None e y q = e
+    go (Some x) e (Some y) q = absurd (none (None, y, q))
+    go (Some x) e None q =
+        let k = h.claims.claims.kinds s in
+        let left : option_map {U = Bool} (λ (x : Entry). x.pinned) (entry_at a.claims.learned s) ≡ Some x.pinned = ap (option_map (λ (x : Entry). x.pinned)) e in
+        let right : option_map {U = Bool} (λ (x : Advert). x.is_static) (own_advert a.claims.voice (key_of s)) ≡ None = ap (option_map (λ (x : Advert). x.is_static)) q in
+        absurd (let bad : Some x.pinned ≡ None = sym left ∙ k ∙ right in cc)
+
+elsewhere_local : (t : Table) (vni m own o members passing port : ℕ) (entry : Option ℕ) → is_group m ≡ false → entry ≡ None → owner t vni m ≡ Some o → (o == own) ≡ false → local_for t vni m entry own (Port port) members passing ≡ 0
+elsewhere_local t vni m own o members passing port entry group none is ne = rw (group, none, is, ne) refl
+
+elsewhere_remote : (t : Table) (vni m own o port : ℕ) (entry : Option ℕ) → is_group m ≡ false → entry ≡ None → owner t vni m ≡ Some o → (o == own) ≡ false → remote_for t vni m entry own (Port port) ≡ o ∷ []
+elsewhere_remote t vni m own o port entry group none is ne = rw (group, none, is, ne) refl
+
+pub frames_go : FramesGo
+frames_go f h agree i j o a b s at_o at_a apart says event port reply frame steps =
+    record { decision = x.decision; there = x.there;
+      local = x.is.local ∙ elsewhere_local (table_of b) s.vni s.mac (address_of b) (address_of o) x.is.members x.is.passing port (port_of b s.vni s.mac) frame.individual none owned far;
+      remote = x.is.remote ∙ elsewhere_remote (table_of b) s.vni s.mac (address_of b) (address_of o) port (port_of b s.vni s.mac) frame.individual none owned far }
+  where
+    x : IsSent a b s (Port port) reply
+    x = frame_sent a b event port s reply frame steps
+
+    none : port_of b s.vni s.mac ≡ None
+    none = ap (option_map (λ (y : Entry). y.port)) (x.leaves.entry ∙ no_entry a s (h.good j a at_a) (λ y. apart (one_of_all f h agree i j o a s at_o at_a says y)))
+
+    owned : owner (table_of b) s.vni s.mac ≡ Some (address_of o)
+    owned = owner_found (table_of b) s.vni s.mac (address_of o) (owner_along (table_of a) (table_of b) s.vni s.mac (address_of o) (λ p ip. sym (x.leaves.adverts p ip)) (owner_of_all f h agree i j o a s at_o at_a says))
+
+    far : (address_of o == address_of b) ≡ false
+    far = let differs : address_of o ≢ address_of b = (λ q. apart (h.apart i j o a at_o at_a (q ∙ x.leaves.address))) in grind (arith, nat_tests)
+
+-- ---- at the edge itself
+
+home_local : (t : Table) (vni m own members passing port q : ℕ) (entry : Option ℕ) → is_group m ≡ false → entry ≡ Some q → local_for t vni m entry own (Port port) members passing ≡ cond (has_port passing q && not (port == q)) (with_port 0 q) 0
+home_local t vni m own members passing port q entry group some = rw (group, some) refl
+
+home_remote : (t : Table) (vni m own port q : ℕ) (entry : Option ℕ) → is_group m ≡ false → entry ≡ Some q → remote_for t vni m entry own (Port port) ≡ []
+home_remote t vni m own port q entry group some = rw (group, some) refl
+
+tunnel_local : (t : Table) (vni m own members passing q : ℕ) (entry : Option ℕ) → is_group m ≡ false → entry ≡ Some q → local_for t vni m entry own Tunnel members passing ≡ cond (has_port passing q && true) (with_port 0 q) 0
+tunnel_local t vni m own members passing q entry group some = rw (group, some) refl
+
+-- one port alone, or none
+alone : (c : Bool) (q p : ℕ) → IsPort q → (has_port (cond c (with_port 0 q) 0) p ≡ true) ↔ ((p ≡ q) × (c ≡ true))
+alone true q p is = (λ there. (grind (arith, nat_tests, has_port-with 0 q is p, has_port-none p, there), refl), λ h. has_port-with 0 q is p ∙ ap (λ b. b || has_port 0 p) (let same = h.0 in grind (arith, nat_tests)))
+alone false q p is = (λ there. absurd (let none = has_port-none p in cc), λ h. absurd (let bad = h.1 in cc))
+
+-- a port of a network is one of the bridge's
+record IsThere (o : Edge) (q : ℕ) : Type 0 where
+  least : 1 ≤ q
+  most : q ≤ length o.tree.ports
+  few : q ≤ 64
+
+below : {X : Type 0} (xs : List X) (i : ℕ) (x : X) → slice_get xs i ≡ Some x → i < length xs
+below [] i x is = cc
+below (y ∷ xs) zero x is = omega arith
+below (y ∷ xs) (suc i) x is = let h = below xs i x is in omega (arith, h)
+
+there : (o : Edge) (vni q : ℕ) → IsGoodEdge o → vni_at o.claims.ports q ≡ Some vni → IsThere o q
+there o vni zero h is = absurd cc
+there o vni (suc l) h is =
+    let less = below o.claims.ports l vni is in
+    let same = h.keeps.ports in
+    let few = h.claims.claims.few in
+    record { least = omega arith; most = omega (arith, less, same); few = omega (arith, less, few) }
+
+both : (x y : Bool) → (x && y) ≡ true → (x ≡ true) × (y ≡ true)
+both true true e = (refl, refl)
+both true false e = absurd cc
+both false y e = absurd cc
+
+both_back : (x y : Bool) → x ≡ true → y ≡ true → (x && y) ≡ true
+both_back x y p q = ap (λ b. b && y) p ∙ q
+
+pub frames_come_out : FramesComeOut
+frames_come_out o b s good says event port reply frame steps =
+    (e.0, e.1, record { decision = x.decision; there = x.there; local = local; remote = x.is.remote ∙ home_remote (table_of b) s.vni s.mac (address_of b) port e.0.port (port_of b s.vni s.mac) frame.individual some })
+  where
+    x : IsSent o b s (Port port) reply
+    x = frame_sent o b event port s reply frame steps
+
+    e : (x : Entry) × IsBehindPort o s x
+    e = learnt o s good says
+
+    some : port_of b s.vni s.mac ≡ Some e.0.port
+    some = ap (option_map (λ (y : Entry). y.port)) (x.leaves.entry ∙ e.1.learnt)
+
+    t : IsThere o e.0.port
+    t = there o s.vni e.0.port good e.1.port
+
+    passes : (has_port x.is.passing e.0.port ≡ true) ↔ ((1 ≤ e.0.port) × (e.0.port ≤ length b.tree.ports) × Passes b.tree e.0.port)
+    passes = x.is.are_passing e.0.port
+
+    local : (p : ℕ) → (has_port x.decision.local p ≡ true) ↔ ((p ≡ e.0.port) × Passes o.tree e.0.port × (e.0.port ≢ port))
+    local p =
+        let is = x.is.local ∙ home_local (table_of b) s.vni s.mac (address_of b) x.is.members x.is.passing port e.0.port (port_of b s.vni s.mac) frame.individual some in
+        let a = alone (has_port x.is.passing e.0.port && not (port == e.0.port)) e.0.port p (record { least = t.least; most = t.few }) in
+        (λ there.
+          let h = a.0 (ap (λ set. has_port set p) (sym is) ∙ there) in
+          let two = both (has_port x.is.passing e.0.port) (not (port == e.0.port)) h.1 in
+          (h.0, subst (λ r. Passes r e.0.port) x.leaves.tree (passes.0 two.0).1, λ same. (let no = two.1 in grind (arith, nat_tests))),
+         λ h. ap (λ set. has_port set p) is ∙ a.1 (h.0, both_back (has_port x.is.passing e.0.port) (not (port == e.0.port))
+           (passes.1 ((t.least, subst (λ r. e.0.port ≤ length r.ports) (sym x.leaves.tree) t.most), subst (λ r. Passes r e.0.port) (sym x.leaves.tree) h.1.0))
+           (let ne = h.1.1 in grind (arith, nat_tests))))
+
+pub tunnel_frames_come_out : TunnelFramesComeOut
+tunnel_frames_come_out o b s good says event reply frame steps =
+    (e.0, e.1, record { decision = x.decision; there = x.there; local = local; remote = x.is.remote })
+  where
+    x : IsSent o b s Tunnel reply
+    x = tunnel_sent o b event s reply frame steps
+
+    e : (x : Entry) × IsBehindPort o s x
+    e = learnt o s good says
+
+    some : port_of b s.vni s.mac ≡ Some e.0.port
+    some = ap (option_map (λ (y : Entry). y.port)) (x.leaves.entry ∙ e.1.learnt)
+
+    t : IsThere o e.0.port
+    t = there o s.vni e.0.port good e.1.port
+
+    local : (p : ℕ) → (has_port x.decision.local p ≡ true) ↔ ((p ≡ e.0.port) × Passes o.tree e.0.port)
+    local p =
+        let is = x.is.local ∙ tunnel_local (table_of b) s.vni s.mac (address_of b) x.is.members x.is.passing e.0.port (port_of b s.vni s.mac) frame.individual some in
+        let passes = x.is.are_passing e.0.port in
+        let a = alone (has_port x.is.passing e.0.port && true) e.0.port p (record { least = t.least; most = t.few }) in
+        (λ there.
+          let h = a.0 (ap (λ set. has_port set p) (sym is) ∙ there) in
+          let two = both (has_port x.is.passing e.0.port) true h.1 in
+          (h.0, subst (λ r. Passes r e.0.port) x.leaves.tree (passes.0 two.0).1),
+         λ h. ap (λ set. has_port set p) is ∙ a.1 (h.0, both_back (has_port x.is.passing e.0.port) true
+           (passes.1 ((t.least, subst (λ r. e.0.port ≤ length r.ports) (sym x.leaves.tree) t.most), subst (λ r. Passes r e.0.port) (sym x.leaves.tree) h.1)) refl))

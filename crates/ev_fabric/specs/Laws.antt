@@ -1,0 +1,193 @@
+-- What holds of every run of a fabric.
+use Rattle.std.specs.Prelude.{◌≡◌, ◌≢◌, ◌⊎◌, ◌↔◌, ℕ, ◌<◌, true, false, Option, Some, None, IsSome, Ok, List, [], ◌∷◌, ◌++◌, Contains}
+use Rattle.ether_wire.specs.Names.{is_group}
+use Rattle.ether_wire.specs.Ports.{has_port, no_ports}
+use Rattle.route_wire.specs.declared.update.Register.{Register}
+use Rattle.route_wire.specs.declared.update.Value.{Value}
+use Rattle.route_wire.specs.Fields.{Fields}
+use Rattle.route_wire.specs.Order.{is_newer}
+use Rattle.route_join.specs.Table.{Table, value_at, IsTableOf}
+use Rattle.route_join.specs.Owner.{advert_in, IsOwner}
+use Rattle.route_join.specs.Report.{report_of}
+use Rattle.route_join.specs.Joins.{join}
+use Rattle.mac_arena.specs.declared.station.Station.{Station}
+use Rattle.mac_arena.specs.declared.station.Entry.{Entry}
+use Rattle.mac_arena.specs.Learning.{entry_at}
+use Rattle.rstp_run.specs.Events.{Passes}
+use Rattle.ev_tunnel.specs.declared.decision.Decision.{Decision}
+use Rattle.ev_claims.specs.Claims.{vni_at}
+use Rattle.ev_edge.specs.declared.arrival.Arrival.TheVariants.{Data}
+use Rattle.ev_edge.specs.declared.config.EdgeConfig.{EdgeConfig}
+use Rattle.ev_edge.specs.declared.event.Event.{Event}
+use Rattle.ev_edge.specs.declared.event.Event.TheVariants as events
+use Rattle.ev_edge.specs.declared.reply.Reply.{Reply}
+use Rattle.ev_edge.specs.Arrival.{frame_arrival, tunnel_arrival}
+use Rattle.ev_edge.specs.Edge.{Edge, IsGoodEdge, table_of, address_of}
+use Rattle.ev_edge.specs.Steps.{Steps}
+use Rattle.ev_fabric.specs.declared.step.Step.{Step}
+use Rattle.ev_fabric.specs.Fabric.{Fabric, IsEdge, life_of}
+use Rattle.ev_fabric.specs.Opening.{AreConfigs, IsStart}
+use Rattle.ev_fabric.specs.Sound.{update_of, IsSound}
+use Rattle.ev_fabric.specs.Agreed.{AllAgree, Advertises}
+use Rattle.ev_fabric.specs.Runs.{Runs}
+
+-- ---- every run
+
+-- a fabric as it is opened is sound
+abbrev pub Starts : Type 0
+Starts = (cs : List EdgeConfig) (f : Fabric) → AreConfigs cs → IsStart cs f → IsSound f
+
+-- and stays so whatever comes
+abbrev pub EveryRun : Type 0
+EveryRun = (steps : List Step) (old new : Fabric) → Runs old steps new → IsSound old → IsSound new
+
+-- ---- no table is ahead
+
+-- the value is of an earlier life of the edge b, or isn't newer than what b says of the register itself
+abbrev pub IsNotAhead : Edge → Register → Value → Type 0
+IsNotAhead b r v = (v.incarnation < life_of b) ⊎ ((w : Value) × (value_at (table_of b) r ≡ Some w) × (is_newer v w ≡ false))
+
+abbrev pub NoneAhead : Type 0
+NoneAhead = (f : Fabric) → IsSound f → (i j : ℕ) (a b : Edge) → IsEdge f i a → IsEdge f j b → (r : Register) (v : Value) → r.originator ≡ address_of b → value_at (table_of a) r ≡ Some v → IsNotAhead b r v
+
+-- what the edge at place i has is in the pool, but for what it still has to announce
+abbrev pub Announced : Type 0
+Announced = (f : Fabric) → IsSound f → (i : ℕ) (a : Edge) → IsEdge f i a → (r : Register) (v : Value) → value_at (table_of a) r ≡ Some v
+    → (r.originator ≡ address_of a → Contains a.claims.voice.pending r → ⊥) → Contains f.pool (update_of r v)
+
+-- two updates of one register, life and number are one
+abbrev pub SaidOnce : Type 0
+SaidOnce = (f : Fabric) → IsSound f → (u w : Fields) → Contains f.pool u → Contains f.pool w → u.register ≡ w.register → u.value.incarnation ≡ w.value.incarnation → u.value.counter ≡ w.value.counter → u ≡ w
+
+-- ---- equal tables
+
+-- of two good edges with equal registers one advertises a station at most, whatever they have come through
+abbrev pub OneOfTwo : Type 0
+OneOfTwo = (a b : Edge) (s : Station) → IsGoodEdge a → IsGoodEdge b → (table_of a).registers ≡ (table_of b).registers → Advertises a s → Advertises b s → address_of a ≡ address_of b
+
+-- ---- where all agree
+
+abbrev pub AgreedTables : Type 0
+AgreedTables = (f : Fabric) → IsSound f → AllAgree f → (i : ℕ) (a : Edge) → IsEdge f i a → IsTableOf f.pool (table_of a)
+
+abbrev pub AgreedReports : Type 0
+AgreedReports = (f : Fabric) → IsSound f → AllAgree f → (i j : ℕ) (a b : Edge) → IsEdge f i a → IsEdge f j b → report_of (table_of a) ≡ report_of (table_of b)
+
+-- one edge advertises a station at most
+abbrev pub OneOfAll : Type 0
+OneOfAll = (f : Fabric) → IsSound f → AllAgree f → (i j : ℕ) (a b : Edge) (s : Station) → IsEdge f i a → IsEdge f j b → Advertises a s → Advertises b s → i ≡ j
+
+-- it has learnt it, behind a port of the station's network
+pub record IsBehindPort (a : Edge) (s : Station) (x : Entry) : Type 0 where
+  pub learnt : entry_at a.claims.learned s ≡ Some x
+  pub port : vni_at a.claims.ports x.port ≡ Some s.vni
+
+abbrev pub Learnt : Type 0
+Learnt = (a : Edge) (s : Station) → IsGoodEdge a → Advertises a s → (x : Entry) × IsBehindPort a s x
+
+-- and every edge takes it for the owner
+abbrev pub OwnerOfAll : Type 0
+OwnerOfAll = (f : Fabric) → IsSound f → AllAgree f → (i j : ℕ) (a b : Edge) (s : Station) → IsEdge f i a → IsEdge f j b → Advertises a s → IsOwner (table_of b) s.vni s.mac (address_of a)
+
+-- no table has an advert of an earlier life of its originator
+abbrev pub NoneBack : Type 0
+NoneBack = (f : Fabric) → IsSound f → AllAgree f → (i j : ℕ) (a b : Edge) → IsEdge f i a → IsEdge f j b → (r : Register) (v : Value) → r.originator ≡ address_of b → value_at (table_of a) r ≡ Some v
+    → IsSome (advert_in v.content) → v.incarnation ≡ life_of b
+
+-- ---- where frames go
+
+-- the octets and the port of a frame that comes at a port
+abbrev pub frame_in : Event → Option (ℕ × List ℕ)
+frame_in (events.Frame port octets) = Some (port, octets.now)
+frame_in (events.TunnelFrame from octets) = None
+frame_in (events.Take u) = None
+frame_in (events.Pin s port) = None
+frame_in (events.Unpin s) = None
+frame_in (events.Thaw s) = None
+frame_in events.Second = None
+frame_in (events.PortUp port) = None
+frame_in (events.PortDown port) = None
+frame_in (events.Mcheck port) = None
+frame_in events.Announce = None
+
+-- the octets of a datagram and the edge that it comes from
+abbrev pub tunnel_frame_in : Event → Option (ℕ × List ℕ)
+tunnel_frame_in (events.TunnelFrame from octets) = Some (from, octets.now)
+tunnel_frame_in (events.Frame port octets) = None
+tunnel_frame_in (events.Take u) = None
+tunnel_frame_in (events.Pin s port) = None
+tunnel_frame_in (events.Unpin s) = None
+tunnel_frame_in (events.Thaw s) = None
+tunnel_frame_in events.Second = None
+tunnel_frame_in (events.PortUp port) = None
+tunnel_frame_in (events.PortDown port) = None
+tunnel_frame_in (events.Mcheck port) = None
+tunnel_frame_in events.Announce = None
+
+-- The event is a frame for the station, which is no group address, in its network: it comes from another source address
+-- at a port that passes.
+pub record IsFrameFor (a : Edge) (event : Event) (port : ℕ) (s : Station) : Type 0 where
+  pub octets : List ℕ
+  pub frame : frame_in event ≡ Some (port, octets)
+  pub source : ℕ
+  pub arrives : frame_arrival a port octets ≡ Ok (Data s.vni s.mac source)
+  pub individual : is_group s.mac ≡ false
+  pub other : source ≢ s.mac
+  pub passes : Passes a.tree port
+
+-- the event is a datagram of another edge with a frame for the station
+pub record IsTunnelFrameFor (a : Edge) (event : Event) (s : Station) : Type 0 where
+  pub from : ℕ
+  pub octets : List ℕ
+  pub frame : tunnel_frame_in event ≡ Some (from, octets)
+  pub source : ℕ
+  pub arrives : tunnel_arrival a from octets ≡ Ok (Data s.vni s.mac source)
+  pub individual : is_group s.mac ≡ false
+
+-- the frame is given to the edge o alone
+pub record GoesTo (o : ℕ) (reply : Reply) : Type 0 where
+  pub decision : Decision
+  pub there : reply.decision ≡ Some decision
+  pub local : decision.local ≡ no_ports
+  pub remote : decision.remote.items ≡ o ∷ []
+
+-- the frame is given to port q alone, and to it exactly where it may be
+pub record GoesOut (q : ℕ) (May : Type 0) (reply : Reply) : Type 0 where
+  pub decision : Decision
+  pub there : reply.decision ≡ Some decision
+  pub local : (p : ℕ) → (has_port decision.local p ≡ true) ↔ ((p ≡ q) × May)
+  pub remote : decision.remote.items ≡ []
+
+-- where all agree, a frame for a station that another edge advertises goes to that edge alone
+abbrev pub FramesGo : Type 0
+FramesGo = (f : Fabric) → IsSound f → AllAgree f → (i j : ℕ) (o a b : Edge) (s : Station) → IsEdge f i o → IsEdge f j a → i ≢ j → Advertises o s
+    → (event : Event) (port : ℕ) (reply : Reply) → IsFrameFor a event port s → Steps a event (Ok reply) b → GoesTo (address_of o) reply
+
+-- at the edge that advertises the station, it goes to the port behind which it is learnt
+abbrev pub FramesComeOut : Type 0
+FramesComeOut = (o b : Edge) (s : Station) → IsGoodEdge o → Advertises o s → (event : Event) (port : ℕ) (reply : Reply) → IsFrameFor o event port s → Steps o event (Ok reply) b
+    → (x : Entry) × IsBehindPort o s x × GoesOut x.port (Passes o.tree x.port × (x.port ≢ port)) reply
+
+-- and so does one that comes from another edge
+abbrev pub TunnelFramesComeOut : Type 0
+TunnelFramesComeOut = (o b : Edge) (s : Station) → IsGoodEdge o → Advertises o s → (event : Event) (reply : Reply) → IsTunnelFrameFor o event s → Steps o event (Ok reply) b
+    → (x : Entry) × IsBehindPort o s x × GoesOut x.port (Passes o.tree x.port) reply
+
+-- ---- tables of edges
+
+-- the tables of two edges as one
+abbrev pub joined : Edge → Edge → Table
+joined a b = join (table_of a) (table_of b)
+
+-- which is joined to which makes no difference; nor does the order of three; nor joining twice
+pub record AreJoined (a b c : Edge) : Type 0 where
+  pub commutes : (joined a b).registers ≡ (joined b a).registers
+  pub associates : (join (joined a b) (table_of c)).registers ≡ (join (table_of a) (joined b c)).registers
+  pub repeats : (joined a a).registers ≡ (table_of a).registers
+
+abbrev pub TablesJoin : Type 0
+TablesJoin = (a b c : Edge) → AreJoined a b c
+
+-- the join of two edges' tables is the table of both sets of updates
+abbrev pub SetsJoin : Type 0
+SetsJoin = (us vs : List Fields) (a b : Edge) → IsTableOf us (table_of a) → IsTableOf vs (table_of b) → IsTableOf (us ++ vs) (joined a b)
