@@ -34,7 +34,7 @@ use Rattle.ev_fabric.specs.Runs.{AreGood, Runs}
 use Rattle.ev_fabric.proofs.Places.{set_cases, set_same, set_other, set_length, contains_at}
 use Rattle.ev_fabric.proofs.Voices.{AreOne, talks_told, talks_one, grown_told, announced_told, one_itself}
 use Rattle.ev_fabric.proofs.Events.{Leaves, local_talks, takes_told}
-use Rattle.ev_fabric.proofs.Opened.{opened_told, opened_of}
+use Rattle.ev_fabric.proofs.Opened.{opened_told, opened_of, fit_in_life}
 
 -- ---- one edge becomes another of the same name
 
@@ -293,7 +293,7 @@ restart_sound old new i a n reply at s good h = record {
     was = h.configs i s.config a s.config_is at
 
     fit : IsConfig (in_life s.config n)
-    fit = let c = was.config in record { originators = c.originators; listed = c.listed; distinct = c.distinct; some_port = c.some_port; served = c.served; some_place = c.some_place; places = c.places; some_bucket = c.some_bucket; buckets = c.buckets; hello = c.hello }
+    fit = fit_in_life s.config n was.config
 
     anew : IsOf (in_life s.config n) s.after
     anew = opened_of (in_life s.config n) s.after fit s.opened

@@ -5,3 +5,4 @@ pub mod Fabrics
 pub mod Opened
 pub mod Agreements
 pub mod Sends
+pub mod Calls

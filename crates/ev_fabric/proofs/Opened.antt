@@ -1,5 +1,5 @@
 -- An edge as it is opened, and a fabric of such edges.
-use Rattle.std.proofs.Common.{◌≡◌, inl, ℕ, zero, suc, ◌<◌, Bool, true, false, Some, None, List, [], ◌∷◌, length, refl, sym, ap, subst, ◌∙◌, arith}
+use Rattle.std.proofs.Common.{◌≡◌, inl, inr, ℕ, zero, suc, ◌+◌, ◌<◌, ◌++◌, take, Bool, true, false, Some, None, List, [], ◌∷◌, length, refl, sym, ap, subst, ◌∙◌, arith}
 use Rattle.std.proofs.lemmas.Bool.{eq-eqb}
 use Rattle.std.specs.Prelude.{Contains, slice_get, eqb, map, ◌||◌}
 use Rattle.std.specs.List.{IsDistinct, list_any, AllByRecursion}
@@ -16,13 +16,14 @@ use Rattle.ev_claims.proofs.Hearing.{silent_voice}
 use Rattle.ev_claims.specs.Opening.{after_floods}
 use Rattle.ev_edge.specs.declared.config.EdgeConfig.{EdgeConfig}
 use Rattle.ev_edge.specs.Config.{IsConfig}
-use Rattle.ev_edge.specs.Edge.{Edge, address_of}
+use Rattle.ev_edge.specs.Edge.{Edge, IsGoodEdge, address_of}
 use Rattle.ev_edge.specs.Opening.{IsOpening}
 use Rattle.ev_fabric.specs.Fabric.{Fabric, IsEdge, addresses_of}
-use Rattle.ev_fabric.specs.Opening.{AreConfigs, IsStart}
+use Rattle.ev_fabric.specs.Opening.{AreConfigs, AreOpened, IsStart}
+use Rattle.ev_fabric.specs.Steps.{in_life}
 use Rattle.ev_fabric.specs.Sound.{IsTold, IsOf, IsSound}
 use Rattle.ev_fabric.proofs.Voices.{Talks, Quiet, Says, talks_one, talks_told, talks_further}
-use Rattle.ev_fabric.proofs.Places.{contains_at, there_at, below_length}
+use Rattle.ev_fabric.proofs.Places.{contains_at, there_at, below_length, take_get, get_take, take_length, push_get, push_length}
 
 -- opening is saying
 floods_talk : (e : Voice) (vs : List ℕ) → Talks e (after_floods e vs)
@@ -115,7 +116,7 @@ start_sound cs f fit h = record {
       let y = has_config cs f fit h j b at_b in
       ap (λ os. list_any (λ o. eqb o (address_of b)) os) x.is_of.originators
       ∙ any_there x.config.originators.items (address_of b) (fit.listed x.config (contains_at cs i x.config x.there) (address_of b)
-        (subst (Contains (addresses_of cs)) (sym y.is_of.address) (contains_at (addresses_of cs) j y.config.address (map_at (λ (c : EdgeConfig). c.address) cs j y.config y.there))));
+      (subst (Contains (addresses_of cs)) (sym y.is_of.address) (contains_at (addresses_of cs) j y.config.address (map_at (λ (c : EdgeConfig). c.address) cs j y.config y.there))));
   count = ap length h.configs ∙ sym h.opened.count;
   configs = λ i c a at_c at_a.
       let x = has_config cs f fit h i a at_a in
@@ -125,3 +126,26 @@ start_sound cs f fit h = record {
   where
     none : {u : Fields} → Contains f.pool u → ⊥
     none {u} in' = let in'' : Contains [] u = subst (λ l. Contains l u) h.quiet in' in omega (arith, in''.1)
+
+-- one edge more is opened
+pub opened_more : (cs : List EdgeConfig) (edges : List Edge) (i : ℕ) (c : EdgeConfig) (b : Edge) → i < length cs → slice_get cs i ≡ Some c → AreOpened (take i cs) edges → IsOpening c b → IsGoodEdge b → AreOpened (take (i + 1) cs) (edges ++ b ∷ [])
+opened_more cs edges i c b less at h opened good = record {
+  count = push_length edges b ∙ ap suc size ∙ sym (take_length cs (i + 1) (omega (arith, less)) ∙ (omega arith));
+  opened = λ j d a at_d at_a. elim (push_get edges b j a at_a) as (λ _. IsOpening d a) [
+    | inl before ↦ h.opened j d a (get_take cs i j d (let l = below_length edges j a before in let s = size in omega (arith, l, s)) (take_get cs (i + 1) j d at_d).1) before
+    | inr new ↦
+        let place : j ≡ i = new.0 ∙ size in
+        let same : d ≡ c = (let p : slice_get cs i ≡ Some d = subst (λ n. slice_get cs n ≡ Some d) place (take_get cs (i + 1) j d at_d).1 in cc) in
+        subst (λ x. IsOpening d x) (sym new.1) (subst (λ x. IsOpening x b) (sym same) opened)
+  ];
+  good = λ j a at_a. elim (push_get edges b j a at_a) as (λ _. IsGoodEdge a) [
+    | inl before ↦ h.good j a before
+    | inr new ↦ subst IsGoodEdge (sym new.1) good
+  ];
+}
+  where
+    size : length edges ≡ i
+    size = h.count ∙ take_length cs i (omega (arith, less))
+
+pub fit_in_life : (c : EdgeConfig) (n : ℕ) → IsConfig c → IsConfig (in_life c n)
+fit_in_life c n h = record { originators = h.originators; listed = h.listed; distinct = h.distinct; some_port = h.some_port; served = h.served; some_place = h.some_place; places = h.places; some_bucket = h.some_bucket; buckets = h.buckets; hello = h.hello }

@@ -1,5 +1,5 @@
 -- Places of lists, and one edge of a list.
-use Rattle.std.proofs.Common.{◌≡◌, ◌≢◌, ◌⊎◌, inl, inr, ℕ, zero, suc, ◌-◌, ◌<◌, ◌≤◌, Option, Some, None, List, [], ◌∷◌, length, get_or, refl, sym, ap, subst, ◌∙◌, arith}
+use Rattle.std.proofs.Common.{◌≡◌, ◌≢◌, ◌⊎◌, inl, inr, ℕ, zero, suc, ◌-◌, ◌<◌, ◌≤◌, Option, Some, None, List, [], ◌∷◌, ◌++◌, length, take, get_or, refl, sym, ap, subst, ◌∙◌, arith}
 use Rattle.std.specs.Prelude.{Contains, slice_get, slice_set}
 use Rattle.std.specs.Option.{MatchOption}
 use Rattle.std.proofs.lemmas.Option.{slice_get_past, slice_get-get_or}
@@ -65,3 +65,45 @@ at_some P Q x e h = rw e h
 
 pub at_none : {A : Type 0} {o : Option A} (P : Type 0) (Q : A → Type 0) → o ≡ None → P → MatchOption o P Q
 at_none P Q e h = rw e h
+
+pub there_nth : {A : Type 0} (xs : List A) (e : ℕ) → (e ≡ 0 → ⊥) → e ≤ length xs → (a : A) × (nth xs e ≡ Some a)
+there_nth xs zero pos in' = absurd (pos refl)
+there_nth xs (suc i) pos in' = there_at xs i (omega (arith, in'))
+
+pub same_nth : {A : Type 0} (xs : List A) (e : ℕ) (a b : A) → nth xs e ≡ Some a → nth xs e ≡ Some b → a ≡ b
+same_nth xs e a b p q = cc
+
+pub item_at : {A : Type 0} (xs : List A) (i : ℕ) (a : A) → i < length xs → a ≡ get_or xs i a → slice_get xs i ≡ Some a
+item_at xs i a less is = slice_get-get_or xs i a less ∙ ap Some (sym is)
+
+-- ---- the front of a list, and one element more
+pub take_get : {A : Type 0} (xs : List A) (n j : ℕ) (c : A) → slice_get (take n xs) j ≡ Some c → (j < n) × (slice_get xs j ≡ Some c)
+take_get [] zero j c is = cc
+take_get [] (suc n) j c is = cc
+take_get (x ∷ xs) zero j c is = cc
+take_get (x ∷ xs) (suc n) zero c is = (omega arith, is)
+take_get (x ∷ xs) (suc n) (suc j) c is = let h = take_get xs n j c is in (omega (arith, h.0), h.1)
+
+pub get_take : {A : Type 0} (xs : List A) (n j : ℕ) (c : A) → j < n → slice_get xs j ≡ Some c → slice_get (take n xs) j ≡ Some c
+get_take xs zero j c less is = absurd (omega (arith, less))
+get_take [] (suc n) j c less is = is
+get_take (x ∷ xs) (suc n) zero c less is = is
+get_take (x ∷ xs) (suc n) (suc j) c less is = get_take xs n j c (omega (arith, less)) is
+
+pub take_length : {A : Type 0} (xs : List A) (n : ℕ) → n ≤ length xs → length (take n xs) ≡ n
+take_length xs zero less = refl
+take_length [] (suc n) less = absurd (omega (arith, less))
+take_length (x ∷ xs) (suc n) less = ap suc (take_length xs n (omega (arith, less)))
+
+pub push_get : {A : Type 0} (xs : List A) (b : A) (j : ℕ) (a : A) → slice_get (xs ++ b ∷ []) j ≡ Some a → (slice_get xs j ≡ Some a) ⊎ ((j ≡ length xs) × (a ≡ b))
+push_get [] b zero a is = inr (refl, cc)
+push_get [] b (suc j) a is = cc
+push_get (x ∷ xs) b zero a is = inl is
+push_get (x ∷ xs) b (suc j) a is = elim (push_get xs b j a is) as (λ _. (slice_get xs j ≡ Some a) ⊎ ((suc j ≡ suc (length xs)) × (a ≡ b))) [
+  | inl h ↦ inl h
+  | inr h ↦ inr (ap suc h.0, h.1)
+]
+
+pub push_length : {A : Type 0} (xs : List A) (b : A) → length (xs ++ b ∷ []) ≡ suc (length xs)
+push_length [] b = refl
+push_length (x ∷ xs) b = ap suc (push_length xs b)

@@ -2,6 +2,7 @@
 use Rattle.std.proofs.Common.{◌≡◌, ◌≢◌, inl, inr, ℕ, zero, suc, ◌-◌, ◌<◌, ◌≤◌, ◌==◌, ◌&&◌, Bool, true, false, cond, not, Option, Some, None, Result, Ok, Err, List, [], ◌∷◌, length, refl, sym, ap, subst, ◌∙◌, arith}
 use Rattle.std.specs.Prelude.{IsTrue, IsSome, ◌↔◌, ◌||◌, slice_get}
 use Rattle.std.specs.Option.{MatchOption, option_map}
+use Rattle.std.proofs.lemmas.Bool.{eq-eqb}
 use Rattle.std.proofs.lemmas.Bool.Decides.{nat_tests}
 use Rattle.ether_wire.specs.Names.{is_group}
 use Rattle.ether_wire.specs.Ports.{IsPort, has_port, with_port}
@@ -93,10 +94,18 @@ learns_leave false e q port told e' s ne h = same_leaves e e' s h.1
 
 -- ---- what a frame does
 
+abbrev port_or : Option (ℕ × List ℕ) → ℕ → ℕ
+port_or None d = d
+port_or (Some p) d = p.0
+
+abbrev octets_or : Option (ℕ × List ℕ) → List ℕ → List ℕ
+octets_or None d = d
+octets_or (Some p) d = p.1
+
 frame_step : (a : Edge) (event : Event) (result : Result Reply Refusal) (b : Edge) (port : ℕ) (octets : List ℕ) → frame_in event ≡ Some (port, octets) → Steps a event result b → FrameSteps (frame_arrival a port octets) a port result b
 frame_step a (events.Frame p bytes) result b port octets is h =
-    let ports : p ≡ port = cc in
-    let same : bytes.now ≡ octets = cc in
+    let ports : p ≡ port = ap (λ o. port_or o p) is in
+    let same : bytes.now ≡ octets = ap (λ o. octets_or o bytes.now) is in
     subst (λ q. FrameSteps (frame_arrival a q octets) a q result b) ports (subst (λ l. FrameSteps (frame_arrival a p l) a p result b) same h)
 frame_step a (events.TunnelFrame from bytes) result b port octets is h = absurd cc
 frame_step a (events.Take u) result b port octets is h = absurd cc
@@ -111,8 +120,8 @@ frame_step a events.Announce result b port octets is h = absurd cc
 
 tunnel_step : (a : Edge) (event : Event) (result : Result Reply Refusal) (b : Edge) (from : ℕ) (octets : List ℕ) → tunnel_frame_in event ≡ Some (from, octets) → Steps a event result b → TunnelSteps (tunnel_arrival a from octets) a result b
 tunnel_step a (events.TunnelFrame o bytes) result b from octets is h =
-    let edges : o ≡ from = cc in
-    let same : bytes.now ≡ octets = cc in
+    let edges : o ≡ from = ap (λ p. port_or p o) is in
+    let same : bytes.now ≡ octets = ap (λ p. octets_or p bytes.now) is in
     subst (λ q. TunnelSteps (tunnel_arrival a q octets) a result b) edges (subst (λ l. TunnelSteps (tunnel_arrival a o l) a result b) same h)
 tunnel_step a (events.Frame p bytes) result b from octets is h = absurd cc
 tunnel_step a (events.Take u) result b from octets is h = absurd cc
@@ -133,14 +142,14 @@ record IsSent (a b : Edge) (s : Station) (from : Source) (reply : Reply) : Type 
   is : IsDecision b s.vni s.mac from decision
 
 sent : (passes : Bool) (o : Option Decision) (b : Edge) (vni destination : ℕ) (from : Source) → IsTrue passes → SendsIf passes b vni destination from o → (d : Decision) × (o ≡ Some d) × IsDecision b vni destination from d
-sent passes None b vni destination from yes h = absurd h
-sent true (Some d) b vni destination from yes h = (d, refl, h)
-sent false (Some d) b vni destination from yes h = absurd cc
+sent passes None b vni destination from told h = absurd h
+sent true (Some d) b vni destination from told h = (d, refl, h)
+sent false (Some d) b vni destination from told h = absurd cc
 
 frame_sent : (a b : Edge) (event : Event) (port : ℕ) (s : Station) (reply : Reply) → IsFrameFor a event port s → Steps a event (Ok reply) b → IsSent a b s (Port port) reply
 frame_sent a b event port s reply frame steps =
     let d = sent steps_are.passes reply.decision b s.vni s.mac (Port port) (steps_are.are_passed.1 frame.passes) steps_are.sending in
-    record { leaves = learns_leave _ a (record { vni = s.vni; mac = frame.source }) port reply.alert b s other steps_are.learning.learning; decision = d.0; there = d.1; is = d.2 }
+    record { leaves = learns_leave (steps_are.learning.learns && not (is_group frame.source)) a (record { vni = s.vni; mac = frame.source }) port reply.alert b s other steps_are.learning.learning; decision = d.0; there = d.1; is = d.2 }
   where
     steps_are : DataSteps a port s.vni s.mac frame.source reply b
     steps_are = subst (λ r. FrameSteps r a port (Ok reply) b) frame.arrives (frame_step a event (Ok reply) b port frame.octets frame.frame steps)
@@ -150,7 +159,7 @@ frame_sent a b event port s reply frame steps =
 
 tunnel_sent : (a b : Edge) (event : Event) (s : Station) (reply : Reply) → IsTunnelFrameFor a event s → Steps a event (Ok reply) b → IsSent a b s Tunnel reply
 tunnel_sent a b event s reply frame steps =
-    let d = sent true reply.decision b s.vni s.mac Tunnel refl steps_are.0 in
+    let d = sent true reply.decision b s.vni s.mac Tunnel refl (subst (λ e. SendsIf true e s.vni s.mac Tunnel reply.decision) (sym steps_are.2) steps_are.0) in
     record { leaves = same_leaves a b s steps_are.2; decision = d.0; there = d.1; is = d.2 }
   where
     steps_are : TunnelSteps (Ok (Data s.vni s.mac frame.source)) a (Ok reply) b
@@ -187,9 +196,12 @@ elsewhere_remote t vni m own o port entry group none is ne = rw (group, none, is
 
 pub frames_go : FramesGo
 frames_go f h agree i j o a b s at_o at_a apart says event port reply frame steps =
-    record { decision = x.decision; there = x.there;
+    record {
+      decision = x.decision;
+      there = x.there;
       local = x.is.local ∙ elsewhere_local (table_of b) s.vni s.mac (address_of b) (address_of o) x.is.members x.is.passing port (port_of b s.vni s.mac) frame.individual none owned far;
-      remote = x.is.remote ∙ elsewhere_remote (table_of b) s.vni s.mac (address_of b) (address_of o) port (port_of b s.vni s.mac) frame.individual none owned far }
+      remote = x.is.remote ∙ elsewhere_remote (table_of b) s.vni s.mac (address_of b) (address_of o) port (port_of b s.vni s.mac) frame.individual none owned far;
+    }
   where
     x : IsSent a b s (Port port) reply
     x = frame_sent a b event port s reply frame steps
@@ -216,7 +228,7 @@ tunnel_local t vni m own members passing q entry group some = rw (group, some) r
 
 -- one port alone, or none
 alone : (c : Bool) (q p : ℕ) → IsPort q → (has_port (cond c (with_port 0 q) 0) p ≡ true) ↔ ((p ≡ q) × (c ≡ true))
-alone true q p is = (λ there. (grind (arith, nat_tests, has_port-with 0 q is p, has_port-none p, there), refl), λ h. has_port-with 0 q is p ∙ ap (λ b. b || has_port 0 p) (let same = h.0 in grind (arith, nat_tests)))
+alone true q p is = (λ there. (grind (arith, nat_tests, has_port-with 0 q is p, has_port-none p, there), refl), λ h. has_port-with 0 q is p ∙ ap (λ b. b || has_port 0 p) (eq-eqb q p (sym h.0)))
 alone false q p is = (λ there. absurd (let none = has_port-none p in cc), λ h. absurd (let bad = h.1 in cc))
 
 -- a port of a network is one of the bridge's
@@ -262,20 +274,24 @@ frames_come_out o b s good says event port reply frame steps =
     t : IsThere o e.0.port
     t = there o s.vni e.0.port good e.1.port
 
-    passes : (has_port x.is.passing e.0.port ≡ true) ↔ ((1 ≤ e.0.port) × (e.0.port ≤ length b.tree.ports) × Passes b.tree e.0.port)
+    passes : (has_port x.is.passing e.0.port ≡ true) ↔ (((1 ≤ e.0.port) × (e.0.port ≤ length b.tree.ports)) × Passes b.tree e.0.port)
     passes = x.is.are_passing e.0.port
 
-    local : (p : ℕ) → (has_port x.decision.local p ≡ true) ↔ ((p ≡ e.0.port) × Passes o.tree e.0.port × (e.0.port ≢ port))
+    local : (p : ℕ) → (has_port x.decision.local p ≡ true) ↔ ((p ≡ e.0.port) × (Passes o.tree e.0.port × (e.0.port ≢ port)))
     local p =
         let is = x.is.local ∙ home_local (table_of b) s.vni s.mac (address_of b) x.is.members x.is.passing port e.0.port (port_of b s.vni s.mac) frame.individual some in
-        let a = alone (has_port x.is.passing e.0.port && not (port == e.0.port)) e.0.port p (record { least = t.least; most = t.few }) in
-        (λ there.
-          let h = a.0 (ap (λ set. has_port set p) (sym is) ∙ there) in
-          let two = both (has_port x.is.passing e.0.port) (not (port == e.0.port)) h.1 in
-          (h.0, subst (λ r. Passes r e.0.port) x.leaves.tree (passes.0 two.0).1, λ same. (let no = two.1 in grind (arith, nat_tests))),
-         λ h. ap (λ set. has_port set p) is ∙ a.1 (h.0, both_back (has_port x.is.passing e.0.port) (not (port == e.0.port))
-           (passes.1 ((t.least, subst (λ r. e.0.port ≤ length r.ports) (sym x.leaves.tree) t.most), subst (λ r. Passes r e.0.port) (sym x.leaves.tree) h.1.0))
-           (let ne = h.1.1 in grind (arith, nat_tests))))
+        let a = alone (has_port x.is.passing e.0.port && not (port == e.0.port)) e.0.port p (record { least = t.least; most = t.few }) in (
+          λ there.
+              let h = a.0 (ap (λ set. has_port set p) (sym is) ∙ there) in
+              let two = both (has_port x.is.passing e.0.port) (not (port == e.0.port)) h.1 in
+              (h.0, (subst (λ r. Passes r e.0.port) x.leaves.tree (passes.0 two.0).1, λ same. (let no = two.1 in grind (arith, nat_tests)))),
+          λ h. ap (λ set. has_port set p) is ∙ a.1 (
+            h.0,
+            both_back (has_port x.is.passing e.0.port) (not (port == e.0.port))
+                (passes.1 ((t.least, subst (λ r. e.0.port ≤ length r.ports) (sym x.leaves.tree) t.most), subst (λ r. Passes r e.0.port) (sym x.leaves.tree) h.1.0))
+                (let ne = h.1.1 in grind (arith, nat_tests)),
+          ),
+        )
 
 pub tunnel_frames_come_out : TunnelFramesComeOut
 tunnel_frames_come_out o b s good says event reply frame steps =
@@ -297,10 +313,14 @@ tunnel_frames_come_out o b s good says event reply frame steps =
     local p =
         let is = x.is.local ∙ tunnel_local (table_of b) s.vni s.mac (address_of b) x.is.members x.is.passing e.0.port (port_of b s.vni s.mac) frame.individual some in
         let passes = x.is.are_passing e.0.port in
-        let a = alone (has_port x.is.passing e.0.port && true) e.0.port p (record { least = t.least; most = t.few }) in
-        (λ there.
-          let h = a.0 (ap (λ set. has_port set p) (sym is) ∙ there) in
-          let two = both (has_port x.is.passing e.0.port) true h.1 in
-          (h.0, subst (λ r. Passes r e.0.port) x.leaves.tree (passes.0 two.0).1),
-         λ h. ap (λ set. has_port set p) is ∙ a.1 (h.0, both_back (has_port x.is.passing e.0.port) true
-           (passes.1 ((t.least, subst (λ r. e.0.port ≤ length r.ports) (sym x.leaves.tree) t.most), subst (λ r. Passes r e.0.port) (sym x.leaves.tree) h.1)) refl))
+        let a = alone (has_port x.is.passing e.0.port && true) e.0.port p (record { least = t.least; most = t.few }) in (
+          λ there.
+              let h = a.0 (ap (λ set. has_port set p) (sym is) ∙ there) in
+              let two = both (has_port x.is.passing e.0.port) true h.1 in
+              (h.0, subst (λ r. Passes r e.0.port) x.leaves.tree (passes.0 two.0).1),
+          λ h. ap (λ set. has_port set p) is ∙ a.1 (
+            h.0,
+            both_back (has_port x.is.passing e.0.port) true
+                (passes.1 ((t.least, subst (λ r. e.0.port ≤ length r.ports) (sym x.leaves.tree) t.most), subst (λ r. Passes r e.0.port) (sym x.leaves.tree) h.1)) refl,
+          ),
+        )

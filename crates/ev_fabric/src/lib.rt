@@ -5,14 +5,12 @@ mod fabric;
 mod laws;
 mod refusal;
 mod step;
-#[cfg(test)]
-mod tests;
 
 pub use fabric::Fabric;
 pub use laws::{
-    agreed_reports, agreed_tables, announced, every_run, frames_come_out, frames_go, learnt, none_ahead,
-    none_back, one_of_all, one_of_two, owner_of_all, said_once, sets_join, starts, tables_join,
-    tunnel_frames_come_out,
+    agreed_reports, agreed_tables, announced, every_run, frames_come_out, frames_go, learnt,
+    none_ahead, none_back, one_of_all, one_of_two, owner_of_all, said_once, sets_join, starts,
+    tables_join, tunnel_frames_come_out,
 };
 pub use refusal::Refusal;
 pub use step::{LocalEvent, Step};
