@@ -6,3 +6,14 @@ pub mod Opened
 pub mod Agreements
 pub mod Sends
 pub mod Calls
+pub mod RestingSums
+pub mod RestingNewest
+pub mod RestingEdge
+pub mod RestingIdle
+pub mod RestingGood
+pub mod RestingMoves
+pub mod RestingRounds
+pub mod RestingWork
+pub mod RestingNumbers
+pub mod RestingStages
+pub mod RestingMotion

@@ -7,3 +7,6 @@ pub mod Sound
 pub mod Agreed
 pub mod Runs
 pub mod Laws
+pub mod RestEdge
+pub mod Rest
+pub mod RestMove

@@ -4,6 +4,7 @@
 mod fabric;
 mod laws;
 mod refusal;
+mod rest;
 mod step;
 
 pub use fabric::Fabric;
@@ -13,4 +14,5 @@ pub use laws::{
     tables_join, tunnel_frames_come_out,
 };
 pub use refusal::Refusal;
+pub use rest::{agrees, bounded, fades, fair, moves, reached, settles};
 pub use step::{LocalEvent, Step};

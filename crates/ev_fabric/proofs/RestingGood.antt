@@ -1,0 +1,111 @@
+-- A delivery leaves an edge what every edge keeps.
+use Rattle.std.proofs.Common.{◌≡◌, ◌≢◌, ℕ, Bool, true, false, cond, List, ◌∷◌, Ok, refl, sym, ap, subst, ◌∙◌, arith}
+use Rattle.std.proofs.lemmas.Bool.Decides.{nat_tests}
+use Rattle.std.specs.Prelude.{Contains, is_some, not, ◌==◌, ◌&&◌}
+use Rattle.route_wire.specs.declared.update.Key.{Key}
+use Rattle.route_wire.specs.declared.update.Key.TheVariants.{Flood, Mac}
+use Rattle.route_wire.specs.declared.update.Register.{Register}
+use Rattle.route_wire.specs.declared.update.Content.TheVariants.{Withdrawn}
+use Rattle.route_wire.specs.Fields.{Fields}
+use Rattle.route_join.specs.Table.{with_value}
+use Rattle.route_join.specs.Owner.{advert_of, owner}
+use Rattle.route_join.specs.declared.table.Taken.TheVariants.{Known}
+use Rattle.mac_arena.specs.declared.station.Station.{Station}
+use Rattle.ev_claims.specs.Voice.{Voice, KeepsNumbers, is_at, is_newest, own_advert, after_hearing, after_hearing_own}
+use Rattle.ev_claims.specs.Claims.{Claims, KeepsClaims, key_of, after_removal, after_update, after_own, is_lost, after_losing, after_take}
+use Rattle.ev_claims.proofs.Numbers.{said_numbers, own_stays, heard_numbers}
+use Rattle.ev_claims.proofs.Hearing.{past_if_newest, earlier_numbers}
+use Rattle.ev_claims.proofs.Keeping.{spoken_claims, removal_claims, own_claims}
+use Rattle.ev_edge.proofs.Owning.{Holds, taken_holds}
+use Rattle.ev_edge.proofs.Returning.{own_holds}
+use Rattle.ev_fabric.specs.RestEdge.{comes_back}
+use Rattle.ev_fabric.proofs.RestingEdge.{Accepts, Heard, Back, Lost, Kept, heard, hears, silent, learnt}
+use Rattle.ev_fabric.proofs.RestingSums.{later_one}
+
+-- what is used of a good edge: its claims, its numbers, and that it owns what it advertises
+pub record Keeps (c : Claims) (second : ℕ) : Type 0 where
+  pub claims : KeepsClaims c
+  pub numbers : KeepsNumbers c.voice
+  pub holds : Holds c second
+
+-- ---- the own numbers
+unheard : (e : Voice) (u : Fields) → is_newest e u ≡ false → e ≡ after_hearing e u
+unheard e u none = sym (λ i. record e { table = cond (none i) (with_value e.table u.register u.value) e.table })
+
+kept_numbers : (e : Voice) (u : Fields) → KeepsNumbers e → Accepts e u → comes_back e u ≡ false → u.register.originator ≡ e.address → KeepsNumbers (after_hearing e u)
+kept_numbers e u n ok not mine = go (is_newest e u) refl
+  where
+    go : (b : Bool) → is_newest e u ≡ b → KeepsNumbers (after_hearing e u)
+    go true newest = earlier_numbers e u n mine newest (past_if_newest e u (ok.ahead mine) newest) (silent e u ok not mine newest)
+    go false none = subst KeepsNumbers (unheard e u none) n
+
+heard_numbers_by : (c : Claims) (u : Fields) (d : Claims) → KeepsNumbers c.voice → Accepts c.voice u → Heard c u d → KeepsNumbers d.voice
+heard_numbers_by c u _ n ok (Back back) = said_numbers c.voice u.register.key Withdrawn n
+heard_numbers_by c u _ n ok (Lost s other lost) = said_numbers (after_hearing c.voice u) (key_of s) Withdrawn (heard_numbers c.voice u other n)
+heard_numbers_by c u _ n ok (Kept not) = go (u.register.originator == c.voice.address) refl
+  where
+    go : (b : Bool) → (u.register.originator == c.voice.address) ≡ b → KeepsNumbers (after_hearing c.voice u)
+    go true t = let mine : u.register.originator ≡ c.voice.address = grind (arith, nat_tests) in kept_numbers c.voice u n ok not mine
+    go false t = let other : u.register.originator ≡ c.voice.address → ⊥ = grind (arith, nat_tests) in heard_numbers c.voice u other n
+
+-- ---- the claims
+own_one : (c : Claims) (u : Fields) → u.register.originator ≡ c.voice.address → Accepts c.voice u → KeepsNumbers c.voice → KeepsClaims c → KeepsClaims (after_own c u)
+own_one c u mine ok n h = own_claims c (after_hearing_own c.voice u) u (Ok Known) mine n h refl tt ((λ q. absurd cc), (λ t. absurd (let bad : false ≡ true = sym (ok.ahead mine) ∙ t in cc))) ((λ q. absurd cc), (λ t. absurd (let bad : false ≡ true = sym (ok.spent mine) ∙ t in cc)))
+
+other_one : (c : Claims) (u : Fields) → u.register.originator ≢ c.voice.address → KeepsClaims c → KeepsClaims (after_update c u)
+other_one c u other h = spoken_claims c (after_hearing c.voice u) h (λ k. ap advert_of (own_stays c.voice u other k)) h.left
+
+lost_one : (c : Claims) (u : Fields) (s : Station) → u.register.originator ≢ c.voice.address → is_lost (after_update c u) s ≡ true → KeepsClaims c → KeepsClaims (after_removal (after_update c u) s)
+lost_one c u s other lost h =
+    let some = first (is_some (own_advert (after_hearing c.voice u) (key_of s))) (is_at (owner (after_hearing c.voice u).table s.vni s.mac) c.voice.address) lost in
+    let there = learnt (after_update c u) s (other_one c u other h) some in
+    removal_claims (after_update c u) s there.0 there.1 (other_one c u other h)
+  where
+    first : (x y : Bool) → (x && not y) ≡ true → x ≡ true
+    first true y e = refl
+    first false y e = cc
+
+other_claims : (c : Claims) (u : Fields) → u.register.originator ≢ c.voice.address → KeepsClaims c → KeepsClaims (after_take c u)
+other_claims c u other h = losing u.register.key
+  where
+    pick : (s : Station) (b : Bool) → is_lost (after_update c u) s ≡ b → KeepsClaims (cond b (after_removal (after_update c u) s) (after_update c u))
+    pick s true is = lost_one c u s other is h
+    pick s false is = other_one c u other h
+
+    losing : (k : Key) → KeepsClaims (after_losing (after_update c u) k)
+    losing (Flood v) = other_one c u other h
+    losing (Mac v m ip) = pick (record { vni = v; mac = m }) (is_lost (after_update c u) (record { vni = v; mac = m })) refl
+
+-- ---- all of it
+pub heard_keeps : (c : Claims) (u : Fields) (second : ℕ) → Accepts c.voice u → Keeps c second → Keeps (heard c u) second
+heard_keeps c u second ok h = record {
+  claims = claims (u.register.originator == c.voice.address) refl;
+  numbers = heard_numbers_by c u (heard c u) h.numbers ok (hears c u);
+  holds = holds (u.register.originator == c.voice.address) refl;
+}
+  where
+    claims : (b : Bool) → (u.register.originator == c.voice.address) ≡ b → KeepsClaims (cond b (after_own c u) (after_take c u))
+    claims true t = let mine : u.register.originator ≡ c.voice.address = grind (arith, nat_tests) in own_one c u mine ok h.numbers h.claims
+    claims false t = let other : u.register.originator ≡ c.voice.address → ⊥ = grind (arith, nat_tests) in other_claims c u other h.claims
+
+    holds : (b : Bool) → (u.register.originator == c.voice.address) ≡ b → Holds (cond b (after_own c u) (after_take c u)) second
+    holds true t = let mine : u.register.originator ≡ c.voice.address = grind (arith, nat_tests) in own_holds c u second h.numbers mine (ok.ahead mine) h.holds
+    holds false t = taken_holds c u second h.holds
+
+-- an announcement says and learns nothing
+abbrev pub quieter : Claims → List Register → Claims
+quieter c rs = record c { voice = record c.voice { pending = rs } }
+
+pub quieter_keeps : (c : Claims) (r : Register) (rs : List Register) (second : ℕ) → c.voice.pending ≡ r ∷ rs → Keeps c second → Keeps (quieter c rs) second
+quieter_keeps c r rs second pend h = record {
+  claims = record { kinds = h.claims.kinds; bare = h.claims.bare; ports = h.claims.ports; floods = h.claims.floods; fits = h.claims.fits; small = h.claims.small; left = h.claims.left; lists = h.claims.lists; few = h.claims.few };
+  numbers = record {
+    counted = h.numbers.counted;
+    distinct = h.numbers.distinct;
+    past = h.numbers.past;
+    alive = h.numbers.alive;
+    known = h.numbers.known;
+    pending = λ q in'. h.numbers.pending q (subst (λ l. Contains l q) (sym pend) (later_one r rs q in'));
+  };
+  holds = record { owns = h.holds.owns; latest = h.holds.latest };
+}

@@ -1,0 +1,127 @@
+-- Sums and counts over a list of which one element is replaced.
+use Rattle.std.proofs.Common.{◌≡◌, ◌≢◌, ◌⊎◌, inl, inr, ℕ, zero, suc, ◌+◌, ◌<◌, ◌≤◌, length, Bool, true, false, cond, Some, List, [], ◌∷◌, ◌++◌, refl, sym, ap, subst, ◌∙◌, arith}
+use Rattle.std.proofs.lemmas.List.Sums.{sum_by-cons, sum_by_push}
+use Rattle.std.specs.Prelude.{Contains, slice_get, slice_set}
+use Rattle.std.specs.List.{count_by, sum_by}
+
+pub sum_le : {X : Type 0} (f g : X → ℕ) (xs : List X) → ((j : ℕ) (x : X) → slice_get xs j ≡ Some x → g x ≤ f x) → sum_by g xs ≤ sum_by f xs
+sum_le f g [] le = omega arith
+sum_le f g (x ∷ xs) le =
+    let head = le 0 x refl in
+    let tail = sum_le f g xs (λ j y at. le (suc j) y at) in
+    let of_f = sum_by-cons f x xs in
+    let of_g = sum_by-cons g x xs in
+    omega (arith, head, tail, of_f, of_g)
+
+-- one element gives at least d less, and no other more
+pub sum_set : {X : Type 0} (f g : X → ℕ) (d : ℕ) (xs : List X) (i : ℕ) (a b : X) → slice_get xs i ≡ Some a → g b + d ≤ f a → ((j : ℕ) (x : X) → j ≢ i → slice_get xs j ≡ Some x → g x ≤ f x) → sum_by g (slice_set xs i b) + d ≤ sum_by f xs
+sum_set f g d [] i a b at less le = cc
+sum_set f g d (x ∷ xs) zero a b at less le =
+    let same : x ≡ a = cc in
+    let here : g b + d ≤ f x = subst (λ y. g b + d ≤ f y) (sym same) less in
+    let tail = sum_le f g xs (λ j y at. le (suc j) y (omega arith) at) in
+    let of_f = sum_by-cons f x xs in
+    let of_g = sum_by-cons g b xs in
+    omega (arith, here, tail, of_f, of_g)
+sum_set f g d (x ∷ xs) (suc i) a b at less le =
+    let head = le 0 x (omega arith) refl in
+    let tail = sum_set f g d xs i a b at less (λ j y ne at. le (suc j) y (omega (arith, ne)) at) in
+    let of_f = sum_by-cons f x xs in
+    let of_g = sum_by-cons g x (slice_set xs i b) in
+    omega (arith, head, tail, of_f, of_g)
+
+-- ---- counts
+abbrev one : Bool → ℕ
+one b = cond b 1 0
+
+one_le : (p q : Bool) → (q ≡ true → p ≡ true) → cond q 1 0 ≤ cond p 1 0
+one_le true true h = omega arith
+one_le true false h = omega arith
+one_le false true h = let never = h refl in cc
+one_le false false h = omega arith
+
+-- fewer pass another test
+pub count_le : {X : Type 0} (p q : X → Bool) (xs : List X) → ((x : X) → q x ≡ true → p x ≡ true) → count_by q xs ≤ count_by p xs
+count_le p q xs h = sum_le (λ x. cond (p x) 1 0) (λ x. cond (q x) 1 0) xs (λ j x at. one_le (p x) (q x) (h x))
+
+-- and one that did doesn't
+pub count_less : {X : Type 0} (p q : X → Bool) (xs : List X) (u : X) → ((x : X) → q x ≡ true → p x ≡ true) → Contains xs u → p u ≡ true → q u ≡ false → count_by q xs + 1 ≤ count_by p xs
+count_less p q [] u h (i, lt, is) is_so not = absurd (omega (arith, lt))
+count_less p q (x ∷ xs) u h (zero, lt, is) is_so not =
+    let p_here : one (p x) ≡ 1 = ap (λ y. one (p y)) is ∙ ap one is_so in
+    let q_here : one (q x) ≡ 0 = ap (λ y. one (q y)) is ∙ ap one not in
+    let tail = count_le p q xs h in
+    let of_p : count_by p (x ∷ xs) ≡ cond (p x) 1 0 + count_by p xs = sum_by-cons (λ y. cond (p y) 1 0) x xs in
+    let of_q : count_by q (x ∷ xs) ≡ cond (q x) 1 0 + count_by q xs = sum_by-cons (λ y. cond (q y) 1 0) x xs in
+    omega (arith, p_here, q_here, tail, of_p, of_q)
+count_less p q (x ∷ xs) u h (suc i, lt, is) is_so not =
+    let head = one_le (p x) (q x) (h x) in
+    let tail = count_less p q xs u h (i, omega (arith, lt), is) is_so not in
+    let of_p : count_by p (x ∷ xs) ≡ cond (p x) 1 0 + count_by p xs = sum_by-cons (λ y. cond (p y) 1 0) x xs in
+    let of_q : count_by q (x ∷ xs) ≡ cond (q x) 1 0 + count_by q xs = sum_by-cons (λ y. cond (q y) 1 0) x xs in
+    omega (arith, head, tail, of_p, of_q)
+
+pub count_push : {X : Type 0} (p : X → Bool) (xs : List X) (u : X) → p u ≡ false → count_by p (xs ++ u ∷ []) ≡ count_by p xs
+count_push p xs u not =
+    let more : count_by p (xs ++ u ∷ []) ≡ count_by p xs + cond (p u) 1 0 = sum_by_push (λ y. cond (p y) 1 0) xs u in
+    let none : one (p u) ≡ 0 = ap one not in
+    omega (arith, more, none)
+
+-- one that passes is counted
+pub count_some : {X : Type 0} (p : X → Bool) (xs : List X) (u : X) → Contains xs u → p u ≡ true → 1 ≤ count_by p xs
+count_some p xs u in' is_so = let less = count_less p (λ x. false) xs u (λ x never. absurd cc) in' is_so refl in omega (arith, less)
+
+pub sum_has : {X : Type 0} (f : X → ℕ) (xs : List X) (i : ℕ) (a : X) → slice_get xs i ≡ Some a → f a ≤ sum_by f xs
+sum_has f [] i a at = cc
+sum_has f (x ∷ xs) zero a at =
+    let same : x ≡ a = cc in
+    let of_f = sum_by-cons f x xs in
+    let here = ap f same in
+    omega (arith, of_f, here)
+sum_has f (x ∷ xs) (suc i) a at = let of_f = sum_by-cons f x xs in let tail = sum_has f xs i a at in omega (arith, of_f, tail)
+
+pub place_lt : {X : Type 0} (xs : List X) (i : ℕ) (a : X) → slice_get xs i ≡ Some a → i < length xs
+place_lt [] i a at = cc
+place_lt (x ∷ xs) zero a at = omega arith
+place_lt (x ∷ xs) (suc i) a at = let h = place_lt xs i a at in omega (arith, h)
+
+pub place_of : {X : Type 0} (xs : List X) (a : X) → Contains xs a → (k : ℕ) × (slice_get xs k ≡ Some a)
+place_of [] a (i, lt, is) = absurd (omega (arith, lt))
+place_of (x ∷ xs) a (zero, lt, is) = (0, ap Some is)
+place_of (x ∷ xs) a (suc i, lt, is) = let h = place_of xs a (i, omega (arith, lt), is) in (suc h.0, h.1)
+
+-- ---- elements of a list
+pub later_one : {X : Type 0} (x : X) (xs : List X) (y : X) → Contains xs y → Contains (x ∷ xs) y
+later_one x xs y (i, lt, is) = (suc i, omega (arith, lt), is)
+
+pub contains_at : {X : Type 0} (xs : List X) (i : ℕ) (a : X) → slice_get xs i ≡ Some a → Contains xs a
+contains_at [] i a is = cc
+contains_at (x ∷ xs) zero a is = (0, omega arith, cc)
+contains_at (x ∷ xs) (suc i) a is = let h = contains_at xs i a is in (suc h.0, omega (arith, h.1), h.2)
+
+pub set_same : {X : Type 0} (xs : List X) (i : ℕ) (a b : X) → slice_get xs i ≡ Some a → slice_get (slice_set xs i b) i ≡ Some b
+set_same [] i a b is = cc
+set_same (x ∷ xs) zero a b is = refl
+set_same (x ∷ xs) (suc i) a b is = set_same xs i a b is
+
+pub set_cases : {X : Type 0} (xs : List X) (i : ℕ) (b : X) (j : ℕ) (c : X) → slice_get (slice_set xs i b) j ≡ Some c → ((j ≡ i) × (c ≡ b)) ⊎ ((j ≢ i) × (slice_get xs j ≡ Some c))
+set_cases [] i b j c is = cc
+set_cases (x ∷ xs) zero b zero c is = inl (refl, cc)
+set_cases (x ∷ xs) zero b (suc j) c is = inr (omega arith, is)
+set_cases (x ∷ xs) (suc i) b zero c is = inr (omega arith, is)
+set_cases (x ∷ xs) (suc i) b (suc j) c is = elim (set_cases xs i b j c is) as (λ _. ((suc j ≡ suc i) × (c ≡ b)) ⊎ ((suc j ≢ suc i) × (slice_get xs j ≡ Some c))) [
+  | inl h ↦ inl (ap suc h.0, h.1)
+  | inr h ↦ inr (let ne = h.0 in omega (arith, ne), h.1)
+]
+
+pub set_itself : {X : Type 0} (xs : List X) (i : ℕ) (a : X) → slice_get xs i ≡ Some a → slice_set xs i a ≡ xs
+set_itself [] i a at = refl
+set_itself (x ∷ xs) zero a at = cc
+set_itself (x ∷ xs) (suc i) a at = ap (λ ys. x ∷ ys) (set_itself xs i a at)
+
+pub set_kept : {X : Type 0} (xs : List X) (i : ℕ) (b : X) (j : ℕ) (a : X) → slice_get xs j ≡ Some a → (c : X) × (slice_get (slice_set xs i b) j ≡ Some c)
+set_kept [] i b j a at = cc
+set_kept (x ∷ xs) zero b zero a at = (b, refl)
+set_kept (x ∷ xs) zero b (suc j) a at = (a, at)
+set_kept (x ∷ xs) (suc i) b zero a at = (x, refl)
+set_kept (x ∷ xs) (suc i) b (suc j) a at = set_kept xs i b j a at
