@@ -1,0 +1,98 @@
+-- What a call of a book does to it and to the pass.
+use Rattle.std.specs.Prelude.{◌≡◌, ℕ, ◌+◌, ◌^◌, ◌++◌, nat_le, Bool, true, false, Option, Some, None, Result, Ok, Err, List, slice_set}
+use Rattle.route_wire.specs.Fields.{Fields}
+use Rattle.ev_edge.specs.declared.event.Event.{Event}
+use Rattle.ev_edge.specs.declared.event.Event.TheVariants as events
+use Rattle.ev_edge.specs.declared.reply.Reply.{Reply}
+use Rattle.ev_edge.specs.declared.refusal.Refusal as edges
+use Rattle.ev_edge.specs.Steps.{Steps}
+use Rattle.ev_edge.specs.Edge.{Edge}
+use Rattle.ev_edge.specs.Changes.{accepted}
+use Rattle.ev_book.specs.declared.mark.Mark.{Mark}
+use Rattle.ev_book.specs.declared.refusal.BookRefusal.{BookRefusal}
+use Rattle.ev_book.specs.declared.refusal.BookRefusal.TheVariants.{PassStrange, PassSpent, NoRoom, Edge as OfEdge}
+use Rattle.ev_book.specs.Mark.{mark_of}
+use Rattle.ev_book.specs.Book.{BookState, PassState, fits, kept_of}
+use Rattle.ev_book.specs.Journal.{AreOwnSince}
+
+-- ---- marks
+
+-- the update that an event took or announced
+abbrev pub touched : Event → Reply → Option Fields
+touched (events.Take u) reply = Some u
+touched events.Announce reply = reply.announced
+touched (events.Frame port octets) reply = None
+touched (events.TunnelFrame from octets) reply = None
+touched (events.Pin s port) reply = None
+touched (events.Unpin s) reply = None
+touched (events.Thaw s) reply = None
+touched events.Second reply = None
+touched (events.PortUp port) reply = None
+touched (events.PortDown port) reply = None
+touched (events.Mcheck port) reply = None
+
+-- where it was refused, there is none
+abbrev pub touched_by : {R : Type 0} → Event → Result Reply R → Option Fields
+touched_by event (Ok reply) = touched event reply
+touched_by event (Err r) = None
+
+-- it is the mark from then on
+abbrev pub mark_then : Option Mark → Option Fields → Option Mark
+mark_then m None = m
+mark_then m (Some u) = Some (mark_of u)
+
+-- the pass with one call more, and this mark
+abbrev pub called : PassState → Option Mark → PassState
+called p m = record { number = p.number; count = p.count + 1; mark = m }
+
+-- ---- one call
+
+-- One step of the edge. The journal grows by the update that the event took, whether it was news or not, and then by the
+-- own updates of the event.
+pub record Writes (e : Edge) (us : List Fields) (event : Event) (result : Result Reply edges.Refusal) (e' : Edge) (us' : List Fields) : Type 0 where
+  pub steps : Steps e event result e'
+  pub own : List Fields
+  pub are_own : AreOwnSince e'.claims.voice e.claims.voice.counter own
+  pub journal : us' ≡ us ++ (accepted event result ++ own)
+
+-- the room for it in the journal was refused, or it is written
+abbrev pub WritesOrNot : Edge → List Fields → Event → Result Reply BookRefusal → Edge → List Fields → Type 0
+WritesOrNot e journal event (Ok reply) e' journal' = Writes e journal event (Ok reply) e' journal'
+WritesOrNot e journal event (Err (OfEdge r)) e' journal' = Writes e journal event (Err r) e' journal'
+WritesOrNot e journal event (Err NoRoom) e' journal' = (e' ≡ e) × (journal' ≡ journal)
+WritesOrNot e journal event (Err PassStrange) e' journal' = ⊥
+WritesOrNot e journal event (Err PassSpent) e' journal' = ⊥
+
+-- A call that isn't refused for its pass. It is counted, and the pass has the mark of what it took or announced; the book
+-- keeps both, and nothing else of any pass changes.
+pub record Enters (b : BookState) (p : PassState) (event : Event) (result : Result Reply BookRefusal) (b' : BookState) (p' : PassState) : Type 0 where
+  pub writes : WritesOrNot b.edge b.journal event result b'.edge b'.journal
+  pub pass : p' ≡ called p (mark_then p.mark (touched_by event result))
+  pub kept : b'.kept ≡ slice_set b.kept p.number (kept_of p')
+
+-- nothing changes
+pub record Refuses (b : BookState) (p : PassState) (why : BookRefusal) (result : Result Reply BookRefusal) (b' : BookState) (p' : PassState) : Type 0 where
+  pub result_is : result ≡ Err why
+  pub book : b' ≡ b
+  pub pass : p' ≡ p
+
+-- it has as many calls as a pass can have
+abbrev pub is_spent : PassState → Bool
+is_spent p = nat_le (2 ^ 55) p.count
+
+abbrev pub Calls : Bool → Bool → BookState → PassState → Event → Result Reply BookRefusal → BookState → PassState → Type 0
+Calls false spent b p event result b' p' = Refuses b p PassStrange result b' p'
+Calls true true b p event result b' p' = Refuses b p PassSpent result b' p'
+Calls true false b p event result b' p' = Enters b p event result b' p'
+
+-- A pass that isn't the kept one is refused, then one that is spent; any other call is counted.
+abbrev pub CallsBook : BookState → PassState → Event → Result Reply BookRefusal → BookState → PassState → Type 0
+CallsBook b p event result b' p' = Calls (fits b p) (is_spent p) b p event result b' p'
+
+-- how many calls an answer stands for
+abbrev pub calls_counted : Result Reply BookRefusal → ℕ
+calls_counted (Ok reply) = 1
+calls_counted (Err (OfEdge r)) = 1
+calls_counted (Err NoRoom) = 1
+calls_counted (Err PassStrange) = 0
+calls_counted (Err PassSpent) = 0

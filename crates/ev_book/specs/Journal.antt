@@ -1,0 +1,36 @@
+-- The journal of an edge: what is added to it, and its octets.
+use Rattle.std.specs.Prelude.{◌≡◌, ℕ, ◌+◌, ◌++◌, Some, List, slice_get, length, map, Contains, false, Result, Ok}
+use Rattle.std.specs.List.{concat}
+use Rattle.route_wire.specs.Order.{is_newer}
+use Rattle.route_join.specs.Table.{IsOrdered}
+use Rattle.route_wire.specs.Fields.{Fields}
+use Rattle.route_wire.specs.Spelling.{spelling_of}
+use Rattle.ev_claims.specs.Voice.{Voice, IsOwnAt}
+
+-- The own updates that the edge numbered after this number, up to its counter and in their order.
+pub record AreOwnSince (e : Voice) (before : ℕ) (own : List Fields) : Type 0 where
+  pub numbered : (i : ℕ) (u : Fields) → slice_get own i ≡ Some u → IsOwnAt e (before + (i + 1)) u
+  pub all : before + length own ≡ e.counter
+
+-- there are such updates
+abbrev pub HasOwnSince : Voice → ℕ → Type 0
+HasOwnSince e before = (own : List Fields) × AreOwnSince e before own
+
+-- these updates stand behind the others
+abbrev pub AppendsOwn : Voice → ℕ → List Fields → List Fields → Type 0
+AppendsOwn e before old new = (own : List Fields) → AreOwnSince e before own → new ≡ old ++ own
+
+-- the records of updates, one after the other
+abbrev pub records_of : List Fields → List ℕ
+records_of us = concat (map spelling_of us)
+
+-- these updates, as a stream's answers
+abbrev pub all_ok : List Fields → List (Result Fields ℕ)
+all_ok us = map (λ u. Ok u) us
+
+-- The journal has one update of each register, in the order of a report; each was in it, and no newer one of its
+-- register.
+pub record Compacts (old new : List Fields) : Type 0 where
+  pub ordered : IsOrdered new
+  pub from : (u : Fields) → Contains new u → Contains old u
+  pub newest : (u : Fields) → Contains old u → (v : Fields) × Contains new v × (v.register ≡ u.register) × (is_newer u.value v.value ≡ false)

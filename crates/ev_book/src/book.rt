@@ -1,0 +1,270 @@
+//! The book of an edge.
+ghost use Rattle.std.specs.Prelude.{◌≡◌, ◌+◌, ◌<◌, ◌≤◌, true, false, [], vec_len, IfOk, OnOk, Ok, Err};
+ghost use Rattle.route_wire.specs.Record.{Answers};
+ghost use Rattle.ether_wire.specs.Ends.{IsOpen, Puts};
+ghost use Rattle.route_join.specs.Owner.{owner};
+ghost use Rattle.route_join.specs.Updates.{all_updates};
+ghost use Rattle.ev_edge.specs.Config.{IsConfig};
+ghost use Rattle.ev_edge.specs.Edge.{IsGoodEdge, table_of};
+ghost use Rattle.ev_book.specs.Mark.{HoldsAt};
+ghost use Rattle.ev_book.specs.Book.{fits};
+ghost use Rattle.ev_book.specs.Journal.{HasOwnSince, AppendsOwn, Compacts, records_of, all_ok};
+ghost use Rattle.ev_book.specs.Entering.{CallsBook, Enters, is_spent, calls_counted, mark_then, touched_by};
+ghost use Rattle.ev_book.specs.Opening.{IsOpened, opened_passes};
+ghost use Rattle.ev_book.specs.Closing.{counts_of, sum_of, calls_of};
+ghost use Rattle.ev_book.specs.Laws.{Replays};
+
+use crate::journal::{append_own, compact, put_records, step, touched};
+use crate::mark::{Mark, mark_of, same_mark};
+use crate::pass::{Kept, Pass, Totals, merged, unused};
+use crate::refusal::BookRefusal;
+use ether_wire::{Addr, Device, Mac, Out, Vni};
+use ev_edge::{Edge, EdgeConfig, Event, Reply};
+use route_wire::Update;
+use std::alloc::{AllocError, Global};
+use std::marker::Model;
+use std::sync::ledger::{Blank, Book as Sum, Ledger, Share};
+
+/// How many calls a pass can have.
+const SPENT: u64 = 1 << 55;
+
+/// An edge, the journal of the updates that it took and said, and what is kept of each pass.
+///
+/// The table of the journal's updates is the edge's table, the table has what each pass took or announced
+/// last or something newer, and the counts together are those of all passes.
+#[derive(Drop)]
+pub struct Book<L: Ledger> {
+    edge: Edge,
+    journal: Vec<Update>,
+    kept: Vec<Kept>,
+    sum: Sum<L>,
+}
+
+impl<L: Ledger> Model for Book<L> {
+    ghost use Rattle.std.specs.Coded.{codes};
+    ghost use Rattle.std.specs.FinMap.{code};
+    ghost use Rattle.ev_book.specs.Book.{BookState, book_of, IsGoodBook};
+
+    ghost Value = { BookState };
+
+    ghost coded = { Prim.hlevel (codes, code) };
+
+    ghost view = { λ b. book_of b.edge b.journal.items b.kept.items };
+
+    ghost invariant = { λ b. IsGoodBook (book_of b.edge b.journal.items b.kept.items) b.sum.total };
+}
+
+// The own updates of an edge that has just opened.
+fn first_journal(alloc: Global, edge: &Edge) -> Result<Vec<Update>, AllocError>
+    requires { HasOwnSince edge.now.claims.voice 0 }
+    ensures { IfOk result (λ journal. AppendsOwn edge.now.claims.voice 0 [] journal.items) }
+{
+    let mut journal = Vec::with_capacity(alloc, edge.counter() as usize)?;
+    append_own(&mut journal, edge, 0);
+    Ok(journal)
+}
+
+// So many passes, each with a part of the share.
+fn new_passes<L: Ledger>(
+    alloc: Global,
+    share: Share<L>,
+    passes: usize,
+) -> Result<Vec<Pass<L>>, AllocError>
+    requires { (share.parts ≡ passes) × (share.amount ≡ 0) }
+    ensures items { IfOk result (λ made. made.items ≡ opened_passes passes) }
+    ensures len { IfOk result (λ made. vec_len made ≡ passes) }
+{
+    let mut share = share;
+    let mut made = Vec::with_capacity(alloc, passes)?;
+    for number in 0..passes {
+        made.push(Pass::new(number, share.split_off(1, 0)))?;
+    }
+    Ok(made)
+}
+
+impl<L: Ledger> Book<L> {
+    /// A book over an edge that opens, and its passes, as many as the blank has parts (1 to 256). The
+    /// edge's adverts are the journal.
+    ///
+    /// # Errors
+    ///
+    /// Where memory is refused.
+    pub fn open(
+        alloc: Global,
+        blank: Blank,
+        config: EdgeConfig,
+        passes: usize,
+    ) -> Result<(Book<L>, Vec<Pass<L>>), AllocError>
+        requires name { blank.name ≡ L.name }
+        requires parts { blank.parts ≡ L.parts }
+        requires each { blank.parts ≡ passes }
+        requires some { (0 < passes) × (passes ≤ 256) }
+        requires config { IsConfig config }
+        ensures book { IfOk result (λ r. IsOpened config passes r.0) }
+        ensures passes { IfOk result (λ r. r.1.items ≡ opened_passes passes) }
+        ensures len { IfOk result (λ r. vec_len r.1 ≡ passes) }
+    {
+        let edge = Edge::open(alloc, config)?;
+        let journal = first_journal(alloc, &edge)?;
+        let kept = unused(alloc, passes)?;
+        let (sum, share) = blank.open::<L>();
+        let made = new_passes(alloc, share, passes)?;
+        let book = Book {
+            edge,
+            journal,
+            kept,
+            sum,
+        };
+        Ok((book, made))
+    }
+
+    /// A law, which does nothing: a table that takes the journal's updates has the edge's registers and
+    /// its report.
+    pub fn always_replays(&self)
+        ensures replays { Replays self.now }
+        ensures good { IsGoodEdge self.now.edge }
+    {
+        self.edge.always_good();
+        let _listed = self.edge.table().originators();
+        let _ = &self.journal;
+    }
+
+    /// The book's edge.
+    pub fn edge(&self) -> &Edge
+        ensures { result.now ≡ self.now.edge }
+    {
+        &self.edge
+    }
+
+    // Whether what is kept of the pass is what the pass has.
+    fn fits(&self, pass: &Pass<L>) -> bool
+        ensures { result ≡ fits self.now pass.now }
+    {
+        match self.kept.get(pass.number) {
+            Some(kept) => kept.count == pass.count && same_mark(&kept.mark, &pass.mark),
+            None => false,
+        }
+    }
+
+    // Counts a call, enters it, and keeps its mark.
+    fn enter_counted(&mut self, pass: &mut Pass<L>, event: &Event<'_>) -> Result<Reply, BookRefusal>
+        requires fits { fits self.old pass.old ≡ true }
+        requires unspent { is_spent pass.old ≡ false }
+        ensures { Enters self.old pass.old event.now result self.new pass.new }
+    {
+        self.sum.add(&mut pass.share, 1);
+        pass.count += 1;
+        let result = step(&mut self.edge, &mut self.journal, event);
+        pass.mark = mark_after(pass.mark, event, &result);
+        self.kept[pass.number] = Kept {
+            count: pass.count,
+            mark: pass.mark,
+        };
+        result
+    }
+
+    /// Enters an event: one call more for the pass, and one step of the edge. The journal grows by the
+    /// update that the event took and by the own updates that it made.
+    ///
+    /// # Errors
+    ///
+    /// `PassStrange` exactly where the pass isn't what the book keeps of it, else `PassSpent` exactly at
+    /// 2^55 calls: nothing changed then. `NoRoom` where the journal's room is refused, and `Edge` as the
+    /// edge refuses: then the call is counted, and nothing else changed.
+    pub fn enter(&mut self, pass: &mut Pass<L>, event: &Event<'_>) -> Result<Reply, BookRefusal>
+        ensures calls { CallsBook self.old pass.old event.now result self.new pass.new }
+        ensures number { pass.new.number ≡ pass.old.number }
+        ensures count { pass.new.count ≡ pass.old.count + calls_counted result }
+    {
+        if !self.fits(pass) {
+            return Err(BookRefusal::PassStrange);
+        }
+        if pass.count >= SPENT {
+            return Err(BookRefusal::PassSpent);
+        }
+        self.enter_counted(pass, event)
+    }
+
+    /// The owner of a MAC address in a network, as the table says now: it has what the pass took or
+    /// announced last, or something newer.
+    ///
+    /// # Errors
+    ///
+    /// `PassStrange` exactly where the pass isn't what the book keeps of it.
+    pub fn look_owner(
+        &self,
+        pass: &Pass<L>,
+        vni: Vni,
+        mac: Mac,
+    ) -> Result<Option<Addr>, BookRefusal>
+        ensures strange { fits self.now pass.now ≡ false → result ≡ Err BookRefusal.PassStrange }
+        ensures found { fits self.now pass.now ≡ true → result ≡ Ok (owner (table_of self.now.edge) vni mac) }
+        ensures mark { fits self.now pass.now ≡ true → HoldsAt (table_of self.now.edge) pass.now.mark }
+    {
+        if !self.fits(pass) {
+            return Err(BookRefusal::PassStrange);
+        }
+        let _journal = &self.journal;
+        Ok(self.edge.table().owner(vni, mac))
+    }
+
+    /// Leaves one update of each register in the journal, the newest, in the order of a report. It takes
+    /// no memory, and as many steps as the table has registers.
+    pub fn compact(&mut self)
+        ensures edge { self.new.edge ≡ self.old.edge }
+        ensures kept { self.new.kept ≡ self.old.kept }
+        ensures journal { self.new.journal ≡ all_updates (table_of self.old.edge) }
+        ensures compacts { Compacts self.old.journal self.new.journal }
+    {
+        compact(&mut self.journal, self.edge.table());
+    }
+
+    /// Writes the journal's updates in their order, each as its record. It takes no memory.
+    ///
+    /// # Errors
+    ///
+    /// `Device` exactly where a call of the writer failed; then no further call is made.
+    pub fn write_journal<W: Out>(&self, out: &mut W) -> Result<(), Device>
+        requires { IsOpen (W.end out.old) }
+        ensures puts { Puts (W.end out.old) (W.end out.new) (records_of self.now.journal) result }
+        ensures again { OnOk result (Answers (records_of self.now.journal) (all_ok self.now.journal) []) }
+    {
+        put_records(self.journal.as_slice(), out)
+    }
+
+    /// Ends the book, with all its passes: its edge, and how many calls of each pass were counted.
+    pub fn close(self, passes: Vec<Pass<L>>) -> (Edge, Totals)
+        requires all { vec_len passes ≡ L.parts }
+        requires some { 0 < vec_len passes }
+        ensures edge { result.0 ≡ self.edge }
+        ensures counts { result.1 ≡ counts_of self.kept }
+        ensures sum { sum_of result.1 ≡ calls_of passes.items }
+    {
+        let Book {
+            edge,
+            journal: _,
+            kept,
+            sum: mut book,
+        } = self;
+        let mut all = merged(passes);
+        book.audit(&mut all);
+        (edge, Totals { kept })
+    }
+}
+
+// The mark of a pass after a call.
+fn mark_after(
+    mark: Option<Mark>,
+    event: &Event<'_>,
+    answer: &Result<Reply, BookRefusal>,
+) -> Option<Mark>
+    ensures { result ≡ mark_then mark (touched_by event.now answer.now) }
+{
+    match answer {
+        Ok(reply) => match touched(event, reply) {
+            Some(update) => Some(mark_of(&update)),
+            None => mark,
+        },
+        Err(_) => mark,
+    }
+}
