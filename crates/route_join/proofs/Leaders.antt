@@ -321,7 +321,3 @@ module _ (us : List Fields) (u : Fields) (none : find register_cmp u.register (e
 pub on_ok : {X E : Type 0} (r : Result X E) (P : Type 0) → OnOk r P → is_err r ≡ false → P
 on_ok (Ok x) P p e = p
 on_ok (Err x) P p e = cc
-
--- a winner that is not at the place
-pub not_at : (w : Option ℕ) (at : ℕ) (b : Bool) → b ≡ option_eq eqb w (Some at) → b ≡ false → w ≢ Some at
-not_at w at b t f h = let e : eqb at at ≡ false = ap (λ x. option_eq eqb x (Some at)) (sym h) ∙ sym t ∙ f in absurd (grind (arith, nat_tests))

@@ -1,10 +1,9 @@
 -- The octets of a report: a line for each register, and one for the owner of each station.
-use Rattle.std.specs.Prelude.{ℕ, ◌/◌, ◌%◌, ◌^◌, Bool, false, ◌==◌, if◌then◌else◌, List, [], ◌∷◌, ◌++◌, codes, decimal, Option, Some, None}
+use Rattle.std.specs.Prelude.{ℕ, Bool, false, ◌==◌, if◌then◌else◌, List, [], ◌∷◌, ◌++◌, codes, decimal, Option, Some, None}
 use Rattle.std.specs.Option.{option_map}
 use Rattle.std.specs.FinMap.{entries}
-use Rattle.ether_wire.specs.Names.{hex_group, mac_text, addr_text}
+use Rattle.ether_wire.specs.Names.{mac_text, addr_text}
 use Rattle.route_wire.specs.declared.update.Ip.{Ip}
-use Rattle.route_wire.specs.declared.update.Ip.TheVariants.{V4, V6}
 use Rattle.route_wire.specs.declared.update.Key.{Key}
 use Rattle.route_wire.specs.declared.update.Key.TheVariants.{Flood, Mac}
 use Rattle.route_wire.specs.declared.update.Register.{Register}
@@ -13,6 +12,7 @@ use Rattle.route_wire.specs.declared.update.Content.{Content}
 use Rattle.route_wire.specs.declared.update.Content.TheVariants.{Withdrawn, Advert as Advertised}
 use Rattle.route_wire.specs.declared.update.Value.{Value}
 use Rattle.route_wire.specs.Order.{label2_of}
+use Rattle.route_wire.specs.Text.{ip_words}
 use Rattle.route_join.specs.Table.{Table}
 use Rattle.route_join.specs.Owner.{is_about, owner, best_among}
 
@@ -20,20 +20,7 @@ use Rattle.route_join.specs.Owner.{is_about, owner, best_among}
 
 -- a word, with a space before it
 abbrev pub spaced : List ℕ → List ℕ
-spaced word = 32 ∷ word
-
--- four groups of four lower case hexadecimal digits with colons
-unfoldable pub groups_text : ℕ → List ℕ
-groups_text n =
-    hex_group (n / 2 ^ 48 % 2 ^ 16) ++ 58 ∷ hex_group (n / 2 ^ 32 % 2 ^ 16) ++ 58 ∷ hex_group (n / 2 ^ 16 % 2 ^ 16) ++ 58 ∷ hex_group (n % 2 ^ 16)
-
--- eight groups, never shortened
-abbrev pub addr6_text : ℕ → List ℕ
-addr6_text address = groups_text (address / 2 ^ 64) ++ 58 ∷ groups_text (address % 2 ^ 64)
-
-abbrev pub ip_text : Ip → List ℕ
-ip_text (V4 address) = addr_text address
-ip_text (V6 address) = addr6_text address
+spaced word = codes " " ++ word
 
 -- the counter, behind the incarnation and a dot where that isn't 0
 abbrev pub counter_text : Value → List ℕ
@@ -46,11 +33,6 @@ flood_state (Advertised a) = codes "up"
 abbrev pub mac_state : Content → List ℕ
 mac_state Withdrawn = codes "withdrawn"
 mac_state (Advertised a) = (if a.is_static then codes "static " else codes "dynamic ") ++ decimal a.sequence
-
--- the IP address of a key that has one
-abbrev pub ip_words : Option Ip → List ℕ
-ip_words None = []
-ip_words (Some ip) = codes " ip " ++ ip_text ip
 
 -- the second label of an advert that has one
 abbrev pub label2_words : Option ℕ → List ℕ

@@ -2,9 +2,10 @@
 ghost use Rattle.std.specs.Prelude.{◌≡◌, ◌++◌, codes, decimal};
 ghost use Rattle.ether_wire.specs.Ends.{IsOpen, Puts};
 ghost use Rattle.route_wire.specs.Order.{label2_of};
+ghost use Rattle.route_wire.specs.Text.{groups_text, addr6_text, ip_text, ip_words};
 ghost use Rattle.route_join.specs.Table.{entries_of};
 ghost use Rattle.route_join.specs.Lines.{register_lines};
-ghost use Rattle.route_join.specs.Report.{spaced, groups_text, addr6_text, ip_text, counter_text, flood_state, mac_state, ip_words, label2_words, station_text, origin_text, mac_words, flood_line, mac_line, register_line, owner_name, owner_line};
+ghost use Rattle.route_join.specs.Report.{spaced, counter_text, flood_state, mac_state, label2_words, station_text, origin_text, mac_words, flood_line, mac_line, register_line, owner_name, owner_line};
 
 use ether_wire::{
     Addr, Device, Mac, Out, Page, Vni, put_addr, put_decimal, put_hex_group, put_mac,
@@ -15,7 +16,7 @@ use route_wire::{Addr6, Advert, Content, Ip, Key, Register, Update, Value};
 const LINE: usize = 256;
 
 /// Writes four groups of four hexadecimal digits with colons.
-#[tactic(auto, using(ether_wire::proofs::Appending::with_text_twice), unfolding(crate::specs::Report::groups_text))]
+#[tactic(auto, using(ether_wire::proofs::Appending::with_text_twice), unfolding(route_wire::specs::Text::groups_text))]
 fn put_groups<O: Out>(out: &mut O, number: u64) -> Result<(), Device>
     requires { IsOpen (O.end out.old) }
     ensures { Puts (O.end out.old) (O.end out.new) (groups_text number) result }

@@ -21,7 +21,7 @@ use crate::subject::{Subject, subject_of};
 use crate::updates::{Updates, UpdatesOf};
 use arrayvec::ArrayVec;
 use ether_wire::{Addr, Device, Mac, Out, Vni};
-use route_wire::{Key, Register, Update};
+use route_wire::{Key, NO_MEMORY, Register, UNKNOWN_ORIGINATOR, Update};
 use std::alloc::Global;
 use std::collections::BTreeMap;
 use std::marker::Model;
@@ -52,7 +52,7 @@ pub struct Unmerged {
 }
 
 impl Unmerged {
-    /// The refusal's number, as notes give it: 15.
+    /// The refusal's number, as notes give it: that of refused memory.
     pub fn number(self) -> u8
         ensures { result ≡ number_of TakeError.NoMemory }
     {
@@ -61,13 +61,13 @@ impl Unmerged {
 }
 
 impl TakeError {
-    /// The refusal's number, as notes give it: 12 or 15.
+    /// The refusal's number, as notes give it.
     pub fn number(self) -> u8
         ensures { result ≡ number_of self }
     {
         match self {
-            TakeError::UnknownOriginator => 12,
-            TakeError::NoMemory => 15,
+            TakeError::UnknownOriginator => UNKNOWN_ORIGINATOR,
+            TakeError::NoMemory => NO_MEMORY,
         }
     }
 }
