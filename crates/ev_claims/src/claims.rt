@@ -21,6 +21,10 @@ use route_wire::{Advert, Content, Ip, Key, Update};
 use std::alloc::{AllocError, Global};
 use std::marker::Model;
 
+/// So many of the latest own updates are found at once by their numbers, beside one for each station
+/// that may be learnt: an event says no more.
+const LATEST: usize = 64;
+
 /// What an edge says and what it has learnt on its ports.
 ///
 /// It advertises exactly the stations that it has learnt, as static exactly those that are pinned, and
@@ -70,7 +74,13 @@ impl Claims {
     {
         let mut vnis = start.vnis;
         vnis.as_mut_slice().sort_unstable();
-        let mut voice = Voice::new(alloc, start.address, start.incarnation, start.originators)?;
+        let mut voice = Voice::new(
+            alloc,
+            start.address,
+            start.incarnation,
+            start.originators,
+            start.capacity + LATEST,
+        )?;
         voice.open(vnis.as_slice())?;
         let ports = start.ports.len() as u8;
         let learned = MacTable::new(alloc, start.capacity, ports, start.buckets, start.salt)?;

@@ -10,13 +10,15 @@ use std::collections::BTreeMap;
 use std::marker::Model;
 
 /// The registers that an edge says something of, each with a node of one linked list: those that are still to be
-/// announced stand on it.
+/// announced stand on it. Beside it a ring tells at once which register was marked under a number of
+/// late: it is a guess, since later numbers take its places.
 #[derive(Drop)]
 pub struct Pending {
     links: Family<1>,
     registers: Vec<Named>,
     nodes: BTreeMap<Named, usize>,
     room: usize,
+    marks: Vec<usize>,
 }
 
 impl Model for Pending {
@@ -33,16 +35,18 @@ impl Model for Pending {
 }
 
 impl Pending {
-    /// Nothing is known, and nothing waits.
-    pub fn new(alloc: Global) -> Result<Self, AllocError>
+    /// Nothing is known, and nothing waits. The ring has this many places.
+    pub fn new(alloc: Global, places: usize) -> Result<Self, AllocError>
         ensures { IfOk result (λ p. p ≡ record { known = []; waiting = [] }) }
     {
         let links = Family::new(alloc, [1], 0)?;
+        let marks = vec![in alloc; 0usize; places]?;
         Ok(Pending {
             links,
             registers: Vec::new(alloc),
             nodes: BTreeMap::new(alloc),
             room: 0,
+            marks,
         })
     }
 
@@ -67,8 +71,9 @@ impl Pending {
         Ok(())
     }
 
-    /// Puts a register that has a node at the end of those that wait, unless it waits already.
-    pub fn mark(&mut self, register: Register)
+    /// Puts a register that has a node at the end of those that wait, unless it waits already. It was
+    /// said under this number.
+    pub fn mark(&mut self, register: Register, number: u64)
         requires { Contains self.old.known register }
         ensures { self.new ≡ record self.old { waiting = marked self.old.waiting register } }
     {
@@ -76,6 +81,7 @@ impl Pending {
             return
         };
         let node = *node;
+        note(&mut self.marks, number, node);
         if self.links.list_of(0, node).is_none() {
             self.links.push_back(0, 0, node);
         }
@@ -94,6 +100,16 @@ impl Pending {
     {
         let named = self.registers.get(node)?;
         Some(named.register())
+    }
+
+    /// The register that was marked under this number, or another one: whoever asks looks it up.
+    pub fn guess(&self, number: u64) -> Option<Register> {
+        let marks = self.marks.as_slice();
+        if marks.len() == 0 {
+            return None;
+        }
+        let place = (number % marks.len() as u64) as usize;
+        self.register(marks[place])
     }
 
     /// The register that waits longest.
@@ -141,4 +157,14 @@ fn spare_node(links: &mut Family<1>, room: &mut usize, used: usize) -> Result<()
     links.grow(1)?;
     *room += 1;
     Ok(())
+}
+
+// A node was marked under a number.
+fn note(marks: &mut Vec<usize>, number: u64, node: usize) {
+    let marks = marks.as_mut_slice();
+    if marks.len() == 0 {
+        return;
+    }
+    let place = (number % marks.len() as u64) as usize;
+    marks[place] = node;
 }

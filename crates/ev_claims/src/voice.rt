@@ -50,18 +50,20 @@ impl Model for Voice {
 }
 
 impl Voice {
-    /// Nothing is said yet.
+    /// Nothing is said yet. As many of the latest own updates as there are places are found at once by
+    /// their numbers.
     pub fn new(
         alloc: Global,
         address: Addr,
         incarnation: u32,
         originators: ArrayVec<Addr, 64>,
+        places: usize,
     ) -> Result<Self, AllocError>
         requires originators { AreOriginators originators.items }
         requires listed { Contains originators.items address }
         ensures { IfOk result (λ v. v ≡ silent address incarnation originators.items) }
     {
-        let pending = Pending::new(alloc)?;
+        let pending = Pending::new(alloc, places)?;
         Ok(Voice {
             address,
             incarnation,
@@ -117,11 +119,28 @@ impl Voice {
         &self.table
     }
 
-    /// The own update of this life with this number, if it is still its register's value.
+    // The own update of the register that is guessed to have this number, if it has.
+    fn guess(&self, counter: u64) -> Option<Update>
+        ensures { IfSome result (IsOwnAt self.now counter) }
+    {
+        let register = self.pending.guess(counter)?;
+        let update = self.table.register(self.address, register.key)?;
+        let value = update.value();
+        if value.incarnation != self.incarnation || value.counter != counter {
+            return None;
+        }
+        Some(update)
+    }
+
+    /// The own update of this life with this number, if it is still its register's value. One of the
+    /// latest is found at once, any other by a walk over all own registers.
     pub fn own_at(&self, counter: u64) -> Option<Update>
         ensures some { IfSome result (IsOwnAt self.now counter) }
         ensures none { IfNone result (IsNoOwnAt self.now counter) }
     {
+        if let Some(update) = self.guess(counter) {
+            return Some(update);
+        }
         for place in 0..self.pending.len() {
             let Some(register) = self.pending.register(place) else {
                 return None
@@ -172,7 +191,7 @@ impl Voice {
             return Err(AllocError);
         }
         self.counter += 1;
-        self.pending.mark(update.register());
+        self.pending.mark(update.register(), self.counter);
         Ok(())
     }
 
@@ -194,7 +213,7 @@ impl Voice {
         };
         let update = Update::new(last.register(), value);
         let _taken = self.table.take(&update);
-        self.pending.mark(last.register());
+        self.pending.mark(last.register(), self.counter);
     }
 
     /// Takes another edge's update.

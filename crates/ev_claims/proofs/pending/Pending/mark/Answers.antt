@@ -28,4 +28,4 @@ returns-else-is_none c =
     let at = ap (node_of f.nodes.entries) (sym c.new.ensures) ∙ sym c.in-Some.ensures.value in
     let on = on_queue f.links node c.list_of.result c.self.invariant.list (c.is_none.ensures ∙ ap not c.if-is_none.false) c.list_of.ensures.on c.list_of.ensures.within in
     let waiting = unmarked_waiting (map (register_at rs) (queue f.links)) c.args.register (waits f.links rs f.nodes.entries f.room c.args.register node c.self.invariant at ∙ on) in
-    sym c.self.view_is ∙ (λ i. let p : Pending = record { known = rs; waiting = waiting i } in p) ∙ ap (λ (p : Pending). let q : Pending = record { known = p.known; waiting = marked p.waiting c.args.register } in q) c.self.view_is
+    (λ i. let p : Pending = record { known = rs; waiting = waiting i } in p) ∙ ap (λ (p : Pending). let q : Pending = record { known = p.known; waiting = marked p.waiting c.args.register } in q) c.self.view_is
