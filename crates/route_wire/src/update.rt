@@ -164,7 +164,7 @@ impl Key {
     ghost use Rattle.route_wire.specs.Order.{vni_of, place_of, ip_of, ip_version, ip_number};
 
     /// The network that the key is in.
-    pub fn vni(&self) -> Vni
+    pub(crate) fn vni(&self) -> Vni
         ensures { result ≡ vni_of self.now }
     {
         match self {
