@@ -14,6 +14,8 @@ mod refusal;
 mod reply;
 mod sending;
 mod taking;
+#[cfg(test)]
+mod tests;
 mod words;
 
 pub use arrival::Arrival;

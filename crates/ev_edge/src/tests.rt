@@ -1,0 +1,278 @@
+//! What the definitions don't show by themselves: worked events, and refused memory.
+ghost use Rattle.std.specs.Prelude.{◌≡◌, ◌<◌, ◌≤◌, ◌^◌, ◌∷◌, []};
+ghost use Rattle.ev_edge.specs.Config.{IsConfig, vnis_of};
+
+use crate::{Edge, EdgeConfig, Event, PortConfig, Refusal, Reply};
+use arrayvec::ArrayVec;
+use bpdu_wire::BridgeId;
+use ether_wire::{Addr, Mac, Vni};
+use mac_arena::Station;
+use route_wire::{Advert, Content, Key, Register, Update, Value};
+use rstp_state::start::{PortSettings, Settings};
+use std::alloc::{AllocError, Global};
+
+mod frames;
+mod learning;
+mod memory;
+mod pins;
+mod updates;
+
+/// The station 02:00:00:00:00:0a.
+const HOST: u64 = 0x0200_0000_000a;
+
+/// The station 02:00:00:00:00:0b.
+const OTHER: u64 = 0x0200_0000_000b;
+
+const BROADCAST: u64 = 0xffff_ffff_ffff;
+
+/// A group address, which is learnt nowhere.
+const NOBODY: u64 = 0x0300_0000_0001;
+
+// The address 10.0.0.N.
+fn addr(n: u8) -> Addr {
+    Addr::new(0x0a00_0000 + u32::from(n))
+}
+
+// The station of network 5001 with this address.
+fn station(mac: u64) -> Station
+    requires { mac < 2 ^ 48 }
+{
+    Station {
+        vni: Vni::new(5001),
+        mac: Mac::new(mac),
+    }
+}
+
+// The station of network 5002 with this address.
+fn elsewhere(mac: u64) -> Station
+    requires { mac < 2 ^ 48 }
+{
+    Station {
+        vni: Vni::new(5002),
+        mac: Mac::new(mac),
+    }
+}
+
+// Edges listen to 10.0.0.1 to 10.0.0.4.
+fn originators() -> ArrayVec<Addr, 64>
+    ensures { result.items ≡ 167772161 ∷ 167772162 ∷ 167772163 ∷ 167772164 ∷ [] }
+{
+    let mut originators = ArrayVec::new();
+    originators.push(Addr::new(0x0a00_0001));
+    originators.push(Addr::new(0x0a00_0002));
+    originators.push(Addr::new(0x0a00_0003));
+    originators.push(Addr::new(0x0a00_0004));
+    originators
+}
+
+// A port of this network. Where it is said to lead to no bridge, it passes as soon as it is up.
+fn port_of(vni: Vni, admin_edge: bool) -> PortConfig
+    ensures { result.vni ≡ vni }
+{
+    PortConfig {
+        vni,
+        settings: PortSettings {
+            priority: 128,
+            cost: 20_000,
+            admin_edge,
+            auto_edge: true,
+            point_to_point: true,
+        },
+    }
+}
+
+// Three ports of network 5001 that lead to no bridge.
+fn three_ports() -> ArrayVec<PortConfig, 64>
+    ensures { vnis_of result.items ≡ 5001 ∷ 5001 ∷ 5001 ∷ [] }
+{
+    let mut ports = ArrayVec::new();
+    ports.push(port_of(Vni::new(5001), true));
+    ports.push(port_of(Vni::new(5001), true));
+    ports.push(port_of(Vni::new(5001), true));
+    ports
+}
+
+fn one_network() -> ArrayVec<Vni, 64>
+    ensures { result.items ≡ 5001 ∷ [] }
+{
+    let mut vnis = ArrayVec::new();
+    vnis.push(Vni::new(5001));
+    vnis
+}
+
+// A bridge of the usual priority and times.
+fn tree() -> Settings
+    ensures { result.hello ≡ 2 }
+{
+    Settings {
+        identifier: BridgeId::new(0x8000_02aa_0000_0002),
+        hello: 2,
+        max_age: 20,
+        forward_delay: 15,
+        hold: 6,
+    }
+}
+
+// The edge 10.0.0.2 with three ports of network 5001, in this life.
+fn config(incarnation: u32, capacity: usize, ageing: u64) -> EdgeConfig
+    requires some { 1 ≤ capacity }
+    requires few { capacity ≤ 65536 }
+    ensures { IsConfig result }
+{
+    EdgeConfig {
+        address: Addr::new(0x0a00_0002),
+        incarnation,
+        originators: originators(),
+        vnis: one_network(),
+        tree: tree(),
+        ageing,
+        capacity,
+        buckets: capacity,
+        salt: 0,
+        ports: three_ports(),
+    }
+}
+
+// The edge's first or later life, with room for so many stations, which it forgets after so many
+// seconds. Its ports 1 and 2 are up.
+fn open(alloc: Global, incarnation: u32, capacity: usize, ageing: u64) -> Result<Edge, AllocError>
+    requires some { 1 ≤ capacity }
+    requires few { capacity ≤ 65536 }
+{
+    let mut edge = Edge::open(alloc, config(incarnation, capacity, ageing))?;
+    let _ = step(&mut edge, &Event::PortUp(1));
+    let _ = step(&mut edge, &Event::PortUp(2));
+    Ok(edge)
+}
+
+// Such an edge with room for eight stations, by the first try that isn't refused memory.
+fn made(alloc: Global, incarnation: u32) -> Option<Edge> {
+    for _ in 0..60 {
+        if let Ok(edge) = open(alloc, incarnation, 8, 300) {
+            return Some(edge);
+        }
+    }
+    None
+}
+
+// An event of which no more is known than that it happens.
+fn step(edge: &mut Edge, event: &Event<'_>) -> Result<Reply, Refusal> {
+    edge.step(event)
+}
+
+// A frame of type 0x0800 and no payload.
+fn frame(destination: u64, source: u64) -> [u8; 14] {
+    let to = destination.to_be_bytes();
+    let by = source.to_be_bytes();
+    [
+        to[2], to[3], to[4], to[5], to[6], to[7], by[2], by[3], by[4], by[5], by[6], by[7], 8, 0,
+    ]
+}
+
+fn advert(is_static: bool, sequence: u32) -> Content {
+    Content::Advert(Advert {
+        is_static,
+        sequence,
+        label2: None,
+    })
+}
+
+// 10.0.0.N says this of the host 02:00:00:00:00:0a.
+fn said(n: u8, incarnation: u32, counter: u64, content: Content) -> Update
+    requires { 0 < counter }
+{
+    let register = Register {
+        originator: addr(n),
+        key: Key::Mac(Vni::new(5001), Mac::new(0x0200_0000_000a), None),
+    };
+    let value = Value {
+        incarnation,
+        counter,
+        content,
+    };
+    Update::new(register, value)
+}
+
+// 10.0.0.N advertises the flood list.
+fn flood(n: u8) -> Update {
+    let register = Register {
+        originator: addr(n),
+        key: Key::Flood(Vni::new(5001)),
+    };
+    let value = Value {
+        incarnation: 0,
+        counter: 1,
+        content: Content::Advert(Advert {
+            is_static: false,
+            sequence: 0,
+            label2: None,
+        }),
+    };
+    Update::new(register, value)
+}
+
+// The number of the alert, 0 for none, and 100 for a refusal.
+fn alert_of(outcome: Result<Reply, Refusal>) -> u8 {
+    match outcome {
+        Ok(reply) => match reply.alert {
+            Some(alert) => alert.number(),
+            None => 0,
+        },
+        Err(_) => 100,
+    }
+}
+
+// The refusal, if it is one.
+fn refusal_of(outcome: Result<Reply, Refusal>) -> Option<Refusal> {
+    match outcome {
+        Ok(_) => None,
+        Err(refusal) => Some(refusal),
+    }
+}
+
+// A broadcast frame of this station comes at the port: what the operator is told.
+fn hear(edge: &mut Edge, port: u8, source: u64) -> u8 {
+    alert_of(step(edge, &Event::Frame(port, &frame(BROADCAST, source))))
+}
+
+// Where a frame goes: its local ports, and how many edges.
+fn sent(outcome: Result<Reply, Refusal>) -> Option<(u64, usize)> {
+    match outcome {
+        Ok(reply) => match reply.decision {
+            Some(decision) => Some((decision.local, decision.remote.len())),
+            None => None,
+        },
+        Err(_) => None,
+    }
+}
+
+// Where a frame goes that comes at the port and from which nothing is learnt.
+fn route(edge: &mut Edge, port: u8, destination: u64) -> Option<(u64, usize)> {
+    sent(step(edge, &Event::Frame(port, &frame(destination, NOBODY))))
+}
+
+// What the table makes of an update, and the number of the alert.
+fn take(edge: &mut Edge, update: Update) -> Result<Option<route_join::Taken>, Refusal> {
+    match step(edge, &Event::Take(update)) {
+        Ok(reply) => Ok(reply.taken),
+        Err(refusal) => Err(refusal),
+    }
+}
+
+// So many seconds pass.
+fn seconds(edge: &mut Edge, count: u64) {
+    for _ in 0..count {
+        let _ = step(edge, &Event::Second);
+    }
+}
+
+// What the edge itself says of a station: its number and content.
+fn says(edge: &Edge, mac: u64) -> Option<(u64, Content)>
+    requires { mac < 2 ^ 48 }
+{
+    let key = Key::Mac(Vni::new(5001), Mac::new(mac), None);
+    match edge.table().register(Addr::new(0x0a00_0002), key) {
+        None => None,
+        Some(update) => Some((update.value().counter, update.value().content)),
+    }
+}
