@@ -42,7 +42,7 @@ class Examples(unittest.TestCase):
     """Each example."""
 
     def test_there_are_examples(self):
-        self.assertGreaterEqual(len(NAMES), 6)
+        self.assertGreaterEqual(len(NAMES), 7)
 
     def test_lines_and_back(self):
         for name in NAMES:
@@ -66,6 +66,17 @@ class Examples(unittest.TestCase):
                 with self.subTest(name=name, order=order):
                     records = make(b"".join(order + order[:2]))
                     self.assertEqual(through([PROGRAM, "report", "--originators", ORIGINATORS], records), text_of(name + ".report"))
+
+    @needs_program
+    def test_old_records_are_migrated(self):
+        old = text_of("old_address.records")
+        migrated = through([PROGRAM, "migrate", "--originators", ORIGINATORS], old)
+        self.assertEqual(len(migrated), 124)
+        self.assertEqual(through([os.path.join(EXAMPLES, "show_records")], migrated), b"".join(lines_of("old_address")))
+        # the replaced address doesn't come back with the old record that said it, whose length is 60 octets
+        for records in (migrated, migrated + old[:60], old[:60] + migrated):
+            report = through([PROGRAM, "report", "--originators", ORIGINATORS], records)
+            self.assertEqual(report, text_of("old_address.report"))
 
 
 if __name__ == "__main__":
