@@ -6,6 +6,8 @@ mod laws;
 mod refusal;
 mod rest;
 mod step;
+#[cfg(test)]
+mod tests;
 
 pub use fabric::Fabric;
 pub use laws::{

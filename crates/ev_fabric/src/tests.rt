@@ -1,0 +1,304 @@
+//! Worked runs of two edges. Their octets and reports are those of the rules, not of this program.
+ghost use Rattle.std.specs.Prelude.{◌≡◌, [], ◌∷◌, IfOk, Contains};
+ghost use Rattle.ev_edge.specs.Config.{IsConfig, vnis_of};
+ghost use Rattle.ev_fabric.specs.Opening.{AreConfigs};
+
+use crate::{Fabric, LocalEvent, Refusal, Step};
+use arrayvec::ArrayVec;
+use bpdu_wire::BridgeId;
+use ether_wire::{Addr, Out, Page, Vni};
+use ev_edge::{EdgeConfig, PortConfig, Reply};
+use route_join::Taken;
+use rstp_state::start::{PortSettings, Settings};
+use std::alloc::{AllocError, Global};
+use std::test::Fail;
+
+mod memory;
+
+// Edges listen to 10.0.0.1 and 10.0.0.2.
+fn originators() -> ArrayVec<Addr, 64>
+    ensures { result.items ≡ 0x0a00_0001 ∷ 0x0a00_0002 ∷ [] }
+{
+    let mut originators = ArrayVec::new();
+    originators.push(Addr::new(0x0a00_0001));
+    originators.push(Addr::new(0x0a00_0002));
+    originators
+}
+
+fn one_network() -> ArrayVec<Vni, 64>
+    ensures { result.items ≡ 5001 ∷ [] }
+{
+    let mut vnis = ArrayVec::new();
+    vnis.push(Vni::new(5001));
+    vnis
+}
+
+// A port of this network that leads to no bridge.
+fn port_of(vni: Vni) -> PortConfig
+    ensures { result.vni ≡ vni }
+{
+    PortConfig {
+        vni,
+        settings: PortSettings {
+            priority: 128,
+            cost: 20_000,
+            admin_edge: true,
+            auto_edge: true,
+            point_to_point: true,
+        },
+    }
+}
+
+fn one_port() -> ArrayVec<PortConfig, 64>
+    ensures { vnis_of result.items ≡ 5001 ∷ [] }
+{
+    let mut ports = ArrayVec::new();
+    ports.push(port_of(Vni::new(5001)));
+    ports
+}
+
+// A bridge of the usual times.
+fn tree(identifier: BridgeId) -> Settings
+    ensures { result.hello ≡ 2 }
+{
+    Settings {
+        identifier,
+        hello: 2,
+        max_age: 20,
+        forward_delay: 15,
+        hold: 6,
+    }
+}
+
+// One of the edges 10.0.0.1 and 10.0.0.2, with one port of network 5001.
+fn config(address: Addr, identifier: BridgeId) -> EdgeConfig
+    requires { Contains (0x0a00_0001 ∷ 0x0a00_0002 ∷ []) address }
+    ensures address { result.address ≡ address }
+    ensures originators { result.originators.items ≡ 0x0a00_0001 ∷ 0x0a00_0002 ∷ [] }
+    ensures fits { IsConfig result }
+{
+    EdgeConfig {
+        address,
+        incarnation: 0,
+        originators: originators(),
+        vnis: one_network(),
+        tree: tree(identifier),
+        ageing: 300,
+        capacity: 16,
+        buckets: 16,
+        salt: 0,
+        ports: one_port(),
+    }
+}
+
+fn first() -> EdgeConfig
+    ensures address { result.address ≡ 0x0a00_0001 }
+    ensures originators { result.originators.items ≡ 0x0a00_0001 ∷ 0x0a00_0002 ∷ [] }
+    ensures fits { IsConfig result }
+{
+    config(Addr::new(0x0a00_0001), BridgeId::new(0x8000_02aa_0000_0001))
+}
+
+fn second() -> EdgeConfig
+    ensures address { result.address ≡ 0x0a00_0002 }
+    ensures originators { result.originators.items ≡ 0x0a00_0001 ∷ 0x0a00_0002 ∷ [] }
+    ensures fits { IsConfig result }
+{
+    config(Addr::new(0x0a00_0002), BridgeId::new(0x8000_02aa_0000_0002))
+}
+
+fn both(alloc: Global) -> Result<Vec<EdgeConfig>, AllocError>
+    ensures { IfOk result (λ configs. AreConfigs configs.items) }
+{
+    let mut configs = Vec::new(alloc);
+    configs.push(first())?;
+    configs.push(second())?;
+    Ok(configs)
+}
+
+fn two(alloc: Global) -> Result<Fabric, AllocError> {
+    Fabric::new(alloc, both(alloc)?)
+}
+
+// What a test has an edge do.
+#[derive(Clone, Copy)]
+enum Act {
+    /// Port 1 comes up.
+    Up,
+    /// A broadcast frame of 02:00:00:00:00:N comes at port 1.
+    Hear(u8),
+    Announce,
+    /// This update of the pool comes.
+    Take(usize),
+    /// It is opened anew in this life.
+    Restart(u32),
+}
+
+// A frame of type 0x0800 and no payload.
+fn broadcast(n: u8) -> [u8; 14] {
+    [
+        0xff, 0xff, 0xff, 0xff, 0xff, 0xff, 0x02, 0x00, 0x00, 0x00, 0x00, n, 0x08, 0x00,
+    ]
+}
+
+// Each step is made here: where a function makes one and names no `LocalEvent`, the borrow checker isn't told
+// of that type.
+fn perform(fabric: &mut Fabric, e: usize, what: Act) -> Result<Reply, Refusal> {
+    match what {
+        Act::Up => fabric.step(&Step::Local(e, LocalEvent::PortUp(1))),
+        Act::Hear(n) => fabric.step(&Step::Local(e, LocalEvent::Frame(1, &broadcast(n)))),
+        Act::Announce => fabric.step(&Step::Announce(e)),
+        Act::Take(k) => fabric.step(&Step::Deliver(e, k)),
+        Act::Restart(n) => fabric.step(&Step::Restart(e, n)),
+    }
+}
+
+// What a table made of it, if an update came, or the refusal's number.
+fn outcome(fabric: &mut Fabric, e: usize, what: Act) -> Result<Option<Taken>, u8> {
+    match perform(fabric, e, what) {
+        Ok(reply) => Ok(reply.taken),
+        Err(refusal) => Err(refusal.number()),
+    }
+}
+
+// Whether update k of the pool is newer than what edge e has.
+fn is_newer(fabric: &mut Fabric, e: usize, k: usize) -> bool {
+    outcome(fabric, e, Act::Take(k)) == Ok(Some(Taken::Newer))
+}
+
+// Whether edge e knows update k of the pool, or a newer one.
+fn is_known(fabric: &mut Fabric, e: usize, k: usize) -> bool {
+    outcome(fabric, e, Act::Take(k)) == Ok(Some(Taken::Known))
+}
+
+// Whether something was announced.
+fn announces(fabric: &mut Fabric, e: usize) -> bool {
+    match perform(fabric, e, Act::Announce) {
+        Ok(reply) => reply.announced.is_some(),
+        Err(_) => false,
+    }
+}
+
+// Both edges are up, learn the same station and announce, and edge 2 hears of edge 1 and announces its withdrawal.
+fn both_learn(fabric: &mut Fabric) -> bool {
+    for e in 1..3usize {
+        let _ = perform(fabric, e, Act::Up);
+        let _ = perform(fabric, e, Act::Hear(0x0a));
+    }
+    let first = announces(fabric, 1) && announces(fabric, 1);
+    let second = announces(fabric, 2) && announces(fabric, 2);
+    let taken = is_newer(fabric, 2, 1) && is_newer(fabric, 2, 2);
+    first && second && taken && announces(fabric, 2) && fabric.pool().len() == 5
+}
+
+// What an edge reports, nothing where there is no such edge.
+fn report_of(fabric: &Fabric, e: usize) -> Page<1024> {
+    let mut page = Page::new();
+    if page.failures() == 0 && e != 0 && e <= fabric.edges() {
+        let _ = fabric.edge(e).report(&mut page);
+    }
+    page
+}
+
+fn reports(fabric: &Fabric, e: usize, text: &str) -> bool {
+    report_of(fabric, e).octets() == text.as_bytes()
+}
+
+/// Both report this where edge 1 has the station.
+const AGREED: &str = "flood 5001 10.0.0.1 1 up\nflood 5001 10.0.0.2 1 up\n\
+    mac 5001 02:00:00:00:00:0a 10.0.0.1 2 dynamic 0\n\
+    mac 5001 02:00:00:00:00:0a 10.0.0.2 3 withdrawn\n\
+    owner 5001 02:00:00:00:00:0a 10.0.0.1\n";
+
+/// And this where it has moved to edge 2.
+const MOVED: &str = "flood 5001 10.0.0.1 1 up\nflood 5001 10.0.0.2 1 up\n\
+    mac 5001 02:00:00:00:00:0a 10.0.0.1 3 withdrawn\n\
+    mac 5001 02:00:00:00:00:0a 10.0.0.2 4 dynamic 1\n\
+    owner 5001 02:00:00:00:00:0a 10.0.0.2\n";
+
+/// And this where edge 1 was opened anew, in life 1.
+const ANEW: &str = "flood 5001 10.0.0.1 1.1 up\nflood 5001 10.0.0.2 1 up\n\
+    mac 5001 02:00:00:00:00:0a 10.0.0.1 1.2 withdrawn\n\
+    mac 5001 02:00:00:00:00:0a 10.0.0.2 3 withdrawn\n\
+    owner 5001 02:00:00:00:00:0a none\n";
+
+#[test]
+fn both_edges_learn_the_same_station(rt: HostRuntime) -> Result<(), Fail> {
+    let mut fabric = two(rt.alloc())?;
+    assert!(rt; both_learn(&mut fabric));
+    for k in 3..6usize {
+        assert!(rt; is_newer(&mut fabric, 1, k));
+    }
+    assert!(rt; reports(&fabric, 1, AGREED));
+    assert!(rt; reports(&fabric, 2, AGREED));
+    Ok(())
+}
+
+#[test]
+fn deliveries_in_another_order_and_again(rt: HostRuntime) -> Result<(), Fail> {
+    let mut fabric = two(rt.alloc())?;
+    assert!(rt; both_learn(&mut fabric));
+    assert!(rt; is_newer(&mut fabric, 1, 5));
+    assert!(rt; is_known(&mut fabric, 1, 4));
+    assert!(rt; is_newer(&mut fabric, 1, 3));
+    assert!(rt; reports(&fabric, 1, AGREED));
+    assert!(rt; reports(&fabric, 2, AGREED));
+    assert!(rt; is_known(&mut fabric, 2, 2));
+    assert!(rt; is_known(&mut fabric, 1, 2));
+    assert!(rt; !announces(&mut fabric, 1));
+    Ok(())
+}
+
+#[test]
+fn edges_and_updates_are_numbered_from_one(rt: HostRuntime) -> Result<(), Fail> {
+    let mut fabric = two(rt.alloc())?;
+    assert!(rt; both_learn(&mut fabric));
+    assert_eq!(rt; outcome(&mut fabric, 1, Act::Take(0)), Err(19));
+    assert_eq!(rt; outcome(&mut fabric, 1, Act::Take(6)), Err(19));
+    assert_eq!(rt; outcome(&mut fabric, 0, Act::Take(6)), Err(18));
+    assert_eq!(rt; outcome(&mut fabric, 3, Act::Announce), Err(18));
+    assert_eq!(rt; outcome(&mut fabric, 3, Act::Restart(1)), Err(18));
+    assert_eq!(rt; outcome(&mut fabric, 1, Act::Restart(0)), Err(22));
+    Ok(())
+}
+
+// Where all agree, the station is heard at edge 2: two announcements, and all agree again.
+#[test]
+fn station_moves_by_two_announcements(rt: HostRuntime) -> Result<(), Fail> {
+    let mut fabric = two(rt.alloc())?;
+    assert!(rt; both_learn(&mut fabric));
+    for k in 3..6usize {
+        assert!(rt; is_newer(&mut fabric, 1, k));
+    }
+    assert_eq!(rt; outcome(&mut fabric, 2, Act::Hear(0x0a)), Ok(None));
+    assert!(rt; announces(&mut fabric, 2));
+    assert!(rt; is_newer(&mut fabric, 1, 6));
+    assert!(rt; announces(&mut fabric, 1));
+    assert!(rt; is_newer(&mut fabric, 2, 7));
+    assert!(rt; !announces(&mut fabric, 1) && !announces(&mut fabric, 2));
+    assert!(rt; reports(&fabric, 1, MOVED));
+    assert!(rt; reports(&fabric, 2, MOVED));
+    Ok(())
+}
+
+#[test]
+fn restarted_edge_withdraws_what_comes_back(rt: HostRuntime) -> Result<(), Fail> {
+    let mut fabric = two(rt.alloc())?;
+    assert!(rt; both_learn(&mut fabric));
+    for k in 3..6usize {
+        assert!(rt; is_newer(&mut fabric, 1, k));
+    }
+    assert_eq!(rt; outcome(&mut fabric, 1, Act::Restart(1)), Ok(None));
+    assert!(rt; announces(&mut fabric, 1));
+    assert!(rt; is_known(&mut fabric, 1, 1));
+    assert!(rt; is_newer(&mut fabric, 1, 2));
+    assert!(rt; announces(&mut fabric, 1));
+    for k in 3..6usize {
+        assert!(rt; is_newer(&mut fabric, 1, k));
+    }
+    assert!(rt; is_newer(&mut fabric, 2, 6));
+    assert!(rt; is_newer(&mut fabric, 2, 7));
+    assert!(rt; reports(&fabric, 1, ANEW));
+    assert!(rt; reports(&fabric, 2, ANEW));
+    Ok(())
+}
