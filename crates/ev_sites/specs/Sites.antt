@@ -1,0 +1,168 @@
+-- Sites of a fabric, each a network of bridges that is attached to one edge, and the ways of frames through them.
+use Rattle.std.specs.Prelude.{◌≡◌, ◌≢◌, ◌⊎◌, ℕ, ◌+◌, true, Option, Some, None, Result, List, [], ◌∷◌, Contains, slice_get}
+use Rattle.ether_wire.specs.Ports.{IsPort, has_port}
+use Rattle.ev_tunnel.specs.declared.decision.Decision.{Decision}
+use Rattle.rstp_net.specs.Network.{Spot, Network, IsBridgeAt, IsNetwork, IsAtRest, PassesAt, Crosses, Travels}
+use Rattle.ev_edge.specs.declared.event.Event.{Event}
+use Rattle.ev_edge.specs.declared.event.Event.TheVariants as events
+use Rattle.ev_edge.specs.declared.refusal.Refusal.{Refusal}
+use Rattle.ev_edge.specs.declared.reply.Reply.{Reply}
+use Rattle.ev_edge.specs.Edge.{Edge, address_of}
+use Rattle.ev_edge.specs.Laws.{decision_in}
+use Rattle.ev_edge.specs.Steps.{Steps}
+
+-- ---- sites
+
+-- A network, the place in it of the bridge that is the edge's, and the edge's address. Sites are networks of their
+-- own, so no bridge and no segment is in two of them.
+pub record Site : Type 0 where
+  pub net : Network
+  pub attached : ℕ
+  pub address : ℕ
+
+abbrev pub IsSiteAt : List Site → ℕ → Site → Type 0
+IsSiteAt sites i s = slice_get sites i ≡ Some s
+
+-- each site's network is at rest
+pub record AreAtRest (sites : List Site) : Type 0 where
+  pub networks : (i : ℕ) (s : Site) → IsSiteAt sites i s → IsNetwork s.net
+  pub rest : (i : ℕ) (s : Site) → IsSiteAt sites i s → IsAtRest s.net
+
+-- a port of a fabric: the place of its site, and the port there
+pub record Point : Type 0 where
+  pub site : ℕ
+  pub spot : Spot
+
+-- the edge is the site's, whatever it has learnt and heard: its bridge is the one at that place
+pub record IsEdgeOf (s : Site) (e : Edge) : Type 0 where
+  pub bridge : IsBridgeAt s.net s.attached e.tree
+  pub address : address_of e ≡ s.address
+
+-- ---- what an edge makes of a frame
+
+-- the port at which a frame comes, if the event is one
+abbrev pub frame_port : Event → Option ℕ
+frame_port (events.Frame port octets) = Some port
+frame_port (events.TunnelFrame from octets) = None
+frame_port (events.Take u) = None
+frame_port (events.Pin s port) = None
+frame_port (events.Unpin s) = None
+frame_port (events.Thaw s) = None
+frame_port events.Second = None
+frame_port (events.PortUp port) = None
+frame_port (events.PortDown port) = None
+frame_port (events.Mcheck port) = None
+frame_port events.Announce = None
+
+-- the edge from which a datagram comes, if the event is one
+abbrev pub tunnel_source : Event → Option ℕ
+tunnel_source (events.Frame port octets) = None
+tunnel_source (events.TunnelFrame from octets) = Some from
+tunnel_source (events.Take u) = None
+tunnel_source (events.Pin s port) = None
+tunnel_source (events.Unpin s) = None
+tunnel_source (events.Thaw s) = None
+tunnel_source events.Second = None
+tunnel_source (events.PortUp port) = None
+tunnel_source (events.PortDown port) = None
+tunnel_source (events.Mcheck port) = None
+tunnel_source events.Announce = None
+
+-- the site's edge, in some state, answers an event with this decision
+pub record Decides (s : Site) (event : Event) (d : Decision) : Type 0 where
+  pub before : Edge
+  pub result : Result Reply Refusal
+  pub after : Edge
+  pub edge : IsEdgeOf s before
+  pub step : Steps before event result after
+  pub decision : decision_in result ≡ Some d
+
+-- the site's edge decides so on a frame that comes in at x, a port of its own bridge
+pub record DecidesAt (s : Site) (x : Spot) (d : Decision) : Type 0 where
+  pub event : Event
+  pub here : x.bridge ≡ s.attached
+  pub port : frame_port event ≡ Some (x.place + 1)
+  pub decides : Decides s event d
+
+-- the site's edge decides so on a datagram from the edge of this address
+pub record DecidesFrom (s : Site) (from : ℕ) (d : Decision) : Type 0 where
+  pub event : Event
+  pub source : tunnel_source event ≡ Some from
+  pub decides : Decides s event d
+
+-- A decision's frame leaves the edge's bridge by one of the decision's ports, crosses that port's segment, and comes
+-- in at another port of the segment, y, where it passes.
+pub record Leaves (s : Site) (d : Decision) (y : Spot) : Type 0 where
+  pub out : Spot
+  pub bridge : out.bridge ≡ s.attached
+  pub among : IsPort (out.place + 1) × (has_port d.local (out.place + 1) ≡ true)
+  pub segment : s.net.segment out ≡ s.net.segment y
+  pub apart : out ≢ y
+  pub arrives : PassesAt s.net y
+
+-- ---- ways of frames
+
+-- from x to y by a bridge of a site that isn't the edge's
+pub record ByBridge (sites : List Site) (x y : Point) : Type 0 where
+  pub site : Site
+  pub at : IsSiteAt sites x.site site
+  pub same : y.site ≡ x.site
+  pub other : x.spot.bridge ≢ site.attached
+  pub crosses : Crosses site.net x.spot y.spot
+
+-- from x to y by a site's edge
+pub record ByEdge (sites : List Site) (x y : Point) : Type 0 where
+  pub site : Site
+  pub at : IsSiteAt sites x.site site
+  pub same : y.site ≡ x.site
+  pub decision : Decision
+  pub decides : DecidesAt site x.spot decision
+  pub leaves : Leaves site decision y.spot
+
+-- From x to y by the edges of two sites and a tunnel. What the datagram holds may be anything.
+pub record ByTunnel (sites : List Site) (x y : Point) : Type 0 where
+  pub near : Site
+  pub far : Site
+  pub at_near : IsSiteAt sites x.site near
+  pub at_far : IsSiteAt sites y.site far
+  pub decision : Decision
+  pub decides : DecidesAt near x.spot decision
+  pub goes : Contains decision.remote.items far.address
+  pub decision_far : Decision
+  pub decides_far : DecidesFrom far near.address decision_far
+  pub leaves : Leaves far decision_far y.spot
+
+abbrev pub Hops : List Site → Point → Point → Type 0
+Hops sites x y = ByBridge sites x y ⊎ (ByEdge sites x y ⊎ ByTunnel sites x y)
+
+-- a frame that comes in at x comes in at these ports, one after the other, of which y is the last
+abbrev pub Goes : List Site → List Point → Point → Point → Type 0
+Goes sites [] x y = x ≡ y
+Goes sites (z ∷ later) x y = Hops sites x z × Goes sites later z y
+
+-- ---- the laws
+
+-- In a network at rest, a frame that left a bridge by the port o and crossed to y never comes in at a port of that
+-- bridge.
+abbrev pub NeverBackToItsBridge : Type 0
+NeverBackToItsBridge =
+    (net : Network) → IsNetwork net → IsAtRest net → (o y w : Spot) (ports : List Spot)
+    → PassesAt net o → PassesAt net y → net.segment o ≡ net.segment y → o ≢ y
+    → Travels net ports y w → w.bridge ≢ o.bridge
+
+-- where all sites are at rest, a frame that comes in where it came in before has gone nowhere
+abbrev pub NoCircleThroughTunnels : Type 0
+NoCircleThroughTunnels =
+    (sites : List Site) → AreAtRest sites → (x : Point) (points : List Point) → Goes sites points x x → points ≡ []
+
+-- a frame that came through a tunnel goes through none again
+abbrev pub OneTunnelAtMost : Type 0
+OneTunnelAtMost =
+    (sites : List Site) → AreAtRest sites → (x y z w : Point) (points : List Point)
+    → ByTunnel sites x y → Goes sites points y z → ByTunnel sites z w → ⊥
+
+-- there are two sites at rest, and a frame in the first of them that crosses to the edge's bridge
+abbrev pub SitesCanBeAtRest : Type 0
+SitesCanBeAtRest =
+    (first : Site) × (second : Site) × (x : Point) × (y : Point) × AreAtRest (first ∷ second ∷ [])
+    × ByBridge (first ∷ second ∷ []) x y × (y.spot.bridge ≡ first.attached) × (first.address ≢ second.address)

@@ -1,0 +1,9 @@
+//! Sites of bridges, each attached to one edge: where they are at rest, no frame runs in a circle, not
+//! even through tunnels.
+#![tactic(auto)]
+
+mod laws;
+
+pub use laws::{
+    never_back_to_its_bridge, no_circle_through_tunnels, one_tunnel_at_most, sites_can_be_at_rest,
+};
