@@ -66,15 +66,15 @@ tell "a word that isn't UTF-8" tells "isn't UTF-8"
 
 # ---- 2: the word that is wrong, and what was expected
 run reports --originators 10.0.0.1
-tell "a subcommand of another name" tells "'reports'" "'report'" "Usage: evpnd"
+tell "a subcommand of another name" tells "'reports'" "'report'" "Usage: ${evpnd##*/}"
 run report --originator 10.0.0.1
 tell "an option of another name" tells "'--originator'" "--originators"
 run report
-tell "an option that is left out" tells "--originators <LIST>" "Usage: evpnd report"
+tell "an option that is left out" tells "--originators <LIST>" "Usage: ${evpnd##*/} report"
 run report --originators
 tell "an option without its value" tells "--originators <LIST>"
 run report --originators 10.0.0.1 10.0.0.2
-tell "a word too many" tells "'10.0.0.2'" "Usage: evpnd report"
+tell "a word too many" tells "'10.0.0.2'" "Usage: ${evpnd##*/} report"
 run report --originators 10.0.0.1 --originators 10.0.0.2
 tell "an option twice" tells "--originators <LIST>"
 expected="expected 1 to 64 different IPv4 addresses with commas between them, as in 10.0.0.1,10.0.0.2"
@@ -89,7 +89,7 @@ tell "an address too many" tells "'10.0.0.64' is one more than the 64 that there
 
 # ---- 2: help
 run --help
-tell "help" tells "report" "Usage: evpnd" "Example:" "0 done"
+tell "help" tells "report" "Usage: ${evpnd##*/}" "Example:" "0 done"
 run report --help
 tell "help on report" tells "--originators <LIST>" "standard input" "standard output" "Standard error" "  0  " "  1  " "  2  " "  3  " "  4  " "Example:"
 run help report
