@@ -12,6 +12,3 @@ pub use book::Book;
 pub use mark::Mark;
 pub use pass::{Pass, Totals};
 pub use refusal::BookRefusal;
-
-#[cfg(test)]
-mod tests;

@@ -1,5 +1,4 @@
-//! What the definitions don't show by themselves: worked events, refused memory, and long runs
-//! beside a plain edge.
+//! What the definitions don't show by themselves: worked events, and refused memory.
 ghost use Rattle.std.specs.Prelude.{◌≡◌, ◌<◌, ◌≤◌, ◌^◌, ◌∷◌, []};
 ghost use Rattle.ev_edge.specs.Config.{IsConfig, vnis_of};
 
@@ -16,8 +15,6 @@ mod frames;
 mod learning;
 mod memory;
 mod pins;
-mod plain;
-mod runs;
 mod updates;
 
 /// The station 02:00:00:00:00:0a.
@@ -103,41 +100,6 @@ fn one_network() -> ArrayVec<Vni, 64>
     vnis
 }
 
-/// The networks of the wide edge, the lowest first.
-const NETWORKS: [u32; 2] = [5001, 5002];
-
-// Its ports: 1, 2 and 4 are of network 5001, 3 and 5 of network 5002; 4 and 5 may lead to bridges.
-fn five_ports() -> ArrayVec<PortConfig, 64>
-    ensures { vnis_of result.items ≡ 5001 ∷ 5001 ∷ 5002 ∷ 5001 ∷ 5002 ∷ [] }
-{
-    let mut ports = ArrayVec::new();
-    ports.push(port_of(Vni::new(5001), true));
-    ports.push(port_of(Vni::new(5001), true));
-    ports.push(port_of(Vni::new(5002), true));
-    ports.push(port_of(Vni::new(5001), false));
-    ports.push(port_of(Vni::new(5002), false));
-    ports
-}
-
-// The network of a port of the wide edge.
-fn network_at(port: u8) -> Option<Vni> {
-    match port {
-        1 | 2 | 4 => Some(Vni::new(5001)),
-        3 | 5 => Some(Vni::new(5002)),
-        _ => None,
-    }
-}
-
-// The highest network first.
-fn two_networks() -> ArrayVec<Vni, 64>
-    ensures { result.items ≡ 5002 ∷ 5001 ∷ [] }
-{
-    let mut vnis = ArrayVec::new();
-    vnis.push(Vni::new(5002));
-    vnis.push(Vni::new(5001));
-    vnis
-}
-
 // A bridge of the usual priority and times.
 fn tree() -> Settings
     ensures { result.hello ≡ 2 }
@@ -168,26 +130,6 @@ fn config(incarnation: u32, capacity: usize, ageing: u64) -> EdgeConfig
         buckets: capacity,
         salt: 0,
         ports: three_ports(),
-    }
-}
-
-// The edge 10.0.0.2 with five ports of two networks, in this life.
-fn wide_config(incarnation: u32, capacity: usize, ageing: u64) -> EdgeConfig
-    requires some { 1 ≤ capacity }
-    requires few { capacity ≤ 65536 }
-    ensures { IsConfig result }
-{
-    EdgeConfig {
-        address: Addr::new(0x0a00_0002),
-        incarnation,
-        originators: originators(),
-        vnis: two_networks(),
-        tree: tree(),
-        ageing,
-        capacity,
-        buckets: capacity,
-        salt: 0,
-        ports: five_ports(),
     }
 }
 
