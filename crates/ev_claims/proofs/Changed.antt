@@ -67,9 +67,6 @@ more_changes e k c new rs once h = record {
         })
     numbers (suc i) r at = let later = h.numbers i r at in record { value = later.value; there = later.there; present = later.present; number = let is = later.number in omega (arith, is) }
 
-pub one_changes : (e : Voice) (k : Key) (c : Content) → OwnChanges e (after_saying e k c) (own_register e k ∷ [])
-one_changes e k c = more_changes e k c (after_saying e k c) [] (λ in'. let less = in'.1 in omega (arith, less)) (nothing_changes (after_saying e k c))
-
 -- ---- stations that go
 pub stands_among : (e : Voice) (s : Station) (ss : List Station) → Contains (registers_of e ss) (own_register e (key_of s)) → stands ss s ≡ true
 stands_among e s [] (k, less, is) = absurd (omega (arith, less))

@@ -1,8 +1,7 @@
 -- The unpinned stations behind a port go one after another, from the front of the port's list.
-use Rattle.std.proofs.Common.{◌≡◌, ◌≢◌, ℕ, zero, suc, ◌+◌, ◌-◌, ◌<◌, ◌≤◌, Bool, true, false, cond, eqb, Option, Some, None, List, [], ◌∷◌, ◌++◌, length, map, refl, sym, ap, subst, ◌∙◌, arith}
+use Rattle.std.proofs.Common.{◌≡◌, ◌≢◌, ℕ, zero, suc, ◌+◌, ◌-◌, ◌<◌, Bool, true, false, cond, eqb, Option, Some, None, List, [], ◌∷◌, ◌++◌, map, refl, sym, ap, subst, ◌∙◌, arith}
 use Rattle.std.specs.Prelude.{slice_get, slice_index_or, IsSome, Contains, ◌||◌}
 use Rattle.std.specs.List.{range_with_len}
-use Rattle.std.proofs.lemmas.List.{get_or_past}
 use Rattle.std.proofs.lemmas.Bool.{ne_eqb}
 use Rattle.std.proofs.lemmas.Bool.Decides.{nat_tests}
 use Rattle.ether_wire.specs.Ports.{has_port, ports_after}
@@ -128,12 +127,6 @@ first_unpinned_is t (x ∷ xs) = go (is_pinned (entry_at t x)) (first_unpinned_i
     go : (b : Bool) → first_unpinned t xs ≡ slice_get (unpinned_among t xs) 0 → cond b (first_unpinned t xs) (Some x) ≡ slice_get (cond b (unpinned_among t xs) (x ∷ unpinned_among t xs)) 0
     go true rest = rest
     go false rest = refl
-
-pub no_such_port : (t : Learning) (ports port : ℕ) → length t.ports ≡ ports → ports < port → unpinned_on t port ≡ []
-no_such_port t ports port size past = ap (unpinned_among t) (none t.ports (port - 1) (omega (arith, size, past)))
-  where
-    none : (ls : List (List Station)) (l : ℕ) → length ls ≤ l → slice_index_or ls l [] ≡ []
-    none ls l past = get_or_past ls l [] past
 
 pub nobody_left : (xs : List Station) → slice_get xs 0 ≡ None → xs ≡ []
 nobody_left [] e = refl

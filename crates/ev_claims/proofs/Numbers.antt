@@ -1,7 +1,7 @@
 -- what the own registers keep when the edge says or hears something
-use Rattle.std.proofs.Common.{◌≡◌, ◌≢◌, ◌⊎◌, inl, inr, ℕ, suc, ◌+◌, ◌≤◌, Bool, true, false, cond, Option, Some, None, List, [], ◌∷◌, ◌++◌, refl, sym, ap, subst, ◌∙◌, arith}
+use Rattle.std.proofs.Common.{◌≡◌, ◌≢◌, ◌⊎◌, inl, inr, ℕ, ◌+◌, ◌≤◌, Bool, true, false, cond, Option, Some, None, List, [], ◌∷◌, ◌++◌, refl, sym, ap, subst, ◌∙◌, arith}
 use Rattle.std.proofs.lemmas.List.Elements.{Contains-push_cases}
-use Rattle.std.specs.Prelude.{Contains, ◌||◌, ◌==◌}
+use Rattle.std.specs.Prelude.{Contains, ◌==◌}
 use Rattle.std.specs.List.{list_any}
 use Rattle.std.specs.Ordering.{eq_by_cmp}
 use Rattle.route_wire.specs.declared.update.Key.{Key}
@@ -12,7 +12,7 @@ use Rattle.route_wire.specs.Fields.{Fields}
 use Rattle.route_wire.specs.Order.{register_cmp}
 use Rattle.route_join.specs.Table.{value_at, register_of, is_news, with_update}
 use Rattle.route_join.specs.Owner.{advert_of, advert_at}
-use Rattle.route_join.proofs.Tables.{same_register, same_or_other, at_same, at_other}
+use Rattle.route_join.proofs.Tables.{same_or_other, at_same, at_other}
 use Rattle.route_join.proofs.Joins.{update_other}
 use Rattle.route_join.proofs.Merging.{same_listeners}
 use Rattle.ev_claims.specs.Pending.{marked}
@@ -32,13 +32,6 @@ pub key_stays : (e : Voice) (k : Key) (c : Content) (j : Key) (o : ℕ) → j �
 key_stays e k c j o ne = ap advert_of (at_other e.table (own_register e k) _ (register_of o j) (λ h. ne (ap (λ (q : Register). q.key) h)))
 
 -- ---- the registers that wait
-any_register : (rs : List Register) (r : Register) → list_any (eq_by_cmp register_cmp r) rs ≡ true → Contains rs r
-any_register [] r e = cc
-any_register (x ∷ rs) r e = go (eq_by_cmp register_cmp r x) refl e (any_register rs r)
-  where
-    go : (b : Bool) → eq_by_cmp register_cmp r x ≡ b → (b || list_any (eq_by_cmp register_cmp r) rs) ≡ true → (list_any (eq_by_cmp register_cmp r) rs ≡ true → Contains rs r) → Contains (x ∷ rs) r
-    go true t e later = (0, omega arith, sym (same_register r x t))
-    go false t e later = let h = later e in (suc h.0, omega (arith, h.1), h.2)
 
 pub marked_only : (rs : List Register) (r q : Register) → Contains (marked rs r) q → Contains rs q ⊎ (r ≡ q)
 marked_only rs r q = go (list_any (eq_by_cmp register_cmp r) rs)

@@ -1,3 +1,5 @@
+//! What an edge says and has learnt, and each change of it: a station is advertised exactly while it
+//! is learnt.
 ghost use Rattle.std.specs.Prelude.{◌≡◌, ◌≢◌, ◌⊎◌, ◌+◌, ◌<◌, ◌≤◌, ◌^◌, ◌↔◌, ℕ, [], true, false, IfOk, IfSome, IfNone, IsSome, length, slice_get, OnOk, OnErr, Err, Some, None, Contains};
 ghost use Rattle.ether_wire.specs.Names.{is_group};
 ghost use Rattle.route_join.specs.Table.{AreOriginators, value_at, is_listed};
@@ -207,7 +209,8 @@ impl Claims {
         requires room { is_full self.old.learned ≡ false }
         requires number { self.old.voice.counter < 2 ^ 63 }
         requires latest { IsLatest self.old.learned second }
-        ensures ok { OnOk result (self.new ≡ after_advert self.old station.now port second sequence) }
+        ensures ok { OnOk result
+            (self.new ≡ after_advert self.old station.now port second sequence) }
         ensures err { OnErr result (self.new ≡ self.old) }
     {
         let advert = Advert {
@@ -240,7 +243,8 @@ impl Claims {
     pub fn pin(&mut self, station: &Station, port: u8) -> Result<(), AllocError>
         requires individual { is_group station.now.mac ≡ false }
         requires port { vni_at self.old.ports port ≡ Some station.now.vni }
-        requires room { entry_at self.old.learned station.now ≡ None → is_full self.old.learned ≡ false }
+        requires room { entry_at self.old.learned station.now ≡ None
+            → is_full self.old.learned ≡ false }
         requires number { self.old.voice.counter < 2 ^ 63 }
         ensures ok { OnOk result (self.new ≡ after_pin self.old station.now port) }
         ensures err { OnErr result (self.new ≡ self.old) }
@@ -284,11 +288,14 @@ impl Claims {
     /// register is new and memory was refused. Nothing changed then.
     pub fn hear(&mut self, update: &Update) -> Result<Heard, TakeError>
         requires { update.now.register.originator ≢ self.old.voice.address }
-        ensures taken { IfOk result (λ heard. heard.taken ≡ taken_of self.old.voice.table update.now) }
+        ensures taken { IfOk result
+            (λ heard. heard.taken ≡ taken_of self.old.voice.table update.now) }
         ensures lost { IfOk result (λ heard. heard.lost_pinned ≡ loses_pinned self.old update.now) }
         ensures ok { OnOk result (self.new ≡ after_take self.old update.now) }
-        ensures unknown { (result ≡ Err TakeError.UnknownOriginator) ↔ (is_listed self.old.voice.table update.now.register.originator ≡ false) }
-        ensures no_memory { result ≡ Err TakeError.NoMemory → value_at self.old.voice.table update.now.register ≡ None }
+        ensures unknown { (result ≡ Err TakeError.UnknownOriginator)
+            ↔ (is_listed self.old.voice.table update.now.register.originator ≡ false) }
+        ensures no_memory { result ≡ Err TakeError.NoMemory
+            → value_at self.old.voice.table update.now.register ≡ None }
         ensures err { OnErr result (self.new ≡ self.old) }
     {
         let taken = self.learn_of(update)?;
@@ -311,9 +318,13 @@ impl Claims {
         requires { update.now.register.originator ≡ self.old.voice.address }
         ensures taken { IfOk result (λ taken. taken ≡ taken_of self.old.voice.table update.now) }
         ensures ok { OnOk result (self.new ≡ after_own self.old update.now) }
-        ensures ahead { (result ≡ Err OwnError.Ahead) ↔ (is_ahead self.old.voice update.now ≡ true) }
-        ensures spent { (result ≡ Err OwnError.Spent) ↔ (is_spent self.old.voice update.now ≡ true) }
-        ensures no_memory { result ≡ Err OwnError.NoMemory → (value_at self.old.voice.table update.now.register ≡ None) ⊎ (is_returning self.old.voice update.now ≡ true) }
+        ensures ahead { (result ≡ Err OwnError.Ahead)
+            ↔ (is_ahead self.old.voice update.now ≡ true) }
+        ensures spent { (result ≡ Err OwnError.Spent)
+            ↔ (is_spent self.old.voice update.now ≡ true) }
+        ensures no_memory { result ≡ Err OwnError.NoMemory
+            → (value_at self.old.voice.table update.now.register ≡ None)
+            ⊎ (is_returning self.old.voice update.now ≡ true) }
         ensures err { OnErr result (self.new ≡ self.old) }
     {
         self.voice.always_numbered();
@@ -351,8 +362,8 @@ impl Claims {
         self.voice.announce()
     }
 
-    // The unpinned stations behind a port go, in the order in which they came to it. Those behind
-    // other ports keep their order.
+    /// The unpinned stations behind a port go, in the order in which they came to it. Those behind
+    /// other ports keep their order.
     fn flush_port(&mut self, port: u8)
         requires { 0 < port }
         ensures after { self.new ≡ after_removals self.old (unpinned_on self.old.learned port) }
@@ -363,7 +374,7 @@ impl Claims {
         }
     }
 
-    // The unpinned station behind the port that came to it first, if there is such a port.
+    /// The unpinned station behind the port that came to it first, if there is such a port.
     fn first_unpinned(&self, port: u8) -> Option<Station>
         requires { 0 < port }
         ensures first { result ≡ slice_get (unpinned_on self.now.learned port) 0 }
@@ -377,7 +388,7 @@ impl Claims {
         self.learned.first_of(port)
     }
 
-    // The station heard longest ago, if it is due.
+    /// The station heard longest ago, if it is due.
     fn oldest_due(&self, limit: u64) -> Option<Station>
         ensures first { result ≡ slice_get (due_in self.now.learned limit) 0 }
         ensures lists { ListsName self.now.learned }
@@ -395,20 +406,22 @@ impl Claims {
         Some(station)
     }
 
-    // Takes another edge's update into the table alone.
+    /// Takes another edge's update into the table alone.
     fn learn_of(&mut self, update: &Update) -> Result<Taken, TakeError>
         requires { update.now.register.originator ≢ self.old.voice.address }
         ensures taken { IfOk result (λ taken. taken ≡ taken_of self.old.voice.table update.now) }
         ensures ok { OnOk result (self.new ≡ after_update self.old update.now) }
-        ensures unknown { (result ≡ Err TakeError.UnknownOriginator) ↔ (is_listed self.old.voice.table update.now.register.originator ≡ false) }
-        ensures no_memory { result ≡ Err TakeError.NoMemory → value_at self.old.voice.table update.now.register ≡ None }
+        ensures unknown { (result ≡ Err TakeError.UnknownOriginator)
+            ↔ (is_listed self.old.voice.table update.now.register.originator ≡ false) }
+        ensures no_memory { result ≡ Err TakeError.NoMemory
+            → value_at self.old.voice.table update.now.register ≡ None }
         ensures err { OnErr result (self.new ≡ self.old) }
     {
         self.voice.hear(update)
     }
 
-    // Takes a station out and withdraws it, where the edge advertises it and isn't its owner. Tells
-    // whether it was pinned.
+    /// Takes a station out and withdraws it, where the edge advertises it and isn't its owner. Tells
+    /// whether it was pinned.
     fn lose(&mut self, station: &Station) -> bool
         ensures lost { result ≡ is_pinned (lost_at self.old station.now) }
         ensures after { self.new ≡ after_losing_at self.old station.now }
@@ -421,7 +434,7 @@ impl Claims {
         pinned
     }
 
-    // Whether the station is learnt, and pinned.
+    /// Whether the station is learnt, and pinned.
     fn is_pinned(&self, station: &Station) -> bool
         ensures { result ≡ is_pinned (entry_at self.now.learned station.now) }
     {
@@ -432,7 +445,7 @@ impl Claims {
     }
 }
 
-// The key of a station without an IP address.
+/// The key of a station without an IP address.
 fn key_of(station: &Station) -> Key
     ensures { result ≡ key_of station.now }
 {
@@ -440,7 +453,7 @@ fn key_of(station: &Station) -> Key
     Key::Mac(station.vni, station.mac, none)
 }
 
-// The station that a key is about, if it is about one.
+/// The station that a key is about, if it is about one.
 fn station_of(key: Key) -> Option<Station>
     ensures { result ≡ station_of key }
 {
@@ -450,6 +463,7 @@ fn station_of(key: Key) -> Option<Station>
     }
 }
 
+/// The station of a network with an address.
 fn station(vni: Vni, mac: Mac) -> Station
     ensures { result ≡ record { vni = vni; mac = mac } }
 {

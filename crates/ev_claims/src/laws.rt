@@ -1,3 +1,5 @@
+//! What goes by age or by a flush, and what an opening says, as functions that do nothing: the contract
+//! is the law.
 ghost use Rattle.std.specs.Prelude.{eqb};
 ghost use Rattle.std.specs.List.{IsDistinct};
 ghost use Rattle.ev_claims.specs.Laws.{AgesOut, FlushesOut};

@@ -1,3 +1,4 @@
+//! What an edge is opened with.
 use arrayvec::ArrayVec;
 use ether_wire::{Addr, Vni};
 

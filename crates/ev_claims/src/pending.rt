@@ -1,4 +1,5 @@
-ghost use Rattle.std.specs.Prelude.{◌≡◌, ◌++◌, ◌∷◌, [], ℕ, ◌≤◌, ◌<◌, ◌^◌, IfOk, OnOk, OnErr, Contains, drop, slice_get, length};
+//! The registers that an edge says something of, and those of them that wait to be announced.
+ghost use Rattle.std.specs.Prelude.{◌≡◌, ◌++◌, ◌∷◌, [], ℕ, ◌≤◌, ◌<◌, ◌^◌, IfOk, IfSome, OnOk, OnErr, Contains, drop, slice_get, length};
 ghost use Rattle.idx_links.specs.Families.{lists_of};
 ghost use Rattle.ev_claims.specs.Pending.{marked};
 
@@ -103,7 +104,10 @@ impl Pending {
     }
 
     /// The register that was marked under this number, or another one: whoever asks looks it up.
-    pub fn guess(&self, number: u64) -> Option<Register> {
+    #[tactic(auto, using(crate::proofs::Queue::get_contains))]
+    pub fn guess(&self, number: u64) -> Option<Register>
+        ensures { IfSome result (Contains self.now.known) }
+    {
         let marks = self.marks.as_slice();
         if marks.len() == 0 {
             return None;
@@ -136,7 +140,7 @@ impl Pending {
     }
 }
 
-// Sees to it that there are more nodes than so many.
+/// Sees to it that there are more nodes than so many.
 fn spare_node(links: &mut Family<1>, room: &mut usize, used: usize) -> Result<(), AllocError>
     requires list { length (lists_of links.old 0) ≡ 1 }
     requires counted { links.old.nodes ≡ room.old }
@@ -159,7 +163,7 @@ fn spare_node(links: &mut Family<1>, room: &mut usize, used: usize) -> Result<()
     Ok(())
 }
 
-// A node was marked under a number.
+/// A node was marked under a number.
 fn note(marks: &mut Vec<usize>, number: u64, node: usize) {
     let marks = marks.as_mut_slice();
     if marks.len() == 0 {

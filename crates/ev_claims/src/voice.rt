@@ -1,3 +1,4 @@
+//! What an edge says itself: its own registers, their numbers, and what is still to be announced.
 ghost use Rattle.std.specs.Prelude.{◌≡◌, ◌≢◌, ◌⊎◌, ◌+◌, ◌<◌, ◌^◌, ◌↔◌, [], IfOk, IfSome, IfNone, IsSome, IsErr, true, false, OnOk, OnErr, Ok, Err, None, Contains, nat_le, length};
 ghost use Rattle.route_join.specs.Table.{AreOriginators, value_at, is_listed};
 ghost use Rattle.route_wire.specs.Fields.{is_individual, FitsKey, flood_advert};
@@ -119,7 +120,7 @@ impl Voice {
         &self.table
     }
 
-    // The own update of the register that is guessed to have this number, if it has.
+    /// The own update of the register that is guessed to have this number, if it has.
     fn guess(&self, counter: u64) -> Option<Update>
         ensures { IfSome result (IsOwnAt self.now counter) }
     {
@@ -221,8 +222,10 @@ impl Voice {
         requires { update.now.register.originator ≢ self.old.address }
         ensures taken { IfOk result (λ taken. taken ≡ taken_of self.old.table update.now) }
         ensures ok { OnOk result (self.new ≡ after_hearing self.old update.now) }
-        ensures unknown { (result ≡ Err TakeError.UnknownOriginator) ↔ (is_listed self.old.table update.now.register.originator ≡ false) }
-        ensures no_memory { result ≡ Err TakeError.NoMemory → value_at self.old.table update.now.register ≡ None }
+        ensures unknown { (result ≡ Err TakeError.UnknownOriginator)
+            ↔ (is_listed self.old.table update.now.register.originator ≡ false) }
+        ensures no_memory { result ≡ Err TakeError.NoMemory
+            → value_at self.old.table update.now.register ≡ None }
         ensures err { OnErr result (self.new ≡ self.old) }
     {
         self.table.take(update)
@@ -236,7 +239,9 @@ impl Voice {
         ensures ok { OnOk result (self.new ≡ after_hearing_own self.old update.now) }
         ensures ahead { (result ≡ Err OwnError.Ahead) ↔ (is_ahead self.old update.now ≡ true) }
         ensures spent { (result ≡ Err OwnError.Spent) ↔ (is_spent self.old update.now ≡ true) }
-        ensures no_memory { result ≡ Err OwnError.NoMemory → (value_at self.old.table update.now.register ≡ None) ⊎ (is_returning self.old update.now ≡ true) }
+        ensures no_memory { result ≡ Err OwnError.NoMemory
+            → (value_at self.old.table update.now.register ≡ None)
+            ⊎ (is_returning self.old update.now ≡ true) }
         ensures err { OnErr result (self.new ≡ self.old) }
     {
         if !self.is_newest(update) {
@@ -251,7 +256,7 @@ impl Voice {
         }
     }
 
-    // Whether the update would become its register's value.
+    /// Whether the update would become its register's value.
     fn is_newest(&self, update: &Update) -> bool
         ensures { result ≡ is_newest self.now update.now }
     {
@@ -262,7 +267,7 @@ impl Voice {
         }
     }
 
-    // Takes a withdrawal of an earlier life, which is its register's newest update.
+    /// Takes a withdrawal of an earlier life, which is its register's newest update.
     fn hear_withdrawal(&mut self, update: &Update) -> Result<Taken, OwnError>
         requires own { update.now.register.originator ≡ self.old.address }
         requires newest { is_newest self.old update.now ≡ true }
@@ -270,7 +275,8 @@ impl Voice {
         requires withdrawn { update.now.value.content ≡ Content.Withdrawn }
         ensures taken { IfOk result (λ taken. taken ≡ Taken.Newer) }
         ensures ok { OnOk result (self.new ≡ after_hearing self.old update.now) }
-        ensures why { OnErr result ((result ≡ Err OwnError.NoMemory) × (value_at self.old.table update.now.register ≡ None)) }
+        ensures why { OnErr result ((result ≡ Err OwnError.NoMemory)
+            × (value_at self.old.table update.now.register ≡ None)) }
         ensures err { OnErr result (self.new ≡ self.old) }
     {
         match self.table.take(update) {
@@ -279,12 +285,14 @@ impl Voice {
         }
     }
 
-    // Withdraws what an advert of an earlier life says, which would be its register's newest update.
+    /// Withdraws what an advert of an earlier life says, which would be its register's newest update.
     fn refute(&mut self, update: &Update) -> Result<Taken, OwnError>
         requires own { update.now.register.originator ≡ self.old.address }
         requires returning { is_returning self.old update.now ≡ true }
         ensures taken { IfOk result (λ taken. taken ≡ Taken.Newer) }
-        ensures ok { OnOk result (self.new ≡ after_saying (after_hearing self.old update.now) update.now.register.key Content.Withdrawn) }
+        ensures ok { OnOk result
+            (self.new ≡ after_saying (after_hearing self.old update.now)
+            update.now.register.key Content.Withdrawn) }
         ensures spent { (result ≡ Err OwnError.Spent) ↔ (nat_le (2 ^ 63) self.old.counter ≡ true) }
         ensures not_ahead { result ≢ Err OwnError.Ahead }
         ensures err { OnErr result (self.new ≡ self.old) }
@@ -313,7 +321,7 @@ impl Voice {
     }
 }
 
-// All that an advert of a flood list says.
+/// All that an advert of a flood list says.
 fn flood_advert() -> Content
     ensures { result ≡ Content.Advert flood_advert }
 {
