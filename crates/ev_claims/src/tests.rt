@@ -1,19 +1,20 @@
-ghost use Rattle.std.specs.Prelude.{◌≡◌, ◌∷◌, [], IfOk, None};
+//! An edge in small: what it is taught, and one step after the other of what happens to it.
+ghost use Rattle.std.specs.Prelude.{◌≡◌, ◌∷◌, [], IfOk};
 ghost use Rattle.mac_arena.specs.Learning.{IsLatest};
 
 mod changes;
 mod memory;
+mod steps;
 mod updates;
 
-use crate::{Claims, Heard, OwnError, Start};
+use crate::{Claims, Start};
 use arrayvec::ArrayVec;
 use ether_wire::{Addr, Mac, Vni};
 use mac_arena::{Entry, Station};
-use route_join::{TakeError, Taken};
 use route_wire::{Advert, Content, Key, Register, Update, Value};
 use std::alloc::{AllocError, Global};
 
-// What an edge claims, and the greatest second at which it learnt.
+/// What an edge claims, and the greatest second at which it learnt.
 #[derive(Drop)]
 struct Edge {
     claims: Claims,
@@ -22,7 +23,7 @@ struct Edge {
 }
 
 impl Edge {
-    // The edge 10.0.0.2, by the first try that isn't refused memory.
+    /// The edge 10.0.0.2, by the first try that isn't refused memory.
     fn made(alloc: Global, incarnation: u32, both: bool) -> Option<Edge> {
         for _ in 0..60 {
             if let Ok(claims) = opened(alloc, incarnation, both) {
@@ -32,7 +33,7 @@ impl Edge {
         None
     }
 
-    // Whether it was learnt and advertised; nothing where a condition of the call doesn't hold.
+    /// Whether it was learnt and advertised; nothing where a condition of the call doesn't hold.
     fn advertise(
         &mut self,
         station: Station,
@@ -57,7 +58,7 @@ impl Edge {
         )
     }
 
-    // Whether a station that is learnt and not pinned could be heard again.
+    /// Whether a station that is learnt and not pinned could be heard again.
     fn refresh(&mut self, station: Station, port: u8, second: u64) -> bool {
         let Some(entry) = self.claims.look(&station) else {
             return false
@@ -70,12 +71,35 @@ impl Edge {
         true
     }
 
-    fn claims(self) -> Claims {
-        self.claims
+    /// A station is learnt, or heard again; false where that isn't possible.
+    fn teach(&mut self, lesson: &Lesson) -> bool {
+        let station = station(lesson.name);
+        if self.claims.look(&station).is_some() {
+            return self.refresh(station, lesson.port, lesson.second);
+        }
+        self.advertise(station, lesson.port, lesson.second, lesson.sequence) == Some(true)
     }
 }
 
-// The edge 10.0.0.2 listens to 10.0.0.1 to 10.0.0.3.
+/// A station is heard on a port at a second, and advertised with a sequence number if it is new.
+#[derive(Clone, Copy)]
+struct Lesson {
+    name: Name,
+    port: u8,
+    second: u64,
+    sequence: u32,
+}
+
+const fn learnt(name: Name, port: u8, second: u64, sequence: u32) -> Lesson {
+    Lesson {
+        name,
+        port,
+        second,
+        sequence,
+    }
+}
+
+/// The edge 10.0.0.2 listens to 10.0.0.1 to 10.0.0.3.
 fn originators() -> ArrayVec<Addr, 64>
     ensures { result.items ≡ 167772161 ∷ 167772162 ∷ 167772163 ∷ [] }
 {
@@ -86,7 +110,7 @@ fn originators() -> ArrayVec<Addr, 64>
     originators
 }
 
-// Its ports 1 and 3 are of network 5001, and port 2 is of network 5002 where it serves both.
+/// Its ports 1 and 3 are of network 5001, and port 2 is of network 5002 where it serves both.
 fn ports(both: bool) -> ArrayVec<Vni, 64> {
     let mut ports = ArrayVec::new();
     ports.push(network(1));
@@ -120,104 +144,118 @@ fn opened(alloc: Global, incarnation: u32, both: bool) -> Result<Claims, AllocEr
     Claims::open(alloc, start)
 }
 
-// The network 500N.
+/// The network 500N.
 fn network(n: u8) -> Vni {
     Vni::new(5000 + u32::from(n))
 }
 
-// The station 02:00:00:00:00:N of network 5001.
-fn station(n: u8) -> Station {
+/// A station by its network 500N and the last octet of its address 02:00:00:00:00:0N.
+type Name = (u8, u8);
+
+const A: Name = (1, 0x0a);
+
+const B: Name = (1, 0x0b);
+
+const C: Name = (1, 0x0c);
+
+const D: Name = (1, 0x0d);
+
+fn station(name: Name) -> Station {
     Station {
-        vni: network(1),
-        mac: Mac::new(0x0200_0000_0000 + u64::from(n)),
+        vni: network(name.0),
+        mac: Mac::new(0x0200_0000_0000 + u64::from(name.1)),
     }
 }
 
-fn advert(is_static: bool, sequence: u32) -> Content
-    ensures { result ≡ Content.Advert (record { is_static = is_static; sequence = sequence; label2 = None }) }
-{
+/// An advert of a station that may move, with its sequence number.
+const fn dynamic(sequence: u32) -> Content {
     Content::Advert(Advert {
-        is_static,
+        is_static: false,
         sequence,
         label2: None,
     })
 }
 
-// What 10.0.0.N says of a station.
-fn said(
-    n: u8,
-    station: Station,
+/// An advert of a station that is pinned.
+const STATIC: Content = Content::Advert(Advert {
+    is_static: true,
+    sequence: 0,
+    label2: None,
+});
+
+/// What 10.0.0.`speaker` says of a station.
+#[derive(Clone, Copy)]
+struct Said {
+    speaker: u8,
+    name: Name,
     incarnation: u32,
     counter: u64,
     content: Content,
-) -> Option<Update> {
-    let key = Key::Mac(station.vni, station.mac, None);
-    if counter == 0 || station.mac.is_group() {
-        return None;
-    }
-    let register = Register {
-        originator: Addr::new(0x0a00_0000 + u32::from(n)),
-        key,
-    };
-    let value = Value {
-        incarnation,
+}
+
+/// What 10.0.0.N says of a station in incarnation 0.
+const fn saying(n: u8, name: Name, counter: u64, content: Content) -> Said {
+    Said {
+        speaker: n,
+        name,
+        incarnation: 0,
         counter,
         content,
-    };
-    Some(Update::new(register, value))
-}
-
-// The edge's own update of a station, in incarnation 0.
-fn own(station: Station, counter: u64, content: Content) -> Option<Update> {
-    said(2, station, 0, counter, content)
-}
-
-// Whether the next update to be announced is of the network 500N's flood list, with this number.
-fn announces_flood(claims: &mut Claims, n: u8, counter: u64) -> bool {
-    let Some(update) = claims.announce() else {
-        return false
-    };
-    let value = update.value();
-    update.register().key == Key::Flood(network(n))
-        && update.register().originator == Addr::new(0x0a00_0002)
-        && value.counter == counter
-        && value.content == advert(false, 0)
-}
-
-// What the table says of a station under the edge's name.
-fn says(claims: &Claims, station: Station) -> Option<Update> {
-    let key = Key::Mac(station.vni, station.mac, None);
-    claims.table().register(claims.address(), key)
-}
-
-// Whether the station is pinned and advertised; nothing where a condition of the call doesn't hold.
-fn pin(claims: &mut Claims, station: Station, port: u8) -> Option<bool> {
-    if station.mac.is_group()
-        || claims.vni_of(port) != Some(station.vni)
-        || claims.look(&station).is_none() && claims.is_full()
-        || claims.counter() >= 0x8000_0000_0000_0000
-    {
-        return None;
     }
-    Some(claims.pin(&station, port).is_ok())
 }
 
-// What came of another edge's update; nothing where it isn't another's.
-fn hear(claims: &mut Claims, update: &Update) -> Option<Result<Heard, TakeError>> {
-    if update.register().originator == claims.address() {
-        return None;
+/// The edge's own update of a station, in incarnation 0.
+const fn own(name: Name, counter: u64, content: Content) -> Said {
+    saying(2, name, counter, content)
+}
+
+/// The edge's own update of a station, in incarnation 1.
+const fn reborn(name: Name, counter: u64, content: Content) -> Said {
+    Said {
+        speaker: 2,
+        name,
+        incarnation: 1,
+        counter,
+        content,
     }
-    Some(claims.hear(update))
 }
 
-// What came of an own update; nothing where it isn't one.
-fn hear_own(claims: &mut Claims, update: &Update) -> Option<Result<Taken, OwnError>> {
-    if update.register().originator != claims.address() {
-        return None;
+fn key_of(name: Name) -> Key {
+    let Station { vni, mac } = station(name);
+    Key::Mac(vni, mac, None)
+}
+
+impl Said {
+    /// The update; none where there is no such.
+    fn update(self) -> Option<Update> {
+        let Station { vni, mac } = station(self.name);
+        if self.counter == 0 || mac.is_group() {
+            return None;
+        }
+        let register = Register {
+            originator: Addr::new(0x0a00_0000 + u32::from(self.speaker)),
+            key: Key::Mac(vni, mac, None),
+        };
+        let value = Value {
+            incarnation: self.incarnation,
+            counter: self.counter,
+            content: self.content,
+        };
+        Some(Update::new(register, value))
     }
-    Some(claims.hear_own(update))
 }
 
-fn entry(port: u8, last: u64, pinned: bool) -> Option<Entry> {
-    Some(Entry { port, last, pinned })
+/// What the table says of a station under the edge's name.
+fn says(claims: &Claims, name: Name) -> Option<Update> {
+    claims.table().register(claims.address(), key_of(name))
+}
+
+/// Whether a station is learnt or pinned on the port, and when it was heard last.
+fn knows(claims: &Claims, name: Name, port: u8, last: u64, pinned: bool) -> bool {
+    claims.look(&station(name)) == Some(Entry { port, last, pinned })
+}
+
+/// Whether a station isn't known.
+fn knows_not(claims: &Claims, name: Name) -> bool {
+    claims.look(&station(name)).is_none()
 }
