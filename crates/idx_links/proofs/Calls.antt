@@ -27,9 +27,6 @@ list_place {next} {prev} {owner} {lens} {v} {count} found l h =
     let same = found.good.inverse.same in
     (low, omega (arith, few), omega (arith, few, same))
 
-pub last_place : {next prev : List ℕ} {owner : List (Option ℕ)} {lens : List ℕ} {v : Links} {count : ℕ} (found : Found next prev owner lens v count) (l t : ℕ) → l < length v.lists → t ≡ get_or prev l 0 → t < length next
-last_place found l t h is = rw is (found.good.inverse.back l (list_place found l h).1).0
-
 -- the place of a node
 pub node_place : {next prev : List ℕ} {owner : List (Option ℕ)} {lens : List ℕ} {v : Links} {count : ℕ} (found : Found next prev owner lens v count) (n : ℕ) → n < v.nodes → count + n < length next
 node_place {next} {prev} {owner} {lens} {v} {count} found n h = rw found.count_is (node_below next lens v n found.seen h)
@@ -81,14 +78,6 @@ unlink_owes {next} {prev} {owner} {lens} {v} {count} found n l p q o o_is is_l p
       owned_len good l (length lens + n) mine,
       unlinked_good good l p (length lens + n) q it,
       unlinked_lists good l p n q it ∙ ap (λ w. map (without n) w.lists) found.seen,
-    )
-
-pub unlink_places : {next prev : List ℕ} {owner : List (Option ℕ)} {lens : List ℕ} {v : Links} {count : ℕ} (found : Found next prev owner lens v count) (n p q : ℕ)
-    → n < v.nodes → p ≡ get_or prev (count + n) 0 → q ≡ get_or next (count + n) 0 → (p < length next) × (q < length next)
-unlink_places {next} {prev} {owner} {lens} {v} {count} found n p q nb p_is q_is =
-    let below = node_below next lens v n found.seen nb in (
-      rw (p_is ∙ ap (λ c. get_or prev (c + n) 0) found.count_is) (found.good.inverse.back (length lens + n) below).0,
-      rw (q_is ∙ ap (λ c. get_or next (c + n) 0) found.count_is) (found.good.inverse.forth (length lens + n) below).0,
     )
 
 -- which list a node is on

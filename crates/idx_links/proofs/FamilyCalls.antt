@@ -111,14 +111,6 @@ number_below {count} {nodes} {starts} {links} {v} shown k n low h =
     let turn : count * nodes ≡ nodes * count = mul_comm count nodes in
     omega (arith, below, turn)
 
-pub node_number : {count nodes : ℕ} {starts : List ℕ} {links : Links} {v : Families} (shown : Shown count nodes starts links v) (k n : ℕ) → k < count → n < v.nodes
-    → (n * count + k < 2 ^ 64) × (n * count + k < links.nodes)
-node_number {count} {nodes} {starts} {links} {v} shown k n low h =
-    let below = number_below shown k n low h in
-    let enough = shown.good.enough in
-    let small = shown.good.small in
-    (omega (arith, below, small), omega (arith, below, enough))
-
 has-family : {count nodes : ℕ} {starts : List ℕ} {links : Links} {v : Families} (shown : Shown count nodes starts links v) (k l n : ℕ) → k < count → l < count_in starts k
     → has (list_at (lists_of v k) l) n ≡ has (list_at links.lists (start starts k + l)) (n * count + k)
 has-family {count} {nodes} {starts} {links} shown k l n low h =
@@ -412,24 +404,6 @@ new_families counts starts count n lists len are n_is is =
       | inl s ↦ get_or-replicate n j [] [] s
       | inr s ↦ (let far : length (replicate {A = List ℕ} n []) ≤ j = rw length-replicate s in get_or_past (replicate n []) j [] far)
     ]
-
-pub grown_family : {count nodes : ℕ} {starts : List ℕ} {links : Links} (good : IsFamily count nodes starts links) (more : ℕ) (new : Links)
-    → nodes ≤ more → new.lists ≡ links.lists → more * count ≤ new.nodes → more * count < 2 ^ 64 → IsFamily count more starts new
-grown_family {count} {nodes} {starts} {links} good more new grows is enough small = record {
-  counted = good.counted;
-  rises = good.rises;
-  whole = rw is good.whole;
-  few = good.few;
-  enough = enough;
-  small = small;
-  own = λ j x on. good.own j x (ap (λ ls. has (list_at ls j) x) (sym is) ∙ on);
-  below = λ j x on.
-      let low = good.below j x (ap (λ ls. has (list_at ls j) x) (sym is) ∙ on) in
-      let wide = mul-le-mul_left count grows in
-      let turn : count * nodes ≡ nodes * count = mul_comm count nodes in
-      let turned : count * more ≡ more * count = mul_comm count more in
-      omega (arith, low, wide, turn, turned);
-}
 
 -- how many lists a family has, after a change of one family that keeps its number
 pub lengths_kept : (f g : Families) (k : ℕ) (lists : List (List ℕ)) → g.families ≡ set f.families k lists → length lists ≡ length (lists_of f k) → (j : ℕ) → length (lists_of g j) ≡ length (lists_of f j)

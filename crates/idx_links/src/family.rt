@@ -37,7 +37,8 @@ impl<const K: usize> Family<K> {
     /// and the nodes of all families are too many for numbers of 32 bits, too.
     pub fn new(alloc: Global, lists: [usize; K], nodes: usize) -> Result<Self, AllocError>
         ensures nodes { IfOk result (λ f. f.nodes ≡ nodes) }
-        ensures lists { IfOk result (λ f. f.families ≡ map (λ count. replicate count []) lists.entry) }
+        ensures lists { IfOk result
+            (λ f. f.families ≡ map (λ count. replicate count []) lists.entry) }
     {
         let counts = Vec::from_array(alloc, lists)?;
         let starts = starts_of(alloc, &counts)?;
@@ -91,7 +92,8 @@ impl<const K: usize> Family<K> {
         requires family { family < K }
         requires node { node < self.now.nodes }
         requires linked { IsLinked (lists_of self.now family) node }
-        ensures { (l i : ℕ) → slice_get (list_at (lists_of self.now family) l) i ≡ Some node → result ≡ slice_get (list_at (lists_of self.now family) l) (i + 1) }
+        ensures { (l i : ℕ) → slice_get (list_at (lists_of self.now family) l) i ≡ Some node
+            → result ≡ slice_get (list_at (lists_of self.now family) l) (i + 1) }
     {
         let next = self.linked.next(node * K + family)?;
         Some(next / K)
@@ -114,7 +116,8 @@ impl<const K: usize> Family<K> {
         requires family { family < K }
         requires node { node < self.now.nodes }
         ensures on { IfSome result (λ l. has (list_at (lists_of self.now family) l) node ≡ true) }
-        ensures only { IfSome result (λ l. (k : ℕ) → has (list_at (lists_of self.now family) k) node ≡ true → k ≡ l) }
+        ensures only { IfSome result (λ l. (k : ℕ)
+            → has (list_at (lists_of self.now family) k) node ≡ true → k ≡ l) }
         ensures within { IfSome result (λ l. l < length (lists_of self.now family)) }
         ensures off { IfNone result (IsFree (lists_of self.now family) node) }
     {
@@ -129,7 +132,10 @@ impl<const K: usize> Family<K> {
         requires node { node < self.old.nodes }
         requires free { IsFree (lists_of self.old family) node }
         ensures nodes { self.new.nodes ≡ self.old.nodes }
-        ensures families { let lists = lists_of self.old family in self.new.families ≡ slice_set self.old.families family (slice_set lists list (list_at lists list ++ node ∷ [])) }
+        ensures families { let lists = lists_of self.old family in
+            self.new.families
+            ≡ slice_set self.old.families family
+            (slice_set lists list (list_at lists list ++ node ∷ [])) }
     {
         self.linked
             .push_back(self.starts[family] + list, node * K + family);
@@ -141,7 +147,8 @@ impl<const K: usize> Family<K> {
         requires node { node < self.old.nodes }
         requires linked { IsLinked (lists_of self.old family) node }
         ensures nodes { self.new.nodes ≡ self.old.nodes }
-        ensures families { self.new.families ≡ slice_set self.old.families family (map (without node) (lists_of self.old family)) }
+        ensures families { self.new.families
+            ≡ slice_set self.old.families family (map (without node) (lists_of self.old family)) }
     {
         self.linked.unlink(node * K + family);
     }

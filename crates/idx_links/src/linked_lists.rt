@@ -51,7 +51,8 @@ impl LinkedLists {
     pub(crate) fn next(&self, node: usize) -> Option<usize>
         requires node { node < self.now.nodes }
         requires linked { IsLinked self.now.lists node }
-        ensures { (l i : ℕ) → slice_get (list_at self.now.lists l) i ≡ Some node → result ≡ slice_get (list_at self.now.lists l) (i + 1) }
+        ensures { (l i : ℕ) → slice_get (list_at self.now.lists l) i ≡ Some node
+            → result ≡ slice_get (list_at self.now.lists l) (i + 1) }
     {
         let count = self.places.lists();
         let place = self.places.next(count + node);
@@ -74,7 +75,8 @@ impl LinkedLists {
     pub(crate) fn list_of(&self, node: usize) -> Option<usize>
         requires { node < self.now.nodes }
         ensures on { IfSome result (λ l. has (list_at self.now.lists l) node ≡ true) }
-        ensures only { IfSome result (λ l. (k : ℕ) → has (list_at self.now.lists k) node ≡ true → k ≡ l) }
+        ensures only { IfSome result (λ l. (k : ℕ) → has (list_at self.now.lists k) node ≡ true
+            → k ≡ l) }
         ensures within { IfSome result (λ l. l < length self.now.lists) }
         ensures off { IfNone result (IsFree self.now.lists node) }
     {
@@ -87,7 +89,8 @@ impl LinkedLists {
         requires node { node < self.old.nodes }
         requires free { IsFree self.old.lists node }
         ensures nodes { self.new.nodes ≡ self.old.nodes }
-        ensures lists { self.new.lists ≡ slice_set self.old.lists list (list_at self.old.lists list ++ node ∷ []) }
+        ensures lists { self.new.lists
+            ≡ slice_set self.old.lists list (list_at self.old.lists list ++ node ∷ []) }
     {
         let place = self.places.lists() + node;
         let last = self.places.prev(list);

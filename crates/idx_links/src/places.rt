@@ -128,7 +128,8 @@ impl Places {
         ensures next { self.new.next ≡ self.old.next }
         ensures prev { self.new.prev ≡ self.old.prev }
         ensures owner { self.new.owner ≡ slice_set self.old.owner place (Some list) }
-        ensures lens { self.new.lens ≡ slice_set self.old.lens list (slice_index_or self.old.lens list 0 + 1) }
+        ensures lens { self.new.lens
+            ≡ slice_set self.old.lens list (slice_index_or self.old.lens list 0 + 1) }
     {
         let link = &mut self.links[place];
         link.mark = list as u32 + 1;
@@ -144,7 +145,8 @@ impl Places {
         ensures next { self.new.next ≡ self.old.next }
         ensures prev { self.new.prev ≡ self.old.prev }
         ensures owner { self.new.owner ≡ slice_set self.old.owner place None }
-        ensures lens { self.new.lens ≡ slice_set self.old.lens list (slice_index_or self.old.lens list 0 - 1) }
+        ensures lens { self.new.lens
+            ≡ slice_set self.old.lens list (slice_index_or self.old.lens list 0 - 1) }
     {
         self.links[place].mark = 0;
         self.links[list].mark -= 1;
@@ -153,9 +155,14 @@ impl Places {
     /// Makes so many places, unless there are as many. A new one leads to itself, and is on no list.
     /// Refused where they are too many for 32 bits, too.
     pub(crate) fn grow(&mut self, places: usize) -> Result<(), AllocError>
-        ensures next { OnOk result (self.new.next ≡ self.old.next ++ range_with_len (length self.old.next) (places - length self.old.next)) }
-        ensures prev { OnOk result (self.new.prev ≡ self.old.prev ++ range_with_len (length self.old.prev) (places - length self.old.prev)) }
-        ensures owner { OnOk result (self.new.owner ≡ self.old.owner ++ replicate (places - length self.old.owner) None) }
+        ensures next { OnOk result
+            (self.new.next ≡ self.old.next ++ range_with_len (length self.old.next)
+            (places - length self.old.next)) }
+        ensures prev { OnOk result
+            (self.new.prev ≡ self.old.prev ++ range_with_len (length self.old.prev)
+            (places - length self.old.prev)) }
+        ensures owner { OnOk result
+            (self.new.owner ≡ self.old.owner ++ replicate (places - length self.old.owner) None) }
         ensures lens { OnOk result (self.new.lens ≡ self.old.lens) }
         ensures err { OnErr result (self.new ≡ self.old) }
     {
@@ -177,9 +184,12 @@ fn add_lone(links: &mut Vec<Link>, places: usize)
     requires more { vec_len links.old ≤ places }
     requires room { places ≤ vec_capacity links.old }
     requires small { places < 2 ^ 32 }
-    ensures next { map (λ x. x.next) links.new.items ≡ map (λ x. x.next) links.old.items ++ range_with_len (vec_len links.old) (places - vec_len links.old) }
-    ensures prev { map (λ x. x.prev) links.new.items ≡ map (λ x. x.prev) links.old.items ++ range_with_len (vec_len links.old) (places - vec_len links.old) }
-    ensures marks { map (λ x. x.mark) links.new.items ≡ map (λ x. x.mark) links.old.items ++ replicate (places - vec_len links.old) 0 }
+    ensures next { map (λ x. x.next) links.new.items ≡ map (λ x. x.next) links.old.items
+        ++ range_with_len (vec_len links.old) (places - vec_len links.old) }
+    ensures prev { map (λ x. x.prev) links.new.items ≡ map (λ x. x.prev) links.old.items
+        ++ range_with_len (vec_len links.old) (places - vec_len links.old) }
+    ensures marks { map (λ x. x.mark) links.new.items ≡ map (λ x. x.mark) links.old.items
+        ++ replicate (places - vec_len links.old) 0 }
 {
     for place in links.len()..places {
         links.push_reserved(Link {

@@ -77,8 +77,10 @@ fn stays_best(register: &Register, was: &Option<Advert>, now: &Option<Advert>) -
 /// it was the one replaced, and says something worse than before.
 fn winner_after(updates: &[Update], at: usize, winner: Option<usize>, stays: bool) -> Option<usize>
     requires ordered { IsOrdered updates.now }
-    requires other { winner ≢ Some at → HasWinner updates.now (told updates.now) (better_place updates.now at winner) }
-    requires same { winner ≡ Some at → stays ≡ true → HasWinner updates.now (told updates.now) winner }
+    requires other { winner ≢ Some at
+        → HasWinner updates.now (told updates.now) (better_place updates.now at winner) }
+    requires same { winner ≡ Some at → stays ≡ true
+        → HasWinner updates.now (told updates.now) winner }
     ensures { HasWinner updates.now (told updates.now) result }
 {
     if winner != Some(at) {
@@ -105,7 +107,8 @@ fn moved(at: usize, winner: Option<usize>) -> Option<usize>
 /// double each would leave a third of a large table's memory unused.
 fn insert_at(updates: &mut Vec<Update>, at: usize, update: &Update) -> Result<(), AllocError>
     requires { at ≤ vec_len updates.old }
-    ensures { updates.new.items ≡ (if is_ok result then insert updates.old.items at update.now else updates.old.items) }
+    ensures { updates.new.items
+        ≡ (if is_ok result then insert updates.old.items at update.now else updates.old.items) }
 {
     let len = updates.len();
     if len == updates.capacity() {
@@ -183,7 +186,8 @@ impl Group {
     /// A newer update comes to the place of its register.
     fn replace(&mut self, at: usize, update: &Update)
         requires { place_of self.old update.now.register ≡ Ok at }
-        ensures { entries_of self.new ≡ put register_cmp update.now.register update.now.value (entries_of self.old) }
+        ensures { entries_of self.new ≡ put register_cmp update.now.register update.now.value
+            (entries_of self.old) }
     {
         let was = advert_in(&self.updates[at].value().content);
         let now = advert_in(&update.value().content);
@@ -195,7 +199,9 @@ impl Group {
     /// The first update of its register comes to the gap where it belongs.
     fn insert(&mut self, at: usize, update: &Update) -> Result<(), AllocError>
         requires { place_of self.old update.now.register ≡ Err at }
-        ensures ok { OnOk result (entries_of self.new ≡ put register_cmp update.now.register update.now.value (entries_of self.old)) }
+        ensures ok { OnOk result
+            (entries_of self.new ≡ put register_cmp update.now.register update.now.value
+            (entries_of self.old)) }
         ensures err { OnErr result (self.new ≡ self.old) }
     {
         if insert_at(&mut self.updates, at, update).is_err() {
@@ -209,11 +215,15 @@ impl Group {
     /// register that is there already takes no memory, and a new one is one more of those held.
     pub(crate) fn take(&mut self, held: &mut usize, update: &Update) -> Result<Taken, AllocError>
         requires { AreAbout (subject_of update.now.register.key) (entries_of self.old) }
-        ensures taken { IfOk result (λ t. t ≡ (if is_news (find register_cmp update.now.register (entries_of self.old)) update.now.value then Taken.Newer else Taken.Known)) }
-        ensures entries { OnOk result (entries_of self.new ≡ entries_with (entries_of self.old) update.now) }
+        ensures taken { IfOk result
+            (λ t. t ≡ (if is_news (find register_cmp update.now.register (entries_of self.old))
+            update.now.value then Taken.Newer else Taken.Known)) }
+        ensures entries { OnOk result
+            (entries_of self.new ≡ entries_with (entries_of self.old) update.now) }
         ensures held { OnOk result (held.new ≡ held.old + added (entries_of self.old) update.now) }
         ensures few { held.old < 2 ^ 64 → held.new < 2 ^ 64 }
-        ensures new { OnErr result (find register_cmp update.now.register (entries_of self.old) ≡ None) }
+        ensures new { OnErr result (find register_cmp update.now.register (entries_of self.old)
+            ≡ None) }
         ensures err { OnErr result (self.new ≡ self.old) }
         ensures err_held { OnErr result (held.new ≡ held.old) }
     {

@@ -26,12 +26,20 @@ pub(crate) fn take_in(
     update: &Update,
 ) -> Result<Taken, AllocError>
     requires { AreGroups groups.old.entries }
-    ensures taken { IfOk result (λ t. t ≡ (if is_news (find register_cmp update.now.register (entries_of (updates_in groups.old.entries))) update.now.value then Taken.Newer else Taken.Known)) }
-    ensures entries { OnOk result (entries_of (updates_in groups.new.entries) ≡ entries_with (entries_of (updates_in groups.old.entries)) update.now) }
-    ensures held { OnOk result (held.new ≡ held.old + added (entries_of (updates_in groups.old.entries)) update.now) }
+    ensures taken { IfOk result
+        (λ t. t ≡ (if is_news
+        (find register_cmp update.now.register (entries_of (updates_in groups.old.entries)))
+        update.now.value then Taken.Newer else Taken.Known)) }
+    ensures entries { OnOk result
+        (entries_of (updates_in groups.new.entries)
+        ≡ entries_with (entries_of (updates_in groups.old.entries)) update.now) }
+    ensures held { OnOk result
+        (held.new ≡ held.old + added (entries_of (updates_in groups.old.entries)) update.now) }
     ensures few { held.old < 2 ^ 64 → held.new < 2 ^ 64 }
     ensures groups { AreGroups groups.new.entries }
-    ensures new { OnErr result (find register_cmp update.now.register (entries_of (updates_in groups.old.entries)) ≡ None) }
+    ensures new { OnErr result
+        (find register_cmp update.now.register (entries_of (updates_in groups.old.entries))
+        ≡ None) }
     ensures err { OnErr result (groups.new.entries ≡ groups.old.entries) }
     ensures err_held { OnErr result (held.new ≡ held.old) }
 {

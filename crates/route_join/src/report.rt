@@ -111,7 +111,8 @@ fn put_counter<O: Out>(out: &mut O, value: &Value) -> Result<(), Device>
 #[tactic(auto, using(ether_wire::proofs::Appending::with_text_twice))]
 fn put_origin<O: Out>(out: &mut O, originator: Addr, value: &Value) -> Result<(), Device>
     requires { IsOpen (O.end out.old) }
-    ensures { Puts (O.end out.old) (O.end out.new) (spaced (origin_text originator value.now)) result }
+    ensures { Puts (O.end out.old) (O.end out.new)
+        (spaced (origin_text originator value.now)) result }
 {
     out.put(b" ")?;
     put_addr(out, originator)?;
@@ -201,7 +202,8 @@ fn put_mac_line<O: Out>(
     value: &Value,
 ) -> Result<(), Device>
     requires { IsOpen (O.end out.old) }
-    ensures { Puts (O.end out.old) (O.end out.new) (mac_line vni mac ip originator value.now) result }
+    ensures { Puts (O.end out.old) (O.end out.new)
+        (mac_line vni mac ip originator value.now) result }
 {
     out.put(b"mac ")?;
     put_station(out, vni, mac)?;
@@ -213,7 +215,8 @@ fn put_mac_line<O: Out>(
 /// Writes the line of a register, part by part.
 fn put_register_line<O: Out>(out: &mut O, update: &Update) -> Result<(), Device>
     requires { IsOpen (O.end out.old) }
-    ensures { Puts (O.end out.old) (O.end out.new) (register_line update.now.register update.now.value) result }
+    ensures { Puts (O.end out.old) (O.end out.new)
+        (register_line update.now.register update.now.value) result }
 {
     let Register { originator, key } = update.register();
     let value = update.value();
@@ -226,7 +229,8 @@ fn put_register_line<O: Out>(out: &mut O, update: &Update) -> Result<(), Device>
 /// Writes the line of a register, in one call of the writer.
 pub(crate) fn put_update<O: Out>(out: &mut O, update: &Update) -> Result<(), Device>
     requires { IsOpen (O.end out.old) }
-    ensures { Puts (O.end out.old) (O.end out.new) (register_line update.now.register update.now.value) result }
+    ensures { Puts (O.end out.old) (O.end out.new)
+        (register_line update.now.register update.now.value) result }
 {
     let mut line = Page::<LINE>::new();
     match put_register_line(&mut line, update) {
@@ -285,7 +289,8 @@ pub(crate) fn put_owner<O: Out>(
 #[tactic(auto, using(ether_wire::proofs::Appending::with_text_twice, ether_wire::proofs::Appending::with_text_none))]
 pub(crate) fn put_updates<O: Out>(out: &mut O, updates: &[Update]) -> Result<(), Device>
     requires { IsOpen (O.end out.old) }
-    ensures { Puts (O.end out.old) (O.end out.new) (register_lines (entries_of updates.now)) result }
+    ensures { Puts (O.end out.old) (O.end out.new)
+        (register_lines (entries_of updates.now)) result }
 {
     for update in updates {
         put_update(out, update)?;

@@ -147,9 +147,14 @@ impl Table {
     pub fn take(&mut self, update: &Update) -> Result<Taken, TakeError>
         ensures taken { IfOk result (λ taken. taken ≡ taken_of self.old update.now) }
         ensures table { OnOk result (self.new ≡ with_update self.old update.now) }
-        ensures unknown { (result ≡ Err TakeError.UnknownOriginator) ↔ (is_listed self.old update.now.register.originator ≡ false) }
-        ensures no_memory { result ≡ Err TakeError.NoMemory → value_at self.old update.now.register ≡ None }
-        ensures there { (v : Value) → value_at self.old update.now.register ≡ Some v → is_listed self.old update.now.register.originator ≡ true → (result ≡ Ok (taken_of self.old update.now)) × (self.new ≡ with_update self.old update.now) }
+        ensures unknown { (result ≡ Err TakeError.UnknownOriginator)
+            ↔ (is_listed self.old update.now.register.originator ≡ false) }
+        ensures no_memory { result ≡ Err TakeError.NoMemory
+            → value_at self.old update.now.register ≡ None }
+        ensures there { (v : Value) → value_at self.old update.now.register ≡ Some v
+            → is_listed self.old update.now.register.originator ≡ true
+            → (result ≡ Ok (taken_of self.old update.now))
+            × (self.new ≡ with_update self.old update.now) }
         ensures err { OnErr result (self.new ≡ self.old) }
         ensures listeners { self.new.originators ≡ self.old.originators }
     {
@@ -166,7 +171,8 @@ impl Table {
     /// Takes updates of listed originators, one after the other. Where memory is refused, it tells how
     /// many were taken before.
     fn take_all(&mut self, updates: &[Update]) -> Result<(), usize>
-        requires { (k : ℕ) → (u : Fields) → slice_get updates.now k ≡ Some u → is_listed self.old u.register.originator ≡ true }
+        requires { (k : ℕ) → (u : Fields) → slice_get updates.now k ≡ Some u
+            → is_listed self.old u.register.originator ≡ true }
         ensures taken { OnOk result (self.new ≡ with_updates self.old updates.now) }
         ensures refused { IfErr result (λ k. StopsAt self.old updates.now k self.new) }
     {
@@ -189,7 +195,8 @@ impl Table {
         requires { (o : ℕ) → is_listed other.now o ≡ true → is_listed self.old o ≡ true }
         ensures merged { OnOk result (self.new ≡ join self.old other.now) }
         ensures joined { OnOk result (IsJoin self.old other.now self.new) }
-        ensures part { IfErr result (λ stopped. IsPartJoin self.old other.now stopped.joined self.new) }
+        ensures part { IfErr result
+            (λ stopped. IsPartJoin self.old other.now stopped.joined self.new) }
         ensures listeners { self.new.originators ≡ self.old.originators }
     {
         let mut joined = 0;

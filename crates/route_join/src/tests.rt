@@ -45,7 +45,8 @@ fn new_table(alloc: Global) -> Table
 }
 
 fn advert(is_static: bool, sequence: u32) -> Content
-    ensures { result ≡ Content.Advert (record { is_static = is_static; sequence = sequence; label2 = None }) }
+    ensures { result ≡ Content.Advert
+        (record { is_static = is_static; sequence = sequence; label2 = None }) }
 {
     Content::Advert(Advert {
         is_static,
