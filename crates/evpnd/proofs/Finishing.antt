@@ -12,7 +12,7 @@ use Rattle.evpnd.specs.declared.ending.Ending.{Ending}
 use Rattle.evpnd.specs.declared.stream.Intake.{Intake}
 use Rattle.evpnd.specs.Notes.{refusals_from, end_note, notes_of, has_stopped, is_broken, has_starved, status_of}
 use Rattle.evpnd.specs.Ends.{devices, has_failed, fault_in, Holds, Tells, Finishes}
-use Rattle.evpnd.specs.Runs.{taken_of, Output, Runs}
+use Rattle.evpnd.specs.Runs.{taken_of, Output, Renders}
 use Rattle.evpnd.specs.Progressing.{state, new_intake, TakesInput}
 use Rattle.evpnd.proofs.Taking.{tells_more, table_of_all}
 use Rattle.evpnd.proofs.Feeding.{same_note, same_broken}
@@ -44,11 +44,11 @@ same_status e p q x y s t k l hx hy hs hk =
 
 -- the records of a reader were taken, the end was noted, and what is made of them written
 module _ (newest : ℕ) (output : Output) (originators : List ℕ) (reader reader' : Source) (out out' notes mid notes' : End) (intake last : Intake) (ending : Ending) where
-  pub runs : (i : TakesInput newest ending reader reader' (state (new_intake newest originators) notes) (state intake mid)) → last ≡ record intake { is_told = last.is_told }
+  pub renders : (i : TakesInput newest ending reader reader' (state (new_intake newest originators) notes) (state intake mid)) → last ≡ record intake { is_told = last.is_told }
       → Tells mid notes' intake.is_told last.is_told (end_note ending (intake.count + 1) intake.feed.rest) → (r : Result (Unit {0}) Device) → (text : List ℕ) → Puts out out' text r
       → text ≡ output ending i.octets.taken.outcomes last.table → (status : ℕ) → status ≡ status_of (has_stopped ending || (not (is_ok r) || not last.is_told)) last.is_starved (is_broken ending intake.feed.rest)
-      → Runs newest output originators (devices reader out notes) (devices reader' out' notes') status
-  runs i kept told r text put makes status is =
+      → Renders newest output originators (devices reader out notes) (devices reader' out' notes') status
+  renders i kept told r text put makes status is =
       let o = i.octets in
       let outcomes = o.taken.outcomes in
       let first : HasRead (new_intake newest originators).feed [] [] = record { skipped = []; reads = refl; faulty = λ _. refl } in
@@ -124,10 +124,10 @@ last_status true true true s k x y status last h l f g = l ∙ h
 last_status true false q s k x y status last h l f g = l
 last_status true true false s k x y status last h l f g = l
 
-pub buffered_runs : (newest : ℕ) (output : Output) (originators : List ℕ) (reader reader' : Source) (out held out' notes kept notes' : End) (p q : Bool) (status last : ℕ)
-    → Runs newest output originators (devices reader out notes) (devices reader' held kept) status → Finishes out.failures held out' p → Finishes notes.failures kept notes' q
-    → last ≡ cond (p && q) status 4 → Runs newest output originators (devices reader out notes) (devices reader' out' notes') last
-buffered_runs newest output originators reader reader' out held out' notes kept notes' p q status last r f g l =
+pub buffered_renders : (newest : ℕ) (output : Output) (originators : List ℕ) (reader reader' : Source) (out held out' notes kept notes' : End) (p q : Bool) (status last : ℕ)
+    → Renders newest output originators (devices reader out notes) (devices reader' held kept) status → Finishes out.failures held out' p → Finishes notes.failures kept notes' q
+    → last ≡ cond (p && q) status 4 → Renders newest output originators (devices reader out notes) (devices reader' out' notes') last
+buffered_renders newest output originators reader reader' out held out' notes kept notes' p q status last r f g l =
     let text = output r.ending r.outcomes r.table in
     let lines = notes_of r.outcomes r.ending r.rest in
     let starved = has_starved r.outcomes in

@@ -1,9 +1,8 @@
 -- Records one after the other, the octets that spell them, and the table of all that were taken.
-use Rattle.std.proofs.Common.{◌≡◌, ◌↔◌, ◌⊎◌, inl, inr, ℕ, ◌+◌, Bool, true, false, ◌||◌, ◌==◌, List, [], ◌∷◌, ◌++◌, take, drop, length, length-append, None, Result, Ok, Err, is_ok, refl, sym, ap, subst, ◌∙◌, append_assoc, arith}
+use Rattle.std.proofs.Common.{◌≡◌, ◌↔◌, ◌⊎◌, inl, inr, ℕ, ◌+◌, Bool, true, false, ◌||◌, ◌==◌, List, [], ◌∷◌, ◌++◌, take, drop, length, length-append, None, Result, Ok, Err, refl, sym, ap, subst, ◌∙◌, append_assoc, arith}
 use Rattle.std.proofs.lemmas.List.{append-nil, nil_from_length, take-append-drop}
 use Rattle.std.specs.Prelude.{MatchBool}
-use Rattle.ether_wire.specs.declared.ends.Device.{Device}
-use Rattle.ether_wire.specs.Ends.{End, IsOpen, with_text, Puts}
+use Rattle.ether_wire.specs.Ends.{End, with_text}
 use Rattle.ether_wire.proofs.Appending.{with_text_twice, with_text_none}
 use Rattle.route_wire.specs.declared.stream.Next.{Next}
 use Rattle.route_wire.specs.Fields.{Fields}
@@ -47,20 +46,6 @@ tells_none a p = record { kept = λ e. (e, refl); written = λ _. sym (with_text
     failed : (p : Bool) → p ≡ true → p ≡ false → a.failures ≡ a.failures + 1
     failed true e f = cc
     failed false e f = cc
-
--- a call
-pub tells_put : (a b : End) (r : Result (Unit {0}) Device) (text : List ℕ) → Puts a b text r → Tells a b true (is_ok r) text
-tells_put a b (Ok done) text h = record { kept = λ e. cc; written = λ e. h; failed = λ e f. cc }
-tells_put a b (Err device) text h = record { kept = λ e. cc; written = λ e. cc; failed = λ e f. h }
-
--- no call
-pub tells_kept : (a : End) (text : List ℕ) → Tells a a false false text
-tells_kept a text = record { kept = λ e. (e, refl); written = λ e. cc; failed = λ e f. cc }
-
--- a writer that hasn't failed may be called
-pub still_open : (a b : End) (p q : Bool) (t : List ℕ) → Tells a b p q t → (p ≡ true → IsOpen a) → q ≡ true → IsOpen b
-still_open a b true q t h room e = let same : b.failures ≡ a.failures = ap (λ (x : End). x.failures) (h.written e) in let x = room refl in omega arith
-still_open a b false q t h room e = let no = (h.kept refl).0 in cc
 
 -- ---- records
 become_both : (t : Table) (xs os ys ps : List (Result Fields ℕ)) → BecomeAll t xs os → BecomeAll (table_after_all t os) ys ps → BecomeAll t (xs ++ ys) (os ++ ps)
@@ -204,19 +189,6 @@ octets_both xs ys s t u f g = record {
   version = g.version ∙ f.version;
   taken = answers_both f.answers g.answers s t u f.taken g.taken;
 }
-
--- the notes on a piece are given out
-pub octets_noted : (xs : List ℕ) (s t u : State) → TakesOctets xs s t → u.intake ≡ record t.intake { is_told = u.intake.is_told } → Tells t.notes u.notes t.intake.is_told u.intake.is_told [] → TakesOctets xs s u
-octets_noted xs s t u f kept told = subst (λ x. TakesOctets x s u) (append-nil xs) (octets_both xs [] s t u f none)
-  where
-    none : TakesOctets [] t u
-    none = record {
-      answers = [];
-      read = λ stream earlier r. subst (λ x. HasRead u.intake.feed x (earlier ++ [])) (sym (append-nil stream))
-          (subst (λ x. HasRead u.intake.feed stream x) (sym (append-nil earlier)) (subst (λ (h : Held). HasRead h stream earlier) (sym (ap (λ x. x.feed) kept)) r));
-      version = ap (λ x. x.feed.newest) kept;
-      taken = answers_none t u (ap (λ x. x.table) kept) (ap (λ x. x.count) kept) (ap (λ x. x.is_starved) kept) told;
-    }
 
 -- octets that a feed took, and what it has next then
 pub octets_next : (octets : List ℕ) (s t : State) (after : Held) (x : Next) → ((stream : List ℕ) (answers : List (Result Fields ℕ)) → HasRead s.intake.feed stream answers → HasRead after (stream ++ octets) (answers ++ added x))

@@ -2,7 +2,7 @@
 use Rattle.std.specs.Prelude.{ℕ, ◌||◌, if◌then◌else◌, List, []}
 use Rattle.evpnd.specs.Notes.{has_stopped, has_starved}
 use Rattle.evpnd.specs.Ends.{Devices}
-use Rattle.evpnd.specs.Runs.{Output, Runs, taken_of}
+use Rattle.evpnd.specs.Runs.{Output, Renders, taken_of}
 use Rattle.evpnd.specs.Migrated.{AreMigrated, migrated_of, records_of}
 
 -- the records of the migration, but none where the reading failed or memory was refused: what was taken isn't all then
@@ -11,5 +11,5 @@ migration ending outcomes t = if has_stopped ending || has_starved outcomes then
 
 -- The records are of versions 1 and 2, and what is put out is the migration of the updates that were taken.
 pub record Migrates (originators : List ℕ) (before after : Devices) (status : ℕ) : Type 0 where
-  pub run : Runs 2 migration originators before after status
+  pub run : Renders 2 migration originators before after status
   pub migrated : AreMigrated (taken_of run.outcomes) (migrated_of run.table)

@@ -60,7 +60,7 @@ Output = Ending → List (Result Fields ℕ) → Table → List ℕ
 
 -- The input was read and its records, up to a version, were taken; the output is what is made of them, the notes tell of
 -- every other record and of the end, and the status is the greatest that applies.
-pub record Runs (newest : ℕ) (output : Output) (originators : List ℕ) (before after : Devices) (status : ℕ) : Type 0 where
+pub record Renders (newest : ℕ) (output : Output) (originators : List ℕ) (before after : Devices) (status : ℕ) : Type 0 where
   pub input : List ℕ
   pub ending : Ending
   pub outcomes : List (Result Fields ℕ)
@@ -76,4 +76,4 @@ pub record Runs (newest : ℕ) (output : Output) (originators : List ℕ) (befor
 
 -- A report is that of the table, of records of all versions, up to 3.
 abbrev pub Reports : List ℕ → Devices → Devices → ℕ → Type 0
-Reports originators before after status = Runs 3 (λ ending outcomes t. report_of t) originators before after status
+Reports originators before after status = Renders 3 (λ ending outcomes t. report_of t) originators before after status

@@ -142,8 +142,11 @@ fn newest_along(first: &Update, ahead: &mut Updates<'_>) -> Update
 /// The newest of an update's old register, where `newest` is that of the update before: where the old
 /// register is another one, it goes behind that.
 fn entered(newest: &Update, update: &Update, ahead: &mut Updates<'_>) -> Update
-    ensures same { is_same_old newest.now.register update.now.register ≡ true → (result ≡ newest.now) × (ahead.new ≡ ahead.old) }
-    ensures other { is_same_old newest.now.register update.now.register ≡ false → (result ≡ newest_along update.now ahead.old) × (ahead.new ≡ drop 1 (behind update.now ahead.old)) }
+    ensures same { is_same_old newest.now.register update.now.register ≡ true
+        → (result ≡ newest.now) × (ahead.new ≡ ahead.old) }
+    ensures other { is_same_old newest.now.register update.now.register ≡ false
+        → (result ≡ newest_along update.now ahead.old)
+        × (ahead.new ≡ drop 1 (behind update.now ahead.old)) }
 {
     if is_same_old(&newest.register(), &update.register()) {
         *newest
@@ -204,7 +207,8 @@ fn is_withheld(ending: Ending, is_starved: bool) -> bool
 /// Writes the records of the migration of a table, or nothing where they are withheld.
 fn put_unless<W: Out>(is_withheld: bool, table: &Table, out: &mut W) -> Result<(), Device>
     requires { IsOpen (W.end out.old) }
-    ensures { Puts (W.end out.old) (W.end out.new) (if is_withheld then [] else records_of (migrated_of table.now)) result }
+    ensures { Puts (W.end out.old) (W.end out.new)
+        (if is_withheld then [] else records_of (migrated_of table.now)) result }
 {
     if is_withheld {
         return Ok(());
@@ -232,7 +236,8 @@ pub fn migrate_run<R: In, W: Out, N: Out>(
     requires reader { Allows (2 ^ 40) (R.end reader.old) }
     requires out { IsOpen (W.end out.old) }
     requires notes { IsOpen (N.end notes.old) }
-    ensures { Migrates originators.items (devices (R.end reader.old) (W.end out.old) (N.end notes.old))
+    ensures { Migrates originators.items
+        (devices (R.end reader.old) (W.end out.old) (N.end notes.old))
         (devices (R.end reader.new) (W.end out.new) (N.end notes.new)) result }
 {
     let feed = Feed::old();

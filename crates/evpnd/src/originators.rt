@@ -87,7 +87,8 @@ fn with_originator(
 /// One originator more, by its text.
 fn with_text(originators: ArrayVec<Addr, 64>, text: &[u8]) -> Result<ArrayVec<Addr, 64>, ListFault>
     requires { IsDistinct eqb originators.items }
-    ensures value { items_of result ≡ with_address originators.items text.now (addr_of_text text.now) }
+    ensures value { items_of result ≡ with_address originators.items text.now
+        (addr_of_text text.now) }
     ensures some { IfOk result (λ o. AreOriginators o.items) }
 {
     match Addr::read_text(text) {
@@ -147,7 +148,8 @@ impl ListFault {
 #[tactic(auto, using(ether_wire::proofs::Appending::with_text_twice))]
 pub(crate) fn put_wrong_part<N: Out>(notes: &mut N, wrong: WrongPart<'_>) -> Result<(), Device>
     requires { IsOpen (N.end notes.old) }
-    ensures { Puts (N.end notes.old) (N.end notes.new) (list_text (wrong.entry.part.now, wrong.entry.fault)) result }
+    ensures { Puts (N.end notes.old) (N.end notes.new)
+        (list_text (wrong.entry.part.now, wrong.entry.fault)) result }
 {
     notes.put(b"error: --originators: '")?;
     notes.put(wrong.part)?;

@@ -55,7 +55,8 @@ pub fn report_run<R: In, W: Out, N: Out>(
     requires reader { Allows (2 ^ 40) (R.end reader.old) }
     requires out { IsOpen (W.end out.old) }
     requires notes { IsOpen (N.end notes.old) }
-    ensures { Reports originators.items (devices (R.end reader.old) (W.end out.old) (N.end notes.old))
+    ensures { Reports originators.items
+        (devices (R.end reader.old) (W.end out.old) (N.end notes.old))
         (devices (R.end reader.new) (W.end out.new) (N.end notes.new)) result }
 {
     let feed = Feed::new();

@@ -61,7 +61,8 @@ impl Intake {
     fn refuse<N: Out>(&mut self, refusal: u8, notes: &mut N)
         requires count { self.old.count + 1 < 2 ^ 64 }
         requires room { self.old.is_told ≡ true → IsOpen (N.end notes.old) }
-        ensures { Refuses refusal (state self.old (N.end notes.old)) (state self.new (N.end notes.new)) }
+        ensures { Refuses refusal (state self.old (N.end notes.old))
+            (state self.new (N.end notes.new)) }
     {
         self.count += 1;
         self.is_told = self.is_told && put_refused(notes, self.count, refusal).is_ok();
@@ -71,7 +72,8 @@ impl Intake {
     fn take<N: Out>(&mut self, update: &Update, notes: &mut N)
         requires count { self.old.count + 1 < 2 ^ 64 }
         requires room { self.old.is_told ≡ true → IsOpen (N.end notes.old) }
-        ensures taken { TakesAnswers (Ok update.now ∷ []) (state self.old (N.end notes.old)) (state self.new (N.end notes.new)) }
+        ensures taken { TakesAnswers (Ok update.now ∷ []) (state self.old (N.end notes.old))
+            (state self.new (N.end notes.new)) }
         ensures feed { self.new.feed ≡ self.old.feed }
         ensures count { self.new.count ≡ self.old.count + 1 }
     {
@@ -93,7 +95,8 @@ impl Intake {
         requires piece { 0 < length piece.now }
         requires count { self.old.count + 1 < 2 ^ 64 }
         requires room { self.old.is_told ≡ true → IsOpen (N.end notes.old) }
-        ensures taken { TakesOctets (take result piece.now) (state self.old (N.end notes.old)) (state self.new (N.end notes.new)) }
+        ensures taken { TakesOctets (take result piece.now) (state self.old (N.end notes.old))
+            (state self.new (N.end notes.new)) }
         ensures some { 0 < result }
         ensures fits { result ≤ length piece.now }
         ensures feed { is_length (shown self.new.feed) ≡ false }
@@ -114,7 +117,8 @@ impl Intake {
         requires feed { is_length (shown self.old.feed) ≡ false }
         requires count { self.old.count + length piece.now < 2 ^ 64 }
         requires room { self.old.is_told ≡ true → IsOpen (N.end notes.old) }
-        ensures taken { TakesOctets piece.now (state self.old (N.end notes.old)) (state self.new (N.end notes.new)) }
+        ensures taken { TakesOctets piece.now (state self.old (N.end notes.old))
+            (state self.new (N.end notes.new)) }
         ensures feed { is_length (shown self.new.feed) ≡ false }
         ensures few { self.new.count ≤ self.old.count + length piece.now }
     {
@@ -131,7 +135,8 @@ impl Intake {
         requires feed { is_length (shown self.old.feed) ≡ false }
         requires count { self.old.count + length piece.now < 2 ^ 64 }
         requires room { self.old.is_told ≡ true → IsOpen (N.end notes.old) }
-        ensures taken { TakesOctets piece.now (state self.old (N.end notes.old)) (state self.new (N.end notes.new)) }
+        ensures taken { TakesOctets piece.now (state self.old (N.end notes.old))
+            (state self.new (N.end notes.new)) }
         ensures feed { is_length (shown self.new.feed) ≡ false }
         ensures few { self.new.count ≤ self.old.count + length piece.now }
     {
@@ -160,7 +165,8 @@ impl Intake {
         requires count { self.old.count ≡ 0 }
         requires reader { Allows (2 ^ 40) (R.end reader.old) }
         requires room { self.old.is_told ≡ true → IsOpen (N.end notes.old) }
-        ensures taken { TakesInput self.old.feed.newest result (R.end reader.old) (R.end reader.new) (state self.old (N.end notes.old)) (state self.new (N.end notes.new)) }
+        ensures taken { TakesInput self.old.feed.newest result (R.end reader.old) (R.end reader.new)
+            (state self.old (N.end notes.old)) (state self.new (N.end notes.new)) }
         ensures few { self.new.count + 1 < 2 ^ 64 }
     {
         let mut buffer = [0; PIECE];
@@ -185,7 +191,8 @@ impl Intake {
         requires room { self.old.is_told ≡ true → IsOpen (N.end notes.old) }
         ensures broken { result ≡ is_broken ending self.old.feed.rest }
         ensures kept { self.new ≡ record self.old { is_told = self.new.is_told } }
-        ensures told { Tells (N.end notes.old) (N.end notes.new) self.old.is_told self.new.is_told (end_note ending (self.old.count + 1) self.old.feed.rest) }
+        ensures told { Tells (N.end notes.old) (N.end notes.new) self.old.is_told self.new.is_told
+            (end_note ending (self.old.count + 1) self.old.feed.rest) }
     {
         let number = self.count + 1;
         match ending {

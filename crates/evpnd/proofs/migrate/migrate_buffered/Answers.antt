@@ -4,7 +4,7 @@ use Rattle.ether_wire.specs.Buffered.{buffered_end}
 use Rattle.evpnd.specs.Ends.{devices, Finishes}
 use Rattle.evpnd.specs.Runs.{taken_of}
 use Rattle.evpnd.specs.Migrations.{migration, Migrates}
-use Rattle.evpnd.proofs.Finishing.{buffered_runs}
+use Rattle.evpnd.proofs.Finishing.{buffered_renders}
 use Rattle.evpnd.proofs.Migrating.{migration_is}
 use Rattle.evpnd.proofs.migrate.migrate_buffered.Goals as goal
 
@@ -22,7 +22,7 @@ returns g c =
     let notes' : End = g.N.Out.end c.finish-notes.result.0 in
     let first = subst (λ (a : End). Migrates originators (devices reader a (buffered_end g.N.Out.end c.new-notes.result)) (devices reader' held kept) run.result) c.new-out.ensures run.ensures in
     let both = subst (λ (a : End). Migrates originators (devices reader out a) (devices reader' held kept) run.result) c.new-notes.ensures first in
-    let all = buffered_runs 2 migration originators reader reader' out held out' notes kept notes' c.finish-out.result.1 c.finish-notes.result.1 run.result c.last_status.result both.run
+    let all = buffered_renders 2 migration originators reader reader' out held out' notes kept notes' c.finish-out.result.1 c.finish-notes.result.1 run.result c.last_status.result both.run
     (subst (λ (n : ℕ). Finishes n held out' c.finish-out.result.1) c.failures-out_failures.ensures c.finish-out.ensures)
     (subst (λ (n : ℕ). Finishes n kept notes' c.finish-notes.result.1) c.failures-notes_failures.ensures c.finish-notes.ensures)
     c.last_status.ensures in

@@ -4,11 +4,11 @@ use Rattle.route_join.specs.Table.{Table}
 use Rattle.evpnd.specs.declared.stream.Intake.{Intake}
 use Rattle.evpnd.specs.Notes.{has_stopped, has_starved, status_of}
 use Rattle.evpnd.specs.Ends.{devices}
-use Rattle.evpnd.specs.Runs.{Runs, taken_of}
+use Rattle.evpnd.specs.Runs.{Renders, taken_of}
 use Rattle.evpnd.specs.Progressing.{state, new_intake, TakesInput}
 use Rattle.evpnd.specs.Migrated.{migrated_of, records_of}
 use Rattle.evpnd.specs.Migrations.{migration}
-use Rattle.evpnd.proofs.Finishing.{runs}
+use Rattle.evpnd.proofs.Finishing.{renders}
 use Rattle.evpnd.proofs.Migrating.{migration_is}
 use Rattle.evpnd.proofs.migrate.migrate_run.Goals as goal
 
@@ -40,8 +40,8 @@ returns g c =
     c.is_withheld-is_withheld.ensures ∙ ap (λ (b : Bool). has_stopped ending || b) (c.is_starved-is_starved.ensures ∙ ap (λ (x : Intake). x.is_starved) c.note_end-is_broken.ensures.kept ∙ i.octets.taken.counts.starved) in
     let makes : text ≡ migration ending i.octets.taken.outcomes last.table =
     ap (λ (t : Table). cond c.is_withheld-is_withheld.result [] (records_of (migrated_of t))) c.table.ensures ∙ ap (λ (b : Bool). cond b [] (records_of (migrated_of last.table))) withheld in
-    let run : Runs 2 migration originators (devices reader out notes) (devices reader' out' notes') c.status.result =
-    runs 2 migration originators reader reader' out out' notes mid notes' intake last ending i c.note_end-is_broken.ensures.kept c.note_end-is_broken.ensures.told r text c.put_unless.ensures makes c.status.result
+    let run : Renders 2 migration originators (devices reader out notes) (devices reader' out' notes') c.status.result =
+    renders 2 migration originators reader reader' out out' notes mid notes' intake last ending i c.note_end-is_broken.ensures.kept c.note_end-is_broken.ensures.told r text c.put_unless.ensures makes c.status.result
     (c.status.ensures ∙ ap (λ (b : Bool). status_of b starved broken) failed ∙ ap (λ (b : Bool). status_of all b broken) c.is_starved-is_starved.ensures
     ∙ ap (λ (b : Bool). status_of all last.is_starved b) c.note_end-is_broken.ensures.broken) in
     record { run = run; migrated = migration_is (taken_of run.outcomes) run.table run.taken.table_of }

@@ -6,7 +6,7 @@ use Rattle.route_join.specs.Report.{report_of}
 use Rattle.evpnd.specs.declared.stream.Intake.{Intake}
 use Rattle.evpnd.specs.Notes.{has_stopped, status_of}
 use Rattle.evpnd.specs.Progressing.{state, new_intake, TakesInput}
-use Rattle.evpnd.proofs.Finishing.{runs}
+use Rattle.evpnd.proofs.Finishing.{renders}
 use Rattle.evpnd.proofs.report.report_run.Goals as goal
 
 pub returns : goal.returns
@@ -28,7 +28,7 @@ returns g c =
     ∙ ap (λ (b : Bool). has_stopped ending || (not (is_ok r) || not b)) c.is_told.ensures in
     let all = has_stopped ending || (not (is_ok r) || not last.is_told) in
     let fresh_is : c.new-intake.result ≡ new_intake 3 c.args.originators.items = c.new-intake.ensures ∙ ap (λ (h : Held). new_intake h.newest c.args.originators.items) c.new-feed.ensures.value in
-    runs 3 (λ ending outcomes t. report_of t) c.args.originators.items reader reader' out out' notes mid notes' intake last ending
+    renders 3 (λ ending outcomes t. report_of t) c.args.originators.items reader reader' out out' notes mid notes' intake last ending
     (subst (λ (n : ℕ). TakesInput n ending reader reader' (state (new_intake 3 c.args.originators.items) notes) (state intake mid)) (ap (λ (x : Intake). x.feed.newest) fresh_is)
     (subst (λ (x : Intake). TakesInput c.new-intake.result.feed.newest ending reader reader' (state x notes) (state intake mid)) fresh_is c.take_input-ending.ensures.taken))
     c.note_end-is_broken.ensures.kept c.note_end-is_broken.ensures.told r (report_of last.table) (subst (λ (t : Table). Puts out out' (report_of t) r) c.table.ensures c.write_report.ensures) refl c.status.result
