@@ -1,12 +1,12 @@
 -- The winner of a group: how it is found among some updates, and what an edit makes of it.
 use Rattle.std.proofs.Common.{◌≡◌, ◌≢◌, inl, inr, ℕ, suc, zero, ◌+◌, ◌<◌, ◌≤◌, ◌^◌, Bool, true, false, cond, Option, Some, None, List, [], ◌∷◌, ◌++◌, length, get_or, set, take, drop, refl, sym, ap, subst, ◌∙◌, arith, add-one, length-set}
 use Rattle.std.specs.List.{slice_get, insert}
-use Rattle.std.specs.Option.{option_map, option_eq}
+use Rattle.std.specs.Option.{option_map}
 use Rattle.std.specs.Cmp.{tied_itself}
 use Rattle.std.specs.declared.cmp.Ordering.TheVariants.{Less, Equal}
 use Rattle.std.specs.Ordering.{is_lt}
 use Rattle.std.specs.FinMap.Entries.{find, put, find-put, below_all, is_sorted}
-use Rattle.std.specs.Prelude.{eqb, not, is_some, nat_le, IfSome, OnOk, Result, Ok, Err}
+use Rattle.std.specs.Prelude.{not, is_some, nat_le, IfSome, OnOk, Result, Ok, Err}
 use Rattle.std.specs.Result.{is_err}
 use Rattle.std.proofs.lemmas.Bool.Decides.{nat_tests}
 use Rattle.std.proofs.lemmas.List.{map-append, take-append-drop, get_or-set_same, get_or-set_other}
@@ -23,7 +23,7 @@ use Rattle.route_join.specs.declared.table.Taken.{Taken}
 use Rattle.route_join.specs.declared.table.Taken.TheVariants.{Newer, Known}
 use Rattle.route_wire.specs.Totals.{register_total}
 use Rattle.route_join.specs.Table.{entries_of, IsOrdered, is_news}
-use Rattle.route_join.specs.Owner.{advert_in, advert_of, IsBetter, is_better}
+use Rattle.route_join.specs.Owner.{advert_in, advert_of, IsBetter, is_better, is_better_by}
 use Rattle.route_join.specs.Group.{told, Leads, HasWinner, candidate_in, candidate_at, wins, better_place, stays_best, moved, update_among, entries_with, added}
 use Rattle.route_join.proofs.Orders.{less, both}
 use Rattle.route_join.proofs.Tables.{same_or_other, itself_register, other_register}
@@ -191,19 +191,20 @@ winner_set us at u w s p h ne =
 was_at : (us : List Fields) (at : ℕ) (v x : Fields) → slice_get us at ≡ Some x → v ≡ get_or us at v → v ≡ x
 was_at us at v x s e = e ∙ get_or_from_slice_get us at x v s
 
-told_no_worse : (r : Register) (was now : Option Advert) → stays_best r was now ≡ true → (a : Advert) → was ≡ Some a → (n : Advert) × (now ≡ Some n) × (is_better a r n r ≡ false)
+told_no_worse : (r : Register) (was now : Option Advert) → stays_best was now ≡ true → (a : Advert) → was ≡ Some a → (n : Advert) × (now ≡ Some n) × (is_better a r n r ≡ false)
 told_no_worse r None now t a e = cc
 told_no_worse r (Some w) None t a e = cc
 told_no_worse r (Some w) (Some n) t a e =
     let same : w ≡ a = cc in
-    (n, refl, subst (λ x. is_better x r n r ≡ false) same (denied (is_better w r n r) t))
+    let level = is_better_by w.is_static n.is_static w.sequence n.sequence in
+    (n, refl, subst (λ x. is_better x r n r ≡ false) same (ap level (tied_itself register_total r) ∙ denied (level Equal) t))
   where
     denied : (b : Bool) → not b ≡ true → b ≡ false
     denied true p = cc
     denied false p = refl
 
 pub winner_stays : (us : List Fields) (at : ℕ) (u v : Fields) → IsPlace us u.register at → HasWinner us (told us) (Some at) → v ≡ get_or us at v
-    → stays_best u.register (advert_in v.value.content) (advert_in u.value.content) ≡ true → HasWinner (set us at u) (told (set us at u)) (Some at)
+    → stays_best (advert_in v.value.content) (advert_in u.value.content) ≡ true → HasWinner (set us at u) (told (set us at u)) (Some at)
 winner_stays us at u v p l e t =
     let new = set us at u in
     let w = p.write u refl in

@@ -9,6 +9,7 @@ pub mod Floods
 pub mod Subjects
 pub mod Groupings
 pub mod Leaders
+pub mod Within
 pub mod Taking
 pub mod Holding
 pub mod Joins

@@ -1,6 +1,7 @@
 -- Groups: the updates of one subject, with the place of the best advert among them.
 use Rattle.std.specs.Prelude.{◌≡◌, ◌≢◌, ℕ, ◌+◌, ◌<◌, ◌^◌, Bool, true, false, not, Option, Some, None, is_some, List, [], ◌∷◌, ◌++◌, length, nat_le, if◌then◌else◌}
-use Rattle.std.specs.declared.cmp.Ordering.TheVariants.{Less}
+use Rattle.std.specs.declared.cmp.Ordering.{Ordering}
+use Rattle.std.specs.declared.cmp.Ordering.TheVariants.{Less, Equal}
 use Rattle.std.specs.List.{slice_get}
 use Rattle.std.specs.Option.{option_map}
 use Rattle.std.specs.FinMap.Entries.{find, put}
@@ -12,7 +13,7 @@ use Rattle.route_wire.specs.Order.{register_cmp}
 use Rattle.route_join.specs.declared.subject.Subject.{Subject}
 use Rattle.route_join.specs.Subject.{subject_cmp, subject_of}
 use Rattle.route_join.specs.Table.{entries_of, IsOrdered, IsKept, is_news}
-use Rattle.route_join.specs.Owner.{advert_in, advert_of, IsBetter, is_better}
+use Rattle.route_join.specs.Owner.{advert_in, advert_of, IsBetter, is_better, is_better_by}
 
 -- ---- what a list of updates says
 
@@ -89,11 +90,25 @@ wins (Some c) (Some d) = is_better c.1 c.0 d.1 d.0
 abbrev pub better_place : List Fields → ℕ → Option ℕ → Option ℕ
 better_place us at winner = if wins (candidate_at us at) (leader_of us winner) then Some at else winner
 
+-- ---- the same by what is said, and by the order of the places alone
+abbrev pub said_in : Option Fields → Option Advert
+said_in None = None
+said_in (Some u) = advert_in u.value.content
+
+abbrev pub said_at : List Fields → ℕ → Option Advert
+said_at us i = said_in (slice_get us i)
+
+-- the first advert wins against the second one, if any; o is the order of their registers
+abbrev pub wins_by : Option Advert → Option Advert → Ordering → Bool
+wins_by None d o = false
+wins_by (Some c) None o = true
+wins_by (Some c) (Some d) o = is_better_by c.is_static d.is_static c.sequence d.sequence o
+
 -- of a register that says something else now: it says something, as it did, and nothing worse
-abbrev pub stays_best : Register → Option Advert → Option Advert → Bool
-stays_best r None now = false
-stays_best r (Some was) None = false
-stays_best r (Some was) (Some now) = not (is_better was r now r)
+abbrev pub stays_best : Option Advert → Option Advert → Bool
+stays_best None now = false
+stays_best (Some was) None = false
+stays_best (Some was) (Some now) = not (is_better_by was.is_static now.is_static was.sequence now.sequence Equal)
 
 -- where a winner stands after an insertion
 abbrev pub moved : ℕ → Option ℕ → Option ℕ

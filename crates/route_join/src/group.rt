@@ -6,7 +6,7 @@ ghost use Rattle.route_wire.specs.Order.{register_cmp};
 ghost use Rattle.route_join.specs.Table.{entries_of, IsOrdered, is_news};
 ghost use Rattle.route_join.specs.Place.{place_of};
 ghost use Rattle.route_join.specs.Subject.{subject_of};
-ghost use Rattle.route_join.specs.Group.{AreAbout, told, entries_with, added, update_among, candidate_at, wins, better_place, stays_best, moved, HasWinner, IsLeader, IsSilent};
+ghost use Rattle.route_join.specs.Group.{AreAbout, told, entries_with, added, update_among, said_at, wins_by, better_place, stays_best, moved, HasWinner, IsLeader, IsSilent};
 
 use crate::owner::{advert_in, is_better};
 use crate::place::place;
@@ -14,37 +14,41 @@ use crate::table::Taken;
 use ether_wire::Addr;
 use route_wire::{Advert, Register, Update};
 use std::alloc::{AllocError, Global};
+use std::cmp::Ordering;
 use std::marker::Model;
 
-/// What the update at a place advertises, with its register.
-fn candidate(updates: &[Update], at: usize) -> Option<(Register, Advert)>
-    ensures { result ≡ candidate_at updates.now at }
+/// What the update at a place advertises.
+fn said_at(updates: &[Update], at: usize) -> Option<Advert>
+    ensures { result ≡ said_at updates.now at }
 {
     let update = updates.get(at)?;
-    let advert = advert_in(&update.value().content)?;
-    Some((update.register(), advert))
+    advert_in(&update.value().content)
 }
 
-/// Whether a candidate wins against the winner so far, if there is one.
-fn wins(candidate: &Option<(Register, Advert)>, winner: &Option<(Register, Advert)>) -> bool
-    ensures { result ≡ wins candidate.now winner.now }
+/// Whether what one update says wins against what the other one says, told the order of their
+/// registers.
+fn wins(one: &Option<Advert>, other: &Option<Advert>, order: Ordering) -> bool
+    ensures { result ≡ wins_by one.now other.now order }
 {
-    match (candidate, winner) {
+    match (one, other) {
         (None, _) => false,
         (Some(_), None) => true,
-        (Some(candidate), Some(winner)) => is_better(candidate, winner),
+        (Some(one), Some(other)) => is_better(one, other, order),
     }
 }
 
-/// The winner's place, once the update at a place may win too.
+/// The winner's place, once the update at a place may win too. The order of registers is that of their
+/// places.
+#[tactic(auto, using(crate::proofs::Within::wins_alone, crate::proofs::Within::wins_at))]
 fn better_place(updates: &[Update], at: usize, winner: Option<usize>) -> Option<usize>
+    requires { IsOrdered updates.now }
     ensures { result ≡ better_place updates.now at winner }
 {
-    let best = match winner {
-        None => None,
-        Some(i) => candidate(updates, i),
+    let (best, order) = match winner {
+        None => (None, Ordering::Less),
+        Some(i) => (said_at(updates, i), at.cmp(&i)),
     };
-    if wins(&candidate(updates, at), &best) {
+    if wins(&said_at(updates, at), &best, order) {
         Some(at)
     } else {
         winner
@@ -64,11 +68,11 @@ fn best_place(updates: &[Update]) -> Option<usize>
 }
 
 /// Whether a winner that says something else now is the best still, since it says nothing worse.
-fn stays_best(register: &Register, was: &Option<Advert>, now: &Option<Advert>) -> bool
-    ensures { result ≡ stays_best register.now was.now now.now }
+fn stays_best(was: &Option<Advert>, now: &Option<Advert>) -> bool
+    ensures { result ≡ stays_best was.now now.now }
 {
     match (was, now) {
-        (Some(was), Some(now)) => !is_better(&(*register, *was), &(*register, *now)),
+        (Some(was), Some(now)) => !is_better(was, now, Ordering::Equal),
         _ => false,
     }
 }
@@ -191,7 +195,7 @@ impl Group {
     {
         let was = advert_in(&self.updates[at].value().content);
         let now = advert_in(&update.value().content);
-        let stays = stays_best(&update.register(), &was, &now);
+        let stays = stays_best(&was, &now);
         self.updates[at] = *update;
         self.winner = winner_after(&self.updates, at, self.winner, stays);
     }

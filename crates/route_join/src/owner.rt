@@ -1,8 +1,9 @@
 //! What is advertised, and which of two adverts of an address is better (RFC 7432, section 15).
 ghost use Rattle.std.specs.Prelude.{◌≡◌};
-ghost use Rattle.route_join.specs.Owner.{advert_in, is_better};
+ghost use Rattle.route_join.specs.Owner.{advert_in, is_better_by};
 
-use route_wire::{Advert, Content, Register};
+use route_wire::{Advert, Content};
+use std::cmp::Ordering;
 
 /// What is advertised, if anything.
 pub(crate) fn advert_in(content: &Content) -> Option<Advert>
@@ -14,15 +15,14 @@ pub(crate) fn advert_in(content: &Content) -> Option<Advert>
     }
 }
 
-/// Whether the first of two adverts of an address is better: static first, then the higher sequence
-/// number, then the register that comes first in a report, whose originator is the lower one, or
-/// else its IP address.
-pub(crate) fn is_better(one: &(Register, Advert), other: &(Register, Advert)) -> bool
-    ensures { result ≡ is_better one.now.1 one.now.0 other.now.1 other.now.0 }
+/// Whether the first of two adverts of an address is better, told the order of their registers: static
+/// first, then the higher sequence number, then the register that comes first in a report, whose
+/// originator is the lower one, or else its IP address.
+pub(crate) fn is_better(one: &Advert, other: &Advert, order: Ordering) -> bool
+    ensures { result ≡ is_better_by one.now.is_static other.now.is_static one.now.sequence other.now.sequence order }
 {
-    if one.1.is_static != other.1.is_static {
-        return one.1.is_static;
+    if one.is_static != other.is_static {
+        return one.is_static;
     }
-    one.1.sequence > other.1.sequence
-        || one.1.sequence == other.1.sequence && one.0.cmp(&other.0).is_lt()
+    one.sequence > other.sequence || one.sequence == other.sequence && order.is_lt()
 }

@@ -1,25 +1,39 @@
 //! Where a register stands in a group.
 ghost use Rattle.std.specs.Prelude.{◌≡◌};
-ghost use Rattle.route_wire.specs.Order.{register_cmp};
+ghost use Rattle.route_wire.specs.Order.{ip_cmp, register_cmp};
 ghost use Rattle.route_join.specs.Group.{AreAbout};
 ghost use Rattle.route_join.specs.Place.{place_of};
 ghost use Rattle.route_join.specs.Subject.{subject_of};
 ghost use Rattle.route_join.specs.Table.{IsOrdered, entries_of};
 
-use route_wire::{Register, Update};
+use route_wire::{Ip, Register, Update};
 use std::cmp::Ordering;
 
 /// As many updates are walked through: the next ones are on their way from memory while one is
 /// compared. Among more of them a register is sought by halves.
 const FEW: usize = 32;
 
+/// The order of two IP addresses, none first.
+#[tactic(auto, using(crate::proofs::Within::none_first, crate::proofs::Within::none_last))]
+fn cmp_ips(one: Option<Ip>, other: Option<Ip>) -> Ordering
+    ensures { result ≡ ip_cmp one other }
+{
+    match (one, other) {
+        (None, None) => Ordering::Equal,
+        (None, Some(_)) => Ordering::Less,
+        (Some(_), None) => Ordering::Greater,
+        (Some(one), Some(other)) => one.cmp(&other),
+    }
+}
+
 /// The order of two registers of one subject. Mostly their originators tell it.
+#[tactic(auto, using(crate::proofs::Within::within))]
 fn cmp_within(one: &Register, other: &Register) -> Ordering
     requires { subject_of one.now.key ≡ subject_of other.now.key }
     ensures { result ≡ register_cmp one.now other.now }
 {
     match one.originator.cmp(&other.originator) {
-        Ordering::Equal => one.cmp(other),
+        Ordering::Equal => cmp_ips(one.key.ip(), other.key.ip()),
         order => order,
     }
 }

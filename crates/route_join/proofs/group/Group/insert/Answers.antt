@@ -3,7 +3,7 @@ use Rattle.std.proofs.Common.{[]}
 use Rattle.std.specs.List.{insert}
 use Rattle.std.specs.FinMap.Entries.{put}
 use Rattle.route_wire.specs.Order.{register_cmp}
-use Rattle.route_join.specs.Table.{entries_of}
+use Rattle.route_join.specs.Table.{entries_of, IsOrdered}
 use Rattle.route_join.specs.Place.{place_of}
 use Rattle.route_join.specs.Group.{told, better_place, moved, IsGroup}
 use Rattle.route_join.proofs.Places.{gapped}
@@ -22,6 +22,14 @@ moved-requires c =
     let v = c.self.inside.updates in
     let few : length v.items < 2 ^ 63 = omega (arith, v.ok.0, v.ok.1, v.small) in
     winner_movable v.items (told v.items) c.self.inside.winner c.self.invariant.winner few
+
+pub better_place-self-inside-requires : goal.better_place-self-inside-requires
+better_place-self-inside-requires c =
+    let us = c.self.inside.updates.items in
+    let u = c.args.update.now in
+    let p = gapped us u.register c.args.at c.self.invariant.ordered (ap (λ x. place_of x u.register) c.self.view_is ∙ c.requires) in
+    let there : c.insert_at.new.updates.items ≡ insert us c.args.at u = inserted c.insert_at.new.updates.items _ _ _ c.insert_at.ensures c.if-is_err.ensures.negation in
+    subst IsOrdered (sym (c.deref.ensures.value ∙ there)) (ordered_put [] us (insert us c.args.at u) u c.self.invariant.ordered (p.write u refl))
 
 pub invariant_of-self-2 : goal.invariant_of-self-2
 invariant_of-self-2 c =

@@ -1,9 +1,6 @@
-use Rattle.std.proofs.Common.{◌≡◌, ◌≢◌, ◌<◌, true, [], length, ap, refl, sym, subst, ◌∙◌, arith, set, Some}
+use Rattle.std.proofs.Common.{◌≡◌, ◌<◌, true, [], length, ap, refl, sym, subst, ◌∙◌, arith, set}
 use Rattle.std.specs.FinMap.Entries.{put}
-use Rattle.route_wire.specs.declared.update.Content.{Content}
-use Rattle.route_wire.specs.declared.update.Register.{Register}
 use Rattle.route_wire.specs.declared.update.Value.{Value}
-use Rattle.route_wire.specs.Fields.{Fields}
 use Rattle.route_wire.specs.Order.{register_cmp}
 use Rattle.route_join.specs.Table.{entries_of, IsOrdered}
 use Rattle.route_join.specs.Owner.{advert_in}
@@ -45,8 +42,8 @@ winner_after-self-inside-requires-clause-same c = λ is stays.
     let us = c.self.inside.updates.items in
     let u = c.args.update.now in
     let p = placed us u.register c.args.at (ap (λ x. place_of x u.register) c.self.view_is ∙ c.requires) in
-    let test : stays_best u.register (advert_in c.index.result.now.value.content) (advert_in u.value.content) ≡ true =
-    sym (λ i. stays_best (c.register.ensures i) (was i) (now i)) ∙ sym c.stays_best-stays.ensures ∙ stays in
+    let test : stays_best (advert_in c.index.result.now.value.content) (advert_in u.value.content) ≡ true =
+    sym (λ i. stays_best (was i) (now i)) ∙ sym c.stays_best-stays.ensures ∙ stays in
     subst (λ x. HasWinner x (told x) c.self.inside.winner) (sym c.deref.ensures.value)
     (subst (HasWinner (set us c.args.at u) (told (set us c.args.at u))) (sym is)
     (winner_stays us c.args.at u c.index.result.now p (subst (HasWinner us (told us)) is c.self.invariant.winner) c.index.ensures test))
