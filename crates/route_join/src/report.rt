@@ -13,7 +13,7 @@ use ether_wire::{
 use route_wire::{Addr6, Advert, Content, Ip, Key, Register, Update, Value};
 
 /// Room for a line: the longest one has 158 octets. A line that had no room would be written part by part.
-const LINE: usize = 256;
+const LINE: usize = 160;
 
 /// Writes four groups of four hexadecimal digits with colons.
 #[tactic(auto, using(ether_wire::proofs::Appending::with_text_twice), unfolding(route_wire::specs::Text::groups_text))]
