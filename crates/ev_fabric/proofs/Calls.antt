@@ -1,12 +1,11 @@
 -- The calls of a fabric: what each part of them says is a step of the fabric, and keeps it sound.
-use Rattle.std.proofs.Common.{◌≡◌, inl, inr, ℕ, zero, suc, ◌-◌, ◌<◌, ◌≤◌, Option, Some, None, Result, Ok, Err, List, length, take, get_or, refl, sym, ap, subst, ◌∙◌, arith}
+use Rattle.std.proofs.Common.{◌≡◌, inl, inr, ℕ, zero, suc, ◌-◌, ◌<◌, ◌≤◌, Some, None, Result, Ok, Err, List, refl, sym, ap, subst, arith}
 use Rattle.std.specs.Prelude.{slice_get, slice_set}
 use Rattle.std.specs.Option.{MatchOption}
 use Rattle.route_wire.specs.Fields.{Fields}
 use Rattle.ev_edge.specs.declared.config.EdgeConfig.{EdgeConfig}
 use Rattle.ev_edge.specs.declared.reply.Reply.{Reply}
 use Rattle.ev_edge.specs.declared.refusal.Refusal as edge
-use Rattle.ev_edge.specs.declared.event.Event.{Event}
 use Rattle.ev_edge.specs.declared.event.Event.TheVariants as events
 use Rattle.ev_edge.specs.Edge.{Edge, IsGoodEdge}
 use Rattle.ev_edge.specs.Opening.{IsOpening}
@@ -16,10 +15,10 @@ use Rattle.ev_fabric.specs.declared.refusal.Refusal.TheVariants.{NoSuchEdge, NoS
 use Rattle.ev_fabric.specs.declared.step.LocalEvent.{LocalEvent}
 use Rattle.ev_fabric.specs.declared.step.Step.{Step}
 use Rattle.ev_fabric.specs.declared.step.Step.TheVariants.{Local, Announce, Deliver, Restart}
-use Rattle.ev_fabric.specs.Fabric.{Fabric, IsEdge, fabric_of, nth, life_of}
+use Rattle.ev_fabric.specs.Fabric.{Fabric, fabric_of, nth, life_of}
 use Rattle.ev_fabric.specs.Local.{event_of}
 use Rattle.ev_fabric.specs.Sound.{IsSound}
-use Rattle.ev_fabric.specs.Steps.{of_edge, with_edge, with_announced, IsRefused, OneSteps, StepsAt, AnnouncesAt, in_life, with_opened, OpensAnew, RestartsAt, FabricSteps}
+use Rattle.ev_fabric.specs.Steps.{of_edge, with_announced, IsRefused, OneSteps, StepsAt, AnnouncesAt, in_life, with_opened, RestartsAt, FabricSteps}
 use Rattle.ev_fabric.proofs.Places.{set_cases, at_some, at_none}
 use Rattle.ev_edge.specs.Config.{IsConfig}
 use Rattle.ev_fabric.proofs.Opened.{fit_in_life}
@@ -41,18 +40,6 @@ pub record Does (old new : Fabric) (step : Step) (result : Result Reply Refusal)
 
 refuses : (f : Fabric) (step : Step) (why : Refusal) → IsSound f → FabricSteps f step (Err why) f → Does f f step (Err why)
 refuses f step why h s = record { steps = s; sound = h }
-
-pub no_edge_local : (f : Fabric) (e : ℕ) (event : LocalEvent) → IsSound f → nth f.edges e ≡ None → Does f f (Local e event) (Err NoSuchEdge)
-no_edge_local f e event h none = refuses f (Local e event) NoSuchEdge h (at_none _ _ none (refl, refl))
-
-pub no_edge_announce : (f : Fabric) (e : ℕ) → IsSound f → nth f.edges e ≡ None → Does f f (Announce e) (Err NoSuchEdge)
-no_edge_announce f e h none = refuses f (Announce e) NoSuchEdge h (at_none _ _ none (refl, refl))
-
-pub no_edge_deliver : (f : Fabric) (e k : ℕ) → IsSound f → nth f.edges e ≡ None → Does f f (Deliver e k) (Err NoSuchEdge)
-no_edge_deliver f e k h none = refuses f (Deliver e k) NoSuchEdge h (at_none _ _ none (refl, refl))
-
-pub no_edge_restart : (f : Fabric) (e n : ℕ) → IsSound f → nth f.edges e ≡ None → Does f f (Restart e n) (Err NoSuchEdge)
-no_edge_restart f e n h none = refuses f (Restart e n) NoSuchEdge h (at_none _ _ none (refl, refl))
 
 pub local_does : (f : Fabric) (ys : List Edge) (e : ℕ) (event : LocalEvent) (result : Result Reply Refusal) → IsSound f → OneSteps f.edges e (event_of event) result ys → Does f (fabric_of ys f.configs f.pool) (Local e event) result
 local_does f ys e event result h s = record { steps = steps; sound = step_sound f (fabric_of ys f.configs f.pool) (Local e event) result steps (goods f ys e s.after h s.new_is s.good) h }

@@ -16,4 +16,5 @@ pub mod RestingRounds
 pub mod RestingWork
 pub mod RestingNumbers
 pub mod RestingStages
+pub mod RestingLearning
 pub mod RestingMotion

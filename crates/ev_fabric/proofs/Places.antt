@@ -1,8 +1,8 @@
 -- Places of lists, and one edge of a list.
-use Rattle.std.proofs.Common.{◌≡◌, ◌≢◌, ◌⊎◌, inl, inr, ℕ, zero, suc, ◌-◌, ◌<◌, ◌≤◌, Option, Some, None, List, [], ◌∷◌, ◌++◌, length, take, get_or, refl, sym, ap, subst, ◌∙◌, arith}
+use Rattle.std.proofs.Common.{◌≡◌, ◌≢◌, ◌⊎◌, inl, inr, ℕ, zero, suc, ◌-◌, ◌<◌, ◌≤◌, Option, Some, None, List, [], ◌∷◌, ◌++◌, length, take, get_or, refl, sym, ap, ◌∙◌, arith}
 use Rattle.std.specs.Prelude.{Contains, slice_get, slice_set}
 use Rattle.std.specs.Option.{MatchOption}
-use Rattle.std.proofs.lemmas.Option.{slice_get_past, slice_get-get_or}
+use Rattle.std.proofs.lemmas.Option.{slice_get-get_or}
 use Rattle.ev_fabric.specs.Fabric.{nth}
 
 -- ---- one element of a list is replaced
@@ -50,10 +50,6 @@ below_length (x ∷ xs) zero a is = omega arith
 below_length (x ∷ xs) (suc i) a is = let h = below_length xs i a is in omega (arith, h)
 
 -- ---- places counted from 1
-pub no_past : {A : Type 0} (xs : List A) (e : ℕ) → length xs < e → nth xs e ≡ None
-no_past xs zero less = refl
-no_past xs (suc i) less = slice_get_past xs i (omega (arith, less))
-
 pub at_index : {A : Type 0} (xs : List A) (e : ℕ) (a d : A) → (e ≡ 0 → ⊥) → e ≤ length xs → a ≡ get_or xs (e - 1) d → nth xs e ≡ Some a
 at_index xs zero a d pos in' at = absurd (pos refl)
 at_index xs (suc i) a d pos in' at =

@@ -1,11 +1,9 @@
 -- A station moves in a fabric that agrees: two announcements, and the new edge owns it everywhere.
-use Rattle.std.proofs.Common.{◌≡◌, ◌≢◌, inl, inr, ℕ, suc, ◌+◌, Bool, true, false, cond, Option, Some, None, Result, Ok, Err, List, [], ◌∷◌, ◌++◌, refl, sym, ap, subst, ◌∙◌, arith}
+use Rattle.std.proofs.Common.{◌≡◌, ◌≢◌, inl, inr, ℕ, suc, ◌+◌, Bool, true, false, cond, Option, Some, None, List, [], ◌∷◌, ◌++◌, refl, sym, ap, subst, ◌∙◌, arith}
 use Rattle.std.proofs.lemmas.List.Sums.{sum_by-cons}
-use Rattle.std.specs.Prelude.{Contains, IsSome, is_some, not, slice_get, slice_set, ◌&&◌, ◌==◌}
+use Rattle.std.specs.Prelude.{Contains, IsSome, is_some, slice_get, slice_set, ◌&&◌}
 use Rattle.std.specs.Option.{MatchOption}
 use Rattle.std.specs.List.{count_by}
-use Rattle.std.specs.FinMap.{get}
-use Rattle.ether_wire.specs.Names.{is_group}
 use Rattle.route_wire.specs.declared.update.Ip.{Ip}
 use Rattle.route_wire.specs.declared.update.Key.{Key}
 use Rattle.route_wire.specs.declared.update.Key.TheVariants.{Mac}
@@ -17,41 +15,14 @@ use Rattle.route_wire.specs.Fields.{Fields}
 use Rattle.route_join.specs.Table.{value_at, is_news, register_of}
 use Rattle.route_join.specs.Owner.{advert_in, advert_of, IsOwner}
 use Rattle.mac_arena.specs.declared.station.Station.{Station}
-use Rattle.mac_arena.specs.declared.station.Entry.{Entry}
-use Rattle.mac_arena.specs.declared.table.Learnt.{Learnt}
-use Rattle.mac_arena.specs.declared.table.Learnt.TheVariants as answers
-use Rattle.mac_arena.specs.Entry.{heard_at}
-use Rattle.mac_arena.specs.Learning.{Learning as Learned, entry_at, after_learn, learnt_of, is_full}
-use Rattle.mac_arena.proofs.Entries.{same_or_other, get_there}
-use Rattle.ev_mobility.specs.declared.alert.Alert.{Alert}
-use Rattle.ev_mobility.specs.declared.alert.Alert.TheVariants.{CounterSpent, TableFull}
-use Rattle.ev_mobility.specs.declared.seq.Seq.{Seq}
-use Rattle.ev_mobility.specs.declared.seq.Seq.TheVariants.{Next, Static, Spent}
-use Rattle.ev_mobility.specs.declared.window.Window.{Window}
-use Rattle.ev_mobility.specs.Seq.{seq_for}
-use Rattle.ev_mobility.specs.Window.{is_fifth, is_frozen}
-use Rattle.rstp_run.specs.declared.event.Event as tree
-use Rattle.rstp_run.specs.declared.event.Event.TheVariants as tree_events
+use Rattle.mac_arena.specs.Learning.{entry_at}
 use Rattle.ev_claims.specs.Pending.{marked}
 use Rattle.ev_claims.specs.Voice.{Voice, own_register, own, own_advert, KeepsNumbers, next_value, is_newest, after_saying}
-use Rattle.ev_claims.specs.Claims.{Claims, key_of, moving, after_advert}
-use Rattle.ev_claims.specs.Leaving.{flushed_in}
+use Rattle.ev_claims.specs.Claims.{key_of}
 use Rattle.ev_claims.proofs.Numbers.{own_same, said_joins}
-use Rattle.ev_claims.proofs.Changed.{removals_entries}
-use Rattle.mac_arena.specs.ListsName.{stands}
-use Rattle.ev_edge.specs.declared.arrival.Arrival.{Arrival}
-use Rattle.ev_edge.specs.declared.arrival.Arrival.TheVariants.{Dropped, Message, Data}
-use Rattle.ev_edge.specs.declared.learning.Case.{Case}
-use Rattle.ev_edge.specs.declared.learning.Case.TheVariants.{Leave, Refresh, Refuse, Freeze, Learn}
-use Rattle.ev_edge.specs.declared.reply.Reply.{Reply}
-use Rattle.ev_edge.specs.declared.refusal.Refusal as edge
 use Rattle.ev_edge.specs.Edge.{Edge, IsGoodEdge, table_of, address_of}
-use Rattle.ev_edge.specs.Arrival.{frame_arrival}
-use Rattle.ev_edge.specs.Learning.{Does, case_of, case_at, new_case, numbered_case, move_case, is_spent}
-use Rattle.ev_edge.specs.Steps.{Steps, FrameSteps, Bridges, LearnsIf}
+use Rattle.ev_edge.specs.Steps.{Steps}
 use Rattle.ev_fabric.specs.declared.refusal.Refusal.TheVariants.{NoSuchEdge}
-use Rattle.ev_fabric.specs.declared.step.LocalEvent.{LocalEvent}
-use Rattle.ev_fabric.specs.declared.step.LocalEvent.TheVariants.{Frame, TunnelFrame, Pin, Unpin, Thaw, Second, PortUp, PortDown, Mcheck}
 use Rattle.ev_fabric.specs.declared.step.Step.{Step}
 use Rattle.ev_fabric.specs.Fabric.{Fabric, IsEdge}
 use Rattle.ev_fabric.specs.Local.{event_of}
@@ -60,117 +31,16 @@ use Rattle.ev_fabric.specs.Sound.{update_of, IsSound}
 use Rattle.ev_fabric.specs.Agreed.{AllAgree, Advertises}
 use Rattle.ev_fabric.specs.RestEdge.{is_latest, comes_back}
 use Rattle.ev_fabric.specs.Rest.{Rests, HasNumbers}
-use Rattle.ev_fabric.specs.RestMove.{IsFrame, StationMoves, IsMoved}
+use Rattle.ev_fabric.specs.RestMove.{StationMoves, IsMoved}
 use Rattle.ev_fabric.proofs.Agreements.{one_of_all, owner_of_all, learnt}
-use Rattle.ev_fabric.proofs.RestingSums.{set_same, set_cases}
+use Rattle.ev_fabric.proofs.Places.{set_cases, set_same, set_other}
 use Rattle.ev_fabric.proofs.RestingEdge.{may_return, known_stays_away, news_stay}
 use Rattle.ev_fabric.proofs.RestingMoves.{minus, sound_kept}
+use Rattle.ev_fabric.proofs.RestingLearning.{LearnsIt, learns_anew}
 use Rattle.ev_fabric.proofs.RestingRounds.{IsReady}
-use Rattle.ev_fabric.proofs.RestingStages.{other_place, same_edge, Stage, Learnt as AtLearnt, Told as AtTold, Lost as AtLost, Over as AtOver, rests_stage}
+use Rattle.ev_fabric.proofs.RestingStages.{same_edge, Stage, Learnt as AtLearnt, Told as AtTold, Lost as AtLost, Over as AtOver, rests_stage}
 
--- ---- what a frame does to an edge that learns a station by it
-record LearnsIt (b : Edge) (s : Station) (c : Edge) : Type 0 where
-  port : ℕ
-  second : ℕ
-  n : ℕ
-  claims : c.claims ≡ after_advert b.claims s port second n
-
-abbrev is_refresh : Case → Bool
-is_refresh Leave = false
-is_refresh Refresh = true
-is_refresh (Refuse alert) = false
-is_refresh Freeze = false
-is_refresh (Learn n) = false
-
--- a station that isn't learnt isn't heard again
-new_refresh : (e : Edge) (s : Station) (w : Option Window) → is_refresh (new_case e s w) ≡ false
-new_refresh e s w = go (is_frozen w) (seq_for (table_of e) (address_of e) s.vni s.mac)
-  where
-    moves : (n : ℕ) (x y : Bool) → is_refresh (cond x (Learn 0) (cond y Freeze (Learn n))) ≡ false
-    moves n true y = refl
-    moves n false true = refl
-    moves n false false = refl
-
-    numbered : (n : ℕ) (x y : Bool) → is_refresh (cond x (Refuse CounterSpent) (cond y (Refuse TableFull) (move_case w e.clock n))) ≡ false
-    numbered n true y = refl
-    numbered n false true = refl
-    numbered n false false = moves n (n == 0) (is_fifth w e.clock)
-
-    go : (b : Bool) (q : Seq) → is_refresh (cond b Leave (numbered_case e w q)) ≡ false
-    go true q = refl
-    go false Static = refl
-    go false Spent = refl
-    go false (Next n) = numbered n (is_spent e.claims) (is_full e.claims.learned)
-
--- learning one station says nothing of another
-learn_there : (t : Learned) (q s : Station) (port second : ℕ) (a : Learnt) → s ≢ q → entry_at (after_learn t q port second a) s ≡ entry_at t s
-learn_there t q s port second answers.New ne = get_there t.entries q (heard_at port second) s ne
-learn_there t q s port second answers.Moved ne = get_there t.entries q (heard_at port second) s ne
-learn_there t q s port second answers.Refreshed ne = get_there t.entries q (heard_at port second) s ne
-learn_there t q s port second answers.Pinned ne = refl
-learn_there t q s port second answers.Full ne = refl
-
-taken_out : (b : Bool) (o : Option Entry) → o ≡ None → cond b None o ≡ None
-taken_out true o none = refl
-taken_out false o none = none
-
-learns_anew : (b : Edge) (s : Station) (event : LocalEvent) (answer : Result Reply edge.Refusal) (c : Edge) → IsFrame event → entry_at b.claims.learned s ≡ None → IsSome (entry_at c.claims.learned s) → Steps b (event_of event) answer c → LearnsIt b s c
-learns_anew b s (TunnelFrame from octets) answer c frame unknown some h = absurd frame
-learns_anew b s (Pin q port) answer c frame unknown some h = absurd frame
-learns_anew b s (Unpin q) answer c frame unknown some h = absurd frame
-learns_anew b s (Thaw q) answer c frame unknown some h = absurd frame
-learns_anew b s Second answer c frame unknown some h = absurd frame
-learns_anew b s (PortUp port) answer c frame unknown some h = absurd frame
-learns_anew b s (PortDown port) answer c frame unknown some h = absurd frame
-learns_anew b s (Mcheck port) answer c frame unknown some h = absurd frame
-learns_anew b s (Frame port octets) answer c frame unknown some h = by_frame (frame_arrival b port octets.now) answer h
-  where
-    absent : entry_at c.claims.learned s ≡ None → LearnsIt b s c
-    absent none = absurd (let no : IsSome {T = Entry} None = subst IsSome none some in cc)
-
-    same : c ≡ b → LearnsIt b s c
-    same is = absent (ap (λ (e : Edge). entry_at e.claims.learned s) is ∙ unknown)
-
-    bridged : (event : tree.Event) (answer : Result Reply edge.Refusal) → Bridges event b answer c → LearnsIt b s c
-    bridged event (Ok reply) h = absent (ap (λ (e : Edge). entry_at e.claims.learned s) h.after ∙ removals_entries b.claims (flushed_in b.claims.learned h.flush) s ∙ taken_out (stands (flushed_in b.claims.learned h.flush) s) (entry_at b.claims.learned s) unknown)
-    bridged event (Err r) h = absurd h
-
-    no_refresh : (q : Station) → q ≡ s → case_of b q ≡ Refresh → ⊥
-    no_refresh q is e =
-        let new : case_of b q ≡ new_case b q (get b.windows q) = ap (case_at b q) (subst (λ r. entry_at b.claims.learned r ≡ None) (sym is) unknown) in
-        let bad : true ≡ false = ap is_refresh (sym e ∙ new) ∙ new_refresh b q (get b.windows q) in
-        cc
-
-    learns : (q : Station) (k : Case) → case_of b q ≡ k → (told : Option Alert) → Does k b q port told c → LearnsIt b s c
-    learns q Leave e told h = same h.1
-    learns q Refresh e told h = elim (same_or_other q s) as (λ _. LearnsIt b s c) [
-      | inl is ↦ absurd (no_refresh q is e)
-      | inr ne ↦ absent (ap (λ (e : Edge). entry_at e.claims.learned s) h.1 ∙ learn_there b.claims.learned q s port b.clock (learnt_of b.claims.learned q port) (λ is. ne (sym is)) ∙ unknown)
-    ]
-    learns q (Refuse alert) e told h = same h.1
-    learns q Freeze e told h = elim h as (λ _. LearnsIt b s c) [
-      | inl moves ↦ absent (ap (λ (e : Edge). entry_at e.claims.learned s) moves.1 ∙ unknown)
-      | inr refused ↦ same refused.1
-    ]
-    learns q (Learn n) e told h = elim h as (λ _. LearnsIt b s c) [
-      | inl is ↦ elim (same_or_other q s) as (λ _. LearnsIt b s c) [
-        | inl this ↦ record { port = port; second = b.clock; n = n; claims = ap (λ (e : Edge). e.claims) is.1 ∙ ap (λ r. after_advert b.claims r port b.clock n) this }
-        | inr ne ↦ absent (ap (λ (e : Edge). entry_at e.claims.learned s) is.1 ∙ learn_there b.claims.learned q s port b.clock answers.New (λ is. ne (sym is)) ∙ unknown)
-      ]
-      | inr refused ↦ same refused.1
-    ]
-
-    data_frame : (x : Bool) (q : Station) (told : Option Alert) → LearnsIf x b q port told c → LearnsIt b s c
-    data_frame true q told h = learns q (case_of b q) refl told h
-    data_frame false q told h = same h.1
-
-    by_frame : (x : Result Arrival edge.Refusal) (answer : Result Reply edge.Refusal) → FrameSteps x b port answer c → LearnsIt b s c
-    by_frame (Err r) answer h = same h.1
-    by_frame (Ok Dropped) answer h = same h.1
-    by_frame (Ok (Message m)) answer h = bridged (tree_events.Bpdu port m) answer h
-    by_frame (Ok (Data vni destination source)) (Ok reply) h = data_frame (h.learning.learns && not (is_group source)) (record { vni = vni; mac = source }) reply.alert h.learning.learning
-    by_frame (Ok (Data vni destination source)) (Err r) h = absurd h
-
+-- ---- one step from outside
 record Start (old : Fabric) (j : ℕ) (s : Station) (to : Edge) (new : Fabric) : Type 0 where
   after : Edge
   learnt : LearnsIt to s after
@@ -186,7 +56,7 @@ start old i j s new m = go (slice_get old.edges j) refl m.step
         let whole : new ≡ record old { edges = slice_set old.edges j h.after } = h.new_is ∙ (λ n. record old { edges = slice_set old.edges (minus j n) h.after }) in
         let here : IsEdge new j h.after = subst (λ f. IsEdge f j h.after) (sym whole) (set_same old.edges j m.to h.after m.at_to) in
         let after_is : m.after ≡ h.after = same_edge new j j h.after m.after refl here m.at_after in
-        record { after = h.after; learnt = learns_anew m.to s m.event h.answer h.after m.frame m.unknown (subst (λ (e : Edge). IsSome (entry_at e.claims.learned s)) after_is m.learnt) (subst (λ (e : Edge). Steps e (event_of m.event) h.answer h.after) (sym b_is) h.steps); is = whole }
+        record { after = h.after; learnt = learns_anew m.to s h.after m.unknown (subst (λ (e : Edge). IsSome (entry_at e.claims.learned s)) after_is m.learnt) m.event h.answer (subst (λ (e : Edge). Steps e (event_of m.event) h.answer h.after) (sym b_is) h.steps); is = whole }
 
 -- ---- agreement before the move
 
@@ -229,7 +99,7 @@ record Begins (old : Fabric) (i j : ℕ) (s : Station) (o p : ℕ) (new : Fabric
 begins : (old : Fabric) (i j : ℕ) (s : Station) (new : Fabric) → IsSound old → (m : StationMoves old i j s new) → Begins old i j s (address_of m.from) (address_of m.to) new
 begins old i j s new sound m = subst (Begins old i j s (address_of m.from) (address_of m.to)) (sym st.is) (record {
   said = said;
-  advert = refl;
+  advert = st.learnt.advert;
   apart = apart;
   numbers = λ x a at some. let none = agreed_none old.pool old.pool a.claims.voice (λ u in'. known_stays_away a.claims.voice u (known x a u at in')) in absurd (omega (arith, some, none));
   stage = AtLearnt (record {
@@ -237,11 +107,11 @@ begins old i j s new sound m = subst (Begins old i j s (address_of m.from) (addr
     known = λ x c w at in'. inl (known x c w at in');
     to = after;
     at_to = set_same old.edges j m.to after m.at_to;
-    to_register = ap (λ (c : Claims). own_register c.voice (key_of s)) st.learnt.claims;
-    to_says = ap (λ (c : Claims). own c.voice (key_of s)) st.learnt.claims ∙ own_same m.to.claims.voice (key_of s) content;
-    to_pending = ap (λ (c : Claims). c.voice.pending) st.learnt.claims ∙ ap (λ rs. marked rs (own_register m.to.claims.voice (key_of s))) (m.agree.quiet j m.to m.at_to);
+    to_register = ap (λ (e : Voice). own_register e (key_of s)) st.learnt.voice;
+    to_says = ap (λ (e : Voice). own e (key_of s)) st.learnt.voice ∙ own_same m.to.claims.voice (key_of s) content;
+    to_pending = ap (λ (e : Voice). e.pending) st.learnt.voice ∙ ap (λ rs. marked rs (own_register m.to.claims.voice (key_of s))) (m.agree.quiet j m.to m.at_to);
     from = m.from;
-    at_from = other_place old.edges j after i m.from apart m.at_from;
+    at_from = set_other old.edges j after i m.from apart m.at_from;
     from_name = refl;
     from_says = ap is_some (bare_advert m.from s (sound.good i m.from m.at_from) m.had).1;
     from_pending = m.agree.quiet i m.from m.at_from;
@@ -266,7 +136,7 @@ begins old i j s new sound m = subst (Begins old i j s (address_of m.from) (addr
     next = record old { edges = slice_set old.edges j after }
 
     content : Content
-    content = moving st.learnt.n
+    content = st.learnt.content
 
     said : Value
     said = next_value m.to.claims.voice content
@@ -285,7 +155,7 @@ begins old i j s new sound m = subst (Begins old i j s (address_of m.from) (addr
 
     known : (x : ℕ) (a : Edge) (u : Fields) → IsEdge next x a → Contains old.pool u → is_newest a.claims.voice u ≡ false
     known x a u at in' = elim (set_cases old.edges j after x a at) as (λ _. is_newest a.claims.voice u ≡ false) [
-      | inl p ↦ ap (λ (e : Edge). is_newest e.claims.voice u) p.1 ∙ ap (λ (c : Claims). is_newest c.voice u) st.learnt.claims
+      | inl p ↦ ap (λ (e : Edge). is_newest e.claims.voice u) p.1 ∙ ap (λ (e : Voice). is_newest e u) st.learnt.voice
           ∙ said_news m.to.claims.voice (key_of s) content (sound.good j m.to m.at_to).claims.numbers u (agreed_known old m.agree j m.to u m.at_to in')
       | inr p ↦ agreed_known old m.agree x a u p.1 in'
     ]

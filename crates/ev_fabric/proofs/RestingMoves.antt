@@ -28,7 +28,8 @@ use Rattle.ev_fabric.specs.Steps.{with_edge, with_announced, IsRefused, StepsAt,
 use Rattle.ev_fabric.specs.Sound.{update_of, IsBehind, IsSound}
 use Rattle.ev_fabric.specs.RestEdge.{is_over, is_latest, comes_back, returning, unsaid, unannounced, IsLater}
 use Rattle.ev_fabric.specs.Rest.{IsQuiet, Rests, full_pool, to_come}
-use Rattle.ev_fabric.proofs.RestingSums.{sum_set, count_le, count_push, contains_at, set_cases, set_itself, set_kept}
+use Rattle.ev_fabric.proofs.Places.{set_cases, contains_at, push_length}
+use Rattle.ev_fabric.proofs.RestingSums.{sum_set, count_le, count_push, set_itself, set_kept}
 use Rattle.ev_fabric.proofs.RestingNewest.{any_front}
 use Rattle.ev_fabric.proofs.RestingEdge.{later_itself, later_trans, Accepts, heard, heard_later, may_return, KnowsOwn, heard_pays, others_stay_away, known_stays_away}
 use Rattle.ev_fabric.proofs.RestingGood.{Keeps, heard_keeps, quieter, quieter_keeps}
@@ -247,10 +248,6 @@ before old _ (Takes i a u at in' ok) h j b at_b = elim (set_cases old.edges i af
     next = record old { edges = slice_set old.edges i after }
 
 -- ---- the bound never grows
-push_length : (us : List Fields) (u : Fields) → length (us ++ u ∷ []) ≡ length us + 1
-push_length [] u = refl
-push_length (x ∷ us) u = let h = push_length us u in omega (arith, h)
-
 pub told_fewer : (old : Fabric) (i : ℕ) (a : Edge) (r : Register) (rs : List Register) (v : Value) → Kept old → IsEdge old i a → a.claims.voice.pending ≡ r ∷ rs → value_at (table_of a) r ≡ Some v
     → to_come (record old { edges = slice_set old.edges i (record a { claims = quieter a.claims rs }); pool = old.pool ++ update_of r v ∷ [] }) + 1 ≤ to_come old
 told_fewer old i a r rs v h at pend is =

@@ -31,7 +31,8 @@ use Rattle.ev_fabric.specs.Sound.{update_of}
 use Rattle.ev_fabric.specs.Agreed.{AllAgree}
 use Rattle.ev_fabric.specs.RestEdge.{comes_back, unannounced}
 use Rattle.ev_fabric.specs.Rest.{IsQuiet, IsGranted, Rests, AllQuiet, full_pool, HasNumbers, announcing, taking, each, round, two_rounds, WasGiven, AllGiven, AllSilent}
-use Rattle.ev_fabric.proofs.RestingSums.{sum_has, count_some, place_lt, place_of, later_one, contains_at, set_same, set_cases}
+use Rattle.ev_fabric.proofs.Places.{set_cases, set_same, contains_at, below_length}
+use Rattle.ev_fabric.proofs.RestingSums.{sum_has, count_some, place_of, later_one}
 use Rattle.ev_fabric.proofs.RestingEdge.{Accepts, heard, heard_has, may_return, counted}
 use Rattle.ev_fabric.proofs.RestingIdle.{idle_hearing, Mourns, heard_mourns}
 use Rattle.ev_fabric.proofs.RestingGood.{quieter}
@@ -437,7 +438,7 @@ rounds m n old new ready enough h = record {
       let same : new.pool ≡ s.0.pool = takes_pool (each (λ e. taking e n) m) s.0 new (takes_each m n) s.2 in
       let x = rests_before (each (λ e. taking e n) m) s.0 new mid_ready.kept s.2 i a at in
       let place = place_of s.0.pool u (subst (λ l. Contains l u) same in') in
-      let below = place_lt s.0.pool place.0 u place.1 in
+      let below = below_length s.0.pool place.0 u place.1 in
       let bound = between.updates in
       each_has m n s.0 new mid_ready s.2 i (between.edges i x.was x.at) place.0 u (omega (arith, below, bound)) place.1 a at;
 }
@@ -488,7 +489,7 @@ two_rounds_agree m n old new ready enough h =
     second_round m n s.0 new (rests_ready (round m n) old s.0 s.1 ready) (first_round m n old s.0 ready enough s.1) (rests_enough m n (round m n) old s.0 s.1 ready.kept enough) s.2
 
 pub enough_itself : (f : Fabric) → IsEnough (length f.edges) (full_pool f) f
-enough_itself f = record { edges = λ i a at. place_lt f.edges i a at; updates = omega arith }
+enough_itself f = record { edges = λ i a at. below_length f.edges i a at; updates = omega arith }
 
 -- ---- fairness
 pool_keeps : (old new : Fabric) → Move old new → (k : ℕ) (u : Fields) → slice_get old.pool k ≡ Some u → slice_get new.pool k ≡ Some u

@@ -26,7 +26,7 @@ use Rattle.ev_fabric.specs.Sound.{update_of}
 use Rattle.ev_fabric.specs.declared.step.Step.{Step}
 use Rattle.ev_fabric.specs.RestEdge.{comes_back}
 use Rattle.ev_fabric.specs.Rest.{Rests}
-use Rattle.ev_fabric.proofs.RestingSums.{set_same, set_cases}
+use Rattle.ev_fabric.proofs.Places.{set_cases, set_same, set_other}
 use Rattle.ev_fabric.proofs.RestingEdge.{update_cases, Accepts, heard, silent, known_stays_away, others_stay_away, stays_away}
 use Rattle.ev_fabric.proofs.RestingIdle.{idle_hearing}
 use Rattle.ev_fabric.proofs.RestingGood.{quieter}
@@ -84,13 +84,6 @@ hear_cases c u never = choose (u.register.originator == c.voice.address) refl
     choose : (b : Bool) → (u.register.originator == c.voice.address) ≡ b → (heard c u ≡ after_update c u) ⊎ Loses c u
     choose true t = inl (ap (λ b. cond b (after_own c u) (after_take c u)) t ∙ ap (λ b. record c { voice = cond b (after_saying (after_hearing c.voice u) u.register.key Withdrawn) (after_hearing c.voice u) }) (quiet (is_returning c.voice u) t refl))
     choose false t = losing (ap (λ b. cond b (after_own c u) (after_take c u)) t) u.register.key refl
-
-pub other_place : {X : Type 0} (xs : List X) (i : ℕ) (b : X) (j : ℕ) (c : X) → j ≢ i → slice_get xs j ≡ Some c → slice_get (slice_set xs i b) j ≡ Some c
-other_place [] i b j c ne at = cc
-other_place (x ∷ xs) zero b zero c ne at = absurd (ne refl)
-other_place (x ∷ xs) zero b (suc j) c ne at = at
-other_place (x ∷ xs) (suc i) b zero c ne at = at
-other_place (x ∷ xs) (suc i) b (suc j) c ne at = other_place xs i b j c (λ q. ne (ap suc q)) at
 
 pub same_edge : (f : Fabric) (i j : ℕ) (a b : Edge) → i ≡ j → IsEdge f i a → IsEdge f j b → b ≡ a
 same_edge f i j a b place at_a at_b = let both : Some b ≡ Some a = sym at_b ∙ subst (λ n. slice_get f.edges n ≡ Some a) place at_a in cc
@@ -249,7 +242,7 @@ stage_grows pool extra i j s o u here there says f g kept some x a w at in' ok n
             stays says (advert_in u.value.content) refl some,
             subst (λ (e : Edge). e.claims.voice.pending ≡ there) a_is g.to_pending,
           )
-      | inr ne ↦ (g.to, other_place f.edges x took j g.to (λ q. ne (sym q)) g.at_to, g.to_register, g.to_says, g.to_pending)
+      | inr ne ↦ (g.to, set_other f.edges x took j g.to (λ q. ne (sym q)) g.at_to, g.to_register, g.to_says, g.to_pending)
     ]
       where
         stays : own a.claims.voice (key_of s) ≡ Some u.value → (c : Option Advert) → advert_in u.value.content ≡ c → IsSome (advert_in u.value.content) → own (after_hearing a.claims.voice w) (key_of s) ≡ Some u.value
@@ -266,7 +259,7 @@ stage_grows pool extra i j s o u here there says f g kept some x a w at in' ok n
             ap is_some quiet ∙ subst (λ (e : Edge). is_some (own_advert e.claims.voice (key_of s)) ≡ says) a_is g.from_says,
             subst (λ (e : Edge). e.claims.voice.pending ≡ here) a_is g.from_pending,
           )
-      | inr ne ↦ (g.from, other_place f.edges x took i g.from (λ q. ne (sym q)) g.at_from, g.from_name, g.from_says, g.from_pending)
+      | inr ne ↦ (g.from, set_other f.edges x took i g.from (λ q. ne (sym q)) g.at_from, g.from_name, g.from_says, g.from_pending)
     ]
 
 -- the first edge loses the station
@@ -277,7 +270,7 @@ stage_loses pool extra i j s o u there says f apart g kept a w at in' ok is = re
   grown = g.grown;
   known = stage_known pool extra i j s o u [] there says f g kept i a w at in' ok;
   to = g.to;
-  at_to = other_place f.edges i took j g.to (λ q. apart (sym q)) g.at_to;
+  at_to = set_other f.edges i took j g.to (λ q. apart (sym q)) g.at_to;
   to_register = g.to_register;
   to_says = g.to_says;
   to_pending = g.to_pending;
@@ -366,7 +359,7 @@ stage_announces pool extra i j s o u here there says f apart g kept x a r rs v a
           let a_is = same_edge f x j a g.to mine at g.at_to in
           (quiet, subst (λ n. IsEdge next n quiet) mine (set_same f.edges x a quiet at), subst (λ (e : Edge). own_register e.claims.voice (key_of s) ≡ u.register) a_is g.to_register, subst (λ (e : Edge). own e.claims.voice (key_of s) ≡ Some u.value) a_is g.to_says, sym (second mine).1)
       | inr ne ↦ elim (cases_eq x i) as (λ _. (c : Edge) × IsEdge next j c × (own_register c.claims.voice (key_of s) ≡ u.register) × (own c.claims.voice (key_of s) ≡ Some u.value) × (c.claims.voice.pending ≡ there')) [
-        | inl mine ↦ (g.to, other_place f.edges x quiet j g.to (λ q. ne (sym q)) g.at_to, g.to_register, g.to_says, g.to_pending ∙ sym (first mine).1)
+        | inl mine ↦ (g.to, set_other f.edges x quiet j g.to (λ q. ne (sym q)) g.at_to, g.to_register, g.to_says, g.to_pending ∙ sym (first mine).1)
         | inr ne_i ↦ absurd (neither ne_i ne)
       ]
     ]
@@ -377,7 +370,7 @@ stage_announces pool extra i j s o u here there says f apart g kept x a r rs v a
           let a_is = same_edge f x i a g.from mine at g.at_from in
           (quiet, subst (λ n. IsEdge next n quiet) mine (set_same f.edges x a quiet at), subst (λ (e : Edge). address_of e ≡ o) a_is g.from_name, subst (λ (e : Edge). is_some (own_advert e.claims.voice (key_of s)) ≡ says) a_is g.from_says, sym (first mine).0)
       | inr ne ↦ elim (cases_eq x j) as (λ _. (c : Edge) × IsEdge next i c × (address_of c ≡ o) × (is_some (own_advert c.claims.voice (key_of s)) ≡ says) × (c.claims.voice.pending ≡ here')) [
-        | inl mine ↦ (g.from, other_place f.edges x quiet i g.from (λ q. ne (sym q)) g.at_from, g.from_name, g.from_says, g.from_pending ∙ sym (second mine).0)
+        | inl mine ↦ (g.from, set_other f.edges x quiet i g.from (λ q. ne (sym q)) g.at_from, g.from_name, g.from_says, g.from_pending ∙ sym (second mine).0)
         | inr ne_j ↦ absurd (neither ne ne_j)
       ]
     ]

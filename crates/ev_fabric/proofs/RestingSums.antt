@@ -1,5 +1,5 @@
 -- Sums and counts over a list of which one element is replaced.
-use Rattle.std.proofs.Common.{◌≡◌, ◌≢◌, ◌⊎◌, inl, inr, ℕ, zero, suc, ◌+◌, ◌<◌, ◌≤◌, length, Bool, true, false, cond, Some, List, [], ◌∷◌, ◌++◌, refl, sym, ap, subst, ◌∙◌, arith}
+use Rattle.std.proofs.Common.{◌≡◌, ◌≢◌, ℕ, zero, suc, ◌+◌, ◌≤◌, Bool, true, false, cond, Some, List, [], ◌∷◌, ◌++◌, refl, sym, ap, subst, ◌∙◌, arith}
 use Rattle.std.proofs.lemmas.List.Sums.{sum_by-cons, sum_by_push}
 use Rattle.std.specs.Prelude.{Contains, slice_get, slice_set}
 use Rattle.std.specs.List.{count_by, sum_by}
@@ -80,11 +80,6 @@ sum_has f (x ∷ xs) zero a at =
     omega (arith, of_f, here)
 sum_has f (x ∷ xs) (suc i) a at = let of_f = sum_by-cons f x xs in let tail = sum_has f xs i a at in omega (arith, of_f, tail)
 
-pub place_lt : {X : Type 0} (xs : List X) (i : ℕ) (a : X) → slice_get xs i ≡ Some a → i < length xs
-place_lt [] i a at = cc
-place_lt (x ∷ xs) zero a at = omega arith
-place_lt (x ∷ xs) (suc i) a at = let h = place_lt xs i a at in omega (arith, h)
-
 pub place_of : {X : Type 0} (xs : List X) (a : X) → Contains xs a → (k : ℕ) × (slice_get xs k ≡ Some a)
 place_of [] a (i, lt, is) = absurd (omega (arith, lt))
 place_of (x ∷ xs) a (zero, lt, is) = (0, ap Some is)
@@ -93,26 +88,6 @@ place_of (x ∷ xs) a (suc i, lt, is) = let h = place_of xs a (i, omega (arith, 
 -- ---- elements of a list
 pub later_one : {X : Type 0} (x : X) (xs : List X) (y : X) → Contains xs y → Contains (x ∷ xs) y
 later_one x xs y (i, lt, is) = (suc i, omega (arith, lt), is)
-
-pub contains_at : {X : Type 0} (xs : List X) (i : ℕ) (a : X) → slice_get xs i ≡ Some a → Contains xs a
-contains_at [] i a is = cc
-contains_at (x ∷ xs) zero a is = (0, omega arith, cc)
-contains_at (x ∷ xs) (suc i) a is = let h = contains_at xs i a is in (suc h.0, omega (arith, h.1), h.2)
-
-pub set_same : {X : Type 0} (xs : List X) (i : ℕ) (a b : X) → slice_get xs i ≡ Some a → slice_get (slice_set xs i b) i ≡ Some b
-set_same [] i a b is = cc
-set_same (x ∷ xs) zero a b is = refl
-set_same (x ∷ xs) (suc i) a b is = set_same xs i a b is
-
-pub set_cases : {X : Type 0} (xs : List X) (i : ℕ) (b : X) (j : ℕ) (c : X) → slice_get (slice_set xs i b) j ≡ Some c → ((j ≡ i) × (c ≡ b)) ⊎ ((j ≢ i) × (slice_get xs j ≡ Some c))
-set_cases [] i b j c is = cc
-set_cases (x ∷ xs) zero b zero c is = inl (refl, cc)
-set_cases (x ∷ xs) zero b (suc j) c is = inr (omega arith, is)
-set_cases (x ∷ xs) (suc i) b zero c is = inr (omega arith, is)
-set_cases (x ∷ xs) (suc i) b (suc j) c is = elim (set_cases xs i b j c is) as (λ _. ((suc j ≡ suc i) × (c ≡ b)) ⊎ ((suc j ≢ suc i) × (slice_get xs j ≡ Some c))) [
-  | inl h ↦ inl (ap suc h.0, h.1)
-  | inr h ↦ inr (let ne = h.0 in omega (arith, ne), h.1)
-]
 
 pub set_itself : {X : Type 0} (xs : List X) (i : ℕ) (a : X) → slice_get xs i ≡ Some a → slice_set xs i a ≡ xs
 set_itself [] i a at = refl

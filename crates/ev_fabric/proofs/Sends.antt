@@ -1,6 +1,6 @@
 -- Where an edge sends a frame for a station that some edge advertises.
-use Rattle.std.proofs.Common.{◌≡◌, ◌≢◌, inl, inr, ℕ, zero, suc, ◌-◌, ◌<◌, ◌≤◌, ◌==◌, ◌&&◌, Bool, true, false, cond, not, Option, Some, None, Result, Ok, Err, List, [], ◌∷◌, length, refl, sym, ap, subst, ◌∙◌, arith}
-use Rattle.std.specs.Prelude.{IsTrue, IsSome, ◌↔◌, ◌||◌, slice_get}
+use Rattle.std.proofs.Common.{◌≡◌, ◌≢◌, inl, inr, ℕ, zero, suc, ◌-◌, ◌≤◌, ◌==◌, ◌&&◌, Bool, true, false, cond, not, Option, Some, None, Result, Ok, List, [], ◌∷◌, length, refl, sym, ap, subst, ◌∙◌, arith}
+use Rattle.std.specs.Prelude.{IsTrue, ◌↔◌, ◌||◌}
 use Rattle.std.specs.Option.{MatchOption, option_map}
 use Rattle.std.proofs.lemmas.Bool.{eq-eqb}
 use Rattle.std.proofs.lemmas.Bool.Decides.{nat_tests}
@@ -15,11 +15,9 @@ use Rattle.route_join.specs.Owner.{advert_at, owner, IsOwner, IsUnowned}
 use Rattle.route_join.proofs.Owners.{one_owner, owner_is, owner_along}
 use Rattle.mac_arena.specs.declared.station.Station.{Station}
 use Rattle.mac_arena.specs.declared.station.Entry.{Entry}
-use Rattle.mac_arena.specs.declared.table.Learnt.{Learnt as Answer}
-use Rattle.mac_arena.specs.declared.table.Learnt.TheVariants.{New, Moved, Refreshed, Pinned, Full}
-use Rattle.mac_arena.specs.Entry.{heard_at}
-use Rattle.mac_arena.specs.Learning.{Learning as Learned, entry_at, after_learn, learnt_of}
-use Rattle.mac_arena.proofs.Entries.{get_there}
+use Rattle.mac_arena.specs.declared.table.Learnt.TheVariants.{New}
+use Rattle.mac_arena.specs.Learning.{entry_at, learnt_of}
+use Rattle.mac_arena.proofs.Looking.{learn_entry}
 use Rattle.ev_mobility.specs.declared.alert.Alert.{Alert}
 use Rattle.ev_tunnel.specs.declared.decision.Decision.{Decision}
 use Rattle.ev_tunnel.specs.declared.decision.Source.{Source}
@@ -27,7 +25,6 @@ use Rattle.ev_tunnel.specs.declared.decision.Source.TheVariants.{Port, Tunnel}
 use Rattle.ev_tunnel.specs.Decision.{local_for, remote_for}
 use Rattle.ev_claims.specs.Voice.{own_advert}
 use Rattle.ev_claims.specs.Claims.{key_of, vni_at, moving}
-use Rattle.ev_edge.specs.declared.arrival.Arrival.{Arrival}
 use Rattle.ev_edge.specs.declared.arrival.Arrival.TheVariants.{Data}
 use Rattle.ev_edge.specs.declared.learning.Case.{Case}
 use Rattle.ev_edge.specs.declared.learning.Case.TheVariants.{Leave, Refresh, Refuse, Freeze, Learn}
@@ -42,10 +39,9 @@ use Rattle.ev_edge.specs.Learning.{OrNoMemory, Does, case_of, learnt as after_le
 use Rattle.ev_edge.specs.Sending.{port_of, IsDecision}
 use Rattle.ev_edge.specs.Steps.{LearnsIf, SendsIf, DataSteps, FrameSteps, TunnelSteps, Steps}
 use Rattle.ev_edge.proofs.Owning.{other_key, said_other}
-use Rattle.ev_fabric.specs.Fabric.{Fabric, IsEdge}
-use Rattle.ev_fabric.specs.Sound.{IsSound}
-use Rattle.ev_fabric.specs.Agreed.{AllAgree, Advertises}
-use Rattle.ev_fabric.specs.Laws.{IsBehindPort, frame_in, tunnel_frame_in, IsFrameFor, IsTunnelFrameFor, GoesTo, GoesOut, FramesGo, FramesComeOut, TunnelFramesComeOut}
+use Rattle.ev_fabric.specs.Agreed.{Advertises}
+use Rattle.ev_fabric.specs.Laws.{IsBehindPort, frame_in, tunnel_frame_in, IsFrameFor, IsTunnelFrameFor, FramesGo, FramesComeOut, TunnelFramesComeOut}
+use Rattle.ev_fabric.proofs.Places.{below_length}
 use Rattle.ev_fabric.proofs.Agreements.{learnt, owner_of_all, one_of_all}
 
 -- ---- learning a station leaves the others
@@ -62,18 +58,11 @@ leaves_itself a s = record { address = refl; tree = refl; entry = refl; adverts 
 same_leaves : (a b : Edge) (s : Station) → b ≡ a → LeavesBe a b s
 same_leaves a b s is = subst (λ x. LeavesBe a x s) (sym is) (leaves_itself a s)
 
-heard_other : (t : Learned) (q : Station) (port second : ℕ) (answer : Answer) (s : Station) → s ≢ q → entry_at (after_learn t q port second answer) s ≡ entry_at t s
-heard_other t q port second New s ne = get_there t.entries q (heard_at port second) s ne
-heard_other t q port second Moved s ne = get_there t.entries q (heard_at port second) s ne
-heard_other t q port second Refreshed s ne = get_there t.entries q (heard_at port second) s ne
-heard_other t q port second Pinned s ne = refl
-heard_other t q port second Full s ne = refl
-
 learning_leaves : (e : Edge) (q : Station) (port n : ℕ) (s : Station) → s ≢ q → LeavesBe e (after_learning e q port n) s
 learning_leaves e q port n s ne = record {
   address = refl;
   tree = elim (n == 0) as (λ b. (cond b e (moved e q)).tree ≡ e.tree) [ true ↦ refl | false ↦ refl ];
-  entry = get_there e.claims.learned.entries q (heard_at port e.clock) s ne;
+  entry = (learn_entry e.claims.learned q port e.clock New).others s ne;
   adverts = λ o ip. said_other e.claims.voice (key_of q) (moving n) (Mac s.vni s.mac ip) o (other_key s q ip None ne);
 }
 
@@ -83,7 +72,7 @@ either_leaves e after e' alert told s l (inr h) = same_leaves e e' s h.1
 
 does_leave : (c : Case) (e : Edge) (q : Station) (port : ℕ) (told : Option Alert) (e' : Edge) (s : Station) → s ≢ q → Does c e q port told e' → LeavesBe e e' s
 does_leave Leave e q port told e' s ne h = same_leaves e e' s h.1
-does_leave Refresh e q port told e' s ne h = subst (λ x. LeavesBe e x s) (sym h.1) (record { address = refl; tree = refl; entry = heard_other e.claims.learned q port e.clock (learnt_of e.claims.learned q port) s ne; adverts = λ o ip. refl })
+does_leave Refresh e q port told e' s ne h = subst (λ x. LeavesBe e x s) (sym h.1) (record { address = refl; tree = refl; entry = (learn_entry e.claims.learned q port e.clock (learnt_of e.claims.learned q port)).others s ne; adverts = λ o ip. refl })
 does_leave (Refuse alert) e q port told e' s ne h = same_leaves e e' s h.1
 does_leave Freeze e q port told e' s ne h = either_leaves e (moved e q) e' _ told s (record { address = refl; tree = refl; entry = refl; adverts = λ o ip. refl }) h
 does_leave (Learn n) e q port told e' s ne h = either_leaves e (after_learning e q port n) e' _ told s (learning_leaves e q port n s ne) h
@@ -237,15 +226,10 @@ record IsThere (o : Edge) (q : ℕ) : Type 0 where
   most : q ≤ length o.tree.ports
   few : q ≤ 64
 
-below : {X : Type 0} (xs : List X) (i : ℕ) (x : X) → slice_get xs i ≡ Some x → i < length xs
-below [] i x is = cc
-below (y ∷ xs) zero x is = omega arith
-below (y ∷ xs) (suc i) x is = let h = below xs i x is in omega (arith, h)
-
 there : (o : Edge) (vni q : ℕ) → IsGoodEdge o → vni_at o.claims.ports q ≡ Some vni → IsThere o q
 there o vni zero h is = absurd cc
 there o vni (suc l) h is =
-    let less = below o.claims.ports l vni is in
+    let less = below_length o.claims.ports l vni is in
     let same = h.keeps.ports in
     let few = h.claims.claims.few in
     record { least = omega arith; most = omega (arith, less, same); few = omega (arith, less, few) }

@@ -11,27 +11,14 @@ use Rattle.ev_edge.specs.declared.reply.Reply.{Reply}
 use Rattle.ev_edge.specs.Edge.{Edge}
 use Rattle.ev_fabric.specs.declared.refusal.Refusal.{Refusal}
 use Rattle.ev_fabric.specs.declared.step.LocalEvent.{LocalEvent}
-use Rattle.ev_fabric.specs.declared.step.LocalEvent.TheVariants.{Frame, TunnelFrame, Pin, Unpin, Thaw, Second, PortUp, PortDown, Mcheck}
 use Rattle.ev_fabric.specs.declared.step.Step.TheVariants.{Local}
 use Rattle.ev_fabric.specs.Fabric.{Fabric, IsEdge}
 use Rattle.ev_fabric.specs.Steps.{FabricSteps}
 use Rattle.ev_fabric.specs.Sound.{update_of}
 use Rattle.ev_fabric.specs.Agreed.{AllAgree, Advertises}
 
--- octets come at an access port
-abbrev pub IsFrame : LocalEvent → Type 0
-IsFrame (Frame port octets) = Unit {0}
-IsFrame (TunnelFrame from octets) = ⊥
-IsFrame (Pin s port) = ⊥
-IsFrame (Unpin s) = ⊥
-IsFrame (Thaw s) = ⊥
-IsFrame Second = ⊥
-IsFrame (PortUp port) = ⊥
-IsFrame (PortDown port) = ⊥
-IsFrame (Mcheck port) = ⊥
-
--- All agree, the edge at place i advertises the station, and a frame comes to the edge at place j, which hasn't learnt
--- the station, and has then. Places are counted from 0.
+-- All agree, the edge at place i advertises the station, and something comes from outside to the edge at place j, which
+-- hasn't learnt the station, and has then, by a frame or by a pin. Places are counted from 0.
 pub record StationMoves (old : Fabric) (i j : ℕ) (s : Station) (new : Fabric) : Type 0 where
   pub agree : AllAgree old
   pub from : Edge
@@ -41,7 +28,6 @@ pub record StationMoves (old : Fabric) (i j : ℕ) (s : Station) (new : Fabric) 
   pub had : Advertises from s
   pub unknown : entry_at to.claims.learned s ≡ None
   pub event : LocalEvent
-  pub frame : IsFrame event
   pub result : Result Reply Refusal
   pub step : FabricSteps old (Local (suc j) event) result new
   pub after : Edge

@@ -29,7 +29,8 @@ pub fn fades()
     ensures { (steps : List Step) (old new : State) → IsSound old → Rests old steps new →
         (i : ℕ) (b : EdgeState) → IsEdge new i b →
         (a : EdgeState) × IsEdge old i a × IsLater a.claims.voice b.claims.voice
-        × (b.claims.voice.counter + unsaid new.pool b.claims ≤ a.claims.voice.counter + unsaid old.pool a.claims) }
+        × (b.claims.voice.counter + unsaid new.pool b.claims
+        ≤ a.claims.voice.counter + unsaid old.pool a.claims) }
 {}
 
 /// A law, which does nothing: two rounds, which are known beforehand, lead to agreement; and every list of
@@ -39,7 +40,8 @@ pub fn agrees()
         Rests old (two_rounds old) new → AllAgree new }
     ensures comes { (old : State) → IsSound old → HasNumbers old →
         (new : State) × Rests old (two_rounds old) new }
-    ensures any { (old : State) (steps : List Step) → IsSound old → HasNumbers old → AllQuiet steps →
+    ensures any { (old : State) (steps : List Step) → IsSound old → HasNumbers old →
+        AllQuiet steps →
         (new : State) × Rests old steps new }
 {}
 
@@ -70,16 +72,20 @@ pub fn reached()
         a.claims.voice.counter + capacity a.claims + length f.pool ≤ 2 ^ 63) → HasNumbers f }
 {}
 
-/// A law, which does nothing: a station of a fabric that agrees comes to another edge by a frame. Two rounds
-/// later all agree again. Whenever they do, there were exactly two announcements, the new edge's advert and
-/// the old edge's withdrawal, and the new edge owns the station at every edge.
+/// A law, which does nothing: a station of a fabric that agrees comes to another edge, which learns it by a
+/// frame or has it pinned. Two rounds later all agree again. Whenever they do, there were exactly two
+/// announcements, the new edge's advert and the old edge's withdrawal, and the new edge owns the station at
+/// every edge.
 pub fn moves()
     ensures agrees { (i j : ℕ) (s : Station) (old mid new : State) → IsSound old → IsSound mid →
         StationMoves old i j s mid → Rests mid (two_rounds mid) new → AllAgree new }
-    ensures pool { (i j : ℕ) (s : Station) (old mid new : State) (steps : List Step) → IsSound old → IsSound mid →
+    ensures pool { (i j : ℕ) (s : Station) (old mid new : State) (steps : List Step) →
+        IsSound old → IsSound mid →
         (m : StationMoves old i j s mid) → Rests mid steps new → IsSound new → AllAgree new →
         IsMoved old.pool s (address_of m.from) (address_of m.to) new.pool }
-    ensures owner { (i j : ℕ) (s : Station) (old mid new : State) (steps : List Step) → IsSound old → IsSound mid →
+    ensures owner { (i j : ℕ) (s : Station) (old mid new : State) (steps : List Step) →
+        IsSound old → IsSound mid →
         (m : StationMoves old i j s mid) → Rests mid steps new → IsSound new → AllAgree new →
-        (x : ℕ) (c : EdgeState) → IsEdge new x c → IsOwner (table_of c) s.vni s.mac (address_of m.to) }
+        (x : ℕ) (c : EdgeState) → IsEdge new x c →
+        IsOwner (table_of c) s.vni s.mac (address_of m.to) }
 {}

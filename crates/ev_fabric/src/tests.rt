@@ -1,27 +1,30 @@
 //! Worked runs of two edges. Their octets and reports are those of the rules, not of this program.
-ghost use Rattle.std.specs.Prelude.{◌≡◌, [], ◌∷◌, IfOk, Contains};
+ghost use Rattle.std.specs.Prelude.{◌≡◌, ◌+◌, [], ◌∷◌, IfOk, Contains};
 ghost use Rattle.ev_edge.specs.Config.{IsConfig, vnis_of};
 ghost use Rattle.ev_fabric.specs.Opening.{AreConfigs};
 
 use crate::{Fabric, LocalEvent, Refusal, Step};
 use arrayvec::ArrayVec;
 use bpdu_wire::BridgeId;
-use ether_wire::{Addr, Out, Page, Vni};
+use ether_wire::{Addr, Mac, Out, Page, Vni};
 use ev_edge::{EdgeConfig, PortConfig, Reply};
+use mac_arena::Station;
 use route_join::Taken;
 use rstp_state::start::{PortSettings, Settings};
 use std::alloc::{AllocError, Global};
 use std::test::Fail;
 
 mod memory;
+mod runs;
 
-// Edges listen to 10.0.0.1 and 10.0.0.2.
+// Edges listen to 10.0.0.1, 10.0.0.2 and 10.0.0.3.
 fn originators() -> ArrayVec<Addr, 64>
-    ensures { result.items ≡ 0x0a00_0001 ∷ 0x0a00_0002 ∷ [] }
+    ensures { result.items ≡ 0x0a00_0001 ∷ 0x0a00_0002 ∷ 0x0a00_0003 ∷ [] }
 {
     let mut originators = ArrayVec::new();
     originators.push(Addr::new(0x0a00_0001));
     originators.push(Addr::new(0x0a00_0002));
+    originators.push(Addr::new(0x0a00_0003));
     originators
 }
 
@@ -49,10 +52,11 @@ fn port_of(vni: Vni) -> PortConfig
     }
 }
 
-fn one_port() -> ArrayVec<PortConfig, 64>
-    ensures { vnis_of result.items ≡ 5001 ∷ [] }
+fn two_ports() -> ArrayVec<PortConfig, 64>
+    ensures { vnis_of result.items ≡ 5001 ∷ 5001 ∷ [] }
 {
     let mut ports = ArrayVec::new();
+    ports.push(port_of(Vni::new(5001)));
     ports.push(port_of(Vni::new(5001)));
     ports
 }
@@ -70,11 +74,11 @@ fn tree(identifier: BridgeId) -> Settings
     }
 }
 
-// One of the edges 10.0.0.1 and 10.0.0.2, with one port of network 5001.
+// One of the edges 10.0.0.1, 10.0.0.2 and 10.0.0.3, with two ports of network 5001.
 fn config(address: Addr, identifier: BridgeId) -> EdgeConfig
-    requires { Contains (0x0a00_0001 ∷ 0x0a00_0002 ∷ []) address }
+    requires { Contains (0x0a00_0001 ∷ 0x0a00_0002 ∷ 0x0a00_0003 ∷ []) address }
     ensures address { result.address ≡ address }
-    ensures originators { result.originators.items ≡ 0x0a00_0001 ∷ 0x0a00_0002 ∷ [] }
+    ensures originators { result.originators.items ≡ 0x0a00_0001 ∷ 0x0a00_0002 ∷ 0x0a00_0003 ∷ [] }
     ensures fits { IsConfig result }
 {
     EdgeConfig {
@@ -87,13 +91,13 @@ fn config(address: Addr, identifier: BridgeId) -> EdgeConfig
         capacity: 16,
         buckets: 16,
         salt: 0,
-        ports: one_port(),
+        ports: two_ports(),
     }
 }
 
 fn first() -> EdgeConfig
     ensures address { result.address ≡ 0x0a00_0001 }
-    ensures originators { result.originators.items ≡ 0x0a00_0001 ∷ 0x0a00_0002 ∷ [] }
+    ensures originators { result.originators.items ≡ 0x0a00_0001 ∷ 0x0a00_0002 ∷ 0x0a00_0003 ∷ [] }
     ensures fits { IsConfig result }
 {
     config(Addr::new(0x0a00_0001), BridgeId::new(0x8000_02aa_0000_0001))
@@ -101,7 +105,7 @@ fn first() -> EdgeConfig
 
 fn second() -> EdgeConfig
     ensures address { result.address ≡ 0x0a00_0002 }
-    ensures originators { result.originators.items ≡ 0x0a00_0001 ∷ 0x0a00_0002 ∷ [] }
+    ensures originators { result.originators.items ≡ 0x0a00_0001 ∷ 0x0a00_0002 ∷ 0x0a00_0003 ∷ [] }
     ensures fits { IsConfig result }
 {
     config(Addr::new(0x0a00_0002), BridgeId::new(0x8000_02aa_0000_0002))
@@ -123,10 +127,18 @@ fn two(alloc: Global) -> Result<Fabric, AllocError> {
 // What a test has an edge do.
 #[derive(Clone, Copy)]
 enum Act {
-    /// Port 1 comes up.
-    Up,
+    /// The port comes up.
+    Up(u8),
+    /// The port goes down.
+    Down(u8),
     /// A broadcast frame of 02:00:00:00:00:N comes at port 1.
     Hear(u8),
+    /// A frame for the first of two stations comes at the port, from the second.
+    Send(u8, u8, u8),
+    /// A datagram comes from the edge of this number, with a frame for the station.
+    Reach(u8, u8),
+    /// The station is pinned on port 1.
+    Pin(u8),
     Announce,
     /// This update of the pool comes.
     Take(usize),
@@ -141,12 +153,55 @@ fn broadcast(n: u8) -> [u8; 14] {
     ]
 }
 
+// The same for station `to`, from station `from`.
+fn frame(to: u8, from: u8) -> [u8; 14] {
+    [
+        0x02, 0x00, 0x00, 0x00, 0x00, to, 0x02, 0x00, 0x00, 0x00, 0x00, from, 0x08, 0x00,
+    ]
+}
+
+// A datagram of network 5001 with a frame for a station, from 02:00:00:00:00:ff.
+fn datagram(to: u8) -> [u8; 22] {
+    [
+        0x08, 0x00, 0x00, 0x00, 0x00, 0x13, 0x89, 0x00, 0x02, 0x00, 0x00, 0x00, 0x00, to, 0x02,
+        0x00, 0x00, 0x00, 0x00, 0xff, 0x08, 0x00,
+    ]
+}
+
+// 02:00:00:00:00:n
+fn mac(n: u8) -> Mac {
+    Mac::new(0x0200_0000_0000 + u64::from(n))
+}
+
+fn station(n: u8) -> Station {
+    Station {
+        vni: Vni::new(5001),
+        mac: mac(n),
+    }
+}
+
+// 10.0.0.e
+fn address(e: u8) -> Addr
+    ensures { result ≡ 0x0a00_0000 + e }
+{
+    Addr::new(0x0a00_0000 + u32::from(e))
+}
+
 // Each step is made here: where a function makes one and names no `LocalEvent`, the borrow checker isn't told
 // of that type.
 fn perform(fabric: &mut Fabric, e: usize, what: Act) -> Result<Reply, Refusal> {
     match what {
-        Act::Up => fabric.step(&Step::Local(e, LocalEvent::PortUp(1))),
+        Act::Up(port) => fabric.step(&Step::Local(e, LocalEvent::PortUp(port))),
+        Act::Down(port) => fabric.step(&Step::Local(e, LocalEvent::PortDown(port))),
         Act::Hear(n) => fabric.step(&Step::Local(e, LocalEvent::Frame(1, &broadcast(n)))),
+        Act::Send(port, to, from) => {
+            fabric.step(&Step::Local(e, LocalEvent::Frame(port, &frame(to, from))))
+        }
+        Act::Reach(from, to) => {
+            let event = LocalEvent::TunnelFrame(address(from), &datagram(to));
+            fabric.step(&Step::Local(e, event))
+        }
+        Act::Pin(n) => fabric.step(&Step::Local(e, LocalEvent::Pin(station(n), 1))),
         Act::Announce => fabric.step(&Step::Announce(e)),
         Act::Take(k) => fabric.step(&Step::Deliver(e, k)),
         Act::Restart(n) => fabric.step(&Step::Restart(e, n)),
@@ -182,7 +237,7 @@ fn announces(fabric: &mut Fabric, e: usize) -> bool {
 // Both edges are up, learn the same station and announce, and edge 2 hears of edge 1 and announces its withdrawal.
 fn both_learn(fabric: &mut Fabric) -> bool {
     for e in 1..3usize {
-        let _ = perform(fabric, e, Act::Up);
+        let _ = perform(fabric, e, Act::Up(1));
         let _ = perform(fabric, e, Act::Hear(0x0a));
     }
     let first = announces(fabric, 1) && announces(fabric, 1);

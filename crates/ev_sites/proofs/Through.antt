@@ -1,17 +1,11 @@
 -- A way through sites at rest stays in its site, or crosses one tunnel and ends in another site.
-use Rattle.std.proofs.Common.{◌≡◌, ◌≢◌, ◌⊎◌, inl, inr, ℕ, zero, suc, ◌+◌, ◌≤◌, true, Some, Result, List, [], ◌∷◌, slice_get, refl, sym, ap, subst, ◌∙◌, arith}
+use Rattle.std.proofs.Common.{◌≡◌, ◌≢◌, ◌⊎◌, inl, inr, ℕ, zero, suc, ◌+◌, true, Some, List, [], ◌∷◌, slice_get, refl, sym, ap, subst, ◌∙◌, arith}
 use Rattle.ether_wire.specs.Ports.{IsPort, has_port}
 use Rattle.ev_tunnel.specs.declared.decision.Decision.{Decision}
 use Rattle.rstp_run.specs.Events.{Passes}
 use Rattle.rstp_net.specs.Network.{Spot, Network, IsBridgeAt, IsNetwork, IsAtRest, PassesAt, Crosses, Travels, NoCircle, CanBeAtRest}
-use Rattle.ev_edge.specs.declared.event.Event.{Event}
-use Rattle.ev_edge.specs.declared.event.Event.TheVariants as events
-use Rattle.ev_edge.specs.declared.refusal.Refusal.{Refusal}
-use Rattle.ev_edge.specs.declared.reply.Reply.{Reply}
 use Rattle.ev_edge.specs.Edge.{Edge, address_of}
-use Rattle.ev_edge.specs.Laws.{decision_in}
-use Rattle.ev_edge.specs.Steps.{Steps}
-use Rattle.ev_sites.specs.Sites.{Site, IsSiteAt, AreAtRest, Point, IsEdgeOf, frame_port, tunnel_source, DecidesAt, Leaves, ByTunnel, Hops, Goes, SitesCanBeAtRest}
+use Rattle.ev_sites.specs.Sites.{Site, IsSiteAt, AreAtRest, Point, IsEdgeOf, DecidesAt, Leaves, ByTunnel, Hops, Goes, SitesCanBeAtRest}
 use Rattle.ev_sites.proofs.Back.{longer, never_back}
 use Rattle.ev_sites.proofs.Leaving.{Sent, frame_sent, tunnel_passes, tunnel_other}
 
@@ -20,42 +14,10 @@ some_same a b h = cc
 
 -- ---- what a hop is
 
-frame_step : (event : Event) (e : Edge) (result : Result Reply Refusal) (e' : Edge) (port : ℕ) (d : Decision) → frame_port event ≡ Some port → 1 ≤ port → Steps e event result e'
-    → decision_in result ≡ Some d → (q : ℕ) → IsPort q → has_port d.local q ≡ true → Sent e port q
-frame_step (events.Frame p octets) e result e' port d at some h is q port_q there =
-    let same : p ≡ port = some_same p port at in
-    subst (λ n. Sent e n q) same (frame_sent e p e' (subst (λ n. 1 ≤ n) (sym same) some) _ result d h is q port_q there)
-frame_step (events.TunnelFrame from octets) e result e' port d at some h is q port_q there = absurd (let no : ⊥ = cc in no)
-frame_step (events.Take u) e result e' port d at some h is q port_q there = absurd (let no : ⊥ = cc in no)
-frame_step (events.Pin s p) e result e' port d at some h is q port_q there = absurd (let no : ⊥ = cc in no)
-frame_step (events.Unpin s) e result e' port d at some h is q port_q there = absurd (let no : ⊥ = cc in no)
-frame_step (events.Thaw s) e result e' port d at some h is q port_q there = absurd (let no : ⊥ = cc in no)
-frame_step events.Second e result e' port d at some h is q port_q there = absurd (let no : ⊥ = cc in no)
-frame_step (events.PortUp p) e result e' port d at some h is q port_q there = absurd (let no : ⊥ = cc in no)
-frame_step (events.PortDown p) e result e' port d at some h is q port_q there = absurd (let no : ⊥ = cc in no)
-frame_step (events.Mcheck p) e result e' port d at some h is q port_q there = absurd (let no : ⊥ = cc in no)
-frame_step events.Announce e result e' port d at some h is q port_q there = absurd (let no : ⊥ = cc in no)
-
 -- by an edge from a tunnel: not its own, and by ports that pass
 record Came (e : Edge) (from : ℕ) (d : Decision) : Type 0 where
   pub other : from ≢ address_of e
   pub passes : (q : ℕ) → IsPort q → has_port d.local q ≡ true → Passes e.tree q
-
-tunnel_step : (event : Event) (e : Edge) (result : Result Reply Refusal) (e' : Edge) (from : ℕ) (d : Decision) → tunnel_source event ≡ Some from → Steps e event result e'
-    → decision_in result ≡ Some d → Came e from d
-tunnel_step (events.TunnelFrame o octets) e result e' from d at h is =
-    let same : o ≡ from = some_same o from at in
-    subst (λ n. Came e n d) same (record { other = tunnel_other e o octets.now result e' d h is; passes = tunnel_passes e _ result e' d h is })
-tunnel_step (events.Frame p octets) e result e' from d at h is = absurd (let no : ⊥ = cc in no)
-tunnel_step (events.Take u) e result e' from d at h is = absurd (let no : ⊥ = cc in no)
-tunnel_step (events.Pin s p) e result e' from d at h is = absurd (let no : ⊥ = cc in no)
-tunnel_step (events.Unpin s) e result e' from d at h is = absurd (let no : ⊥ = cc in no)
-tunnel_step (events.Thaw s) e result e' from d at h is = absurd (let no : ⊥ = cc in no)
-tunnel_step events.Second e result e' from d at h is = absurd (let no : ⊥ = cc in no)
-tunnel_step (events.PortUp p) e result e' from d at h is = absurd (let no : ⊥ = cc in no)
-tunnel_step (events.PortDown p) e result e' from d at h is = absurd (let no : ⊥ = cc in no)
-tunnel_step (events.Mcheck p) e result e' from d at h is = absurd (let no : ⊥ = cc in no)
-tunnel_step events.Announce e result e' from d at h is = absurd (let no : ⊥ = cc in no)
 
 -- a port of the edge's bridge that passes there, passes in the site's network
 passes_at : (s : Site) (e : Edge) (x : Spot) → IsEdgeOf s e → x.bridge ≡ s.attached → Passes e.tree (x.place + 1) → PassesAt s.net x
@@ -64,17 +26,16 @@ passes_at s e x edge here passes = (e.tree, subst (λ b. IsBridgeAt s.net b e.tr
 -- what an edge does with a frame of its own site is what any bridge does
 edge_crosses : (s : Site) (x y : Spot) (d : Decision) → DecidesAt s x d → Leaves s d y → Crosses s.net x y
 edge_crosses s x y d at leaves =
-    let e = at.decides.before in
-    let sent : Sent e (x.place + 1) (leaves.out.place + 1) =
-    frame_step at.event e at.decides.result at.decides.after (x.place + 1) d at.port (omega arith) at.decides.step at.decides.decision (leaves.out.place + 1) leaves.among.0 leaves.among.1 in
+    let e = at.before in
+    let sent : Sent e (x.place + 1) (leaves.out.place + 1) = frame_sent e (x.place + 1) at.after (omega arith) _ at.result d at.step at.decision (leaves.out.place + 1) leaves.among.0 leaves.among.1 in
     record {
       out = leaves.out;
       bridge = leaves.bridge ∙ sym at.here;
       other = λ same. sent.other (ap (λ (z : Spot). z.place + 1) same);
       segment = leaves.segment;
       apart = leaves.apart;
-      enters = passes_at s e x at.decides.edge at.here sent.enters;
-      leaves = passes_at s e leaves.out at.decides.edge leaves.bridge sent.leaves;
+      enters = passes_at s e x at.edge at.here sent.enters;
+      leaves = passes_at s e leaves.out at.edge leaves.bridge sent.leaves;
       arrives = leaves.arrives;
     }
 
@@ -91,16 +52,19 @@ hop_is sites x y (inl h) = inl (record { site = h.site; at = h.at; same = h.same
 hop_is sites x y (inr (inl h)) = inl (record { site = h.site; at = h.at; same = h.same; crosses = edge_crosses h.site x.spot y.spot h.decision h.decides h.leaves })
 hop_is sites x y (inr (inr h)) = inr h
 
-came : (sites : List Site) (x y : Point) (h : ByTunnel sites x y) → Came h.decides_far.decides.before h.near.address h.decision_far
+came : (sites : List Site) (x y : Point) (h : ByTunnel sites x y) → Came h.decides_far.before h.near.address h.decision_far
 came sites x y h =
     let far = h.decides_far in
-    tunnel_step far.event far.decides.before far.decides.result far.decides.after h.near.address h.decision_far far.source far.decides.step far.decides.decision
+    record {
+      other = tunnel_other far.before h.near.address far.octets far.result far.after h.decision_far far.step far.decision;
+      passes = tunnel_passes far.before _ far.result far.after h.decision_far far.step far.decision;
+    }
 
 -- the far end of a tunnel is in another site
 elsewhere : (sites : List Site) (x y : Point) → ByTunnel sites x y → y.site ≢ x.site
 elsewhere sites x y h same =
     let one : h.far ≡ h.near = some_same h.far h.near (sym h.at_far ∙ ap (λ i. slice_get sites i) same ∙ h.at_near) in
-    (came sites x y h).other (ap (λ (s : Site). s.address) (sym one) ∙ sym h.decides_far.decides.edge.address)
+    (came sites x y h).other (ap (λ (s : Site). s.address) (sym one) ∙ sym h.decides_far.edge.address)
 
 -- ---- ways
 
@@ -141,7 +105,7 @@ module _ (law : NoCircle) (sites : List Site) (rest : AreAtRest sites) where
   -- so a way that begins behind a tunnel stays in the site to which that leads
   behind : (points : List Point) (x z w : Point) → ByTunnel sites x z → Goes sites points z w → w.site ≡ z.site
   behind points x z w h goes =
-      let e = h.decides_far.decides in
+      let e = h.decides_far in
       let out_passes = passes_at h.far e.before h.leaves.out e.edge h.leaves.bridge ((came sites x z h).passes (h.leaves.out.place + 1) h.leaves.among.0 h.leaves.among.1) in
       after_tunnel points z w h.far h.leaves.out z.spot [] h.at_far h.leaves.bridge out_passes h.leaves.arrives h.leaves.segment h.leaves.apart refl goes
 

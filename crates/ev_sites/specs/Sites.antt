@@ -1,15 +1,14 @@
 -- Sites of a fabric, each a network of bridges that is attached to one edge, and the ways of frames through them.
-use Rattle.std.specs.Prelude.{◌≡◌, ◌≢◌, ◌⊎◌, ℕ, ◌+◌, true, Option, Some, None, Result, List, [], ◌∷◌, Contains, slice_get}
+use Rattle.std.specs.Prelude.{◌≡◌, ◌≢◌, ◌⊎◌, ℕ, ◌+◌, true, Some, Result, List, [], ◌∷◌, Contains, slice_get}
 use Rattle.ether_wire.specs.Ports.{IsPort, has_port}
 use Rattle.ev_tunnel.specs.declared.decision.Decision.{Decision}
 use Rattle.rstp_net.specs.Network.{Spot, Network, IsBridgeAt, IsNetwork, IsAtRest, PassesAt, Crosses, Travels}
-use Rattle.ev_edge.specs.declared.event.Event.{Event}
-use Rattle.ev_edge.specs.declared.event.Event.TheVariants as events
 use Rattle.ev_edge.specs.declared.refusal.Refusal.{Refusal}
 use Rattle.ev_edge.specs.declared.reply.Reply.{Reply}
+use Rattle.ev_edge.specs.Arrival.{frame_arrival, tunnel_arrival}
 use Rattle.ev_edge.specs.Edge.{Edge, address_of}
 use Rattle.ev_edge.specs.Laws.{decision_in}
-use Rattle.ev_edge.specs.Steps.{Steps}
+use Rattle.ev_edge.specs.Steps.{FrameSteps, TunnelSteps}
 
 -- ---- sites
 
@@ -40,55 +39,26 @@ pub record IsEdgeOf (s : Site) (e : Edge) : Type 0 where
 
 -- ---- what an edge makes of a frame
 
--- the port at which a frame comes, if the event is one
-abbrev pub frame_port : Event → Option ℕ
-frame_port (events.Frame port octets) = Some port
-frame_port (events.TunnelFrame from octets) = None
-frame_port (events.Take u) = None
-frame_port (events.Pin s port) = None
-frame_port (events.Unpin s) = None
-frame_port (events.Thaw s) = None
-frame_port events.Second = None
-frame_port (events.PortUp port) = None
-frame_port (events.PortDown port) = None
-frame_port (events.Mcheck port) = None
-frame_port events.Announce = None
-
--- the edge from which a datagram comes, if the event is one
-abbrev pub tunnel_source : Event → Option ℕ
-tunnel_source (events.Frame port octets) = None
-tunnel_source (events.TunnelFrame from octets) = Some from
-tunnel_source (events.Take u) = None
-tunnel_source (events.Pin s port) = None
-tunnel_source (events.Unpin s) = None
-tunnel_source (events.Thaw s) = None
-tunnel_source events.Second = None
-tunnel_source (events.PortUp port) = None
-tunnel_source (events.PortDown port) = None
-tunnel_source (events.Mcheck port) = None
-tunnel_source events.Announce = None
-
--- the site's edge, in some state, answers an event with this decision
-pub record Decides (s : Site) (event : Event) (d : Decision) : Type 0 where
+-- the site's edge, in some state, answers octets that come in at x, a port of its own bridge, by this decision
+pub record DecidesAt (s : Site) (x : Spot) (d : Decision) : Type 0 where
+  pub here : x.bridge ≡ s.attached
   pub before : Edge
+  pub octets : List ℕ
   pub result : Result Reply Refusal
   pub after : Edge
   pub edge : IsEdgeOf s before
-  pub step : Steps before event result after
+  pub step : FrameSteps (frame_arrival before (x.place + 1) octets) before (x.place + 1) result after
   pub decision : decision_in result ≡ Some d
 
--- the site's edge decides so on a frame that comes in at x, a port of its own bridge
-pub record DecidesAt (s : Site) (x : Spot) (d : Decision) : Type 0 where
-  pub event : Event
-  pub here : x.bridge ≡ s.attached
-  pub port : frame_port event ≡ Some (x.place + 1)
-  pub decides : Decides s event d
-
--- the site's edge decides so on a datagram from the edge of this address
+-- the site's edge, in some state, answers a datagram from the edge of this address by this decision
 pub record DecidesFrom (s : Site) (from : ℕ) (d : Decision) : Type 0 where
-  pub event : Event
-  pub source : tunnel_source event ≡ Some from
-  pub decides : Decides s event d
+  pub before : Edge
+  pub octets : List ℕ
+  pub result : Result Reply Refusal
+  pub after : Edge
+  pub edge : IsEdgeOf s before
+  pub step : TunnelSteps (tunnel_arrival before from octets) before result after
+  pub decision : decision_in result ≡ Some d
 
 -- A decision's frame leaves the edge's bridge by one of the decision's ports, crosses that port's segment, and comes
 -- in at another port of the segment, y, where it passes.

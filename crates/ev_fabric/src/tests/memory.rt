@@ -57,7 +57,7 @@ fn succeeds_at_last(fabric: &mut Fabric, e: usize, what: Act) -> bool {
 
 // Edge 1 hears eight stations, each twice: where memory is refused the first time, it is learnt the second time.
 fn learn(fabric: &mut Fabric) {
-    let _ = perform(fabric, 1, Act::Up);
+    let _ = perform(fabric, 1, Act::Up(1));
     for n in 0..8u8 {
         let _ = perform(fabric, 1, Act::Hear(n));
         let _ = perform(fabric, 1, Act::Hear(n));

@@ -9,9 +9,18 @@ use Rattle.ev_fabric.proofs.tests.both.Goals as goal
 abbrev addresses : List ℕ
 addresses = 0x0a00_0001 ∷ 0x0a00_0002 ∷ []
 
+-- they listen to a third one, too
+abbrev listeners : List ℕ
+listeners = 0x0a00_0001 ∷ 0x0a00_0002 ∷ 0x0a00_0003 ∷ []
+
 differ : IsDistinct eqb addresses
 unfolding IsDistinct
 differ = ((refl, tt), (tt, tt))
+
+both_listen : (o : ℕ) → Contains addresses o → Contains listeners o
+both_listen o (zero, l, e) = (zero, lit< tt, e)
+both_listen o (suc zero, l, e) = (suc zero, lit< tt, e)
+both_listen o (suc (suc n), l, e) = absurd (omega (arith, l))
 
 -- what holds of two holds of each in their list
 each : (P : EdgeConfig → Type 0) (x y : EdgeConfig) → P x → P y → (c : EdgeConfig) → Contains (x ∷ y ∷ []) c → P c
@@ -20,13 +29,13 @@ each P x y h k c (suc zero, l, e) = subst P e k
 each P x y h k c (suc (suc n), l, e) = absurd (omega (arith, l))
 
 -- two edges of these addresses that listen to both
-are_configs : (x y : EdgeConfig) → x.address ≡ 0x0a00_0001 → y.address ≡ 0x0a00_0002 → x.originators.items ≡ addresses → y.originators.items ≡ addresses → IsConfig x → IsConfig y → AreConfigs (x ∷ y ∷ [])
+are_configs : (x y : EdgeConfig) → x.address ≡ 0x0a00_0001 → y.address ≡ 0x0a00_0002 → x.originators.items ≡ listeners → y.originators.items ≡ listeners → IsConfig x → IsConfig y → AreConfigs (x ∷ y ∷ [])
 are_configs x y p q os ps h k = record {
   some = lit< tt;
   few = lit≤ tt;
   apart = subst (IsDistinct eqb) (sym same) differ;
   configs = each IsConfig x y h k;
-  listed = λ c in' o at. subst (λ xs. Contains xs o) (same ∙ sym (each (λ d. d.originators.items ≡ addresses) x y os ps c in')) at;
+  listed = λ c in' o at. subst (λ xs. Contains xs o) (sym (each (λ d. d.originators.items ≡ listeners) x y os ps c in')) (both_listen o (subst (λ xs. Contains xs o) same at));
 }
   where
     same : addresses_of (x ∷ y ∷ []) ≡ addresses
