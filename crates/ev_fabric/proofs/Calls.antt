@@ -1,6 +1,5 @@
 -- The calls of a fabric: what each part of them says is a step of the fabric, and keeps it sound.
 use Rattle.std.proofs.Common.{◌≡◌, inl, inr, ℕ, zero, suc, ◌-◌, ◌<◌, ◌≤◌, Some, None, Result, Ok, Err, List, refl, sym, ap, subst, arith}
-use Rattle.std.specs.Prelude.{slice_get, slice_set}
 use Rattle.std.specs.Option.{MatchOption}
 use Rattle.route_wire.specs.Fields.{Fields}
 use Rattle.ev_edge.specs.declared.config.EdgeConfig.{EdgeConfig}
@@ -19,17 +18,10 @@ use Rattle.ev_fabric.specs.Fabric.{Fabric, fabric_of, nth, life_of}
 use Rattle.ev_fabric.specs.Local.{event_of}
 use Rattle.ev_fabric.specs.Sound.{IsSound}
 use Rattle.ev_fabric.specs.Steps.{of_edge, with_announced, IsRefused, OneSteps, StepsAt, AnnouncesAt, in_life, with_opened, RestartsAt, FabricSteps}
-use Rattle.ev_fabric.proofs.Places.{set_cases, at_some, at_none}
+use Rattle.ev_fabric.proofs.Places.{at_some, at_none}
 use Rattle.ev_edge.specs.Config.{IsConfig}
 use Rattle.ev_fabric.proofs.Opened.{fit_in_life}
 use Rattle.ev_fabric.proofs.Fabrics.{step_sound}
-
--- ---- the other edges stay good
-pub goods : (f : Fabric) (ys : List Edge) (e : ℕ) (b : Edge) → IsSound f → ys ≡ slice_set f.edges (e - 1) b → IsGoodEdge b → (i : ℕ) (a : Edge) → slice_get ys i ≡ Some a → IsGoodEdge a
-goods f ys e b h is good i a at = elim (set_cases f.edges (e - 1) b i a (subst (λ l. slice_get l i ≡ Some a) is at)) as (λ _. IsGoodEdge a) [
-  | inl p ↦ subst IsGoodEdge (sym p.1) good
-  | inr p ↦ h.good i a p.1
-]
 
 -- ---- steps
 
@@ -42,19 +34,19 @@ refuses : (f : Fabric) (step : Step) (why : Refusal) → IsSound f → FabricSte
 refuses f step why h s = record { steps = s; sound = h }
 
 pub local_does : (f : Fabric) (ys : List Edge) (e : ℕ) (event : LocalEvent) (result : Result Reply Refusal) → IsSound f → OneSteps f.edges e (event_of event) result ys → Does f (fabric_of ys f.configs f.pool) (Local e event) result
-local_does f ys e event result h s = record { steps = steps; sound = step_sound f (fabric_of ys f.configs f.pool) (Local e event) result steps (goods f ys e s.after h s.new_is s.good) h }
+local_does f ys e event result h s = record { steps = steps; sound = step_sound f (fabric_of ys f.configs f.pool) (Local e event) result steps h }
   where
     steps : FabricSteps f (Local e event) result (fabric_of ys f.configs f.pool)
     steps = at_some (IsRefused NoSuchEdge f result (fabric_of ys f.configs f.pool)) (λ a. StepsAt f e a (event_of event) result (fabric_of ys f.configs f.pool)) s.before s.there
-        (record { after = s.after; answer = s.answer; steps = s.steps; result_is = s.result_is; new_is = ap (λ l. fabric_of l f.configs f.pool) s.new_is })
+        (record { after = s.after; answer = s.answer; steps = s.steps; good = s.good; result_is = s.result_is; new_is = ap (λ l. fabric_of l f.configs f.pool) s.new_is })
 
 pub deliver_does : (f : Fabric) (ys : List Edge) (e k : ℕ) (u : Fields) (result : Result Reply Refusal) → IsSound f → nth f.pool k ≡ Some u → OneSteps f.edges e (events.Take u) result ys → Does f (fabric_of ys f.configs f.pool) (Deliver e k) result
-deliver_does f ys e k u result h at s = record { steps = steps; sound = step_sound f (fabric_of ys f.configs f.pool) (Deliver e k) result steps (goods f ys e s.after h s.new_is s.good) h }
+deliver_does f ys e k u result h at s = record { steps = steps; sound = step_sound f (fabric_of ys f.configs f.pool) (Deliver e k) result steps h }
   where
     steps : FabricSteps f (Deliver e k) result (fabric_of ys f.configs f.pool)
     steps = at_some (IsRefused NoSuchEdge f result (fabric_of ys f.configs f.pool)) (λ a. MatchOption (nth f.pool k) (IsRefused NoSuchUpdate f result (fabric_of ys f.configs f.pool)) (λ w. StepsAt f e a (events.Take w) result (fabric_of ys f.configs f.pool))) s.before s.there
         (at_some (IsRefused NoSuchUpdate f result (fabric_of ys f.configs f.pool)) (λ w. StepsAt f e s.before (events.Take w) result (fabric_of ys f.configs f.pool)) u at
-        (record { after = s.after; answer = s.answer; steps = s.steps; result_is = s.result_is; new_is = ap (λ l. fabric_of l f.configs f.pool) s.new_is }))
+        (record { after = s.after; answer = s.answer; steps = s.steps; good = s.good; result_is = s.result_is; new_is = ap (λ l. fabric_of l f.configs f.pool) s.new_is }))
 
 pub no_update : (f : Fabric) (e k : ℕ) (a : Edge) → IsSound f → nth f.edges e ≡ Some a → nth f.pool k ≡ None → Does f f (Deliver e k) (Err NoSuchUpdate)
 no_update f e k a h there none = refuses f (Deliver e k) NoSuchUpdate h
@@ -70,11 +62,11 @@ answered reply (Ok r) is = let same : reply ≡ r = cc in ap (λ (x : Reply). Ok
 answered reply (Err r) is = absurd cc
 
 pub announce_does : (f : Fabric) (ys : List Edge) (grown : List Fields) (e : ℕ) (reply : Reply) → IsSound f → OneSteps f.edges e events.Announce (Ok reply) ys → grown ≡ with_announced f.pool reply.announced → Does f (fabric_of ys f.configs grown) (Announce e) (Ok reply)
-announce_does f ys grown e reply h s pool = record { steps = steps; sound = step_sound f (fabric_of ys f.configs grown) (Announce e) (Ok reply) steps (goods f ys e s.after h s.new_is s.good) h }
+announce_does f ys grown e reply h s pool = record { steps = steps; sound = step_sound f (fabric_of ys f.configs grown) (Announce e) (Ok reply) steps h }
   where
     steps : FabricSteps f (Announce e) (Ok reply) (fabric_of ys f.configs grown)
     steps = at_some (IsRefused NoSuchEdge f (Ok reply) (fabric_of ys f.configs grown)) (λ a. AnnouncesAt f e a (Ok reply) (fabric_of ys f.configs grown)) s.before s.there
-        (s.after, subst (λ r. Steps s.before events.Announce r s.after) (answered reply s.answer s.result_is) s.steps, λ i. fabric_of (s.new_is i) f.configs (pool i))
+        (s.after, subst (λ r. Steps s.before events.Announce r s.after) (answered reply s.answer s.result_is) s.steps, (λ i. fabric_of (s.new_is i) f.configs (pool i)), s.good)
 
 -- ---- a restart
 pub not_higher : (f : Fabric) (e n : ℕ) (a : Edge) → IsSound f → nth f.edges e ≡ Some a → n ≤ life_of a → Does f f (Restart e n) (Err NoHigher)
@@ -84,11 +76,11 @@ pub not_opened : (f : Fabric) (e n : ℕ) (a : Edge) → IsSound f → nth f.edg
 not_opened f e n a h there high = refuses f (Restart e n) NoMemory h (at_some (IsRefused NoSuchEdge f (Err NoMemory) f) (λ b. RestartsAt f e b n (Err NoMemory) f) a there (inr (refl, high), refl))
 
 pub restart_does : (f : Fabric) (e n : ℕ) (a b : Edge) (c : EdgeConfig) → IsSound f → nth f.edges e ≡ Some a → nth f.configs e ≡ Some c → life_of a < n → IsOpening (in_life c n) b → IsGoodEdge b → Does f (with_opened f e b (in_life c n)) (Restart e n) (Ok nothing)
-restart_does f e n a b c h there config high opened good = record { steps = steps; sound = step_sound f (with_opened f e b (in_life c n)) (Restart e n) (Ok nothing) steps (goods f (slice_set f.edges (e - 1) b) e b h refl good) h }
+restart_does f e n a b c h there config high opened good = record { steps = steps; sound = step_sound f (with_opened f e b (in_life c n)) (Restart e n) (Ok nothing) steps h }
   where
     steps : FabricSteps f (Restart e n) (Ok nothing) (with_opened f e b (in_life c n))
     steps = at_some (IsRefused NoSuchEdge f (Ok nothing) (with_opened f e b (in_life c n))) (λ a. RestartsAt f e a n (Ok nothing) (with_opened f e b (in_life c n))) a there
-        (record { higher = high; config = c; config_is = config; after = b; opened = opened; reply_is = refl; new_is = refl })
+        (record { higher = high; config = c; config_is = config; after = b; opened = opened; good = good; reply_is = refl; new_is = refl })
 
 -- the life that a restart has to be above
 pub life_is : (f : Fabric) (e : ℕ) (a : Edge) (c : EdgeConfig) → IsSound f → nth f.edges e ≡ Some a → nth f.configs e ≡ Some c → life_of a ≡ c.incarnation

@@ -1,7 +1,7 @@
 -- Every step keeps a fabric sound.
-use Rattle.std.proofs.Common.{◌≡◌, ◌≢◌, ◌⊎◌, inl, inr, ℕ, zero, suc, ◌-◌, ◌<◌, Bool, true, false, Option, Some, None, Result, Ok, Err, List, [], ◌∷◌, ◌++◌, length, refl, sym, ap, subst, ◌∙◌, arith}
+use Rattle.std.proofs.Common.{◌≡◌, ◌≢◌, ◌⊎◌, inl, inr, ℕ, zero, suc, ◌-◌, ◌<◌, true, Option, Some, None, Result, Ok, Err, List, [], ◌∷◌, ◌++◌, length, refl, sym, ap, subst, ◌∙◌, arith}
 use Rattle.std.proofs.lemmas.Bool.{cases_eq}
-use Rattle.std.proofs.lemmas.List.Elements.{Contains-append_left, Contains-push_cases}
+use Rattle.std.proofs.lemmas.List.Elements.{Contains-push_cases}
 use Rattle.std.specs.Prelude.{Contains, slice_get, slice_set, drop}
 use Rattle.std.specs.Option.{MatchOption, option_map}
 use Rattle.std.specs.List.{list_any}
@@ -9,7 +9,7 @@ use Rattle.std.specs.Prelude.{eqb}
 use Rattle.route_wire.specs.declared.update.Register.{Register}
 use Rattle.route_wire.specs.declared.update.Value.{Value}
 use Rattle.route_wire.specs.Fields.{Fields}
-use Rattle.route_join.specs.Table.{value_at, is_listed, update_at}
+use Rattle.route_join.specs.Table.{value_at, is_listed}
 use Rattle.ev_claims.specs.Voice.{Voice, KeepsNumbers, announced, announced_of, after_announcing}
 use Rattle.ev_claims.specs.Claims.{after_announcement}
 use Rattle.ev_edge.specs.declared.config.EdgeConfig.{EdgeConfig}
@@ -19,18 +19,18 @@ use Rattle.ev_edge.specs.declared.event.Event.{Event}
 use Rattle.ev_edge.specs.declared.event.Event.TheVariants as events
 use Rattle.ev_edge.specs.Config.{IsConfig}
 use Rattle.ev_edge.specs.Edge.{Edge, IsGoodEdge, table_of, address_of}
-use Rattle.ev_edge.specs.Opening.{IsOpening}
 use Rattle.ev_edge.specs.Steps.{Steps, nothing}
 use Rattle.ev_fabric.specs.declared.refusal.Refusal.{Refusal}
-use Rattle.ev_fabric.specs.declared.refusal.Refusal.TheVariants.{NoSuchEdge, NoSuchUpdate, NoHigher, NoMemory, Edge as OfEdge}
+use Rattle.ev_fabric.specs.declared.refusal.Refusal.TheVariants.{NoSuchEdge, NoSuchUpdate, Edge as OfEdge}
 use Rattle.ev_fabric.specs.declared.step.LocalEvent.{LocalEvent}
 use Rattle.ev_fabric.specs.declared.step.Step.{Step}
 use Rattle.ev_fabric.specs.declared.step.Step.TheVariants.{Local, Announce, Deliver, Restart}
 use Rattle.ev_fabric.specs.Fabric.{Fabric, IsEdge, nth, life_of}
 use Rattle.ev_fabric.specs.Local.{event_of}
-use Rattle.ev_fabric.specs.Sound.{update_of, IsBehind, IsTold, SaidOnce, IsOf, IsSound}
-use Rattle.ev_fabric.specs.Steps.{of_edge, with_edge, with_announced, IsRefused, StepsAt, AnnouncesAt, in_life, with_opened, OpensAnew, RestartsAt, FabricSteps}
-use Rattle.ev_fabric.specs.Runs.{AreGood, Runs}
+use Rattle.ev_fabric.specs.Sound.{update_of, IsTold, SaidOnce, IsOf, IsSound}
+use Rattle.ev_fabric.specs.Steps.{with_announced, IsRefused, StepsAt, AnnouncesAt, in_life, OpensAnew, RestartsAt, FabricSteps}
+use Rattle.ev_fabric.specs.Runs.{Runs}
+use Rattle.ev_fabric.specs.Rest.{Rests}
 use Rattle.ev_fabric.proofs.Places.{set_cases, set_same, set_other, set_length, contains_at}
 use Rattle.ev_fabric.proofs.Voices.{AreOne, talks_told, talks_one, grown_told, announced_told, one_itself}
 use Rattle.ev_fabric.proofs.Events.{Leaves, local_talks, takes_told}
@@ -47,6 +47,16 @@ record Becomes (old new : Fabric) (i : ℕ) (before after : Edge) : Type 0 where
 
 at_place : (old new : Fabric) (i : ℕ) (before after : Edge) → Becomes old new i before after → (j : ℕ) (a : Edge) → IsEdge new j a → ((j ≡ i) × (a ≡ after)) ⊎ ((j ≢ i) × (IsEdge old j a))
 at_place old new i before after b j a is = set_cases old.edges i after j a (subst (λ l. slice_get l j ≡ Some a) b.edges is)
+
+-- each edge is good
+abbrev AreGood : Fabric → Type 0
+AreGood f = (i : ℕ) (a : Edge) → IsEdge f i a → IsGoodEdge a
+
+goods : (old new : Fabric) (i : ℕ) (before after : Edge) → Becomes old new i before after → IsGoodEdge after → IsSound old → AreGood new
+goods old new i before after step good h j a at = elim (at_place old new i before after step j a at) as (λ _. IsGoodEdge a) [
+  | inl p ↦ subst IsGoodEdge (sym p.1) good
+  | inr p ↦ h.good j a p.1
+]
 
 -- each edge has the name of the edge that was there, and its listeners
 record WasThere (old : Fabric) (j : ℕ) (a : Edge) : Type 0 where
@@ -108,10 +118,10 @@ count_still : (old new : Fabric) (i : ℕ) (after : Edge) → new.edges ≡ slic
 count_still old new i after edges same h = same ∙ h.count ∙ sym (ap length edges ∙ set_length old.edges i after)
 
 -- ---- the pool stays
-pool_stays : (old new : Fabric) (i : ℕ) (before after : Edge) → Becomes old new i before after → new.pool ≡ old.pool → new.configs ≡ old.configs → AreOne before.claims.voice after.claims.voice → AreGood new → IsTold old.pool after.claims.voice → IsSound old → IsSound new
+pool_stays : (old new : Fabric) (i : ℕ) (before after : Edge) → Becomes old new i before after → new.pool ≡ old.pool → new.configs ≡ old.configs → AreOne before.claims.voice after.claims.voice → IsGoodEdge after → IsTold old.pool after.claims.voice → IsSound old → IsSound new
 pool_stays old new i before after step pool configs one good told h = record {
   apart = apart_still old new i before after step h;
-  good = good;
+  good = goods old new i before after step good h;
   told = λ j a at_a. subst (λ l. IsTold l a.claims.voice) (sym pool) (elim (at_place old new i before after step j a at_a) as (λ _. IsTold old.pool a.claims.voice) [
     | inl p ↦ subst (λ (x : Edge). IsTold old.pool x.claims.voice) (sym p.1) told
     | inr p ↦ h.told j a p.1
@@ -124,8 +134,8 @@ pool_stays old new i before after step pool configs one good told h = record {
 }
 
 -- the edge steps
-steps_at : (old new : Fabric) (i : ℕ) (a : Edge) (event : Event) (result : Result Reply Refusal) → IsEdge old i a → (s : StepsAt old (suc i) a event result new) → Leaves old.pool a.claims.voice s.after.claims.voice → AreGood new → IsSound old → IsSound new
-steps_at old new i a event result at s leaves good h = pool_stays old new i a s.after step (ap (λ (f : Fabric). f.pool) s.new_is) (ap (λ (f : Fabric). f.configs) s.new_is) leaves.one good (leaves.told (h.told i a at)) h
+steps_at : (old new : Fabric) (i : ℕ) (a : Edge) (event : Event) (result : Result Reply Refusal) → IsEdge old i a → (s : StepsAt old (suc i) a event result new) → Leaves old.pool a.claims.voice s.after.claims.voice → IsSound old → IsSound new
+steps_at old new i a event result at s leaves h = pool_stays old new i a s.after step (ap (λ (f : Fabric). f.pool) s.new_is) (ap (λ (f : Fabric). f.configs) s.new_is) leaves.one s.good (leaves.told (h.told i a at)) h
   where
     index : suc i - 1 ≡ i
     index = omega arith
@@ -201,10 +211,10 @@ grown_once pool u one once w x in_w in_x same life number = elim (Contains-push_
 
 -- something is announced
 pool_grows : (old new : Fabric) (i : ℕ) (a b : Edge) (rs : List Register) (r : Register) (v : Value) → Becomes old new i a b → new.pool ≡ old.pool ++ update_of r v ∷ [] → new.configs ≡ old.configs → b.claims.voice ≡ record a.claims.voice { pending = rs }
-    → a.claims.voice.pending ≡ r ∷ rs → value_at (table_of a) r ≡ Some v → v.incarnation ≡ life_of a → r.originator ≡ address_of a → AreGood new → IsSound old → IsSound new
+    → a.claims.voice.pending ≡ r ∷ rs → value_at (table_of a) r ≡ Some v → v.incarnation ≡ life_of a → r.originator ≡ address_of a → IsGoodEdge b → IsSound old → IsSound new
 pool_grows old new i a b rs r v step pool configs voice at is alive mine good h = record {
   apart = apart_still old new i a b step h;
-  good = good;
+  good = goods old new i a b step good h;
   told = λ j x at_x. subst (λ l. IsTold l x.claims.voice) (sym pool) (elim (at_place old new i a b step j x at_x) as (λ _. IsTold (old.pool ++ update_of r v ∷ []) x.claims.voice) [
     | inl p ↦ subst (λ (y : Edge). IsTold (old.pool ++ update_of r v ∷ []) y.claims.voice) (sym p.1) (subst (IsTold (old.pool ++ update_of r v ∷ [])) (sym voice) (announced_told old.pool a.claims.voice r rs v at is alive (h.told i a step.is)))
     | inr p ↦ grown_told old.pool (update_of r v) x.claims.voice (λ same. p.0 (h.apart j i x a p.1 step.is (sym same ∙ mine))) (h.told j x p.1)
@@ -219,9 +229,9 @@ pool_grows old new i a b rs r v step pool configs voice at is alive mine good h 
   configs = configs_still old new i a b step configs (subst (AreOne a.claims.voice) (sym voice) (record { address = refl; incarnation = refl; originators = refl })) h;
 }
 
-announces_at : (old new : Fabric) (i : ℕ) (a : Edge) (result : Result Reply Refusal) → IsEdge old i a → AnnouncesAt old (suc i) a result new → AreGood new → IsSound old → IsSound new
-announces_at old new i a (Err why) at s good h = subst IsSound (sym s.1) h
-announces_at old new i a (Ok reply) at s good h = go (announced_cases a a.claims.voice.pending refl (numbers_of old i a h at))
+announces_at : (old new : Fabric) (i : ℕ) (a : Edge) (result : Result Reply Refusal) → IsEdge old i a → AnnouncesAt old (suc i) a result new → IsSound old → IsSound new
+announces_at old new i a (Err why) at s h = subst IsSound (sym s.1) h
+announces_at old new i a (Ok reply) at s h = go (announced_cases a a.claims.voice.pending refl (numbers_of old i a h at))
   where
     b : Edge
     b = s.0
@@ -256,16 +266,16 @@ announces_at old new i a (Ok reply) at s good h = go (announced_cases a a.claims
     quiet none = voice ∙ ap (λ l. record a.claims.voice { pending = l }) (ap (drop 1) none ∙ sym none)
 
     go : ((a.claims.voice.pending ≡ []) × (announced a.claims.voice ≡ None)) ⊎ IsAnnounced a (announced a.claims.voice) (drop 1 a.claims.voice.pending) → IsSound new
-    go (inl none) = pool_stays old new i a b step (pool ∙ ap (with_announced old.pool) none.1) configs (subst (AreOne a.claims.voice) (sym (quiet none.0)) (one_itself a.claims.voice)) good (subst (IsTold old.pool) (sym (quiet none.0)) (h.told i a at)) h
+    go (inl none) = pool_stays old new i a b step (pool ∙ ap (with_announced old.pool) none.1) configs (subst (AreOne a.claims.voice) (sym (quiet none.0)) (one_itself a.claims.voice)) s.3 (subst (IsTold old.pool) (sym (quiet none.0)) (h.told i a at)) h
     go (inr first) =
         pool_grows old new i a b (drop 1 a.claims.voice.pending) first.register first.value step (pool ∙ ap (with_announced old.pool) first.is) configs voice
-        first.first first.there first.alive first.own good h
+        first.first first.there first.alive first.own s.3 h
 
 -- ---- a restart
-restart_sound : (old new : Fabric) (i : ℕ) (a : Edge) (n : ℕ) (reply : Reply) → IsEdge old i a → OpensAnew old (suc i) a n reply new → AreGood new → IsSound old → IsSound new
-restart_sound old new i a n reply at s good h = record {
+restart_sound : (old new : Fabric) (i : ℕ) (a : Edge) (n : ℕ) (reply : Reply) → IsEdge old i a → OpensAnew old (suc i) a n reply new → IsSound old → IsSound new
+restart_sound old new i a n reply at s h = record {
   apart = apart_still old new i a s.after step h;
-  good = good;
+  good = goods old new i a s.after step s.good h;
   told = λ j x at_x. subst (λ l. IsTold l x.claims.voice) (sym pool) (elim (at_place old new i a s.after step j x at_x) as (λ _. IsTold old.pool x.claims.voice) [
     | inl p ↦ subst (λ (y : Edge). IsTold old.pool y.claims.voice) (sym p.1) told
     | inr p ↦ h.told j x p.1
@@ -322,46 +332,50 @@ restart_sound old new i a n reply at s good h = record {
     told : IsTold old.pool s.after.claims.voice
     told = opened_told old.pool (in_life s.config n) s.after fit s.opened earlier
 
-restarts_at : (old new : Fabric) (i : ℕ) (a : Edge) (n : ℕ) (result : Result Reply Refusal) → IsEdge old i a → RestartsAt old (suc i) a n result new → AreGood new → IsSound old → IsSound new
-restarts_at old new i a n (Ok reply) at s good h = restart_sound old new i a n reply at s good h
-restarts_at old new i a n (Err why) at s good h = subst IsSound (sym s.1) h
+restarts_at : (old new : Fabric) (i : ℕ) (a : Edge) (n : ℕ) (result : Result Reply Refusal) → IsEdge old i a → RestartsAt old (suc i) a n result new → IsSound old → IsSound new
+restarts_at old new i a n (Ok reply) at s h = restart_sound old new i a n reply at s h
+restarts_at old new i a n (Err why) at s h = subst IsSound (sym s.1) h
 
 -- ---- one step
 delivers_at : (old new : Fabric) (i : ℕ) (a : Edge) (result : Result Reply Refusal) (k : ℕ) (o : Option Fields) → nth old.pool k ≡ o → IsEdge old i a
-    → MatchOption o (IsRefused NoSuchUpdate old result new) (λ u. StepsAt old (suc i) a (events.Take u) result new) → AreGood new → IsSound old → IsSound new
-delivers_at old new i a result k None is at s good h = subst IsSound (sym s.1) h
-delivers_at old new i a result zero (Some u) is at s good h = cc
-delivers_at old new i a result (suc k) (Some u) is at s good h =
-    steps_at old new i a (events.Take u) result at s (takes_told old.pool a u s.answer s.after (contains_at old.pool k u is) (numbers_of old i a h at) s.steps) good h
+    → MatchOption o (IsRefused NoSuchUpdate old result new) (λ u. StepsAt old (suc i) a (events.Take u) result new) → IsSound old → IsSound new
+delivers_at old new i a result k None is at s h = subst IsSound (sym s.1) h
+delivers_at old new i a result zero (Some u) is at s h = cc
+delivers_at old new i a result (suc k) (Some u) is at s h =
+    steps_at old new i a (events.Take u) result at s (takes_told old.pool a u s.answer s.after (contains_at old.pool k u is) (numbers_of old i a h at) s.steps) h
 
-pub step_sound : (old new : Fabric) (step : Step) (result : Result Reply Refusal) → FabricSteps old step result new → AreGood new → IsSound old → IsSound new
-step_sound old new (Local e event) result s good h = go e (nth old.edges e) refl s
+pub step_sound : (old new : Fabric) (step : Step) (result : Result Reply Refusal) → FabricSteps old step result new → IsSound old → IsSound new
+step_sound old new (Local e event) result s h = go e (nth old.edges e) refl s
   where
     go : (e : ℕ) (o : Option Edge) → nth old.edges e ≡ o → MatchOption o (IsRefused NoSuchEdge old result new) (λ a. StepsAt old e a (event_of event) result new) → IsSound new
     go e None is s = subst IsSound (sym s.1) h
     go zero (Some a) is s = cc
-    go (suc i) (Some a) is s = steps_at old new i a (event_of event) result is s (local_leaves old i a s.after event s.answer h is s.steps) good h
-step_sound old new (Announce e) result s good h = go e (nth old.edges e) refl s
+    go (suc i) (Some a) is s = steps_at old new i a (event_of event) result is s (local_leaves old i a s.after event s.answer h is s.steps) h
+step_sound old new (Announce e) result s h = go e (nth old.edges e) refl s
   where
     go : (e : ℕ) (o : Option Edge) → nth old.edges e ≡ o → MatchOption o (IsRefused NoSuchEdge old result new) (λ a. AnnouncesAt old e a result new) → IsSound new
     go e None is s = subst IsSound (sym s.1) h
     go zero (Some a) is s = cc
-    go (suc i) (Some a) is s = announces_at old new i a result is s good h
-step_sound old new (Deliver e k) result s good h = go e (nth old.edges e) refl s
+    go (suc i) (Some a) is s = announces_at old new i a result is s h
+step_sound old new (Deliver e k) result s h = go e (nth old.edges e) refl s
   where
     go : (e : ℕ) (o : Option Edge) → nth old.edges e ≡ o
         → MatchOption o (IsRefused NoSuchEdge old result new) (λ a. MatchOption (nth old.pool k) (IsRefused NoSuchUpdate old result new) (λ u. StepsAt old e a (events.Take u) result new)) → IsSound new
     go e None is s = subst IsSound (sym s.1) h
     go zero (Some a) is s = cc
-    go (suc i) (Some a) is s = delivers_at old new i a result k (nth old.pool k) refl is s good h
-step_sound old new (Restart e n) result s good h = go e (nth old.edges e) refl s
+    go (suc i) (Some a) is s = delivers_at old new i a result k (nth old.pool k) refl is s h
+step_sound old new (Restart e n) result s h = go e (nth old.edges e) refl s
   where
     go : (e : ℕ) (o : Option Edge) → nth old.edges e ≡ o → MatchOption o (IsRefused NoSuchEdge old result new) (λ a. RestartsAt old e a n result new) → IsSound new
     go e None is s = subst IsSound (sym s.1) h
     go zero (Some a) is s = cc
-    go (suc i) (Some a) is s = restarts_at old new i a n result is s good h
+    go (suc i) (Some a) is s = restarts_at old new i a n result is s h
 
 -- ---- lists of steps
 pub runs_sound : (steps : List Step) (old new : Fabric) → Runs old steps new → IsSound old → IsSound new
 runs_sound [] old new s h = subst IsSound (sym s) h
-runs_sound (step ∷ steps) old new s h = runs_sound steps s.0 new s.4 (step_sound old s.0 step s.1 s.2 s.3 h)
+runs_sound (step ∷ steps) old new s h = runs_sound steps s.0 new s.3 (step_sound old s.0 step s.1 s.2 h)
+
+pub rests_sound : (steps : List Step) (old new : Fabric) → Rests old steps new → IsSound old → IsSound new
+rests_sound [] old new s h = subst IsSound (sym s) h
+rests_sound (step ∷ steps) old new s h = rests_sound steps s.0 new s.5 (step_sound old s.0 step s.1 s.4 h)

@@ -1,7 +1,7 @@
 -- A delivery leaves an edge what every edge keeps.
 use Rattle.std.proofs.Common.{◌≡◌, ◌≢◌, ℕ, Bool, true, false, cond, List, ◌∷◌, Ok, refl, sym, ap, subst, ◌∙◌, arith}
 use Rattle.std.proofs.lemmas.Bool.Decides.{nat_tests}
-use Rattle.std.specs.Prelude.{Contains, is_some, not, ◌==◌, ◌&&◌}
+use Rattle.std.specs.Prelude.{Contains, is_some, not, length, ◌==◌, ◌&&◌, ◌≤◌, ◌^◌}
 use Rattle.route_wire.specs.declared.update.Key.{Key}
 use Rattle.route_wire.specs.declared.update.Key.TheVariants.{Flood, Mac}
 use Rattle.route_wire.specs.declared.update.Register.{Register}
@@ -11,22 +11,49 @@ use Rattle.route_join.specs.Table.{with_value}
 use Rattle.route_join.specs.Owner.{advert_of, owner}
 use Rattle.route_join.specs.declared.table.Taken.TheVariants.{Known}
 use Rattle.mac_arena.specs.declared.station.Station.{Station}
+use Rattle.mac_arena.specs.ListsName.{ListsName}
 use Rattle.ev_claims.specs.Voice.{Voice, KeepsNumbers, is_at, is_newest, own_advert, after_hearing, after_hearing_own}
 use Rattle.ev_claims.specs.Claims.{Claims, KeepsClaims, key_of, after_removal, after_update, after_own, is_lost, after_losing, after_take}
 use Rattle.ev_claims.proofs.Numbers.{said_numbers, own_stays, heard_numbers}
 use Rattle.ev_claims.proofs.Hearing.{past_if_newest, earlier_numbers}
 use Rattle.ev_claims.proofs.Keeping.{spoken_claims, removal_claims, own_claims}
+use Rattle.ev_edge.specs.Edge.{Edge, IsGoodEdge}
 use Rattle.ev_edge.proofs.Owning.{Holds, taken_holds}
 use Rattle.ev_edge.proofs.Returning.{own_holds}
 use Rattle.ev_fabric.specs.RestEdge.{comes_back}
 use Rattle.ev_fabric.proofs.RestingEdge.{Accepts, Heard, Back, Lost, Kept, heard, hears, silent, learnt}
+use Rattle.ev_fabric.proofs.RestingLists.{removal_lists}
 use Rattle.ev_fabric.proofs.RestingSums.{later_one}
 
--- what is used of a good edge: its claims, its numbers, and that it owns what it advertises
+-- what a good edge keeps of its claims
 pub record Keeps (c : Claims) (second : ℕ) : Type 0 where
   pub claims : KeepsClaims c
   pub numbers : KeepsNumbers c.voice
+  pub lists : ListsName c.learned
   pub holds : Holds c second
+
+-- and of the rest, which no announcement and no delivery changes
+pub record IsSteady (a : Edge) : Type 0 where
+  pub ports : length a.tree.ports ≡ length a.claims.ports
+  pub early : a.clock ≤ 2 ^ 63
+
+-- together they make it good
+pub good_kept : (a : Edge) → IsGoodEdge a → Keeps a.claims a.clock × IsSteady a
+good_kept a h = (
+  record {
+    claims = h.claims.claims;
+    numbers = h.claims.numbers;
+    lists = h.claims.lists;
+    holds = record { owns = h.keeps.owns; latest = h.keeps.latest };
+  },
+  record { ports = h.keeps.ports; early = h.keeps.early },
+)
+
+pub kept_good : (a : Edge) → Keeps a.claims a.clock → IsSteady a → IsGoodEdge a
+kept_good a k r = record {
+  claims = record { claims = k.claims; numbers = k.numbers; lists = k.lists };
+  keeps = record { owns = k.holds.owns; latest = k.holds.latest; ports = r.ports; early = r.early };
+}
 
 -- ---- the own numbers
 unheard : (e : Voice) (u : Fields) → is_newest e u ≡ false → e ≡ after_hearing e u
@@ -76,11 +103,26 @@ other_claims c u other h = losing u.register.key
     losing (Flood v) = other_one c u other h
     losing (Mac v m ip) = pick (record { vni = v; mac = m }) (is_lost (after_update c u) (record { vni = v; mac = m })) refl
 
+-- ---- the lists and the ports
+heard_lists : (c : Claims) (u : Fields) (d : Claims) → Heard c u d → ListsName c.learned → ListsName d.learned
+heard_lists c u _ (Back back) h = h
+heard_lists c u _ (Lost s other lost) h = removal_lists c.learned s h
+heard_lists c u _ (Kept not) h = h
+
+heard_ports : (c : Claims) (u : Fields) (d : Claims) → Heard c u d → d.ports ≡ c.ports
+heard_ports c u _ (Back back) = refl
+heard_ports c u _ (Lost s other lost) = refl
+heard_ports c u _ (Kept not) = refl
+
+pub heard_steady : (a : Edge) (u : Fields) → IsSteady a → IsSteady (record a { claims = heard a.claims u })
+heard_steady a u r = record { ports = r.ports ∙ ap length (sym (heard_ports a.claims u (heard a.claims u) (hears a.claims u))); early = r.early }
+
 -- ---- all of it
 pub heard_keeps : (c : Claims) (u : Fields) (second : ℕ) → Accepts c.voice u → Keeps c second → Keeps (heard c u) second
 heard_keeps c u second ok h = record {
   claims = claims (u.register.originator == c.voice.address) refl;
   numbers = heard_numbers_by c u (heard c u) h.numbers ok (hears c u);
+  lists = heard_lists c u (heard c u) (hears c u) h.lists;
   holds = holds (u.register.originator == c.voice.address) refl;
 }
   where
@@ -107,5 +149,6 @@ quieter_keeps c r rs second pend h = record {
     known = h.numbers.known;
     pending = λ q in'. h.numbers.pending q (subst (λ l. Contains l q) (sym pend) (later_one r rs q in'));
   };
+  lists = h.lists;
   holds = record { owns = h.holds.owns; latest = h.holds.latest };
 }

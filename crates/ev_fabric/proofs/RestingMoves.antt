@@ -32,12 +32,13 @@ use Rattle.ev_fabric.proofs.Places.{set_cases, contains_at, push_length}
 use Rattle.ev_fabric.proofs.RestingSums.{sum_set, count_le, count_push, set_itself, set_kept}
 use Rattle.ev_fabric.proofs.RestingNewest.{any_front}
 use Rattle.ev_fabric.proofs.RestingEdge.{later_itself, later_trans, Accepts, heard, heard_later, may_return, KnowsOwn, heard_pays, others_stay_away, known_stays_away}
-use Rattle.ev_fabric.proofs.RestingGood.{Keeps, heard_keeps, quieter, quieter_keeps}
+use Rattle.ev_fabric.proofs.RestingGood.{Keeps, IsSteady, good_kept, heard_keeps, heard_steady, quieter, quieter_keeps}
 
 -- ---- what is used of a sound fabric
 pub record Kept (f : Fabric) : Type 0 where
   pub apart : (i j : ℕ) (a b : Edge) → IsEdge f i a → IsEdge f j b → address_of a ≡ address_of b → i ≡ j
   pub keeps : (i : ℕ) (a : Edge) → IsEdge f i a → Keeps a.claims a.clock
+  pub steady : (i : ℕ) (a : Edge) → IsEdge f i a → IsSteady a
   pub knows : (i : ℕ) (a : Edge) → IsEdge f i a → KnowsOwn f.pool a.claims.voice
   pub sources : (u : Fields) → Contains f.pool u → (i : ℕ) × (a : Edge) × IsEdge f i a × (address_of a ≡ u.register.originator)
   pub listed : (i j : ℕ) (a b : Edge) → IsEdge f i a → IsEdge f j b → is_listed (table_of a) (address_of b) ≡ true
@@ -52,11 +53,8 @@ behind_no_news e u b = ap (λ o. is_news o u.value) b.there ∙ elim b.order as 
 pub sound_kept : (f : Fabric) → IsSound f → Kept f
 sound_kept f h = record {
   apart = h.apart;
-  keeps = λ i a at. record {
-    claims = (h.good i a at).claims.claims;
-    numbers = (h.good i a at).claims.numbers;
-    holds = record { owns = (h.good i a at).keeps.owns; latest = (h.good i a at).keeps.latest };
-  };
+  keeps = λ i a at. (good_kept a (h.good i a at)).0;
+  steady = λ i a at. (good_kept a (h.good i a at)).1;
   knows = λ i a at u in' mine. elim ((h.told i a at).behind u in' mine) as (λ _. (u.value.incarnation < a.claims.voice.incarnation) ⊎ (is_newest a.claims.voice u ≡ false)) [
     | inl earlier ↦ inl earlier
     | inr b ↦ inr (behind_no_news a.claims.voice u b)
@@ -301,10 +299,22 @@ move_pool old _ (Tells i a r rs v at pend is) h w in' = elim (Contains-push_case
 ]
 move_pool old _ (Takes i a u at in' ok) h w in'' = inl in''
 
+move_steady : (old new : Fabric) → Move old new → Kept old → (j : ℕ) (b : Edge) → IsEdge new j b → IsSteady b
+move_steady old _ Stays h j b at = h.steady j b at
+move_steady old _ (Tells i a r rs v at pend is) h j b at_b = elim (set_cases old.edges i (record a { claims = quieter a.claims rs }) j b at_b) as (λ _. IsSteady b) [
+  | inl p ↦ subst IsSteady (sym p.1) (record { ports = (h.steady i a at).ports; early = (h.steady i a at).early })
+  | inr p ↦ h.steady j b p.1
+]
+move_steady old _ (Takes i a u at in' ok) h j b at_b = elim (set_cases old.edges i (record a { claims = heard a.claims u }) j b at_b) as (λ _. IsSteady b) [
+  | inl p ↦ subst IsSteady (sym p.1) (heard_steady a u (h.steady i a at))
+  | inr p ↦ h.steady j b p.1
+]
+
 pub move_kept : (old new : Fabric) → Move old new → Kept old → Kept new
 move_kept old new move h = record {
   apart = λ i j a b at_a at_b same. let x = was i a at_a in let y = was j b at_b in h.apart i j x.was y.was x.at y.at (sym x.later.address ∙ same ∙ y.later.address);
   keeps = move_keeps old new move h;
+  steady = move_steady old new move h;
   knows = λ j b at_b u in' mine.
       let x = was j b at_b in
       elim (move_pool old new move h u in') as (λ _. (u.value.incarnation < b.claims.voice.incarnation) ⊎ (is_newest b.claims.voice u ≡ false)) [

@@ -46,11 +46,12 @@ pub record OneSteps (old : List Edge) (e : ℕ) (event : Event) (result : Result
   pub result_is : result ≡ of_edge answer
   pub new_is : new ≡ slice_set old (e - 1) after
 
--- the edge a at place e steps by the event, and answers; all else stays
+-- the edge a at place e steps by the event, and answers, and is good afterwards; all else stays
 pub record StepsAt (old : Fabric) (e : ℕ) (a : Edge) (event : Event) (result : Result Reply Refusal) (new : Fabric) : Type 0 where
   pub after : Edge
   pub answer : Result Reply edge.Refusal
   pub steps : Steps a event answer after
+  pub good : IsGoodEdge after
   pub result_is : result ≡ of_edge answer
   pub new_is : new ≡ with_edge old e after
 
@@ -58,7 +59,7 @@ pub record StepsAt (old : Fabric) (e : ℕ) (a : Edge) (event : Event) (result :
 -- it is still pending.
 abbrev pub AnnouncesAt : Fabric → ℕ → Edge → Result Reply Refusal → Fabric → Type 0
 AnnouncesAt old e a (Ok reply) new =
-    (b : Edge) × Steps a events.Announce (Ok reply) b × (new ≡ record (with_edge old e b) { pool = with_announced old.pool reply.announced })
+    (b : Edge) × Steps a events.Announce (Ok reply) b × (new ≡ record (with_edge old e b) { pool = with_announced old.pool reply.announced }) × IsGoodEdge b
 AnnouncesAt old e a (Err why) new = (why ≡ NoMemory) × (new ≡ old)
 
 -- what an edge is opened with in the life n
@@ -77,6 +78,7 @@ pub record OpensAnew (old : Fabric) (e : ℕ) (a : Edge) (n : ℕ) (reply : Repl
   pub config_is : nth old.configs e ≡ Some config
   pub after : Edge
   pub opened : IsOpening (in_life config n) after
+  pub good : IsGoodEdge after
   pub reply_is : reply ≡ nothing
   pub new_is : new ≡ with_opened old e after (in_life config n)
 

@@ -8,7 +8,7 @@ ghost use Rattle.ev_edge.specs.declared.config.EdgeConfig.{EdgeConfig};
 ghost use Rattle.ev_edge.specs.Edge.{Edge as EdgeState, table_of, address_of};
 ghost use Rattle.ev_fabric.specs.declared.step.Step.{Step};
 ghost use Rattle.ev_fabric.specs.Fabric.{Fabric as State, IsEdge};
-ghost use Rattle.ev_fabric.specs.Opening.{IsStart};
+ghost use Rattle.ev_fabric.specs.Opening.{AreConfigs, IsStart};
 ghost use Rattle.ev_fabric.specs.Sound.{IsSound};
 ghost use Rattle.ev_fabric.specs.Agreed.{AllAgree};
 ghost use Rattle.ev_fabric.specs.RestEdge.{IsLater, unsaid};
@@ -65,11 +65,14 @@ pub fn settles()
 
 /// A law, which does nothing: the premise on numbers, `HasNumbers`, holds of every fabric as it is opened,
 /// and while each counter, with what the learning table has room for and the length of the pool, is at
-/// 2^63 at most.
+/// 2^63 at most. So two rounds lead from every opened fabric to a sound one in which all agree.
 pub fn reached()
     ensures start { (configs : List EdgeConfig) (f : State) → IsStart configs f → HasNumbers f }
     ensures few { (f : State) → IsSound f → ((i : ℕ) (a : EdgeState) → IsEdge f i a →
         a.claims.voice.counter + capacity a.claims + length f.pool ≤ 2 ^ 63) → HasNumbers f }
+    ensures agreement { (configs : List EdgeConfig) (f : State) → AreConfigs configs →
+        IsStart configs f →
+        (new : State) × Rests f (two_rounds f) new × AllAgree new × IsSound new }
 {}
 
 /// A law, which does nothing: a station of a fabric that agrees comes to another edge, which learns it by a
@@ -77,15 +80,14 @@ pub fn reached()
 /// announcements, the new edge's advert and the old edge's withdrawal, and the new edge owns the station at
 /// every edge.
 pub fn moves()
-    ensures agrees { (i j : ℕ) (s : Station) (old mid new : State) → IsSound old → IsSound mid →
+    ensures agrees { (i j : ℕ) (s : Station) (old mid new : State) → IsSound old →
         StationMoves old i j s mid → Rests mid (two_rounds mid) new → AllAgree new }
-    ensures pool { (i j : ℕ) (s : Station) (old mid new : State) (steps : List Step) →
-        IsSound old → IsSound mid →
-        (m : StationMoves old i j s mid) → Rests mid steps new → IsSound new → AllAgree new →
+    ensures pool { (i j : ℕ) (s : Station) (old mid new : State) (steps : List Step) → IsSound old →
+        (m : StationMoves old i j s mid) → Rests mid steps new → AllAgree new →
         IsMoved old.pool s (address_of m.from) (address_of m.to) new.pool }
     ensures owner { (i j : ℕ) (s : Station) (old mid new : State) (steps : List Step) →
-        IsSound old → IsSound mid →
-        (m : StationMoves old i j s mid) → Rests mid steps new → IsSound new → AllAgree new →
+        IsSound old →
+        (m : StationMoves old i j s mid) → Rests mid steps new → AllAgree new →
         (x : ℕ) (c : EdgeState) → IsEdge new x c →
         IsOwner (table_of c) s.vni s.mac (address_of m.to) }
 {}
