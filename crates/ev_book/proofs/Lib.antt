@@ -5,3 +5,4 @@ pub mod Owned
 pub mod Counting
 pub mod Replaying
 pub mod Stepping
+pub mod Totalling

@@ -1,14 +1,32 @@
--- The counts of a book that is closed.
-use Rattle.std.specs.Prelude.{ℕ, List, map}
-use Rattle.std.specs.List.{sum_by}
-use Rattle.ev_book.specs.declared.pass.Kept.{Kept}
+-- The counts of a book that is closed: those of the passes given back.
+use Rattle.std.specs.Prelude.{◌≡◌, ℕ, eqb, ◌==◌, if◌then◌else◌, Option, Some, None, List, [], ◌∷◌, map, Contains}
+use Rattle.std.specs.List.{sum_by, IsDistinct}
+use Rattle.ev_book.specs.declared.pass.Counted.{Counted}
 use Rattle.ev_book.specs.Book.{PassState}
 
-abbrev pub counts_of : List Kept → List ℕ
-counts_of kept = map (λ (k : Kept). k.count) kept
+abbrev pub counted_of : PassState → Counted
+counted_of p = record { number = p.number; count = p.count }
 
-abbrev pub sum_of : List ℕ → ℕ
-sum_of counts = sum_by (λ n. n) counts
+-- each pass's own number and count
+abbrev pub counts_of : List PassState → List Counted
+counts_of passes = map counted_of passes
 
+abbrev pub sum_of : List Counted → ℕ
+sum_of counts = sum_by (λ (c : Counted). c.count) counts
+
+-- how many calls the passes have together
 abbrev pub calls_of : List PassState → ℕ
 calls_of passes = sum_by (λ (p : PassState). p.count) passes
+
+-- the count beside a number, the first where there are several
+abbrev pub count_in : List Counted → ℕ → Option ℕ
+count_in [] number = None
+count_in (c ∷ counts) number = if c.number == number then Some c.count else count_in counts number
+
+-- no two have the same number
+abbrev pub AreNumbered : List PassState → Type 0
+AreNumbered passes = IsDistinct eqb (map (λ (p : PassState). p.number) passes)
+
+-- of each pass its own count is told
+abbrev pub TellsEach : List PassState → List Counted → Type 0
+TellsEach passes counts = (p : PassState) → Contains passes p → count_in counts p.number ≡ Some p.count

@@ -3,20 +3,21 @@ ghost use Rattle.std.specs.Prelude.{◌≡◌, ◌+◌, ◌<◌, ◌≤◌, true
 ghost use Rattle.route_wire.specs.Record.{Answers};
 ghost use Rattle.ether_wire.specs.Ends.{IsOpen, Puts};
 ghost use Rattle.route_join.specs.Owner.{owner};
+ghost use Rattle.route_join.specs.Report.{report_of};
 ghost use Rattle.route_join.specs.Updates.{all_updates};
 ghost use Rattle.ev_edge.specs.Config.{IsConfig};
 ghost use Rattle.ev_edge.specs.Edge.{IsGoodEdge, table_of};
 ghost use Rattle.ev_book.specs.Mark.{HoldsAt};
-ghost use Rattle.ev_book.specs.Book.{fits};
+ghost use Rattle.ev_book.specs.Book.{fits, count_sum};
 ghost use Rattle.ev_book.specs.Journal.{HasOwnSince, AppendsOwn, Compacts, records_of, all_ok};
 ghost use Rattle.ev_book.specs.Entering.{CallsBook, Enters, is_spent, calls_counted, mark_then, touched_by};
 ghost use Rattle.ev_book.specs.Opening.{IsOpened, opened_passes};
-ghost use Rattle.ev_book.specs.Closing.{counts_of, sum_of, calls_of};
-ghost use Rattle.ev_book.specs.Laws.{Replays};
+ghost use Rattle.ev_book.specs.Closing.{counts_of, sum_of, AreNumbered, TellsEach};
+ghost use Rattle.ev_book.specs.Laws.{Replays, ReportsAs, listening};
 
 use crate::journal::{append_own, compact, put_records, step, touched};
 use crate::mark::{Mark, mark_of, same_mark};
-use crate::pass::{Kept, Pass, Totals, merged, unused};
+use crate::pass::{Kept, Pass, Totals, merged, own_counts, unused};
 use crate::refusal::BookRefusal;
 use ether_wire::{Addr, Device, Mac, Out, Vni};
 use ev_edge::{Edge, EdgeConfig, Event, Reply};
@@ -209,7 +210,7 @@ impl<L: Ledger> Book<L> {
     }
 
     /// Leaves one update of each register in the journal, the newest, in the order of a report. It takes
-    /// no memory, and as many steps as the table has registers.
+    /// no memory, and steps in proportion to the journal's updates.
     pub fn compact(&mut self)
         ensures edge { self.new.edge ≡ self.old.edge }
         ensures kept { self.new.kept ≡ self.old.kept }
@@ -219,7 +220,8 @@ impl<L: Ledger> Book<L> {
         compact(&mut self.journal, self.edge.table());
     }
 
-    /// Writes the journal's updates in their order, each as its record. It takes no memory.
+    /// Writes the journal's updates in their order, each as its record. It takes no memory. What it wrote
+    /// is read again: a table that takes the records' updates has the edge's report.
     ///
     /// # Errors
     ///
@@ -228,27 +230,32 @@ impl<L: Ledger> Book<L> {
         requires { IsOpen (W.end out.old) }
         ensures puts { Puts (W.end out.old) (W.end out.new) (records_of self.now.journal) result }
         ensures again { OnOk result (Answers (records_of self.now.journal) (all_ok self.now.journal) []) }
+        ensures report { OnOk result (ReportsAs (listening self.now) (records_of self.now.journal) (report_of (table_of self.now.edge))) }
     {
+        self.always_replays();
         put_records(self.journal.as_slice(), out)
     }
 
-    /// Ends the book, with all its passes: its edge, and how many calls of each pass were counted.
+    /// Ends the book, with all its passes: its edge, and how many calls of each pass were counted. These
+    /// are the passes' own counts, and together they are what the book counted.
     pub fn close(self, passes: Vec<Pass<L>>) -> (Edge, Totals)
         requires all { vec_len passes ≡ L.parts }
-        requires some { 0 < vec_len passes }
+        requires some { (0 < vec_len passes) × (vec_len passes ≤ 256) }
         ensures edge { result.0 ≡ self.edge }
-        ensures counts { result.1 ≡ counts_of self.kept }
-        ensures sum { sum_of result.1 ≡ calls_of passes.items }
+        ensures counts { result.1 ≡ counts_of passes.items }
+        ensures each { AreNumbered passes.items → TellsEach passes.items result.1 }
+        ensures sum { sum_of result.1 ≡ count_sum self.kept }
     {
         let Book {
             edge,
             journal: _,
-            kept,
+            kept: _,
             sum: mut book,
         } = self;
+        let counts = own_counts(passes.as_slice());
         let mut all = merged(passes);
         book.audit(&mut all);
-        (edge, Totals { kept })
+        (edge, Totals { counts })
     }
 }
 

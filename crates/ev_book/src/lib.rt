@@ -10,5 +10,5 @@ mod refusal;
 
 pub use book::Book;
 pub use mark::Mark;
-pub use pass::{Pass, Totals};
+pub use pass::{Counted, Pass, Totals};
 pub use refusal::BookRefusal;

@@ -1,13 +1,17 @@
 //! Passes: the right to call a book, and what the book keeps of each.
-ghost use Rattle.std.specs.Prelude.{◌≡◌, ◌+◌, ◌<◌, slice_get, replicate, vec_len, IfOk};
+ghost use Rattle.std.specs.Prelude.{◌≡◌, ◌+◌, ◌<◌, ◌≤◌, length, replicate, vec_len, IfOk};
 ghost use Rattle.ev_book.specs.Book.{unused};
 ghost use Rattle.ev_book.specs.Opening.{opened_pass};
-ghost use Rattle.ev_book.specs.Closing.{counts_of, calls_of};
+ghost use Rattle.ev_book.specs.Closing.{counts_of, calls_of, count_in};
 
 use crate::mark::Mark;
+use arrayvec::ArrayVec;
 use std::alloc::{AllocError, Global};
 use std::marker::Model;
 use std::sync::ledger::{Ledger, Share};
+
+/// How many passes a book has at most.
+pub(crate) const MOST: usize = 256;
 
 /// What a book keeps of a pass.
 #[derive(Clone, Copy, Debug, PartialEq, Eq)]
@@ -126,26 +130,56 @@ pub(crate) fn merged<L: Ledger>(passes: Vec<Pass<L>>) -> Share<L>
     all
 }
 
+/// How many calls of a pass were counted.
+#[derive(Clone, Copy, Debug, Default, PartialEq, Eq)]
+pub struct Counted {
+    /// The pass's number.
+    pub number: usize,
+    /// How many of its calls were counted.
+    pub count: u64,
+}
+
+/// How many calls of each pass were counted, in the order in which the passes were given back.
+pub(crate) fn own_counts<L: Ledger>(passes: &[Pass<L>]) -> ArrayVec<Counted, MOST>
+    requires { length passes.now ≤ 256 }
+    ensures { result.items ≡ counts_of passes.now }
+{
+    let mut counts = ArrayVec::new();
+    for pass in passes {
+        counts.push(Counted {
+            number: pass.number,
+            count: pass.count,
+        });
+    }
+    counts
+}
+
 /// How many calls of each pass were counted, by its number.
 #[derive(Drop)]
 pub struct Totals {
-    pub(crate) kept: Vec<Kept>,
+    pub(crate) counts: ArrayVec<Counted, MOST>,
 }
 
 impl Model for Totals {
-    ghost use Rattle.std.specs.Prelude.{List, ℕ};
-    ghost use Rattle.ev_book.specs.Closing.{counts_of};
+    ghost use Rattle.std.specs.Prelude.{List};
+    ghost use Rattle.ev_book.specs.declared.pass.Counted.{Counted};
 
-    ghost Value = { List ℕ };
+    ghost Value = { List Counted };
 
-    ghost view = { λ t. counts_of t.kept.items };
+    ghost view = { λ t. t.counts.items };
 }
 
 impl Totals {
     /// How many calls of the pass with this number were counted, if there was such a pass.
     pub fn of(&self, number: usize) -> Option<u64>
-        ensures { result ≡ slice_get self.now number }
+        ensures { result ≡ count_in self.now number }
     {
-        self.kept.get(number).map(|kept| kept.count)
+        let counts = self.counts.as_slice();
+        for counted in counts {
+            if counted.number == number {
+                return Some(counted.count);
+            }
+        }
+        None
     }
 }
