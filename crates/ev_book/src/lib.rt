@@ -12,3 +12,6 @@ pub use book::Book;
 pub use mark::Mark;
 pub use pass::{Counted, Pass, Totals};
 pub use refusal::BookRefusal;
+
+#[cfg(test)]
+mod tests;
