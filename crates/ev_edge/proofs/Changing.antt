@@ -1,23 +1,22 @@
 -- What each event makes an edge say.
-use Rattle.std.proofs.Common.{◌≡◌, ◌≢◌, ◌⊎◌, inl, inr, ℕ, suc, ◌+◌, ◌-◌, ◌≤◌, Bool, true, false, cond, eqb, Option, Some, None, Result, Ok, Err, List, [], ◌∷◌, ◌++◌, length, refl, sym, ap, subst, ◌∙◌, arith}
+use Rattle.std.proofs.Common.{◌≡◌, ◌≢◌, inl, inr, ℕ, suc, ◌+◌, ◌-◌, ◌≤◌, Bool, true, false, cond, eqb, Option, Some, None, Result, Ok, Err, List, [], ◌∷◌, length, refl, sym, ap, subst, ◌∙◌, arith}
 use Rattle.std.specs.Prelude.{nat_le, not, ◌&&◌}
 use Rattle.std.proofs.lemmas.Bool.Decides.{nat_tests}
 use Rattle.ether_wire.specs.Names.{is_group}
 use Rattle.route_wire.specs.declared.update.Key.{Key}
 use Rattle.route_wire.specs.declared.update.Key.TheVariants.{Flood, Mac}
-use Rattle.route_wire.specs.declared.update.Register.{Register}
 use Rattle.route_wire.specs.declared.update.Content.{Content}
 use Rattle.route_wire.specs.declared.update.Content.TheVariants.{Withdrawn}
 use Rattle.route_wire.specs.declared.update.Value.{Value}
 use Rattle.route_wire.specs.Fields.{Fields}
-use Rattle.route_join.specs.Table.{value_at, with_updates}
+use Rattle.route_join.specs.Table.{with_updates}
 use Rattle.route_join.proofs.Merging.{updates_append}
 use Rattle.mac_arena.specs.declared.station.Station.{Station}
 use Rattle.mac_arena.specs.Learning.{entry_at, is_pinned}
 use Rattle.ev_mobility.specs.declared.alert.Alert.{Alert}
 use Rattle.rstp_run.specs.declared.event.Event as tree
-use Rattle.ev_claims.specs.Voice.{Voice, KeepsNumbers, own_register, own, is_newest, is_ahead, is_returning, after_saying, after_hearing, after_announcing}
-use Rattle.ev_claims.specs.Claims.{Claims, AreGood, entries, key_of, moving, fixed, vni_at, is_lost, after_removal, after_removals, after_update, after_losing}
+use Rattle.ev_claims.specs.Voice.{Voice, KeepsNumbers, own, is_newest, is_ahead, is_returning, after_saying, after_hearing, after_announcing}
+use Rattle.ev_claims.specs.Claims.{Claims, entries, key_of, moving, fixed, vni_at, is_lost, after_removal, after_update, after_losing}
 use Rattle.ev_claims.specs.Leaving.{after_flush, after_ageing}
 use Rattle.ev_claims.specs.Changes.{Says, after_sayings, said_updates, registers_in}
 use Rattle.ev_claims.specs.Opening.{Opens}
@@ -40,7 +39,7 @@ use Rattle.ev_edge.specs.declared.reply.Reply.{Reply}
 use Rattle.ev_edge.specs.Config.{IsConfig}
 use Rattle.ev_edge.specs.Edge.{Edge, IsGoodEdge, address_of}
 use Rattle.ev_edge.specs.Opening.{IsOpening, start_of}
-use Rattle.ev_edge.specs.Learning.{Does, OrNoMemory, case_of, learnt}
+use Rattle.ev_edge.specs.Learning.{Does, case_of}
 use Rattle.ev_edge.specs.Pinning.{DoesPin, pin_case, refused_pin, after_unpin}
 use Rattle.ev_edge.specs.Bridging.{aged, next_second}
 use Rattle.ev_edge.specs.Arrival.{frame_arrival, tunnel_arrival}
@@ -188,47 +187,29 @@ own_behind v u h mine behind = go (is_newest v u) refl
 
 -- ---- each event
 
+-- hearing and announcing leave a part of a voice as it was: so does every event
+heard_same : {A : Type 0} (part : Voice → A) → ((v : Voice) (u : Fields) → part (after_hearing v u) ≡ part v) → ((v : Voice) → part (after_announcing v) ≡ part v) → (event : Event) (result : Result Reply Refusal) (v : Voice) → part (heard event result v) ≡ part v
+heard_same part hears announces event (Err r) v = refl
+heard_same part hears announces (events.Frame port octets) (Ok reply) v = refl
+heard_same part hears announces (events.TunnelFrame from octets) (Ok reply) v = refl
+heard_same part hears announces (events.Take u) (Ok reply) v = hears v u
+heard_same part hears announces (events.Pin s port) (Ok reply) v = refl
+heard_same part hears announces (events.Unpin s) (Ok reply) v = refl
+heard_same part hears announces (events.Thaw s) (Ok reply) v = refl
+heard_same part hears announces events.Second (Ok reply) v = refl
+heard_same part hears announces (events.PortUp port) (Ok reply) v = refl
+heard_same part hears announces (events.PortDown port) (Ok reply) v = refl
+heard_same part hears announces (events.Mcheck port) (Ok reply) v = refl
+heard_same part hears announces events.Announce (Ok reply) v = announces v
+
 heard_address : (event : Event) (result : Result Reply Refusal) (v : Voice) → (heard event result v).address ≡ v.address
-heard_address event (Err r) v = refl
-heard_address (events.Frame port octets) (Ok reply) v = refl
-heard_address (events.TunnelFrame from octets) (Ok reply) v = refl
-heard_address (events.Take u) (Ok reply) v = refl
-heard_address (events.Pin s port) (Ok reply) v = refl
-heard_address (events.Unpin s) (Ok reply) v = refl
-heard_address (events.Thaw s) (Ok reply) v = refl
-heard_address events.Second (Ok reply) v = refl
-heard_address (events.PortUp port) (Ok reply) v = refl
-heard_address (events.PortDown port) (Ok reply) v = refl
-heard_address (events.Mcheck port) (Ok reply) v = refl
-heard_address events.Announce (Ok reply) v = refl
+heard_address event result v = heard_same (λ (w : Voice). w.address) (λ w u. refl) (λ w. refl) event result v
 
 heard_incarnation : (event : Event) (result : Result Reply Refusal) (v : Voice) → (heard event result v).incarnation ≡ v.incarnation
-heard_incarnation event (Err r) v = refl
-heard_incarnation (events.Frame port octets) (Ok reply) v = refl
-heard_incarnation (events.TunnelFrame from octets) (Ok reply) v = refl
-heard_incarnation (events.Take u) (Ok reply) v = refl
-heard_incarnation (events.Pin s port) (Ok reply) v = refl
-heard_incarnation (events.Unpin s) (Ok reply) v = refl
-heard_incarnation (events.Thaw s) (Ok reply) v = refl
-heard_incarnation events.Second (Ok reply) v = refl
-heard_incarnation (events.PortUp port) (Ok reply) v = refl
-heard_incarnation (events.PortDown port) (Ok reply) v = refl
-heard_incarnation (events.Mcheck port) (Ok reply) v = refl
-heard_incarnation events.Announce (Ok reply) v = refl
+heard_incarnation event result v = heard_same (λ (w : Voice). w.incarnation) (λ w u. refl) (λ w. refl) event result v
 
 pub heard_counter : (event : Event) (result : Result Reply Refusal) (v : Voice) → (heard event result v).counter ≡ v.counter
-heard_counter event (Err r) v = refl
-heard_counter (events.Frame port octets) (Ok reply) v = refl
-heard_counter (events.TunnelFrame from octets) (Ok reply) v = refl
-heard_counter (events.Take u) (Ok reply) v = refl
-heard_counter (events.Pin s port) (Ok reply) v = refl
-heard_counter (events.Unpin s) (Ok reply) v = refl
-heard_counter (events.Thaw s) (Ok reply) v = refl
-heard_counter events.Second (Ok reply) v = refl
-heard_counter (events.PortUp port) (Ok reply) v = refl
-heard_counter (events.PortDown port) (Ok reply) v = refl
-heard_counter (events.Mcheck port) (Ok reply) v = refl
-heard_counter events.Announce (Ok reply) v = refl
+heard_counter event result v = heard_same (λ (w : Voice). w.counter) (λ w u. refl) (λ w. refl) event result v
 
 pub heard_table : (event : Event) (result : Result Reply Refusal) (v : Voice) → (heard event result v).table ≡ with_updates v.table (accepted event result)
 heard_table event (Err r) v = refl

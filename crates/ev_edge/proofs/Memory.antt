@@ -1,7 +1,7 @@
 -- Which events never tell of refused memory.
 use Rattle.std.proofs.Common.{◌≡◌, ◌≢◌, inl, inr, ℕ, Bool, true, false, cond, eqb, Option, Some, None, Result, Ok, Err, List, drop, refl, sym, ap, subst, ◌∙◌}
 use Rattle.std.specs.Prelude.{not, is_some, ◌&&◌}
-use Rattle.ether_wire.specs.Frame.{frame_of, destination_of, source_of, payload_of}
+use Rattle.ether_wire.specs.Frame.{frame_of, destination_of, payload_of}
 use Rattle.ether_wire.specs.declared.frame.FrameRefusal.{FrameRefusal}
 use Rattle.bpdu_wire.specs.Reading.{reading}
 use Rattle.bpdu_wire.specs.declared.bpdu.Bpdu.{Bpdu}
@@ -12,11 +12,9 @@ use Rattle.route_wire.specs.declared.update.Value.{Value}
 use Rattle.route_wire.specs.Fields.{Fields}
 use Rattle.route_join.specs.Table.{value_at}
 use Rattle.rstp_run.specs.declared.event.Event as tree
-use Rattle.ev_mobility.specs.declared.alert.Alert.{Alert}
 use Rattle.ev_mobility.specs.declared.alert.Alert.TheVariants.{LostStatic, NoMemory as Unroomed}
 use Rattle.ev_claims.specs.Claims.{vni_at, loses_pinned}
-use Rattle.ev_edge.specs.declared.arrival.Arrival.{Arrival}
-use Rattle.ev_edge.specs.declared.arrival.Arrival.TheVariants.{Dropped, Message, Data}
+use Rattle.ev_edge.specs.declared.arrival.Arrival.TheVariants.{Dropped}
 use Rattle.ev_edge.specs.declared.event.Event.{Event}
 use Rattle.ev_edge.specs.declared.event.Event.TheVariants as events
 use Rattle.ev_edge.specs.declared.refusal.EdgeRefusal.TheVariants.{UnknownOriginator, NoMemory, NoSuchPort, NoSuchVni}
@@ -24,7 +22,7 @@ use Rattle.ev_edge.specs.declared.refusal.Refusal.{Refusal}
 use Rattle.ev_edge.specs.declared.refusal.Refusal.TheVariants.{Edge as OfEdge}
 use Rattle.ev_edge.specs.declared.reply.Reply.{Reply}
 use Rattle.ev_edge.specs.Edge.{Edge, table_of, address_of}
-use Rattle.ev_edge.specs.Arrival.{is_reserved, holds_bpdu, message_in, reserved_arrival, data_in, arrival_at, arrival_on, frame_arrival, is_up, serves, inner_arrival, datagram_arrival, is_other, tunnel_arrival}
+use Rattle.ev_edge.specs.Arrival.{is_reserved, holds_bpdu, message_in, reserved_arrival, data_in, arrival_at, arrival_on, is_up, serves, inner_arrival, datagram_arrival, is_other}
 use Rattle.ev_edge.specs.Steps.{Steps, FrameSteps, TunnelSteps, Bridges, BridgesAt, Seconds, Takes, TakesOther, lost_alert}
 use Rattle.ev_edge.specs.Laws.{is_data, takes_none, TellsNoMemory}
 

@@ -1,5 +1,5 @@
 -- What an event changes in what an edge says: it hears the update that is accepted, and then says some things itself.
-use Rattle.std.specs.Prelude.{◌≡◌, ℕ, ◌+◌, ◌≤◌, Result, Ok, Err, List, [], ◌∷◌, ◌++◌, length}
+use Rattle.std.specs.Prelude.{◌≡◌, ◌+◌, ◌≤◌, Result, Ok, Err, List, [], ◌∷◌, ◌++◌, length}
 use Rattle.route_wire.specs.declared.update.Key.{Key}
 use Rattle.route_wire.specs.declared.update.Content.{Content}
 use Rattle.route_wire.specs.Fields.{Fields}

@@ -15,7 +15,7 @@ use Rattle.rstp_run.specs.Events.{Passes}
 use Rattle.ev_tunnel.specs.declared.decision.Decision.{Decision}
 use Rattle.ev_mobility.specs.declared.alert.Alert.TheVariants.{NoMemory as Unroomed}
 use Rattle.ev_claims.specs.Voice.{own_advert}
-use Rattle.ev_claims.specs.Claims.{key_of, vni_at, is_member}
+use Rattle.ev_claims.specs.Claims.{key_of, vni_at}
 use Rattle.ev_edge.specs.declared.arrival.Arrival.{Arrival}
 use Rattle.ev_edge.specs.declared.arrival.Arrival.TheVariants.{Dropped, Message, Data}
 use Rattle.ev_edge.specs.declared.event.Event.{Event}

@@ -44,6 +44,11 @@ nothing = record { decision = None; bpdus = record { items = [] }; taken = None;
 abbrev pub alone : Option Alert → Reply
 alone alert = record nothing { alert = alert }
 
+-- what a call answers that writes its reply where another one stood
+abbrev pub answered : Result (Unit {0}) Refusal → Reply → Result Reply Refusal
+answered (Ok done) reply = Ok reply
+answered (Err r) reply = Err r
+
 -- ---- frames
 
 -- learning where it is due

@@ -4,7 +4,7 @@ ghost use Rattle.rstp_run.specs.Events.{IsAt, IsPort};
 ghost use Rattle.ev_claims.specs.Claims.{vni_at};
 ghost use Rattle.ev_edge.specs.Edge.{ArePassing};
 ghost use Rattle.ev_edge.specs.Bridging.{AddsPassing, next_second, aged};
-ghost use Rattle.ev_edge.specs.Steps.{BridgeSteps, BridgesAt, SecondSteps, nothing};
+ghost use Rattle.ev_edge.specs.Steps.{BridgeSteps, BridgesAt, SecondSteps, answered, nothing};
 
 use crate::edge::Edge;
 use crate::refusal::{EdgeRefusal, Refusal};
@@ -61,43 +61,38 @@ fn age(claims: &mut Claims, ageing: u64, clock: u64)
     }
 }
 
-// What is told of an event of the bridge.
-fn sent_reply(outcome: Outcome) -> Reply
-    ensures { result ≡ record nothing { bpdus = outcome.out } }
+// Tells what the bridge sends.
+fn tell_sent(outcome: Outcome, reply: &mut Reply)
+    ensures { reply.new ≡ record nothing { bpdus = outcome.out } }
 {
-    Reply {
-        decision: None,
-        bpdus: outcome.out,
-        taken: None,
-        announced: None,
-        alert: None,
-    }
+    reply.clear();
+    reply.bpdus = outcome.out;
 }
 
 impl Edge {
     /// An event of the bridge at a port that is there: the bridge goes on, and the stations behind the
     /// ports that it flushes go.
-    pub(crate) fn bridge_event(&mut self, event: Event) -> Reply
+    pub(crate) fn bridge_event(&mut self, event: Event, reply: &mut Reply)
         requires { IsAt event (length self.old.tree.ports) }
-        ensures { BridgeSteps event self.old result self.new }
+        ensures { BridgeSteps event self.old reply.new self.new }
     {
         let outcome = self.bridge.event(event);
         self.passing = passing_ports(&self.bridge);
         self.claims.flush(outcome.flush);
-        sent_reply(outcome)
+        tell_sent(outcome, reply);
     }
 
     /// A second passes. The stations behind the ports that the bridge flushes go first, then those that
     /// weren't heard for long enough.
-    pub(crate) fn second(&mut self) -> Reply
-        ensures { SecondSteps self.old result self.new }
+    pub(crate) fn second(&mut self, reply: &mut Reply)
+        ensures { SecondSteps self.old reply.new self.new }
     {
         let outcome = self.bridge.event(Event::Second);
         self.passing = passing_ports(&self.bridge);
         self.clock = next_second(self.clock);
         self.claims.flush(outcome.flush);
         age(&mut self.claims, self.ageing, self.clock);
-        sent_reply(outcome)
+        tell_sent(outcome, reply);
     }
 
     // Whether there is such a port.
@@ -109,32 +104,35 @@ impl Edge {
     }
 
     /// A port comes up.
-    pub(crate) fn port_up(&mut self, port: u8) -> Result<Reply, Refusal>
-        ensures { BridgesAt (vni_at self.old.claims.ports port) (Event.PortUp port) self.old result self.new }
+    pub(crate) fn port_up(&mut self, port: u8, reply: &mut Reply) -> Result<(), Refusal>
+        ensures { BridgesAt (vni_at self.old.claims.ports port) (Event.PortUp port) self.old (answered result reply.new) self.new }
     {
         if !self.is_there(port) {
             return Err(Refusal::Edge(EdgeRefusal::NoSuchPort));
         }
-        Ok(self.bridge_event(Event::PortUp(port)))
+        self.bridge_event(Event::PortUp(port), reply);
+        Ok(())
     }
 
     /// A port goes down.
-    pub(crate) fn port_down(&mut self, port: u8) -> Result<Reply, Refusal>
-        ensures { BridgesAt (vni_at self.old.claims.ports port) (Event.PortDown port) self.old result self.new }
+    pub(crate) fn port_down(&mut self, port: u8, reply: &mut Reply) -> Result<(), Refusal>
+        ensures { BridgesAt (vni_at self.old.claims.ports port) (Event.PortDown port) self.old (answered result reply.new) self.new }
     {
         if !self.is_there(port) {
             return Err(Refusal::Edge(EdgeRefusal::NoSuchPort));
         }
-        Ok(self.bridge_event(Event::PortDown(port)))
+        self.bridge_event(Event::PortDown(port), reply);
+        Ok(())
     }
 
     /// A port's protocol is to be found out anew.
-    pub(crate) fn mcheck(&mut self, port: u8) -> Result<Reply, Refusal>
-        ensures { BridgesAt (vni_at self.old.claims.ports port) (Event.Mcheck port) self.old result self.new }
+    pub(crate) fn mcheck(&mut self, port: u8, reply: &mut Reply) -> Result<(), Refusal>
+        ensures { BridgesAt (vni_at self.old.claims.ports port) (Event.Mcheck port) self.old (answered result reply.new) self.new }
     {
         if !self.is_there(port) {
             return Err(Refusal::Edge(EdgeRefusal::NoSuchPort));
         }
-        Ok(self.bridge_event(Event::Mcheck(port)))
+        self.bridge_event(Event::Mcheck(port), reply);
+        Ok(())
     }
 }

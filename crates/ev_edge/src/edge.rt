@@ -6,7 +6,7 @@ ghost use Rattle.ev_claims.specs.Claims.{entries};
 ghost use Rattle.ev_edge.specs.Config.{IsConfig};
 ghost use Rattle.ev_edge.specs.Edge.{IsGoodEdge, table_of};
 ghost use Rattle.ev_edge.specs.Opening.{IsOpening};
-ghost use Rattle.ev_edge.specs.Steps.{Steps};
+ghost use Rattle.ev_edge.specs.Steps.{Steps, answered};
 
 use crate::config::{EdgeConfig, PortConfig, set_settings, vnis_of};
 use crate::event::Event;
@@ -97,18 +97,46 @@ impl Edge {
     pub fn step(&mut self, event: &Event<'_>) -> Result<Reply, Refusal>
         ensures { Steps self.old event.now result self.new }
     {
+        let mut reply = Reply::nothing();
+        match self.step_into(event, &mut reply) {
+            Ok(()) => Ok(reply),
+            Err(refusal) => Err(refusal),
+        }
+    }
+
+    /// The same, written where another reply stood: a caller that keeps one place for replies spares
+    /// the copies of a whole one. Of what stands there after a refusal nothing is said.
+    ///
+    /// # Errors
+    ///
+    /// As those of `step`.
+    pub fn step_into(&mut self, event: &Event<'_>, reply: &mut Reply) -> Result<(), Refusal>
+        ensures { Steps self.old event.now (answered result reply.new) self.new }
+    {
         match event {
-            Event::Frame(port, octets) => self.frame(*port, *octets),
-            Event::TunnelFrame(from, octets) => self.tunnel_frame(*from, *octets),
-            Event::Take(update) => self.take(update),
-            Event::Pin(station, port) => self.pin(station, *port),
-            Event::Unpin(station) => Ok(self.unpin(station)),
-            Event::Thaw(station) => Ok(self.thaw(station)),
-            Event::Second => Ok(self.second()),
-            Event::PortUp(port) => self.port_up(*port),
-            Event::PortDown(port) => self.port_down(*port),
-            Event::Mcheck(port) => self.mcheck(*port),
-            Event::Announce => Ok(self.announce()),
+            Event::Frame(port, octets) => self.frame(*port, *octets, reply),
+            Event::TunnelFrame(from, octets) => self.tunnel_frame(*from, *octets, reply),
+            Event::Take(update) => self.take(update, reply),
+            Event::Pin(station, port) => self.pin(station, *port, reply),
+            Event::Unpin(station) => {
+                self.unpin(station, reply);
+                Ok(())
+            }
+            Event::Thaw(station) => {
+                self.thaw(station, reply);
+                Ok(())
+            }
+            Event::Second => {
+                self.second(reply);
+                Ok(())
+            }
+            Event::PortUp(port) => self.port_up(*port, reply),
+            Event::PortDown(port) => self.port_down(*port, reply),
+            Event::Mcheck(port) => self.mcheck(*port, reply),
+            Event::Announce => {
+                self.announce(reply);
+                Ok(())
+            }
         }
     }
 

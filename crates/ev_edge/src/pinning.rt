@@ -1,8 +1,6 @@
 //! Pinning stations by hand, and thawing frozen ones.
 ghost use Rattle.std.specs.Prelude.{◌≡◌, None};
-ghost use Rattle.mac_arena.specs.Learning.{entry_at, is_pinned};
-ghost use Rattle.ev_claims.specs.Claims.{vni_at};
-ghost use Rattle.ev_edge.specs.Steps.{Pins, nothing};
+ghost use Rattle.ev_edge.specs.Steps.{Pins, answered, nothing};
 ghost use Rattle.ev_edge.specs.Pinning.{Pinning, pin_case, refused_pin, unpinned_case, after_unpin, after_thawing};
 
 use crate::edge::Edge;
@@ -27,13 +25,20 @@ pub enum PinCase {
 
 impl Edge {
     /// Pins a station on a port.
-    pub(crate) fn pin(&mut self, station: &Station, port: u8) -> Result<Reply, Refusal>
-        ensures { Pins (refused_pin self.old station.now port) self.old station.now port result self.new }
+    pub(crate) fn pin(
+        &mut self,
+        station: &Station,
+        port: u8,
+        reply: &mut Reply,
+    ) -> Result<(), Refusal>
+        ensures { Pins (refused_pin self.old station.now port) self.old station.now port (answered result reply.new) self.new }
     {
         if let Some(refusal) = self.refused_pin(station, port) {
             return Err(Refusal::Edge(refusal));
         }
-        Ok(Reply::alone(self.pin_there(station, port)))
+        reply.clear();
+        reply.alert = self.pin_there(station, port);
+        Ok(())
     }
 
     // Why a pin is refused.
@@ -104,8 +109,8 @@ impl Edge {
     }
 
     /// A pinned station goes, and is withdrawn.
-    pub(crate) fn unpin(&mut self, station: &Station) -> Reply
-        ensures reply { result ≡ nothing }
+    pub(crate) fn unpin(&mut self, station: &Station, reply: &mut Reply)
+        ensures reply { reply.new ≡ nothing }
         ensures after { self.new ≡ after_unpin self.old station.now }
     {
         if let Some(entry) = self.claims.look(station) {
@@ -113,15 +118,15 @@ impl Edge {
                 self.claims.remove(station);
             }
         }
-        Reply::nothing()
+        reply.clear();
     }
 
     /// Ends a station's window of moves, and thaws it.
-    pub(crate) fn thaw(&mut self, station: &Station) -> Reply
-        ensures reply { result ≡ nothing }
+    pub(crate) fn thaw(&mut self, station: &Station, reply: &mut Reply)
+        ensures reply { reply.new ≡ nothing }
         ensures after { self.new ≡ after_thawing self.old station.now }
     {
         self.moves.thaw(station);
-        Reply::nothing()
+        reply.clear();
     }
 }

@@ -1,6 +1,6 @@
 //! What an event gives out.
 ghost use Rattle.std.specs.Prelude.{◌≡◌};
-ghost use Rattle.ev_edge.specs.Steps.{nothing, alone};
+ghost use Rattle.ev_edge.specs.Steps.{nothing};
 
 use arrayvec::ArrayVec;
 use bpdu_wire::Bpdu;
@@ -26,7 +26,7 @@ pub struct Reply {
 
 impl Reply {
     /// Nothing to tell.
-    pub(crate) fn nothing() -> Self
+    pub fn nothing() -> Self
         ensures { result ≡ nothing }
     {
         Reply {
@@ -38,16 +38,21 @@ impl Reply {
         }
     }
 
-    /// An alert alone, or nothing.
-    pub(crate) fn alone(alert: Option<Alert>) -> Self
-        ensures { result ≡ alone alert }
+    /// Nothing to tell any more, but for the decision.
+    pub(crate) fn keep_decision(&mut self)
+        ensures { self.new ≡ record nothing { decision = self.old.decision } }
     {
-        Reply {
-            decision: None,
-            bpdus: ArrayVec::new(),
-            taken: None,
-            announced: None,
-            alert,
-        }
+        self.bpdus.clear();
+        self.taken = None;
+        self.announced = None;
+        self.alert = None;
+    }
+
+    /// Nothing to tell any more.
+    pub(crate) fn clear(&mut self)
+        ensures { self.new ≡ nothing }
+    {
+        self.keep_decision();
+        self.decision = None;
     }
 }

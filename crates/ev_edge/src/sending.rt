@@ -1,12 +1,12 @@
 //! Frames: what comes is learnt from, and sent where it belongs.
-ghost use Rattle.std.specs.Prelude.{◌≡◌, Some, []};
+ghost use Rattle.std.specs.Prelude.{◌≡◌, Some, IsSome, []};
 ghost use Rattle.ev_claims.specs.Claims.{vni_at};
 ghost use Rattle.ev_tunnel.specs.Decision.{IsFrom};
 ghost use Rattle.ev_edge.specs.Arrival.{frame_arrival, serves, tunnel_arrival};
 ghost use Rattle.std.specs.Option.{ForSome};
 ghost use Rattle.ether_wire.specs.Ports.{IsPort};
 ghost use Rattle.ev_edge.specs.Sending.{IsDecision, port_of};
-ghost use Rattle.ev_edge.specs.Steps.{FrameSteps, TunnelSteps, DataSteps, LearnsAt, SendsIf};
+ghost use Rattle.ev_edge.specs.Steps.{FrameSteps, TunnelSteps, DataSteps, LearnsAt, SendsIf, answered};
 
 use crate::arrival::{Arrival, arrival_at, inner_arrival};
 use crate::edge::Edge;
@@ -15,33 +15,49 @@ use crate::reply::Reply;
 use arrayvec::ArrayVec;
 use ether_wire::{Addr, Mac, NO_PORTS, Vni};
 use ev_mobility::Alert;
-use ev_tunnel::{Decision, Source, decide, unwrap_datagram};
+use ev_tunnel::{Decision, Source, decide_into, unwrap_datagram};
 use mac_arena::Station;
 use rstp_run::event::Event;
 
-// No port and no edge.
-fn nowhere() -> Decision
-    ensures local { result.local ≡ 0 }
-    ensures remote { result.remote.items ≡ [] }
+// A place for a decision, where there is none.
+fn make_room(decision: &mut Option<Decision>)
+    ensures { IsSome decision.new }
 {
-    Decision {
-        local: NO_PORTS,
-        remote: ArrayVec::new(),
+    if decision.is_none() {
+        *decision = Some(Decision {
+            local: NO_PORTS,
+            remote: ArrayVec::new(),
+        });
     }
+}
+
+// No port and no edge.
+fn put_nowhere(decision: &mut Decision)
+    ensures local { decision.new.local ≡ 0 }
+    ensures remote { decision.new.remote.items ≡ [] }
+{
+    decision.local = NO_PORTS;
+    decision.remote.clear();
 }
 
 impl Edge {
     /// These octets come at a port.
-    pub(crate) fn frame(&mut self, port: u8, octets: &[u8]) -> Result<Reply, Refusal>
-        ensures { FrameSteps (frame_arrival self.old port octets.now) self.old port result self.new }
+    pub(crate) fn frame(
+        &mut self,
+        port: u8,
+        octets: &[u8],
+        reply: &mut Reply,
+    ) -> Result<(), Refusal>
+        ensures { FrameSteps (frame_arrival self.old port octets.now) self.old port (answered result reply.new) self.new }
     {
         match self.frame_arrival(port, octets)? {
-            Arrival::Dropped => Ok(Reply::nothing()),
-            Arrival::Message(bpdu) => Ok(self.bridge_event(Event::Bpdu(port, bpdu))),
+            Arrival::Dropped => reply.clear(),
+            Arrival::Message(bpdu) => self.bridge_event(Event::Bpdu(port, bpdu), reply),
             Arrival::Data(vni, destination, source) => {
-                Ok(self.data(port, vni, destination, source))
+                self.data(port, vni, destination, source, reply);
             }
         }
+        Ok(())
     }
 
     // What comes at a port, or why it is refused.
@@ -55,21 +71,21 @@ impl Edge {
     }
 
     // A frame of a network comes at a port.
-    fn data(&mut self, port: u8, vni: Vni, destination: Mac, source: Mac) -> Reply
+    fn data(&mut self, port: u8, vni: Vni, destination: Mac, source: Mac, reply: &mut Reply)
         requires { vni_at self.old.claims.ports port ≡ Some vni }
-        ensures { DataSteps self.old port vni destination source result self.new }
+        ensures { DataSteps self.old port vni destination source reply.new self.new }
     {
         self.claims.always_good();
         let passes = self.bridge.passes(port);
-        let alert = self.learn_source(port, vni, source);
-        let decision = self.decide_if(passes, vni, destination, port);
-        Reply {
-            decision: Some(decision),
-            bpdus: ArrayVec::new(),
-            taken: None,
-            announced: None,
-            alert,
-        }
+        reply.keep_decision();
+        reply.alert = self.learn_source(port, vni, source);
+        self.send_if(
+            passes,
+            vni,
+            destination,
+            Source::Port(port),
+            &mut reply.decision,
+        );
     }
 
     // Learns the source of a frame, if the port learns and it is no group address.
@@ -83,15 +99,26 @@ impl Edge {
         None
     }
 
-    // Where a frame goes that came at a port which passes or doesn't.
-    fn decide_if(&self, passes: bool, vni: Vni, destination: Mac, port: u8) -> Decision
-        requires { IsFrom (Source.Port port) }
-        ensures { SendsIf passes self.now vni destination (Source.Port port) (Some result) }
+    // Decides where a frame of a network goes, in the place of another decision or of none.
+    fn send_if(
+        &self,
+        passes: bool,
+        vni: Vni,
+        destination: Mac,
+        from: Source,
+        decision: &mut Option<Decision>,
+    )
+        requires { IsFrom from }
+        ensures { SendsIf passes self.now vni destination from decision.new }
     {
-        if !passes {
-            return nowhere();
+        make_room(decision);
+        if let Some(decision) = decision {
+            if passes {
+                self.decide(vni, destination, from, decision);
+            } else {
+                put_nowhere(decision);
+            }
         }
-        self.decide(vni, destination, Source::Port(port))
     }
 
     // The port where a destination is learnt.
@@ -106,12 +133,12 @@ impl Edge {
         }
     }
 
-    // Where a frame of a network goes.
-    fn decide(&self, vni: Vni, destination: Mac, from: Source) -> Decision
+    // Decides where a frame of a network goes.
+    fn decide(&self, vni: Vni, destination: Mac, from: Source, decision: &mut Decision)
         requires { IsFrom from }
-        ensures { IsDecision self.now vni destination from result }
+        ensures { IsDecision self.now vni destination from decision.new }
     {
-        decide(
+        decide_into(
             destination,
             vni,
             from,
@@ -120,21 +147,27 @@ impl Edge {
             self.claims.address(),
             self.claims.members(vni),
             self.passing,
-        )
+            decision,
+        );
     }
 
     /// A datagram comes from another edge.
-    pub(crate) fn tunnel_frame(&mut self, from: Addr, octets: &[u8]) -> Result<Reply, Refusal>
-        ensures { TunnelSteps (tunnel_arrival self.old from octets.now) self.old result self.new }
+    pub(crate) fn tunnel_frame(
+        &mut self,
+        from: Addr,
+        octets: &[u8],
+        reply: &mut Reply,
+    ) -> Result<(), Refusal>
+        ensures { TunnelSteps (tunnel_arrival self.old from octets.now) self.old (answered result reply.new) self.new }
     {
         match self.tunnel_arrival(from, octets)? {
             Arrival::Data(vni, destination, _) => {
-                let mut reply = Reply::nothing();
-                reply.decision = Some(self.decide(vni, destination, Source::Tunnel));
-                Ok(reply)
+                reply.keep_decision();
+                self.send_if(true, vni, destination, Source::Tunnel, &mut reply.decision);
             }
-            _ => Ok(Reply::nothing()),
+            _ => reply.clear(),
         }
+        Ok(())
     }
 
     // Whether a network is one of the edge's.

@@ -3,7 +3,7 @@ ghost use Rattle.std.specs.Prelude.{◌≡◌, ◌≢◌, ◌==◌, Some};
 ghost use Rattle.ev_claims.specs.Voice.{announced};
 ghost use Rattle.ev_claims.specs.Claims.{after_announcement};
 ghost use Rattle.ev_edge.specs.Edge.{address_of};
-ghost use Rattle.ev_edge.specs.Steps.{Takes, TakesOwn, TakesOther, nothing, lost_alert, own_result};
+ghost use Rattle.ev_edge.specs.Steps.{Takes, TakesOwn, TakesOther, answered, nothing, lost_alert, own_result};
 
 use crate::edge::Edge;
 use crate::refusal::{EdgeRefusal, Refusal};
@@ -13,26 +13,26 @@ use ev_mobility::Alert;
 use route_join::{TakeError, Taken};
 use route_wire::Update;
 
-// What is told of an update that was taken.
-fn taken_reply(taken: Taken, lost_pinned: bool) -> Reply
-    ensures { result ≡ record nothing { taken = Some taken; alert = lost_alert lost_pinned } }
+// Tells of an update that was taken.
+fn tell_taken(taken: Taken, lost_pinned: bool, reply: &mut Reply)
+    ensures { reply.new ≡ record nothing { taken = Some taken; alert = lost_alert lost_pinned } }
 {
-    let alert = if lost_pinned {
-        Some(Alert::LostStatic)
-    } else {
-        None
-    };
-    let mut reply = Reply::alone(alert);
+    reply.clear();
     reply.taken = Some(taken);
-    reply
+    if lost_pinned {
+        reply.alert = Some(Alert::LostStatic);
+    }
 }
 
-// What is answered to an update under the edge's own name.
-fn own_result(outcome: Result<Taken, OwnError>) -> Result<Reply, Refusal>
-    ensures { result ≡ own_result outcome }
+// Tells what became of an update under the edge's own name.
+fn tell_own(outcome: Result<Taken, OwnError>, reply: &mut Reply) -> Result<(), Refusal>
+    ensures { answered result reply.new ≡ own_result outcome }
 {
     match outcome {
-        Ok(taken) => Ok(taken_reply(taken, false)),
+        Ok(taken) => {
+            tell_taken(taken, false, reply);
+            Ok(())
+        }
         Err(OwnError::Ahead) => Err(Refusal::Edge(EdgeRefusal::OwnNameAhead)),
         Err(OwnError::Spent) => Err(Refusal::Edge(EdgeRefusal::OwnSpent)),
         Err(OwnError::NoMemory) => Err(Refusal::Edge(EdgeRefusal::NoMemory)),
@@ -41,42 +41,44 @@ fn own_result(outcome: Result<Taken, OwnError>) -> Result<Reply, Refusal>
 
 impl Edge {
     /// Takes an update, of another edge or of this one in an earlier life.
-    pub(crate) fn take(&mut self, update: &Update) -> Result<Reply, Refusal>
-        ensures { Takes (update.now.register.originator == address_of self.old) self.old update.now result self.new }
+    pub(crate) fn take(&mut self, update: &Update, reply: &mut Reply) -> Result<(), Refusal>
+        ensures { Takes (update.now.register.originator == address_of self.old) self.old update.now (answered result reply.new) self.new }
     {
         if update.register().originator == self.claims.address() {
-            self.take_own(update)
+            self.take_own(update, reply)
         } else {
-            self.take_other(update)
+            self.take_other(update, reply)
         }
     }
 
-    fn take_other(&mut self, update: &Update) -> Result<Reply, Refusal>
+    fn take_other(&mut self, update: &Update, reply: &mut Reply) -> Result<(), Refusal>
         requires { update.now.register.originator ≢ address_of self.old }
-        ensures { TakesOther self.old update.now result self.new }
+        ensures { TakesOther self.old update.now (answered result reply.new) self.new }
     {
         match self.claims.hear(update) {
-            Ok(heard) => Ok(taken_reply(heard.taken, heard.lost_pinned)),
+            Ok(heard) => {
+                tell_taken(heard.taken, heard.lost_pinned, reply);
+                Ok(())
+            }
             Err(TakeError::UnknownOriginator) => Err(Refusal::Edge(EdgeRefusal::UnknownOriginator)),
             Err(TakeError::NoMemory) => Err(Refusal::Edge(EdgeRefusal::NoMemory)),
         }
     }
 
-    fn take_own(&mut self, update: &Update) -> Result<Reply, Refusal>
+    fn take_own(&mut self, update: &Update, reply: &mut Reply) -> Result<(), Refusal>
         requires { update.now.register.originator ≡ address_of self.old }
-        ensures { TakesOwn self.old update.now result self.new }
+        ensures { TakesOwn self.old update.now (answered result reply.new) self.new }
     {
         self.claims.always_good();
-        own_result(self.claims.hear_own(update))
+        tell_own(self.claims.hear_own(update), reply)
     }
 
     /// Gives the next own update that isn't announced yet.
-    pub(crate) fn announce(&mut self) -> Reply
-        ensures reply { result ≡ record nothing { announced = announced self.old.claims.voice } }
+    pub(crate) fn announce(&mut self, reply: &mut Reply)
+        ensures reply { reply.new ≡ record nothing { announced = announced self.old.claims.voice } }
         ensures after { self.new ≡ record self.old { claims = after_announcement self.old.claims } }
     {
-        let mut reply = Reply::nothing();
+        reply.clear();
         reply.announced = self.claims.announce();
-        reply
     }
 }

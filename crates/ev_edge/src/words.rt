@@ -1,5 +1,4 @@
 //! Refusals and replies in plain words, for people. What is told by number has its number beside them.
-ghost use Rattle.std.specs.Prelude.{◌≤◌};
 
 use crate::refusal::Refusal;
 use crate::reply::Reply;

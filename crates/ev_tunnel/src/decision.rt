@@ -1,5 +1,5 @@
 //! Where a frame goes: the access ports and the edges that get it.
-ghost use Rattle.std.specs.Prelude.{◌≡◌, [], ◌∷◌};
+ghost use Rattle.std.specs.Prelude.{◌≡◌, ◌≤◌, [], length};
 ghost use Rattle.std.specs.Option.{ForSome};
 ghost use Rattle.route_join.specs.Owner.{owner};
 ghost use Rattle.route_join.specs.Flood.{flood_of};
@@ -86,37 +86,45 @@ fn local_of(place: &Place, from: Source, ports: Ports) -> u64
     }
 }
 
-/// The edges but for this one.
-fn others_of(own: Addr, edges: &ArrayVec<Addr, 64>) -> ArrayVec<Addr, 64>
-    ensures { result.items ≡ others_of own edges.now.items }
+/// Puts the edges but for this one into an empty list.
+fn put_others(own: Addr, edges: &[Addr], remote: &mut ArrayVec<Addr, 64>)
+    requires none { remote.old.items ≡ [] }
+    requires few { length edges.now ≤ 64 }
+    ensures { remote.new.items ≡ others_of own edges.now }
 {
-    let mut others = ArrayVec::new();
-    let edges = edges.as_slice();
     for edge in edges {
         if *edge != own {
-            others.push(*edge);
+            remote.push(*edge);
         }
     }
-    others
 }
 
-/// This edge alone.
-fn one_edge(edge: Addr) -> ArrayVec<Addr, 64>
-    ensures { result.items ≡ edge ∷ [] }
+/// Puts the edges that a frame is flooded to into an empty list.
+fn put_flood(vni: Vni, table: &Table, own: Addr, remote: &mut ArrayVec<Addr, 64>)
+    requires { remote.old.items ≡ [] }
+    ensures { remote.new.items ≡ others_of own (flood_of table.now vni) }
 {
-    let mut edges = ArrayVec::new();
-    edges.push(edge);
-    edges
+    let flood = table.flood(vni);
+    put_others(own, flood.as_slice(), remote);
 }
 
-/// The edges that get a frame whose destination is at this place.
-fn remote_of(place: &Place, from: Source, vni: Vni, table: &Table, own: Addr) -> ArrayVec<Addr, 64>
-    ensures { result.items ≡ remote_of place.now from (flood_of table.now vni) own }
+/// Puts the edges that get a frame whose destination is at this place, in the place of what was
+/// there.
+fn put_remote(
+    place: &Place,
+    from: Source,
+    vni: Vni,
+    table: &Table,
+    own: Addr,
+    remote: &mut ArrayVec<Addr, 64>,
+)
+    ensures { remote.new.items ≡ remote_of place.now from (flood_of table.now vni) own }
 {
+    remote.clear();
     match (from, place) {
-        (Source::Port(_), Place::Everywhere) => others_of(own, &table.flood(vni)),
-        (Source::Port(_), Place::AtEdge(edge)) => one_edge(*edge),
-        _ => ArrayVec::new(),
+        (Source::Port(_), Place::Everywhere) => put_flood(vni, table, own, remote),
+        (Source::Port(_), Place::AtEdge(edge)) => remote.push(*edge),
+        _ => {}
     }
 }
 
@@ -143,9 +151,44 @@ pub fn decide(
     ensures local { result.local ≡ local_for table.now vni destination entry own from members passing }
     ensures remote { result.remote.items ≡ remote_for table.now vni destination entry own from }
 {
+    let mut decision = Decision {
+        local: NO_PORTS,
+        remote: ArrayVec::new(),
+    };
+    decide_into(
+        destination,
+        vni,
+        from,
+        entry,
+        table,
+        own,
+        members,
+        passing,
+        &mut decision,
+    );
+    decision
+}
+
+/// Decides the same, and writes it where another decision stood: a caller that keeps one place for
+/// them spares the copies of a whole list of edges.
+pub fn decide_into(
+    destination: Mac,
+    vni: Vni,
+    from: Source,
+    entry: Option<u8>,
+    table: &Table,
+    own: Addr,
+    members: u64,
+    passing: u64,
+    decision: &mut Decision,
+)
+    requires from { IsFrom from }
+    requires entry { ForSome entry IsPort }
+    ensures local { decision.new.local ≡ local_for table.now vni destination entry own from members passing }
+    ensures remote { decision.new.remote.items ≡ remote_for table.now vni destination entry own from }
+{
     let place = place_of(destination, vni, entry, table, own);
     let ports = Ports { members, passing };
-    let local = local_of(&place, from, ports);
-    let remote = remote_of(&place, from, vni, table, own);
-    Decision { local, remote }
+    decision.local = local_of(&place, from, ports);
+    put_remote(&place, from, vni, table, own, &mut decision.remote);
 }

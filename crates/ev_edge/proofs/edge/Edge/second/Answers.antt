@@ -25,9 +25,9 @@ invariant_of-self c =
 pub returns : goal.returns
 returns c =
     let f = c.self.inside in
-    subst (λ (x : Edge). SecondSteps x c.sent_reply.result (edge_of c.age.new.claims c.next_second-self-inside.result f.ageing c.event-outcome.new.self f.moves)) c.self.view_is (record {
+    subst (λ (x : Edge). SecondSteps x c.tell_sent.new.reply (edge_of c.age.new.claims c.next_second-self-inside.result f.ageing c.event-outcome.new.self f.moves)) c.self.view_is (record {
       flush = c.event-outcome.result.flush;
-      goes = record { settled = c.event-outcome.result.settled; happens = c.event-outcome.ensures.happens; slots = ap (λ (r : Reply). r.bpdus.items) c.sent_reply.ensures ∙ c.event-outcome.ensures.out };
+      goes = record { settled = c.event-outcome.result.settled; happens = c.event-outcome.ensures.happens; slots = ap (λ (r : Reply). r.bpdus.items) c.tell_sent.ensures ∙ c.event-outcome.ensures.out };
       after = λ i. record {
         claims = (c.age.ensures ∙ (λ j. aged (c.flush.ensures j) f.ageing (c.next_second-self-inside.ensures j))) i;
         clock = c.next_second-self-inside.ensures i;
@@ -35,5 +35,5 @@ returns c =
         tree = c.event-outcome.new.self;
         windows = f.moves.windows;
       };
-      reply_is = subst (λ (r : Reply). r ≡ record nothing { bpdus = r.bpdus }) (sym c.sent_reply.ensures) refl;
+      reply_is = subst (λ (r : Reply). r ≡ record nothing { bpdus = r.bpdus }) (sym c.tell_sent.ensures) refl;
     })

@@ -17,6 +17,6 @@ returns c =
     let u = c.args.update.now in
     let e = edge_of f.claims f.clock f.ageing f.bridge f.moves in
     let new = edge_of c.hear_own.new.self f.clock f.ageing f.bridge f.moves in
-    subst (λ r. TakesOwn c.args.self.now u r new) (sym c.own_result.ensures)
+    subst (λ r. TakesOwn c.args.self.now u r new) (sym c.tell_own.ensures)
     (subst (λ (x : Edge). TakesOwn x u (own_result c.hear_own.result) new) c.self.view_is
     (own_steps e u c.hear_own.new.self c.hear_own.result c.hear_own.ensures.taken c.hear_own.ensures.ok c.hear_own.ensures.ahead c.hear_own.ensures.spent c.hear_own.ensures.no_memory c.hear_own.ensures.err))
