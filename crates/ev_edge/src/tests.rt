@@ -1,5 +1,5 @@
 //! What the definitions don't show by themselves: worked events, and refused memory.
-ghost use Rattle.std.specs.Prelude.{◌≡◌, ◌<◌, ◌≤◌, ◌^◌, ◌∷◌, []};
+ghost use Rattle.std.specs.Prelude.{◌≡◌, ◌<◌, ◌≤◌, ◌∷◌, []};
 ghost use Rattle.ev_edge.specs.Config.{IsConfig, vnis_of};
 
 use crate::{Edge, EdgeConfig, Event, PortConfig, Refusal, Reply};
@@ -13,6 +13,7 @@ use std::alloc::{AllocError, Global};
 
 mod frames;
 mod learning;
+mod lines;
 mod memory;
 mod pins;
 mod updates;
@@ -33,23 +34,24 @@ fn addr(n: u8) -> Addr {
     Addr::new(0x0a00_0000 + u32::from(n))
 }
 
+// The address of the lowest 48 bits.
+fn mac_of(number: u64) -> Mac {
+    Mac::new(number % 0x1_0000_0000_0000)
+}
+
 // The station of network 5001 with this address.
-fn station(mac: u64) -> Station
-    requires { mac < 2 ^ 48 }
-{
+fn station(mac: u64) -> Station {
     Station {
         vni: Vni::new(5001),
-        mac: Mac::new(mac),
+        mac: mac_of(mac),
     }
 }
 
 // The station of network 5002 with this address.
-fn elsewhere(mac: u64) -> Station
-    requires { mac < 2 ^ 48 }
-{
+fn elsewhere(mac: u64) -> Station {
     Station {
         vni: Vni::new(5002),
-        mac: Mac::new(mac),
+        mac: mac_of(mac),
     }
 }
 
@@ -230,9 +232,14 @@ fn refusal_of(outcome: Result<Reply, Refusal>) -> Option<Refusal> {
     }
 }
 
+// What the operator is told of an event.
+fn told(edge: &mut Edge, event: &Event<'_>) -> u8 {
+    alert_of(step(edge, event))
+}
+
 // A broadcast frame of this station comes at the port: what the operator is told.
 fn hear(edge: &mut Edge, port: u8, source: u64) -> u8 {
-    alert_of(step(edge, &Event::Frame(port, &frame(BROADCAST, source))))
+    told(edge, &Event::Frame(port, &frame(BROADCAST, source)))
 }
 
 // Where a frame goes: its local ports, and how many edges.
@@ -251,14 +258,6 @@ fn route(edge: &mut Edge, port: u8, destination: u64) -> Option<(u64, usize)> {
     sent(step(edge, &Event::Frame(port, &frame(destination, NOBODY))))
 }
 
-// What the table makes of an update, and the number of the alert.
-fn take(edge: &mut Edge, update: Update) -> Result<Option<route_join::Taken>, Refusal> {
-    match step(edge, &Event::Take(update)) {
-        Ok(reply) => Ok(reply.taken),
-        Err(refusal) => Err(refusal),
-    }
-}
-
 // So many seconds pass.
 fn seconds(edge: &mut Edge, count: u64) {
     for _ in 0..count {
@@ -267,10 +266,8 @@ fn seconds(edge: &mut Edge, count: u64) {
 }
 
 // What the edge itself says of a station: its number and content.
-fn says(edge: &Edge, mac: u64) -> Option<(u64, Content)>
-    requires { mac < 2 ^ 48 }
-{
-    let key = Key::Mac(Vni::new(5001), Mac::new(mac), None);
+fn says(edge: &Edge, mac: u64) -> Option<(u64, Content)> {
+    let key = Key::Mac(Vni::new(5001), mac_of(mac), None);
     match edge.table().register(Addr::new(0x0a00_0002), key) {
         None => None,
         Some(update) => Some((update.value().counter, update.value().content)),

@@ -1,11 +1,13 @@
 //! What events make of refused memory: run with each allocation refused in turn, these tests pass too. An
 //! event that is refused memory leaves what was before, and does what it should when it comes again.
 
+use super::frames::DATAGRAM;
+use super::lines::{Line, first_wrong};
 use super::{
-    BROADCAST, HOST, NOBODY, OTHER, addr, advert, alert_of, flood, frame, made, refusal_of, said,
-    says, sent, station, step,
+    BROADCAST, HOST, NOBODY, OTHER, addr, advert, flood, frame, made, refusal_of, said, says, sent,
+    station, step, told,
 };
-use crate::{Edge, EdgeRefusal, Event, Refusal, Reply};
+use crate::{Edge, EdgeRefusal, Event, Refusal};
 use ether_wire::{Out, Page};
 use route_join::Taken;
 use route_wire::{Content, Update};
@@ -45,14 +47,14 @@ fn is_as(edge: &Edge, before: &Seen) -> bool {
 // What is told of an event, of its second try where the first one was refused memory and changed nothing.
 fn alert_at_last(edge: &mut Edge, event: &Event<'_>) -> Option<u8> {
     let before = look_at(edge);
-    let alert = alert_of(step(edge, event));
+    let alert = told(edge, event);
     if alert != NO_MEMORY {
         return Some(alert);
     }
     if !is_as(edge, &before) {
         return None;
     }
-    Some(alert_of(step(edge, event)))
+    Some(told(edge, event))
 }
 
 // The same for what the table makes of an update.
@@ -72,16 +74,18 @@ fn taken_at_last(edge: &mut Edge, update: Update) -> Option<Taken> {
     }
 }
 
+// Whether an event is answered with this alert at last, and the edge says this of the station then.
+fn says_at_last(edge: &mut Edge, event: &Event<'_>, mac: u64, said: (u64, Content)) -> bool {
+    alert_at_last(edge, event) == Some(0) && says(edge, mac) == Some(said)
+}
+
 #[test]
 fn refused_learning_is_made_up_for(rt: HostRuntime) -> Result<(), Fail> {
     let mut edge = made(rt.alloc(), 0).ok_or("no edge")?;
     for n in 0..8u64 {
         let octets = frame(BROADCAST, HOST + n);
-        assert_eq!(rt;
-            alert_at_last(&mut edge, &Event::Frame(1, &octets)),
-            Some(0)
-        );
-        assert_eq!(rt; says(&edge, HOST + n), Some((n + 2, advert(false, 0))));
+        let said = (n + 2, advert(false, 0));
+        assert!(rt; says_at_last(&mut edge, &Event::Frame(1, &octets), HOST + n, said));
     }
     Ok(())
 }
@@ -98,25 +102,23 @@ fn frame_is_sent_though_memory_is_refused(rt: HostRuntime) -> Result<(), Fail> {
     Ok(())
 }
 
+// Whether 10.0.0.1 takes the host from the edge by its nth number, and it is heard here again with
+// this alert.
+fn moves_at_last(edge: &mut Edge, n: u8, alert: u8) -> bool {
+    let octets = frame(BROADCAST, HOST);
+    let update = said(1, 0, u64::from(n) + 1, advert(false, 2 * u32::from(n)));
+    taken_at_last(edge, update) == Some(Taken::Newer)
+        && alert_at_last(edge, &Event::Frame(1, &octets)) == Some(alert)
+}
+
 // No move is counted where memory is refused: the fifth one freezes.
 #[test]
 fn refused_move_is_not_counted(rt: HostRuntime) -> Result<(), Fail> {
     let mut edge = made(rt.alloc(), 0).ok_or("no edge")?;
-    let octets = frame(BROADCAST, HOST);
-    for n in 0..4u64 {
-        let update = said(1, 0, n + 1, advert(false, 2 * n as u32));
-        assert_eq!(rt; taken_at_last(&mut edge, update), Some(Taken::Newer));
-        assert_eq!(rt;
-            alert_at_last(&mut edge, &Event::Frame(1, &octets)),
-            Some(0)
-        );
+    for n in 0..4u8 {
+        assert!(rt; moves_at_last(&mut edge, n, 0));
     }
-    let update = said(1, 0, 5, advert(false, 8));
-    assert_eq!(rt; taken_at_last(&mut edge, update), Some(Taken::Newer));
-    assert_eq!(rt;
-        alert_at_last(&mut edge, &Event::Frame(1, &octets)),
-        Some(3)
-    );
+    assert!(rt; moves_at_last(&mut edge, 4, 3));
     Ok(())
 }
 
@@ -125,8 +127,7 @@ fn refused_pin_is_made_up_for(rt: HostRuntime) -> Result<(), Fail> {
     let mut edge = made(rt.alloc(), 0).ok_or("no edge")?;
     for n in 0..8u64 {
         let pin = Event::Pin(station(HOST + n), 1);
-        assert_eq!(rt; alert_at_last(&mut edge, &pin), Some(0));
-        assert_eq!(rt; says(&edge, HOST + n), Some((n + 2, advert(true, 0))));
+        assert!(rt; says_at_last(&mut edge, &pin, HOST + n, (n + 2, advert(true, 0))));
     }
     Ok(())
 }
@@ -146,58 +147,55 @@ fn refused_update_is_made_up_for(rt: HostRuntime) -> Result<(), Fail> {
     Ok(())
 }
 
-fn is_quiet(outcome: Result<Reply, Refusal>) -> bool {
-    alert_of(outcome) == 0
-}
-
 // A notification of a topology change.
 const NOTIFICATION: [u8; 21] = [
     0x01, 0x80, 0xc2, 0x00, 0x00, 0x00, 0x02, 0xaa, 0x00, 0x00, 0x00, 0x01, 0x00, 0x07, 0x42, 0x42,
     0x03, 0x00, 0x00, 0x00, 0x80,
 ];
 
-// A broadcast of 02:00:00:00:00:0b in network 5001.
-const DATAGRAM: [u8; 22] = [
-    0x08, 0x00, 0x00, 0x00, 0x00, 0x13, 0x89, 0x00, 0xff, 0xff, 0xff, 0xff, 0xff, 0xff, 0x02, 0x00,
-    0x00, 0x00, 0x00, 0x0b, 0x08, 0x00,
-];
+// Whether 10.0.0.1 has the host, the edge the other station on port 1, and the pinned one on port 2.
+fn is_filled(edge: &mut Edge, pinned: u64) -> bool {
+    let octets = frame(BROADCAST, OTHER);
+    taken_at_last(edge, said(1, 0, 1, advert(false, 0))) == Some(Taken::Newer)
+        && alert_at_last(edge, &Event::Frame(1, &octets)) == Some(0)
+        && alert_at_last(edge, &Event::Pin(station(pinned), 2)) == Some(0)
+}
+
+// How many announcements there are until none is left, four at the most.
+fn announcements(edge: &mut Edge) -> u8 {
+    let mut count = 0;
+    for _ in 0..4u8 {
+        if let Ok(reply) = step(edge, &Event::Announce) {
+            if reply.announced.is_some() && count < 4 {
+                count += 1;
+            }
+        }
+    }
+    count
+}
 
 // Once an edge has learnt, none of these events asks for memory: nothing of them can be refused.
 #[test]
 fn events_that_take_no_memory_succeed(rt: HostRuntime) -> Result<(), Fail> {
+    let pinned = 0x0200_0000_000c;
     let mut edge = made(rt.alloc(), 0).ok_or("no edge")?;
-    let there = said(1, 0, 1, advert(false, 0));
-    assert_eq!(rt; taken_at_last(&mut edge, there), Some(Taken::Newer));
-    let octets = frame(BROADCAST, OTHER);
-    assert_eq!(rt;
-        alert_at_last(&mut edge, &Event::Frame(1, &octets)),
-        Some(0)
-    );
-    let pin = Event::Pin(station(0x0200_0000_000c), 2);
-    assert_eq!(rt; alert_at_last(&mut edge, &pin), Some(0));
-    assert!(rt; is_quiet(step(&mut edge, &Event::Second)));
-    assert!(rt; is_quiet(step(&mut edge, &Event::Frame(2, &NOTIFICATION))));
-    assert!(rt; is_quiet(step(&mut edge, &Event::Frame(1, &frame(OTHER, NOBODY)))));
-    let tunnel = step(&mut edge, &Event::TunnelFrame(addr(1), &DATAGRAM));
-    assert_eq!(rt; sent(tunnel), Some((0b11, 0)));
-    assert!(rt; is_quiet(step(&mut edge, &Event::Mcheck(2))));
-    assert!(rt; is_quiet(step(&mut edge, &Event::Thaw(station(OTHER)))));
-    let update = step(&mut edge, &Event::Take(said(1, 0, 2, advert(false, 3))));
-    assert!(rt; matches!(update, Ok(reply) if reply.taken == Some(Taken::Newer)));
-    assert!(rt; is_quiet(step(&mut edge, &Event::PortDown(1))));
-    assert_eq!(rt; says(&edge, OTHER), Some((4, Content::Withdrawn)));
-    assert!(rt; is_quiet(step(&mut edge, &Event::PortUp(1))));
-    let unpin = Event::Unpin(station(0x0200_0000_000c));
-    assert!(rt; is_quiet(step(&mut edge, &unpin)));
-    assert_eq!(rt;
-        says(&edge, 0x0200_0000_000c),
-        Some((5, Content::Withdrawn))
-    );
-    for _ in 0..3u8 {
-        let announced = step(&mut edge, &Event::Announce);
-        assert!(rt; matches!(announced, Ok(reply) if reply.announced.is_some()));
-    }
-    let announced = step(&mut edge, &Event::Announce);
-    assert!(rt; matches!(announced, Ok(reply) if reply.announced.is_none()));
+    assert!(rt; is_filled(&mut edge, pinned));
+    let group = frame(OTHER, NOBODY);
+    let lines = [
+        Line::Told(Event::Second, 0),
+        Line::Told(Event::Frame(2, &NOTIFICATION), 0),
+        Line::Told(Event::Frame(1, &group), 0),
+        Line::Sent(Event::TunnelFrame(addr(1), &DATAGRAM), Some((0b11, 0))),
+        Line::Told(Event::Mcheck(2), 0),
+        Line::Told(Event::Thaw(station(OTHER)), 0),
+        Line::Taken(said(1, 0, 2, advert(false, 3)), Taken::Newer),
+        Line::Told(Event::PortDown(1), 0),
+        Line::Says(OTHER, 4, Content::Withdrawn),
+        Line::Told(Event::PortUp(1), 0),
+        Line::Told(Event::Unpin(station(pinned)), 0),
+        Line::Says(pinned, 5, Content::Withdrawn),
+    ];
+    assert_eq!(rt; first_wrong(&mut edge, &lines), None);
+    assert_eq!(rt; announcements(&mut edge), 3);
     Ok(())
 }
