@@ -142,6 +142,169 @@ tell "a leading zero, for a migration" tells "'10.0.0.01' has a number that begi
 run migrate --help
 tell "help on migrate" tells "--originators <LIST>" "standard input" "standard output" "Standard error" "  0  " "  4  " "Example:"
 
+# ---- a configuration: what is told of it, and the status
+named='address = "10.0.0.1"
+bridge = "02:aa:00:00:00:01"
+vnis = [5001]'
+conf=$work/fabric.toml
+
+# edge EDGE_LINES PORT_LINES: a table of an edge with one port
+edge() { printf '[[edge]]\n%s\n[[edge.port]]\n%s\n' "$1" "$2"; }
+
+# opened: the status and what is told where an empty script is run on the configuration in $conf
+opened() { run simulate --config "$conf"; }
+
+is_fine() { [ "$status" = 0 ] && [ ! -s "$work/notes" ] && [ ! -s "$work/out" ]; }
+
+# fine NAME EDGE_LINES PORT_LINES: one edge of these lines is right
+fine() {
+  edge "$2" "$3" > "$conf"
+  opened
+  tell "$1" is_fine
+}
+
+# faulty NAME TEXT EDGE_LINES PORT_LINES: one edge of these lines is wrong, and the note has this text
+faulty() {
+  edge "$3" "$4" > "$conf"
+  opened
+  tell "$1" tells "$2"
+}
+
+cp "$work/empty" "$work/in"
+fine "the least that an edge has" "$named" "vni = 5001"
+{ edge "$named" "vni = 5001" && edge "${named//1\"/2\"}" "vni = 0x1389"; } > "$conf"
+printf '[[edge.port]]\nvni = 5_001\n' >> "$conf"
+opened
+tell "two edges" is_fine
+
+# an edge's numbers: one below and one above, both ends, other types
+while read -r key low high step others; do
+  lines="$named"$'\n'"${others//;/$'\n'}"
+  faulty "$key below" "config $key" "$lines"$'\n'"$key = $((low - 1))" "vni = 5001"
+  fine "$key at its low end" "$lines"$'\n'"$key = $low" "vni = 5001"
+  fine "$key at its high end" "$lines"$'\n'"$key = $high" "vni = 5001"
+  faulty "$key above" "config $key" "$lines"$'\n'"$key = $((high + step))" "vni = 5001"
+  faulty "$key as text" "config $key" "$lines"$'\n'"$key = \"$low\"" "vni = 5001"
+  faulty "$key as a float" "config $key" "$lines"$'\n'"$key = $low.0" "vni = 5001"
+done << 'ROWS'
+priority 0 61440 4096
+hello 1 2 1
+forward_delay 4 30 1 max_age=6
+hold 1 10 1
+ageing 10 1000000 1
+capacity 1 65536 1
+buckets 1 65536 1
+incarnation 0 4294967295 1
+ROWS
+faulty "priority between its steps" "config priority" "$named"$'\npriority = 1' "vni = 5001"
+faulty "max_age below" "config max_age" "$named"$'\nmax_age = 5' "vni = 5001"
+fine "max_age at its low end" "$named"$'\nmax_age = 6' "vni = 5001"
+fine "max_age at its high end" "$named"$'\nmax_age = 40\nforward_delay = 21' "vni = 5001"
+faulty "max_age above" "config max_age" "$named"$'\nmax_age = 41' "vni = 5001"
+faulty "max_age beyond forward_delay" "config max_age" "$named"$'\nmax_age = 29' "vni = 5001"
+faulty "max_age beyond a short forward_delay" "config max_age" "$named"$'\nforward_delay = 10' "vni = 5001"
+faulty "salt below" "config salt" "$named"$'\nsalt = -1' "vni = 5001"
+fine "salt at its high end" "$named"$'\nsalt = 9223372036854775807' "vni = 5001"
+
+# a port's keys
+while read -r key low high step; do
+  faulty "$key below" "config $key" "$named" $'vni = 5001\n'"$key = $((low - 1))"
+  fine "$key at its low end" "$named" $'vni = 5001\n'"$key = $low"
+  fine "$key at its high end" "$named" $'vni = 5001\n'"$key = $high"
+  faulty "$key above" "config $key" "$named" $'vni = 5001\n'"$key = $((high + step))"
+  faulty "$key as text" "config $key" "$named" $'vni = 5001\n'"$key = \"$low\""
+done << 'ROWS'
+cost 1 200000000 1
+priority 0 240 16
+ROWS
+for key in admin_edge auto_edge point_to_point; do
+  fine "$key false" "$named" $'vni = 5001\n'"$key = false"
+  fine "$key true" "$named" $'vni = 5001\n'"$key = true"
+  faulty "$key as a number" "config $key" "$named" $'vni = 5001\n'"$key = 1"
+done
+for key in local remote; do
+  fine "$key" "$named" $'vni = 5001\n'"$key = \"127.0.0.1:0\""
+  fine "$key at the highest UDP port" "$named" $'vni = 5001\n'"$key = \"255.255.255.255:65535\""
+  for place in 127.0.0.1 127.0.0.1: 127.0.0.1:65536 127.0.0.1:05 127.0.0:5 :5 "127.0.0.1:5 "; do
+    faulty "$key $place" "config $key" "$named" $'vni = 5001\n'"$key = \"$place\""
+  done
+done
+faulty "a port without its network" "config vni" "$named" "cost = 1"
+faulty "a port of another network" "config vni" "$named" "vni = 5002"
+faulty "an unknown key of a port" "config Cost" "$named" $'vni = 5001\nCost = 1\ncosts = 2'
+
+# an edge's names, and which fault is the first
+faulty "no address" "config address" "" "vni = 5001"
+for address in 10.0.0 10.0.0.01 10.0.0.256 10.0.0.1. ""; do
+  faulty "address $address" "config address" "address = \"$address\"" "vni = 5001"
+done
+faulty "no bridge" "config bridge" 'address = "10.0.0.1"' "vni = 5001"
+for bridge in 02:aa:00:00:00:0 02:AA:00:00:00:01 02-aa-00-00-00-01 03:aa:00:00:00:01 02:aa:00:00:00:01:02; do
+  faulty "bridge $bridge" "config bridge" $'address = "10.0.0.1"\n'"bridge = \"$bridge\"" "vni = 5001"
+done
+for vnis in "[]" "[5001, 5001]" "[16777216]" "[-1]" '["5001"]' "[$(seq -s, 65)]"; do
+  faulty "vnis $vnis" "config vnis" "${named/\[5001\]/$vnis}" "vni = 5001"
+done
+faulty "vnis that aren't an array" "config vnis" "${named/\[5001\]/5001}" "vni = 5001"
+edge "${named/\[5001\]/[$(seq -s, 64)]}" "vni = 64" > "$conf"
+opened
+tell "64 networks" is_fine
+faulty "an unknown key of an edge" "config Priority" "$named"$'\nunknown = 1\nPriority = 1\nmax_age = 29' "vni = 5002"
+faulty "the relation of the times before the ports" "config max_age" "$named"$'\nmax_age = 29' "vni = 5002"
+faulty "hello before what comes behind it" "config hello" "$named"$'\nhold = 0\nhello = 0\nunknown = 1' "vni = 5002"
+printf '[[edge]]\n%s\n' "$named" > "$conf"
+opened
+tell "no port" tells "config port"
+printf '[[edge]]\n%s\nport = []\n' "$named" > "$conf"
+opened
+tell "an empty array of ports" tells "config port"
+{ edge "$named" "vni = 5001" && edge "$named" "vni = 5001"; } > "$conf"
+opened
+tell "an address twice" tells "config address"
+{ edge "$named" "vni = 5001" && edge "${named/.1\"/.2\"}" "vni = 5001"; } > "$conf"
+opened
+tell "a bridge twice" tells "config bridge"
+{ edge "$named" "vni = 5001" && edge "${named//1\"/2\"}" "vni = 5001" && printf '[[edge.port]]\nvni = 5001\n[[edge.port]]\nvni = 7\n'; } > "$conf"
+opened
+tell "the third port of the second edge" tells "config vni"
+
+# the file
+cp "$work/empty" "$conf"
+opened
+tell "an empty configuration" tells "config edge"
+printf 'edge = 1\na = 1\n' > "$conf"
+opened
+tell "edge that is no array" tells "config edge"
+{ printf 'b = 1\nB = 2\n' && edge "" "vni = 5001"; } > "$conf"
+opened
+tell "an unknown key of the file, before the edges" tells "config B"
+for n in $(seq 65); do printf '[[edge]]\naddress = "10.0.0.%s"\nbridge = "02:aa:00:00:00:%02x"\nvnis = [5001]\n[[edge.port]]\nvni = 5001\n' "$n" "$n"; done > "$conf"
+opened
+tell "65 edges" tells "config edge"
+head -n $((64 * 6)) "$conf" > "$work/64"
+mv "$work/64" "$conf"
+opened
+tell "64 edges" is_fine
+for text in "edge" "a = 9223372036854775808" $'a = 1\na = 2'; do
+  printf '%s\n' "$text" > "$conf"
+  opened
+  tell "no TOML: $text" tells "config text"
+done
+printf 'a = "\xff"\n' > "$conf"
+opened
+tell "a configuration that isn't UTF-8" [ "$status $(cat "$work/notes")" = "4 error: --config: '$conf' isn't UTF-8" ]
+run simulate --config "$work/none"
+tell "a configuration that isn't there" [ "$status $(cat "$work/notes")" = "4 error: --config: '$work/none' isn't there" ]
+run simulate --config "$work"
+tell "a directory as configuration" [ "$status $(cat "$work/notes")" = "4 error: --config: '$work' is a directory" ]
+run simulate
+tell "a simulation of nothing" tells "--config <FILE>"
+run simulate --help
+tell "help on simulate" tells "--config <FILE>" "Standard output" "Standard error" "  0  " "  2  " "  3  " "  4  " "Example:"
+status=0
+"$evpnd" simulate --config "$work/none" < "$work/in" > "$work/out" 2> /dev/full || status=$?
+tell "an unread file that can't be told" [ "$status" = 4 ]
+
 # ---- the notes on a piece are there while the next one is awaited
 cp "$record" "$work/in"
 mkfifo "$work/pipe"

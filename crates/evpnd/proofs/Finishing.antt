@@ -27,11 +27,11 @@ tells_failed : (a b : End) (q : Bool) (t : List ℕ) → Tells a b true q t → 
 tells_failed a b true t h = let none : b.failures ≡ a.failures = ap (λ (x : End). x.failures) (h.written refl) in grind (arith, nat_tests)
 tells_failed a b false t h = let one = h.failed refl refl in grind (arith, nat_tests)
 
-put_holds : (a b : End) (r : Result (Unit {0}) Device) (text : List ℕ) → Puts a b text r → Holds a b text
+pub put_holds : (a b : End) (r : Result (Unit {0}) Device) (text : List ℕ) → Puts a b text r → Holds a b text
 put_holds a b (Ok x) text h = record { written = λ _. h; failures = inl (ap (λ (x : End). x.failures) h) }
 put_holds a b (Err e) text h = record { written = λ same. absurd (omega arith); failures = inr h }
 
-put_failed : (a b : End) (r : Result (Unit {0}) Device) (text : List ℕ) → Puts a b text r → has_failed a b ≡ not (is_ok r)
+pub put_failed : (a b : End) (r : Result (Unit {0}) Device) (text : List ℕ) → Puts a b text r → has_failed a b ≡ not (is_ok r)
 put_failed a b (Ok x) text h = let same : b.failures ≡ a.failures = ap (λ (x : End). x.failures) h in grind (arith, nat_tests)
 put_failed a b (Err e) text h = grind (arith, nat_tests)
 
@@ -85,7 +85,7 @@ module _ (newest : ℕ) (output : Output) (originators : List ℕ) (reader reade
 
 -- ---- writers that are given more at once
 
-finish_holds : (a b c : End) (q : Bool) (t : List ℕ) → Holds a b t → Finishes a.failures b c q → Holds a c t
+pub finish_holds : (a b c : End) (q : Bool) (t : List ℕ) → Holds a b t → Finishes a.failures b c q → Holds a c t
 finish_holds a b c true t h f = let p = f.passed refl in record { written = λ _. p.0 ∙ h.written p.1; failures = inl (ap (λ (x : End). x.failures) p.0 ∙ p.1) }
 finish_holds a b c false t h f = go (f.failed refl) h.failures
   where
@@ -97,7 +97,7 @@ finish_holds a b c false t h f = go (f.failed refl) h.failures
     go (inl p) (inr e) = late (p.1 ∙ e)
     go (inr p) e = late p.1
 
-finish_failed : (a b c : End) (q : Bool) (t : List ℕ) → Holds a b t → Finishes a.failures b c q → has_failed a c ≡ not q
+pub finish_failed : (a b c : End) (q : Bool) (t : List ℕ) → Holds a b t → Finishes a.failures b c q → has_failed a c ≡ not q
 finish_failed a b c true t h f =
     let p = f.passed refl in
     let same : c.failures ≡ a.failures = ap (λ (x : End). x.failures) p.0 ∙ p.1 in
@@ -112,10 +112,10 @@ finish_failed a b c false t h f = go (f.failed refl) h.failures
     go (inl p) (inr e) = late (p.1 ∙ e)
     go (inr p) e = late p.1
 
-finish_unfailed : (a b c : End) (q : Bool) → Finishes a.failures b c q → q ≡ true → has_failed a b ≡ false
+pub finish_unfailed : (a b c : End) (q : Bool) → Finishes a.failures b c q → q ≡ true → has_failed a b ≡ false
 finish_unfailed a b c q f e = let p = (f.passed e).1 in grind (arith, nat_tests)
 
-last_status : (e p q s k x y : Bool) (status last : ℕ) → status ≡ status_of (e || (x || y)) s k → last ≡ cond (p && q) status 4 → (p ≡ true → x ≡ false) → (q ≡ true → y ≡ false)
+pub last_status : (e p q s k x y : Bool) (status last : ℕ) → status ≡ status_of (e || (x || y)) s k → last ≡ cond (p && q) status 4 → (p ≡ true → x ≡ false) → (q ≡ true → y ≡ false)
     → last ≡ status_of (e || (not p || not q)) s k
 last_status false false q s k x y status last h l f g = l
 last_status false true false s k x y status last h l f g = l

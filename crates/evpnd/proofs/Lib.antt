@@ -8,3 +8,12 @@ pub mod Migrating
 pub mod Owning
 pub mod Given
 pub mod Telling
+pub mod Filed
+pub mod Gathering
+pub mod Minding
+pub mod Pairs
+pub mod Playings
+pub mod Putting
+pub mod Simulating
+pub mod Walking
+pub mod Fitting

@@ -99,7 +99,7 @@ eqb_equiv = record {
   congr = λ x y z e. ap (λ n. eqb n z) (eqb-true x y e);
 }
 
-same_tests : (y : ℕ) (xs : List ℕ) → list_any (λ x. eqb x y) xs ≡ list_any (eqb y) xs
+pub same_tests : (y : ℕ) (xs : List ℕ) → list_any (λ x. eqb x y) xs ≡ list_any (eqb y) xs
 same_tests y [] = refl
 same_tests y (x ∷ xs) = ap (λ b. b || list_any (λ z. eqb z y) xs) (eqb_equiv.symm x y) ∙ ap (λ b. eqb y x || b) (same_tests y xs)
 

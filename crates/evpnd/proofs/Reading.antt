@@ -19,19 +19,19 @@ prepend_known_twice : (k : Option (List ℕ)) (a b : List ℕ) → prepend_known
 prepend_known_twice None a b = refl
 prepend_known_twice (Some xs) a b = ap Some (sym (append_assoc a b xs))
 
-prepend_known_none : (k : Option (List ℕ)) → prepend_known [] k ≡ k
+pub prepend_known_none : (k : Option (List ℕ)) → prepend_known [] k ≡ k
 prepend_known_none None = refl
 prepend_known_none (Some xs) = refl
 
-at_end : (k : Option (List ℕ)) → IfSome k (λ xs. xs ≡ []) → IsAtEnd k
+pub at_end : (k : Option (List ℕ)) → IfSome k (λ xs. xs ≡ []) → IsAtEnd k
 at_end None h = tt
 at_end (Some xs) h = h
 
-same_source : (a b : Source) → a.octets ≡ b.octets → a.failures ≡ b.failures → a.reads ≡ b.reads → a ≡ b
+pub same_source : (a b : Source) → a.octets ≡ b.octets → a.failures ≡ b.failures → a.reads ≡ b.reads → a ≡ b
 same_source a b o f r = rw (o, f, r) refl
 
 -- ---- pieces
-concat_more : (ps : List (List ℕ)) (p : List ℕ) → concat (ps ++ p ∷ []) ≡ concat ps ++ p
+pub concat_more : (ps : List (List ℕ)) (p : List ℕ) → concat (ps ++ p ∷ []) ≡ concat ps ++ p
 concat_more [] p = append-nil p
 concat_more (q ∷ ps) p = ap (λ x. q ++ x) (concat_more ps p) ∙ sym (append_assoc q (concat ps) p)
 
@@ -39,10 +39,10 @@ all_more : (ps : List (List ℕ)) (p : List ℕ) → AreSome ps → 0 < length p
 all_more [] p h k = (k, tt)
 all_more (q ∷ ps) p h k = (h.0, all_more ps p h.1 k)
 
-gives_none : (s : Source) → Gives s s []
+pub gives_none : (s : Source) → Gives s s []
 gives_none s = record { given = sym (prepend_known_none s.octets); some = tt; reads = grind arith; unfailed = refl }
 
-gives_one : (s t : Source) (buffer : List ℕ) (n : ℕ) → Gets s t buffer (Ok n) → 0 < n → Gives s t (take n buffer ∷ [])
+pub gives_one : (s t : Source) (buffer : List ℕ) (n : ℕ) → Gets s t buffer (Ok n) → 0 < n → Gives s t (take n buffer ∷ [])
 gives_one s t buffer n g some = record {
   given = g.takes.next ∙ ap (λ x. prepend_known x t.octets) (sym (append-nil (take n buffer)));
   some = (let k : length (take n buffer) ≡ n = length-take-le n buffer g.takes.fits in let x : 0 < length (take n buffer) = omega arith in x, tt);
@@ -50,7 +50,7 @@ gives_one s t buffer n g some = record {
   unfailed = g.failures ∙ grind arith;
 }
 
-gives_more : (s t u : Source) (ps : List (List ℕ)) (p : List ℕ) → Gives s t ps → Gives t u (p ∷ []) → Gives s u (ps ++ p ∷ [])
+pub gives_more : (s t u : Source) (ps : List (List ℕ)) (p : List ℕ) → Gives s t ps → Gives t u (p ∷ []) → Gives s u (ps ++ p ∷ [])
 gives_more s t u ps p h k = record {
   given = h.given ∙ ap (prepend_known (concat ps)) k.given ∙ prepend_known_twice u.octets (concat ps) (p ++ [])
       ∙ ap (λ x. prepend_known x u.octets) (ap (λ x. concat ps ++ x) (append-nil p) ∙ sym (concat_more ps p));

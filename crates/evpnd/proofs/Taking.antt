@@ -58,7 +58,7 @@ after_both : (t : Table) (os ps : List (Result Fields ℕ)) → table_after_all 
 after_both t [] ps = refl
 after_both t (o ∷ os) ps = after_both (table_after t o) os ps
 
-or_assoc : (a b c : Bool) → a || (b || c) ≡ (a || b) || c
+pub or_assoc : (a b c : Bool) → a || (b || c) ≡ (a || b) || c
 or_assoc true b c = refl
 or_assoc false b c = refl
 

@@ -10,16 +10,18 @@ use Rattle.evpnd.specs.declared.originators.ListFault.{ListFault}
 use Rattle.evpnd.specs.Words.{program}
 use Rattle.evpnd.specs.Originators.{Text, list_text}
 use Rattle.evpnd.specs.Ends.{devices, has_failed}
-use Rattle.evpnd.specs.Program.{world, IsTold, TellsUsage, TellsFault, RunsWords}
+use Rattle.evpnd.specs.Files.{Shelf}
+use Rattle.evpnd.specs.Checks.{desk, IsTold, TellsUsage}
+use Rattle.evpnd.specs.Program.{world, TellsFault, RunsWords}
 
-failed_put : (a b : End) (r : Result (Unit {0}) Device) (text : Text) → Puts a b text r → (if_ok : Bool) → if_ok ≡ is_ok r → ◌≡◌ {A = ℕ} (cond if_ok 2 4) (cond (has_failed a b) 4 2)
-failed_put a b (Ok x) text h true e =
+failed_put : (a b : End) (r : Result (Unit {0}) Device) (text : Text) (n : ℕ) → Puts a b text r → (if_ok : Bool) → if_ok ≡ is_ok r → ◌≡◌ {A = ℕ} (cond if_ok n 4) (cond (has_failed a b) 4 n)
+failed_put a b (Ok x) text n h true e =
     let same : b.failures ≡ a.failures = ap (λ (y : End). y.failures) h in
     let none : has_failed a b ≡ false = grind (arith, nat_tests) in
     rw none refl
-failed_put a b (Ok x) text h false e = cc
-failed_put a b (Err d) text h true e = cc
-failed_put a b (Err d) text h false e =
+failed_put a b (Ok x) text n h false e = cc
+failed_put a b (Err d) text n h true e = cc
+failed_put a b (Err d) text n h false e =
     let one : has_failed a b ≡ true = grind (arith, nat_tests) in
     rw one refl
 
@@ -27,12 +29,12 @@ pub told_put : (a b : End) (r : Result (Unit {0}) Device) (text : Text) (status 
 told_put a b (Ok x) text status h is =
     record {
       noted = record { written = λ _. h; failures = inl (ap (λ (y : End). y.failures) h) };
-      status_is = is ∙ failed_put a b (Ok x) text h true refl;
+      status_is = is ∙ failed_put a b (Ok x) text 2 h true refl;
     }
 told_put a b (Err d) text status h is =
     record {
       noted = record { written = λ same. absurd (omega arith); failures = inr h };
-      status_is = is ∙ failed_put a b (Err d) text h false refl;
+      status_is = is ∙ failed_put a b (Err d) text 2 h false refl;
     }
 
 pub tells_usage : (input : Source) (out notes notes' : End) (text : Text) (status : ℕ) → IsTold text notes notes' status → TellsUsage text (devices input out notes) (devices input out notes') status
@@ -51,18 +53,19 @@ among_some k [] among none = among
 among_some k (x ∷ xs) among none = cc
 
 -- words with a fault
-pub runs_refused : (words : List Text) (k : ErrorKind) (before middle after : ℕ) (input : Source) (out notes notes' : End) (status : ℕ) → IsAmong k (fault_of program words) → middle ≡ before
-    → TellsFault middle after notes notes' status → RunsWords words (world before input out notes) (world after input out notes') status
-runs_refused words k before middle after input out notes notes' status among same (inl starved) =
+pub runs_refused : (words : List Text) (k : ErrorKind) (before middle after : ℕ) (shelf : Shelf) (input : Source) (out notes notes' : End) (status : ℕ) → IsAmong k (fault_of program words) → middle ≡ before
+    → TellsFault middle after notes notes' status → RunsWords words (world before shelf input out notes) (world after shelf input out notes') status
+runs_refused words k before middle after shelf input out notes notes' status among same (inl starved) =
     inl (record {
       refused = starved.0 ∙ ap (λ (n : ℕ). n + 1) same;
-      devices_kept = ap (λ (e : End). devices input out e) starved.1;
+      desk_kept = ap (λ (e : End). desk shelf (devices input out e)) starved.1;
       status_is = starved.2;
     })
-runs_refused words k before middle after input out notes notes' status among same (inr told) =
+runs_refused words k before middle after shelf input out notes notes' status among same (inr told) =
     inr (inl (record {
       faulty = among_some k (fault_of program words) among;
       refusals_kept = told.0 ∙ same;
+      shelf_kept = refl;
       text = told.1.0;
       told = tells_usage input out notes notes' told.1.0 status told.1.1;
     }))

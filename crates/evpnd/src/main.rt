@@ -1,19 +1,25 @@
 //! EVPN edge bridges: the program.
 #![tactic(auto)]
 
+mod config;
 mod ending;
+mod files;
+mod input;
 mod migrate;
 mod migration_laws;
 mod notes;
 mod originators;
 mod program;
 mod report;
+mod script;
+mod simulate;
 mod status;
 mod stream;
 #[cfg(test)]
 mod tests;
 mod words;
 
+use crate::files::SystemFiles;
 use crate::program::{Line, run};
 use crate::words::ClapParser;
 use ether_wire::{Reader, Writer};
@@ -23,11 +29,20 @@ use std::process::ExitCode;
 fn main(rt: HostRuntime) -> ExitCode {
     let line = line_of(&rt);
     let mut parser = ClapParser::new(rt.alloc());
+    let mut files = SystemFiles::new(&rt);
     let mut reader = Reader::new(rt.stdin());
     let (stdout, stderr) = (rt.stdout(), rt.stderr());
     let out = Writer::new(io::writer(&stdout));
     let notes = Writer::new(io::writer(&stderr));
-    let (status, _, _) = run(rt.alloc(), &mut parser, &line, &mut reader, out, notes);
+    let (status, _, _) = run(
+        rt.alloc(),
+        &mut parser,
+        &line,
+        &mut files,
+        &mut reader,
+        out,
+        notes,
+    );
     ExitCode::from(status)
 }
 

@@ -1,15 +1,21 @@
 //! A run of the program: from its words, over its devices, to its status.
-ghost use Rattle.std.specs.Prelude.{◌≡◌, ◌≢◌, ◌+◌, ◌<◌, ◌^◌, map, string_bytes, [], is_ok, if◌then◌else◌};
+ghost use Rattle.std.specs.Prelude.{◌≡◌, ◌≢◌, ◌+◌, ◌<◌, ◌^◌, map, string_bytes, [], is_ok, if◌then◌else◌, false};
 ghost use Rattle.ether_wire.specs.Ends.{IsOpen, Allows};
 ghost use Rattle.clap.specs.Words.{fault_of};
 ghost use Rattle.evpnd.specs.Ends.{devices};
 ghost use Rattle.evpnd.specs.Originators.{originators_of_text, list_text};
 ghost use Rattle.evpnd.specs.Words.{program, parts_of};
-ghost use Rattle.evpnd.specs.Program.{world, IsTold, TellsUsage, TellsFault, not_text, FollowsAs, Follows, RunsWords, RunsProgram};
+ghost use Rattle.evpnd.specs.Files.{HasRoom};
+ghost use Rattle.evpnd.specs.Checks.{desk, IsTold, TellsUsage};
+ghost use Rattle.evpnd.specs.Runs.{Reports};
+ghost use Rattle.evpnd.specs.Migrations.{Migrates};
+ghost use Rattle.evpnd.specs.Program.{world, TellsFault, not_text, OfList, FollowsAs, Follows, RunsWords, RunsProgram};
 
+use crate::files::Files;
 use crate::migrate::migrate_buffered;
 use crate::originators::{WrongPart, put_wrong_part, read_originators};
 use crate::report::report_buffered;
+use crate::simulate::simulate;
 use crate::status::{DEVICE, MEMORY, USAGE};
 use crate::words::{Order, Parser, Refusal, Subcommand, order_of};
 use clap::Error;
@@ -28,7 +34,7 @@ pub(crate) enum Line {
 }
 
 /// The status of a usage, by whether it could be told.
-fn usage_status(told: Result<(), Device>) -> u8
+pub(crate) fn usage_status(told: Result<(), Device>) -> u8
     ensures { result ≡ (if is_ok told then 2 else 4) }
 {
     match told {
@@ -38,7 +44,7 @@ fn usage_status(told: Result<(), Device>) -> u8
 }
 
 /// Tells a text on the words.
-fn tell<N: Out>(text: &[u8], notes: &mut N) -> u8
+pub(crate) fn tell<N: Out>(text: &[u8], notes: &mut N) -> u8
     requires { IsOpen (N.end notes.old) }
     ensures { IsTold text.now (N.end notes.old) (N.end notes.new) result }
 {
@@ -76,7 +82,7 @@ fn report<R: In, W: Out, N: Out>(
     requires reader { Allows (2 ^ 40) (R.end reader.old) }
     requires out { IsOpen (W.end out) }
     requires notes { IsOpen (N.end notes) }
-    ensures { FollowsAs Subcommand.Report list.now (devices (R.end reader.old) (W.end out) (N.end notes))
+    ensures { OfList Reports list.now (devices (R.end reader.old) (W.end out) (N.end notes))
         (devices (R.end reader.new) (W.end result.1) (N.end result.2)) result.0 }
 {
     match read_originators(list.as_bytes()) {
@@ -96,7 +102,7 @@ fn migrate<R: In, W: Out, N: Out>(
     requires reader { Allows (2 ^ 40) (R.end reader.old) }
     requires out { IsOpen (W.end out) }
     requires notes { IsOpen (N.end notes) }
-    ensures { FollowsAs Subcommand.Migrate list.now (devices (R.end reader.old) (W.end out) (N.end notes))
+    ensures { OfList Migrates list.now (devices (R.end reader.old) (W.end out) (N.end notes))
         (devices (R.end reader.new) (W.end result.1) (N.end result.2)) result.0 }
 {
     match read_originators(list.as_bytes()) {
@@ -106,44 +112,50 @@ fn migrate<R: In, W: Out, N: Out>(
 }
 
 /// Does what the words say.
-fn follow<R: In, W: Out, N: Out>(
+fn follow<F: Files, R: In, W: Out, N: Out>(
     alloc: Global,
     order: Order<'_>,
+    files: &mut F,
     reader: &mut R,
     out: W,
     notes: N,
 ) -> (u8, W, N)
+    requires files { HasRoom (F.shelf files.old) }
     requires reader { Allows (2 ^ 40) (R.end reader.old) }
     requires out { IsOpen (W.end out) }
     requires notes { IsOpen (N.end notes) }
-    ensures { Follows (parts_of order.entry) (devices (R.end reader.old) (W.end out) (N.end notes))
-        (devices (R.end reader.new) (W.end result.1) (N.end result.2)) result.0 }
+    ensures { Follows (parts_of order.entry)
+        (desk (F.shelf files.old) (devices (R.end reader.old) (W.end out) (N.end notes)))
+        (desk (F.shelf files.new) (devices (R.end reader.new) (W.end result.1) (N.end result.2))) result.0 }
 {
     match order.subcommand {
         Subcommand::Report => report(alloc, order.value, reader, out, notes),
         Subcommand::Migrate => migrate(alloc, order.value, reader, out, notes),
+        Subcommand::Simulate => simulate(alloc, files, order.value, reader, out, notes),
     }
 }
 
 /// A run over these words.
-fn run_words<P: Parser, R: In, W: Out, N: Out>(
+fn run_words<P: Parser, F: Files, R: In, W: Out, N: Out>(
     alloc: Global,
     parser: &mut P,
     words: &[String],
+    files: &mut F,
     reader: &mut R,
     out: W,
     mut notes: N,
 ) -> (u8, W, N)
     requires parser { P.refusals parser.old + 1 < 2 ^ 64 }
+    requires files { HasRoom (F.shelf files.old) }
     requires reader { Allows (2 ^ 40) (R.end reader.old) }
     requires out { IsOpen (W.end out) }
     requires notes { IsOpen (N.end notes) }
     ensures { RunsWords (map string_bytes words.now)
-        (world (P.refusals parser.old) (R.end reader.old) (W.end out) (N.end notes))
-        (world (P.refusals parser.new) (R.end reader.new) (W.end result.1) (N.end result.2)) result.0 }
+        (world (P.refusals parser.old) (F.shelf files.old) (R.end reader.old) (W.end out) (N.end notes))
+        (world (P.refusals parser.new) (F.shelf files.new) (R.end reader.new) (W.end result.1) (N.end result.2)) result.0 }
 {
     match order_of(parser, words) {
-        Ok(order) => follow(alloc, order, reader, out, notes),
+        Ok(order) => follow(alloc, order, files, reader, out, notes),
         Err(Refusal::Usage(error)) => (tell_fault(parser, &error, &mut notes), out, notes),
         Err(Refusal::NoMemory) => (MEMORY, out, notes),
     }
@@ -153,25 +165,28 @@ fn run_words<P: Parser, R: In, W: Out, N: Out>(
 /// with them. It takes the writers, and gives them back.
 ///
 /// The status is the greatest that applies: 4 where a device failed, 3 where memory was refused, 2
-/// where the words aren't the program's or ask for help, 1 where the input is broken, else 0.
-pub(crate) fn run<P: Parser, R: In, W: Out, N: Out>(
+/// where the words aren't the program's or ask for help, or a configuration is faulty, 1 where the
+/// input is broken, else 0.
+pub(crate) fn run<P: Parser, F: Files, R: In, W: Out, N: Out>(
     alloc: Global,
     parser: &mut P,
     line: &Line,
+    files: &mut F,
     reader: &mut R,
     out: W,
     mut notes: N,
 ) -> (u8, W, N)
     requires parser { P.refusals parser.old + 1 < 2 ^ 64 }
+    requires files { HasRoom (F.shelf files.old) }
     requires reader { Allows (2 ^ 40) (R.end reader.old) }
     requires out { IsOpen (W.end out) }
     requires notes { IsOpen (N.end notes) }
     ensures { RunsProgram line.now
-        (world (P.refusals parser.old) (R.end reader.old) (W.end out) (N.end notes))
-        (world (P.refusals parser.new) (R.end reader.new) (W.end result.1) (N.end result.2)) result.0 }
+        (world (P.refusals parser.old) (F.shelf files.old) (R.end reader.old) (W.end out) (N.end notes))
+        (world (P.refusals parser.new) (F.shelf files.new) (R.end reader.new) (W.end result.1) (N.end result.2)) result.0 }
 {
     match line {
-        Line::Words(words) => run_words(alloc, parser, words.as_slice(), reader, out, notes),
+        Line::Words(words) => run_words(alloc, parser, words.as_slice(), files, reader, out, notes),
         Line::NotText => (tell(b"error: a word isn't UTF-8\n", &mut notes), out, notes),
         Line::NoMemory => (MEMORY, out, notes),
     }

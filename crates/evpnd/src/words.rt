@@ -15,6 +15,8 @@ pub(crate) enum Subcommand {
     Report,
     /// `evpnd migrate --originators LIST`
     Migrate,
+    /// `evpnd simulate --config FILE`
+    Simulate,
 }
 
 /// What the program is to do.
@@ -42,6 +44,7 @@ impl Subcommand {
         match self {
             Subcommand::Report => "report",
             Subcommand::Migrate => "migrate",
+            Subcommand::Simulate => "simulate",
         }
     }
 
@@ -51,6 +54,7 @@ impl Subcommand {
     {
         match self {
             Subcommand::Report | Subcommand::Migrate => "originators",
+            Subcommand::Simulate => "config",
         }
     }
 
@@ -58,6 +62,7 @@ impl Subcommand {
     fn value_name<'a>(self) -> &'a str {
         match self {
             Subcommand::Report | Subcommand::Migrate => "LIST",
+            Subcommand::Simulate => "FILE",
         }
     }
 
@@ -67,6 +72,7 @@ impl Subcommand {
             Subcommand::Report | Subcommand::Migrate => {
                 "1 to 64 different IPv4 addresses with commas between them"
             }
+            Subcommand::Simulate => "The path of a configuration, a TOML document",
         }
     }
 
@@ -75,6 +81,7 @@ impl Subcommand {
         match self {
             Subcommand::Report => "Report the table that a stream of route updates defines",
             Subcommand::Migrate => "Write records of versions 1 and 2 anew in version 3",
+            Subcommand::Simulate => "Run a script of events on the edges of a configuration",
         }
     }
 
@@ -115,6 +122,22 @@ Status, the greatest that applies:
 Example:
   evpnd migrate --originators 10.0.0.1,10.0.0.2 < old > new"
             }
+            Subcommand::Simulate => {
+                "\
+Opens the edges that FILE configures, as docs/configuration.md describes it, reads a script on standard
+input up to its end, and runs it line by line; docs/script.md has its commands. Standard output has
+what became of each. Standard error has the number of the first line that is none, which ends the run.
+
+Status, the greatest that applies:
+  0  all lines were run
+  1  a line is no command
+  2  the configuration has a fault; or the words are wrong, or ask for help
+  3  memory was refused
+  4  FILE can't be read, or reading or writing failed
+
+Example:
+  evpnd simulate --config fabric.toml < script"
+            }
         }
     }
 }
@@ -128,6 +151,9 @@ fn named(name: &str) -> Option<Subcommand>
     }
     if name == Subcommand::Migrate.name() {
         return Some(Subcommand::Migrate);
+    }
+    if name == Subcommand::Simulate.name() {
+        return Some(Subcommand::Simulate);
     }
     None
 }
@@ -169,11 +195,13 @@ fn program<'a>(alloc: Global) -> Result<Command<'a>, AllocError>
 {
     let report = order_command(alloc, Subcommand::Report)?;
     let migrate = order_command(alloc, Subcommand::Migrate)?;
+    let simulate = order_command(alloc, Subcommand::Simulate)?;
     let start = Command::new(alloc, "evpnd")
         .about(ABOUT)
         .after_help(HELP)
         .subcommand(report)?;
-    let command = start.subcommand(migrate)?;
+    let second = start.subcommand(migrate)?;
+    let command = second.subcommand(simulate)?;
     Ok(command.subcommand_required(true))
 }
 

@@ -1,0 +1,13 @@
+use Rattle.std.proofs.Common.{◌≡◌, length, drop}
+use Rattle.toml.specs.View.{items_view}
+use Rattle.evpnd.specs.Config.{edges_from, edges_view, no_edges}
+use Rattle.evpnd.specs.Fitting.{FitTogether}
+use Rattle.evpnd.proofs.config.edges.edges_of.Given as goal
+
+abbrev pub invariant-loop-value : goal.invariant-loop-value
+invariant-loop-value l = record {
+  addresses : length l.edges.addresses.items ≡ l.value-index;
+  bridges : length l.edges.bridges.items ≡ l.value-index;
+  together : FitTogether (edges_view l.edges);
+  value : edges_from l.for_run (edges_view l.edges) (items_view (drop l.value-index l.tables.items)) ≡ edges_from l.for_run no_edges (items_view l.tables.items);
+}

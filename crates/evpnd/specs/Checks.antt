@@ -1,0 +1,58 @@
+-- What becomes of a configuration's file.
+use Rattle.std.specs.Prelude.{◌≡◌, ℕ, ◌+◌, ◌⊎◌, Bool, Result, if◌then◌else◌}
+use Rattle.ether_wire.specs.Ends.{End, Source}
+use Rattle.evpnd.specs.declared.config.Config.{Config}
+use Rattle.evpnd.specs.declared.config.ConfigRefusal.{ConfigRefusal}
+use Rattle.evpnd.specs.declared.files.Unread.{Unread}
+use Rattle.evpnd.specs.Files.{Text, Shelf, IsTextOf, unread_text}
+use Rattle.evpnd.specs.Ends.{Devices, devices, has_failed, Holds}
+use Rattle.evpnd.specs.Config.{ConfigOf}
+
+-- the devices and the files
+pub record Desk : Type 0 where
+  pub shelf : Shelf
+  pub devices : Devices
+
+abbrev pub desk : Shelf → Devices → Desk
+desk shelf devices = record { shelf = shelf; devices = devices }
+
+-- A text on the words or the configuration was written to the notes, or a call of them failed.
+pub record IsTold (text : Text) (before after : End) (status : ℕ) : Type 0 where
+  pub noted : Holds before after text
+  pub status_is : status ≡ (if has_failed before after then 4 else 2)
+
+-- It is told; nothing was read, nothing else written.
+pub record TellsUsage (text : Text) (before after : Devices) (status : ℕ) : Type 0 where
+  pub input : after.input ≡ before.input
+  pub out : after.out ≡ before.out
+  pub told : IsTold text before.notes after.notes status
+
+-- ---- files
+
+-- memory was refused once more, for the text of a file; no device was called
+pub record IsRefusedText (before after : Desk) (status : ℕ) : Type 0 where
+  pub refused : after.shelf ≡ record before.shelf { refusals = before.shelf.refusals + 1 }
+  pub devices_kept : after.devices ≡ before.devices
+  pub status_is : status ≡ 3
+
+-- once more a file had no text, which is told; nothing was read, nothing else written
+pub record IsUnread (path : Text) (before after : Desk) (status : ℕ) : Type 0 where
+  pub failed : after.shelf ≡ record before.shelf { failures = before.shelf.failures + 1 }
+  pub why : Unread
+  pub input : after.devices.input ≡ before.devices.input
+  pub out : after.devices.out ≡ before.devices.out
+  pub noted : Holds before.devices.notes after.devices.notes (unread_text path why)
+  pub status_is : status ≡ 4
+
+-- the file has this text, and what it gives for a configuration is used so
+pub record IsRead (for_run : Bool) (uses : Result Config ConfigRefusal → Devices → Devices → ℕ → Type 0) (path : Text) (before after : Desk) (status : ℕ) : Type 0 where
+  pub shelf_kept : after.shelf ≡ before.shelf
+  pub text : Text
+  pub read : IsTextOf before.shelf path text
+  pub found : Result Config ConfigRefusal
+  pub is_found : ConfigOf for_run text found
+  pub used : uses found before.devices after.devices status
+
+-- what is done with what a file gives for a configuration
+abbrev pub OfFile : Bool → (Result Config ConfigRefusal → Devices → Devices → ℕ → Type 0) → Text → Desk → Desk → ℕ → Type 0
+OfFile for_run uses path before after status = IsRefusedText before after status ⊎ (IsUnread path before after status ⊎ IsRead for_run uses path before after status)

@@ -1,0 +1,136 @@
+//! Where the texts of files come from.
+ghost use Rattle.std.specs.Prelude.{◌≡◌, ◌≢◌, None};
+ghost use Rattle.ether_wire.specs.Ends.{IsOpen, Puts};
+ghost use Rattle.evpnd.specs.Files.{Shelf, shelf_of, HasRoom, GivesText, reason_of, unread_text};
+
+use crate::status::DEVICE;
+use ether_wire::{Device, Out};
+use std::{fs, io};
+
+/// Why a file can't be read.
+#[derive(Clone, Copy, Debug, PartialEq, Eq)]
+pub(crate) enum Unread {
+    /// There is none at this path.
+    Missing,
+    /// The system refuses it to this user.
+    Denied,
+    /// It is a directory.
+    Directory,
+    /// What it holds isn't UTF-8.
+    NotText,
+    /// Anything else.
+    Broken,
+}
+
+/// Why there is no text of a file.
+#[derive(Clone, Copy, Debug, PartialEq, Eq)]
+pub(crate) enum FileFault {
+    /// There was no memory for it.
+    NoMemory,
+    /// It can't be read.
+    Unread(Unread),
+}
+
+/// What gives the texts of files. It may be refused memory.
+pub(crate) trait Files {
+    /// The text of each file, where that is told, how often memory was refused, and how often a
+    /// file had no text.
+    ghost shelf: { Self → Shelf };
+
+    /// The text of the file at a path.
+    ///
+    /// # Errors
+    ///
+    /// `NoMemory` exactly where memory was refused once more; `Unread` exactly where a file had no
+    /// text once more.
+    fn text_of(&mut self, path: &str) -> Result<String, FileFault>
+        requires { HasRoom (shelf self.old) }
+        ensures { GivesText (shelf self.old) (shelf self.new) path.now result };
+}
+
+/// The files of the system, which tell nothing of what they hold.
+#[derive(Drop)]
+pub(crate) struct SystemFiles<'a> {
+    rt: &'a HostRuntime,
+    refusals: u64,
+    failures: u64,
+}
+
+impl<'a> SystemFiles<'a> {
+    /// Files of which none was asked for yet.
+    pub(crate) fn new(rt: &'a HostRuntime) -> Self
+        ensures refusals { result.refusals ≡ 0 }
+        ensures failures { result.failures ≡ 0 }
+    {
+        SystemFiles {
+            rt,
+            refusals: 0,
+            failures: 0,
+        }
+    }
+}
+
+/// What an error of the system says of a file.
+fn fault_of(kind: io::ErrorKind) -> FileFault {
+    match kind {
+        io::ErrorKind::OutOfMemory => FileFault::NoMemory,
+        io::ErrorKind::NotFound => FileFault::Unread(Unread::Missing),
+        io::ErrorKind::PermissionDenied => FileFault::Unread(Unread::Denied),
+        io::ErrorKind::IsADirectory => FileFault::Unread(Unread::Directory),
+        io::ErrorKind::InvalidData => FileFault::Unread(Unread::NotText),
+        _ => FileFault::Unread(Unread::Broken),
+    }
+}
+
+impl Files for SystemFiles<'_> {
+    ghost shelf = { λ f. shelf_of None f.refusals f.failures };
+
+    fn text_of(&mut self, path: &str) -> Result<String, FileFault> {
+        match fs::read_to_string(self.rt, path) {
+            Ok(text) => Ok(text),
+            Err(error) => {
+                let fault = fault_of(error.kind());
+                match fault {
+                    FileFault::NoMemory => self.refusals += 1,
+                    FileFault::Unread(_) => self.failures += 1,
+                }
+                Err(fault)
+            }
+        }
+    }
+}
+
+impl Unread {
+    /// The words behind the path.
+    fn reason(self) -> &'static [u8]
+        ensures { result.now ≡ reason_of self }
+    {
+        match self {
+            Unread::Missing => b"' isn't there\n",
+            Unread::Denied => b"' may not be read\n",
+            Unread::Directory => b"' is a directory\n",
+            Unread::NotText => b"' isn't UTF-8\n",
+            Unread::Broken => b"' couldn't be read\n",
+        }
+    }
+}
+
+/// Writes which file can't be read, and why.
+#[tactic(auto, using(ether_wire::proofs::Appending::with_text_twice))]
+pub(crate) fn put_unread<N: Out>(notes: &mut N, path: &[u8], why: Unread) -> Result<(), Device>
+    requires { IsOpen (N.end notes.old) }
+    ensures { Puts (N.end notes.old) (N.end notes.new) (unread_text path.now why) result }
+{
+    notes.put(b"error: --config: '")?;
+    notes.put(path)?;
+    notes.put(why.reason())
+}
+
+/// The status of a file without a text, which is told.
+pub(crate) fn unread_status(told: Result<(), Device>) -> u8
+    ensures { result ≡ 4 }
+{
+    match told {
+        Ok(()) | Err(Device) => DEVICE,
+    }
+}
