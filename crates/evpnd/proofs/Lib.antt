@@ -8,7 +8,6 @@ pub mod Migrating
 pub mod Owning
 pub mod Given
 pub mod Telling
-pub mod Filed
 pub mod Gathering
 pub mod Minding
 pub mod Pairs

@@ -1,6 +1,7 @@
 //! EVPN edge bridges: the program.
 #![tactic(auto)]
 
+mod check;
 mod config;
 mod ending;
 mod files;
