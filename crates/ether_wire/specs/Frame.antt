@@ -2,6 +2,7 @@
 -- source 6, type or length 2, and the rest.
 use Rattle.std.specs.Prelude.{◌≡◌, ℕ, ◌+◌, ◌-◌, ◌≤◌, Bool, true, ◌&&◌, nat_lt, nat_le, if◌then◌else◌, List, [], ◌∷◌, length, take, drop, Option, Some, None, Result, Ok, Err}
 use Rattle.byteorder.specs.Endian.{big_number}
+use Rattle.ether_wire.specs.declared.frame.TheConstants.{SOURCE_PLACE, TYPE_PLACE, PAYLOAD_PLACE, MOST_OCTETS, MOST_LENGTH, TOO_SHORT, TOO_LONG, LENGTH_BEYOND}
 use Rattle.ether_wire.specs.declared.frame.FrameRefusal.{FrameRefusal}
 use Rattle.ether_wire.specs.declared.frame.FrameRefusal.TheVariants.{Short, Long, BadLength}
 use Rattle.ether_wire.specs.declared.frame.Kind.{Kind}
@@ -16,29 +17,29 @@ abbrev pub destination_of : List ℕ → ℕ
 destination_of octets = big_number 6 octets
 
 abbrev pub source_of : List ℕ → ℕ
-source_of octets = big_number 6 (drop 6 octets)
+source_of octets = big_number 6 (drop SOURCE_PLACE octets)
 
 -- the two octets after the addresses
 abbrev pub type_or_length : List ℕ → ℕ
-type_or_length octets = big_number 2 (drop 12 octets)
+type_or_length octets = big_number 2 (drop TYPE_PLACE octets)
 
 -- a value of at most 1500 is a length (IEEE 802.3, section 3.2.6), any other a type
 abbrev pub has_length : List ℕ → Bool
-has_length octets = nat_le (type_or_length octets) 1500
+has_length octets = nat_le (type_or_length octets) MOST_LENGTH
 
 abbrev pub kind_of : List ℕ → Kind
 kind_of octets = if has_length octets then Length (type_or_length octets) else EtherType (type_or_length octets)
 
 -- as many octets as the length says, after which comes padding; or all that follows a type
 abbrev pub payload_of : List ℕ → List ℕ
-payload_of octets = if has_length octets then take (type_or_length octets) (drop 14 octets) else drop 14 octets
+payload_of octets = if has_length octets then take (type_or_length octets) (drop PAYLOAD_PLACE octets) else drop PAYLOAD_PLACE octets
 
 -- a frame has 14 to 9,018 octets, and a length that isn't beyond them
 abbrev pub refusal_tests : List ℕ → List (Bool × FrameRefusal)
 refusal_tests octets =
-    (nat_lt (length octets) 14, Short) ∷
-    (nat_lt 9018 (length octets), Long) ∷
-    (has_length octets && nat_lt (length octets - 14) (type_or_length octets), BadLength) ∷ []
+    (nat_lt (length octets) PAYLOAD_PLACE, Short) ∷
+    (nat_lt MOST_OCTETS (length octets), Long) ∷
+    (has_length octets && nat_lt (length octets - PAYLOAD_PLACE) (type_or_length octets), BadLength) ∷ []
 
 abbrev pub read_as : {X E : Type 0} → X → Option E → Result X E
 read_as x None = Ok x
@@ -50,11 +51,11 @@ frame_of octets = read_as octets (first_of (refusal_tests octets))
 
 -- what a frame's octets are
 pub record IsFrame (octets : List ℕ) : Type 0 where
-  pub least : 14 ≤ length octets
-  pub most : length octets ≤ 9018
-  pub fits : has_length octets ≡ true → 14 + type_or_length octets ≤ length octets
+  pub least : PAYLOAD_PLACE ≤ length octets
+  pub most : length octets ≤ MOST_OCTETS
+  pub fits : has_length octets ≡ true → PAYLOAD_PLACE + type_or_length octets ≤ length octets
 
 abbrev pub refusal_number : FrameRefusal → ℕ
-refusal_number Short = 1
-refusal_number Long = 2
-refusal_number BadLength = 3
+refusal_number Short = TOO_SHORT
+refusal_number Long = TOO_LONG
+refusal_number BadLength = LENGTH_BEYOND

@@ -45,7 +45,8 @@ impl<R: Read> In for Reader<R> {
     fn read(&mut self, buffer: &mut [u8]) -> Result<usize, Device>
         requires { Allows 1 (reader_end self.old) }
         ensures gets { Gets (reader_end self.old) (reader_end self.new) buffer.new result }
-        ensures consumes { ReadConsumes (R.remaining self.old.inner) (R.remaining self.new.inner) result buffer.new }
+        ensures consumes { ReadConsumes (R.remaining self.old.inner)
+            (R.remaining self.new.inner) result buffer.new }
     {
         self.reads += 1;
         match self.inner.read(buffer) {
@@ -91,7 +92,8 @@ impl<W: Write> Out for Writer<W> {
     fn put(&mut self, octets: &[u8]) -> Result<(), Device>
         requires { IsOpen (writer_end self.old) }
         ensures puts { Puts (writer_end self.old) (writer_end self.new) octets.now result }
-        ensures passes { OnOk result (Appends (W.contents self.old.inner) (W.contents self.new.inner) octets.now) }
+        ensures passes { OnOk result
+            (Appends (W.contents self.old.inner) (W.contents self.new.inner) octets.now) }
     {
         match self.inner.write_all(octets) {
             Ok(()) => Ok(()),

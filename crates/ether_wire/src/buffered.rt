@@ -54,7 +54,8 @@ impl<W: Out> Buffered<W> {
     /// Passes on what it holds. It holds nothing afterwards, whether that failed or not.
     fn pass_on(&mut self) -> Result<(), Device>
         requires { IsOpen (W.end self.old.inner) }
-        ensures passes { Puts (W.end self.old.inner) (W.end self.new.inner) self.old.held.items result }
+        ensures passes { Puts (W.end self.old.inner)
+            (W.end self.new.inner) self.old.held.items result }
         ensures empty { self.new.held.items ≡ [] }
     {
         if self.held.is_empty() {

@@ -13,6 +13,24 @@ use crate::names::Mac;
 use byteorder::{BigEndian, ByteOrder};
 use std::marker::Model;
 
+/// Where the source stands, behind the destination.
+pub(crate) const SOURCE_PLACE: usize = 6;
+/// Where type or length stands.
+pub(crate) const TYPE_PLACE: usize = 12;
+/// Where the payload begins; a frame has as many octets at least.
+pub(crate) const PAYLOAD_PLACE: usize = 14;
+/// How many octets a frame has at most.
+pub(crate) const MOST_OCTETS: usize = 9018;
+/// The greatest value that is a length; any above it is a type.
+pub(crate) const MOST_LENGTH: u16 = 1500;
+
+/// There are fewer octets than stand in front of a payload: asked first.
+pub const TOO_SHORT: u8 = 1;
+/// Then: there are more than a frame has at most.
+pub const TOO_LONG: u8 = 2;
+/// Last: the length field says more than the octets after it.
+pub const LENGTH_BEYOND: u8 = 3;
+
 /// Why octets are no frame.
 #[derive(Clone, Copy, Debug, PartialEq, Eq)]
 pub enum FrameRefusal {
@@ -25,14 +43,14 @@ pub enum FrameRefusal {
 }
 
 impl FrameRefusal {
-    /// The number by which it is told: 1 to 3.
+    /// The number by which it is told.
     pub fn number(self) -> u8
         ensures { result ≡ refusal_number self }
     {
         match self {
-            FrameRefusal::Short => 1,
-            FrameRefusal::Long => 2,
-            FrameRefusal::BadLength => 3,
+            FrameRefusal::Short => TOO_SHORT,
+            FrameRefusal::Long => TOO_LONG,
+            FrameRefusal::BadLength => LENGTH_BEYOND,
         }
     }
 }
@@ -69,7 +87,7 @@ fn type_or_length(octets: &[u8]) -> u16
     requires { 14 ≤ length octets.now }
     ensures { result ≡ type_or_length octets.now }
 {
-    let (_, rest) = octets.split_at(12);
+    let (_, rest) = octets.split_at(TYPE_PLACE);
     BigEndian::read_u16(rest)
 }
 
@@ -79,14 +97,14 @@ impl<'a> Frame<'a> {
     pub fn read(octets: &'a [u8]) -> Result<Frame<'a>, FrameRefusal>
         ensures { result ≡ frame_of octets.now }
     {
-        if octets.len() < 14 {
+        if octets.len() < PAYLOAD_PLACE {
             return Err(FrameRefusal::Short);
         }
-        if octets.len() > 9018 {
+        if octets.len() > MOST_OCTETS {
             return Err(FrameRefusal::Long);
         }
         let number = type_or_length(octets);
-        if number <= 1500 && usize::from(number) > octets.len() - 14 {
+        if number <= MOST_LENGTH && usize::from(number) > octets.len() - PAYLOAD_PLACE {
             return Err(FrameRefusal::BadLength);
         }
         Ok(Frame { octets })
@@ -111,7 +129,7 @@ impl<'a> Frame<'a> {
     pub fn source(&self) -> Mac
         ensures { result ≡ source_of self.now }
     {
-        let (_, rest) = self.octets.split_at(6);
+        let (_, rest) = self.octets.split_at(SOURCE_PLACE);
         Mac::from_octets(rest)
     }
 
@@ -120,7 +138,7 @@ impl<'a> Frame<'a> {
         ensures { result ≡ kind_of self.now }
     {
         let number = type_or_length(self.octets);
-        if number <= 1500 {
+        if number <= MOST_LENGTH {
             Kind::Length(number)
         } else {
             Kind::EtherType(number)
@@ -132,8 +150,8 @@ impl<'a> Frame<'a> {
         ensures { result.now ≡ payload_of self.now }
     {
         let number = type_or_length(self.octets);
-        let (_, rest) = self.octets.split_at(14);
-        if number <= 1500 {
+        let (_, rest) = self.octets.split_at(PAYLOAD_PLACE);
+        if number <= MOST_LENGTH {
             let (payload, _) = rest.split_at(usize::from(number));
             payload
         } else {

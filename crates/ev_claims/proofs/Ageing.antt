@@ -9,7 +9,8 @@ use Rattle.mac_arena.specs.Learning.{Learning, entry_at, left, after_removal as 
 use Rattle.mac_arena.specs.ListsName.{ListsName, stands, AreOnce}
 use Rattle.mac_arena.proofs.Entries.{same_self}
 use Rattle.ev_claims.specs.Claims.{Claims, after_removal, after_removals}
-use Rattle.ev_claims.specs.Leaving.{is_due, due_among, due_in, after_ageing}
+use Rattle.mac_arena.specs.Laws.{is_due, due_among}
+use Rattle.ev_claims.specs.Leaving.{due_in, after_ageing}
 use Rattle.ev_claims.proofs.Learnt.{removal_there}
 
 -- the front of what is due is the front of the list, and learnt

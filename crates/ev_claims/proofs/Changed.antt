@@ -21,12 +21,13 @@ use Rattle.mac_arena.specs.ListsName.{ListsName, stands, is_on, AreOnce}
 use Rattle.mac_arena.proofs.Entries.{same_self, same_true}
 use Rattle.ev_claims.specs.Voice.{Voice, own_register, next_value, after_saying}
 use Rattle.ev_claims.specs.Claims.{Claims, AreGood, key_of, vni_at, after_removal, after_removals}
-use Rattle.ev_claims.specs.Leaving.{is_due, due_among, due_in, unpinned_among, unpinned_on, flushed_at, flushed_in, goes_by_flush}
+use Rattle.mac_arena.specs.Laws.{is_due, due_among, unpinned_among, unpinned_on}
+use Rattle.ev_claims.specs.Leaving.{due_in, flushed_at, flushed_in, goes_by_flush}
 use Rattle.ev_claims.specs.Changes.{OwnChanges, IsNumbered, registers_of}
 use Rattle.ev_claims.specs.Laws.{AgesOut, FlushesOut}
 use Rattle.ev_claims.proofs.Learnt.{removal_here, removal_there}
 use Rattle.ev_claims.proofs.Flushing.{apart}
-use Rattle.ev_claims.proofs.Due.{due_exact}
+use Rattle.mac_arena.proofs.Going.{due_exact}
 
 -- ---- nothing, and one register
 pub nothing_changes : (e : Voice) → OwnChanges e e []

@@ -10,11 +10,12 @@ use Rattle.std.proofs.lemmas.List.FromFn.{length-range_with_len, get_or-range_wi
 use Rattle.mac_arena.specs.declared.station.Station.{Station}
 use Rattle.mac_arena.specs.declared.station.Entry.{Entry}
 use Rattle.mac_arena.specs.Station.{is_same}
-use Rattle.mac_arena.specs.Learning.{Learning, entry_at, is_pinned, stations_at, first_unpinned, left, after_removal as gone, after_removal_at}
+use Rattle.mac_arena.specs.Learning.{Learning, entry_at, is_pinned, stations_at, left, after_removal as gone, after_removal_at}
 use Rattle.mac_arena.specs.ListsName.{ListsName, stands, is_on, AreOnce}
 use Rattle.mac_arena.proofs.Entries.{same_self, same_true}
 use Rattle.ev_claims.specs.Claims.{Claims, after_removal, after_removals}
-use Rattle.ev_claims.specs.Leaving.{unpinned_among, unpinned_on, flushed_at, AreKept}
+use Rattle.mac_arena.specs.Laws.{unpinned_among, unpinned_on}
+use Rattle.ev_claims.specs.Leaving.{flushed_at, AreKept}
 use Rattle.ev_claims.proofs.Learnt.{removal_there}
 
 -- ---- lists without a station
@@ -119,14 +120,6 @@ module _ (t : Learning) (s : Station) (lists : ListsName t) where
             let at : x.port ≡ port - 1 + 1 = grind (arith, nat_tests) in
             omega (arith, at, same, some)));
       }
-
-pub first_unpinned_is : (t : Learning) (xs : List Station) → first_unpinned t xs ≡ slice_get (unpinned_among t xs) 0
-first_unpinned_is t [] = refl
-first_unpinned_is t (x ∷ xs) = go (is_pinned (entry_at t x)) (first_unpinned_is t xs)
-  where
-    go : (b : Bool) → first_unpinned t xs ≡ slice_get (unpinned_among t xs) 0 → cond b (first_unpinned t xs) (Some x) ≡ slice_get (cond b (unpinned_among t xs) (x ∷ unpinned_among t xs)) 0
-    go true rest = rest
-    go false rest = refl
 
 pub nobody_left : (xs : List Station) → slice_get xs 0 ≡ None → xs ≡ []
 nobody_left [] e = refl

@@ -10,7 +10,8 @@ use Rattle.mac_arena.specs.Learning.{Learning, entry_at, is_pinned, left, after_
 use Rattle.mac_arena.specs.ListsName.{stands, ages, AreOnce}
 use Rattle.mac_arena.proofs.Entries.{same_true}
 use Rattle.ev_claims.specs.Claims.{Claims, AreGood, entries, after_removal, after_removals}
-use Rattle.ev_claims.specs.Leaving.{is_due, due_among, due_in, flushed_in, after_flush, after_ageing}
+use Rattle.mac_arena.specs.Laws.{is_due, due_among}
+use Rattle.ev_claims.specs.Leaving.{due_in, flushed_in, after_flush, after_ageing}
 use Rattle.ev_claims.proofs.Learnt.{removal_there}
 use Rattle.ev_claims.proofs.Flushing.{removals_joined}
 use Rattle.ev_claims.proofs.Changed.{on_any, none_on, once_joined, due_once, flushed_stands, flushed_once, ports_climb, removals_entries}

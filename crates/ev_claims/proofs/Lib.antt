@@ -12,4 +12,3 @@ pub mod Members
 pub mod Keeping
 pub mod Queue
 pub mod Ageing
-pub mod Due

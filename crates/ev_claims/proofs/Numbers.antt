@@ -17,7 +17,7 @@ use Rattle.route_join.proofs.Joins.{update_other}
 use Rattle.route_join.proofs.Merging.{same_listeners}
 use Rattle.ev_claims.specs.Pending.{marked}
 use Rattle.ev_claims.specs.Voice.{Voice, own_register, own, KeepsNumbers, HasRooms, next_value, after_saying, after_hearing}
-use Rattle.ev_claims.proofs.Values.{next_newer}
+use Rattle.route_wire.proofs.Newer.{next_newer}
 
 pub key_or_other : (k j : Key) → (k ≡ j) ⊎ (k ≢ j)
 key_or_other k j = elim (same_or_other (register_of 0 k) (register_of 0 j)) as (λ _. (k ≡ j) ⊎ (k ≢ j)) [ inl e ↦ inl (ap (λ (r : Register). r.key) e) | inr ne ↦ inr (λ e. ne (ap (register_of 0) e)) ]

@@ -28,7 +28,7 @@ use Rattle.ev_claims.specs.Opening.{IsOpening, Opens, after_floods, floods_of}
 use Rattle.ev_claims.specs.Claims.{Claims, entries, key_of, after_removal, after_removals}
 use Rattle.ev_claims.specs.Changes.{OwnChanges, Says, registers_in, after_sayings, said_updates}
 use Rattle.ev_claims.proofs.Numbers.{key_or_other, own_same, own_other, own_stays}
-use Rattle.ev_claims.proofs.Values.{next_newer}
+use Rattle.route_wire.proofs.Newer.{next_newer}
 use Rattle.ev_claims.proofs.Learnt.{size_gone, removal_there}
 use Rattle.ev_claims.proofs.Keeping.{known_entry}
 use Rattle.ev_claims.proofs.Changed.{nothing_changes, more_changes}

@@ -1,39 +1,23 @@
 -- Which stations go by age (IEEE 802.1D-2004, 7.9.2), and which when ports are flushed (17.11), and in what order.
-use Rattle.std.specs.Prelude.{◌≡◌, ◌≢◌, ◌<◌, ◌-◌, ◌&&◌, ◌++◌, ℕ, Bool, false, Option, Some, None, List, [], ◌∷◌, nat_le, if◌then◌else◌}
+use Rattle.std.specs.Prelude.{◌≡◌, ◌≢◌, ◌<◌, ◌&&◌, ◌++◌, ℕ, Bool, false, Option, Some, None, List, [], ◌∷◌}
 use Rattle.mac_arena.specs.declared.station.Station.{Station}
 use Rattle.mac_arena.specs.declared.station.Entry.{Entry}
-use Rattle.mac_arena.specs.Learning.{Learning, entry_at, is_pinned, stations_at}
+use Rattle.mac_arena.specs.Learning.{Learning}
+use Rattle.mac_arena.specs.Laws.{is_due, due_in as taken_by_age, unpinned_on}
 use Rattle.mac_arena.specs.ListsName.{ages}
 use Rattle.ether_wire.specs.Ports.{has_port, ports_of}
 use Rattle.ev_claims.specs.Claims.{Claims, after_removals}
 
 -- ---- by age
 
-abbrev pub is_due : ℕ → Option Entry → Bool
-is_due limit None = false
-is_due limit (Some x) = nat_le x.last limit
-
--- the first ones of a list of stations, as long as they are due
-abbrev pub due_among : Learning → ℕ → List Station → List Station
-due_among t limit [] = []
-due_among t limit (s ∷ ss) = if is_due limit (entry_at t s) then s ∷ due_among t limit ss else []
-
 -- those of the ageing list that were last heard at this second or before, the one heard longest ago first
 abbrev pub due_in : Learning → ℕ → List Station
-due_in t limit = due_among t limit t.ageing
+due_in t limit = taken_by_age t limit
 
 abbrev pub after_ageing : Claims → ℕ → Claims
 after_ageing e limit = after_removals e (due_in e.learned limit)
 
 -- ---- by port
-
-abbrev pub unpinned_among : Learning → List Station → List Station
-unpinned_among t [] = []
-unpinned_among t (s ∷ ss) = if is_pinned (entry_at t s) then unpinned_among t ss else s ∷ unpinned_among t ss
-
--- the unpinned stations behind a port, in the order in which they came to it
-abbrev pub unpinned_on : Learning → ℕ → List Station
-unpinned_on t port = unpinned_among t (stations_at t.ports (port - 1))
 
 -- all unpinned stations behind other ports are behind these still, in their order
 abbrev pub AreKept : Learning → Learning → ℕ → Type 0

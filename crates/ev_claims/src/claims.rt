@@ -9,7 +9,8 @@ ghost use Rattle.mac_arena.specs.ListsName.{ListsName};
 ghost use Rattle.ether_wire.specs.Ports.{has_port};
 ghost use Rattle.ev_claims.specs.Voice.{announced, is_ahead, is_spent, is_returning, IsOwnAt, IsNoOwnAt};
 ghost use Rattle.ev_claims.specs.Claims.{AreGood, entries, vni_at, is_member, key_of, station_of, after_advert, after_refresh, after_pin, after_shift, after_update, after_removal, after_removals, after_take, after_losing_at, after_own, after_announcement, lost_at, loses_pinned};
-ghost use Rattle.ev_claims.specs.Leaving.{after_ageing, after_flush, due_in, unpinned_on, AreKept};
+ghost use Rattle.mac_arena.specs.Laws.{unpinned_on};
+ghost use Rattle.ev_claims.specs.Leaving.{after_ageing, after_flush, due_in, AreKept};
 ghost use Rattle.ev_claims.specs.Opening.{IsOpening};
 
 use crate::opening::Start;

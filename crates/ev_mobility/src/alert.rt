@@ -1,3 +1,4 @@
+//! What an edge tells its operator of an address that it doesn't learn, or loses.
 ghost use Rattle.std.specs.Prelude.{◌≡◌};
 ghost use Rattle.ev_mobility.specs.Alert.{number_of};
 

@@ -1,3 +1,4 @@
+//! The moves of addresses from edge to edge, and who is frozen for moving too often.
 ghost use Rattle.std.specs.Prelude.{◌≡◌, [], true, OnOk, OnErr};
 ghost use Rattle.std.specs.FinMap.{empty};
 ghost use Rattle.mac_arena.specs.declared.station.Station.{Station as Who};
@@ -61,7 +62,7 @@ impl Moves {
         Ok(())
     }
 
-    // The newest window of a station.
+    /// The newest window of a station.
     fn window(&self, key: &Station) -> Option<Window>
         ensures { result ≡ window_at self.now key.now }
     {

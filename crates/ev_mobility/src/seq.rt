@@ -1,3 +1,4 @@
+//! Sequence numbers of own adverts (RFC 7432, section 15).
 ghost use Rattle.std.specs.Prelude.{◌≡◌};
 ghost use Rattle.ev_mobility.specs.Seq.{IsSeqFor, foreign_in, greater_of, heard, heard_all, nothing_heard, seq_of, seq_for};
 
@@ -25,7 +26,7 @@ pub(crate) struct Heard {
     pub(crate) greatest: Option<u32>,
 }
 
-// What another edge advertises, if the update is another's and no withdrawal.
+/// What another edge advertises, if the update is another's and no withdrawal.
 fn foreign_in(own: Addr, update: &Update) -> Option<Advert>
     ensures { result ≡ foreign_in own update.now }
 {
@@ -38,6 +39,7 @@ fn foreign_in(own: Addr, update: &Update) -> Option<Advert>
     }
 }
 
+/// The greatest sequence number, this one among them.
 fn greater_of(greatest: Option<u32>, sequence: u32) -> u32
     ensures { result ≡ greater_of greatest sequence }
 {
@@ -47,6 +49,7 @@ fn greater_of(greatest: Option<u32>, sequence: u32) -> u32
     }
 }
 
+/// What is heard with one advert more, if it is one.
 fn hear(so_far: Heard, advert: Option<Advert>) -> Heard
     ensures { result ≡ heard so_far advert }
 {
@@ -59,6 +62,7 @@ fn hear(so_far: Heard, advert: Option<Advert>) -> Heard
     }
 }
 
+/// What is heard of all updates of an address.
 fn hear_all(own: Addr, updates: UpdatesOf<'_>) -> Heard
     ensures { result ≡ heard_all own updates.entry nothing_heard }
 {
@@ -72,6 +76,7 @@ fn hear_all(own: Addr, updates: UpdatesOf<'_>) -> Heard
     so_far
 }
 
+/// The number of the next own advert, from all that is heard of others.
 fn seq_of(all: Heard) -> Seq
     ensures { result ≡ seq_of all }
 {

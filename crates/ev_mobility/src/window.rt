@@ -17,21 +17,21 @@ pub(crate) struct Window {
     pub(crate) frozen: bool,
 }
 
-// One more, counted up to 6: only the fifth of a window matters.
+/// One more, counted up to 6: only the fifth of a window matters.
 fn one_more(count: u8) -> u8
     ensures { result ≡ one_more count }
 {
     if count < 6 { count + 1 } else { 6 }
 }
 
-// Whether a move at the second belongs to the window.
+/// Whether a move at the second belongs to the window.
 fn runs(window: &Window, second: u64) -> bool
     ensures { result ≡ runs window.now second }
 {
     second < window.start || second - window.start < LENGTH
 }
 
-// How many moves the newest window has with one at this second.
+/// How many moves the newest window has with one at this second.
 fn count_with(window: &Option<Window>, second: u64) -> u8
     ensures { result ≡ count_with window.now second }
 {

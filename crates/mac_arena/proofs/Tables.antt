@@ -640,11 +640,6 @@ has_place (x ∷ xs) n on = elim (cases_eq x n) [
   | inr e ↦ (let r = has_place xs n (ap (λ b. b || has xs n) (sym (ne_eqb x n e)) ∙ on) in (suc r.0, (let b = r.1 in omega (arith, b)), r.2))
 ]
 
-pub none_past : (xs : List ℕ) (i : ℕ) → slice_get xs i ≡ None → i < length xs → ⊥
-none_past [] i e h = omega arith
-none_past (x ∷ xs) zero e h = (let bad : Some x ≡ None = e in cc)
-none_past (x ∷ xs) (suc i) e h = none_past xs i e (omega arith)
-
 -- the nodes of a chain before place i don't hold the station
 abbrev pub IsPassed : Slots → List ℕ → Station → ℕ → Type 0
 IsPassed slots xs s i = (k n : ℕ) → k < i → slice_get xs k ≡ Some n → IsOff (slot_at slots n) s
@@ -668,9 +663,6 @@ not_there {o} {slots} {count} {buckets} {salt} {v} found s i passed past = ap (�
         let place = has_place (list_at o.chains (bucket_of buckets salt s)) at.0 (in_use found.table at.0 x at.1).0 in
         let low = place.1 in
         passed place.0 at.0 (omega (arith, low, past)) place.2 x at.1 refl)
-
-pub list_used : (slots : Slots) (xs : List ℕ) (i n : ℕ) → ((m : ℕ) → has xs m ≡ true → (y : Learned) × (slot_at slots m ≡ Some y)) → slice_get xs i ≡ Some n → (y : Learned) × (slot_at slots n ≡ Some y)
-list_used slots xs i n used at = used n (has-at xs i n at)
 
 -- the first unpinned station of a list is that of the rest, where those before are pinned
 pub unpinned_step : {o : Orders} {slots : Slots} {count buckets salt : ℕ} {v : Learning} (found : Found o slots count buckets salt v) (xs : List ℕ) (i n : ℕ) (x : Learned) → slice_get xs i ≡ Some n → slot_at slots n ≡ Some x

@@ -10,20 +10,27 @@ use crate::table::MacTable;
 
 /// What learning a station does to the entries: they are looked up as before, but for the station's.
 pub fn entries_after_learning(table: &MacTable, key: &Station, port: u8, second: u64)
-    ensures entry { let answer = learnt_of table.now key.now port in ChangesEntry table.now (after_learn table.now key.now port second answer) key.now (entry_learnt (entry_at table.now key.now) port second answer) }
-    ensures size { let answer = learnt_of table.now key.now port in known (after_learn table.now key.now port second answer) ≡ known table.now + more_learnt answer }
+    ensures entry { let answer = learnt_of table.now key.now port in
+        ChangesEntry table.now (after_learn table.now key.now port second answer) key.now
+        (entry_learnt (entry_at table.now key.now) port second answer) }
+    ensures size { let answer = learnt_of table.now key.now port in
+        known (after_learn table.now key.now port second answer)
+        ≡ known table.now + more_learnt answer }
 {}
 
 /// What pinning a station does to the entries.
 pub fn entries_after_pinning(table: &MacTable, key: &Station, port: u8)
-    ensures entry { ChangesEntry table.now (after_pin table.now key.now port) key.now (entry_pinned table.now key.now port) }
-    ensures size { known (after_pin table.now key.now port) ≡ known table.now + more_pinned table.now key.now }
+    ensures entry { ChangesEntry table.now (after_pin table.now key.now port) key.now
+        (entry_pinned table.now key.now port) }
+    ensures size { known (after_pin table.now key.now port)
+        ≡ known table.now + more_pinned table.now key.now }
 {}
 
 /// What removing a station does to the entries.
 pub fn entries_after_removal(table: &MacTable, key: &Station)
     ensures entry { ChangesEntry table.now (after_removal table.now key.now) key.now None }
-    ensures size { known (after_removal table.now key.now) + fewer table.now key.now ≡ known table.now }
+    ensures size { known (after_removal table.now key.now) + fewer table.now key.now
+        ≡ known table.now }
 {}
 
 /// No list of a table has more stations than are known.
@@ -35,7 +42,9 @@ pub fn lists_are_short(table: &MacTable)
 
 /// Those who go by age are exactly the unpinned ones that were last heard early enough.
 pub fn exactly_due(table: &MacTable, limit: u64)
-    ensures { (s : Named) → stands (due_in table.now limit) s ≡ (ages (entry_at table.now s) && is_due limit (entry_at table.now s)) }
+    ensures { (s : Named)
+        → stands (due_in table.now limit) s
+        ≡ (ages (entry_at table.now s) && is_due limit (entry_at table.now s)) }
 {
     let _count = table.len();
 }
@@ -43,7 +52,9 @@ pub fn exactly_due(table: &MacTable, limit: u64)
 /// Those whom the flush of a port takes are exactly the unpinned ones behind it.
 pub fn exactly_flushed(table: &MacTable, port: u8)
     requires { 1 ≤ port }
-    ensures { (s : Named) → stands (unpinned_on table.now port) s ≡ (ages (entry_at table.now s) && is_on (entry_at table.now s) port) }
+    ensures { (s : Named)
+        → stands (unpinned_on table.now port) s
+        ≡ (ages (entry_at table.now s) && is_on (entry_at table.now s) port) }
 {
     let _count = table.len();
 }

@@ -53,7 +53,14 @@ impl NodeOrders {
         requires buckets { buckets < 2 ^ 32 }
         requires ports { ports < 2 ^ 32 }
         requires nodes { nodes < 2 ^ 32 }
-        ensures { IfOk result (λ o. o ≡ record { nodes = nodes; chains = replicate buckets []; ports = replicate ports []; ageing = []; free = range_with_len 0 nodes }) }
+        ensures { IfOk result
+            (λ o. o ≡ record {
+              nodes = nodes;
+              chains = replicate buckets [];
+              ports = replicate ports [];
+              ageing = [];
+              free = range_with_len 0 nodes;
+            }) }
     {
         let mut links = Family::new(alloc, [buckets, ports, 2], nodes)?;
         for node in 0..nodes {
@@ -74,7 +81,8 @@ impl NodeOrders {
     pub(crate) fn next_in_chain(&self, node: usize) -> Option<usize>
         requires node { node < self.now.nodes }
         requires linked { IsLinked self.now.chains node }
-        ensures { (b i : ℕ) → slice_get (list_at self.now.chains b) i ≡ Some node → result ≡ slice_get (list_at self.now.chains b) (i + 1) }
+        ensures { (b i : ℕ) → slice_get (list_at self.now.chains b) i ≡ Some node
+            → result ≡ slice_get (list_at self.now.chains b) (i + 1) }
     {
         self.links.next(CHAINS, node)
     }
@@ -99,7 +107,8 @@ impl NodeOrders {
     pub(crate) fn next_at_port(&self, node: usize) -> Option<usize>
         requires node { node < self.now.nodes }
         requires linked { IsLinked self.now.ports node }
-        ensures { (p i : ℕ) → slice_get (list_at self.now.ports p) i ≡ Some node → result ≡ slice_get (list_at self.now.ports p) (i + 1) }
+        ensures { (p i : ℕ) → slice_get (list_at self.now.ports p) i ≡ Some node
+            → result ≡ slice_get (list_at self.now.ports p) (i + 1) }
     {
         self.links.next(PORTS, node)
     }
@@ -135,7 +144,11 @@ impl NodeOrders {
         requires ageless { has self.old.ageing node ≡ false }
         requires unchained { IsFree self.old.chains node }
         requires unported { IsFree self.old.ports node }
-        ensures { self.new ≡ record self.old { chains = joined bucket node self.old.chains; ports = joined port node self.old.ports; free = without node self.old.free } }
+        ensures { self.new ≡ record self.old {
+          chains = joined bucket node self.old.chains;
+          ports = joined port node self.old.ports;
+          free = without node self.old.free;
+        } }
     {
         self.links.unlink(AGES, node);
         self.links.push_back(CHAINS, bucket, node);
@@ -168,7 +181,10 @@ impl NodeOrders {
         requires node { node < self.old.nodes }
         requires linked { IsLinked self.old.ports node }
         requires once { (p : ℕ) → has (list_at (map (without node) self.old.ports) p) node ≡ false }
-        ensures { self.new ≡ record self.old { ports = joined port node (map (without node) self.old.ports) } }
+        ensures { self.new ≡ record self.old {
+          ports = joined port node
+              (map (without node) self.old.ports);
+        } }
     {
         self.links.unlink(PORTS, node);
         self.links.push_back(PORTS, port, node);
@@ -181,7 +197,11 @@ impl NodeOrders {
         requires ported { IsLinked self.old.ports node }
         requires ageless { has self.old.ageing node ≡ false }
         requires used { has self.old.free node ≡ false }
-        ensures { self.new ≡ record self.old { chains = map (without node) self.old.chains; ports = map (without node) self.old.ports; free = self.old.free ++ node ∷ [] } }
+        ensures { self.new ≡ record self.old {
+          chains = map (without node) self.old.chains;
+          ports = map (without node) self.old.ports;
+          free = self.old.free ++ node ∷ [];
+        } }
     {
         self.links.unlink(CHAINS, node);
         self.links.unlink(PORTS, node);

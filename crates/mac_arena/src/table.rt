@@ -157,7 +157,8 @@ impl MacTable {
         ensures found { IfSome result (λ f. learned_at self.now f.0 ≡ Some f.1) }
         ensures same { IfSome result (λ f. f.1.station ≡ key.now) }
         ensures timeless { IfSome result (λ f. f.1.entry.pinned ≡ true → f.1.entry.last ≡ 0) }
-        ensures still { IfSome result (λ f. f.1.entry.pinned ≡ true → left key.now self.now.ageing ≡ self.now.ageing) }
+        ensures still { IfSome result (λ f. f.1.entry.pinned ≡ true
+            → left key.now self.now.ageing ≡ self.now.ageing) }
         ensures missing { IfNone result (entry_at self.now key.now ≡ None) }
     {
         let mut at = self.orders.first_in_chain(bucket);
@@ -313,7 +314,8 @@ impl MacTable {
         requires port { port ≤ length self.old.ports }
         requires at { learned_at self.old node ≡ Some learned.now }
         requires timeless { learned.now.entry.pinned ≡ true → learned.now.entry.last ≡ 0 }
-        requires still { learned.now.entry.pinned ≡ true → left learned.now.station self.old.ageing ≡ self.old.ageing }
+        requires still { learned.now.entry.pinned ≡ true
+            → left learned.now.station self.old.ageing ≡ self.old.ageing }
         ensures { self.new ≡ after_pin self.old learned.now.station port }
     {
         if learned.entry.pinned {
@@ -337,7 +339,8 @@ impl MacTable {
         requires free { slice_get self.old.free 0 ≡ Some node }
         requires new { entry_at self.old key.now ≡ None }
         ensures after { self.new ≡ entered self.old key.now port }
-        ensures at { learned_at self.new node ≡ Some (record { station = key.now; entry = pinned_at port }) }
+        ensures at { learned_at self.new node
+            ≡ Some (record { station = key.now; entry = pinned_at port }) }
     {
         self.orders.enter(node, bucket, port as usize - 1);
         self.slots[node] = Slot::pinned(key, port);

@@ -3,13 +3,11 @@ use Rattle.std.proofs.Common.{◌≡◌, ℕ, ◌+◌, ◌<◌, ◌≤◌, Bool,
 use Rattle.std.proofs.Math.ListN.{get_or-append}
 use Rattle.std.proofs.lemmas.Bool.{lt-ltb}
 use Rattle.std.proofs.lemmas.Bool.Decides.{nat_tests}
-use Rattle.route_wire.specs.declared.stream.Whole.{Whole}
 use Rattle.route_wire.specs.declared.stream.Whole.TheVariants.{Rest, Fault, Length}
 use Rattle.route_wire.specs.Stream.{follow_of, least_of, fault_tests, fault_of, whole_or_rest, whole_up_to}
 use Rattle.route_wire.specs.Feed.{is_rest, is_fault, IsHeld}
 use Rattle.route_wire.proofs.Wholes.{unmet, ends_whole, found_long}
 use Rattle.route_wire.proofs.Prefixes.{same_fault, same_follow, is_whole, not_less, whole_front}
-use Rattle.route_wire.proofs.Streams.{whole_followed}
 use Rattle.route_wire.proofs.Spelt.{none_of}
 
 -- ---- faults
@@ -111,15 +109,6 @@ shows s None f h = let l = late (nat_lt (length s) 6) (nat_lt (length s) (6 + fo
 pub fault_followed : (newest : ℕ) (s more : List ℕ) (f : ℕ) → whole_up_to newest s ≡ Fault f → whole_up_to newest (s ++ more) ≡ Fault f
 fault_followed newest s more f h =
     ap (whole_or_rest (s ++ more)) (fault_stays newest s (s ++ more) (omega (arith, length-append {A = ℕ})) (λ i lt. get_or-append s more 0 i lt) f (shows s (fault_of newest s) f h))
-
--- the beginning of a proper beginning is one
-pub rest_before : (newest : ℕ) (s more : List ℕ) → is_rest (whole_up_to newest (s ++ more)) ≡ true → is_rest (whole_up_to newest s) ≡ true
-rest_before newest s more h = go (whole_up_to newest s) refl
-  where
-    go : (w : Whole) → whole_up_to newest s ≡ w → is_rest (whole_up_to newest s) ≡ true
-    go Rest e = ap is_rest e
-    go (Fault f) e = let k = ap is_rest (fault_followed newest s more f e) in cc
-    go (Length n) e = let k = ap is_rest (whole_followed newest s more n e) in cc
 
 unfaulty : (s : List ℕ) (o : Option ℕ) → is_rest (whole_or_rest s o) ≡ true → o ≡ None
 unfaulty s (Some f) h = cc

@@ -6,7 +6,9 @@ ghost use Rattle.route_wire.specs.Stream.{whole_up_to};
 ghost use Rattle.route_wire.specs.Feed.{is_rest, answer_of};
 
 use crate::record::read_one;
-use crate::stream::{LONGEST, NEWEST, Next, SECOND_VERSION, Truncated, Whole, whole_up_to};
+use crate::stream::{
+    HEAD, LENGTH_PLACE, LONGEST, NEWEST, Next, SECOND_VERSION, Truncated, Whole, whole_up_to,
+};
 use crate::update::Update;
 use arrayvec::ArrayVec;
 use byteorder::{BigEndian, ByteOrder};
@@ -43,11 +45,13 @@ fn take_head(newest: u8, held: &mut ArrayVec<u8, LONGEST>, piece: &[u8]) -> usiz
     requires { is_rest (whole_up_to newest held.old.items) ≡ true }
     ensures fits { result ≤ length piece.now }
     ensures taken { held.new.items ≡ held.old.items ++ take result piece.now }
-    ensures unfinished { (k : ℕ) → k < result → is_rest (whole_up_to newest (held.old.items ++ take k piece.now)) ≡ true }
-    ensures ended { length held.new.items < 6 → is_rest (whole_up_to newest held.new.items) ≡ true → result ≡ length piece.now }
+    ensures unfinished { (k : ℕ) → k < result
+        → is_rest (whole_up_to newest (held.old.items ++ take k piece.now)) ≡ true }
+    ensures ended { length held.new.items < 6 → is_rest (whole_up_to newest held.new.items) ≡ true
+        → result ≡ length piece.now }
 {
     for i in 0..piece.len() {
-        if 6 <= held.len() || !is_unfinished(newest, held.as_slice()) {
+        if HEAD <= held.len() || !is_unfinished(newest, held.as_slice()) {
             return i;
         }
         held.push(piece[i]);
@@ -61,11 +65,12 @@ fn take_body(newest: u8, held: &mut ArrayVec<u8, LONGEST>, piece: &[u8]) -> usiz
     requires rest { is_rest (whole_up_to newest held.old.items) ≡ true }
     ensures fits { result ≤ length piece.now }
     ensures taken { held.new.items ≡ held.old.items ++ take result piece.now }
-    ensures unfinished { (k : ℕ) → k < result → is_rest (whole_up_to newest (held.old.items ++ take k piece.now)) ≡ true }
+    ensures unfinished { (k : ℕ) → k < result
+        → is_rest (whole_up_to newest (held.old.items ++ take k piece.now)) ≡ true }
     ensures ended { is_rest (whole_up_to newest held.new.items) ≡ true → result ≡ length piece.now }
 {
-    let (_, length) = held.as_slice().split_at(4);
-    let len = 6 + BigEndian::read_u16(length) as usize;
+    let (_, length) = held.as_slice().split_at(LENGTH_PLACE);
+    let len = HEAD + BigEndian::read_u16(length) as usize;
     let count = piece.len().min(len - held.len());
     match held.try_extend_from_slice(&piece[..count]) {
         Ok(()) => count,
@@ -78,11 +83,12 @@ fn take_octets(newest: u8, held: &mut ArrayVec<u8, LONGEST>, piece: &[u8]) -> us
     requires { is_rest (whole_up_to newest held.old.items) ≡ true }
     ensures fits { result ≤ length piece.now }
     ensures taken { held.new.items ≡ held.old.items ++ take result piece.now }
-    ensures unfinished { (k : ℕ) → k < result → is_rest (whole_up_to newest (held.old.items ++ take k piece.now)) ≡ true }
+    ensures unfinished { (k : ℕ) → k < result
+        → is_rest (whole_up_to newest (held.old.items ++ take k piece.now)) ≡ true }
     ensures ended { is_rest (whole_up_to newest held.new.items) ≡ true → result ≡ length piece.now }
 {
     let head = take_head(newest, held, piece);
-    if held.len() < 6 || !is_unfinished(newest, held.as_slice()) {
+    if held.len() < HEAD || !is_unfinished(newest, held.as_slice()) {
         return head;
     }
     let (_, rest) = piece.split_at(head);
@@ -130,7 +136,8 @@ impl Feed {
     pub fn feed(&mut self, piece: &[u8]) -> usize
         ensures fits { result ≤ length piece.now }
         ensures feeds { Feeds self.old self.new piece.now result }
-        ensures read { (stream : List ℕ) (answers : List (Result Fields ℕ)) → HasRead self.old stream answers
+        ensures read { (stream : List ℕ) (answers : List (Result Fields ℕ))
+            → HasRead self.old stream answers
             → HasRead self.new (stream ++ take result piece.now) answers }
     {
         match whole_up_to(self.newest, self.held.as_slice()) {
@@ -146,7 +153,8 @@ impl Feed {
         ensures value { result ≡ next_of self.old }
         ensures after { self.new ≡ after_next self.old }
         ensures more { result ≡ More → is_rest (shown self.new) ≡ true }
-        ensures read { (stream : List ℕ) (answers : List (Result Fields ℕ)) → HasRead self.old stream answers
+        ensures read { (stream : List ℕ) (answers : List (Result Fields ℕ))
+            → HasRead self.old stream answers
             → HasRead self.new stream (answers ++ added result) }
     {
         match whole_up_to(self.newest, self.held.as_slice()) {
@@ -167,7 +175,8 @@ impl Feed {
         ensures fits { result.0 ≤ length piece.now }
         ensures takes { TakesNext self.old self.new piece.now result.0 result.1 }
         ensures more { result.1 ≡ More → is_rest (shown self.new) ≡ true }
-        ensures read { (stream : List ℕ) (answers : List (Result Fields ℕ)) → HasRead self.old stream answers
+        ensures read { (stream : List ℕ) (answers : List (Result Fields ℕ))
+            → HasRead self.old stream answers
             → HasRead self.new (stream ++ take result.0 piece.now) (answers ++ added result.1) }
     {
         if self.held.as_slice().is_empty() {

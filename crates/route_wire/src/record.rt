@@ -127,7 +127,8 @@ fn ip_in(route: &[u8]) -> Option<Ip>
 
 /// The second label of a MAC's route.
 fn label2_in(route: &[u8]) -> Option<Vni>
-    requires { LABEL2_PLACE + ip_len route.now + (if has_label2 route.now then 3 else 0) ≤ length route.now }
+    requires { LABEL2_PLACE + ip_len route.now
+        + (if has_label2 route.now then 3 else 0) ≤ length route.now }
     ensures { result ≡ label2_in route.now }
 {
     if has_label2(route) {

@@ -52,7 +52,8 @@ fn is_bad_route(header: &Header, route: &[u8]) -> bool
     requires { is_unknown_type route.now ≡ false }
     ensures value { result ≡ is_bad_route header.now route.now }
     ensures fits { OnFalse result (HasRoute route.now) }
-    ensures tail { OnFalse result (is_mac_advert header.now route.now ≡ true → (length (tail_of route.now) ≡ 0) ⊎ (length (tail_of route.now) ≡ 8)) }
+    ensures tail { OnFalse result (is_mac_advert header.now route.now ≡ true
+        → (length (tail_of route.now) ≡ 0) ⊎ (length (tail_of route.now) ≡ 8)) }
 {
     if route.len() < 2 || !is_listed_len(route) || route.len() < 2 + usize::from(route[1]) {
         return true;

@@ -136,7 +136,8 @@ fn put_mac_route(
     label2: &Option<Vni>,
 )
     requires { array_vec_len out.old + 54 ≤ LONGEST }
-    ensures items { out.new.items ≡ out.old.items ++ mac_route originator vni mac ip.now label2.now }
+    ensures items { out.new.items
+        ≡ out.old.items ++ mac_route originator vni mac ip.now label2.now }
     ensures len { array_vec_len out.new ≤ array_vec_len out.old + 54 }
     ensures fits { (mac < 2 ^ 48) × IpFits ip.now × Label2Fits label2.now }
 {
@@ -205,7 +206,8 @@ fn put_mobility(out: &mut Octets, content: &Content)
 
 /// The route of a register, and what stands after it.
 fn route(register: &Register, content: &Content) -> Octets
-    ensures items { result.items ≡ route_octets register.now.originator register.now.key content.now }
+    ensures items { result.items
+        ≡ route_octets register.now.originator register.now.key content.now }
     ensures len { array_vec_len result ≤ 62 }
     ensures fits { RouteFits register.now.key content.now }
 {
@@ -241,7 +243,9 @@ fn kind_of(content: &Content) -> u8
 fn record(register: &Register, value: &Value, route: &[u8]) -> Octets
     requires { length route.now ≤ 62 }
     ensures fits { vni_of register.now.key < 2 ^ 24 }
-    ensures items { result.items ≡ record_octets (kind_of value.now.content) register.now.originator value.now.incarnation value.now.counter (vni_of register.now.key) route.now }
+    ensures items { result.items
+        ≡ record_octets (kind_of value.now.content) register.now.originator value.now.incarnation
+        value.now.counter (vni_of register.now.key) route.now }
 {
     let mut out = ArrayVec::new();
     put(

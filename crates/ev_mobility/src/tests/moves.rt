@@ -14,7 +14,7 @@ fn host(mac: u64) -> Station {
     }
 }
 
-// The station 02:00:00:00:00:0a with a place.
+/// The station 02:00:00:00:00:0a with a place.
 fn placed(alloc: Global, key: &Station) -> Result<Moves, AllocError>
     ensures { IfOk result (λ moves. has_place moves key.now ≡ true) }
 {

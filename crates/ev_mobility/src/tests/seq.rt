@@ -8,7 +8,7 @@ use route_wire::{Advert, Content, Ip, Key, Register, Update, Value};
 use std::alloc::Global;
 use std::test::Fail;
 
-// The address 10.0.0.N.
+/// The address 10.0.0.N.
 fn addr(n: u8) -> Addr {
     Addr::new(0x0a00_0000 + u32::from(n))
 }
@@ -21,7 +21,7 @@ fn advert(is_static: bool, sequence: u32) -> Content {
     })
 }
 
-// 10.0.0.N says this of 02:00:00:00:00:0a in network 5001.
+/// 10.0.0.N says this of 02:00:00:00:00:0a in network 5001.
 fn said(n: u8, ip: Option<Ip>, counter: u64, content: Content) -> Update
     requires { 0 < counter }
 {
@@ -38,7 +38,7 @@ fn said(n: u8, ip: Option<Ip>, counter: u64, content: Content) -> Update
     )
 }
 
-// A table that listens to 10.0.0.1 to 10.0.0.4.
+/// A table that listens to 10.0.0.1 to 10.0.0.4.
 fn new_table(alloc: Global) -> Table {
     let mut originators = ArrayVec::new();
     originators.push(Addr::new(0x0a00_0001));
@@ -48,7 +48,7 @@ fn new_table(alloc: Global) -> Table {
     Table::new(alloc, originators)
 }
 
-// The number of the next advert at 10.0.0.2.
+/// The number of the next advert at 10.0.0.2.
 fn next(table: &Table) -> Seq {
     next_seq(table, addr(2), Vni::new(5001), Mac::new(0x0200_0000_000a))
 }

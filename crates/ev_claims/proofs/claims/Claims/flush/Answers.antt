@@ -1,7 +1,8 @@
 use Rattle.std.proofs.Common.{sym, ap, ◌∙◌, arith}
 use Rattle.ether_wire.specs.Ports.{ports_after}
 use Rattle.ev_claims.specs.Claims.{Claims, after_removals}
-use Rattle.ev_claims.specs.Leaving.{unpinned_on, flushed_at}
+use Rattle.mac_arena.specs.Laws.{unpinned_on}
+use Rattle.ev_claims.specs.Leaving.{flushed_at}
 use Rattle.ev_claims.proofs.Flushing.{removals_joined, flushed_same, later_ports}
 use Rattle.ev_claims.proofs.claims.Claims.flush.Goals as goal
 

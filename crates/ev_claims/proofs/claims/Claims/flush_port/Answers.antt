@@ -1,7 +1,7 @@
 use Rattle.std.proofs.Common.{◌≡◌, ◌∷◌, length, sym, ap, ◌∙◌, arith}
 use Rattle.mac_arena.specs.Learning.{after_removal as gone}
 use Rattle.ev_claims.specs.Claims.{Claims, after_removals}
-use Rattle.ev_claims.specs.Leaving.{unpinned_on}
+use Rattle.mac_arena.specs.Laws.{unpinned_on}
 use Rattle.ev_claims.proofs.Flushing.{first_is, nobody_left}
 use Rattle.ev_claims.proofs.claims.Claims.flush_port.Goals as goal
 

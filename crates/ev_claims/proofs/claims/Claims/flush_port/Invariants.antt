@@ -1,6 +1,7 @@
 use Rattle.std.proofs.Common.{◌≡◌, length}
 use Rattle.ev_claims.specs.Claims.{after_removals}
-use Rattle.ev_claims.specs.Leaving.{unpinned_on, AreKept}
+use Rattle.mac_arena.specs.Laws.{unpinned_on}
+use Rattle.ev_claims.specs.Leaving.{AreKept}
 use Rattle.ev_claims.proofs.claims.Claims.flush_port.Given as goal
 
 abbrev pub invariant-loop-station : goal.invariant-loop-station

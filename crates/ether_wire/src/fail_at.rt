@@ -1,0 +1,152 @@
+//! An end of which one call fails, so that it can be seen what becomes of a device's failure.
+ghost use Rattle.std.specs.Prelude.{◌≡◌, ◌≢◌, ℕ, ◌+◌, true, false, is_err, []};
+ghost use Rattle.ether_wire.specs.Ends.{IsOpen, Allows, Puts, Gets};
+
+use crate::ends::{Device, In, Out};
+
+/// An end over another one. Its call of one number, counted from 1 on, fails and goes no further; all
+/// other calls are the other end's. With the number 0 none fails so.
+#[derive(Drop)]
+pub struct FailAt<E> {
+    inner: E,
+    at: u64,
+    calls: u64,
+    failures: u64,
+}
+
+impl<R: In> FailAt<R> {
+    ghost use Rattle.ether_wire.specs.FailAt.{inner_end, calls_of, fails_at, failing_reader};
+
+    #[tactic(auto, using(crate::proofs::Failing::allows_new))]
+    /// A reader that wasn't called yet, and whose read of this number will fail.
+    pub fn reader(inner: R, at: u64) -> Self
+        ensures inner { inner_end result ≡ inner }
+        ensures calls { calls_of result ≡ 0 }
+        ensures at { fails_at result ≡ at }
+        ensures allows { (more : ℕ) → Allows more (R.end inner)
+            → Allows more (failing_reader R.end result) }
+    {
+        FailAt {
+            inner,
+            at,
+            calls: 0,
+            failures: 0,
+        }
+    }
+}
+
+impl<W: Out> FailAt<W> {
+    ghost use Rattle.ether_wire.specs.FailAt.{inner_end, calls_of, fails_at, failing_writer};
+
+    #[tactic(auto, using(crate::proofs::Failing::open_new))]
+    /// A writer that wasn't called yet, and whose call of this number will fail.
+    pub fn writer(inner: W, at: u64) -> Self
+        ensures inner { inner_end result ≡ inner }
+        ensures calls { calls_of result ≡ 0 }
+        ensures at { fails_at result ≡ at }
+        ensures open { IsOpen (W.end inner) → IsOpen (failing_writer W.end result) }
+    {
+        FailAt {
+            inner,
+            at,
+            calls: 0,
+            failures: 0,
+        }
+    }
+}
+
+impl<E> FailAt<E> {
+    ghost use Rattle.ether_wire.specs.FailAt.{inner_end, calls_of};
+
+    /// The other end.
+    pub fn inner(&self) -> &E
+        ensures { result.now ≡ inner_end self.now }
+    {
+        &self.inner
+    }
+
+    /// How many calls there were; those of `failures` don't count.
+    pub fn calls(&self) -> u64
+        ensures { result ≡ calls_of self.now }
+    {
+        self.calls
+    }
+}
+
+/// Counts a call: whether it is the one with this number.
+fn is_due(calls: &mut u64, at: u64) -> bool
+    ensures yes { calls.old + 1 ≡ at → result ≡ true }
+    ensures no { calls.old + 1 ≢ at → result ≡ false }
+{
+    let is_due = at != 0 && *calls == at - 1;
+    *calls = calls.saturating_add(1);
+    is_due
+}
+
+impl<R: In> In for FailAt<R> {
+    ghost use Rattle.ether_wire.specs.FailAt.{failing_reader, inner_end, calls_of, fails_at};
+
+    ghost end = { failing_reader R.end };
+
+    fn failures(&self) -> u64 {
+        self.inner.failures().saturating_add(self.failures)
+    }
+
+    #[tactic(auto, using(crate::proofs::Failing::allows_inner, crate::proofs::Failing::gets_beside, crate::proofs::Failing::gets_own))]
+    fn read(&mut self, buffer: &mut [u8]) -> Result<usize, Device>
+        requires { Allows 1 (failing_reader R.end self.old) }
+        ensures gets { Gets (failing_reader R.end self.old)
+            (failing_reader R.end self.new) buffer.new result }
+        ensures due { calls_of self.old + 1 ≡ fails_at self.old → is_err result ≡ true }
+        ensures other { calls_of self.old + 1 ≢ fails_at self.old
+            → Gets (R.end (inner_end self.old)) (R.end (inner_end self.new)) buffer.new result }
+    {
+        if is_due(&mut self.calls, self.at) {
+            self.failures += 1;
+            return Err(Device);
+        }
+        self.inner.read(buffer)
+    }
+}
+
+impl<W: Out> Out for FailAt<W> {
+    ghost use Rattle.ether_wire.specs.FailAt.{failing_writer, inner_end, calls_of, fails_at};
+
+    ghost end = { failing_writer W.end };
+
+    fn failures(&self) -> u64 {
+        self.inner.failures().saturating_add(self.failures)
+    }
+
+    #[tactic(auto, using(crate::proofs::Failing::open_inner, crate::proofs::Failing::puts_beside, crate::proofs::Failing::one_more))]
+    fn put(&mut self, octets: &[u8]) -> Result<(), Device>
+        requires { IsOpen (failing_writer W.end self.old) }
+        ensures puts { Puts (failing_writer W.end self.old)
+            (failing_writer W.end self.new) octets.now result }
+        ensures due { calls_of self.old + 1 ≡ fails_at self.old → is_err result ≡ true }
+        ensures other { calls_of self.old + 1 ≢ fails_at self.old
+            → Puts (W.end (inner_end self.old)) (W.end (inner_end self.new)) octets.now result }
+    {
+        if is_due(&mut self.calls, self.at) {
+            self.failures += 1;
+            return Err(Device);
+        }
+        self.inner.put(octets)
+    }
+
+    #[tactic(auto, using(crate::proofs::Failing::open_inner, crate::proofs::Failing::puts_beside, crate::proofs::Failing::one_more))]
+    fn flush(&mut self) -> Result<(), Device>
+        requires { IsOpen (failing_writer W.end self.old) }
+        ensures puts { Puts (failing_writer W.end self.old)
+            (failing_writer W.end self.new) [] result }
+        ensures due { calls_of self.old + 1 ≡ fails_at self.old → is_err result ≡ true }
+        ensures other { calls_of self.old + 1 ≢ fails_at self.old
+            → Puts (W.end (inner_end self.old)) (W.end (inner_end self.new)) [] result }
+    {
+        if is_due(&mut self.calls, self.at) {
+            self.failures += 1;
+            return Err(Device);
+        }
+        self.inner.flush()
+    }
+}
