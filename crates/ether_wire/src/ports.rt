@@ -95,15 +95,10 @@ fn put_behind_comma<O: Out>(out: &mut O, port: u8) -> Result<(), Device>
     put_decimal(out, u64::from(port))
 }
 
-/// No port is in the set of none.
-pub fn nobody_is_in_no_ports(port: u8)
-    ensures { has_port no_ports port ≡ false }
-{}
-
-/// Two sets with the same ports are one.
+/// A set is told by its ports: two sets with the same ports are one, and no port is in `NO_PORTS`.
 pub fn same_ports(set: u64, other: u64)
-    requires { (p : ℕ) → IsPort p → has_port set p ≡ has_port other p }
-    ensures { set ≡ other }
+    ensures same { ((p : ℕ) → IsPort p → has_port set p ≡ has_port other p) → set ≡ other }
+    ensures none { (p : ℕ) → has_port no_ports p ≡ false }
 {}
 
 /// A walk from 0 meets each port of the set once, in ascending order.

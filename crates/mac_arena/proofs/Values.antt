@@ -12,7 +12,7 @@ use Rattle.mac_arena.specs.declared.table.Learnt.{Learnt}
 use Rattle.mac_arena.specs.declared.table.Learnt.TheVariants.{New, Moved, Refreshed, Pinned, Full}
 use Rattle.mac_arena.specs.Station.{station_cmp}
 use Rattle.mac_arena.specs.Entry.{pinned_at, heard_at}
-use Rattle.mac_arena.specs.Learning.{Learning, nothing_learnt, left, joined_by, place_of, entry_at, learned_of, learned_at, bucket_in, is_full, IsLatest, entered, heard, held, shifted, dropped, after_learn, after_pin, after_pin_at, after_removal, after_removal_at}
+use Rattle.mac_arena.specs.Learning.{Learning, nothing_learnt, left, joined_by, place_of, entry_at, learned_of, learned_at, someone, standing, bucket_in, is_full, IsLatest, entered, heard, held, shifted, dropped, after_learn, after_pin, after_pin_at, after_removal, after_removal_at}
 use Rattle.mac_arena.proofs.Entries.{same_or_other, get_here, get_there, gone_here, gone_there, insert_twice, insert_same, remove_inserted}
 
 -- who stands at a place is in the table
@@ -30,6 +30,12 @@ learned_known t (Some s) x e = go (entry_at t s) refl e
 
 pub known_at : (t : Learning) (n : ℕ) (x : Learned) → learned_at t n ≡ Some x → entry_at t x.station ≡ Some x.entry
 known_at t n x at = learned_known t _ x at
+
+pub standing_is : (t : Learning) (n : ℕ) (x : Learned) → learned_at t n ≡ Some x → standing t n ≡ x
+standing_is t n x at = ap someone at
+
+pub stands : (t : Learning) (n : ℕ) (x : Learned) → learned_at t n ≡ Some x → learned_at t n ≡ Some (standing t n)
+stands t n x at = at ∙ ap Some (sym (standing_is t n x at))
 
 pub latest_with : (t t' : Learning) (s : Station) (e : Entry) (second : ℕ) → IsLatest t second → e.last ≤ second → t'.entries ≡ insert t.entries s e → IsLatest t' second
 latest_with t t' s e second latest low is q a at =

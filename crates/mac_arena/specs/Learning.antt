@@ -44,6 +44,14 @@ learned_of t (Some s) = option_map (λ e. record { station = s; entry = e }) (en
 abbrev pub learned_at : Learning → ℕ → Option Learned
 learned_at t n = learned_of t (slice_index_or t.places n None)
 
+abbrev pub someone : Option Learned → Learned
+someone None = record { station = record { vni = 0; mac = 0 }; entry = pinned_at 0 }
+someone (Some x) = x
+
+-- the same at a place where somebody stands
+abbrev pub standing : Learning → ℕ → Learned
+standing t n = someone (learned_at t n)
+
 abbrev pub is_pinned : Option Entry → Bool
 is_pinned None = false
 is_pinned (Some e) = e.pinned

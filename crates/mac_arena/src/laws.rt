@@ -8,28 +8,21 @@ ghost use Rattle.mac_arena.specs.Laws.{ChangesEntry, entry_learnt, entry_pinned,
 use crate::station::Station;
 use crate::table::MacTable;
 
-/// What learning a station does to the entries: they are looked up as before, but for the station's.
-pub fn entries_after_learning(table: &MacTable, key: &Station, port: u8, second: u64)
-    ensures entry { let answer = learnt_of table.now key.now port in
+/// What learning, pinning and removing a station do to the entries: they are looked up as before, but
+/// for the station's. And how many stations are known afterwards.
+pub fn entries_after(table: &MacTable, key: &Station, port: u8, second: u64)
+    ensures learnt { let answer = learnt_of table.now key.now port in
         ChangesEntry table.now (after_learn table.now key.now port second answer) key.now
         (entry_learnt (entry_at table.now key.now) port second answer) }
-    ensures size { let answer = learnt_of table.now key.now port in
+    ensures size_learnt { let answer = learnt_of table.now key.now port in
         known (after_learn table.now key.now port second answer)
         ≡ known table.now + more_learnt answer }
-{}
-
-/// What pinning a station does to the entries.
-pub fn entries_after_pinning(table: &MacTable, key: &Station, port: u8)
-    ensures entry { ChangesEntry table.now (after_pin table.now key.now port) key.now
+    ensures pinned { ChangesEntry table.now (after_pin table.now key.now port) key.now
         (entry_pinned table.now key.now port) }
-    ensures size { known (after_pin table.now key.now port)
+    ensures size_pinned { known (after_pin table.now key.now port)
         ≡ known table.now + more_pinned table.now key.now }
-{}
-
-/// What removing a station does to the entries.
-pub fn entries_after_removal(table: &MacTable, key: &Station)
-    ensures entry { ChangesEntry table.now (after_removal table.now key.now) key.now None }
-    ensures size { known (after_removal table.now key.now) + fewer table.now key.now
+    ensures removed { ChangesEntry table.now (after_removal table.now key.now) key.now None }
+    ensures size_removed { known (after_removal table.now key.now) + fewer table.now key.now
         ≡ known table.now }
 {}
 
@@ -40,38 +33,27 @@ pub fn lists_are_short(table: &MacTable)
     let _count = table.len();
 }
 
-/// Those who go by age are exactly the unpinned ones that were last heard early enough.
-pub fn exactly_due(table: &MacTable, limit: u64)
-    ensures { (s : Named)
+/// Those who go by age are exactly the unpinned ones that were last heard early enough. Once the first
+/// of them is removed, the others go as they would have gone.
+pub fn going_by_age(table: &MacTable, limit: u64)
+    ensures exactly { (s : Named)
         → stands (due_in table.now limit) s
         ≡ (ages (entry_at table.now s) && is_due limit (entry_at table.now s)) }
+    ensures in_turn { (s : Named) → slice_get (due_in table.now limit) 0 ≡ Some s
+        → GoesFirst (λ t. due_in t limit) table.now s }
 {
     let _count = table.len();
 }
 
-/// Those whom the flush of a port takes are exactly the unpinned ones behind it.
-pub fn exactly_flushed(table: &MacTable, port: u8)
+/// Those whom the flush of a port takes are exactly the unpinned ones behind it. Once the first of them
+/// is removed, the others go as they would have gone.
+pub fn going_by_flush(table: &MacTable, port: u8)
     requires { 1 ≤ port }
-    ensures { (s : Named)
+    ensures exactly { (s : Named)
         → stands (unpinned_on table.now port) s
         ≡ (ages (entry_at table.now s) && is_on (entry_at table.now s) port) }
-{
-    let _count = table.len();
-}
-
-/// Who is the first to go by age is removed, and then the others go as they would have gone.
-pub fn due_one_by_one(table: &MacTable, limit: u64, key: &Station)
-    requires { slice_get (due_in table.now limit) 0 ≡ Some key.now }
-    ensures { GoesFirst (λ t. due_in t limit) table.now key.now }
-{
-    let _count = table.len();
-}
-
-/// Who is the first to go when a port is flushed is removed, and then the others go as they would
-/// have gone.
-pub fn flushed_one_by_one(table: &MacTable, port: u8, key: &Station)
-    requires { slice_get (unpinned_on table.now port) 0 ≡ Some key.now }
-    ensures { GoesFirst (λ t. unpinned_on t port) table.now key.now }
+    ensures in_turn { (s : Named) → slice_get (unpinned_on table.now port) 0 ≡ Some s
+        → GoesFirst (λ t. unpinned_on t port) table.now s }
 {
     let _count = table.len();
 }

@@ -11,10 +11,7 @@ mod slot;
 mod station;
 mod table;
 
-pub use laws::{
-    due_one_by_one, entries_after_learning, entries_after_pinning, entries_after_removal,
-    exactly_due, exactly_flushed, flushed_one_by_one, lists_are_short,
-};
+pub use laws::{entries_after, going_by_age, going_by_flush, lists_are_short};
 pub use station::{Entry, Learned, Station};
 pub use table::{Learnt, MacTable};
 

@@ -1,7 +1,4 @@
 //! Stations, and what is known of them.
-ghost use Rattle.std.specs.Prelude.{◌≡◌};
-ghost use Rattle.mac_arena.specs.Slot.{held_on, shifted_to};
-
 use ether_wire::{Mac, Vni};
 
 /// Who is learnt: a MAC address within a VXLAN network.
@@ -27,36 +24,4 @@ pub struct Entry {
 pub struct Learned {
     pub station: Station,
     pub entry: Entry,
-}
-
-impl Learned {
-    /// Pinned on the port where it is.
-    pub(crate) fn held(&self) -> Learned
-        ensures { result ≡ held_on self.now }
-    {
-        let entry = Entry {
-            port: self.entry.port,
-            last: 0,
-            pinned: true,
-        };
-        Learned {
-            station: self.station,
-            entry,
-        }
-    }
-
-    /// On another port.
-    pub(crate) fn shifted(&self, port: u8) -> Learned
-        ensures { result ≡ shifted_to port self.now }
-    {
-        let entry = Entry {
-            port,
-            last: self.entry.last,
-            pinned: self.entry.pinned,
-        };
-        Learned {
-            station: self.station,
-            entry,
-        }
-    }
 }

@@ -1,7 +1,7 @@
 //! The learning table: a map from stations to their ports, over slots and the orders of their nodes.
 ghost use Rattle.std.specs.Prelude.{◌≡◌, ℕ, ◌+◌, ◌<◌, ◌≤◌, ◌^◌, true, false, Some, None, length, slice_get, IfOk, IfSome, IfNone, MatchOption};
 ghost use Rattle.std.specs.FinMap.{len};
-ghost use Rattle.mac_arena.specs.Learning.{Learning, nothing_learnt, entry_at, is_full, bucket_in, stations_at, learned_at, left, first_unpinned, IsLatest, entered, heard, held, shifted, dropped, learnt_of, after_learn, can_pin, after_pin, after_removal};
+ghost use Rattle.mac_arena.specs.Learning.{Learning, nothing_learnt, entry_at, is_full, bucket_in, stations_at, learned_at, left, first_unpinned, IsLatest, standing, entered, heard, held, shifted, dropped, learnt_of, after_learn, can_pin, after_pin, after_removal};
 ghost use Rattle.std.specs.Prelude.{◌-◌, is_some, replicate};
 ghost use Rattle.mac_arena.specs.Entry.{pinned_at};
 ghost use Rattle.mac_arena.specs.Slot.{held_on, shifted_to};
@@ -243,13 +243,12 @@ impl MacTable {
             return false
         };
         if learned.entry.pinned {
-            self.leave(node, &learned);
+            self.leave(node);
         } else {
             // `leave` frees nodes that don't age: so the node leaves the ageing list first, as if its
             // station were pinned.
-            let held = learned.held();
-            self.hold(node, &learned);
-            self.leave(node, &held);
+            self.hold(node);
+            self.leave(node);
         }
         true
     }
@@ -277,8 +276,7 @@ impl MacTable {
             return Learnt::Full
         };
         self.enter(node, key, bucket, port);
-        let entered = pinned_on(key, port);
-        self.hear(node, &entered, second);
+        self.hear(node, second);
         Learnt::New
     }
 
@@ -295,16 +293,13 @@ impl MacTable {
             return Learnt::Pinned;
         }
         if learned.entry.port == port {
-            let held = learned.held();
-            self.hold(node, learned);
-            self.hear(node, &held, second);
+            self.hold(node);
+            self.hear(node, second);
             return Learnt::Refreshed;
         }
-        let shifted = learned.shifted(port);
-        self.shift(node, learned, port);
-        let held = shifted.held();
-        self.hold(node, &shifted);
-        self.hear(node, &held, second);
+        self.shift(node, port);
+        self.hold(node);
+        self.hear(node, second);
         Learnt::Moved
     }
 
@@ -320,14 +315,13 @@ impl MacTable {
     {
         if learned.entry.pinned {
             if learned.entry.port != port {
-                self.shift(node, learned, port);
+                self.shift(node, port);
             }
             return;
         }
-        let held = learned.held();
-        self.hold(node, learned);
-        if held.entry.port != port {
-            self.shift(node, &held, port);
+        self.hold(node);
+        if learned.entry.port != port {
+            self.shift(node, port);
         }
     }
 
@@ -348,44 +342,44 @@ impl MacTable {
     }
 
     /// A pinned station is heard on its port, and ages from then on.
-    fn hear(&mut self, node: usize, learned: &Learned, second: u64)
-        requires at { learned_at self.old node ≡ Some learned.now }
-        requires pinned { learned.now.entry.pinned ≡ true }
+    fn hear(&mut self, node: usize, second: u64)
+        requires at { learned_at self.old node ≡ Some (standing self.old node) }
+        requires pinned { (standing self.old node).entry.pinned ≡ true }
         requires latest { IsLatest self.old second }
-        ensures { self.new ≡ heard self.old learned.now.station learned.now.entry.port second }
+        ensures { let x = standing self.old node in self.new ≡ heard self.old x.station x.entry.port second }
     {
         self.orders.age(node);
         self.slots[node].hear(second);
     }
 
     /// An ageing station is pinned on its port.
-    fn hold(&mut self, node: usize, learned: &Learned)
-        requires at { learned_at self.old node ≡ Some learned.now }
-        requires ageing { learned.now.entry.pinned ≡ false }
-        ensures after { self.new ≡ held self.old learned.now.station learned.now.entry.port }
-        ensures at { learned_at self.new node ≡ Some (held_on learned.now) }
+    fn hold(&mut self, node: usize)
+        requires at { learned_at self.old node ≡ Some (standing self.old node) }
+        requires ageing { (standing self.old node).entry.pinned ≡ false }
+        ensures after { let x = standing self.old node in self.new ≡ held self.old x.station x.entry.port }
+        ensures at { learned_at self.new node ≡ Some (held_on (standing self.old node)) }
     {
         self.orders.hold(node);
         self.slots[node].hold();
     }
 
     /// A station goes to another port.
-    fn shift(&mut self, node: usize, learned: &Learned, port: u8)
+    fn shift(&mut self, node: usize, port: u8)
         requires some { 0 < port }
         requires port { port ≤ length self.old.ports }
-        requires at { learned_at self.old node ≡ Some learned.now }
-        ensures after { self.new ≡ shifted self.old learned.now.station learned.now.entry port }
-        ensures at { learned_at self.new node ≡ Some (shifted_to port learned.now) }
+        requires at { learned_at self.old node ≡ Some (standing self.old node) }
+        ensures after { let x = standing self.old node in self.new ≡ shifted self.old x.station x.entry port }
+        ensures at { learned_at self.new node ≡ Some (shifted_to port (standing self.old node)) }
     {
         self.orders.shift(node, port as usize - 1);
         self.slots[node].shift(port);
     }
 
     /// A pinned station leaves the table.
-    fn leave(&mut self, node: usize, learned: &Learned)
-        requires at { learned_at self.old node ≡ Some learned.now }
-        requires pinned { learned.now.entry.pinned ≡ true }
-        ensures { self.new ≡ dropped self.old learned.now.station }
+    fn leave(&mut self, node: usize)
+        requires at { learned_at self.old node ≡ Some (standing self.old node) }
+        requires pinned { (standing self.old node).entry.pinned ≡ true }
+        ensures { self.new ≡ dropped self.old (standing self.old node).station }
     {
         self.orders.leave(node);
         self.slots[node].leave();
@@ -398,19 +392,4 @@ fn nobody(alloc: Global, places: usize) -> Result<Vec<Slot>, AllocError>
     ensures { IfOk result (λ v. v.items ≡ replicate places None) }
 {
     vec![in alloc; Slot::nobody(); places]
-}
-
-/// A station that is pinned on a port.
-fn pinned_on(station: &Station, port: u8) -> Learned
-    ensures { result ≡ record { station = station.now; entry = pinned_at port } }
-{
-    let entry = Entry {
-        port,
-        last: 0,
-        pinned: true,
-    };
-    Learned {
-        station: *station,
-        entry,
-    }
 }

@@ -5,9 +5,21 @@ ghost use Rattle.rstp_state.specs.Port.{test_at};
 ghost use Rattle.rstp_roles.specs.Rules.{role_asks, role_does, state_asks, state_does};
 
 use crate::all_ports::{all_synced, re_rooted};
-use crate::role_transitions::*;
+use crate::role_transitions::{
+    alternate, alternate_agreed, alternate_agreed_guard, alternate_guard, alternate_proposed,
+    alternate_proposed_guard, backup, backup_guard, block, block_guard, designated,
+    designated_discard, designated_discard_guard, designated_forward, designated_forward_guard,
+    designated_guard, designated_learn, designated_learn_guard, disable, disable_guard,
+    disabled_port, disabled_port_guard, propose, propose_guard, reroot, reroot_guard, rerooted,
+    rerooted_guard, retired, retired_guard, root, root_agreed, root_agreed_guard, root_forward,
+    root_forward_guard, root_guard, root_learn, root_learn_guard, root_proposed,
+    root_proposed_guard, synced, synced_guard,
+};
 use crate::rule::{RoleRule, StateRule};
-use crate::state_transitions::*;
+use crate::state_transitions::{
+    to_discarding, to_discarding_guard, to_forwarding, to_forwarding_guard, to_learning,
+    to_learning_guard,
+};
 use rstp_state::port::{PortState, Timing};
 
 /// Whether the rule's guard holds at the port at place `p`.

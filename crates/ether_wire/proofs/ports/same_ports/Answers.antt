@@ -1,5 +1,8 @@
-use Rattle.ether_wire.proofs.PortLemmas.{same_ports}
+use Rattle.ether_wire.proofs.PortLemmas.{same_ports, has_port-none}
 use Rattle.ether_wire.proofs.ports.same_ports.Goals as goal
 
-pub returns : goal.returns
-returns c = same_ports c.args.set c.args.other c.ranges.set.fits c.ranges.other.fits c.requires
+pub returns-clause-same : goal.returns-clause-same
+returns-clause-same c = same_ports c.args.set c.args.other c.ranges.set.fits c.ranges.other.fits
+
+pub returns-clause-none : goal.returns-clause-none
+returns-clause-none c = has_port-none
