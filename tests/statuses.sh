@@ -156,11 +156,33 @@ opened() { run simulate --config "$conf"; }
 
 is_fine() { [ "$status" = 0 ] && [ ! -s "$work/notes" ] && [ ! -s "$work/out" ]; }
 
+is_ok() { [ "$status" = 0 ] && [ ! -s "$work/notes" ] && grep -qE "^ok: [0-9]+ edges?, [0-9]+ ports?, [0-9]+ VNIs?$" "$work/out"; }
+
+# says TEXT: a usage whose one line is this text
+says() { is_usage && [ "$(cat "$work/notes")" = "$1" ]; }
+
+# names KEY: a usage whose one line says what stands at the key
+names() { is_usage && [ "$(wc -l < "$work/notes")" = 1 ] && grep -qE "^(edge [0-9]+(, port [0-9]+)?: )?$1 is .*, (allowed|which) " "$work/notes"; }
+
+# ok NAME [LINE]: the configuration in $conf is right, by this line
+ok() {
+  run check --config "$conf"
+  tell "$1, checked" is_ok
+  [ -z "${2-}" ] || tell "$1, summed up" [ "$(cat "$work/out")" = "$2" ]
+}
+
+# wrong NAME LINE: the configuration in $conf is wrong, and this is told
+wrong() {
+  run check --config "$conf"
+  tell "$1, checked" says "$2"
+}
+
 # fine NAME EDGE_LINES PORT_LINES: one edge of these lines is right
 fine() {
   edge "$2" "$3" > "$conf"
   opened
   tell "$1" is_fine
+  ok "$1"
 }
 
 # faulty NAME TEXT EDGE_LINES PORT_LINES: one edge of these lines is wrong, and the note has this text
@@ -168,6 +190,8 @@ faulty() {
   edge "$3" "$4" > "$conf"
   opened
   tell "$1" tells "$2"
+  run check --config "$conf"
+  tell "$1, checked" names "${2#config }"
 }
 
 cp "$work/empty" "$work/in"
@@ -176,6 +200,7 @@ fine "the least that an edge has" "$named" "vni = 5001"
 printf '[[edge.port]]\nvni = 5_001\n' >> "$conf"
 opened
 tell "two edges" is_fine
+ok "two edges" "ok: 2 edges, 3 ports, 1 VNI"
 
 # an edge's numbers: one below and one above, both ends, other types
 while read -r key low high step others; do
@@ -203,8 +228,19 @@ fine "max_age at its high end" "$named"$'\nmax_age = 40\nforward_delay = 21' "vn
 faulty "max_age above" "config max_age" "$named"$'\nmax_age = 41' "vni = 5001"
 faulty "max_age beyond forward_delay" "config max_age" "$named"$'\nmax_age = 29' "vni = 5001"
 faulty "max_age beyond a short forward_delay" "config max_age" "$named"$'\nforward_delay = 10' "vni = 5001"
+wrong "max_age that is left out" "edge 1: max_age is 20 where it is left out, allowed are 6 to 40, at least 2 * (hello + 1), at most 2 * (forward_delay - 1)"
 faulty "salt below" "config salt" "$named"$'\nsalt = -1' "vni = 5001"
+fine "salt at its low end" "$named"$'\nsalt = 0' "vni = 5001"
 fine "salt at its high end" "$named"$'\nsalt = 9223372036854775807' "vni = 5001"
+for value in '"20"' 20.0 true '[20]' 2020-01-01; do
+  faulty "max_age $value" "config max_age" "$named"$'\nmax_age = '"$value" "vni = 5001"
+  faulty "salt $value" "config salt" "$named"$'\nsalt = '"$value" "vni = 5001"
+  faulty "address $value" "config address" "${named/\"10.0.0.1\"/$value}" "vni = 5001"
+  faulty "bridge $value" "config bridge" "${named/\"02:aa:00:00:00:01\"/$value}" "vni = 5001"
+  faulty "vni $value" "config vni" "$named" "vni = $value"
+  faulty "local $value" "config local" "$named" $'vni = 5001\nlocal = '"$value"
+  faulty "remote $value" "config remote" "$named" $'vni = 5001\nremote = '"$value"
+done
 
 # a port's keys
 while read -r key low high step; do
@@ -245,62 +281,106 @@ done
 for vnis in "[]" "[5001, 5001]" "[16777216]" "[-1]" '["5001"]' "[$(seq -s, 65)]"; do
   faulty "vnis $vnis" "config vnis" "${named/\[5001\]/$vnis}" "vni = 5001"
 done
+fine "vnis at both ends" "${named/5001/0, 16777215}" "vni = 16777215"
 faulty "vnis that aren't an array" "config vnis" "${named/\[5001\]/5001}" "vni = 5001"
 edge "${named/\[5001\]/[$(seq -s, 64)]}" "vni = 64" > "$conf"
 opened
 tell "64 networks" is_fine
+ok "64 networks" "ok: 1 edge, 1 port, 64 VNIs"
 faulty "an unknown key of an edge" "config Priority" "$named"$'\nunknown = 1\nPriority = 1\nmax_age = 29' "vni = 5002"
 faulty "the relation of the times before the ports" "config max_age" "$named"$'\nmax_age = 29' "vni = 5002"
 faulty "hello before what comes behind it" "config hello" "$named"$'\nhold = 0\nhello = 0\nunknown = 1' "vni = 5002"
 printf '[[edge]]\n%s\n' "$named" > "$conf"
 opened
 tell "no port" tells "config port"
+wrong "no port" "edge 1: port is missing, allowed are 1 to 64 tables"
 printf '[[edge]]\n%s\nport = []\n' "$named" > "$conf"
 opened
 tell "an empty array of ports" tells "config port"
+wrong "an empty array of ports" "edge 1: port is an array, allowed are 1 to 64 tables"
+printf '[[edge]]\n%s\n[edge.port]\nvni = 5001\n' "$named" > "$conf"
+opened
+tell "a port that is no array" tells "config port"
+wrong "a port that is no array" "edge 1: port is a table, allowed are 1 to 64 tables"
+printf '[[edge]]\n%s\nport = [1]\n' "$named" > "$conf"
+opened
+tell "a port that is a number" tells "config port"
+wrong "a port that is a number" "edge 1: port is an array, allowed are 1 to 64 tables"
+{ printf '[[edge]]\n%s\n' "$named" && for _ in $(seq 64); do printf '[[edge.port]]\nvni = 5001\n'; done; } > "$conf"
+opened
+tell "64 ports" is_fine
+ok "64 ports" "ok: 1 edge, 64 ports, 1 VNI"
+printf '[[edge.port]]\nvni = 5001\n' >> "$conf"
+opened
+tell "65 ports" tells "config port"
+wrong "65 ports" "edge 1: port is an array, allowed are 1 to 64 tables"
 { edge "$named" "vni = 5001" && edge "$named" "vni = 5001"; } > "$conf"
 opened
 tell "an address twice" tells "config address"
+wrong "an address twice" "edge 2: address is '10.0.0.1', allowed is an IPv4 address that no edge before has, as '10.0.0.1'"
 { edge "$named" "vni = 5001" && edge "${named/.1\"/.2\"}" "vni = 5001"; } > "$conf"
 opened
 tell "a bridge twice" tells "config bridge"
+wrong "a bridge twice" "edge 2: bridge is '02:aa:00:00:00:01', allowed is a MAC address of one station that no edge before has, as '02:aa:00:00:00:01'"
 { edge "$named" "vni = 5001" && edge "${named//1\"/2\"}" "vni = 5001" && printf '[[edge.port]]\nvni = 5001\n[[edge.port]]\nvni = 7\n'; } > "$conf"
 opened
 tell "the third port of the second edge" tells "config vni"
+wrong "the third port of the second edge" "edge 2, port 3: vni is 7, allowed is one of the edge's vnis"
+sed -i 's/^vni = 7$/vni = 5001\ncost = 0/' "$conf"
+wrong "a cost of the third port of the second edge" "edge 2, port 3: cost is 0, allowed are 1 to 200000000"
+sed -i '$d' "$conf"
+ok "the third port of the second edge put right" "ok: 2 edges, 4 ports, 1 VNI"
 
 # the file
 cp "$work/empty" "$conf"
 opened
 tell "an empty configuration" tells "config edge"
+wrong "an empty configuration" "edge is missing, allowed are 1 to 64 tables"
 printf 'edge = 1\na = 1\n' > "$conf"
 opened
 tell "edge that is no array" tells "config edge"
+wrong "edge that is no array" "edge is 1, allowed are 1 to 64 tables"
 { printf 'b = 1\nB = 2\n' && edge "" "vni = 5001"; } > "$conf"
 opened
 tell "an unknown key of the file, before the edges" tells "config B"
+wrong "an unknown key of the file, before the edges" "B is 2, which is no key of the file"
 for n in $(seq 65); do printf '[[edge]]\naddress = "10.0.0.%s"\nbridge = "02:aa:00:00:00:%02x"\nvnis = [5001]\n[[edge.port]]\nvni = 5001\n' "$n" "$n"; done > "$conf"
 opened
 tell "65 edges" tells "config edge"
+wrong "65 edges" "edge is an array, allowed are 1 to 64 tables"
 head -n $((64 * 6)) "$conf" > "$work/64"
 mv "$work/64" "$conf"
 opened
 tell "64 edges" is_fine
+ok "64 edges" "ok: 64 edges, 64 ports, 1 VNI"
 for text in "edge" "a = 9223372036854775808" $'a = 1\na = 2'; do
   printf '%s\n' "$text" > "$conf"
   opened
   tell "no TOML: $text" tells "config text"
+  run check --config "$conf"
+  tell "no TOML: $text, checked" tells "line $(wc -l < "$conf"): "
 done
 printf 'a = "\xff"\n' > "$conf"
-opened
-tell "a configuration that isn't UTF-8" [ "$status $(cat "$work/notes")" = "4 error: --config: '$conf' isn't UTF-8" ]
-run simulate --config "$work/none"
-tell "a configuration that isn't there" [ "$status $(cat "$work/notes")" = "4 error: --config: '$work/none' isn't there" ]
-run simulate --config "$work"
-tell "a directory as configuration" [ "$status $(cat "$work/notes")" = "4 error: --config: '$work' is a directory" ]
-run simulate
-tell "a simulation of nothing" tells "--config <FILE>"
-run simulate --help
-tell "help on simulate" tells "--config <FILE>" "Standard output" "Standard error" "  0  " "  2  " "  3  " "  4  " "Example:"
+for subcommand in simulate check; do
+  run "$subcommand" --config "$conf"
+  tell "$subcommand: a configuration that isn't UTF-8" [ "$status $(cat "$work/notes")" = "4 error: --config: '$conf' isn't UTF-8" ]
+  run "$subcommand" --config "$work/none"
+  tell "$subcommand: a configuration that isn't there" [ "$status $(cat "$work/notes")" = "4 error: --config: '$work/none' isn't there" ]
+  run "$subcommand" --config "$work"
+  tell "$subcommand: a directory as configuration" [ "$status $(cat "$work/notes")" = "4 error: --config: '$work' is a directory" ]
+  run "$subcommand"
+  tell "$subcommand without a configuration" tells "--config <FILE>"
+  run "$subcommand" --help
+  tell "help on $subcommand" tells "--config <FILE>" "tandard output" "tandard error" "  0  " "  2  " "  3  " "  4  " "Example:"
+done
+edge "$named" "vni = 5001" > "$conf"
+status=0
+"$evpnd" check --config "$conf" < "$work/in" > /dev/full 2> "$work/notes" || status=$?
+tell "a summary that can't be written" [ "$status" = 4 ]
+edge "$named" "vni = 5002" > "$conf"
+status=0
+"$evpnd" check --config "$conf" < "$work/in" > "$work/out" 2> /dev/full || status=$?
+tell "a fault that can't be told" [ "$status" = 4 ]
 status=0
 "$evpnd" simulate --config "$work/none" < "$work/in" > "$work/out" 2> /dev/full || status=$?
 tell "an unread file that can't be told" [ "$status" = 4 ]
@@ -341,30 +421,11 @@ status=0
 (cat "$record" && printf 'EW') | "$evpnd" report --originators 10.0.0.1 > /dev/full 2> "$work/notes" || status=$?
 tell "a full output and a fault: the greater status" [ "$status" = 4 ]
 
-# ---- 3: each allocation refused, where there is a C compiler
-if command -v cc > /dev/null && cc -shared -fPIC -O1 -o "$work/refuse.so" "$tests/refuse_allocation.c" 2> /dev/null; then
-  asked() { REFUSE=$1 LD_PRELOAD="$work/refuse.so" "$evpnd" report --originators 10.0.0.1 < "$2" > "$work/out" 2> "$work/notes" 3> "$work/asked" || status=$?; }
-  status=0
-  asked 0 "$record"
-  all=$(cat "$work/asked")
-  status=0
-  asked 0 "$work/empty"
-  words=$(cat "$work/asked")
-  # a build that takes its memory elsewhere than from the C library can't be refused any
-  if [ "${words:-0}" != 0 ] || [[ $evpnd != *.by-rattle ]]; then
-    tell "allocations are counted" [ "${words:-0}" -gt 0 ]
-  fi
-  for n in $(seq "${words:-0}"); do
-    status=0
-    asked "$n" "$record"
-    if [ "$status" != 0 ]; then tell "no memory for the words (allocation $n)" gives 3 "$work/empty" ""; else tell "allocation $n made up for" gives 0 "$report" ""; fi
-  done
-  for n in $(seq $((words + 1)) "${all:-0}"); do
-    status=0
-    asked "$n" "$record"
-    tell "no memory for a register (allocation $n)" gives 3 "$work/empty" "record 1 refused 15"
-  done
-fi
+# ---- 3 and 4: each allocation refused, each read and each write failed, where there is a C compiler
+status=0
+for test in refused_growth failing_ends; do
+  tell "$test" env EVPND="$evpnd" python3 -B "$tests/tools/test_$test.py" 2> "$work/notes"
+done
 
 echo "$passed passed, $failed failed"
 [ "$failed" = 0 ]

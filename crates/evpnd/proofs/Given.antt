@@ -18,7 +18,7 @@ use Rattle.clap.specs.declared.error.kind.ErrorKind.TheVariants as kind
 use Rattle.clap.specs.declared.parser.matches.ValueSource.TheVariants.{CommandLine, DefaultValue}
 use Rattle.clap.proofs.WalkLemmas.{both}
 use Rattle.evpnd.specs.declared.words.Subcommand.{Subcommand}
-use Rattle.evpnd.specs.declared.words.Subcommand.TheVariants.{Report, Migrate, Simulate}
+use Rattle.evpnd.specs.declared.words.Subcommand.TheVariants.{Report, Migrate, Check, Simulate}
 use Rattle.evpnd.specs.Words.{subcommands, name_of, option_of, order_app, program, named, order_in}
 
 -- ---- tests
@@ -381,6 +381,7 @@ option_given x words f =
 names_it : (x : Subcommand) → named (name_of x) ≡ Some x
 names_it Report = refl
 names_it Migrate = refl
+names_it Check = refl
 names_it Simulate = refl
 
 -- an order's parts

@@ -1,6 +1,7 @@
 pub mod Taking
 pub mod Reading
 pub mod Feeding
+pub mod Filed
 pub mod Finishing
 pub mod Listing
 pub mod Refusals
@@ -8,7 +9,6 @@ pub mod Migrating
 pub mod Owning
 pub mod Given
 pub mod Telling
-pub mod Filed
 pub mod Gathering
 pub mod Minding
 pub mod Pairs

@@ -11,7 +11,7 @@ use Rattle.evpnd.specs.Words.{program}
 use Rattle.evpnd.specs.Originators.{Text, list_text}
 use Rattle.evpnd.specs.Ends.{devices, has_failed}
 use Rattle.evpnd.specs.Files.{Shelf}
-use Rattle.evpnd.specs.Checks.{desk, IsTold, TellsUsage}
+use Rattle.evpnd.specs.Checks.{desk, IsTold, TellsUsage, Sums, TellsLine}
 use Rattle.evpnd.specs.Program.{world, TellsFault, RunsWords}
 
 failed_put : (a b : End) (r : Result (Unit {0}) Device) (text : Text) (n : ℕ) → Puts a b text r → (if_ok : Bool) → if_ok ≡ is_ok r → ◌≡◌ {A = ℕ} (cond if_ok n 4) (cond (has_failed a b) 4 n)
@@ -36,6 +36,13 @@ told_put a b (Err d) text status h is =
       noted = record { written = λ same. absurd (omega arith); failures = inr h };
       status_is = is ∙ failed_put a b (Err d) text 2 h false refl;
     }
+
+-- a text was put on the output
+pub sums_put : (a b : End) (r : Result (Unit {0}) Device) (text : Text) (status : ℕ) → Puts a b text r → ◌≡◌ {A = ℕ} status (cond (is_ok r) 0 4) → Sums a b status
+sums_put a b (Ok x) text status h is =
+    (text, record { written = λ _. h; failures = inl (ap (λ (y : End). y.failures) h) }, is ∙ failed_put a b (Ok x) text 0 h true refl)
+sums_put a b (Err d) text status h is =
+    (text, record { written = λ same. absurd (omega arith); failures = inr h }, is ∙ failed_put a b (Err d) text 0 h false refl)
 
 pub tells_usage : (input : Source) (out notes notes' : End) (text : Text) (status : ℕ) → IsTold text notes notes' status → TellsUsage text (devices input out notes) (devices input out notes') status
 tells_usage input out notes notes' text status told = record { input = refl; out = refl; told = told }

@@ -8,17 +8,21 @@ use Rattle.evpnd.specs.declared.ending.Ending.TheVariants.{Ended, Failed, Faulty
 
 -- ---- lines
 
+-- two numbers, each behind its words
+abbrev pub line : List ℕ → ℕ → List ℕ → ℕ → List ℕ
+line first number second other = first ++ decimal number ++ second ++ decimal other ++ codes "\n"
+
 -- `record N refused C`
 abbrev pub refused_line : ℕ → ℕ → List ℕ
-refused_line number refusal = codes "record " ++ decimal number ++ codes " refused " ++ decimal refusal ++ codes "\n"
+refused_line number refusal = line (codes "record ") number (codes " refused ") refusal
 
 -- `fault C at record N`
 abbrev pub fault_line : ℕ → ℕ → List ℕ
-fault_line fault number = codes "fault " ++ decimal fault ++ codes " at record " ++ decimal number ++ codes "\n"
+fault_line fault number = line (codes "fault ") fault (codes " at record ") number
 
 -- `truncated K at record N`
 abbrev pub truncated_line : ℕ → ℕ → List ℕ
-truncated_line octets number = codes "truncated " ++ decimal octets ++ codes " at record " ++ decimal number ++ codes "\n"
+truncated_line octets number = line (codes "truncated ") octets (codes " at record ") number
 
 -- ---- notes
 

@@ -5,12 +5,12 @@ use Rattle.clap.specs.Words.{fault_of}
 use Rattle.evpnd.specs.declared.program.Line.{Line}
 use Rattle.evpnd.specs.declared.program.Line.TheVariants.{Words, NotText, NoMemory}
 use Rattle.evpnd.specs.declared.words.Subcommand.{Subcommand}
-use Rattle.evpnd.specs.declared.words.Subcommand.TheVariants.{Report, Migrate, Simulate}
+use Rattle.evpnd.specs.declared.words.Subcommand.TheVariants.{Report, Migrate, Check, Simulate}
 use Rattle.evpnd.specs.Words.{program, Spells}
 use Rattle.evpnd.specs.Originators.{Text, originators_of_text, list_text}
 use Rattle.evpnd.specs.Ends.{Devices, devices}
 use Rattle.evpnd.specs.Files.{Shelf}
-use Rattle.evpnd.specs.Checks.{Desk, desk, IsTold, TellsUsage, OfFile}
+use Rattle.evpnd.specs.Checks.{Desk, desk, IsTold, TellsUsage, OfFile, Checks}
 use Rattle.evpnd.specs.Runs.{Reports}
 use Rattle.evpnd.specs.Migrations.{Migrates}
 use Rattle.evpnd.specs.Scripted.{SimulatesFound}
@@ -45,6 +45,7 @@ OfList does list before after status =
 abbrev pub FollowsAs : Subcommand → Text → Desk → Desk → ℕ → Type 0
 FollowsAs Report list before after status = (after.shelf ≡ before.shelf) × OfList Reports list before.devices after.devices status
 FollowsAs Migrate list before after status = (after.shelf ≡ before.shelf) × OfList Migrates list before.devices after.devices status
+FollowsAs Check path before after status = OfFile false Checks path before after status
 FollowsAs Simulate path before after status = OfFile false SimulatesFound path before after status
 
 abbrev pub Follows : Subcommand × Text → Desk → Desk → ℕ → Type 0

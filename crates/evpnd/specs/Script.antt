@@ -77,11 +77,15 @@ station s = do
   mac ← mac_of_text m
   Some (record { vni = vni; mac = mac })
 
+abbrev pub later_verbs : List (List ℕ × Verb)
+later_verbs =
+    (codes "unpin", Unpin) ∷ (codes "thaw", Thaw) ∷ (codes "announce", Announce) ∷ (codes "deliver", Deliver) ∷ (codes "port", Port)
+    ∷ (codes "report", Report) ∷ (codes "restart", Restart) ∷ []
+
 abbrev pub verbs : List (List ℕ × Verb)
 verbs =
     (codes "up", Up) ∷ (codes "down", Down) ∷ (codes "mcheck", Mcheck) ∷ (codes "second", Second) ∷ (codes "frame", Frame)
-    ∷ (codes "tunnel", Tunnel) ∷ (codes "pin", Pin) ∷ (codes "unpin", Unpin) ∷ (codes "thaw", Thaw) ∷ (codes "announce", Announce)
-    ∷ (codes "deliver", Deliver) ∷ (codes "port", Port) ∷ (codes "report", Report) ∷ (codes "restart", Restart) ∷ []
+    ∷ (codes "tunnel", Tunnel) ∷ (codes "pin", Pin) ∷ later_verbs
 
 abbrev pub verb_in : List (List ℕ × Verb) → List ℕ → Option Verb
 verb_in [] w = None

@@ -3,14 +3,17 @@ ghost use Rattle.std.specs.Prelude.{IfOk};
 ghost use Rattle.ev_fabric.specs.Opening.{AreConfigs};
 ghost use Rattle.evpnd.specs.Config.{ConfigOf};
 
+mod advice;
 mod edge;
 mod edges;
 mod endpoint;
 mod keys;
+mod place;
 mod port;
 
 use crate::config::edges::config_in;
 use crate::config::keys::Fault;
+pub(crate) use advice::{refusal_line, summary_line};
 use arrayvec::ArrayVec;
 pub(crate) use endpoint::{Endpoint, Link};
 use ev_edge::EdgeConfig;

@@ -3,7 +3,6 @@ ghost use Rattle.std.specs.Prelude.{◌≡◌, ◌≢◌, None};
 ghost use Rattle.ether_wire.specs.Ends.{IsOpen, Puts};
 ghost use Rattle.evpnd.specs.Files.{Shelf, shelf_of, HasRoom, GivesText, reason_of, unread_text};
 
-use crate::status::DEVICE;
 use ether_wire::{Device, Out};
 use std::{fs, io};
 
@@ -124,13 +123,4 @@ pub(crate) fn put_unread<N: Out>(notes: &mut N, path: &[u8], why: Unread) -> Res
     notes.put(b"error: --config: '")?;
     notes.put(path)?;
     notes.put(why.reason())
-}
-
-/// The status of a file without a text, which is told.
-pub(crate) fn unread_status(told: Result<(), Device>) -> u8
-    ensures { result ≡ 4 }
-{
-    match told {
-        Ok(()) | Err(Device) => DEVICE,
-    }
 }

@@ -1,6 +1,7 @@
 //! EVPN edge bridges: the program.
 #![tactic(auto)]
 
+mod check;
 mod config;
 mod ending;
 mod files;
@@ -15,8 +16,6 @@ mod script;
 mod simulate;
 mod status;
 mod stream;
-#[cfg(test)]
-mod tests;
 mod words;
 
 use crate::files::SystemFiles;

@@ -11,6 +11,7 @@ ghost use Rattle.evpnd.specs.Runs.{Reports};
 ghost use Rattle.evpnd.specs.Migrations.{Migrates};
 ghost use Rattle.evpnd.specs.Program.{world, TellsFault, not_text, OfList, FollowsAs, Follows, RunsWords, RunsProgram};
 
+use crate::check::check;
 use crate::files::Files;
 use crate::migrate::migrate_buffered;
 use crate::originators::{WrongPart, put_wrong_part, read_originators};
@@ -131,6 +132,7 @@ fn follow<F: Files, R: In, W: Out, N: Out>(
     match order.subcommand {
         Subcommand::Report => report(alloc, order.value, reader, out, notes),
         Subcommand::Migrate => migrate(alloc, order.value, reader, out, notes),
+        Subcommand::Check => check(alloc, files, order.value, out, notes),
         Subcommand::Simulate => simulate(alloc, files, order.value, reader, out, notes),
     }
 }

@@ -15,6 +15,8 @@ pub(crate) enum Subcommand {
     Report,
     /// `evpnd migrate --originators LIST`
     Migrate,
+    /// `evpnd check --config FILE`
+    Check,
     /// `evpnd simulate --config FILE`
     Simulate,
 }
@@ -44,6 +46,7 @@ impl Subcommand {
         match self {
             Subcommand::Report => "report",
             Subcommand::Migrate => "migrate",
+            Subcommand::Check => "check",
             Subcommand::Simulate => "simulate",
         }
     }
@@ -54,7 +57,7 @@ impl Subcommand {
     {
         match self {
             Subcommand::Report | Subcommand::Migrate => "originators",
-            Subcommand::Simulate => "config",
+            Subcommand::Check | Subcommand::Simulate => "config",
         }
     }
 
@@ -62,7 +65,7 @@ impl Subcommand {
     fn value_name<'a>(self) -> &'a str {
         match self {
             Subcommand::Report | Subcommand::Migrate => "LIST",
-            Subcommand::Simulate => "FILE",
+            Subcommand::Check | Subcommand::Simulate => "FILE",
         }
     }
 
@@ -72,7 +75,9 @@ impl Subcommand {
             Subcommand::Report | Subcommand::Migrate => {
                 "1 to 64 different IPv4 addresses with commas between them"
             }
-            Subcommand::Simulate => "The path of a configuration, a TOML document",
+            Subcommand::Check | Subcommand::Simulate => {
+                "The path of a configuration, a TOML document"
+            }
         }
     }
 
@@ -81,6 +86,7 @@ impl Subcommand {
         match self {
             Subcommand::Report => "Report the table that a stream of route updates defines",
             Subcommand::Migrate => "Write records of versions 1 and 2 anew in version 3",
+            Subcommand::Check => "Tell whether a configuration is right, or where it is wrong",
             Subcommand::Simulate => "Run a script of events on the edges of a configuration",
         }
     }
@@ -122,6 +128,21 @@ Status, the greatest that applies:
 Example:
   evpnd migrate --originators 10.0.0.1,10.0.0.2 < old > new"
             }
+            Subcommand::Check => {
+                "\
+Reads the configuration in FILE, as docs/configuration.md describes it; standard input isn't read.
+If it is right, standard output has how many edges, ports and VNIs it has. Else standard error has
+where its first fault is, what stands there and what is allowed.
+
+Status, the greatest that applies:
+  0  the configuration is right
+  2  it has a fault; or the words are wrong, or ask for help
+  3  memory was refused
+  4  FILE can't be read, or writing failed
+
+Example:
+  evpnd check --config fabric.toml"
+            }
             Subcommand::Simulate => {
                 "\
 Opens the edges that FILE configures, as docs/configuration.md describes it, reads a script on standard
@@ -151,6 +172,9 @@ fn named(name: &str) -> Option<Subcommand>
     }
     if name == Subcommand::Migrate.name() {
         return Some(Subcommand::Migrate);
+    }
+    if name == Subcommand::Check.name() {
+        return Some(Subcommand::Check);
     }
     if name == Subcommand::Simulate.name() {
         return Some(Subcommand::Simulate);
@@ -195,13 +219,15 @@ fn program<'a>(alloc: Global) -> Result<Command<'a>, AllocError>
 {
     let report = order_command(alloc, Subcommand::Report)?;
     let migrate = order_command(alloc, Subcommand::Migrate)?;
+    let check = order_command(alloc, Subcommand::Check)?;
     let simulate = order_command(alloc, Subcommand::Simulate)?;
     let start = Command::new(alloc, "evpnd")
         .about(ABOUT)
         .after_help(HELP)
         .subcommand(report)?;
     let second = start.subcommand(migrate)?;
-    let command = second.subcommand(simulate)?;
+    let third = second.subcommand(check)?;
+    let command = third.subcommand(simulate)?;
     Ok(command.subcommand_required(true))
 }
 

@@ -19,7 +19,7 @@ use rstp_state::start::Settings;
 use toml::Table;
 
 /// The keys of an edge's table.
-const EDGE_KEYS: [&'static str; 14] = [
+pub(crate) const EDGE_KEYS: [&'static str; 14] = [
     "address",
     "bridge",
     "vnis",
@@ -115,7 +115,11 @@ fn bridge_of<'a>(table: &'a Table, before: &[Mac]) -> Result<Mac, Fault<'a>>
 }
 
 /// Who the edge is, given the addresses and bridges of the edges before it.
-fn names_of<'a>(addresses: &[Addr], bridges: &[Mac], table: &'a Table) -> Result<Names, Fault<'a>>
+pub(crate) fn names_of<'a>(
+    addresses: &[Addr],
+    bridges: &[Mac],
+    table: &'a Table,
+) -> Result<Names, Fault<'a>>
     ensures value { Gives (λ n. n) (names_of addresses.now bridges.now (table_view table.now)) result }
     ensures new { IfOk result (λ n. list_any (λ x. eqb x n.address) addresses.now ≡ false) }
     ensures distinct { IfOk result (λ n. IsDistinct eqb n.vnis.items) }
@@ -131,7 +135,7 @@ fn names_of<'a>(addresses: &[Addr], bridges: &[Mac], table: &'a Table) -> Result
 }
 
 /// The bridge's identifier and times.
-fn tree_of<'a>(bridge: Mac, table: &'a Table) -> Result<Settings, Fault<'a>>
+pub(crate) fn tree_of<'a>(bridge: Mac, table: &'a Table) -> Result<Settings, Fault<'a>>
     ensures value { Gives (λ s. s) (tree_of bridge (table_view table.now)) result }
     ensures some { IfOk result (λ s. 1 ≤ s.hello) }
     ensures hello { IfOk result (λ s. s.hello ≤ 2) }
@@ -152,7 +156,7 @@ fn tree_of<'a>(bridge: Mac, table: &'a Table) -> Result<Settings, Fault<'a>>
 }
 
 /// How much the edge keeps, how long, and in which of its lives.
-fn limits_of<'a>(table: &'a Table) -> Result<Limits, Fault<'a>>
+pub(crate) fn limits_of<'a>(table: &'a Table) -> Result<Limits, Fault<'a>>
     ensures value { Gives (λ l. l) (limits_of (table_view table.now)) result }
     ensures some_place { IfOk result (λ l. 1 ≤ l.capacity) }
     ensures places { IfOk result (λ l. l.capacity ≤ 65536) }
@@ -175,7 +179,7 @@ fn limits_of<'a>(table: &'a Table) -> Result<Limits, Fault<'a>>
 }
 
 /// Refuses times that don't fit together (IEEE 802.1D-2004, section 17.14).
-fn related<'a>(tree: &Settings) -> Result<bool, Fault<'a>>
+pub(crate) fn related<'a>(tree: &Settings) -> Result<bool, Fault<'a>>
     requires hello { tree.now.hello ≤ 2 }
     requires forward_delay { tree.now.forward_delay ≤ 30 }
     ensures { Gives (λ b. b) (related tree.now) result }

@@ -18,7 +18,7 @@ use toml::Table;
 use toml::value::Array;
 
 /// The document's own keys.
-const FILE_KEYS: [&'static str; 1] = ["edge"];
+pub(crate) const FILE_KEYS: [&'static str; 1] = ["edge"];
 
 /// The edges read so far, with their addresses and bridges. They listen to nobody yet.
 #[derive(Drop)]

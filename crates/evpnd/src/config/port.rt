@@ -81,7 +81,7 @@ fn endpoint_of<'a>(
 }
 
 /// The port of a table, given the networks of its edge.
-fn port_of<'a>(for_run: bool, vnis: &[Vni], table: &'a Table) -> Result<Port, Fault<'a>>
+pub(crate) fn port_of<'a>(for_run: bool, vnis: &[Vni], table: &'a Table) -> Result<Port, Fault<'a>>
     ensures value { Gives (λ p. p) (port_of for_run vnis.now (table_view table.now)) result }
     ensures served { IfOk result (λ p. Contains vnis.now p.config.vni) }
 {

@@ -1,6 +1,6 @@
 //! A line of a script, word by word. It takes no memory.
 ghost use Rattle.std.specs.Prelude.{◌≡◌, ℕ, ◌+◌, ◌<◌, ◌≤◌, ◌^◌, ◌-◌, length, option_map, option_and_then, codes, IfSome};
-ghost use Rattle.evpnd.specs.Script.{number, seconds, life, station, verbs, verb_in, command_of, command_alone, command_with, command_in, words_of, line_of};
+ghost use Rattle.evpnd.specs.Script.{number, seconds, life, station, verbs, later_verbs, verb_in, command_of, command_alone, command_with, command_in, words_of, line_of};
 
 use crate::script::command::{Command, Verb};
 use crate::script::hex::Hex;
@@ -52,6 +52,34 @@ fn station(text: &[u8]) -> Option<Station>
     Some(Station { vni, mac })
 }
 
+/// The verb of this name, of those behind the first seven.
+fn later_verb(word: &[u8]) -> Option<Verb>
+    ensures { result ≡ verb_in later_verbs word.now }
+{
+    if word == b"unpin".as_slice() {
+        return Some(Verb::Unpin);
+    }
+    if word == b"thaw".as_slice() {
+        return Some(Verb::Thaw);
+    }
+    if word == b"announce".as_slice() {
+        return Some(Verb::Announce);
+    }
+    if word == b"deliver".as_slice() {
+        return Some(Verb::Deliver);
+    }
+    if word == b"port".as_slice() {
+        return Some(Verb::Port);
+    }
+    if word == b"report".as_slice() {
+        return Some(Verb::Report);
+    }
+    if word == b"restart".as_slice() {
+        return Some(Verb::Restart);
+    }
+    None
+}
+
 /// The verb of this name.
 fn verb_of(word: &[u8]) -> Option<Verb>
     ensures { result ≡ verb_in verbs word.now }
@@ -77,28 +105,7 @@ fn verb_of(word: &[u8]) -> Option<Verb>
     if word == b"pin".as_slice() {
         return Some(Verb::Pin);
     }
-    if word == b"unpin".as_slice() {
-        return Some(Verb::Unpin);
-    }
-    if word == b"thaw".as_slice() {
-        return Some(Verb::Thaw);
-    }
-    if word == b"announce".as_slice() {
-        return Some(Verb::Announce);
-    }
-    if word == b"deliver".as_slice() {
-        return Some(Verb::Deliver);
-    }
-    if word == b"port".as_slice() {
-        return Some(Verb::Port);
-    }
-    if word == b"report".as_slice() {
-        return Some(Verb::Report);
-    }
-    if word == b"restart".as_slice() {
-        return Some(Verb::Restart);
-    }
-    None
+    later_verb(word)
 }
 
 /// `frame P HEX`, behind its verb.

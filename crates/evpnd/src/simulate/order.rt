@@ -6,8 +6,9 @@ ghost use Rattle.evpnd.specs.Files.{HasRoom};
 ghost use Rattle.evpnd.specs.Checks.{desk, OfFile, IsTold};
 ghost use Rattle.evpnd.specs.Scripted.{config_text, SimulatesFound, SimulatesText};
 
+use crate::check::unread_status;
 use crate::config::{ConfigRefusal, config_of};
-use crate::files::{FileFault, Files, put_unread, unread_status};
+use crate::files::{FileFault, Files, put_unread};
 use crate::program::usage_status;
 use crate::simulate::simulate_run;
 use crate::status::MEMORY;
