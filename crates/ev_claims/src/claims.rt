@@ -422,27 +422,20 @@ impl Claims {
     }
 
     /// Takes a station out and withdraws it, where the edge advertises it and isn't its owner. Tells
-    /// whether it was pinned.
+    /// whether it was pinned. The edge advertises what it has learnt: the table is asked for nothing
+    /// else.
     fn lose(&mut self, station: &Station) -> bool
         ensures lost { result ≡ is_pinned (lost_at self.old station.now) }
         ensures after { self.new ≡ after_losing_at self.old station.now }
     {
-        if !self.voice.is_beaten(station.vni, station.mac) {
+        let Some(entry) = self.learned.look(station) else {
+            return false
+        };
+        if self.voice.owns(station.vni, station.mac) {
             return false;
         }
-        let pinned = self.is_pinned(station);
         self.remove(station);
-        pinned
-    }
-
-    /// Whether the station is learnt, and pinned.
-    fn is_pinned(&self, station: &Station) -> bool
-        ensures { result ≡ is_pinned (entry_at self.now.learned station.now) }
-    {
-        match self.learned.look(station) {
-            Some(entry) => entry.pinned,
-            None => false,
-        }
+        entry.pinned
     }
 }
 

@@ -2,8 +2,9 @@
 ghost use Rattle.std.specs.Prelude.{◌≡◌, ◌≢◌, ◌⊎◌, ◌+◌, ◌<◌, ◌^◌, ◌↔◌, [], IfOk, IfSome, IfNone, IsSome, IsErr, true, false, OnOk, OnErr, Ok, Err, None, Contains, nat_le, length};
 ghost use Rattle.route_join.specs.Table.{AreOriginators, value_at, is_listed};
 ghost use Rattle.route_wire.specs.Fields.{is_individual, FitsKey, flood_advert};
+ghost use Rattle.route_join.specs.Owner.{owner};
 ghost use Rattle.route_join.specs.Taken.{taken_of};
-ghost use Rattle.ev_claims.specs.Voice.{own, own_advert, is_beaten, is_ahead, is_spent, is_newest, is_returning, silent, announced, IsOwnAt, IsNoOwnAt, KeepsNumbers, after_saying, after_hearing, after_hearing_own, after_announcing};
+ghost use Rattle.ev_claims.specs.Voice.{own, own_advert, is_at, is_ahead, is_spent, is_newest, is_returning, silent, announced, IsOwnAt, IsNoOwnAt, KeepsNumbers, after_saying, after_hearing, after_hearing_own, after_announcing};
 ghost use Rattle.ev_claims.specs.Opening.{after_floods};
 
 use crate::pending::Pending;
@@ -157,16 +158,11 @@ impl Voice {
         None
     }
 
-    /// Whether it advertises the address, and isn't its owner.
-    pub fn is_beaten(&self, vni: Vni, mac: Mac) -> bool
-        ensures { result ≡ is_beaten self.now vni mac }
+    /// Whether it owns the address: of all adverts its own is the best.
+    pub fn owns(&self, vni: Vni, mac: Mac) -> bool
+        ensures { result ≡ is_at (owner self.now.table vni mac) self.now.address }
     {
-        let key = Key::Mac(vni, mac, None);
-        let Some(update) = self.table.register(self.address, key) else {
-            return false
-        };
-        matches!(update.value().content, Content::Advert(_))
-            && self.table.owner(vni, mac) != Some(self.address)
+        self.table.owner(vni, mac) == Some(self.address)
     }
 
     /// Says this of a key, under the next number. Where memory is refused, all stays as it was.
