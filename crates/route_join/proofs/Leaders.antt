@@ -111,10 +111,10 @@ module _ (us : List Fields) (says after : Register → Option Advert) (at : ℕ)
 
 -- ---- the winner among the first updates, and one more
 module _ (us : List Fields) (at : ℕ) (s : IsOrdered us) (h : at < length us) (d : Fields) where
-  first_more : entries_of (take (at + 1) us) ≡ entries_of (take at us) ++ ((get_or us at d).register, (get_or us at d).value) ∷ []
+  pub first_more : entries_of (take (at + 1) us) ≡ entries_of (take at us) ++ ((get_or us at d).register, (get_or us at d).value) ∷ []
   first_more = ap (λ n. entries_of (take n us)) (add-one at) ∙ ap entries_of (take-suc us at d h) ∙ map-append (λ (u : Fields). (u.register, u.value)) (take at us) (get_or us at d ∷ [])
 
-  split : entries_of (take at us) ++ ((get_or us at d).register, (get_or us at d).value) ∷ entries_of (drop (suc at) us) ≡ entries_of us
+  pub split : entries_of (take at us) ++ ((get_or us at d).register, (get_or us at d).value) ∷ entries_of (drop (suc at) us) ≡ entries_of us
   split = sym (map-append (λ (u : Fields). (u.register, u.value)) (take at us) (get_or us at d ∷ drop (suc at) us))
       ∙ ap (λ x. entries_of (take at us ++ x)) (sym (drop-cons us at d h)) ∙ ap entries_of (take-append-drop at us)
 
@@ -191,7 +191,7 @@ winner_set us at u w s p h ne =
 was_at : (us : List Fields) (at : ℕ) (v x : Fields) → slice_get us at ≡ Some x → v ≡ get_or us at v → v ≡ x
 was_at us at v x s e = e ∙ get_or_from_slice_get us at x v s
 
-told_no_worse : (r : Register) (was now : Option Advert) → stays_best was now ≡ true → (a : Advert) → was ≡ Some a → (n : Advert) × (now ≡ Some n) × (is_better a r n r ≡ false)
+pub told_no_worse : (r : Register) (was now : Option Advert) → stays_best was now ≡ true → (a : Advert) → was ≡ Some a → (n : Advert) × (now ≡ Some n) × (is_better a r n r ≡ false)
 told_no_worse r None now t a e = cc
 told_no_worse r (Some w) None t a e = cc
 told_no_worse r (Some w) (Some n) t a e =

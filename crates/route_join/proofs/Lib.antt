@@ -2,7 +2,6 @@ pub mod Stations
 pub mod Orders
 pub mod Tables
 pub mod Places
-pub mod Searches
 pub mod Edits
 pub mod Owners
 pub mod Floods
@@ -15,4 +14,5 @@ pub mod Holding
 pub mod Joins
 pub mod Lines
 pub mod Merging
+pub mod Trees
 pub mod Abouts

@@ -68,7 +68,7 @@ alone : (r : Register) (a : Option Advert) (o : Ordering) → wins_by a None o �
 alone r None o = refl
 alone r (Some a) o = refl
 
-both_say : (r q : Register) (a b : Option Advert) (o : Ordering) → o ≡ register_cmp r q → wins_by a b o ≡ wins (option_map (λ (c : Advert). (r, c)) a) (option_map (λ (c : Advert). (q, c)) b)
+pub both_say : (r q : Register) (a b : Option Advert) (o : Ordering) → o ≡ register_cmp r q → wins_by a b o ≡ wins (option_map (λ (c : Advert). (r, c)) a) (option_map (λ (c : Advert). (q, c)) b)
 both_say r q None b o e = refl
 both_say r q (Some a) None o e = refl
 both_say r q (Some a) (Some b) o e = ap (is_better_by a.is_static b.is_static a.sequence b.sequence) e

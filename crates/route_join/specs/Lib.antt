@@ -8,6 +8,8 @@ pub mod Joins
 pub mod Laws
 pub mod Subject
 pub mod Group
+pub mod Many
+pub mod Kept
 pub mod Lines
 pub mod Stops
 pub mod Updates

@@ -4,6 +4,7 @@ ghost use Rattle.route_join.specs.Table.{entries_of};
 ghost use Rattle.route_join.specs.Flood.{is_flood, floods, flooding};
 
 use crate::owner::advert_in;
+use crate::updates::UpdatesOf;
 use arrayvec::ArrayVec;
 use ether_wire::{Addr, Vni};
 use route_wire::{Key, Update};
@@ -26,13 +27,13 @@ fn floods(update: &Update, vni: Vni) -> bool
 }
 
 /// The originators that advertise a network's flood list, in the order of the updates.
-pub(crate) fn flood_of(updates: &[Update], vni: Vni) -> ArrayVec<Addr, 64>
-    requires { length (flooding vni (entries_of updates.now)) ≤ 64 }
-    ensures { result.items ≡ flooding vni (entries_of updates.now) }
+pub(crate) fn flood_of(updates: UpdatesOf<'_>, vni: Vni) -> ArrayVec<Addr, 64>
+    requires { length (flooding vni (entries_of updates)) ≤ 64 }
+    ensures { result.items ≡ flooding vni (entries_of updates.entry) }
 {
     let mut flood = ArrayVec::new();
     for update in updates {
-        if floods(update, vni) {
+        if floods(&update, vni) {
             flood.push(update.register().originator);
         }
     }

@@ -45,7 +45,7 @@ pub(crate) fn take_in(
 {
     let subject = subject_of(&update.register().key);
     match groups.get_mut(&subject) {
-        Some(group) => group.take(held, update),
+        Some(group) => group.take(alloc, held, update),
         None => {
             let Some(more) = held.checked_add(1) else {
                 return Err(AllocError);

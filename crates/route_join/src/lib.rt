@@ -1,10 +1,13 @@
 //! Tables of route updates: each register's newest value, and who owns a MAC address.
 #![tactic(auto)]
 
+mod few;
 mod flood;
 mod group;
 mod groups;
 mod laws;
+mod many;
+mod named;
 mod owner;
 mod place;
 mod report;

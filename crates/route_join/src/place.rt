@@ -4,14 +4,10 @@ ghost use Rattle.route_wire.specs.Order.{ip_cmp, register_cmp};
 ghost use Rattle.route_join.specs.Group.{AreAbout};
 ghost use Rattle.route_join.specs.Place.{place_of};
 ghost use Rattle.route_join.specs.Subject.{subject_of};
-ghost use Rattle.route_join.specs.Table.{IsOrdered, entries_of};
+ghost use Rattle.route_join.specs.Table.{entries_of};
 
 use route_wire::{Ip, Register, Update};
 use std::cmp::Ordering;
-
-/// As many updates are walked through: the next ones are on their way from memory while one is
-/// compared. Among more of them a register is sought by halves.
-const FEW: usize = 32;
 
 /// The order of two IP addresses, none first.
 #[tactic(auto, using(crate::proofs::Within::none_first, crate::proofs::Within::none_last))]
@@ -38,8 +34,9 @@ fn cmp_within(one: &Register, other: &Register) -> Ordering
     }
 }
 
-/// The place of a register by a walk.
-fn walked(updates: &[Update], register: &Register) -> Result<usize, usize>
+/// Where a register stands among updates of its subject in the order of their registers, or where it
+/// would stand.
+pub(crate) fn place(updates: &[Update], register: &Register) -> Result<usize, usize>
     requires { AreAbout (subject_of register.now.key) (entries_of updates.now) }
     ensures { result ≡ place_of updates.now register.now }
 {
@@ -51,26 +48,4 @@ fn walked(updates: &[Update], register: &Register) -> Result<usize, usize>
         }
     }
     Err(updates.len())
-}
-
-/// The place of a register by halves.
-fn searched(updates: &[Update], register: &Register) -> Result<usize, usize>
-    requires { IsOrdered updates.now }
-    ensures { result ≡ place_of updates.now register.now }
-{
-    updates.binary_search_by(|update| update.register().cmp(register))
-}
-
-/// Where a register stands among updates of its subject in the order of their registers, or where it
-/// would stand.
-pub(crate) fn place(updates: &[Update], register: &Register) -> Result<usize, usize>
-    requires ordered { IsOrdered updates.now }
-    requires about { AreAbout (subject_of register.now.key) (entries_of updates.now) }
-    ensures { result ≡ place_of updates.now register.now }
-{
-    if updates.len() <= FEW {
-        walked(updates, register)
-    } else {
-        searched(updates, register)
-    }
 }

@@ -7,6 +7,7 @@ ghost use Rattle.route_join.specs.Table.{entries_of};
 ghost use Rattle.route_join.specs.Lines.{register_lines};
 ghost use Rattle.route_join.specs.Report.{spaced, counter_text, flood_state, mac_state, label2_words, station_text, origin_text, mac_words, flood_line, mac_line, register_line, owner_name, owner_line};
 
+use crate::updates::UpdatesOf;
 use ether_wire::{
     Addr, Device, Mac, Out, Page, Vni, put_addr, put_decimal, put_hex_group, put_mac,
 };
@@ -287,13 +288,13 @@ pub(crate) fn put_owner<O: Out>(
 
 /// Writes the lines of updates, one after the other.
 #[tactic(auto, using(ether_wire::proofs::Appending::with_text_twice, ether_wire::proofs::Appending::with_text_none))]
-pub(crate) fn put_updates<O: Out>(out: &mut O, updates: &[Update]) -> Result<(), Device>
+pub(crate) fn put_updates<O: Out>(out: &mut O, updates: UpdatesOf<'_>) -> Result<(), Device>
     requires { IsOpen (O.end out.old) }
     ensures { Puts (O.end out.old) (O.end out.new)
-        (register_lines (entries_of updates.now)) result }
+        (register_lines (entries_of updates.entry)) result }
 {
     for update in updates {
-        put_update(out, update)?;
+        put_update(out, &update)?;
     }
     Ok(())
 }

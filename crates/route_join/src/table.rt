@@ -168,22 +168,6 @@ impl Table {
         Ok(taken)
     }
 
-    /// Takes updates of listed originators, one after the other. Where memory is refused, it tells how
-    /// many were taken before.
-    fn take_all(&mut self, updates: &[Update]) -> Result<(), usize>
-        requires { (k : ℕ) → (u : Fields) → slice_get updates.now k ≡ Some u
-            → is_listed self.old u.register.originator ≡ true }
-        ensures taken { OnOk result (self.new ≡ with_updates self.old updates.now) }
-        ensures refused { IfErr result (λ k. StopsAt self.old updates.now k self.new) }
-    {
-        for (k, update) in updates.iter().enumerate() {
-            if self.take(update).is_err() {
-                return Err(k);
-            }
-        }
-        Ok(())
-    }
-
     /// Joins another table to this one, register by register in the order of a report: each register
     /// of either has then the newer of its values. Each originator of the other has to be listed.
     ///
@@ -200,12 +184,11 @@ impl Table {
         ensures listeners { self.new.originators ≡ self.old.originators }
     {
         let mut joined = 0;
-        for (_, group) in &other.groups {
-            let updates = group.updates();
-            if let Err(k) = self.take_all(updates) {
-                return Err(Unmerged { joined: joined + k });
+        for update in Updates::of(&other.groups) {
+            if self.take(&update).is_err() {
+                return Err(Unmerged { joined });
             }
-            joined += updates.len();
+            joined += 1;
         }
         Ok(())
     }
@@ -239,7 +222,7 @@ impl Table {
         };
         match self.groups.get(&subject) {
             None => UpdatesOf::none(),
-            Some(group) => UpdatesOf::of(group),
+            Some(group) => group.updates(),
         }
     }
 

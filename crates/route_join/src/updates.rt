@@ -1,10 +1,10 @@
 //! The updates of a table, one after the other in the order of a report. They take no memory.
 ghost use Rattle.std.specs.Prelude.{◌≡◌, []};
 ghost use Rattle.std.specs.Iterator.{YieldsFirst, item_count};
-ghost use Rattle.route_join.specs.Table.{IsOrdered};
 ghost use Rattle.route_join.specs.Group.{AreGroups, updates_in};
 
 use crate::group::Group;
+use crate::named::Named;
 use crate::subject::Subject;
 use route_wire::Update;
 use std::collections::{BTreeMap, btree_map};
@@ -13,16 +13,18 @@ use std::marker::Model;
 /// The updates of a MAC address, seen as the list of those that are left.
 #[derive(Drop)]
 pub struct UpdatesOf<'a> {
-    left: &'a [Update],
+    few: &'a [Update],
+    many: Option<btree_map::Values<'a, Named, Update>>,
 }
 
 impl<'a> Model for UpdatesOf<'a> {
-    ghost use Rattle.std.specs.Prelude.{List};
+    ghost use Rattle.std.specs.Prelude.{List, ◌++◌};
     ghost use Rattle.route_wire.specs.Fields.{Fields};
+    ghost use Rattle.route_join.specs.Many.{many_left};
 
     ghost Value = { List Fields };
 
-    ghost view = { λ it. it.left.now };
+    ghost view = { λ it. it.few.now ++ many_left it.many };
 }
 
 impl<'a> UpdatesOf<'a> {
@@ -30,16 +32,26 @@ impl<'a> UpdatesOf<'a> {
     pub(crate) fn none() -> Self
         ensures { result ≡ [] }
     {
-        UpdatesOf { left: &[] }
+        UpdatesOf::few(&[])
     }
 
-    /// The updates of a group.
-    pub(crate) fn of(group: &'a Group) -> Self
-        ensures value { result ≡ group.now }
-        ensures ordered { IsOrdered group.now }
+    /// Those of a list.
+    pub(crate) fn few(updates: &'a [Update]) -> Self
+        ensures { result ≡ updates.now }
     {
         UpdatesOf {
-            left: group.updates(),
+            few: updates,
+            many: None,
+        }
+    }
+
+    /// Those of a tree.
+    pub(crate) fn many(updates: btree_map::Values<'a, Named, Update>) -> Self
+        ensures { result ≡ updates.entry }
+    {
+        UpdatesOf {
+            few: &[],
+            many: Some(updates),
         }
     }
 }
@@ -52,9 +64,17 @@ impl<'a> Iterator for UpdatesOf<'a> {
     ghost remaining = { item_count (λ left. left) };
 
     fn next(&mut self) -> Option<Update> {
-        let (first, others) = self.left.split_first()?;
-        self.left = others;
-        Some(*first)
+        if let Some((first, others)) = self.few.split_first() {
+            self.few = others;
+            return Some(*first);
+        }
+        match &mut self.many {
+            None => None,
+            Some(updates) => match updates.next() {
+                None => None,
+                Some(first) => Some(*first),
+            },
+        }
     }
 }
 
@@ -102,7 +122,7 @@ impl<'a> Iterator for Updates<'a> {
             return Some(update);
         }
         let (_, group) = self.groups.next()?;
-        self.first = UpdatesOf::of(group);
+        self.first = group.updates();
         self.first.next()
     }
 }

@@ -104,6 +104,17 @@ impl Dice {
         };
         Update::new(Register { originator, key }, value)
     }
+
+    /// Of one of many registers of one MAC address.
+    fn one_of_many(&mut self) -> Update {
+        let ip = Ip::V4(Addr::new(0xc000_0200 + self.roll(30) as u32));
+        let register = Register {
+            originator: self.originator(),
+            key: Key::Mac(Vni::new(5001), Mac::new(0x0200_0000_000a), Some(ip)),
+        };
+        let value = valued(self.roll(4) + 1, self.content());
+        Update::new(register, value)
+    }
 }
 
 /// A table of groups and a plain list that take the same updates.
@@ -149,6 +160,17 @@ fn random_sequences_agree(rt: HostRuntime) -> Result<(), Fail> {
         for step in 0..60 {
             assert!(rt; both.agree_on(&dice.update())?, "seed {seed}, step {step}");
         }
+    }
+    Ok(())
+}
+
+// So many that they are put into a tree. Where memory for it is refused, the next one tries again.
+#[test]
+fn many_registers_of_one_address_agree(rt: HostRuntime) -> Result<(), Fail> {
+    let mut dice = Dice::new(7);
+    let mut both = Both::new(rt.alloc());
+    for step in 0..150 {
+        assert!(rt; both.agree_on(&dice.one_of_many())?, "step {step}");
     }
     Ok(())
 }

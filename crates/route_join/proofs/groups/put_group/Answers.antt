@@ -1,4 +1,4 @@
-use Rattle.std.proofs.Common.{◌≡◌, ◌++◌, List, ℕ, ap, subst, ◌∙◌}
+use Rattle.std.proofs.Common.{◌++◌, List, ℕ, ap, subst, ◌∙◌}
 use Rattle.ether_wire.specs.Ends.{with_text, Puts}
 use Rattle.ether_wire.proofs.Appending.{puts_behind}
 use Rattle.route_join.specs.Table.{entries_of}
@@ -17,7 +17,7 @@ pub returns-in-Some : goal.returns-in-Some
 returns-in-Some g c =
     let s = c.args.subject.now in
     let line = owner_line s.vni c.in-Some.mac c.owner.result in
-    let lines = register_lines (entries_of c.updates.result.now) in
+    let lines = register_lines (entries_of c.updates.result) in
     subst (λ (text : List ℕ). Puts (g.O.Out.end c.args.out.now) (g.O.Out.end c.put_owner.new.out) text c.put_owner.result)
     (ap (λ us. register_lines (entries_of us) ++ line) c.updates.ensures.value
     ∙ address_report s c.in-Some.mac c.args.group.now c.in-Some.is c.updates.ensures.ordered c.requires.about c.requires.some c.owner.result c.owner.ensures)

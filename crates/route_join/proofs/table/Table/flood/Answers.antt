@@ -12,7 +12,7 @@ pub flood_of-requires : goal.flood_of-requires
 flood_of-requires c =
     let os = c.self.inside.originators.items in
     let gs = c.self.inside.groups.entries in
-    let all : flood_of (table_from os (updates_in gs)) c.args.vni ≡ flooding c.args.vni (entries_of c.updates.result.now) =
+    let all : flood_of (table_from os (updates_in gs)) c.args.vni ≡ flooding c.args.vni (entries_of c.updates.result) =
     ap (flooding c.args.vni) (listed_as os (updates_in gs) c.self.invariant.grouped.kept.ordered ∙ entries_in_all gs) ∙ flooding_there c.args.vni gs c.in-Some.group.now c.self.invariant.grouped.groups (sym c.in-Some.ensures.value)
     ∙ ap (λ us. flooding c.args.vni (entries_of us)) (sym c.updates.ensures.value) in
     subst (λ xs. length xs ≤ 64) all (flood_fits (table_from os (updates_in gs)) c.args.vni c.self.invariant.grouped.kept.listeners c.self.invariant.grouped.kept.listed)

@@ -14,7 +14,7 @@ returns-in-None-clause-exact c = subst (AreUpdatesOf c.args.self.now c.args.vni 
 
 pub returns-in-Some-clause-value : goal.returns-in-Some-clause-value
 returns-in-Some-clause-value c =
-    c.of.ensures.value ∙ updates_there c.self.inside.originators.items c.self.inside.groups.entries c.self.invariant.grouped c.args.vni c.args.mac c.in-Some.group.now (sym c.in-Some.ensures.value)
+    c.updates.ensures.value ∙ updates_there c.self.inside.originators.items c.self.inside.groups.entries c.self.invariant.grouped c.args.vni c.args.mac c.in-Some.group.now (sym c.in-Some.ensures.value)
     ∙ ap (λ (t : Table). updates_of t c.args.vni c.args.mac) c.self.view_is
 
 pub returns-in-Some-clause-exact : goal.returns-in-Some-clause-exact

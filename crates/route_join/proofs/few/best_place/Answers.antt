@@ -1,7 +1,7 @@
 use Rattle.std.proofs.Common.{◌+◌, take, sym, subst}
 use Rattle.route_join.specs.Group.{told, HasWinner}
 use Rattle.route_join.proofs.Leaders.{winner_more, some_update}
-use Rattle.route_join.proofs.group.best_place.Goals as goal
+use Rattle.route_join.proofs.few.best_place.Goals as goal
 
 pub loop-at-preserved : goal.loop-at-preserved
 loop-at-preserved c =

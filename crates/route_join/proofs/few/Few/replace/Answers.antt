@@ -9,7 +9,7 @@ use Rattle.route_join.specs.Group.{told, better_place, stays_best, HasWinner}
 use Rattle.route_join.proofs.Places.{placed}
 use Rattle.route_join.proofs.Edits.{ordered_put}
 use Rattle.route_join.proofs.Leaders.{winner_set, winner_stays}
-use Rattle.route_join.proofs.group.Group.replace.Goals as goal
+use Rattle.route_join.proofs.few.Few.replace.Goals as goal
 
 pub index-requires : goal.index-requires
 index-requires c =

@@ -3,7 +3,7 @@ use Rattle.route_wire.specs.declared.update.Register.{Register}
 use Rattle.route_wire.specs.Fields.{Fields}
 use Rattle.route_join.specs.Subject.{subject_of}
 use Rattle.route_join.proofs.Places.{about_at}
-use Rattle.route_join.proofs.place.walked.Goals as goal
+use Rattle.route_join.proofs.place.place.Goals as goal
 
 pub cmp_within-requires : goal.cmp_within-requires
 cmp_within-requires c =

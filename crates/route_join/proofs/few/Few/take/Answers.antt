@@ -5,7 +5,7 @@ use Rattle.route_join.specs.Table.{entries_of}
 use Rattle.route_join.specs.Group.{entries_with, added}
 use Rattle.route_join.proofs.Edits.{found_at, gap_at}
 use Rattle.route_join.proofs.Leaders.{newer_at, known_at, took_at, stayed_at, held_at, held_new, newer_new, took_new, verdict, on_ok}
-use Rattle.route_join.proofs.group.Group.take.Goals as goal
+use Rattle.route_join.proofs.few.Few.take.Goals as goal
 
 pub index-requires : goal.index-requires
 index-requires c =

@@ -2,7 +2,7 @@ use Rattle.std.proofs.Common.{◌<◌, length, ap, refl, ◌∙◌, arith}
 use Rattle.route_join.specs.Group.{update_among}
 use Rattle.route_join.proofs.Edits.{found_at, gap_at}
 use Rattle.route_join.proofs.Leaders.{among_there, among_none}
-use Rattle.route_join.proofs.group.Group.register.Goals as goal
+use Rattle.route_join.proofs.few.Few.register.Goals as goal
 
 pub index-requires : goal.index-requires
 index-requires c =

@@ -9,7 +9,7 @@ use Rattle.route_join.specs.Group.{told, better_place, moved, IsGroup}
 use Rattle.route_join.proofs.Places.{gapped}
 use Rattle.route_join.proofs.Edits.{inserted, ordered_put}
 use Rattle.route_join.proofs.Leaders.{winner_inserted, winner_movable}
-use Rattle.route_join.proofs.group.Group.insert.Goals as goal
+use Rattle.route_join.proofs.few.Few.insert.Goals as goal
 
 pub insert_at-requires : goal.insert_at-requires
 insert_at-requires c =
