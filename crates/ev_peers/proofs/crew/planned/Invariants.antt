@@ -1,0 +1,16 @@
+use Rattle.std.proofs.Common.{◌≡◌, ◌+◌, ◌≤◌, vec_len, vec_capacity}
+use Rattle.ev_peers.proofs.crew.planned.Given as goal
+
+abbrev pub invariant-loop-input : goal.invariant-loop-input
+invariant-loop-input g l = record {
+  left : vec_len l.port_links ≤ l.count;
+  tasks : vec_len l.tasks + vec_len l.port_links ≡ l.count + 2;
+  sendings : vec_len l.sendings + vec_len l.port_links ≡ l.count + 1;
+  ports : vec_len l.ports + vec_len l.port_links ≡ l.count;
+  tasks_room : l.count + 2 ≤ vec_capacity l.tasks;
+  sendings_room : l.count + 1 ≤ vec_capacity l.sendings;
+  ports_room : l.count ≤ vec_capacity l.ports;
+}
+
+abbrev pub decreases-loop-input : goal.decreases-loop-input
+decreases-loop-input g l = vec_len l.port_links

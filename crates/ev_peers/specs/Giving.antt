@@ -1,0 +1,47 @@
+-- What an answer of a book gives to the links of its edge.
+use Rattle.std.specs.Prelude.{ℕ, List, [], ◌++◌, map, Option, Some, None}
+use Rattle.ether_wire.specs.BpduFrame.{bpdu_frame_of}
+use Rattle.ether_wire.specs.Ports.{ports_of}
+use Rattle.bpdu_wire.specs.declared.bpdu.Bpdu.{Bpdu}
+use Rattle.bpdu_wire.specs.Writing.{octets_of}
+use Rattle.ev_tunnel.specs.declared.decision.Decision.{Decision}
+use Rattle.ev_tunnel.specs.Datagram.{datagram_of}
+use Rattle.ev_edge.specs.declared.reply.Reply.{Reply}
+use Rattle.ev_peers.specs.declared.outlet.Target.{Target}
+use Rattle.ev_peers.specs.declared.outlet.Target.TheVariants.{Port, Edge}
+
+-- octets, and the link that gets them
+pub record Parcel : Type 0 where
+  pub to : Target
+  pub octets : List ℕ
+
+abbrev pub parcel : Target → List ℕ → Parcel
+parcel to octets = record { to = to; octets = octets }
+
+-- what an outlet tells as given, and these behind it; one that tells nothing goes on so
+abbrev pub behind : {A : Type 0} → Option (List A) → List A → Option (List A)
+behind None more = None
+behind (Some given) more = Some (given ++ more)
+
+-- ---- one reply
+
+-- a BPDU goes out at its port, as the frame that carries it
+abbrev pub bpdu_parcel : ℕ → ℕ × Bpdu → Parcel
+bpdu_parcel bridge sent = parcel (Port sent.0) (bpdu_frame_of bridge (octets_of sent.1))
+
+-- each of these ports gets the frame as it is
+abbrev pub to_ports : List ℕ → List ℕ → List Parcel
+to_ports frame ports = map (λ port. parcel (Port port) frame) ports
+
+-- each of these edges gets the datagram
+abbrev pub to_edges : List ℕ → List ℕ → List Parcel
+to_edges datagram edges = map (λ edge. parcel (Edge edge) datagram) edges
+
+-- each port of a decision gets the frame, ascending; then each of its edges gets it in a datagram
+abbrev pub decided : ℕ → List ℕ → Option Decision → List Parcel
+decided vni frame None = []
+decided vni frame (Some d) = to_ports frame (ports_of d.local) ++ to_edges (datagram_of vni frame) d.remote.items
+
+-- the BPDUs, then the frame where it was decided to go
+abbrev pub parcels_of : ℕ → ℕ → List ℕ → Reply → List Parcel
+parcels_of bridge vni frame reply = map (bpdu_parcel bridge) reply.bpdus.items ++ decided vni frame reply.decision

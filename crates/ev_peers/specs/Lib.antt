@@ -1,0 +1,4 @@
+pub mod Giving
+pub mod Links
+pub mod Crew
+pub mod Passing

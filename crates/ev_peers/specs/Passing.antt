@@ -1,0 +1,57 @@
+-- What a worker does with one event: it enters it into its edge's book, and passes on what the book answers.
+use Rattle.std.specs.Prelude.{◌≡◌, ℕ, List, [], ◌∷◌, Option, Some, None, Result, Ok, Err, reverse}
+use Rattle.route_wire.specs.Fields.{Fields}
+use Rattle.ev_edge.specs.declared.event.Event.{Event}
+use Rattle.ev_edge.specs.declared.event.Event.TheVariants.{Announce}
+use Rattle.ev_edge.specs.declared.reply.Reply.{Reply}
+use Rattle.ev_book.specs.declared.refusal.BookRefusal.{BookRefusal}
+use Rattle.ev_book.specs.Book.{BookState, PassState}
+use Rattle.ev_book.specs.Entering.{CallsBook}
+use Rattle.ev_peers.specs.Giving.{Parcel, behind, parcels_of}
+
+-- A call of some book. Which one stood under the lock, no caller knows.
+pub record Entered (p : PassState) (event : Event) (answer : Result Reply BookRefusal) (p' : PassState) : Type 0 where
+  pub before : BookState
+  pub after : BookState
+  pub calls : CallsBook before p event answer after p'
+
+-- ---- announcements
+
+-- the update that an answer announces
+abbrev pub announced_by : Result Reply BookRefusal → Option Fields
+announced_by (Ok reply) = reply.announced
+announced_by (Err refusal) = None
+
+-- a call that asked for an announcement, and what it got
+pub record Asked (p : PassState) (announced : Option Fields) (p' : PassState) : Type 0 where
+  pub answer : Result Reply BookRefusal
+  pub entered : Entered p Announce answer p'
+  pub got : announced_by answer ≡ announced
+
+-- calls that asked one after the other, and got these, the last one first
+abbrev pub AskedEach : PassState → List Fields → PassState → Type 0
+AskedEach p [] p' = p' ≡ p
+AskedEach p (u ∷ us) p' = (middle : PassState) × AskedEach p us middle × Asked middle (Some u) p'
+
+-- It asked until there was none or a call was refused, and gave each to the other edges, in their order.
+pub record Announces (p : PassState) (old : Option (List Fields)) (p' : PassState) (new : Option (List Fields)) : Type 0 where
+  pub middle : PassState
+  pub got : List Fields
+  pub asked : AskedEach p got middle
+  pub last : Asked middle None p'
+  pub given : new ≡ behind old (reverse got)
+
+-- ---- one event
+
+-- what an answer gives to the links of its edge
+abbrev pub given_by : ℕ → ℕ → List ℕ → Result Reply BookRefusal → List Parcel
+given_by bridge vni frame (Ok reply) = parcels_of bridge vni frame reply
+given_by bridge vni frame (Err refusal) = []
+
+-- It entered the event once, gave what the answer gives to the links, and then announced.
+pub record PassesOn (bridge vni : ℕ) (frame : List ℕ) (p : PassState) (event : Event) (given : Option (List Parcel)) (records : Option (List Fields)) (p' : PassState) (given' : Option (List Parcel)) (records' : Option (List Fields)) : Type 0 where
+  pub answer : Result Reply BookRefusal
+  pub middle : PassState
+  pub entered : Entered p event answer middle
+  pub parcels : given' ≡ behind given (given_by bridge vni frame answer)
+  pub announces : Announces middle records p' records'

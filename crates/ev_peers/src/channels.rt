@@ -1,0 +1,179 @@
+//! What goes over channels between workers, and links over channels.
+ghost use Rattle.std.specs.Prelude.{◌≡◌, ◌≤◌, length};
+
+use crate::links::{LinkIn, LinkOut};
+use crate::outlet::copy;
+use crossbeam_channel::{Receiver, SendError, Sender};
+use ether_wire::{Addr, Device};
+use route_wire::Update;
+use std::alloc::{AllocError, Global};
+use std::sync::Wait;
+use std::thread;
+
+/// What an edge sends to another one.
+#[derive(Clone, Copy, PartialEq, Eq, Debug)]
+pub enum Message {
+    /// An update that it has announced.
+    Record(Update),
+    /// Nothing more comes.
+    Stop,
+}
+
+/// What the workers of an edge send to the one that owns a link.
+#[derive(Debug, Drop)]
+pub enum Output {
+    /// These octets, to this address.
+    Frame(Addr, Vec<u8>),
+    /// Nothing more comes.
+    Stop,
+}
+
+/// A datagram over a channel.
+#[derive(Debug, Drop)]
+pub struct Datagram {
+    /// Who sent it.
+    pub from: Addr,
+    /// For whom it is.
+    pub to: Addr,
+    /// What it holds.
+    pub octets: Vec<u8>,
+}
+
+/// A channel between edges, or to a link, with room for one message: so that `last` can be sent over it
+/// whatever memory is refused, once what was sent before it is received.
+///
+/// # Errors
+///
+/// Where memory is refused.
+pub(crate) fn roomy<T: Drop, R: Wait>(
+    rt: &R,
+    alloc: Global,
+    last: T,
+) -> Result<(Sender<T>, Receiver<T>), AllocError> {
+    let (sender, receiver) = crossbeam_channel::unbounded(alloc)?;
+    if sender.send(rt, last).is_err() {
+        return Err(AllocError);
+    }
+    let _ = receiver.recv(rt);
+    Ok((sender, receiver))
+}
+
+/// A channel over which other edges send their records to one.
+///
+/// # Errors
+///
+/// Where memory is refused.
+pub fn peer_channel<R: Wait>(
+    rt: &R,
+    alloc: Global,
+) -> Result<(Sender<Message>, Receiver<Message>), AllocError> {
+    roomy(rt, alloc, Message::Stop)
+}
+
+/// Sends the last message, once there is room for it or nobody receives any more.
+pub(crate) fn send_last<T: Drop, R: Wait>(rt: &R, channel: &Sender<T>, last: T) {
+    let mut message = last;
+    for _ in rt.forever() {
+        match channel.send(rt, message) {
+            Err(SendError::OutOfMemory(back)) => message = back,
+            _ => return,
+        }
+        thread::yield_now();
+    }
+    unreachable!()
+}
+
+/// Datagrams that come over a channel. It ends when nobody can send any more.
+#[derive(Drop)]
+pub struct ChannelIn<'x, R> {
+    rt: &'x R,
+    datagrams: Receiver<Datagram>,
+    failures: u64,
+}
+
+impl<'x, R: Wait> ChannelIn<'x, R> {
+    /// What comes over this channel.
+    pub fn new(rt: &'x R, datagrams: Receiver<Datagram>) -> Self
+        ensures { result.failures ≡ 0 }
+    {
+        ChannelIn {
+            rt,
+            datagrams,
+            failures: 0,
+        }
+    }
+}
+
+/// Puts octets at the front of the buffer, cut to its length, and answers how many there are.
+fn put_front(buffer: &mut [u8], octets: &[u8]) -> usize
+    ensures { result ≤ length buffer.new }
+{
+    let size = octets.len().min(buffer.len());
+    buffer[..size].copy_from_slice(&octets[..size]);
+    size
+}
+
+impl<R: Wait> LinkIn for ChannelIn<'_, R> {
+    ghost failed = { λ c. c.failures };
+
+    fn failures(&self) -> u64 {
+        self.failures
+    }
+
+    fn recv(&mut self, buffer: &mut [u8]) -> Result<Option<(Addr, usize)>, Device> {
+        match self.datagrams.recv(self.rt) {
+            Ok(datagram) => {
+                let size = put_front(buffer, datagram.octets.as_slice());
+                Ok(Some((datagram.from, size)))
+            }
+            Err(_) => Ok(None),
+        }
+    }
+}
+
+/// Sends datagrams over a channel to one other end, whatever address they are for.
+#[derive(Drop)]
+pub struct ChannelOut<'x, R> {
+    rt: &'x R,
+    alloc: Global,
+    from: Addr,
+    datagrams: Sender<Datagram>,
+    failures: u64,
+}
+
+impl<'x, R: Wait> ChannelOut<'x, R> {
+    /// What is sent from this address goes over this channel.
+    pub fn new(rt: &'x R, alloc: Global, from: Addr, datagrams: Sender<Datagram>) -> Self
+        ensures { result.failures ≡ 0 }
+    {
+        ChannelOut {
+            rt,
+            alloc,
+            from,
+            datagrams,
+            failures: 0,
+        }
+    }
+}
+
+impl<R: Wait> LinkOut for ChannelOut<'_, R> {
+    ghost failed = { λ c. c.failures };
+
+    fn failures(&self) -> u64 {
+        self.failures
+    }
+
+    fn send(&mut self, to: Addr, octets: &[u8]) -> Result<(), Device> {
+        let Ok(octets) = copy(self.alloc, octets) else {
+            self.failures += 1;
+            return Err(Device);
+        };
+        let from = self.from;
+        let datagram = Datagram { from, to, octets };
+        if self.datagrams.send(self.rt, datagram).is_err() {
+            self.failures += 1;
+            return Err(Device);
+        }
+        Ok(())
+    }
+}

@@ -1,0 +1,667 @@
+//! An edge with all its workers, each on a thread of its own.
+ghost use Rattle.std.specs.Prelude.{◌≡◌, ◌+◌, ◌≤◌, length, vec_len, vec_capacity, IfOk};
+ghost use Rattle.ev_edge.specs.Config.{IsConfig};
+ghost use Rattle.ev_peers.specs.Crew.{HasRoom, IsReady};
+
+use crate::channels::{Message, Output, roomy, send_last};
+use crate::gate::Gate;
+use crate::links::{LinkIn, LinkOut};
+use crate::outlet::Senders;
+use crate::site::{Ended, Site};
+use crate::workers::{clock_worker, out_worker, peer_worker, port_worker, tunnel_worker};
+use crossbeam_channel::{Receiver, Sender};
+use ether_wire::{Mac, Vni};
+use ev_book::{Book, Pass, Totals};
+use ev_edge::{Edge, EdgeConfig};
+use std::alloc::{AllocError, Global};
+use std::marker::Model;
+use std::sync::atomic::{AtomicBool, Ordering};
+use std::sync::ledger::{Blank, Ledger};
+use std::sync::{Mutex, Wait};
+use std::thread;
+use std::thread::{JoinHandle, Scope, Threads};
+
+/// Both directions of a link.
+#[derive(Drop)]
+pub struct Link<I: Drop, O: Drop> {
+    /// What comes.
+    pub input: I,
+    /// What goes.
+    pub output: O,
+}
+
+/// The links of an edge.
+#[derive(Drop)]
+pub struct EdgeLinks<I: Drop, O: Drop> {
+    /// Those of the access ports, port 1 first.
+    pub ports: Vec<Link<I, O>>,
+    /// That of the tunnels.
+    pub tunnel: Link<I, O>,
+    /// What ticks each second.
+    pub clock: I,
+}
+
+/// An edge's channels from and to the other edges.
+#[derive(Drop)]
+pub struct Peers {
+    /// What the others send.
+    pub records: Receiver<Message>,
+    /// An end over which this edge tells its own worker to stop.
+    pub own: Sender<Message>,
+    /// To each of the others.
+    pub others: Vec<Sender<Message>>,
+}
+
+/// What an edge comes to when its workers have ended.
+#[derive(Drop)]
+pub struct Outcome {
+    /// The edge.
+    pub edge: Edge,
+    /// How many calls of each worker were counted.
+    pub totals: Totals,
+    /// What its workers ended with.
+    pub faults: Faults,
+}
+
+/// What the workers of an edge ended with.
+#[derive(Clone, Copy, Debug, PartialEq, Eq)]
+pub struct Faults {
+    /// How many frames were lost in failed calls of links.
+    pub lost: u64,
+    /// Whether the link of a worker failed.
+    pub device: bool,
+    /// Whether a worker was refused memory or a thread.
+    pub memory: bool,
+}
+
+/// What a thread that enters events gives back.
+type Entered<L> = (Pass<L>, Ended);
+
+/// What a thread that sends frames gives back: how many were lost, and whether there was a thread.
+type Sent = (u64, Ended);
+
+/// What a worker enters.
+#[derive(Drop)]
+enum Task<I: Drop> {
+    /// The frames that come over this link at the port with this number, of this network.
+    Port(u8, Vni, I),
+    /// The datagrams that come over this link.
+    Tunnel(I),
+    /// The ticks of this clock.
+    Clock(I),
+    /// The records that come over this channel.
+    Peer(Receiver<Message>),
+}
+
+/// A link, and what is to be sent over it.
+#[derive(Drop)]
+struct Sending<O: Drop> {
+    link: O,
+    frames: Receiver<Output>,
+}
+
+/// What the threads of an edge share.
+#[derive(Drop)]
+struct Shared {
+    /// To what is sent over the ports' links, port 1 first.
+    ports: Vec<Sender<Output>>,
+    /// To what is sent over the tunnel's link.
+    tunnel: Sender<Output>,
+    /// Whether there was no thread, for each task.
+    no_entering: Vec<AtomicBool>,
+    /// Whether there was no thread, for each that sends.
+    no_sending: Vec<AtomicBool>,
+    /// Whether there was no thread for the records of other edges.
+    no_peer: AtomicBool,
+    /// An end of the channel over which they come.
+    own: Sender<Message>,
+    /// To the other edges.
+    others: Vec<Sender<Message>>,
+}
+
+/// What the threads of an edge begin and end with, so that this needs no memory.
+#[derive(Drop)]
+struct Crew<L: Ledger, I: Drop, O: Drop> {
+    /// What is entered from links: of the clock, the tunnel, and the ports from the last to the first.
+    tasks: Vec<Task<I>>,
+    /// What is sent over links.
+    sendings: Vec<Sending<O>>,
+    /// Room for the threads that enter.
+    entering: Vec<JoinHandle<Entered<L>>>,
+    /// Room for the threads that send.
+    sending: Vec<JoinHandle<Sent>>,
+    /// Room for the passes that come back.
+    passes: Vec<Pass<L>>,
+    /// What other edges send.
+    records: Receiver<Message>,
+}
+
+impl Faults {
+    /// Workers that ended as they should.
+    fn none() -> Self {
+        Faults {
+            lost: 0,
+            device: false,
+            memory: false,
+        }
+    }
+
+    /// Both together.
+    fn and(self, other: Faults) -> Self {
+        Faults {
+            lost: self.lost.saturating_add(other.lost),
+            device: self.device || other.device,
+            memory: self.memory || other.memory,
+        }
+    }
+
+    /// With what one more worker ended with.
+    fn with(self, ended: Ended) -> Self {
+        Faults {
+            lost: self.lost,
+            device: self.device || ended == Ended::Device,
+            memory: self.memory || ended == Ended::NoMemory,
+        }
+    }
+
+    /// With what was lost over one more link.
+    fn with_lost(self, sent: Sent) -> Self {
+        let faults = self.with(sent.1);
+        Faults {
+            lost: faults.lost.saturating_add(sent.0),
+            ..faults
+        }
+    }
+}
+
+/// A worker that enters what its task says, unless there was no thread for it.
+fn enter_task<L: Ledger, I: LinkIn + Drop, G: Gate, R: Wait>(
+    site: &Site<'_, L, G, R>,
+    outlet: &Senders<'_, R>,
+    pass: Pass<L>,
+    task: Task<I>,
+    is_refused: &AtomicBool,
+) -> Entered<L> {
+    let mut pass = pass;
+    let mut outlet = outlet.again();
+    if is_refused.load(Ordering::SeqCst) {
+        return (pass, Ended::NoMemory);
+    }
+    let ended = match task {
+        Task::Peer(records) => peer_worker(site, &mut pass, &mut outlet, &records),
+        Task::Port(port, vni, mut link) => {
+            port_worker(site, &mut pass, &mut outlet, &mut link, port, vni)
+        }
+        Task::Tunnel(mut link) => tunnel_worker(site, &mut pass, &mut outlet, &mut link),
+        Task::Clock(mut clock) => clock_worker(site, &mut pass, &mut outlet, &mut clock),
+    };
+    (pass, ended)
+}
+
+/// Such a worker, with references of its own.
+fn enter_alone<'x, L: Ledger, I: LinkIn + Drop, G: Gate, R: Wait>(
+    site: Site<'x, L, G, R>,
+    outlet: Senders<'x, R>,
+    pass: Pass<L>,
+    task: Task<I>,
+    is_refused: &'x AtomicBool,
+) -> Entered<L> {
+    let Site {
+        rt,
+        book,
+        gate,
+        edge,
+        bridge,
+    } = site;
+    let Senders {
+        rt: _,
+        alloc,
+        ports,
+        tunnel,
+        others,
+    } = outlet;
+    let site = Site {
+        rt,
+        book,
+        gate,
+        edge,
+        bridge,
+    };
+    let outlet = Senders {
+        rt,
+        alloc,
+        ports,
+        tunnel,
+        others,
+    };
+    enter_task(&site, &outlet, pass, task, is_refused)
+}
+
+/// A worker that sends over its link, unless there was no thread for it.
+fn send_all<O: LinkOut + Drop, R: Wait>(
+    rt: &R,
+    sending: Sending<O>,
+    is_refused: &AtomicBool,
+) -> Sent {
+    let Sending { mut link, frames } = sending;
+    if is_refused.load(Ordering::SeqCst) {
+        return (0, Ended::NoMemory);
+    }
+    (out_worker(rt, &mut link, &frames), Ended::End)
+}
+
+/// So many words that say no.
+fn no_words(alloc: Global, count: usize) -> Result<Vec<AtomicBool>, AllocError>
+    ensures { IfOk result (λ words. vec_len words ≡ count) }
+{
+    let mut words = Vec::with_capacity(alloc, count)?;
+    for place in 0..count {
+        let _ = place;
+        words.push_reserved(AtomicBool::new(false));
+    }
+    Ok(words)
+}
+
+/// The address from which an edge's bridge speaks.
+fn bridge_of(config: &EdgeConfig) -> Mac {
+    Mac::new(config.tree.identifier.address())
+}
+
+/// The network of a port.
+fn vni_of(config: &EdgeConfig, port: usize) -> Vni {
+    match config.ports.as_slice().get(port.saturating_sub(1)) {
+        Some(config) => config.vni,
+        None => Vni::default(),
+    }
+}
+
+/// What the threads of an edge with these links and ports need.
+fn planned<L: Ledger, I: Drop, O: Drop, R: Wait>(
+    rt: &R,
+    alloc: Global,
+    links: EdgeLinks<I, O>,
+    peers: Peers,
+    config: &EdgeConfig,
+) -> Result<(Crew<L, I, O>, Shared), AllocError>
+    requires { vec_len links.ports ≤ 253 }
+    ensures tasks { IfOk result (λ r. vec_len r.0.tasks ≡ vec_len links.ports + 2) }
+    ensures no_entering { IfOk result (λ r. vec_len r.1.no_entering ≡ vec_len links.ports + 2) }
+    ensures sendings { IfOk result (λ r. vec_len r.0.sendings ≡ vec_len links.ports + 1) }
+    ensures no_sending { IfOk result (λ r. vec_len r.1.no_sending ≡ vec_len links.ports + 1) }
+    ensures room { IfOk result (λ r. HasRoom (vec_len r.0.tasks) (vec_len r.0.sendings) (vec_len r.0.entering) (vec_capacity r.0.entering) (vec_len r.0.sending) (vec_capacity r.0.sending) (vec_len r.0.passes) (vec_capacity r.0.passes)) }
+{
+    let EdgeLinks {
+        ports: mut port_links,
+        tunnel: tunnel_link,
+        clock,
+    } = links;
+    let count = port_links.len();
+    let mut tasks = Vec::with_capacity(alloc, count + 2)?;
+    let mut sendings = Vec::with_capacity(alloc, count + 1)?;
+    let mut ports = Vec::with_capacity(alloc, count)?;
+    tasks.push_reserved(Task::Clock(clock));
+    let (tunnel, frames) = roomy(rt, alloc, Output::Stop)?;
+    let Link {
+        input,
+        output: link,
+    } = tunnel_link;
+    tasks.push_reserved(Task::Tunnel(input));
+    sendings.push_reserved(Sending { link, frames });
+    while let Some(
+        Link {
+            input,
+            output: link,
+        },
+    ) = port_links.pop()
+    {
+        let port = port_links.len() + 1;
+        let (channel, frames) = roomy(rt, alloc, Output::Stop)?;
+        tasks.push_reserved(Task::Port(port as u8, vni_of(config, port), input));
+        sendings.push_reserved(Sending { link, frames });
+        ports.push_reserved(channel);
+    }
+    ports.as_mut_slice().reverse();
+    let Peers {
+        records,
+        own,
+        others,
+    } = peers;
+    let shared = Shared {
+        ports,
+        tunnel,
+        no_entering: no_words(alloc, count + 2)?,
+        no_sending: no_words(alloc, count + 1)?,
+        no_peer: AtomicBool::new(false),
+        own,
+        others,
+    };
+    let crew = Crew {
+        tasks,
+        sendings,
+        entering: Vec::with_capacity(alloc, count + 2)?,
+        sending: Vec::with_capacity(alloc, count + 1)?,
+        passes: Vec::with_capacity(alloc, count + 3)?,
+        records,
+    };
+    Ok((crew, shared))
+}
+
+/// Starts a thread for each link that frames are sent over.
+fn start_sending<'s, 'x: 's, O: LinkOut + Drop + Send + 'x, R: Wait + Sync + 'x>(
+    scope: &Scope<'s, &'x ()>,
+    rt: &'x R,
+    refused: &'x [AtomicBool],
+    sendings: Vec<Sending<O>>,
+    running: Vec<JoinHandle<Sent>>,
+) -> (Vec<JoinHandle<Sent>>, Faults)
+    requires words { vec_len sendings ≤ length refused.now }
+    requires room { vec_len running + vec_len sendings ≤ vec_capacity running }
+{
+    let mut sendings = sendings;
+    let mut running = running;
+    let mut faults = Faults::none();
+    while let Some(sending) = sendings.pop() {
+        let is_refused = &refused[sendings.len()];
+        match scope.spawn(move || send_all(rt, sending, is_refused)) {
+            Ok(handle) => running.push_reserved(handle),
+            Err(no_thread) => {
+                is_refused.store(true, Ordering::SeqCst);
+                faults = faults.with_lost((no_thread.value)());
+            }
+        }
+    }
+    (running, faults)
+}
+
+/// Starts a thread for each link whose datagrams are entered.
+fn start_entering<
+    's,
+    'x: 's,
+    L: Ledger + Send + Sync + 'x,
+    I: LinkIn + Drop + Send + 'x,
+    G: Gate + Sync + 'x,
+    R: Wait + Sync + 'x,
+>(
+    scope: &Scope<'s, &'x ()>,
+    site: &Site<'x, L, G, R>,
+    shared: &'x Shared,
+    outlet: &Senders<'x, R>,
+    tasks: Vec<Task<I>>,
+    fresh: Vec<Pass<L>>,
+    running: Vec<JoinHandle<Entered<L>>>,
+    passes: Vec<Pass<L>>,
+) -> (Vec<JoinHandle<Entered<L>>>, Vec<Pass<L>>, Faults)
+    requires words { vec_len tasks ≤ vec_len shared.now.no_entering }
+    requires fresh { vec_len fresh ≡ vec_len tasks }
+    requires running { vec_len running + vec_len tasks ≤ vec_capacity running }
+    requires passes { vec_len passes + vec_len tasks + 1 ≤ vec_capacity passes }
+    ensures all { vec_len result.0 + vec_len result.1 ≡ vec_len running + vec_len passes + vec_len tasks }
+    ensures room { vec_capacity result.1 ≡ vec_capacity passes }
+{
+    let mut fresh = fresh;
+    let mut tasks = tasks;
+    let mut running = running;
+    let mut passes = passes;
+    let mut faults = Faults::none();
+    while let (Some(task), Some(pass)) = (tasks.pop(), fresh.pop()) {
+        let (site, outlet) = (site.again(), outlet.again());
+        let is_refused = &shared.no_entering[tasks.len()];
+        match scope.spawn(move || enter_alone(site, outlet, pass, task, is_refused)) {
+            Ok(handle) => running.push_reserved(handle),
+            Err(no_thread) => {
+                is_refused.store(true, Ordering::SeqCst);
+                let (pass, ended) = (no_thread.value)();
+                passes.push_reserved(pass);
+                faults = faults.with(ended);
+            }
+        }
+    }
+    (running, passes, faults)
+}
+
+/// Waits for the threads that enter, and gives all passes back.
+fn join_entering<L: Ledger, R: Threads>(
+    rt: &R,
+    running: Vec<JoinHandle<Entered<L>>>,
+    passes: Vec<Pass<L>>,
+) -> (Vec<Pass<L>>, Faults)
+    requires { vec_len passes + vec_len running ≤ vec_capacity passes }
+    ensures len { vec_len result.0 ≡ vec_len passes + vec_len running }
+    ensures room { vec_capacity result.0 ≡ vec_capacity passes }
+{
+    let mut running = running;
+    let mut passes = passes;
+    let mut faults = Faults::none();
+    while let Some(handle) = running.pop() {
+        let (pass, ended) = handle.join(rt);
+        passes.push_reserved(pass);
+        faults = faults.with(ended);
+    }
+    (passes, faults)
+}
+
+/// Waits for the threads that send.
+fn join_sending<R: Threads>(rt: &R, running: Vec<JoinHandle<Sent>>) -> Faults {
+    let mut running = running;
+    let mut faults = Faults::none();
+    while let Some(handle) = running.pop() {
+        faults = faults.with_lost(handle.join(rt));
+    }
+    faults
+}
+
+/// Tells those that send over links to stop.
+fn stop_sending<R: Wait>(outlet: &Senders<'_, R>) {
+    for port in outlet.ports {
+        send_last(outlet.rt, port, Output::Stop);
+    }
+    send_last(outlet.rt, outlet.tunnel, Output::Stop);
+}
+
+/// Starts the thread that enters what other edges send, or gives its pass back.
+fn start_peer<
+    's,
+    'x: 's,
+    L: Ledger + Send + Sync + 'x,
+    I: LinkIn + Drop + Send + 'x,
+    G: Gate + Sync + 'x,
+    R: Wait + Sync + 'x,
+>(
+    scope: &Scope<'s, &'x ()>,
+    site: &Site<'x, L, G, R>,
+    shared: &'x Shared,
+    outlet: &Senders<'x, R>,
+    pass: Pass<L>,
+    task: Task<I>,
+) -> Result<JoinHandle<Entered<L>>, Entered<L>> {
+    let (site, outlet) = (site.again(), outlet.again());
+    let is_refused = &shared.no_peer;
+    match scope.spawn(move || enter_alone(site, outlet, pass, task, is_refused)) {
+        Ok(handle) => Ok(handle),
+        Err(no_thread) => {
+            is_refused.store(true, Ordering::SeqCst);
+            Err((no_thread.value)())
+        }
+    }
+}
+
+/// What the workers of an edge begin with, ready to run. It is seen as how many passes the tasks have.
+#[derive(Drop)]
+struct Launch<'x, L: Ledger, I: Drop, O: Drop> {
+    crew: Crew<L, I, O>,
+    /// The passes of the tasks, the last task's first.
+    fresh: Vec<Pass<L>>,
+    /// The pass of the worker of other edges' records.
+    peer: Pass<L>,
+    shared: &'x Shared,
+}
+
+impl<'x, L: Ledger, I: Drop, O: Drop> Model for Launch<'x, L, I, O> {
+    ghost use Rattle.std.specs.Prelude.{ℕ, vec_len, vec_capacity};
+    ghost use Rattle.ev_peers.specs.Crew.{IsReady};
+
+    ghost Value = { ℕ };
+
+    ghost view = { λ l. vec_len l.fresh };
+
+    ghost invariant = { λ l. IsReady (vec_len l.crew.tasks) (vec_len l.crew.sendings) (vec_len l.crew.entering) (vec_capacity l.crew.entering) (vec_len l.crew.sending) (vec_capacity l.crew.sending) (vec_len l.crew.passes) (vec_capacity l.crew.passes) (vec_len l.shared.now.no_entering) (vec_len l.shared.now.no_sending) (vec_len l.fresh) };
+}
+
+/// Starts the workers of an edge, each on a thread, waits until they have ended, and gives all passes
+/// back: those of ports, tunnel and clock, then the one of the other edges' records, then those that
+/// send.
+fn run_within<
+    's,
+    'x: 's,
+    L: Ledger + Send + Sync + 'x,
+    I: LinkIn + Drop + Send + 'x,
+    O: LinkOut + Drop + Send + 'x,
+    G: Gate + Sync + 'x,
+    R: Threads + Wait + Sync + 'x,
+>(
+    scope: &Scope<'s, &'x ()>,
+    rt: &'x R,
+    site: &Site<'x, L, G, R>,
+    outlet: &Senders<'x, R>,
+    launch: Launch<'x, L, I, O>,
+) -> (Vec<Pass<L>>, Faults)
+    ensures { vec_len result.0 ≡ launch.entry + 1 }
+{
+    let Launch {
+        crew,
+        fresh,
+        peer,
+        shared,
+    } = launch;
+    let Crew {
+        tasks,
+        sendings,
+        entering,
+        sending,
+        passes,
+        records,
+    } = crew;
+    let words = shared.no_sending.as_slice();
+    let (sending, no_sent) = start_sending(scope, rt, words, sendings, sending);
+    let task = Task::Peer(records);
+    let peer = start_peer::<L, I, G, R>(scope, site, shared, outlet, peer, task);
+    let (entering, passes, begun) = start_entering(
+        scope, site, shared, outlet, tasks, fresh, entering, passes,
+    );
+    let (mut passes, entered) = join_entering(rt, entering, passes);
+    send_last(rt, &shared.own, Message::Stop);
+    let (pass, ended) = match peer {
+        Ok(handle) => handle.join(rt),
+        Err(entered) => entered,
+    };
+    passes.push_reserved(pass);
+    stop_sending(outlet);
+    let sent = join_sending(rt, sending);
+    (
+        passes,
+        no_sent.and(begun).and(entered).and(sent).with(ended),
+    )
+}
+
+/// Runs the workers of an edge over its book.
+fn run_workers<
+    'x,
+    L: Ledger + Send + Sync + 'x,
+    I: LinkIn + Drop + Send + 'x,
+    O: LinkOut + Drop + Send + 'x,
+    G: Gate + Sync + 'x,
+    R: Threads + Wait + Sync + 'x,
+>(
+    rt: &'x R,
+    alloc: Global,
+    gate: &'x G,
+    edge: usize,
+    bridge: Mac,
+    book: &'x Mutex<Book<L>>,
+    shared: &'x Shared,
+    crew: Crew<L, I, O>,
+    fresh: Vec<Pass<L>>,
+    peer: Pass<L>,
+) -> (Vec<Pass<L>>, Faults)
+    requires { IsReady (vec_len crew.tasks) (vec_len crew.sendings) (vec_len crew.entering) (vec_capacity crew.entering) (vec_len crew.sending) (vec_capacity crew.sending) (vec_len crew.passes) (vec_capacity crew.passes) (vec_len shared.now.no_entering) (vec_len shared.now.no_sending) (vec_len fresh) }
+    ensures { vec_len result.0 ≡ vec_len fresh + 1 }
+{
+    let launch = Launch {
+        crew,
+        fresh,
+        peer,
+        shared,
+    };
+    thread::scope(
+        thread::scope_env(),
+        rt,
+        move |scope| -> (Vec<Pass<L>>, Faults)
+            ensures { vec_len result.0 ≡ launch.entry + 1 }
+        {
+            let site = Site {
+                rt,
+                book,
+                gate,
+                edge,
+                bridge,
+            };
+            let outlet = Senders {
+                rt,
+                alloc,
+                ports: shared.ports.as_slice(),
+                tunnel: &shared.tunnel,
+                others: shared.others.as_slice(),
+            };
+            run_within(scope, rt, &site, &outlet, launch)
+        },
+    )
+}
+
+/// Opens an edge's book under a ledger of its own, runs the edge's workers, and closes the book with the
+/// passes that they give back: passes 0, 1 .. are those of the ports, then of the tunnel, the clock and
+/// the other edges' records.
+///
+/// # Errors
+///
+/// Where memory is refused before a worker has begun.
+pub fn edge_worker<
+    L: Ledger + Send + Sync,
+    I: LinkIn + Drop + Send,
+    O: LinkOut + Drop + Send,
+    G: Gate + Sync,
+    R: Threads + Wait + Sync,
+>(
+    rt: &R,
+    alloc: Global,
+    blank: Blank,
+    number: usize,
+    config: EdgeConfig,
+    links: EdgeLinks<I, O>,
+    peers: Peers,
+    gate: &G,
+) -> Result<Outcome, AllocError>
+    requires name { blank.name ≡ L.name }
+    requires parts { blank.parts ≡ L.parts }
+    requires each { blank.parts ≡ vec_len links.ports + 3 }
+    requires most { vec_len links.ports ≤ 253 }
+    requires config { IsConfig config }
+{
+    let count = links.ports.len() + 3;
+    let bridge = bridge_of(&config);
+    let (crew, shared) = planned(rt, alloc, links, peers, &config)?;
+    let (book, mut fresh) = Book::<L>::open(alloc, blank, config, count)?;
+    let Some(peer) = fresh.pop() else {
+        unreachable!()
+    };
+    fresh.as_mut_slice().reverse();
+    let book = Mutex::new(book);
+    let (passes, faults) = run_workers(
+        rt, alloc, gate, number, bridge, &book, &shared, crew, fresh, peer,
+    );
+    let (edge, totals) = book.into_inner().close(passes);
+    Ok(Outcome {
+        edge,
+        totals,
+        faults,
+    })
+}

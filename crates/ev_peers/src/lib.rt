@@ -1,0 +1,27 @@
+//! Workers of an edge: each enters what comes over its link or channel into the edge's book, and passes
+//! on what the book answers, frames to links and records to the other edges.
+#![tactic(auto)]
+
+mod channels;
+mod crew;
+mod fail_at;
+mod gate;
+mod giving;
+mod links;
+mod outlet;
+mod run;
+mod site;
+mod udp;
+mod workers;
+
+pub use channels::{ChannelIn, ChannelOut, Datagram, Message, Output, peer_channel};
+pub use crew::{EdgeLinks, Faults, Link, Outcome, Peers, edge_worker};
+pub use fail_at::FailAt;
+pub use gate::{Gate, OpenGate, Point};
+pub use giving::give_out;
+pub use links::{LinkIn, LinkOut};
+pub use outlet::{NoMemory, Outlet, Senders, Target};
+pub use run::{Setup, run_all};
+pub use site::{Ended, Site};
+pub use udp::{Destination, UdpOut, Wire, socket_address};
+pub use workers::{clock_worker, out_worker, peer_worker, port_worker, tunnel_worker};

@@ -1,0 +1,44 @@
+//! Where datagrams come from and where they go: an access port, a tunnel's socket, a clock.
+ghost use Rattle.std.specs.Prelude.{◌≡◌, ℕ, ◌+◌, ◌^◌, ◌<◌, ◌≤◌, length, is_err, if◌then◌else◌, IfOk, IfSome};
+
+use ether_wire::{Addr, Device};
+
+/// Where datagrams come from.
+pub trait LinkIn {
+    /// How many calls have failed.
+    ghost failed: { Self → ℕ };
+
+    /// How many calls have failed so far.
+    fn failures(&self) -> u64
+        ensures { result ≡ failed self.now };
+
+    /// Waits for the next datagram and puts it at the front of the buffer, cut to its length: the
+    /// address that it comes from, and how many octets it has in the buffer. None at the end.
+    ///
+    /// # Errors
+    ///
+    /// `Device` exactly where it raises `failures` by one.
+    fn recv(&mut self, buffer: &mut [u8]) -> Result<Option<(Addr, usize)>, Device>
+        requires { failed self.old + 1 < 2 ^ 64 }
+        ensures fits { IfOk result (λ r. IfSome r (λ p. p.1 ≤ length buffer.new)) }
+        ensures failed { failed self.new ≡ failed self.old + (if is_err result then 1 else 0) };
+}
+
+/// Where datagrams go.
+pub trait LinkOut {
+    /// How many calls have failed.
+    ghost failed: { Self → ℕ };
+
+    /// How many calls have failed so far.
+    fn failures(&self) -> u64
+        ensures { result ≡ failed self.now };
+
+    /// Sends a datagram to this address. A link with one other end looks at no address.
+    ///
+    /// # Errors
+    ///
+    /// `Device` exactly where it raises `failures` by one. The datagram is lost then.
+    fn send(&mut self, to: Addr, octets: &[u8]) -> Result<(), Device>
+        requires { failed self.old + 1 < 2 ^ 64 }
+        ensures { failed self.new ≡ failed self.old + (if is_err result then 1 else 0) };
+}

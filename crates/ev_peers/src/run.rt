@@ -1,0 +1,282 @@
+//! Edges that run beside each other, each on a thread, with a channel from each to each.
+ghost use Rattle.std.specs.Prelude.{◌≡◌, ◌+◌, ◌≤◌, vec_len, vec_capacity, IfOk};
+ghost use Rattle.ev_edge.specs.Config.{IsConfig};
+ghost use Rattle.ev_peers.specs.Crew.{HasEdges};
+
+use crate::channels::{Message, peer_channel};
+use crate::crew::{EdgeLinks, Outcome, Peers, edge_worker};
+use crate::gate::Gate;
+use crate::links::{LinkIn, LinkOut};
+use crossbeam_channel::{Receiver, Sender};
+use ev_edge::EdgeConfig;
+use std::alloc::{AllocError, Global};
+use std::marker::{Brand, Model};
+use std::sync::Wait;
+use std::sync::ledger::Blank;
+use std::thread;
+use std::thread::{JoinHandle, Scope, Threads};
+
+/// What an edge is opened with, and its links, of 64 ports at most. It is seen as how many ports those are.
+#[derive(Drop)]
+pub struct Setup<I: Drop, O: Drop> {
+    config: EdgeConfig,
+    links: EdgeLinks<I, O>,
+}
+
+impl<I: Drop, O: Drop> Model for Setup<I, O> {
+    ghost use Rattle.std.specs.Prelude.{ℕ, ◌≤◌, vec_len};
+    ghost use Rattle.ev_edge.specs.Config.{IsConfig};
+
+    ghost Value = { ℕ };
+
+    ghost view = { λ s. vec_len s.links.ports };
+
+    ghost invariant = { λ s. IsConfig s.config × (vec_len s.links.ports ≤ 64) };
+}
+
+impl<I: Drop, O: Drop> Setup<I, O> {
+    /// An edge with these links.
+    pub fn new(config: EdgeConfig, links: EdgeLinks<I, O>) -> Self
+        requires config { IsConfig config }
+        requires few { vec_len links.ports ≤ 64 }
+    {
+        Setup { config, links }
+    }
+}
+
+/// The channels of all edges: what is sent to each, and what each receives.
+type Channels = (Vec<Sender<Message>>, Vec<Receiver<Message>>);
+
+/// What a thread of an edge gives back.
+type Ran = Result<Outcome, AllocError>;
+
+/// A channel for each edge.
+fn channels<R: Wait>(rt: &R, alloc: Global, edges: usize) -> Result<Channels, AllocError>
+    ensures { IfOk result (λ r. (vec_len r.0 ≡ edges) × (vec_len r.1 ≡ edges)) }
+{
+    let mut senders = Vec::with_capacity(alloc, edges)?;
+    let mut receivers = Vec::with_capacity(alloc, edges)?;
+    for place in 0..edges {
+        let _ = place;
+        let (sender, receiver) = peer_channel(rt, alloc)?;
+        senders.push_reserved(sender);
+        receivers.push_reserved(receiver);
+    }
+    Ok((senders, receivers))
+}
+
+/// The channels to all edges but the one at this place.
+fn others(
+    alloc: Global,
+    senders: &[Sender<Message>],
+    but: usize,
+) -> Result<Vec<Sender<Message>>, AllocError> {
+    let mut others = Vec::with_capacity(alloc, senders.len())?;
+    for (place, sender) in senders.iter().enumerate() {
+        if place != but {
+            others.push(sender.clone()?)?;
+        }
+    }
+    Ok(others)
+}
+
+/// The channels of each edge, from it and to it. Which edge gets which doesn't matter.
+fn all_peers<R: Wait>(rt: &R, alloc: Global, edges: usize) -> Result<Vec<Peers>, AllocError>
+    ensures { IfOk result (λ peers. vec_len peers ≡ edges) }
+{
+    let (senders, mut receivers) = channels(rt, alloc, edges)?;
+    let mut peers = Vec::with_capacity(alloc, edges)?;
+    while let Some(records) = receivers.pop() {
+        let place = receivers.len();
+        peers.push_reserved(Peers {
+            records,
+            own: senders[place].clone()?,
+            others: others(alloc, senders.as_slice(), place)?,
+        });
+    }
+    Ok(peers)
+}
+
+/// One edge, under a ledger of its own.
+fn run_one<
+    I: LinkIn + Drop + Send,
+    O: LinkOut + Drop + Send,
+    G: Gate + Sync,
+    R: Threads + Wait + Sync,
+>(rt: &R, alloc: Global, number: usize, setup: Setup<I, O>, peers: Peers, gate: &G) -> Ran {
+    let Setup { config, links } = setup;
+    let blank = Blank::new(links.ports.len() as u64 + 3);
+    edge_worker::<Brand, I, O, G, R>(rt, alloc, blank, number, config, links, peers, gate)
+}
+
+/// Starts a thread for each edge, the last one first.
+fn start_edges<
+    's,
+    'x: 's,
+    I: LinkIn + Drop + Send + 'x,
+    O: LinkOut + Drop + Send + 'x,
+    G: Gate + Sync + 'x,
+    R: Threads + Wait + Sync + 'x,
+>(
+    scope: &Scope<'s, &'x ()>,
+    rt: &'x R,
+    alloc: Global,
+    setups: Vec<Setup<I, O>>,
+    peers: Vec<Peers>,
+    gate: &'x G,
+    running: Vec<Option<JoinHandle<Ran>>>,
+) -> Vec<Option<JoinHandle<Ran>>>
+    requires peers { vec_len peers ≡ vec_len setups }
+    requires room { (vec_len running ≡ 0) × (vec_len setups ≤ vec_capacity running) }
+    ensures { vec_len result ≡ vec_len setups }
+{
+    let mut setups = setups;
+    let mut peers = peers;
+    let mut running = running;
+    while let Some(setup) = setups.pop() {
+        let Some(channels) = peers.pop() else {
+            unreachable!()
+        };
+        let number = setups.len() + 1;
+        let handle = match scope.spawn(move || run_one(rt, alloc, number, setup, channels, gate)) {
+            Ok(handle) => Some(handle),
+            Err(_) => None,
+        };
+        running.push_reserved(handle);
+    }
+    running
+}
+
+/// Waits for the threads of all edges.
+fn join_edges<R: Threads>(
+    rt: &R,
+    running: Vec<Option<JoinHandle<Ran>>>,
+    ended: Vec<Ran>,
+) -> Vec<Ran>
+    requires { (vec_len ended ≡ 0) × (vec_len running ≤ vec_capacity ended) }
+    ensures { vec_len result ≡ vec_len running }
+{
+    let mut running = running;
+    let mut ended = ended;
+    while let Some(handle) = running.pop() {
+        ended.push_reserved(match handle {
+            Some(handle) => handle.join(rt),
+            None => Err(AllocError),
+        });
+    }
+    ended
+}
+
+/// Edges that are ready to run. They are seen as how many edges those are.
+#[derive(Drop)]
+struct Start<I: Drop, O: Drop> {
+    setups: Vec<Setup<I, O>>,
+    peers: Vec<Peers>,
+    running: Vec<Option<JoinHandle<Ran>>>,
+    ended: Vec<Ran>,
+}
+
+impl<I: Drop, O: Drop> Model for Start<I, O> {
+    ghost use Rattle.std.specs.Prelude.{ℕ, vec_len, vec_capacity};
+    ghost use Rattle.ev_peers.specs.Crew.{HasEdges};
+
+    ghost Value = { ℕ };
+
+    ghost view = { λ s. vec_len s.setups };
+
+    ghost invariant = { λ s. HasEdges (vec_len s.setups) (vec_len s.peers) (vec_len s.running) (vec_capacity s.running) (vec_len s.ended) (vec_capacity s.ended) };
+}
+
+/// Starts the edges, waits until `until` has returned and then until all their workers have ended.
+fn run_within<
+    's,
+    'x: 's,
+    I: LinkIn + Drop + Send + 'x,
+    O: LinkOut + Drop + Send + 'x,
+    G: Gate + Sync + 'x,
+    R: Threads + Wait + Sync + 'x,
+    F: FnOnce() -> T + Drop,
+    T,
+>(
+    scope: &Scope<'s, &'x ()>,
+    rt: &'x R,
+    alloc: Global,
+    gate: &'x G,
+    start: Start<I, O>,
+    until: F,
+) -> (Vec<Ran>, T)
+    requires { F.pre until }
+    ensures all { vec_len result.0 ≡ start }
+    ensures until { F.post until result.1 }
+{
+    let Start {
+        setups,
+        peers,
+        running,
+        ended,
+    } = start;
+    let running = start_edges(scope, rt, alloc, setups, peers, gate, running);
+    let told = until();
+    (join_edges(rt, running, ended), told)
+}
+
+/// Runs the edges until `until` has returned and all their workers have ended.
+fn run_start<
+    'x,
+    I: LinkIn + Drop + Send + 'x,
+    O: LinkOut + Drop + Send + 'x,
+    G: Gate + Sync + 'x,
+    R: Threads + Wait + Sync + 'x,
+    F: FnOnce() -> T + Drop,
+    T,
+>(rt: &'x R, alloc: Global, gate: &'x G, start: Start<I, O>, until: F) -> (Vec<Ran>, T)
+    requires { F.pre until }
+    ensures all { vec_len result.0 ≡ start }
+    ensures until { F.post until result.1 }
+{
+    thread::scope(
+        thread::scope_env(),
+        rt,
+        move |scope| -> (Vec<Ran>, T)
+            requires { F.pre until }
+            ensures { (vec_len result.0 ≡ start) × F.post until result.1 }
+        { run_within(scope, rt, alloc, gate, start, until) },
+    )
+}
+
+/// Runs edges beside each other, each on a thread with its workers, until `until` has returned and the
+/// links have ended; it is `until` that makes them end. The outcomes are in the edges' order, with an
+/// error where an edge was refused memory or a thread before it began.
+///
+/// # Errors
+///
+/// Where memory is refused before an edge has begun. Then `until` isn't called.
+pub fn run_all<
+    I: LinkIn + Drop + Send,
+    O: LinkOut + Drop + Send,
+    G: Gate + Sync,
+    R: Threads + Wait + Sync,
+    F: FnOnce() -> T + Drop,
+    T,
+>(
+    rt: &R,
+    alloc: Global,
+    setups: Vec<Setup<I, O>>,
+    gate: &G,
+    until: F,
+) -> Result<(Vec<Ran>, T), AllocError>
+    requires { F.pre until }
+    ensures all { IfOk result (λ r. vec_len r.0 ≡ vec_len setups) }
+    ensures until { IfOk result (λ r. F.post until r.1) }
+{
+    let peers = all_peers(rt, alloc, setups.len())?;
+    let running = Vec::with_capacity(alloc, setups.len())?;
+    let ended = Vec::with_capacity(alloc, setups.len())?;
+    let start = Start {
+        setups,
+        peers,
+        running,
+        ended,
+    };
+    Ok(run_start(rt, alloc, gate, start, until))
+}

@@ -1,0 +1,152 @@
+//! An edge as its workers share it: its book under a lock, and what tells of each call of it.
+ghost use Rattle.std.specs.Prelude.{◌≡◌, ◌≤◌, OnOk, length};
+ghost use Rattle.ev_peers.specs.Giving.{behind};
+ghost use Rattle.ev_peers.specs.Passing.{Entered, Asked, Announces, PassesOn, announced_by, given_by};
+
+use crate::gate::{Gate, Point};
+use crate::giving::give_out;
+use crate::outlet::{NoMemory, Outlet};
+use ether_wire::{Mac, Vni};
+use ev_book::{Book, BookRefusal, Pass};
+use ev_edge::{Event, Reply};
+use route_wire::Update;
+use std::sync::ledger::Ledger;
+use std::sync::{Mutex, Wait};
+
+/// Why a worker ended.
+#[derive(Clone, Copy, PartialEq, Eq, Debug)]
+pub enum Ended {
+    /// Its link or channel came to its end.
+    End,
+    /// Its link failed.
+    Device,
+    /// It was refused memory or a thread.
+    NoMemory,
+}
+
+/// An edge as its workers share it.
+#[derive(Drop)]
+pub struct Site<'x, L: Ledger, G, R> {
+    /// What may wait for the lock.
+    pub rt: &'x R,
+    /// The edge's book.
+    pub book: &'x Mutex<Book<L>>,
+    /// What is told of each call of the book.
+    pub gate: &'x G,
+    /// The edge's number for the gate.
+    pub edge: usize,
+    /// The address from which the edge sends BPDUs.
+    pub bridge: Mac,
+}
+
+impl<'x, L: Ledger, G, R> Site<'x, L, G, R> {
+    /// The same edge.
+    pub(crate) fn again(&self) -> Self {
+        Site {
+            rt: self.rt,
+            book: self.book,
+            gate: self.gate,
+            edge: self.edge,
+            bridge: self.bridge,
+        }
+    }
+}
+
+impl<L: Ledger, G: Gate, R: Wait> Site<'_, L, G, R> {
+    /// One call of the book, with all three points. The lock is held for the call alone.
+    fn enter(&self, pass: &mut Pass<L>, event: &Event<'_>) -> Result<Reply, BookRefusal>
+        ensures { Entered pass.old event.now result pass.new }
+    {
+        self.gate.at(self.edge, Point::Before);
+        let answer = {
+            let mut book = self.book.lock(self.rt);
+            self.gate.at(self.edge, Point::Inside);
+            call(&mut *book, pass, event)
+        };
+        self.gate.at(self.edge, Point::After);
+        answer
+    }
+
+    /// Asks for the edge's next announcement. There is none where the call is refused, too.
+    fn ask(&self, pass: &mut Pass<L>) -> Option<Update>
+        ensures { Asked pass.old result pass.new }
+    {
+        let answer = self.enter(pass, &Event::Announce);
+        announced_by(&answer)
+    }
+
+    /// Asks for the edge's announcements until there is none or one is refused, and gives each to the
+    /// other edges.
+    fn announce<O: Outlet>(&self, pass: &mut Pass<L>, outlet: &mut O) -> Result<(), NoMemory>
+        ensures announces { OnOk result (Announces pass.old (O.records outlet.old) pass.new (O.records outlet.new)) }
+        ensures parcels { O.parcels outlet.new ≡ O.parcels outlet.old }
+    {
+        for _ in self.rt.forever() {
+            let Some(update) = self.ask(pass) else {
+                return Ok(());
+            };
+            outlet.record(update)?;
+        }
+        unreachable!()
+    }
+
+    /// Enters an event that carries this frame of network `vni`, of at most 9,018 octets, and passes on what it gives out:
+    /// frames to the links, and then what is to be announced to the other edges.
+    pub(crate) fn act<O: Outlet>(
+        &self,
+        pass: &mut Pass<L>,
+        outlet: &mut O,
+        scratch: &mut [u8; 9026],
+        event: &Event<'_>,
+        vni: Vni,
+        frame: &[u8],
+    ) -> Result<(), NoMemory>
+        requires { length frame.now ≤ 9018 }
+        ensures { OnOk result (PassesOn self.now.bridge vni frame.now pass.old event.now (O.parcels outlet.old) (O.records outlet.old) pass.new (O.parcels outlet.new) (O.records outlet.new)) }
+    {
+        let answer = self.enter(pass, event);
+        give_answer(outlet, scratch, self.bridge, vni, frame, &answer)?;
+        self.announce(pass, outlet)
+    }
+}
+
+/// One call of a book.
+fn call<L: Ledger>(
+    book: &mut Book<L>,
+    pass: &mut Pass<L>,
+    event: &Event<'_>,
+) -> Result<Reply, BookRefusal>
+    ensures { Entered pass.old event.now result pass.new }
+{
+    book.enter(pass, event)
+}
+
+/// The update that an answer announces.
+fn announced_by(answer: &Result<Reply, BookRefusal>) -> Option<Update>
+    ensures { result ≡ announced_by answer.now }
+{
+    match answer {
+        Ok(reply) => reply.announced,
+        Err(_) => None,
+    }
+}
+
+/// Gives what an answer gives out to the links of its edge. A refusal gives nothing.
+#[tactic(auto, using(crate::proofs::Behind::behind_none))]
+fn give_answer<O: Outlet>(
+    outlet: &mut O,
+    scratch: &mut [u8; 9026],
+    bridge: Mac,
+    vni: Vni,
+    frame: &[u8],
+    answer: &Result<Reply, BookRefusal>,
+) -> Result<(), NoMemory>
+    requires { length frame.now ≤ 9018 }
+    ensures parcels { OnOk result (O.parcels outlet.new ≡ behind (O.parcels outlet.old) (given_by bridge vni frame.now answer.now)) }
+    ensures records { O.records outlet.new ≡ O.records outlet.old }
+{
+    match answer {
+        Ok(reply) => give_out(outlet, scratch, bridge, vni, frame, reply),
+        Err(_) => Ok(()),
+    }
+}

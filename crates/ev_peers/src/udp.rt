@@ -1,0 +1,158 @@
+//! Links over UDP sockets, and a clock of the system's.
+ghost use Rattle.std.specs.Prelude.{◌≡◌, ◌≤◌, length, IfOk};
+
+use crate::links::{LinkIn, LinkOut};
+use ether_wire::{Addr, Device};
+use std::net::{IpAddr, Ipv4Addr, SocketAddr, UdpSocket};
+use std::sync::atomic::{AtomicBool, Ordering};
+use std::time::{Clock, Duration};
+use std::{io, thread};
+
+/// An address and a UDP port, as the system takes them.
+pub fn socket_address(address: Addr, port: u16) -> SocketAddr {
+    let [a, b, c, d] = address.octets();
+    SocketAddr::new(IpAddr::V4(Ipv4Addr::new(a, b, c, d)), port)
+}
+
+/// The address of a sender, 0.0.0.0 where it has none of IPv4.
+fn address_of(from: SocketAddr) -> Addr {
+    match from.ip() {
+        IpAddr::V4(ip) => Addr::new(u32::from_be_bytes(ip.octets())),
+        IpAddr::V6(_) => Addr::default(),
+    }
+}
+
+/// What a wire brings.
+#[derive(Clone, Copy)]
+enum Spring<'x, C> {
+    /// The datagrams that come to this socket.
+    Socket(&'x UdpSocket),
+    /// The seconds of this clock.
+    Clock(&'x C),
+}
+
+/// What comes to a socket, or the seconds of a clock, until a flag says to stop. An empty datagram wakes
+/// it to look at the flag.
+#[derive(Drop)]
+pub struct Wire<'x, C> {
+    spring: Spring<'x, C>,
+    stop: &'x AtomicBool,
+    failures: u64,
+}
+
+impl<'x, C: Clock> Wire<'x, C> {
+    /// What comes to this socket.
+    pub fn socket(socket: &'x UdpSocket, stop: &'x AtomicBool) -> Self
+        ensures { result.failures ≡ 0 }
+    {
+        Wire {
+            spring: Spring::Socket(socket),
+            stop,
+            failures: 0,
+        }
+    }
+
+    /// The seconds of this clock.
+    pub fn clock(clock: &'x C, stop: &'x AtomicBool) -> Self
+        ensures { result.failures ≡ 0 }
+    {
+        Wire {
+            spring: Spring::Clock(clock),
+            stop,
+            failures: 0,
+        }
+    }
+
+    /// Waits for a datagram or a second.
+    fn wait(&self, buffer: &mut [u8]) -> io::Result<(usize, Addr)>
+        ensures { IfOk result (λ r. r.0 ≤ length buffer.new) }
+    {
+        match &self.spring {
+            Spring::Socket(socket) => {
+                let (size, from) = socket.recv_from(buffer)?;
+                Ok((size, address_of(from)))
+            }
+            Spring::Clock(clock) => {
+                thread::sleep(*clock, Duration::from_secs(1));
+                Ok((0, Addr::default()))
+            }
+        }
+    }
+}
+
+impl<C: Clock> LinkIn for Wire<'_, C> {
+    ghost failed = { λ w. w.failures };
+
+    fn failures(&self) -> u64 {
+        self.failures
+    }
+
+    fn recv(&mut self, buffer: &mut [u8]) -> Result<Option<(Addr, usize)>, Device> {
+        let got = self.wait(buffer);
+        if self.stop.load(Ordering::SeqCst) {
+            return Ok(None);
+        }
+        match got {
+            Ok((size, from)) => Ok(Some((from, size))),
+            Err(_) => {
+                self.failures += 1;
+                Err(Device)
+            }
+        }
+    }
+}
+
+/// Where the datagrams that go out of a socket are sent.
+#[derive(Clone, Copy, Debug, PartialEq, Eq)]
+pub enum Destination {
+    /// All to this address and UDP port.
+    Fixed(Addr, u16),
+    /// To the address that each is for, at this UDP port.
+    At(u16),
+}
+
+/// Where a datagram for this address is sent.
+fn where_to(destination: Destination, to: Addr) -> SocketAddr {
+    match destination {
+        Destination::Fixed(address, port) => socket_address(address, port),
+        Destination::At(port) => socket_address(to, port),
+    }
+}
+
+/// The datagrams that go out of a socket.
+#[derive(Drop)]
+pub struct UdpOut<'x> {
+    socket: &'x UdpSocket,
+    destination: Destination,
+    failures: u64,
+}
+
+impl<'x> UdpOut<'x> {
+    /// What goes out of this socket.
+    pub fn new(socket: &'x UdpSocket, destination: Destination) -> Self
+        ensures { result.failures ≡ 0 }
+    {
+        UdpOut {
+            socket,
+            destination,
+            failures: 0,
+        }
+    }
+}
+
+impl LinkOut for UdpOut<'_> {
+    ghost failed = { λ u. u.failures };
+
+    fn failures(&self) -> u64 {
+        self.failures
+    }
+
+    fn send(&mut self, to: Addr, octets: &[u8]) -> Result<(), Device> {
+        let to = where_to(self.destination, to);
+        if self.socket.send_to(octets, to).is_err() {
+            self.failures += 1;
+            return Err(Device);
+        }
+        Ok(())
+    }
+}
