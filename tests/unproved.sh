@@ -3,8 +3,8 @@
 #
 # Runs tests that aren't proved: `rt try` compiles a crate and those below it with checks and without proofs, which takes the
 # gate a minute or two, where a proof of these tests would take it ten. In tests/unproved/CRATE/ stands what goes into src/ of
-# that crate, and the crate reads it as its module `tests`. The files end in .txt, since the gate stops at a Rattle file that
-# is in none of its crates.
+# that crate: its module `tests`, or, where the crate has one, modules of that. The files end in .txt, since the gate stops at a
+# Rattle file that is in none of its crates.
 set -u
 cd "$(dirname "$0")/.." || exit 1
 work=$(mktemp -d)
@@ -26,9 +26,16 @@ for crate in "$@"; do
   (cd "tests/unproved/$crate" && find . -name '*.txt') | while read -r file; do
     install -D -m 644 "tests/unproved/$crate/$file" "$work/crates/$crate/src/${file%.txt}"
   done
-  root=$work/crates/$crate/src/lib.rt
-  if [ -e "$work/crates/$crate/src/main.rt" ]; then root=$work/crates/$crate/src/main.rt; fi
-  printf '\n#[cfg(test)]\nmod tests;\n' >> "$root"
+  source=$work/crates/$crate/src
+  if [ -e "tests/unproved/$crate/tests.rt.txt" ]; then
+    root=$source/lib.rt
+    if [ -e "$source/main.rt" ]; then root=$source/main.rt; fi
+    printf '\n#[cfg(test)]\nmod tests;\n' >> "$root"
+  else
+    for file in tests/unproved/"$crate"/tests/*.rt.txt; do
+      printf '\nmod %s;\n' "$(basename "$file" .rt.txt)" >> "$source/tests.rt"
+    done
+  fi
   (cd "$work/crates/$crate" && rt try --test 2>&1) | tee "$work/said" | grep -v ' \.\.\. ok$'
   ok=$(grep -c '^test tests::.* \.\.\. ok$' "$work/said")
   bad=$(grep -c '^test tests::.* \.\.\. FAILED$' "$work/said")

@@ -16,8 +16,6 @@ mod learning;
 mod lines;
 mod memory;
 mod pins;
-mod plain;
-mod random;
 mod updates;
 
 /// The station 02:00:00:00:00:0a.
