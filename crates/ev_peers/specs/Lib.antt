@@ -2,3 +2,4 @@ pub mod Giving
 pub mod Links
 pub mod Crew
 pub mod Passing
+pub mod Working

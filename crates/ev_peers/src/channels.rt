@@ -114,7 +114,11 @@ fn put_front(buffer: &mut [u8], octets: &[u8]) -> usize
 }
 
 impl<R: Wait> LinkIn for ChannelIn<'_, R> {
+    ghost use Rattle.std.specs.Prelude.{None};
+
     ghost failed = { λ c. c.failures };
+
+    ghost came = { λ c. None };
 
     fn failures(&self) -> u64 {
         self.failures

@@ -38,10 +38,13 @@ impl<K> FailAt<K> {
 impl<K: LinkIn> LinkIn for FailAt<K> {
     ghost failed = { λ f. f.failures };
 
+    ghost came = { λ f. K.came f.inner };
+
     fn failures(&self) -> u64 {
         self.failures
     }
 
+    #[tactic(auto, using(crate::proofs::Behind::behind_none))]
     fn recv(&mut self, buffer: &mut [u8]) -> Result<Option<(Addr, usize)>, Device> {
         if self.is_due() || self.inner.failures() == u64::MAX {
             self.failures += 1;

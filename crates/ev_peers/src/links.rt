@@ -1,5 +1,7 @@
 //! Where datagrams come from and where they go: an access port, a tunnel's socket, a clock.
-ghost use Rattle.std.specs.Prelude.{◌≡◌, ℕ, ◌+◌, ◌^◌, ◌<◌, ◌≤◌, length, is_err, if◌then◌else◌, IfOk, IfSome};
+ghost use Rattle.std.specs.Prelude.{◌≡◌, ℕ, ◌+◌, ◌^◌, ◌<◌, ◌≤◌, Option, List, length, is_err, if◌then◌else◌, IfOk, IfSome};
+ghost use Rattle.ev_peers.specs.Giving.{behind};
+ghost use Rattle.ev_peers.specs.Links.{Arrival, brought};
 
 use ether_wire::{Addr, Device};
 
@@ -7,6 +9,9 @@ use ether_wire::{Addr, Device};
 pub trait LinkIn {
     /// How many calls have failed.
     ghost failed: { Self → ℕ };
+
+    /// The datagrams that came, in their order, where it tells them.
+    ghost came: { Self → Option (List Arrival) };
 
     /// How many calls have failed so far.
     fn failures(&self) -> u64
@@ -21,6 +26,7 @@ pub trait LinkIn {
     fn recv(&mut self, buffer: &mut [u8]) -> Result<Option<(Addr, usize)>, Device>
         requires { failed self.old + 1 < 2 ^ 64 }
         ensures fits { IfOk result (λ r. IfSome r (λ p. p.1 ≤ length buffer.new)) }
+        ensures came { came self.new ≡ behind (came self.old) (brought result buffer.new) }
         ensures failed { failed self.new ≡ failed self.old + (if is_err result then 1 else 0) };
 }
 

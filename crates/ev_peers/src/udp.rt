@@ -81,7 +81,11 @@ impl<'x, C: Clock> Wire<'x, C> {
 }
 
 impl<C: Clock> LinkIn for Wire<'_, C> {
+    ghost use Rattle.std.specs.Prelude.{None};
+
     ghost failed = { λ w. w.failures };
+
+    ghost came = { λ w. None };
 
     fn failures(&self) -> u64 {
         self.failures

@@ -1,6 +1,8 @@
 //! The workers of an edge: each takes what comes over one link or channel, one thing at a time.
-ghost use Rattle.std.specs.Prelude.{◌≡◌, ◌+◌, ◌^◌, ◌<◌, ◌≤◌, IfSome, IfNone, length};
-ghost use Rattle.ev_peers.specs.Links.{failures_told};
+ghost use Rattle.std.specs.Prelude.{◌≡◌, ◌+◌, ◌^◌, ◌<◌, ◌≤◌, [], IfSome, IfNone, OnOk, length};
+ghost use Rattle.ev_peers.specs.Links.{failures_told, arrival};
+ghost use Rattle.ev_peers.specs.declared.workers.Source.TheVariants.{Tunnel, Clock};
+ghost use Rattle.ev_peers.specs.Working.{IsEventOf, carried, standing, Handles, Ends, PortEnds, PeerEnds};
 
 use crate::channels::{Message, Output};
 use crate::gate::Gate;
@@ -33,24 +35,27 @@ const FRAME: usize = 9018;
 /// The network and the frame of a datagram that comes over a link: none of a clock's, of a datagram that
 /// isn't a tunnel's, or where it is too long to be a frame.
 fn carried<'a>(source: &Source, octets: &'a [u8]) -> (Vni, &'a [u8])
-    ensures { length result.1.now ≤ 9018 }
+    ensures fits { length result.1.now ≤ 9018 }
+    ensures carried { (result.0, result.1.now) ≡ carried source.now octets.now }
 {
     let (vni, frame) = match source {
         Source::Port(_, vni) => (*vni, octets),
         Source::Tunnel => match unwrap_datagram(octets) {
             Ok(unwrapped) => unwrapped,
-            Err(_) => return (Vni::default(), &[]),
+            Err(_) => return (Vni::new(0), &[]),
         },
-        Source::Clock => return (Vni::default(), &[]),
+        Source::Clock => return (Vni::new(0), &[]),
     };
     if frame.len() > FRAME {
-        return (Vni::default(), &[]);
+        return (Vni::new(0), &[]);
     }
     (vni, frame)
 }
 
 /// The event that a datagram of a link is. An empty one is none, but for a clock.
-fn event_of<'a>(source: &Source, from: Addr, octets: &'a [u8]) -> Option<Event<'a>> {
+fn event_of<'a>(source: &Source, from: Addr, octets: &'a [u8]) -> Option<Event<'a>>
+    ensures { IsEventOf source.now (arrival from octets.now) result }
+{
     match source {
         Source::Clock => Some(Event::Second),
         Source::Port(port, _) if !octets.is_empty() => Some(Event::Frame(*port, octets)),
@@ -68,7 +73,9 @@ fn enter_datagram<L: Ledger, O: Outlet, G: Gate, R: Wait>(
     source: &Source,
     from: Addr,
     octets: &[u8],
-) -> Result<(), NoMemory> {
+) -> Result<(), NoMemory>
+    ensures { OnOk result (Handles site.now.bridge source.now (standing pass.old (O.parcels outlet.old) (O.records outlet.old)) (arrival from octets.now) (standing pass.new (O.parcels outlet.new) (O.records outlet.new))) }
+{
     let Some(event) = event_of(source, from, octets) else {
         return Ok(());
     };
@@ -85,7 +92,8 @@ fn link_worker<L: Ledger, I: LinkIn, O: Outlet, G: Gate, R: Wait>(
     link: &mut I,
     source: &Source,
 ) -> Ended
-    ensures { I.failed link.new ≡ I.failed link.old + failures_told result }
+    ensures failed { I.failed link.new ≡ I.failed link.old + failures_told result }
+    ensures works { Ends result site.now.bridge source.now (I.came link.old) (standing pass.old (O.parcels outlet.old) (O.records outlet.old)) (I.came link.new) (standing pass.new (O.parcels outlet.new) (O.records outlet.new)) }
 {
     let mut scratch = [0u8; 9026];
     let mut buffer = [0u8; 9027];
@@ -117,7 +125,8 @@ pub fn port_worker<L: Ledger, I: LinkIn, O: Outlet, G: Gate, R: Wait>(
     port: u8,
     vni: Vni,
 ) -> Ended
-    ensures { I.failed link.new ≡ I.failed link.old + failures_told result }
+    ensures failed { I.failed link.new ≡ I.failed link.old + failures_told result }
+    ensures works { PortEnds result site.now.bridge port vni (I.came link.old) (standing pass.old (O.parcels outlet.old) (O.records outlet.old)) (I.came link.new) (standing pass.new (O.parcels outlet.new) (O.records outlet.new)) }
 {
     let mut scratch = [0u8; 9026];
     let up = site.act(pass, outlet, &mut scratch, &Event::PortUp(port), vni, &[]);
@@ -136,7 +145,8 @@ pub fn tunnel_worker<L: Ledger, I: LinkIn, O: Outlet, G: Gate, R: Wait>(
     outlet: &mut O,
     link: &mut I,
 ) -> Ended
-    ensures { I.failed link.new ≡ I.failed link.old + failures_told result }
+    ensures failed { I.failed link.new ≡ I.failed link.old + failures_told result }
+    ensures works { Ends result site.now.bridge Tunnel (I.came link.old) (standing pass.old (O.parcels outlet.old) (O.records outlet.old)) (I.came link.new) (standing pass.new (O.parcels outlet.new) (O.records outlet.new)) }
 {
     link_worker(site, pass, outlet, link, &Source::Tunnel)
 }
@@ -150,7 +160,8 @@ pub fn clock_worker<L: Ledger, I: LinkIn, O: Outlet, G: Gate, R: Wait>(
     outlet: &mut O,
     clock: &mut I,
 ) -> Ended
-    ensures { I.failed clock.new ≡ I.failed clock.old + failures_told result }
+    ensures failed { I.failed clock.new ≡ I.failed clock.old + failures_told result }
+    ensures works { Ends result site.now.bridge Clock (I.came clock.old) (standing pass.old (O.parcels outlet.old) (O.records outlet.old)) (I.came clock.new) (standing pass.new (O.parcels outlet.new) (O.records outlet.new)) }
 {
     link_worker(site, pass, outlet, clock, &Source::Clock)
 }
@@ -169,7 +180,9 @@ pub fn peer_worker<L: Ledger, O: Outlet, G: Gate, R: Wait>(
     pass: &mut Pass<L>,
     outlet: &mut O,
     records: &Receiver<Message>,
-) -> Ended {
+) -> Ended
+    ensures { PeerEnds result site.now.bridge (standing pass.old (O.parcels outlet.old) (O.records outlet.old)) (standing pass.new (O.parcels outlet.new) (O.records outlet.new)) }
+{
     let mut scratch = [0u8; 9026];
     for _ in site.rt.forever() {
         let Ok(message) = records.recv(site.rt) else {
@@ -179,7 +192,7 @@ pub fn peer_worker<L: Ledger, O: Outlet, G: Gate, R: Wait>(
             return Ended::End;
         };
         let event = Event::Take(update);
-        let taken = site.act(pass, outlet, &mut scratch, &event, Vni::default(), &[]);
+        let taken = site.act(pass, outlet, &mut scratch, &event, Vni::new(0), &[]);
         if taken.is_err() {
             return Ended::NoMemory;
         }
