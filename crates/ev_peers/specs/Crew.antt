@@ -1,5 +1,14 @@
--- Room for the threads of an edge.
+-- What an edge is opened with, and room for its threads.
 use Rattle.std.specs.Prelude.{◌≡◌, ℕ, ◌+◌, ◌≤◌}
+use Rattle.ev_edge.specs.declared.config.EdgeConfig.{EdgeConfig}
+
+-- what an edge is opened with, and how many ports have links
+pub record EdgeSetup : Type 0 where
+  pub config : EdgeConfig
+  pub ports : ℕ
+
+abbrev pub setup_of : EdgeConfig → ℕ → EdgeSetup
+setup_of config ports = record { config = config; ports = ports }
 
 -- Nothing is there yet, and there is room for a thread for each task and each sending, and for the passes of all tasks and
 -- one more.

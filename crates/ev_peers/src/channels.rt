@@ -58,7 +58,8 @@ pub(crate) fn roomy<T: Drop, R: Wait>(
     Ok((sender, receiver))
 }
 
-/// A channel over which other edges send their records to one.
+/// A channel over which other edges send their records to one. Clauses see nothing of the ends of a
+/// channel, so none says that what is sent over one of these is received over the other.
 ///
 /// # Errors
 ///
@@ -114,7 +115,11 @@ fn put_front(buffer: &mut [u8], octets: &[u8]) -> usize
 }
 
 impl<R: Wait> LinkIn for ChannelIn<'_, R> {
+    ghost use Rattle.std.specs.Prelude.{None};
+
     ghost failed = { λ c. c.failures };
+
+    ghost came = { λ c. None };
 
     fn failures(&self) -> u64 {
         self.failures
@@ -157,7 +162,11 @@ impl<'x, R: Wait> ChannelOut<'x, R> {
 }
 
 impl<R: Wait> LinkOut for ChannelOut<'_, R> {
+    ghost use Rattle.std.specs.Prelude.{None};
+
     ghost failed = { λ c. c.failures };
+
+    ghost sent = { λ o. None };
 
     fn failures(&self) -> u64 {
         self.failures

@@ -5,6 +5,7 @@ ghost use Rattle.ev_peers.specs.Crew.{HasRoom, IsReady};
 
 use crate::channels::{Message, Output, roomy, send_last};
 use crate::gate::Gate;
+use crate::inbox::{PacketBox, UpdateBox};
 use crate::links::{LinkIn, LinkOut};
 use crate::outlet::Senders;
 use crate::site::{Ended, Site};
@@ -188,7 +189,13 @@ fn enter_task<L: Ledger, I: LinkIn + Drop, G: Gate, R: Wait>(
         return (pass, Ended::NoMemory);
     }
     let ended = match task {
-        Task::Peer(records) => peer_worker(site, &mut pass, &mut outlet, &records),
+        Task::Peer(records) => {
+            let mut updates = UpdateBox {
+                rt: site.rt,
+                channel: &records,
+            };
+            peer_worker(site, &mut pass, &mut outlet, &mut updates)
+        }
         Task::Port(port, vni, mut link) => {
             port_worker(site, &mut pass, &mut outlet, &mut link, port, vni)
         }
@@ -247,7 +254,11 @@ fn send_all<O: LinkOut + Drop, R: Wait>(
     if is_refused.load(Ordering::SeqCst) {
         return (0, Ended::NoMemory);
     }
-    (out_worker(rt, &mut link, &frames), Ended::End)
+    let mut packets = PacketBox {
+        rt,
+        channel: &frames,
+    };
+    (out_worker(rt, &mut link, &mut packets), Ended::End)
 }
 
 /// So many words that say no.
@@ -620,6 +631,9 @@ fn run_workers<
 /// Opens an edge's book under a ledger of its own, runs the edge's workers, and closes the book with the
 /// passes that they give back: passes 0, 1 .. are those of the ports, then of the tunnel, the clock and
 /// the other edges' records.
+///
+/// What comes back from a thread is known by its type alone, and so is the book that was under the lock: no
+/// clause says what the workers did meanwhile, nor what they ended with.
 ///
 /// # Errors
 ///

@@ -1,5 +1,7 @@
 //! Where datagrams come from and where they go: an access port, a tunnel's socket, a clock.
-ghost use Rattle.std.specs.Prelude.{◌≡◌, ℕ, ◌+◌, ◌^◌, ◌<◌, ◌≤◌, length, is_err, if◌then◌else◌, IfOk, IfSome};
+ghost use Rattle.std.specs.Prelude.{◌≡◌, ℕ, ◌+◌, ◌^◌, ◌<◌, ◌≤◌, Option, List, length, is_err, if◌then◌else◌, IfOk, IfSome};
+ghost use Rattle.ev_peers.specs.Giving.{behind};
+ghost use Rattle.ev_peers.specs.Links.{Arrival, Packet, brought, sent_by};
 
 use ether_wire::{Addr, Device};
 
@@ -7,6 +9,9 @@ use ether_wire::{Addr, Device};
 pub trait LinkIn {
     /// How many calls have failed.
     ghost failed: { Self → ℕ };
+
+    /// What came, in its order, where it tells it: each datagram, and none for the end.
+    ghost came: { Self → Option (List (Option Arrival)) };
 
     /// How many calls have failed so far.
     fn failures(&self) -> u64
@@ -21,6 +26,7 @@ pub trait LinkIn {
     fn recv(&mut self, buffer: &mut [u8]) -> Result<Option<(Addr, usize)>, Device>
         requires { failed self.old + 1 < 2 ^ 64 }
         ensures fits { IfOk result (λ r. IfSome r (λ p. p.1 ≤ length buffer.new)) }
+        ensures came { came self.new ≡ behind (came self.old) (brought result buffer.new) }
         ensures failed { failed self.new ≡ failed self.old + (if is_err result then 1 else 0) };
 }
 
@@ -28,6 +34,9 @@ pub trait LinkIn {
 pub trait LinkOut {
     /// How many calls have failed.
     ghost failed: { Self → ℕ };
+
+    /// The datagrams that were sent, in their order, where it tells them.
+    ghost sent: { Self → Option (List Packet) };
 
     /// How many calls have failed so far.
     fn failures(&self) -> u64
@@ -40,5 +49,6 @@ pub trait LinkOut {
     /// `Device` exactly where it raises `failures` by one. The datagram is lost then.
     fn send(&mut self, to: Addr, octets: &[u8]) -> Result<(), Device>
         requires { failed self.old + 1 < 2 ^ 64 }
-        ensures { failed self.new ≡ failed self.old + (if is_err result then 1 else 0) };
+        ensures sent { sent self.new ≡ behind (sent self.old) (sent_by to octets.now result) }
+        ensures failed { failed self.new ≡ failed self.old + (if is_err result then 1 else 0) };
 }

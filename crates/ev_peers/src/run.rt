@@ -1,7 +1,7 @@
 //! Edges that run beside each other, each on a thread, with a channel from each to each.
 ghost use Rattle.std.specs.Prelude.{◌≡◌, ◌+◌, ◌≤◌, vec_len, vec_capacity, IfOk};
 ghost use Rattle.ev_edge.specs.Config.{IsConfig};
-ghost use Rattle.ev_peers.specs.Crew.{HasEdges};
+ghost use Rattle.ev_peers.specs.Crew.{HasEdges, setup_of};
 
 use crate::channels::{Message, peer_channel};
 use crate::crew::{EdgeLinks, Outcome, Peers, edge_worker};
@@ -16,7 +16,8 @@ use std::sync::ledger::Blank;
 use std::thread;
 use std::thread::{JoinHandle, Scope, Threads};
 
-/// What an edge is opened with, and its links, of 64 ports at most. It is seen as how many ports those are.
+/// What an edge is opened with, and its links, of 64 ports at most. It is seen as that and as how many
+/// ports those are.
 #[derive(Drop)]
 pub struct Setup<I: Drop, O: Drop> {
     config: EdgeConfig,
@@ -24,12 +25,17 @@ pub struct Setup<I: Drop, O: Drop> {
 }
 
 impl<I: Drop, O: Drop> Model for Setup<I, O> {
-    ghost use Rattle.std.specs.Prelude.{ℕ, ◌≤◌, vec_len};
+    ghost use Rattle.std.specs.Prelude.{◌≤◌, vec_len};
+    ghost use Rattle.std.specs.Coded.{codes};
+    ghost use Rattle.std.specs.FinMap.{code};
     ghost use Rattle.ev_edge.specs.Config.{IsConfig};
+    ghost use Rattle.ev_peers.specs.Crew.{EdgeSetup, setup_of};
 
-    ghost Value = { ℕ };
+    ghost Value = { EdgeSetup };
 
-    ghost view = { λ s. vec_len s.links.ports };
+    ghost coded = { Prim.hlevel (codes, code) };
+
+    ghost view = { λ s. setup_of s.config (vec_len s.links.ports) };
 
     ghost invariant = { λ s. IsConfig s.config × (vec_len s.links.ports ≤ 64) };
 }
@@ -39,6 +45,7 @@ impl<I: Drop, O: Drop> Setup<I, O> {
     pub fn new(config: EdgeConfig, links: EdgeLinks<I, O>) -> Self
         requires config { IsConfig config }
         requires few { vec_len links.ports ≤ 64 }
+        ensures { result ≡ setup_of config (vec_len links.ports) }
     {
         Setup { config, links }
     }

@@ -1,5 +1,7 @@
 //! Links over UDP sockets, and a clock of the system's.
 ghost use Rattle.std.specs.Prelude.{◌≡◌, ◌≤◌, length, IfOk};
+ghost use Rattle.std.specs.Net.Addr.{IsIpv4OfBits, IsV4And, MatchIp, ipv4_bits};
+ghost use Rattle.std.specs.Net.Socket.{socket_ip, socket_port};
 
 use crate::links::{LinkIn, LinkOut};
 use ether_wire::{Addr, Device};
@@ -9,16 +11,20 @@ use std::time::{Clock, Duration};
 use std::{io, thread};
 
 /// An address and a UDP port, as the system takes them.
-pub fn socket_address(address: Addr, port: u16) -> SocketAddr {
-    let [a, b, c, d] = address.octets();
-    SocketAddr::new(IpAddr::V4(Ipv4Addr::new(a, b, c, d)), port)
+pub fn socket_address(address: Addr, port: u16) -> SocketAddr
+    ensures ip { IsV4And (socket_ip result) (λ ip. IsIpv4OfBits ip address) }
+    ensures port { socket_port result ≡ port }
+{
+    SocketAddr::new(IpAddr::V4(Ipv4Addr::from_bits(address.number())), port)
 }
 
 /// The address of a sender, 0.0.0.0 where it has none of IPv4.
-fn address_of(from: SocketAddr) -> Addr {
+fn address_of(from: SocketAddr) -> Addr
+    ensures { MatchIp (socket_ip from) (λ ip. result ≡ ipv4_bits ip) (λ ip. result ≡ 0) }
+{
     match from.ip() {
-        IpAddr::V4(ip) => Addr::new(u32::from_be_bytes(ip.octets())),
-        IpAddr::V6(_) => Addr::default(),
+        IpAddr::V4(ip) => Addr::new(ip.to_bits()),
+        IpAddr::V6(_) => Addr::new(0),
     }
 }
 
@@ -81,7 +87,11 @@ impl<'x, C: Clock> Wire<'x, C> {
 }
 
 impl<C: Clock> LinkIn for Wire<'_, C> {
+    ghost use Rattle.std.specs.Prelude.{None};
+
     ghost failed = { λ w. w.failures };
+
+    ghost came = { λ w. None };
 
     fn failures(&self) -> u64 {
         self.failures
@@ -141,7 +151,11 @@ impl<'x> UdpOut<'x> {
 }
 
 impl LinkOut for UdpOut<'_> {
+    ghost use Rattle.std.specs.Prelude.{None};
+
     ghost failed = { λ u. u.failures };
+
+    ghost sent = { λ o. None };
 
     fn failures(&self) -> u64 {
         self.failures

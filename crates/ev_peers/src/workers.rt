@@ -1,18 +1,20 @@
 //! The workers of an edge: each takes what comes over one link or channel, one thing at a time.
-ghost use Rattle.std.specs.Prelude.{◌≡◌, ◌+◌, ◌^◌, ◌<◌, ◌≤◌, IfSome, IfNone, length};
-ghost use Rattle.ev_peers.specs.Links.{failures_told};
+ghost use Rattle.std.specs.Prelude.{◌≡◌, ◌+◌, ◌^◌, ◌<◌, ◌≤◌, OnOk, length};
+ghost use Rattle.ev_peers.specs.Links.{failures_told, failures_in, arrival, packet};
+ghost use Rattle.ev_peers.specs.declared.workers.Source.TheVariants.{Tunnel, Clock};
+ghost use Rattle.ev_peers.specs.Working.{IsEventOf, fitting, unwrapped, carried, standing, Handles, Turns, Ends, PortEnds, PeerEnds};
+ghost use Rattle.vxlan_wire.specs.Vxlan.{instance_of};
+ghost use Rattle.ev_peers.specs.Sending.{gone, Sends, OutEnds};
 
-use crate::channels::{Message, Output};
 use crate::gate::Gate;
+use crate::inbox::{PacketsIn, UpdatesIn};
 use crate::links::{LinkIn, LinkOut};
 use crate::outlet::{NoMemory, Outlet};
-use crate::site::{Ended, Site};
-use crossbeam_channel::Receiver;
+use crate::site::{Ended, Scratch, Site};
 use ether_wire::{Addr, Vni};
 use ev_book::Pass;
 use ev_edge::Event;
 use ev_tunnel::unwrap_datagram;
-use route_wire::Update;
 use std::sync::Wait;
 use std::sync::ledger::Ledger;
 
@@ -30,27 +32,44 @@ enum Source {
 /// The octets of the longest frame.
 const FRAME: usize = 9018;
 
-/// The network and the frame of a datagram that comes over a link: none of a clock's, of a datagram that
-/// isn't a tunnel's, or where it is too long to be a frame.
-fn carried<'a>(source: &Source, octets: &'a [u8]) -> (Vni, &'a [u8])
-    ensures { length result.1.now ≤ 9018 }
+/// A network and a frame of it, or none where the frame is longer than any.
+fn fitting<'a>(vni: Vni, frame: &'a [u8]) -> (Vni, &'a [u8])
+    ensures fits { length result.1.now ≤ 9018 }
+    ensures fitting { (result.0, result.1.now) ≡ fitting (vni, frame.now) }
 {
-    let (vni, frame) = match source {
-        Source::Port(_, vni) => (*vni, octets),
-        Source::Tunnel => match unwrap_datagram(octets) {
-            Ok(unwrapped) => unwrapped,
-            Err(_) => return (Vni::default(), &[]),
-        },
-        Source::Clock => return (Vni::default(), &[]),
-    };
     if frame.len() > FRAME {
-        return (Vni::default(), &[]);
+        return (Vni::new(0), &[]);
     }
     (vni, frame)
 }
 
+/// The network and the frame that a tunnel's datagram carries, or none where it isn't one.
+fn unwrapped<'a>(octets: &'a [u8]) -> (Vni, &'a [u8])
+    ensures fits { length result.1.now ≤ 9018 }
+    ensures unwrapped { (result.0, result.1.now) ≡ unwrapped (instance_of octets.now) }
+{
+    match unwrap_datagram(octets) {
+        Ok((vni, frame)) => fitting(vni, frame),
+        Err(_) => (Vni::new(0), &[]),
+    }
+}
+
+/// The network and the frame of a datagram that comes over a link: none of a clock's.
+fn carried<'a>(source: &Source, octets: &'a [u8]) -> (Vni, &'a [u8])
+    ensures fits { length result.1.now ≤ 9018 }
+    ensures carried { (result.0, result.1.now) ≡ carried source.now octets.now }
+{
+    match source {
+        Source::Port(_, vni) => fitting(*vni, octets),
+        Source::Tunnel => unwrapped(octets),
+        Source::Clock => (Vni::new(0), &[]),
+    }
+}
+
 /// The event that a datagram of a link is. An empty one is none, but for a clock.
-fn event_of<'a>(source: &Source, from: Addr, octets: &'a [u8]) -> Option<Event<'a>> {
+fn event_of<'a>(source: &Source, from: Addr, octets: &'a [u8]) -> Option<Event<'a>>
+    ensures { IsEventOf source.now (arrival from octets.now) result }
+{
     match source {
         Source::Clock => Some(Event::Second),
         Source::Port(port, _) if !octets.is_empty() => Some(Event::Frame(*port, octets)),
@@ -64,16 +83,45 @@ fn enter_datagram<L: Ledger, O: Outlet, G: Gate, R: Wait>(
     site: &Site<'_, L, G, R>,
     pass: &mut Pass<L>,
     outlet: &mut O,
-    scratch: &mut [u8; 9026],
+    scratch: &mut Scratch,
     source: &Source,
     from: Addr,
     octets: &[u8],
-) -> Result<(), NoMemory> {
+) -> Result<(), NoMemory>
+    ensures { OnOk result (Handles site.now.bridge source.now (standing pass.old (O.parcels outlet.old) (O.records outlet.old)) (arrival from octets.now) (standing pass.new (O.parcels outlet.new) (O.records outlet.new))) }
+{
     let Some(event) = event_of(source, from, octets) else {
         return Ok(());
     };
     let (vni, frame) = carried(source, octets);
     site.act(pass, outlet, scratch, &event, vni, frame)
+}
+
+/// Waits for the next datagram of a link and enters it, and answers why the worker ends, if it does.
+fn turn<L: Ledger, I: LinkIn, O: Outlet, G: Gate, R: Wait>(
+    site: &Site<'_, L, G, R>,
+    pass: &mut Pass<L>,
+    outlet: &mut O,
+    scratch: &mut Scratch,
+    buffer: &mut [u8],
+    link: &mut I,
+    source: &Source,
+) -> Option<Ended>
+    requires { I.failed link.old + 1 < 2 ^ 64 }
+    ensures failed { I.failed link.new ≡ I.failed link.old + failures_in result }
+    ensures turns { Turns result site.now.bridge source.now (I.came link.old) (standing pass.old (O.parcels outlet.old) (O.records outlet.old)) (I.came link.new) (standing pass.new (O.parcels outlet.new) (O.records outlet.new)) }
+{
+    match link.recv(buffer) {
+        Ok(Some((from, size))) => {
+            let (octets, _) = buffer.split_at(size);
+            match enter_datagram(site, pass, outlet, scratch, source, from, octets) {
+                Ok(()) => None,
+                Err(_) => Some(Ended::NoMemory),
+            }
+        }
+        Ok(None) => Some(Ended::End),
+        Err(_) => Some(Ended::Device),
+    }
 }
 
 /// Enters what comes over a link until it ends or fails. One octet more than the longest datagram has
@@ -85,22 +133,18 @@ fn link_worker<L: Ledger, I: LinkIn, O: Outlet, G: Gate, R: Wait>(
     link: &mut I,
     source: &Source,
 ) -> Ended
-    ensures { I.failed link.new ≡ I.failed link.old + failures_told result }
+    ensures failed { I.failed link.new ≡ I.failed link.old + failures_told result }
+    ensures works { Ends result site.now.bridge source.now (I.failed link.new) (I.came link.old) (standing pass.old (O.parcels outlet.old) (O.records outlet.old)) (I.came link.new) (standing pass.new (O.parcels outlet.new) (O.records outlet.new)) }
 {
-    let mut scratch = [0u8; 9026];
+    let mut scratch = Scratch::new();
     let mut buffer = [0u8; 9027];
     for _ in site.rt.forever() {
         if link.failures() == u64::MAX {
             return Ended::End;
         }
-        let (from, size) = match link.recv(&mut buffer) {
-            Ok(Some(got)) => got,
-            Ok(None) => return Ended::End,
-            Err(_) => return Ended::Device,
-        };
-        let octets = &buffer[..size];
-        if enter_datagram(site, pass, outlet, &mut scratch, source, from, octets).is_err() {
-            return Ended::NoMemory;
+        match turn(site, pass, outlet, &mut scratch, &mut buffer, link, source) {
+            Some(ended) => return ended,
+            None => {}
         }
     }
     unreachable!()
@@ -117,9 +161,10 @@ pub fn port_worker<L: Ledger, I: LinkIn, O: Outlet, G: Gate, R: Wait>(
     port: u8,
     vni: Vni,
 ) -> Ended
-    ensures { I.failed link.new ≡ I.failed link.old + failures_told result }
+    ensures failed { I.failed link.new ≡ I.failed link.old + failures_told result }
+    ensures works { PortEnds result site.now.bridge port vni (I.failed link.new) (I.came link.old) (standing pass.old (O.parcels outlet.old) (O.records outlet.old)) (I.came link.new) (standing pass.new (O.parcels outlet.new) (O.records outlet.new)) }
 {
-    let mut scratch = [0u8; 9026];
+    let mut scratch = Scratch::new();
     let up = site.act(pass, outlet, &mut scratch, &Event::PortUp(port), vni, &[]);
     if up.is_err() {
         return Ended::NoMemory;
@@ -136,7 +181,8 @@ pub fn tunnel_worker<L: Ledger, I: LinkIn, O: Outlet, G: Gate, R: Wait>(
     outlet: &mut O,
     link: &mut I,
 ) -> Ended
-    ensures { I.failed link.new ≡ I.failed link.old + failures_told result }
+    ensures failed { I.failed link.new ≡ I.failed link.old + failures_told result }
+    ensures works { Ends result site.now.bridge Tunnel (I.failed link.new) (I.came link.old) (standing pass.old (O.parcels outlet.old) (O.records outlet.old)) (I.came link.new) (standing pass.new (O.parcels outlet.new) (O.records outlet.new)) }
 {
     link_worker(site, pass, outlet, link, &Source::Tunnel)
 }
@@ -150,76 +196,61 @@ pub fn clock_worker<L: Ledger, I: LinkIn, O: Outlet, G: Gate, R: Wait>(
     outlet: &mut O,
     clock: &mut I,
 ) -> Ended
-    ensures { I.failed clock.new ≡ I.failed clock.old + failures_told result }
+    ensures failed { I.failed clock.new ≡ I.failed clock.old + failures_told result }
+    ensures works { Ends result site.now.bridge Clock (I.failed clock.new) (I.came clock.old) (standing pass.old (O.parcels outlet.old) (O.records outlet.old)) (I.came clock.new) (standing pass.new (O.parcels outlet.new) (O.records outlet.new)) }
 {
     link_worker(site, pass, outlet, clock, &Source::Clock)
 }
 
-/// The record of a message, if it isn't the last one.
-fn record_of(message: Message) -> Option<Update> {
-    match message {
-        Message::Record(update) => Some(update),
-        Message::Stop => None,
-    }
-}
-
-/// Enters the records that other edges send, until it is told to stop.
-pub fn peer_worker<L: Ledger, O: Outlet, G: Gate, R: Wait>(
+/// Enters the updates that other edges send, until there are no more.
+pub fn peer_worker<L: Ledger, I: UpdatesIn, O: Outlet, G: Gate, R: Wait>(
     site: &Site<'_, L, G, R>,
     pass: &mut Pass<L>,
     outlet: &mut O,
-    records: &Receiver<Message>,
-) -> Ended {
-    let mut scratch = [0u8; 9026];
+    updates: &mut I,
+) -> Ended
+    ensures { PeerEnds result site.now.bridge (I.came updates.old) (standing pass.old (O.parcels outlet.old) (O.records outlet.old)) (I.came updates.new) (standing pass.new (O.parcels outlet.new) (O.records outlet.new)) }
+{
+    let mut scratch = Scratch::new();
     for _ in site.rt.forever() {
-        let Ok(message) = records.recv(site.rt) else {
-            return Ended::End;
-        };
-        let Some(update) = record_of(message) else {
+        let Some(update) = updates.next() else {
             return Ended::End;
         };
         let event = Event::Take(update);
-        let taken = site.act(pass, outlet, &mut scratch, &event, Vni::default(), &[]);
-        if taken.is_err() {
+        let Ok(()) = site.act(pass, outlet, &mut scratch, &event, Vni::new(0), &[]) else {
             return Ended::NoMemory;
-        }
+        };
     }
     unreachable!()
 }
 
-/// Sends what a worker gave for a link, and answers how many frames were lost in a failed call; none
-/// where it was the last message.
-fn send_output<O: LinkOut>(link: &mut O, output: Output) -> Option<u64>
+/// Sends a datagram, and answers how many were lost in a failed call.
+fn send_one<O: LinkOut>(link: &mut O, to: Addr, octets: &[u8]) -> u64
     requires { O.failed link.old + 1 < 2 ^ 64 }
-    ensures some { IfSome result (λ lost. (lost ≤ 1) × (O.failed link.new ≡ O.failed link.old + lost)) }
-    ensures none { IfNone result (O.failed link.new ≡ O.failed link.old) }
+    ensures sends { Sends (gone (O.sent link.old) (O.failed link.old)) (packet to octets.now) (gone (O.sent link.new) (O.failed link.new)) }
+    ensures lost { O.failed link.new ≡ O.failed link.old + result }
 {
-    match output {
-        Output::Frame(to, octets) => match link.send(to, octets.as_slice()) {
-            Ok(()) => Some(0),
-            Err(_) => Some(1),
-        },
-        Output::Stop => None,
+    match link.send(to, octets) {
+        Ok(()) => 0,
+        Err(_) => 1,
     }
 }
 
-/// Sends the frames that workers give for a link, until it is told to stop, and answers how many of
+/// Sends the datagrams that workers give for a link, until there are no more, and answers how many of
 /// them were lost in a failed call.
-pub fn out_worker<O: LinkOut, R: Wait>(rt: &R, link: &mut O, frames: &Receiver<Output>) -> u64
-    ensures { O.failed link.new ≡ O.failed link.old + result }
+pub fn out_worker<I: PacketsIn, O: LinkOut, R: Wait>(rt: &R, link: &mut O, packets: &mut I) -> u64
+    ensures lost { O.failed link.new ≡ O.failed link.old + result }
+    ensures sends { OutEnds (I.came packets.old) (gone (O.sent link.old) (O.failed link.old)) (I.came packets.new) (gone (O.sent link.new) (O.failed link.new)) }
 {
     let mut lost = 0;
     for _ in rt.forever() {
-        let Ok(output) = frames.recv(rt) else {
-            return lost;
-        };
         if link.failures() == u64::MAX {
             return lost;
         }
-        let Some(more) = send_output(link, output) else {
+        let Some(packet) = packets.next() else {
             return lost;
         };
-        lost += more;
+        lost += send_one(link, packet.0, packet.1.as_slice());
     }
     unreachable!()
 }
