@@ -361,7 +361,7 @@ for text in "edge" "a = 9223372036854775808" $'a = 1\na = 2'; do
   tell "no TOML: $text, checked" tells "line $(wc -l < "$conf"): "
 done
 printf 'a = "\xff"\n' > "$conf"
-for subcommand in simulate check; do
+for subcommand in simulate check run; do
   run "$subcommand" --config "$conf"
   tell "$subcommand: a configuration that isn't UTF-8" [ "$status $(cat "$work/notes")" = "4 error: --config: '$conf' isn't UTF-8" ]
   run "$subcommand" --config "$work/none"
@@ -384,6 +384,41 @@ tell "a fault that can't be told" [ "$status" = 4 ]
 status=0
 "$evpnd" simulate --config "$work/none" < "$work/in" > "$work/out" 2> /dev/full || status=$?
 tell "an unread file that can't be told" [ "$status" = 4 ]
+
+# ---- a run: loopback addresses of this run's own. Where both edges are to hear each other, its input doesn't end at once
+host=127.$((64 + RANDOM % 64)).$((RANDOM % 254 + 1))
+ends=$'local = "HOST.1:20001"\nremote = "HOST.1:30001"'
+runs() { edge "${named/10.0.0/$host}" $'vni = 5001\n'"${1//HOST/$host}" > "$conf"; }
+runs "$ends"
+edge "${named//1\"/2\"}" $'vni = 5001\n'"${ends//20001/20002}" | sed "s/HOST/$host/; s/10[.]0[.]0/$host/" >> "$conf"
+status=0
+timeout 10 "$evpnd" run --config "$conf" < <(sleep 2) > "$work/out" 2> "$work/notes" || status=$?
+for number in 1 2; do printf 'edge %s\nflood 5001 %s.1 1 up\nflood 5001 %s.2 1 up\n' "$number" "$host" "$host"; done > "$work/both"
+tell "two edges run" gives 0 "$work/both" ""
+status=0
+"$evpnd" run --config "$conf" < "$work/in" > /dev/full 2> "$work/notes" || status=$?
+tell "a full output, of edges that ran" [ "$status" = 4 ]
+status=0
+"$evpnd" run --config "$conf" < "$work" > "$work/out" 2> "$work/notes" || status=$?
+tell "a directory as the input of a run" [ "$status $(grep -c ^edge "$work/out")" = "4 2" ]
+sed 's/vni = 5001/vni = 5002/' "$conf" > "$work/other"
+mv "$work/other" "$conf"
+run run --config "$conf"
+tell "a configuration of a run that is faulty" tells "config vni"
+for missing in local remote; do
+  runs "$(printf '%s\n' "$ends" | grep -v "$missing")"
+  run run --config "$conf"
+  tell "a run of a port without $missing" tells "config $missing"
+done
+runs $'local = "192.0.2.1:20001"\nremote = "192.0.2.1:30001"'
+run run --config "$conf"
+tell "a port's address that no device has" gives 4 "$work/empty" "can't bind 192.0.2.1:20001: no device here has it"
+runs $'local = "HOST.1:4789"\nremote = "HOST.1:30001"'
+run run --config "$conf"
+tell "an address that is in use, by the edge's own tunnels" gives 4 "$work/empty" "can't bind $host.1:4789: it is in use"
+status=0
+"$evpnd" run --config "$conf" < "$work/in" > "$work/out" 2> /dev/full || status=$?
+tell "an address that can't be bound, which can't be told" [ "$status" = 4 ]
 
 # ---- the notes on a piece are there while the next one is awaited
 cp "$record" "$work/in"

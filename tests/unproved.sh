@@ -4,7 +4,7 @@
 # Runs tests that aren't proved: `rt try` compiles a crate and those below it with checks and without proofs, which takes the
 # gate a minute or two, where a proof of these tests would take it ten. In tests/unproved/CRATE/ stands what goes into src/ of
 # that crate: its module `tests`, or, where the crate has one, modules of that. The files end in .txt, since the gate stops at a
-# Rattle file that is in none of its crates.
+# Rattle file that is in none of its crates. They have ten minutes, so that a busy machine makes no failure.
 set -u
 cd "$(dirname "$0")/.." || exit 1
 work=$(mktemp -d)
@@ -36,7 +36,7 @@ for crate in "$@"; do
       printf '\nmod %s;\n' "$(basename "$file" .rt.txt)" >> "$source/tests.rt"
     done
   fi
-  (cd "$work/crates/$crate" && rt try --test 2>&1) | tee "$work/said" | grep -v ' \.\.\. ok$'
+  (cd "$work/crates/$crate" && rt try --test --seconds 600 2>&1) | tee "$work/said" | grep -v ' \.\.\. ok$'
   ok=$(grep -c '^test tests::.* \.\.\. ok$' "$work/said")
   bad=$(grep -c '^test tests::.* \.\.\. FAILED$' "$work/said")
   # where nothing ran, that is a failure too

@@ -49,3 +49,10 @@ ssize_t writev(int descriptor, const struct iovec *parts, int count) {
 }
 
 __attribute__((destructor)) static void tell(void) { dprintf(3, "%ld %ld %ld\n", calls[0], calls[1], calls[2]); }
+
+/* A program that may start threads ends by this, which calls no destructor. */
+void _exit(int status) {
+    tell();
+    for (;;)
+        syscall(SYS_exit_group, status);
+}

@@ -1,14 +1,16 @@
 -- What is done with what a file gives for a configuration.
-use Rattle.std.proofs.Common.{◌≡◌, ℕ, ◌+◌, inl, inr, Bool, Result, Ok, Err, refl, ap, ◌∙◌, arith}
+use Rattle.std.proofs.Common.{◌≡◌, ℕ, ◌+◌, inl, inr, Bool, Result, Ok, Err, refl, ap, subst, ◌∙◌, arith}
 use Rattle.ether_wire.specs.declared.ends.Device.{Device}
 use Rattle.ether_wire.specs.Ends.{End, Source, Puts}
 use Rattle.evpnd.specs.declared.config.Config.{Config}
 use Rattle.evpnd.specs.declared.config.ConfigRefusal.{ConfigRefusal}
+use Rattle.evpnd.specs.declared.config.ConfigRefusal.TheVariants as refusal
 use Rattle.evpnd.specs.declared.files.Unread.{Unread}
 use Rattle.evpnd.specs.Files.{Text, Shelf, IsTextOf, unread_text}
 use Rattle.evpnd.specs.Ends.{Devices, devices, Holds}
 use Rattle.evpnd.specs.Config.{ConfigOf}
-use Rattle.evpnd.specs.Checks.{desk, OfFile}
+use Rattle.evpnd.specs.Checks.{Desk, desk, OfFile}
+use Rattle.evpnd.specs.Configured.{OfFound, Never, TextGives, FileGives}
 
 -- what is done with what is found
 abbrev pub Uses : Type 1
@@ -35,3 +37,43 @@ pub of_read : (for_run : Bool) (uses : Uses) (path text : Text) (s s' : Shelf) (
     → (found : Result Config ConfigRefusal) × ConfigOf for_run text found × uses found d d' status → OfFile for_run uses path (desk s d) (desk s' d') status
 of_read for_run uses path text s s' d d' status gives used =
     inr (inr (record { shelf_kept = gives.0; text = text; read = gives.1; found = used.0; is_found = used.1; used = used.2 }))
+
+-- ---- a configuration that is used
+
+abbrev pub UsesConfig : Type 1
+UsesConfig = Config → Devices → Devices → ℕ → Type 0
+
+found_never : (uses : UsesConfig) (found : Result Config ConfigRefusal) (d d' : Devices) (status : ℕ) → OfFound Never found d d' status → OfFound uses found d d' status
+found_never uses (Ok config) d d' status h = absurd h
+found_never uses (Err (refusal.Key key)) d d' status h = h
+found_never uses (Err refusal.Text) d d' status h = h
+found_never uses (Err refusal.NoMemory) d d' status h = h
+
+-- where none is used, it doesn't matter for what
+pub of_never : (uses : UsesConfig) (for_run : Bool) (path : Text) (b a : Desk) (status : ℕ) → OfFile for_run (OfFound Never) path b a status → OfFile for_run (OfFound uses) path b a status
+of_never uses for_run path b a status (inl h) = inl h
+of_never uses for_run path b a status (inr (inl h)) = inr (inl h)
+of_never uses for_run path b a status (inr (inr r)) =
+    inr (inr (record {
+      shelf_kept = r.shelf_kept;
+      text = r.text;
+      read = r.read;
+      found = r.found;
+      is_found = r.is_found;
+      used = found_never uses r.found b.devices a.devices status r.used;
+    }))
+
+-- the configuration is used
+pub of_used : (uses : UsesConfig) (for_run : Bool) (path : Text) (s s' : Shelf) (input input' : Source) (out out' notes mid notes' : End) (config : Config) (status : ℕ)
+    → FileGives for_run path s s' notes mid (Ok config) → uses config (devices input out mid) (devices input' out' notes') status
+    → OfFile for_run (OfFound uses) path (desk s (devices input out notes)) (desk s' (devices input' out' notes')) status
+of_used uses for_run path s s' input input' out out' notes mid notes' config status gives used =
+    of_read for_run (OfFound uses) path gives.2.0 s s' (devices input out notes) (devices input' out' notes') status (gives.0, gives.2.1)
+    (Ok config, gives.2.2, subst (λ (e : End). uses config (devices input out e) (devices input' out' notes') status) gives.1 used)
+
+-- the text of the file gives a configuration or none
+pub file_gives : (for_run : Bool) (path text : Text) (s s' : Shelf) (notes notes' : End) (result : Result Config ℕ) → (s' ≡ s) × IsTextOf s path text
+    → TextGives for_run text notes notes' result → FileGives for_run path s s' notes notes' result
+file_gives for_run path text s s' notes notes' (Ok config) from gives = (from.0, gives.0, (text, from.1, gives.1))
+file_gives for_run path text s s' notes notes' (Err status) from gives = λ input out.
+    of_read for_run (OfFound Never) path text s s' (devices input out notes) (devices input out notes') status from (gives.0, gives.1, gives.2 input out)

@@ -18,7 +18,7 @@ use Rattle.clap.specs.declared.error.kind.ErrorKind.TheVariants as kind
 use Rattle.clap.specs.declared.parser.matches.ValueSource.TheVariants.{CommandLine, DefaultValue}
 use Rattle.clap.proofs.WalkLemmas.{both}
 use Rattle.evpnd.specs.declared.words.Subcommand.{Subcommand}
-use Rattle.evpnd.specs.declared.words.Subcommand.TheVariants.{Report, Migrate, Check, Simulate}
+use Rattle.evpnd.specs.declared.words.Subcommand.TheVariants.{Report, Migrate, Check, Simulate, Run}
 use Rattle.evpnd.specs.Words.{subcommands, name_of, option_of, order_app, program, named, order_in}
 
 -- ---- tests
@@ -383,6 +383,7 @@ names_it Report = refl
 names_it Migrate = refl
 names_it Check = refl
 names_it Simulate = refl
+names_it Run = refl
 
 -- an order's parts
 abbrev pub Parts : Type 0

@@ -14,6 +14,7 @@ pub mod Minding
 pub mod Pairs
 pub mod Playings
 pub mod Putting
+pub mod Running
 pub mod Simulating
 pub mod Walking
 pub mod Fitting

@@ -68,13 +68,13 @@ module _ (start : Fabric) (script : List ℕ) (p final : Player) (out out' notes
 
 -- ---- nothing is run
 
-holds_none : (e : End) → Holds e e []
+pub holds_none : (e : End) → Holds e e []
 holds_none e = record { written = λ _. sym (with_text_none e); failures = inl refl }
 
 is_silent : (out notes : End) → IsSilent out out notes notes
 is_silent out notes = record { out_kept = holds_none out; notes_kept = holds_none notes }
 
-unfailed : (e : End) → has_failed e e ≡ false
+pub unfailed : (e : End) → has_failed e e ≡ false
 unfailed e = grind (arith, nat_tests)
 
 pub refused_memory : (out notes : End) (status : ℕ) → status ≡ 3 → IsRefusedMemory out out notes notes status
@@ -103,11 +103,11 @@ module _ (a b c : End) (q : Bool) (counts : CountsFailure a b) (f : Finishes a.f
   pub finish_kept : q ≡ true → c.failures ≡ a.failures
   finish_kept e = let p = f.passed e in ap (λ (x : End). x.failures) p.0 ∙ p.1
 
-finish_counts : (a b c : End) (q : Bool) → CountsFailure a b → Finishes a.failures b c q → CountsFailure a c
+pub finish_counts : (a b c : End) (q : Bool) → CountsFailure a b → Finishes a.failures b c q → CountsFailure a c
 finish_counts a b c true counts f = inl (finish_kept a b c true counts f refl)
 finish_counts a b c false counts f = inr (finish_late a b c false counts f refl)
 
-finish_told : (a b c : End) (q : Bool) → CountsFailure a b → Finishes a.failures b c q → has_failed a c ≡ not q
+pub finish_told : (a b c : End) (q : Bool) → CountsFailure a b → Finishes a.failures b c q → has_failed a c ≡ not q
 finish_told a b c true counts f = let same = finish_kept a b c true counts f refl in grind (arith, nat_tests)
 finish_told a b c false counts f = let one = finish_late a b c false counts f refl in grind (arith, nat_tests)
 
@@ -139,7 +139,7 @@ module _ (input input' : Source) (out held out' notes kept notes' : End) (p q : 
   finished_silent : IsSilent out held notes kept → IsSilent out out' notes notes'
   finished_silent s = record { out_kept = finish_holds out held out' p [] s.out_kept f; notes_kept = finish_holds notes kept notes' q [] s.notes_kept g }
 
-  finished_refused : IsRefusedMemory out held notes kept status → IsRefusedMemory out out' notes notes' last
+  pub finished_refused : IsRefusedMemory out held notes kept status → IsRefusedMemory out out' notes notes' last
   finished_refused h = (finished_silent h.0, status_last true false h.1 (finish_failed out held out' p [] h.0.out_kept f) (finish_failed notes kept notes' q [] h.0.notes_kept g))
 
   four : (b : Bool) → last ≡ cond b status 4 → status ≡ 4 → last ≡ 4

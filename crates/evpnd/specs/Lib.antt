@@ -15,6 +15,7 @@ pub mod Config
 pub mod Fitting
 pub mod Files
 pub mod Checks
+pub mod Configured
 pub mod Program
 pub mod Script
 pub mod Input
@@ -22,3 +23,4 @@ pub mod Simulation
 pub mod Scripted
 pub mod Playing
 pub mod Printing
+pub mod RunEdges

@@ -1,11 +1,11 @@
 -- A run of the program, from its words to its status.
-use Rattle.std.specs.Prelude.{◌≡◌, ◌≢◌, ℕ, ◌+◌, ◌⊎◌, false, List, [], codes, map, string_bytes, MatchResult}
+use Rattle.std.specs.Prelude.{◌≡◌, ◌≢◌, ℕ, ◌+◌, ◌⊎◌, true, false, List, [], codes, map, string_bytes, MatchResult}
 use Rattle.ether_wire.specs.Ends.{End, Source}
 use Rattle.clap.specs.Words.{fault_of}
 use Rattle.evpnd.specs.declared.program.Line.{Line}
 use Rattle.evpnd.specs.declared.program.Line.TheVariants.{Words, NotText, NoMemory}
 use Rattle.evpnd.specs.declared.words.Subcommand.{Subcommand}
-use Rattle.evpnd.specs.declared.words.Subcommand.TheVariants.{Report, Migrate, Check, Simulate}
+use Rattle.evpnd.specs.declared.words.Subcommand.TheVariants.{Report, Migrate, Check, Simulate, Run}
 use Rattle.evpnd.specs.Words.{program, Spells}
 use Rattle.evpnd.specs.Originators.{Text, originators_of_text, list_text}
 use Rattle.evpnd.specs.Ends.{Devices, devices}
@@ -14,6 +14,7 @@ use Rattle.evpnd.specs.Checks.{Desk, desk, IsTold, TellsUsage, OfFile, Checks}
 use Rattle.evpnd.specs.Runs.{Reports}
 use Rattle.evpnd.specs.Migrations.{Migrates}
 use Rattle.evpnd.specs.Scripted.{SimulatesFound}
+use Rattle.evpnd.specs.RunEdges.{RunsFound}
 
 -- the devices and the files, and how often what reads the words was refused memory
 pub record World : Type 0 where
@@ -47,6 +48,7 @@ FollowsAs Report list before after status = (after.shelf ≡ before.shelf) × Of
 FollowsAs Migrate list before after status = (after.shelf ≡ before.shelf) × OfList Migrates list before.devices after.devices status
 FollowsAs Check path before after status = OfFile false Checks path before after status
 FollowsAs Simulate path before after status = OfFile false SimulatesFound path before after status
+FollowsAs Run path before after status = OfFile true RunsFound path before after status
 
 abbrev pub Follows : Subcommand × Text → Desk → Desk → ℕ → Type 0
 Follows order before after status = FollowsAs order.0 order.1 before after status

@@ -8,7 +8,7 @@ use Rattle.clap.specs.declared.error.Error.{Error}
 use Rattle.clap.specs.declared.error.kind.ErrorKind.TheVariants.{OutOfMemory}
 use Rattle.clap.specs.declared.parser.matches.ArgMatches.{ArgMatches}
 use Rattle.evpnd.specs.declared.words.Subcommand.{Subcommand}
-use Rattle.evpnd.specs.declared.words.Subcommand.TheVariants.{Report, Migrate, Check, Simulate}
+use Rattle.evpnd.specs.declared.words.Subcommand.TheVariants.{Report, Migrate, Check, Simulate, Run}
 use Rattle.evpnd.specs.declared.words.Order.{Order}
 use Rattle.evpnd.specs.declared.words.Refusal.{Refusal}
 use Rattle.evpnd.specs.declared.words.Refusal.TheVariants.{Usage, NoMemory}
@@ -16,19 +16,21 @@ use Rattle.evpnd.specs.declared.words.Refusal.TheVariants.{Usage, NoMemory}
 -- ---- the subcommands, each with its one option
 
 abbrev pub subcommands : List Subcommand
-subcommands = Report ∷ Migrate ∷ Check ∷ Simulate ∷ []
+subcommands = Report ∷ Migrate ∷ Check ∷ Simulate ∷ Run ∷ []
 
 abbrev pub name_of : Subcommand → Text
 name_of Report = codes "report"
 name_of Migrate = codes "migrate"
 name_of Check = codes "check"
 name_of Simulate = codes "simulate"
+name_of Run = codes "run"
 
 abbrev pub option_of : Subcommand → Text
 option_of Report = codes "originators"
 option_of Migrate = codes "originators"
 option_of Check = codes "config"
 option_of Simulate = codes "config"
+option_of Run = codes "config"
 
 -- ---- the command
 

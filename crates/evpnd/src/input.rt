@@ -8,7 +8,7 @@ use std::alloc::Global;
 
 /// An input is read with at most this many reads. One that hasn't ended by then counts as one whose
 /// reading failed.
-const MOST_READS: u64 = 0x100_0000_0000;
+pub(crate) const MOST_READS: u64 = 0x100_0000_0000;
 
 /// How many octets a read asks for.
 const PIECE: usize = 16_384;

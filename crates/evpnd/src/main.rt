@@ -3,6 +3,7 @@
 
 mod check;
 mod config;
+mod configured;
 mod ending;
 mod files;
 mod input;
@@ -12,6 +13,7 @@ mod notes;
 mod originators;
 mod program;
 mod report;
+mod run_edges;
 mod script;
 mod simulate;
 mod status;
@@ -34,6 +36,7 @@ fn main(rt: HostRuntime) -> ExitCode {
     let out = Writer::new(io::writer(&stdout));
     let notes = Writer::new(io::writer(&stderr));
     let (status, _, _) = run(
+        &rt,
         rt.alloc(),
         &mut parser,
         &line,

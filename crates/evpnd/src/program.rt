@@ -16,12 +16,17 @@ use crate::files::Files;
 use crate::migrate::migrate_buffered;
 use crate::originators::{WrongPart, put_wrong_part, read_originators};
 use crate::report::report_buffered;
+use crate::run_edges::run_file;
 use crate::simulate::simulate;
 use crate::status::{DEVICE, MEMORY, USAGE};
 use crate::words::{Order, Parser, Refusal, Subcommand, order_of};
 use clap::Error;
 use ether_wire::{Device, In, Out};
 use std::alloc::Global;
+use std::net::Net;
+use std::sync::Wait;
+use std::thread::Threads;
+use std::time::Clock;
 
 /// What the system gives as words.
 #[derive(Debug, Drop)]
@@ -113,7 +118,8 @@ fn migrate<R: In, W: Out, N: Out>(
 }
 
 /// Does what the words say.
-fn follow<F: Files, R: In, W: Out, N: Out>(
+fn follow<H: Threads + Wait + Net + Clock + Sync, F: Files, R: In, W: Out, N: Out>(
+    rt: &H,
     alloc: Global,
     order: Order<'_>,
     files: &mut F,
@@ -134,11 +140,13 @@ fn follow<F: Files, R: In, W: Out, N: Out>(
         Subcommand::Migrate => migrate(alloc, order.value, reader, out, notes),
         Subcommand::Check => check(alloc, files, order.value, out, notes),
         Subcommand::Simulate => simulate(alloc, files, order.value, reader, out, notes),
+        Subcommand::Run => run_file(rt, alloc, files, order.value, reader, out, notes),
     }
 }
 
 /// A run over these words.
-fn run_words<P: Parser, F: Files, R: In, W: Out, N: Out>(
+fn run_words<H: Threads + Wait + Net + Clock + Sync, P: Parser, F: Files, R: In, W: Out, N: Out>(
+    rt: &H,
     alloc: Global,
     parser: &mut P,
     words: &[String],
@@ -157,7 +165,7 @@ fn run_words<P: Parser, F: Files, R: In, W: Out, N: Out>(
         (world (P.refusals parser.new) (F.shelf files.new) (R.end reader.new) (W.end result.1) (N.end result.2)) result.0 }
 {
     match order_of(parser, words) {
-        Ok(order) => follow(alloc, order, files, reader, out, notes),
+        Ok(order) => follow(rt, alloc, order, files, reader, out, notes),
         Err(Refusal::Usage(error)) => (tell_fault(parser, &error, &mut notes), out, notes),
         Err(Refusal::NoMemory) => (MEMORY, out, notes),
     }
@@ -169,7 +177,15 @@ fn run_words<P: Parser, F: Files, R: In, W: Out, N: Out>(
 /// The status is the greatest that applies: 4 where a device failed, 3 where memory was refused, 2
 /// where the words aren't the program's or ask for help, or a configuration is faulty, 1 where the
 /// input is broken, else 0.
-pub(crate) fn run<P: Parser, F: Files, R: In, W: Out, N: Out>(
+pub(crate) fn run<
+    H: Threads + Wait + Net + Clock + Sync,
+    P: Parser,
+    F: Files,
+    R: In,
+    W: Out,
+    N: Out,
+>(
+    rt: &H,
     alloc: Global,
     parser: &mut P,
     line: &Line,
@@ -188,7 +204,16 @@ pub(crate) fn run<P: Parser, F: Files, R: In, W: Out, N: Out>(
         (world (P.refusals parser.new) (F.shelf files.new) (R.end reader.new) (W.end result.1) (N.end result.2)) result.0 }
 {
     match line {
-        Line::Words(words) => run_words(alloc, parser, words.as_slice(), files, reader, out, notes),
+        Line::Words(words) => run_words(
+            rt,
+            alloc,
+            parser,
+            words.as_slice(),
+            files,
+            reader,
+            out,
+            notes,
+        ),
         Line::NotText => (tell(b"error: a word isn't UTF-8\n", &mut notes), out, notes),
         Line::NoMemory => (MEMORY, out, notes),
     }

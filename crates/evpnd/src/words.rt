@@ -19,6 +19,8 @@ pub(crate) enum Subcommand {
     Check,
     /// `evpnd simulate --config FILE`
     Simulate,
+    /// `evpnd run --config FILE`
+    Run,
 }
 
 /// What the program is to do.
@@ -48,6 +50,7 @@ impl Subcommand {
             Subcommand::Migrate => "migrate",
             Subcommand::Check => "check",
             Subcommand::Simulate => "simulate",
+            Subcommand::Run => "run",
         }
     }
 
@@ -57,7 +60,7 @@ impl Subcommand {
     {
         match self {
             Subcommand::Report | Subcommand::Migrate => "originators",
-            Subcommand::Check | Subcommand::Simulate => "config",
+            Subcommand::Check | Subcommand::Simulate | Subcommand::Run => "config",
         }
     }
 
@@ -65,7 +68,7 @@ impl Subcommand {
     fn value_name<'a>(self) -> &'a str {
         match self {
             Subcommand::Report | Subcommand::Migrate => "LIST",
-            Subcommand::Check | Subcommand::Simulate => "FILE",
+            Subcommand::Check | Subcommand::Simulate | Subcommand::Run => "FILE",
         }
     }
 
@@ -75,7 +78,7 @@ impl Subcommand {
             Subcommand::Report | Subcommand::Migrate => {
                 "1 to 64 different IPv4 addresses with commas between them"
             }
-            Subcommand::Check | Subcommand::Simulate => {
+            Subcommand::Check | Subcommand::Simulate | Subcommand::Run => {
                 "The path of a configuration, a TOML document"
             }
         }
@@ -88,6 +91,7 @@ impl Subcommand {
             Subcommand::Migrate => "Write records of versions 1 and 2 anew in version 3",
             Subcommand::Check => "Tell whether a configuration is right, or where it is wrong",
             Subcommand::Simulate => "Run a script of events on the edges of a configuration",
+            Subcommand::Run => "Carry frames: run the edges of a configuration over UDP sockets",
         }
     }
 
@@ -159,6 +163,24 @@ Status, the greatest that applies:
 Example:
   evpnd simulate --config fabric.toml < script"
             }
+            Subcommand::Run => {
+                "\
+Runs the edges that FILE configures, as docs/configuration.md describes it; each port needs `local`
+and `remote`. Each edge takes and sends VXLAN datagrams at its address, UDP port 4789; each port takes
+frames at `local`, one a datagram, and sends them to `remote`. It ends when standard input ends, whose
+content is ignored. Then standard output has for each edge the line `edge E` and its report.
+Standard error has `lost N` where N sends failed; or which address can't be bound, and why: then no
+edge has begun.
+
+Status, the greatest that applies:
+  0  the edges ran until standard input ended
+  2  the configuration has a fault; or the words are wrong, or ask for help
+  3  memory or a thread was refused
+  4  FILE can't be read, an address can't be bound, or a socket, reading or writing failed
+
+Example:
+  evpnd run --config fabric.toml"
+            }
         }
     }
 }
@@ -178,6 +200,9 @@ fn named(name: &str) -> Option<Subcommand>
     }
     if name == Subcommand::Simulate.name() {
         return Some(Subcommand::Simulate);
+    }
+    if name == Subcommand::Run.name() {
+        return Some(Subcommand::Run);
     }
     None
 }
@@ -221,13 +246,15 @@ fn program<'a>(alloc: Global) -> Result<Command<'a>, AllocError>
     let migrate = order_command(alloc, Subcommand::Migrate)?;
     let check = order_command(alloc, Subcommand::Check)?;
     let simulate = order_command(alloc, Subcommand::Simulate)?;
+    let run = order_command(alloc, Subcommand::Run)?;
     let start = Command::new(alloc, "evpnd")
         .about(ABOUT)
         .after_help(HELP)
         .subcommand(report)?;
     let second = start.subcommand(migrate)?;
     let third = second.subcommand(check)?;
-    let command = third.subcommand(simulate)?;
+    let fourth = third.subcommand(simulate)?;
+    let command = fourth.subcommand(run)?;
     Ok(command.subcommand_required(true))
 }
 

@@ -1,0 +1,79 @@
+//! Sends frames to one port and takes them at another, with so many under way: frames a second, and of
+//! the time that the program between them took the share that was the system's.
+//!
+//!     load PID FROM TO HERE THERE COUNT SIZE WINDOW
+//!
+//! FROM is the sender's socket, TO the port it sends to, HERE the socket of the other port's cable, and
+//! THERE that port.
+
+use std::io::ErrorKind;
+use std::net::UdpSocket;
+use std::time::{Duration, Instant};
+
+/// A frame between the two stations.
+fn frame(to: u8, of: u8, size: usize) -> Vec<u8> {
+    let mut octets = vec![2, 0, 0, 0, 0, to, 2, 0, 0, 0, 0, of, 0x88, 0xb5];
+    octets.resize(size, 0);
+    octets
+}
+
+/// The ticks that a process has spent by itself and in the system.
+fn ticks(pid: &str) -> (u64, u64) {
+    let text = std::fs::read_to_string(format!("/proc/{pid}/stat")).unwrap();
+    let fields: Vec<&str> = text[text.rfind(')').unwrap() + 2..].split(' ').collect();
+    (fields[11].parse().unwrap(), fields[12].parse().unwrap())
+}
+
+/// Whether the frame comes within this time; others are passed over.
+fn comes(socket: &UdpSocket, wanted: &[u8]) -> bool {
+    let mut buffer = [0; 65536];
+    loop {
+        match socket.recv(&mut buffer) {
+            Ok(size) if &buffer[..size] == wanted => return true,
+            Ok(_) => {}
+            Err(_) => return false,
+        }
+    }
+}
+
+fn main() {
+    let words: Vec<String> = std::env::args().skip(1).collect();
+    let [pid, from, to, here, there, count, size, window] = &words[..] else { panic!("eight words") };
+    let (count, size, window): (u64, usize, u64) = (count.parse().unwrap(), size.parse().unwrap(), window.parse().unwrap());
+    let (sender, receiver) = (UdpSocket::bind(from).unwrap(), UdpSocket::bind(here).unwrap());
+    sender.set_read_timeout(Some(Duration::from_millis(200))).unwrap();
+    receiver.set_read_timeout(Some(Duration::from_millis(200))).unwrap();
+    let (mut one, two) = (frame(2, 1, size), frame(1, 2, size));
+    // both stations are known before the clock starts
+    for turn in 0.. {
+        sender.send_to(&one, to).unwrap();
+        let first = comes(&receiver, &one);
+        receiver.send_to(&two, there).unwrap();
+        if comes(&sender, &two) && first {
+            break;
+        }
+        assert!(turn < 50, "nothing comes");
+    }
+    let before = ticks(pid);
+    let start = Instant::now();
+    let (mut sent, mut got, mut lost) = (0u64, 0u64, 0u64);
+    let mut buffer = [0; 65536];
+    while got + lost < count {
+        while sent < count && sent - got - lost < window {
+            one[14..22].copy_from_slice(&sent.to_be_bytes());
+            sender.send_to(&one, to).unwrap();
+            sent += 1;
+        }
+        match receiver.recv(&mut buffer) {
+            Ok(length) if length == size && buffer[..6] == one[..6] => got += 1,
+            Ok(_) => {}
+            Err(error) if matches!(error.kind(), ErrorKind::WouldBlock | ErrorKind::TimedOut) => lost = sent - got,
+            Err(error) => panic!("{error}"),
+        }
+    }
+    let seconds = start.elapsed().as_secs_f64();
+    let after = ticks(pid);
+    let (own, system) = (after.0 - before.0, after.1 - before.1);
+    let share = 100 * system / (own + system).max(1);
+    println!("{:.0} {lost} {share}", got as f64 / seconds);
+}

@@ -1,0 +1,124 @@
+-- A run of edges: the input that is read out, and what is told at the end.
+use Rattle.std.proofs.Common.{◌≡◌, ◌⊎◌, inl, inr, ℕ, ◌+◌, ◌<◌, ◌^◌, Bool, true, false, cond, not, ◌&&◌, ◌||◌, nat_lt, List, [], ◌∷◌, ◌++◌, take, length, length-append, Result, Ok, Err, is_ok, refl, sym, ap, subst, ◌∙◌, arith}
+use Rattle.std.proofs.lemmas.List.Elements.{Contains-append_left, Contains-append_right}
+use Rattle.std.specs.List.{concat, Contains}
+use Rattle.ether_wire.specs.declared.ends.Device as device
+use Rattle.ether_wire.specs.Ends.{End, Source, Gets, Puts}
+use Rattle.ev_edge.specs.declared.config.EdgeConfig.{EdgeConfig}
+use Rattle.ev_edge.specs.Config.{IsConfig}
+use Rattle.evpnd.specs.declared.config.endpoint.Endpoint.{Endpoint}
+use Rattle.evpnd.specs.declared.run_edges.sockets.Hindrance.{Hindrance}
+use Rattle.evpnd.specs.Ends.{devices, has_failed, Holds, Finishes}
+use Rattle.evpnd.specs.declared.input.Unread.TheVariants.{Device}
+use Rattle.evpnd.specs.Input.{ReadsWhole, Gathers}
+use Rattle.evpnd.specs.Notes.{status_of}
+use Rattle.evpnd.specs.Printing.{Minds}
+use Rattle.evpnd.specs.RunEdges.{EachConfig, unbound_text, lost_text, Drains, IsReadOut, TellsEnded, Ran, IsUnbound, TellsUnbound, RunsEdges}
+use Rattle.evpnd.proofs.Finishing.{put_holds, put_failed, finish_holds, finish_failed, finish_unfailed, last_status}
+use Rattle.evpnd.proofs.Gathering.{gathers_more, whole_ended, whole_failed, whole_unended}
+use Rattle.evpnd.proofs.Minding.{minds_failed, minds_counts}
+use Rattle.evpnd.proofs.Reading.{gives_none}
+use Rattle.evpnd.proofs.Simulating.{finish_counts, finish_told, finished_refused, holds_none, refused_memory}
+
+-- ---- the input
+
+pub drains_none : (s : Source) → Drains 0 s s
+drains_none s = record { pieces = []; gives = gives_none s; many = refl }
+
+gathered : (turn : ℕ) (s mid : Source) (d : Drains turn s mid) → Gathers turn s mid (concat d.pieces)
+gathered turn s mid d = record { pieces = d.pieces; gives = d.gives; many = d.many; is = refl }
+
+module _ (turn : ℕ) (s mid last : Source) (buffer : List ℕ) (d : Drains turn s mid) where
+  pub drains_more : (n : ℕ) → Gets mid last buffer (Ok n) → 0 < n → Drains (turn + 1) s last
+  drains_more n got some =
+      let more = gathers_more turn s mid last (concat d.pieces) buffer (gathered turn s mid d) n got some in
+      record { pieces = more.pieces; gives = more.gives; many = more.many }
+
+  pub drained_ended : turn < 2 ^ 40 → 0 < length buffer → Gets mid last buffer (Ok 0) → IsReadOut s last
+  drained_ended turns room got = record { input = concat d.pieces; read = whole_ended turn s mid last (concat d.pieces) buffer (gathered turn s mid d) turns room got }
+
+  pub drained_failed : (failed : device.Device) → turn < 2 ^ 40 → Gets mid last buffer (Err failed) → ReadsWhole s last (Err Device)
+  drained_failed failed turns got = whole_failed turn s mid last (concat d.pieces) buffer (gathered turn s mid d) failed turns got
+
+pub drained_unended : (turn : ℕ) (s mid : Source) → Drains turn s mid → turn ≡ 2 ^ 40 → ReadsWhole s mid (Err Device)
+drained_unended turn s mid d turns = whole_unended turn s mid mid (concat d.pieces) [] (gathered turn s mid d) turns
+
+-- ---- configurations, taken from behind
+
+module _ (all left : List EdgeConfig) (config : EdgeConfig) (same : all ≡ left ++ config ∷ []) (each : EachConfig all) where
+  pub last_config : IsConfig config
+  last_config = each config (subst (λ (cs : List EdgeConfig). Contains cs config) (sym same) (Contains-append_right left (config ∷ []) config (0, omega arith, refl)))
+
+  pub each_left : EachConfig left
+  each_left = λ c k. each c (subst (λ (cs : List EdgeConfig). Contains cs c) (sym same) (Contains-append_left left (config ∷ []) c k))
+
+-- ---- what is told
+
+module _ (is_read : Bool) (out out' notes notes' : End) (is_told : Bool) (r : Result (Unit {0}) device.Device) (lost : ℕ) where
+  pub tells_ended : (is_device is_starved : Bool) (status : ℕ) → Minds out out' true is_told → Puts notes notes' (lost_text lost) r
+      → status ≡ status_of (((not is_read || is_device) || nat_lt 0 lost) || (not is_told || not (is_ok r))) is_starved false → TellsEnded is_read out out' notes notes' status
+  tells_ended is_device is_starved status told put is =
+      let e = (not is_read || is_device) || nat_lt 0 lost in
+      record {
+        lost = lost;
+        is_device = is_device;
+        is_starved = is_starved;
+        written = minds_counts out out' is_told told;
+        noted = put_holds notes notes' r (lost_text lost) put;
+        status_is = is ∙ ap (λ x. status_of (e || (x || not (is_ok r))) is_starved false) (sym (minds_failed out out' is_told told))
+            ∙ ap (λ x. status_of (e || (has_failed out out' || x)) is_starved false) (sym (put_failed notes notes' r (lost_text lost) put));
+      }
+
+-- an address is told
+pub tells_address : (notes notes' : End) (r : Result (Unit {0}) device.Device) (at : Endpoint) (why : Hindrance) → Puts notes notes' (unbound_text at why) r → TellsUnbound notes notes' 4
+tells_address notes notes' r at why put =
+    inl (record { text = unbound_text at why; is_text = inr (at, why, refl); noted = put_holds notes notes' r (unbound_text at why) put; status_is = refl })
+
+-- no address is told
+pub tells_nothing : (notes : End) → TellsUnbound notes notes 4
+tells_nothing notes = inl (record { text = []; is_text = inl refl; noted = holds_none notes; status_is = refl })
+
+-- no edge began
+pub runs_none : (input : Source) (out notes notes' : End) (status : ℕ) → TellsUnbound notes notes' status → RunsEdges (devices input out notes) (devices input out notes') status
+runs_none input out notes notes' status (inl u) = inr (inl (refl, holds_none out, u))
+runs_none input out notes notes' status (inr p) = rw p.0 (inr (inr (refused_memory out notes status p.1)))
+
+-- memory was refused to what the edges begin with
+pub runs_refused : (input input' : Source) (out out' notes notes' : End) → out' ≡ out → notes' ≡ notes → RunsEdges (devices input out notes) (devices input' out' notes') 3
+runs_refused input input' out out' notes notes' a b = rw (a, b) (inr (inr (refused_memory out notes 3 refl)))
+
+-- ---- writers that are given more at once
+
+four : (b : Bool) (status last : ℕ) → last ≡ cond b status 4 → status ≡ 4 → last ≡ 4
+four true status last h e = h ∙ e
+four false status last h e = h
+
+module _ (input input' : Source) (out held out' notes kept notes' : End) (p q : Bool) (status last : ℕ)
+    (f : Finishes out.failures held out' p) (g : Finishes notes.failures kept notes' q) (l : last ≡ cond (p && q) status 4) where
+  finished_ended : (is_read : Bool) → TellsEnded is_read out held notes kept status → TellsEnded is_read out out' notes notes' last
+  finished_ended is_read t =
+      let e = (not is_read || t.is_device) || nat_lt 0 t.lost in
+      record {
+        lost = t.lost;
+        is_device = t.is_device;
+        is_starved = t.is_starved;
+        written = finish_counts out held out' p t.written f;
+        noted = finish_holds notes kept notes' q (lost_text t.lost) t.noted g;
+        status_is = last_status e p q t.is_starved false (has_failed out held) (has_failed notes kept) status last t.status_is l
+            (finish_unfailed out held out' p f) (finish_unfailed notes kept notes' q g)
+            ∙ ap (λ x. status_of (e || (x || not q)) t.is_starved false) (sym (finish_told out held out' p t.written f))
+            ∙ ap (λ x. status_of (e || (has_failed out out' || x)) t.is_starved false) (sym (finish_failed notes kept notes' q (lost_text t.lost) t.noted g));
+      }
+
+  finished_unbound : IsUnbound notes kept status → IsUnbound notes notes' last
+  finished_unbound u = record {
+    text = u.text;
+    is_text = u.is_text;
+    noted = finish_holds notes kept notes' q u.text u.noted g;
+    status_is = four (p && q) status last l u.status_is;
+  }
+
+  pub buffered_runs : RunsEdges (devices input out notes) (devices input' held kept) status → RunsEdges (devices input out notes) (devices input' out' notes') last
+  buffered_runs (inl r) = inl (record { is_read = r.is_read; read = r.read; told = finished_ended r.is_read r.told })
+  buffered_runs (inr (inl h)) = inr (inl (h.0, finish_holds out held out' p [] h.1 f, finished_unbound h.2))
+  buffered_runs (inr (inr h)) = inr (inr (finished_refused input input' out held out' notes kept notes' p q status last f g l h))

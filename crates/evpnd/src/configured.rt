@@ -1,0 +1,80 @@
+//! The configuration in a file, and what is told where there is none.
+ghost use Rattle.std.specs.Prelude.{◌≡◌, IfOk};
+ghost use Rattle.ether_wire.specs.Ends.{IsOpen, Puts};
+ghost use Rattle.ev_fabric.specs.Opening.{AreConfigs};
+ghost use Rattle.evpnd.specs.Files.{HasRoom};
+ghost use Rattle.evpnd.specs.Checks.{IsTold};
+ghost use Rattle.evpnd.specs.Configured.{config_text, TextGives, FileGives};
+
+use crate::check::unread_status;
+use crate::config::{Config, ConfigRefusal, config_of};
+use crate::files::{FileFault, Files, put_unread};
+use crate::program::usage_status;
+use crate::status::MEMORY;
+use ether_wire::{Device, Out};
+use std::alloc::Global;
+
+/// Writes `config KEY`.
+#[tactic(auto, using(ether_wire::proofs::Appending::with_text_twice))]
+fn put_key<N: Out>(notes: &mut N, key: &[u8]) -> Result<(), Device>
+    requires { IsOpen (N.end notes.old) }
+    ensures { Puts (N.end notes.old) (N.end notes.new) (config_text key.now) result }
+{
+    notes.put(b"config ")?;
+    notes.put(key)?;
+    notes.put(b"\n")
+}
+
+/// Tells which key of a configuration is faulty.
+fn tell_key<N: Out>(key: &[u8], notes: &mut N) -> u8
+    requires { IsOpen (N.end notes.old) }
+    ensures { IsTold (config_text key.now) (N.end notes.old) (N.end notes.new) result }
+{
+    usage_status(put_key(notes, key))
+}
+
+/// The configuration that a text spells, or the status where it spells none, which is told.
+fn configured_by<N: Out>(
+    alloc: Global,
+    text: &str,
+    for_run: bool,
+    notes: &mut N,
+) -> Result<Config, u8>
+    requires { IsOpen (N.end notes.old) }
+    ensures value { TextGives for_run text.now (N.end notes.old) (N.end notes.new) result }
+    ensures opens { IfOk result (λ c. AreConfigs c.edges.items) }
+{
+    match config_of(alloc, text, for_run) {
+        Ok(config) => Ok(config),
+        Err(ConfigRefusal::NoMemory) => Err(MEMORY),
+        Err(ConfigRefusal::Text) => Err(tell_key(b"text", notes)),
+        Err(ConfigRefusal::Key(key)) => Err(tell_key(key.as_bytes(), notes)),
+    }
+}
+
+/// The configuration in the file at a path; for a run each port needs its endpoints.
+///
+/// # Errors
+///
+/// The status, where memory is refused, the file can't be read, which is told, or its text is no
+/// configuration, of which the first faulty key is told.
+pub(crate) fn configured<F: Files, N: Out>(
+    alloc: Global,
+    files: &mut F,
+    path: &str,
+    for_run: bool,
+    notes: &mut N,
+) -> Result<Config, u8>
+    requires files { HasRoom (F.shelf files.old) }
+    requires notes { IsOpen (N.end notes.old) }
+    ensures value { FileGives for_run path.now (F.shelf files.old) (F.shelf files.new) (N.end notes.old) (N.end notes.new) result }
+    ensures opens { IfOk result (λ c. AreConfigs c.edges.items) }
+{
+    match files.text_of(path) {
+        Ok(text) => configured_by(alloc, text.as_str(), for_run, notes),
+        Err(FileFault::NoMemory) => Err(MEMORY),
+        Err(FileFault::Unread(why)) => {
+            Err(unread_status(put_unread(notes, path.as_bytes(), why)))
+        }
+    }
+}

@@ -1,0 +1,308 @@
+"""Two edges over loopback sockets: frames from port to port, garbage, refused memory, the report at the end."""
+
+import os
+import random
+import socket
+import subprocess
+import tempfile
+import time
+import unittest
+from concurrent.futures import ThreadPoolExecutor
+
+from preloaded import BY_RATTLE, Preloaded
+from test_audit import PROGRAM, needs_program
+from test_records import TOP
+
+# loopback addresses of this run's own
+HOST = f"127.{os.getpid() >> 8 & 127 | 64}.{os.getpid() & 255}."
+ONE, TWO, STRANGER = HOST + "1", HOST + "2", HOST + "3"
+VNI = 5001
+TUNNELS = 4789
+
+
+def station(number: int) -> bytes:
+    """The MAC of a station."""
+    return bytes([2, 0, 0, 0, 0, number])
+
+
+BROADCAST = b"\xff" * 6
+BRIDGES = bytes.fromhex("0180c2000000")
+
+
+def frame(to: bytes, of: bytes, text: bytes) -> bytes:
+    """A frame with this text."""
+    return to + of + b"\x88\xb5" + text.ljust(46, b"\0")
+
+
+def free_port() -> int:
+    """A UDP port that nothing has."""
+    with socket.socket(socket.AF_INET, socket.SOCK_DGRAM) as it:
+        it.bind((ONE, 0))
+        return it.getsockname()[1]
+
+
+class Cable:
+    """The end of a port's cable: what it sends comes to the port, what the port sends comes to it."""
+
+    def __init__(self) -> None:
+        self.here = socket.socket(socket.AF_INET, socket.SOCK_DGRAM)
+        self.here.bind((ONE, 0))
+        self.port = free_port()
+
+    def keys(self) -> str:
+        """The port's keys in the configuration."""
+        return f'local = "{ONE}:{self.port}"\nremote = "{ONE}:{self.here.getsockname()[1]}"\n'
+
+    def send(self, octets: bytes) -> None:
+        """Sends a frame to the port."""
+        self.here.sendto(octets, (ONE, self.port))
+
+    def receive(self, seconds: float = 5) -> bytes:
+        """The next frame of the port within this time, none if there is none. BPDUs are passed over."""
+        end = time.monotonic() + seconds
+        while (left := end - time.monotonic()) > 0:
+            self.here.settimeout(left)
+            try:
+                octets = self.here.recv(65535)
+            except socket.timeout:
+                break
+            if octets[:6] != BRIDGES:
+                return octets
+        return b""
+
+
+def edge(address: str, number: int, *cables: Cable) -> str:
+    """An edge with a port for each cable."""
+    ports = "".join(f"[[edge.port]]\nvni = {VNI}\nadmin_edge = true\n{it.keys()}" for it in cables)
+    return f'[[edge]]\naddress = "{address}"\nbridge = "02:aa:00:00:00:0{number}"\nvnis = [{VNI}]\n{ports}'
+
+
+class Running:
+    """The program on a configuration, until `end`."""
+
+    def __init__(self, text: str) -> None:
+        self.folder = tempfile.TemporaryDirectory()
+        path = os.path.join(self.folder.name, "edges.toml")
+        with open(path, "w", encoding="utf-8") as it:
+            it.write(text)
+        pipes = {"stdin": subprocess.PIPE, "stdout": subprocess.PIPE, "stderr": subprocess.PIPE}
+        self.program = subprocess.Popen([PROGRAM, "run", "--config", path], **pipes)
+
+    def resident(self) -> int:
+        """How much memory it has, in kilobytes."""
+        with open(f"/proc/{self.program.pid}/status", encoding="ascii") as it:
+            return next(int(line.split()[1]) for line in it if line.startswith("VmRSS:"))
+
+    def end(self) -> tuple:
+        """Its status, its report and its notes when its input has ended."""
+        out, notes = self.program.communicate(timeout=20)
+        self.folder.cleanup()
+        return self.program.returncode, out.decode(), notes.decode()
+
+    def kill(self) -> None:
+        """Ends it where a test has failed before."""
+        if self.program.poll() is None:
+            self.program.kill()
+            self.program.communicate()
+        self.folder.cleanup()
+
+
+def reports(lines: str) -> str:
+    """What both edges print where both report these lines."""
+    return f"edge 1\n{lines}edge 2\n{lines}"
+
+
+FLOODS = f"flood {VNI} {ONE} 1 up\nflood {VNI} {TWO} 1 up\n"
+
+
+def learnt(number: int, address: str, counter: int) -> str:
+    """The lines of a station that one edge has said it has."""
+    return f"mac {VNI} 02:00:00:00:00:0{number} {address} {counter} dynamic 0\nowner {VNI} 02:00:00:00:00:0{number} {address}\n"
+
+
+@needs_program
+class TwoEdges(unittest.TestCase):
+    """Two edges, one cable each."""
+
+    def setUp(self) -> None:
+        self.one, self.two = Cable(), Cable()
+        self.running = Running(edge(ONE, 1, self.one) + edge(TWO, 2, self.two))
+        self.addCleanup(self.running.kill)
+        self.addCleanup(self.one.here.close)
+        self.addCleanup(self.two.here.close)
+
+    def is_carried(self, source: Cable, to: Cable, octets: bytes) -> None:
+        """A frame comes out at another cable as it was, perhaps behind others; sent again while the edges aren't ready."""
+        came = b""
+        for _ in range(50):
+            source.send(octets)
+            while (came := to.receive(0.2)) not in (octets, b""):
+                pass
+            if came:
+                break
+        self.assertEqual(came, octets)
+        while to.receive(0.1):
+            pass
+
+    def test_station_is_answered(self) -> None:
+        """A broadcast goes over the tunnel, the answer comes back to its sender, and both edges say the same of them."""
+        self.is_carried(self.one, self.two, frame(BROADCAST, station(1), b"who is there"))
+        answer = frame(station(1), station(2), b"station 2 is")
+        self.two.send(answer)
+        self.assertEqual(self.one.receive(), answer)
+        again = frame(station(2), station(1), b"thanks")
+        self.one.send(again)
+        self.assertEqual(self.two.receive(), again)
+        self.assertEqual((self.one.receive(0.1), self.two.receive(0.1)), (b"", b""))
+        status, report, notes = self.running.end()
+        self.assertEqual((status, notes), (0, ""))
+        self.assertEqual(report, reports(FLOODS + learnt(1, ONE, 2) + learnt(2, TWO, 2)))
+
+    def test_longest_frame(self) -> None:
+        """A frame of 9,018 octets goes over the tunnel, one of 9,019 doesn't."""
+        self.is_carried(self.one, self.two, frame(BROADCAST, station(1), b"first"))
+        longest = frame(BROADCAST, station(1), b"x" * 9004)
+        self.one.send(longest + b"x")
+        self.one.send(longest)
+        self.assertEqual(self.two.receive(), longest)
+        self.assertEqual(self.two.receive(0.1), b"")
+        self.assertEqual(self.running.end()[0], 0)
+
+    def test_stranger_is_not_let_in(self) -> None:
+        """A datagram from an address that is no edge's is dropped, the same from an edge's is taken."""
+        self.is_carried(self.one, self.two, frame(BROADCAST, station(1), b"first"))
+        inner = frame(BROADCAST, station(7), b"let me in")
+        datagram = bytes([8, 0, 0, 0]) + VNI.to_bytes(3, "big") + b"\0" + inner
+        for address, is_in in ((STRANGER, False), (ONE, True)):
+            with socket.socket(socket.AF_INET, socket.SOCK_DGRAM) as sender:
+                sender.bind((address, 0))
+                sender.sendto(datagram, (TWO, TUNNELS))
+            if is_in:
+                self.assertEqual(self.two.receive(), inner)
+            else:
+                self.assertEqual(self.two.receive(0.1), b"")
+        status, report, _ = self.running.end()
+        self.assertEqual(status, 0)
+        self.assertNotIn("02:00:00:00:00:07", report)
+
+    def garbage(self, chance: random.Random) -> bytes:
+        """A random datagram of 0 to 9,100 octets, some with a real beginning. None is a frame that is taken."""
+        size = min(int(chance.paretovariate(0.7) * 10) - 10, 9100)
+        octets = chance.randbytes(size)
+        real = chance.randrange(8)
+        if real == 0:  # a BPDU's addresses and length
+            octets = bytes.fromhex("0180c2000000") + station(8) + (39).to_bytes(2, "big") + bytes.fromhex("424203") + octets
+        elif real == 1:  # a VXLAN header without its flag
+            octets = bytes([0, 0, 0, 0]) + VNI.to_bytes(3, "big") + b"\0" + octets
+        elif real == 2:  # a datagram with a frame of another network
+            octets = bytes([8, 0, 0, 0]) + (VNI + 1).to_bytes(3, "big") + b"\0" + frame(BROADCAST, station(8), octets)
+        elif real == 3:  # a frame of a group's address
+            octets = BROADCAST + BROADCAST + octets
+        return octets[:9100]
+
+    def test_garbage(self) -> None:
+        """100,000 random datagrams to a port and to a tunnel: it goes on, and its memory doesn't grow with them."""
+        chance = random.Random(17)
+        self.is_carried(self.one, self.two, frame(BROADCAST, station(1), b"first"))
+        with socket.socket(socket.AF_INET, socket.SOCK_DGRAM) as sender:
+            sender.bind((TWO, 0))
+            sizes = []
+            for turn in range(100_000):
+                octets = self.garbage(chance)
+                if turn % 2:
+                    sender.sendto(octets, (ONE, TUNNELS))
+                else:
+                    # what may be a frame at a port has a group's address as its sender there, so nothing is learnt
+                    self.one.send(octets[:6] + b"\xff" + octets[7:])
+                if turn % 10_000 == 9_999:
+                    good = frame(BROADCAST, station(1), b"turn %d" % turn)
+                    self.is_carried(self.one, self.two, good)
+                    sizes.append(self.running.resident())
+        self.assertLess(sizes[-1], sizes[0] + 1024, f"kilobytes after each 10,000: {sizes}")
+        self.two.send(frame(station(1), station(2), b"the last"))
+        while (came := self.one.receive()) not in (frame(station(1), station(2), b"the last"), b""):
+            pass
+        self.assertNotEqual(came, b"")
+        status, report, notes = self.running.end()
+        self.assertEqual((status, notes), (0, ""))
+        self.assertEqual(report, reports(FLOODS + learnt(1, ONE, 2) + learnt(2, TWO, 2)))
+
+
+@needs_program
+class Beginning(unittest.TestCase):
+    """What keeps edges from beginning."""
+
+    def test_address_in_use(self) -> None:
+        """A port's address that another socket has: which and why is told, and no edge has begun."""
+        one, two = Cable(), Cable()
+        with socket.socket(socket.AF_INET, socket.SOCK_DGRAM) as other:
+            other.bind((ONE, two.port))
+            running = Running(edge(ONE, 1, one) + edge(TWO, 2, two))
+            self.addCleanup(running.kill)
+            self.assertEqual(running.end(), (4, "", f"can't bind {ONE}:{two.port}: it is in use\n"))
+        self.assertEqual(one.receive(0.1), b"")
+        one.here.close()
+        two.here.close()
+
+    def test_address_of_no_device(self) -> None:
+        """An edge's address that the host doesn't have."""
+        one = Cable()
+        running = Running(edge("192.0.2.1", 1, one))
+        self.addCleanup(running.kill)
+        self.assertEqual(running.end(), (4, "", "can't bind 192.0.2.1:4789: no device here has it\n"))
+        one.here.close()
+
+    def test_it_goes_on_until_its_input_ends(self) -> None:
+        """What is read is ignored."""
+        one = Cable()
+        running = Running(edge(ONE, 1, one))
+        self.addCleanup(running.kill)
+        running.program.stdin.write(b"anything\n" * 10_000)
+        running.program.stdin.flush()
+        time.sleep(0.5)
+        self.assertIsNone(running.program.poll())
+        self.assertEqual(running.end(), (0, f"edge 1\nflood {VNI} {ONE} 1 up\n", ""))
+        one.here.close()
+
+
+class RefusedGrowth(Preloaded):
+    """Two edges whose input is at its end at once, with each allocation refused, one a run: each run ends."""
+
+    source = os.path.join(TOP, "tests", "refuse_allocation.c")
+
+    def config(self, number: int) -> str:
+        """The path of a configuration of two edges. Those of runs beside each other have other addresses."""
+        text = ""
+        for it in (1, 2):
+            address = f"{HOST}{2 * (number % 100) + it + 9}"
+            text += edge(address, it) + f'[[edge.port]]\nvni = {VNI}\nlocal = "{address}:20001"\nremote = "{address}:30001"\n'
+        return self.write(f"{number}.toml", text)
+
+    def refused(self, number: int) -> tuple:
+        """Its status, report and notes with this allocation refused."""
+        words = ["env", f"LD_PRELOAD={self.library}", f"REFUSE={number}", PROGRAM, "run", "--config", self.config(number)]
+        done = subprocess.run(words, input=b"", capture_output=True, timeout=60, check=False)
+        return done.returncode, done.stdout.decode(), done.stderr.decode()
+
+    @needs_program
+    def test_each_growth_refused(self) -> None:
+        """Status 3 where an edge wants for it, with the report of each edge that ran; or 0, where it was made up for."""
+        _, asked = self.run_with({"REFUSE": 0}, ["run", "--config", self.config(0)], b"")
+        if not BY_RATTLE:
+            self.assertGreater(sum(asked), 0)
+        found = {0: 0, 3: 0, 4: 0}
+        with ThreadPoolExecutor(16) as pool:
+            for number, (status, report, notes) in enumerate(pool.map(self.refused, range(1, sum(asked) + 1)), 1):
+                with self.subTest(allocation=number, status=status, report=report, notes=notes):
+                    self.assertIn(status, found)
+                    found[status] += 1
+                    self.assertEqual(notes.endswith(": there is no memory\n"), status == 4)
+                    self.assertLessEqual(report.count("edge "), 2 if status != 4 else 0)
+                    if status == 0:
+                        self.assertEqual(report.count("edge "), 2)
+        if not BY_RATTLE:
+            self.assertGreater(found[3], 0)
+
+
+if __name__ == "__main__":
+    unittest.main()
