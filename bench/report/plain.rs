@@ -145,12 +145,8 @@ impl Group {
 struct Mixer(u64);
 
 impl Hasher for Mixer {
-    fn write(&mut self, octets: &[u8]) {
-        for part in octets.chunks(8) {
-            let mut word = [0; 8];
-            word[..part.len()].copy_from_slice(part);
-            self.write_u64(u64::from_le_bytes(word));
-        }
+    fn write(&mut self, _: &[u8]) {
+        unreachable!("registers are hashed as words")
     }
 
     fn write_u64(&mut self, number: u64) {
@@ -158,49 +154,57 @@ impl Hasher for Mixer {
     }
 
     fn finish(&self) -> u64 {
-        let mixed = (self.0 ^ self.0 >> 32).wrapping_mul(0x9e37_79b9_7f4a_7c15);
-        mixed ^ mixed >> 32
+        self.0 ^ self.0 >> 32
     }
 }
 
-/// A register, in parts of four octets.
+/// A register as four words, which are compared at once: network and originator, place and version of the IP address, and its octets.
 #[derive(Clone, Copy, PartialEq, Eq)]
-struct Register {
-    subject: [u32; 3],
-    source: Source,
-}
+struct Register([u64; 4]);
 
 impl Register {
+    fn new(subject: Subject, source: &Source) -> Self {
+        let ip = u128::from_be_bytes(source.ip.octets);
+        let vni = (subject >> 64) as u64;
+        let place = subject as u64;
+        Register([vni << 32 | u64::from(source.originator), place | u64::from(source.ip.version) << 56, (ip >> 64) as u64, ip as u64])
+    }
+
     fn about(&self) -> Subject {
-        let [vni, high, low] = self.subject;
-        subject(vni, u64::from(high) << 32 | u64::from(low))
+        subject((self.0[0] >> 32) as u32, self.0[1] << 8 >> 8)
+    }
+
+    fn version(&self) -> u8 {
+        (self.0[1] >> 56) as u8
+    }
+
+    fn source(&self) -> Source {
+        let octets = (u128::from(self.0[2]) << 64 | u128::from(self.0[3])).to_be_bytes();
+        Source { originator: self.0[0] as u32, ip: Ip { version: self.version(), octets } }
     }
 }
 
 impl std::hash::Hash for Register {
     fn hash<H: Hasher>(&self, hasher: &mut H) {
-        let [vni, high, low] = self.subject;
-        hasher.write_u64(u64::from(vni) << 32 | u64::from(self.source.originator));
-        hasher.write_u64(u64::from(high) << 32 | u64::from(low));
-        if self.source.ip.version != 0 {
-            hasher.write(&self.source.ip.octets);
-        }
+        let words = if self.version() == 0 { 2 } else { 4 };
+        self.0[..words].iter().for_each(|word| hasher.write_u64(*word));
     }
 }
 
 enum Table {
-    Ordered(BTreeMap<Subject, Group>),
+    /// By network, and then by place.
+    Ordered(BTreeMap<u32, BTreeMap<u64, Group>>),
     Flat(HashMap<Register, Value, BuildHasherDefault<Mixer>>),
 }
 
 impl Table {
     fn take(&mut self, subject: Subject, entry: Entry) {
         match self {
-            Table::Ordered(groups) => groups.entry(subject).or_default().take(entry),
+            Table::Ordered(networks) => {
+                networks.entry((subject >> 64) as u32).or_default().entry(subject as u64).or_default().take(entry);
+            }
             Table::Flat(registers) => {
-                let parts = [(subject >> 64) as u32, (subject >> 32) as u32, subject as u32];
-                let register = Register { subject: parts, source: entry.source };
-                let known = registers.entry(register).or_insert(entry.value);
+                let known = registers.entry(Register::new(subject, &entry.source)).or_insert(entry.value);
                 if *known < entry.value {
                     *known = entry.value;
                 }
@@ -210,27 +214,28 @@ impl Table {
 
     fn report(self, out: &mut Lines) -> io::Result<()> {
         match self {
-            Table::Ordered(groups) => {
-                groups.iter().try_for_each(|(subject, group)| out.group(*subject, &group.entries, group.best.map(|best| best as usize)))
-            }
+            Table::Ordered(networks) => networks.iter().try_for_each(|(vni, groups)| {
+                groups.iter().try_for_each(|(place, group)| {
+                    out.group(subject(*vni, *place), &group.entries, group.best.map(|best| best as usize))
+                })
+            }),
             Table::Flat(registers) => {
                 let registers: Vec<(Register, Value)> = registers.into_iter().collect();
-                // a sort of numbers: what a register is about, who says it, and the register's place above
-                let mut order: Vec<(u128, u32)> = (registers.iter().zip(0..))
-                    .map(|((register, _), at)| (register.about() << 32 | u128::from(register.source.originator), at))
-                    .collect();
+                // a sort of numbers: what a register is about, and the register's place above
+                let numbered = registers.iter().zip(0u32..);
+                let mut order: Vec<u128> = numbered.map(|((register, _), at)| register.about() << 32 | u128::from(at)).collect();
                 order.sort_unstable();
                 let mut entries = Vec::new();
-                for group in order.chunk_by(|a, b| a.0 >> 32 == b.0 >> 32) {
+                for group in order.chunk_by(|a, b| a >> 32 == b >> 32) {
                     entries.clear();
-                    entries.extend(group.iter().map(|(_, at)| {
-                        let (register, value) = registers[*at as usize];
-                        Entry { source: register.source, value }
+                    entries.extend(group.iter().map(|at| {
+                        let (register, value) = registers[*at as u32 as usize];
+                        Entry { source: register.source(), value }
                     }));
                     if entries.len() > 1 {
                         entries.sort_unstable_by_key(|entry| entry.source);
                     }
-                    out.group(group[0].0 >> 32, &entries, best_of(&entries))?;
+                    out.group(group[0] >> 32, &entries, best_of(&entries))?;
                 }
                 Ok(())
             }
@@ -307,7 +312,8 @@ impl<const N: usize> Text<N> {
 
     #[inline]
     fn decimal(&mut self, mut number: u64) {
-        let mut digits = [0; 20];
+        // as many octets again behind the digits, so that all are copied at once
+        let mut digits = [0; 40];
         let mut at = 20;
         while number >= 100 {
             at -= 2;
@@ -317,10 +323,7 @@ impl<const N: usize> Text<N> {
         at -= 2;
         digits[at..at + 2].copy_from_slice(&PAIRS[number as usize]);
         at += usize::from(number < 10);
-        for digit in &digits[at..] {
-            self.octets[self.len] = *digit;
-            self.len += 1;
-        }
+        self.put_some::<20>(&part(&digits, at), 20 - at);
     }
 
     #[inline]
@@ -469,6 +472,19 @@ fn fault(header: &[u8]) -> Option<u8> {
     }
 }
 
+/// For each length of a MAC route how many octets its IP address and its second label have. No route is as long as the others say.
+const FORMS: [[u8; 2]; 256] = {
+    let mut table = [[255, 255]; 256];
+    let mut ip = 0;
+    while ip < 3 {
+        let octets = [0, 4, 16][ip];
+        table[33 + octets] = [octets as u8, 0];
+        table[36 + octets] = [octets as u8, 3];
+        ip += 1;
+    }
+    table
+};
+
 /// What a route's length says of it: how many octets its IP address has, and whether a second label follows.
 fn form(is_mac: bool, length: u8) -> Option<(usize, bool)> {
     match (is_mac, length) {
@@ -483,7 +499,52 @@ fn form(is_mac: bool, length: u8) -> Option<(usize, bool)> {
     }
 }
 
-/// A record behind its six first octets.
+/// A record behind its six first octets that has a MAC route and nothing to refuse, as most have. All that could be refused is brought
+/// together into a few numbers, so that there is little to branch on.
+#[inline(always)]
+fn read_usual(version: u8, withdrawn: bool, body: &[u8]) -> Option<(Subject, Entry)> {
+    let (originator, incarnation, counter, vni, route) = if version == 1 {
+        let (head, route) = body.split_first_chunk::<15>()?;
+        (big32(head, 0), 0, big64(head, 4), big24(head, 12), route)
+    } else {
+        let (head, route) = body.split_first_chunk::<19>()?;
+        (big32(head, 0), big32(head, 4), big64(head, 8), big24(head, 16), route)
+    };
+    let (route, rest) = route.split_first_chunk::<32>()?;
+    let [ip_octets, label2_octets] = FORMS[usize::from(route[1])];
+    let (ip_octets, label2_octets) = (usize::from(ip_octets), usize::from(label2_octets));
+    let labels = rest.get(ip_octets..)?;
+    let (label, tail) = labels.split_first_chunk::<3>()?;
+    let tail = tail.get(label2_octets..)?;
+    let usual = (big64(route, 2) >> 16) ^ (1 << 32 | u64::from(originator));
+    let address = big64(route, 24);
+    let fixed = u64::from(route[0] ^ 2) | u64::from(big32(route, 20)) | (address >> 56 ^ 48) | (address >> 48 & 1);
+    let said = big64(route, 10) | u64::from(big16(route, 18)) | u64::from(big24(label, 0) ^ vni);
+    let length = (address & 0xff) ^ (8 * ip_octets as u64);
+    if usual | fixed | length != 0 || counter == 0 || (said != 0 && !withdrawn) {
+        return None;
+    }
+    let (is_static, sequence) = match tail.first_chunk::<8>() {
+        None if tail.is_empty() => (0, 0),
+        Some(community) if tail.len() == 8 && !withdrawn && big16(community, 0) == 0x600 => (community[2] & 1, big32(community, 4)),
+        _ => return None,
+    };
+    let mut ip = NO_IP;
+    if ip_octets > 0 && !(withdrawn && version < 3) {
+        ip.version = if ip_octets == 4 { 4 } else { 6 };
+        ip.octets[16 - ip_octets..].copy_from_slice(&rest[..ip_octets]);
+    }
+    let content = if withdrawn {
+        Content::new(0, 0, 0)
+    } else {
+        let label2 = if label2_octets > 0 { 1 + big24(labels, 3) } else { 0 };
+        Content::new(1 + u64::from(is_static), sequence, label2)
+    };
+    let place = (address >> 8 & 0xffff_ffff_ffff) + 1;
+    Some((subject(vni, place), Entry { source: Source { originator, ip }, value: Value { incarnation, counter, content } }))
+}
+
+/// A record behind its six first octets, or what it is refused for.
 fn read_one(version: u8, withdrawn: bool, body: &[u8]) -> Result<(Subject, Entry), u8> {
     let after = if version == 1 { 4 } else { 8 };
     let originator = big32(body, 0);
@@ -549,7 +610,16 @@ struct Input {
 
 impl Input {
     /// The octets that are left, at least this many unless the input ends before.
+    #[inline(always)]
     fn peek(&mut self, least: usize) -> io::Result<&[u8]> {
+        if self.to - self.from < least {
+            self.fill(least)?;
+        }
+        Ok(&self.piece[self.from..self.to])
+    }
+
+    #[cold]
+    fn fill(&mut self, least: usize) -> io::Result<()> {
         while self.to - self.from < least {
             self.piece.copy_within(self.from..self.to, 0);
             (self.from, self.to) = (0, self.to - self.from);
@@ -558,12 +628,31 @@ impl Input {
                 n => self.to += n,
             }
         }
-        Ok(&self.piece[self.from..self.to])
+        Ok(())
+    }
+}
+
+/// The originators listened to. Their last six bits mostly tell which one it may be.
+struct Listed {
+    all: Vec<u32>,
+    by_end: [u32; 64],
+}
+
+impl Listed {
+    fn new(all: Vec<u32>) -> Listed {
+        let mut by_end = [all[0]; 64];
+        all.iter().for_each(|address| by_end[*address as usize % 64] = *address);
+        Listed { all, by_end }
+    }
+
+    #[inline(always)]
+    fn has(&self, address: u32) -> bool {
+        self.by_end[address as usize % 64] == address || self.all.contains(&address)
     }
 }
 
 /// Takes the records of the input, and answers the status.
-fn take_all(input: &mut Input, originators: &[u32], table: &mut Table, notes: &mut Vec<u8>) -> io::Result<u8> {
+fn take_all(input: &mut Input, originators: &Listed, table: &mut Table, notes: &mut Vec<u8>) -> io::Result<u8> {
     for count in 1u64.. {
         let mut octets = input.peek(6)?;
         if octets.is_empty() {
@@ -585,9 +674,10 @@ fn take_all(input: &mut Input, originators: &[u32], table: &mut Table, notes: &m
             writeln!(notes, "truncated {} at record {count}", octets.len())?;
             return Ok(1);
         }
-        match read_one(octets[2], octets[3] == 2, &octets[6..length]) {
+        let (version, withdrawn, body) = (octets[2], octets[3] == 2, &octets[6..length]);
+        match read_usual(version, withdrawn, body).map_or_else(|| read_one(version, withdrawn, body), Ok) {
             Err(refusal) => writeln!(notes, "record {count} refused {refusal}")?,
-            Ok((_, entry)) if !originators.contains(&entry.source.originator) => writeln!(notes, "record {count} refused 12")?,
+            Ok((_, entry)) if !originators.has(entry.source.originator) => writeln!(notes, "record {count} refused 12")?,
             Ok((subject, entry)) => table.take(subject, entry),
         }
         input.from += length;
@@ -598,7 +688,8 @@ fn take_all(input: &mut Input, originators: &[u32], table: &mut Table, notes: &m
 fn main() -> io::Result<ExitCode> {
     let words: Vec<String> = env::args().skip(1).collect();
     let [table, list] = &words[..] else { panic!("usage: plain ordered|flat ORIGINATORS") };
-    let originators: Vec<u32> = list.split(',').map(|a| a.parse::<std::net::Ipv4Addr>().expect("an address").into()).collect();
+    let originators = list.split(',').map(|a| a.parse::<std::net::Ipv4Addr>().expect("an address").into()).collect();
+    let originators = Listed::new(originators);
     let mut table = match table.as_str() {
         "ordered" => Table::Ordered(BTreeMap::new()),
         "flat" => Table::Flat(HashMap::default()),
