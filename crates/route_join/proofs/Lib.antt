@@ -14,5 +14,6 @@ pub mod Holding
 pub mod Joins
 pub mod Lines
 pub mod Merging
+pub mod Contests
 pub mod Trees
 pub mod Abouts

@@ -42,7 +42,7 @@ tested : (m n : ℕ) (b : Bool) → (nat_lt n m || (n == m && b)) ≡ true → (
 tested m n true e = (grind (arith, nat_tests), λ h. refl)
 tested m n false e = (grind (arith, nat_tests), λ h. grind (arith, nat_tests))
 
-untested : (m n : ℕ) (b : Bool) → (nat_lt n m || (n == m && b)) ≡ false → (m ≤ n) × (n ≡ m → b ≡ false)
+pub untested : (m n : ℕ) (b : Bool) → (nat_lt n m || (n == m && b)) ≡ false → (m ≤ n) × (n ≡ m → b ≡ false)
 untested m n true e = (grind (arith, nat_tests), λ h. grind (arith, nat_tests))
 untested m n false e = (grind (arith, nat_tests), λ h. refl)
 
@@ -63,7 +63,7 @@ untested_by true false m n o ne e = cc
 untested_by false true m n o ne e = tt
 untested_by false false m n o ne e = let t = untested m n (is_lt o) e in (t.0, λ h. turned o ne (t.1 h))
 
-less_not_back : (q r : Register) → register_cmp q r ≡ Less → register_cmp r q ≡ Less → ⊥
+pub less_not_back : (q r : Register) → register_cmp q r ≡ Less → register_cmp r q ≡ Less → ⊥
 less_not_back q r a b = let e : register_cmp r q ≡ Greater = register_total.antisymm r q ∙ ap ordering_reverse a in cc
 
 pub better_not_back : (a : Advert) (r : Register) (b : Advert) (q : Register) → IsBetter a r b q → IsBetter b q a r → ⊥
