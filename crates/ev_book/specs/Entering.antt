@@ -15,6 +15,13 @@ use Rattle.ev_book.specs.Mark.{mark_of}
 use Rattle.ev_book.specs.Book.{BookState, PassState, fits, kept_of}
 use Rattle.ev_book.specs.Journal.{AreOwnSince}
 
+-- ---- answers
+
+-- what a call answers that writes its reply where another one stood
+abbrev pub answered : Result (Unit {0}) BookRefusal → Reply → Result Reply BookRefusal
+answered (Ok done) reply = Ok reply
+answered (Err r) reply = Err r
+
 -- ---- marks
 
 -- the update that an event took or announced

@@ -10,7 +10,7 @@ ghost use Rattle.ev_edge.specs.Edge.{IsGoodEdge, table_of};
 ghost use Rattle.ev_book.specs.Mark.{HoldsAt};
 ghost use Rattle.ev_book.specs.Book.{fits, count_sum};
 ghost use Rattle.ev_book.specs.Journal.{HasOwnSince, AppendsOwn, Compacts, records_of, all_ok};
-ghost use Rattle.ev_book.specs.Entering.{CallsBook, Enters, is_spent, calls_counted, mark_then, touched_by};
+ghost use Rattle.ev_book.specs.Entering.{CallsBook, Enters, answered, is_spent, calls_counted, mark_then, touched_by};
 ghost use Rattle.ev_book.specs.Opening.{IsOpened, opened_passes};
 ghost use Rattle.ev_book.specs.Closing.{counts_of, sum_of, AreNumbered, TellsEach};
 ghost use Rattle.ev_book.specs.Laws.{Replays, ReportsAs, listening};
@@ -148,15 +148,20 @@ impl<L: Ledger> Book<L> {
     }
 
     // Counts a call, enters it, and keeps its mark.
-    fn enter_counted(&mut self, pass: &mut Pass<L>, event: &Event<'_>) -> Result<Reply, BookRefusal>
+    fn enter_counted(
+        &mut self,
+        pass: &mut Pass<L>,
+        event: &Event<'_>,
+        reply: &mut Reply,
+    ) -> Result<(), BookRefusal>
         requires fits { fits self.old pass.old ≡ true }
         requires unspent { is_spent pass.old ≡ false }
-        ensures { Enters self.old pass.old event.now result self.new pass.new }
+        ensures { Enters self.old pass.old event.now (answered result reply.new) self.new pass.new }
     {
         self.sum.add(&mut pass.share, 1);
         pass.count += 1;
-        let result = step(&mut self.edge, &mut self.journal, event);
-        pass.mark = mark_after(pass.mark, event, &result);
+        let result = step(&mut self.edge, &mut self.journal, event, reply);
+        pass.mark = mark_after(pass.mark, event, &result, reply);
         self.kept[pass.number] = Kept {
             count: pass.count,
             mark: pass.mark,
@@ -177,13 +182,36 @@ impl<L: Ledger> Book<L> {
         ensures number { pass.new.number ≡ pass.old.number }
         ensures count { pass.new.count ≡ pass.old.count + calls_counted result }
     {
+        let mut reply = Reply::nothing();
+        match self.enter_into(pass, event, &mut reply) {
+            Ok(()) => Ok(reply),
+            Err(refusal) => Err(refusal),
+        }
+    }
+
+    /// The same, with the reply written where another one stood: a caller that keeps one place for
+    /// replies spares the copies of a whole one. Of what stands there after a refusal nothing is said.
+    ///
+    /// # Errors
+    ///
+    /// As those of `enter`.
+    pub fn enter_into(
+        &mut self,
+        pass: &mut Pass<L>,
+        event: &Event<'_>,
+        reply: &mut Reply,
+    ) -> Result<(), BookRefusal>
+        ensures calls { CallsBook self.old pass.old event.now (answered result reply.new) self.new pass.new }
+        ensures number { pass.new.number ≡ pass.old.number }
+        ensures count { pass.new.count ≡ pass.old.count + calls_counted (answered result reply.new) }
+    {
         if !self.fits(pass) {
             return Err(BookRefusal::PassStrange);
         }
         if pass.count >= SPENT {
             return Err(BookRefusal::PassSpent);
         }
-        self.enter_counted(pass, event)
+        self.enter_counted(pass, event, reply)
     }
 
     /// The owner of a MAC address in a network, as the table says now: it has what the pass took or
@@ -263,12 +291,13 @@ impl<L: Ledger> Book<L> {
 fn mark_after(
     mark: Option<Mark>,
     event: &Event<'_>,
-    answer: &Result<Reply, BookRefusal>,
+    answer: &Result<(), BookRefusal>,
+    reply: &Reply,
 ) -> Option<Mark>
-    ensures { result ≡ mark_then mark (touched_by event.now answer.now) }
+    ensures { result ≡ mark_then mark (touched_by event.now (answered answer.now reply.now)) }
 {
     match answer {
-        Ok(reply) => match touched(event, reply) {
+        Ok(()) => match touched(event, reply) {
             Some(update) => Some(mark_of(&update)),
             None => mark,
         },

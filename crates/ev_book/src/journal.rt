@@ -4,13 +4,15 @@ ghost use Rattle.route_wire.specs.Record.{Answers};
 ghost use Rattle.ether_wire.specs.Ends.{IsOpen, Puts};
 ghost use Rattle.route_join.specs.Table.{IsTableOf};
 ghost use Rattle.route_join.specs.Updates.{all_updates};
+ghost use Rattle.ev_edge.specs.declared.reply.Reply.{Reply as Replied};
 ghost use Rattle.ev_edge.specs.Edge.{table_of};
+ghost use Rattle.ev_edge.specs.Steps.{answered as stepped};
 ghost use Rattle.ev_edge.specs.Changes.{accepted};
 ghost use Rattle.ev_claims.specs.Claims.{entries};
 ghost use Rattle.ev_book.specs.declared.mark.Mark.{Mark as Marked};
 ghost use Rattle.ev_book.specs.Mark.{Holds, mark_of};
 ghost use Rattle.ev_book.specs.Journal.{HasOwnSince, AppendsOwn, Compacts, records_of, all_ok};
-ghost use Rattle.ev_book.specs.Entering.{Writes, WritesOrNot, touched, touched_by};
+ghost use Rattle.ev_book.specs.Entering.{Writes, WritesOrNot, answered, touched, touched_by};
 
 use crate::refusal::BookRefusal;
 use ether_wire::{Device, Out};
@@ -35,9 +37,9 @@ pub(crate) fn append_own(journal: &mut Vec<Update>, edge: &Edge, before: u64)
 }
 
 // Appends the update that an event took, for which there is room.
-fn append_taken(journal: &mut Vec<Update>, event: &Event<'_>, answer: &Result<Reply, Refusal>)
+fn append_taken(journal: &mut Vec<Update>, event: &Event<'_>, answer: &Result<(), Refusal>)
     requires { vec_len journal.old < vec_capacity journal.old }
-    ensures items { journal.new.items ≡ journal.old.items ++ accepted event.now answer.now }
+    ensures items { (reply : Replied) → journal.new.items ≡ journal.old.items ++ accepted event.now (stepped answer.now reply) }
     ensures len { vec_len journal.new ≤ vec_len journal.old + 1 }
     ensures capacity { vec_capacity journal.new ≡ vec_capacity journal.old }
 {
@@ -49,45 +51,49 @@ fn append_taken(journal: &mut Vec<Update>, event: &Event<'_>, answer: &Result<Re
     }
 }
 
-// One event of the edge, with what it took and said written behind the journal, for which there is room.
+// One event of the edge, whose reply is written where another one stood, with what it took and said
+// behind the journal, for which there is room.
 fn step_within(
     edge: &mut Edge,
     journal: &mut Vec<Update>,
     event: &Event<'_>,
-) -> Result<Reply, Refusal>
+    reply: &mut Reply,
+) -> Result<(), Refusal>
     requires table { IsTableOf journal.old.items (table_of edge.old) }
     requires room { vec_len journal.old + entries edge.old.claims + 2 ≤ vec_capacity journal.old }
-    ensures writes { Writes edge.old journal.old.items event.now result edge.new journal.new.items }
+    ensures writes { Writes edge.old journal.old.items event.now (stepped result reply.new) edge.new journal.new.items }
     ensures table { IsTableOf journal.new.items (table_of edge.new) }
     ensures marks { (m : Marked) → Holds (table_of edge.old) m → Holds (table_of edge.new) m }
-    ensures mark { IfSome (touched_by event.now result) (λ u. Holds (table_of edge.new) (mark_of u)) }
+    ensures mark { IfSome (touched_by event.now (stepped result reply.new)) (λ u. Holds (table_of edge.new) (mark_of u)) }
 {
     edge.always_good();
     let before = edge.counter();
-    let answer = edge.step(event);
+    let answer = edge.step_into(event, reply);
     append_taken(journal, event, &answer);
     append_own(journal, edge, before);
     answer
 }
 
-/// One event of the edge, with what it took and said written behind the journal.
+/// One event of the edge, whose reply is written where another one stood, with what it took and said
+/// behind the journal.
 pub(crate) fn step(
     edge: &mut Edge,
     journal: &mut Vec<Update>,
     event: &Event<'_>,
-) -> Result<Reply, BookRefusal>
+    reply: &mut Reply,
+) -> Result<(), BookRefusal>
     requires { IsTableOf journal.old.items (table_of edge.old) }
-    ensures writes { WritesOrNot edge.old journal.old.items event.now result edge.new journal.new.items }
+    ensures writes { WritesOrNot edge.old journal.old.items event.now (answered result reply.new) edge.new journal.new.items }
     ensures table { IsTableOf journal.new.items (table_of edge.new) }
     ensures marks { (m : Marked) → Holds (table_of edge.old) m → Holds (table_of edge.new) m }
-    ensures mark { IfSome (touched_by event.now result) (λ u. Holds (table_of edge.new) (mark_of u)) }
+    ensures mark { IfSome (touched_by event.now (answered result reply.new)) (λ u. Holds (table_of edge.new) (mark_of u)) }
 {
     edge.always_good();
     if journal.reserve(edge.entries() + 2).is_err() {
         return Err(BookRefusal::NoRoom);
     }
-    match step_within(edge, journal, event) {
-        Ok(reply) => Ok(reply),
+    match step_within(edge, journal, event, reply) {
+        Ok(()) => Ok(()),
         Err(refusal) => Err(BookRefusal::Edge(refusal)),
     }
 }

@@ -6,6 +6,7 @@ use Rattle.ev_edge.specs.declared.event.Event.{Event}
 use Rattle.ev_edge.specs.declared.refusal.Refusal as edges
 use Rattle.ev_edge.specs.declared.reply.Reply.{Reply}
 use Rattle.ev_edge.specs.Edge.{Edge, table_of}
+use Rattle.ev_edge.specs.Steps.{answered}
 use Rattle.ev_edge.specs.Changes.{Changes, accepted}
 use Rattle.ev_edge.proofs.Changing.{steps_change}
 use Rattle.ev_book.specs.Journal.{AreOwnSince}
@@ -18,12 +19,12 @@ owned e event result e' before is h = subst (λ n. AreOwnSince e'.claims.voice n
 
 pub append_own-requires-clause-numbered : goal.append_own-requires-clause-numbered
 append_own-requires-clause-numbered c =
-    let h = steps_change c.args.edge.now c.args.event.now c.step-answer.result c.step-answer.new.self c.always_good.ensures c.step-answer.ensures in
-    (own_in h, owned c.args.edge.now c.args.event.now c.step-answer.result c.step-answer.new.self c.counter-before.result c.counter-before.ensures h)
+    let h = steps_change c.args.edge.now c.args.event.now (answered c.step_into-answer.result c.step_into-answer.new.reply) c.step_into-answer.new.self c.always_good.ensures c.step_into-answer.ensures in
+    (own_in h, owned c.args.edge.now c.args.event.now (answered c.step_into-answer.result c.step_into-answer.new.reply) c.step_into-answer.new.self c.counter-before.result c.counter-before.ensures h)
 
 pub append_own-requires-clause-room : goal.append_own-requires-clause-room
 append_own-requires-clause-room c =
-    let h = steps_change c.args.edge.now c.args.event.now c.step-answer.result c.step-answer.new.self c.always_good.ensures c.step-answer.ensures in
+    let h = steps_change c.args.edge.now c.args.event.now (answered c.step_into-answer.result c.step_into-answer.new.reply) c.step_into-answer.new.self c.always_good.ensures c.step_into-answer.ensures in
     let few = h.few in
     let counter = h.counter in
     let before = c.counter-before.ensures in
@@ -32,30 +33,30 @@ append_own-requires-clause-room c =
     let capacity = c.append_taken.ensures.capacity in
     omega (arith, few, counter, before, room, len, capacity)
 
-changes : (c : goal.After-append_own) → Changes c.args.edge.now c.args.event.now c.step-answer.result c.step-answer.new.self
-changes c = steps_change c.args.edge.now c.args.event.now c.step-answer.result c.step-answer.new.self c.always_good.ensures c.step-answer.ensures
+changes : (c : goal.After-append_own) → Changes c.args.edge.now c.args.event.now (answered c.step_into-answer.result c.step_into-answer.new.reply) c.step_into-answer.new.self
+changes c = steps_change c.args.edge.now c.args.event.now (answered c.step_into-answer.result c.step_into-answer.new.reply) c.step_into-answer.new.self c.always_good.ensures c.step_into-answer.ensures
 
-written : (c : goal.After-append_own) → c.append_own.new.journal.items ≡ c.args.journal.now.items ++ (accepted c.args.event.now c.step-answer.result ++ own_in (changes c))
+written : (c : goal.After-append_own) → c.append_own.new.journal.items ≡ c.args.journal.now.items ++ (accepted c.args.event.now (answered c.step_into-answer.result c.step_into-answer.new.reply) ++ own_in (changes c))
 written c =
-    c.append_own.ensures (own_in (changes c)) (owned c.args.edge.now c.args.event.now c.step-answer.result c.step-answer.new.self c.counter-before.result c.counter-before.ensures (changes c)) ∙ ap (λ (xs : List Fields). xs ++ own_in (changes c)) c.append_taken.ensures.items
-    ∙ append_assoc c.args.journal.now.items (accepted c.args.event.now c.step-answer.result) (own_in (changes c))
+    c.append_own.ensures (own_in (changes c)) (owned c.args.edge.now c.args.event.now (answered c.step_into-answer.result c.step_into-answer.new.reply) c.step_into-answer.new.self c.counter-before.result c.counter-before.ensures (changes c)) ∙ ap (λ (xs : List Fields). xs ++ own_in (changes c)) (c.append_taken.ensures.items c.step_into-answer.new.reply)
+    ∙ append_assoc c.args.journal.now.items (accepted c.args.event.now (answered c.step_into-answer.result c.step_into-answer.new.reply)) (own_in (changes c))
 
-grown : (c : goal.After-append_own) → IsTableOf (c.args.journal.now.items ++ (accepted c.args.event.now c.step-answer.result ++ own_in (changes c))) (table_of c.step-answer.new.self)
+grown : (c : goal.After-append_own) → IsTableOf (c.args.journal.now.items ++ (accepted c.args.event.now (answered c.step_into-answer.result c.step_into-answer.new.reply) ++ own_in (changes c))) (table_of c.step_into-answer.new.self)
 grown c = still_table c.args.journal.now.items (changes c) c.requires.table
 
 pub returns-clause-writes : goal.returns-clause-writes
 returns-clause-writes c = record {
-  steps = c.step-answer.ensures;
+  steps = c.step_into-answer.ensures;
   own = own_in (changes c);
   are_own = are_own (changes c);
   journal = written c;
 }
 
 pub returns-clause-table : goal.returns-clause-table
-returns-clause-table c = subst (λ us. IsTableOf us (table_of c.step-answer.new.self)) (sym (written c)) (grown c)
+returns-clause-table c = subst (λ us. IsTableOf us (table_of c.step_into-answer.new.self)) (sym (written c)) (grown c)
 
 pub returns-clause-marks : goal.returns-clause-marks
-returns-clause-marks c = still_holds c.args.journal.now.items (accepted c.args.event.now c.step-answer.result ++ own_in (changes c)) (table_of c.args.edge.now) (table_of c.step-answer.new.self) c.requires.table (grown c)
+returns-clause-marks c = still_holds c.args.journal.now.items (accepted c.args.event.now (answered c.step_into-answer.result c.step_into-answer.new.reply) ++ own_in (changes c)) (table_of c.args.edge.now) (table_of c.step_into-answer.new.self) c.requires.table (grown c)
 
 pub returns-clause-mark : goal.returns-clause-mark
-returns-clause-mark c = touched_by_there c.args.edge.now c.args.event.now c.step-answer.result c.step-answer.new.self c.args.journal.now.items (own_in (changes c)) c.step-answer.ensures (grown c)
+returns-clause-mark c = touched_by_there c.args.edge.now c.args.event.now (answered c.step_into-answer.result c.step_into-answer.new.reply) c.step_into-answer.new.self c.args.journal.now.items (own_in (changes c)) c.step_into-answer.ensures (grown c)
