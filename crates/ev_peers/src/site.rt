@@ -1,5 +1,6 @@
 //! An edge as its workers share it: its book under a lock, and what tells of each call of it.
 ghost use Rattle.std.specs.Prelude.{◌≡◌, ◌≤◌, OnOk, length};
+ghost use Rattle.ev_book.specs.Entering.{answered};
 ghost use Rattle.ev_peers.specs.Giving.{behind};
 ghost use Rattle.ev_peers.specs.Passing.{Entered, Asked, Announces, PassesOn, announced_by, given_by};
 
@@ -22,6 +23,24 @@ pub enum Ended {
     Device,
     /// It was refused memory or a thread.
     NoMemory,
+}
+
+/// Where a worker writes what it needs for one event, over that of the event before.
+#[derive(Drop)]
+pub(crate) struct Scratch {
+    /// What the book replies.
+    reply: Reply,
+    /// The datagram that carries the event's frame.
+    datagram: [u8; 9026],
+}
+
+impl Scratch {
+    pub(crate) fn new() -> Self {
+        Scratch {
+            reply: Reply::nothing(),
+            datagram: [0u8; 9026],
+        }
+    }
 }
 
 /// An edge as its workers share it.
@@ -54,35 +73,45 @@ impl<'x, L: Ledger, G, R> Site<'x, L, G, R> {
 
 impl<L: Ledger, G: Gate, R: Wait> Site<'_, L, G, R> {
     /// One call of the book, with all three points. The lock is held for the call alone.
-    fn enter(&self, pass: &mut Pass<L>, event: &Event<'_>) -> Result<Reply, BookRefusal>
-        ensures { Entered pass.old event.now result pass.new }
+    fn enter(
+        &self,
+        pass: &mut Pass<L>,
+        event: &Event<'_>,
+        reply: &mut Reply,
+    ) -> Result<(), BookRefusal>
+        ensures { Entered pass.old event.now (answered result reply.new) pass.new }
     {
         self.gate.at(self.edge, Point::Before);
         let answer = {
             let mut book = self.book.lock(self.rt);
             self.gate.at(self.edge, Point::Inside);
-            call(&mut *book, pass, event)
+            call(&mut *book, pass, event, reply)
         };
         self.gate.at(self.edge, Point::After);
         answer
     }
 
     /// Asks for the edge's next announcement. There is none where the call is refused, too.
-    fn ask(&self, pass: &mut Pass<L>) -> Option<Update>
+    fn ask(&self, pass: &mut Pass<L>, reply: &mut Reply) -> Option<Update>
         ensures { Asked pass.old result pass.new }
     {
-        let answer = self.enter(pass, &Event::Announce);
-        announced_by(&answer)
+        let answer = self.enter(pass, &Event::Announce, reply);
+        announced_by(&answer, reply)
     }
 
     /// Asks for the edge's announcements until there is none or one is refused, and gives each to the
     /// other edges.
-    fn announce<O: Outlet>(&self, pass: &mut Pass<L>, outlet: &mut O) -> Result<(), NoMemory>
+    fn announce<O: Outlet>(
+        &self,
+        pass: &mut Pass<L>,
+        outlet: &mut O,
+        reply: &mut Reply,
+    ) -> Result<(), NoMemory>
         ensures announces { OnOk result (Announces pass.old (O.records outlet.old) pass.new (O.records outlet.new)) }
         ensures parcels { O.parcels outlet.new ≡ O.parcels outlet.old }
     {
         for _ in self.rt.forever() {
-            let Some(update) = self.ask(pass) else {
+            let Some(update) = self.ask(pass, reply) else {
                 return Ok(());
             };
             outlet.record(update)?;
@@ -96,7 +125,7 @@ impl<L: Ledger, G: Gate, R: Wait> Site<'_, L, G, R> {
         &self,
         pass: &mut Pass<L>,
         outlet: &mut O,
-        scratch: &mut [u8; 9026],
+        scratch: &mut Scratch,
         event: &Event<'_>,
         vni: Vni,
         frame: &[u8],
@@ -104,9 +133,9 @@ impl<L: Ledger, G: Gate, R: Wait> Site<'_, L, G, R> {
         requires { length frame.now ≤ 9018 }
         ensures { OnOk result (PassesOn self.now.bridge vni frame.now pass.old event.now (O.parcels outlet.old) (O.records outlet.old) pass.new (O.parcels outlet.new) (O.records outlet.new)) }
     {
-        let answer = self.enter(pass, event);
+        let answer = self.enter(pass, event, &mut scratch.reply);
         give_answer(outlet, scratch, self.bridge, vni, frame, &answer)?;
-        self.announce(pass, outlet)
+        self.announce(pass, outlet, &mut scratch.reply)
     }
 }
 
@@ -115,18 +144,19 @@ fn call<L: Ledger>(
     book: &mut Book<L>,
     pass: &mut Pass<L>,
     event: &Event<'_>,
-) -> Result<Reply, BookRefusal>
-    ensures { Entered pass.old event.now result pass.new }
+    reply: &mut Reply,
+) -> Result<(), BookRefusal>
+    ensures { Entered pass.old event.now (answered result reply.new) pass.new }
 {
-    book.enter(pass, event)
+    book.enter_into(pass, event, reply)
 }
 
 /// The update that an answer announces.
-fn announced_by(answer: &Result<Reply, BookRefusal>) -> Option<Update>
-    ensures { result ≡ announced_by answer.now }
+fn announced_by(answer: &Result<(), BookRefusal>, reply: &Reply) -> Option<Update>
+    ensures { result ≡ announced_by (answered answer.now reply.now) }
 {
     match answer {
-        Ok(reply) => reply.announced,
+        Ok(()) => reply.announced,
         Err(_) => None,
     }
 }
@@ -135,18 +165,25 @@ fn announced_by(answer: &Result<Reply, BookRefusal>) -> Option<Update>
 #[tactic(auto, using(crate::proofs::Behind::behind_none))]
 fn give_answer<O: Outlet>(
     outlet: &mut O,
-    scratch: &mut [u8; 9026],
+    scratch: &mut Scratch,
     bridge: Mac,
     vni: Vni,
     frame: &[u8],
-    answer: &Result<Reply, BookRefusal>,
+    answer: &Result<(), BookRefusal>,
 ) -> Result<(), NoMemory>
     requires { length frame.now ≤ 9018 }
-    ensures parcels { OnOk result (O.parcels outlet.new ≡ behind (O.parcels outlet.old) (given_by bridge vni frame.now answer.now)) }
+    ensures parcels { OnOk result (O.parcels outlet.new ≡ behind (O.parcels outlet.old) (given_by bridge vni frame.now (answered answer.now scratch.old.reply))) }
     ensures records { O.records outlet.new ≡ O.records outlet.old }
 {
     match answer {
-        Ok(reply) => give_out(outlet, scratch, bridge, vni, frame, reply),
+        Ok(()) => give_out(
+            outlet,
+            &mut scratch.datagram,
+            bridge,
+            vni,
+            frame,
+            &scratch.reply,
+        ),
         Err(_) => Ok(()),
     }
 }

@@ -6,7 +6,7 @@ use crate::channels::{Message, Output};
 use crate::gate::Gate;
 use crate::links::{LinkIn, LinkOut};
 use crate::outlet::{NoMemory, Outlet};
-use crate::site::{Ended, Site};
+use crate::site::{Ended, Scratch, Site};
 use crossbeam_channel::Receiver;
 use ether_wire::{Addr, Vni};
 use ev_book::Pass;
@@ -64,7 +64,7 @@ fn enter_datagram<L: Ledger, O: Outlet, G: Gate, R: Wait>(
     site: &Site<'_, L, G, R>,
     pass: &mut Pass<L>,
     outlet: &mut O,
-    scratch: &mut [u8; 9026],
+    scratch: &mut Scratch,
     source: &Source,
     from: Addr,
     octets: &[u8],
@@ -87,7 +87,7 @@ fn link_worker<L: Ledger, I: LinkIn, O: Outlet, G: Gate, R: Wait>(
 ) -> Ended
     ensures { I.failed link.new ≡ I.failed link.old + failures_told result }
 {
-    let mut scratch = [0u8; 9026];
+    let mut scratch = Scratch::new();
     let mut buffer = [0u8; 9027];
     for _ in site.rt.forever() {
         if link.failures() == u64::MAX {
@@ -119,7 +119,7 @@ pub fn port_worker<L: Ledger, I: LinkIn, O: Outlet, G: Gate, R: Wait>(
 ) -> Ended
     ensures { I.failed link.new ≡ I.failed link.old + failures_told result }
 {
-    let mut scratch = [0u8; 9026];
+    let mut scratch = Scratch::new();
     let up = site.act(pass, outlet, &mut scratch, &Event::PortUp(port), vni, &[]);
     if up.is_err() {
         return Ended::NoMemory;
@@ -170,7 +170,7 @@ pub fn peer_worker<L: Ledger, O: Outlet, G: Gate, R: Wait>(
     outlet: &mut O,
     records: &Receiver<Message>,
 ) -> Ended {
-    let mut scratch = [0u8; 9026];
+    let mut scratch = Scratch::new();
     for _ in site.rt.forever() {
         let Ok(message) = records.recv(site.rt) else {
             return Ended::End;
