@@ -9,6 +9,10 @@ pub record IsPort (p : ℕ) : Type 0 where
   pub least : 1 ≤ p
   pub most : p ≤ 64
 
+-- where a port stands among all ports in ascending order, port 1 first
+abbrev pub place_of_port : ℕ → ℕ
+place_of_port p = p - 1
+
 -- is the port in the set; 0 is no port
 unfoldable pub has_port : ℕ → ℕ → Bool
 has_port set zero = false

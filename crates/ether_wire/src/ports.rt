@@ -1,11 +1,19 @@
 //! Sets of access ports, as numbers of 64 bits: port p, from 1 to 64, is bit p - 1.
-ghost use Rattle.std.specs.Prelude.{◌≡◌, ℕ, ◌==◌, ◌&&◌, ◌||◌, not, false, [], ◌++◌, codes, IfSome, IfNone};
+ghost use Rattle.std.specs.Prelude.{◌≡◌, ℕ, ◌<◌, ◌==◌, ◌&&◌, ◌||◌, not, false, [], ◌++◌, codes, IfSome, IfNone};
 ghost use Rattle.std.specs.Fmt.{decimal};
 ghost use Rattle.ether_wire.specs.Ends.{IsOpen, Puts};
-ghost use Rattle.ether_wire.specs.Ports.{IsPort, IsNextPort, has_port, no_ports, with_port, without_port, common_ports, ports_after, ports_of, ArePortsOf, comma_text, ports_text};
+ghost use Rattle.ether_wire.specs.Ports.{IsPort, IsNextPort, place_of_port, has_port, no_ports, with_port, without_port, common_ports, ports_after, ports_of, ArePortsOf, comma_text, ports_text};
 
 use crate::ends::{Device, Out};
 use crate::text::put_decimal;
+
+/// Where the port stands in a list that has something for each port, port 1 first.
+pub fn place_of_port(port: u8) -> usize
+    requires { 0 < port }
+    ensures { result ≡ place_of_port port }
+{
+    port as usize - 1
+}
 
 /// The set of no port.
 pub const NO_PORTS: u64 = 0;
@@ -95,13 +103,10 @@ fn put_behind_comma<O: Out>(out: &mut O, port: u8) -> Result<(), Device>
     put_decimal(out, u64::from(port))
 }
 
-/// A set is told by its ports: two sets with the same ports are one, and no port is in `NO_PORTS`.
+/// Laws: a set is told by its ports (two sets with the same ports are one, and no port is in
+/// `NO_PORTS`), and a walk from 0 meets each port of the set once, in ascending order, and no other.
 pub fn same_ports(set: u64, other: u64)
     ensures same { ((p : ℕ) → IsPort p → has_port set p ≡ has_port other p) → set ≡ other }
     ensures none { (p : ℕ) → has_port no_ports p ≡ false }
-{}
-
-/// A walk from 0 meets each port of the set once, in ascending order.
-pub fn ports_ascend(set: u64)
-    ensures { ArePortsOf set (ports_of set) }
+    ensures ascend { ArePortsOf set (ports_of set) }
 {}

@@ -17,7 +17,7 @@ use crate::opening::Start;
 pub use crate::voice::OwnError;
 use crate::voice::Voice;
 use arrayvec::ArrayVec;
-use ether_wire::{Addr, Mac, NO_PORTS, Vni, next_port, with_port};
+use ether_wire::{Addr, Mac, NO_PORTS, Vni, next_port, place_of_port, with_port};
 use mac_arena::{Entry, MacTable, Station};
 use route_join::{Table, TakeError, Taken};
 use route_wire::{Advert, Content, Ip, Key, Update};
@@ -168,7 +168,7 @@ impl Claims {
         if port == 0 {
             return None;
         }
-        self.ports.as_slice().get(port as usize - 1).copied()
+        self.ports.as_slice().get(place_of_port(port)).copied()
     }
 
     /// Whether the edge serves the VNI, on a port or on none.

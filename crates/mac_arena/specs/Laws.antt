@@ -1,6 +1,7 @@
 -- What the changes of a table do to the entries and to how many there are, and whom ageing and the flush of a port take.
-use Rattle.std.specs.Prelude.{◌≡◌, ◌≢◌, ℕ, ◌-◌, ◌≤◌, Bool, false, Option, Some, None, IsSome, is_some, List, [], ◌∷◌, length, nat_le, if◌then◌else◌}
+use Rattle.std.specs.Prelude.{◌≡◌, ◌≢◌, ℕ, ◌≤◌, Bool, false, Option, Some, None, IsSome, is_some, List, [], ◌∷◌, length, nat_le, if◌then◌else◌}
 use Rattle.std.specs.FinMap.{len}
+use Rattle.ether_wire.specs.Ports.{place_of_port}
 use Rattle.mac_arena.specs.declared.station.Station.{Station}
 use Rattle.mac_arena.specs.declared.station.Entry.{Entry}
 use Rattle.mac_arena.specs.declared.table.Learnt.{Learnt}
@@ -78,7 +79,7 @@ unpinned_among t (s ∷ ss) = if is_pinned (entry_at t s) then unpinned_among t 
 
 -- the stations behind the port that aren't pinned, in the order in which they came to it
 abbrev pub unpinned_on : Learning → ℕ → List Station
-unpinned_on t port = unpinned_among t (stations_at t.ports (port - 1))
+unpinned_on t port = unpinned_among t (stations_at t.ports (place_of_port port))
 
 -- ---- one after another
 

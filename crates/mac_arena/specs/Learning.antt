@@ -1,8 +1,9 @@
 -- The learning table as callers see it (IEEE 802.1D-2004, 7.8 and 7.9), and what each call does to it.
-use Rattle.std.specs.Prelude.{ℕ, suc, ◌-◌, ◌≤◌, ◌≡◌, ◌==◌, Bool, true, false, Option, Some, None, List, [], ◌∷◌, ◌++◌, length, map, drop, replicate, slice_set, slice_index, slice_index_or, if◌then◌else◌, is_some}
+use Rattle.std.specs.Prelude.{ℕ, suc, ◌≤◌, ◌≡◌, ◌==◌, Bool, true, false, Option, Some, None, List, [], ◌∷◌, ◌++◌, length, map, drop, replicate, slice_set, slice_index, slice_index_or, if◌then◌else◌, is_some}
 use Rattle.std.specs.List.{range_with_len}
 use Rattle.std.specs.Option.{option_map}
 use Rattle.std.specs.FinMap.{FinMap, empty, get, insert, remove, len}
+use Rattle.ether_wire.specs.Ports.{place_of_port}
 use Rattle.mac_arena.specs.declared.station.Station.{Station}
 use Rattle.mac_arena.specs.declared.station.Entry.{Entry}
 use Rattle.mac_arena.specs.declared.station.Learned.{Learned}
@@ -104,7 +105,7 @@ place_of (p ∷ places) s = if is_at p s then 0 else suc (place_of places s)
 abbrev pub entered : Learning → Station → ℕ → Learning
 entered t s port = record t {
   entries = insert t.entries s (pinned_at port);
-  ports = joined_by (port - 1) s t.ports;
+  ports = joined_by (place_of_port port) s t.ports;
   chains = joined_by (bucket_in t s) s t.chains;
   places = slice_set t.places (slice_index t.free 0) (Some s);
   free = drop 1 t.free;
@@ -120,7 +121,7 @@ held t s port = record t { entries = insert t.entries s (pinned_at port); ageing
 
 -- it goes to another port
 abbrev pub shifted : Learning → Station → Entry → ℕ → Learning
-shifted t s e port = record t { entries = insert t.entries s (record e { port = port }); ports = joined_by (port - 1) s (map (left s) t.ports) }
+shifted t s e port = record t { entries = insert t.entries s (record e { port = port }); ports = joined_by (place_of_port port) s (map (left s) t.ports) }
 
 -- a pinned one leaves the table
 abbrev pub dropped : Learning → Station → Learning
@@ -147,7 +148,7 @@ abbrev pub after_learn : Learning → Station → ℕ → ℕ → Learnt → Lea
 after_learn t s port second New = record t {
   entries = insert t.entries s (heard_at port second);
   ageing = t.ageing ++ s ∷ [];
-  ports = joined_by (port - 1) s t.ports;
+  ports = joined_by (place_of_port port) s t.ports;
   chains = joined_by (bucket_in t s) s t.chains;
   places = slice_set t.places (slice_index t.free 0) (Some s);
   free = drop 1 t.free;
@@ -155,7 +156,7 @@ after_learn t s port second New = record t {
 after_learn t s port second Moved = record t {
   entries = insert t.entries s (heard_at port second);
   ageing = left s t.ageing ++ s ∷ [];
-  ports = joined_by (port - 1) s (map (left s) t.ports);
+  ports = joined_by (place_of_port port) s (map (left s) t.ports);
 }
 after_learn t s port second Refreshed = record t {
   entries = insert t.entries s (heard_at port second);
@@ -175,7 +176,7 @@ after_pin_at t s port None = if is_full t then t else entered t s port
 after_pin_at t s port (Some e) = record t {
   entries = insert t.entries s (pinned_at port);
   ageing = left s t.ageing;
-  ports = if e.port == port then t.ports else joined_by (port - 1) s (map (left s) t.ports);
+  ports = if e.port == port then t.ports else joined_by (place_of_port port) s (map (left s) t.ports);
 }
 
 abbrev pub after_pin : Learning → Station → ℕ → Learning

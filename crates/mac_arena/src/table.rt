@@ -1,8 +1,9 @@
 //! The learning table: a map from stations to their ports, over slots and the orders of their nodes.
 ghost use Rattle.std.specs.Prelude.{◌≡◌, ℕ, ◌+◌, ◌<◌, ◌≤◌, ◌^◌, true, false, Some, None, length, slice_get, IfOk, IfSome, IfNone, MatchOption};
 ghost use Rattle.std.specs.FinMap.{len};
+ghost use Rattle.ether_wire.specs.Ports.{place_of_port};
 ghost use Rattle.mac_arena.specs.Learning.{Learning, nothing_learnt, entry_at, is_full, bucket_in, stations_at, learned_at, left, first_unpinned, IsLatest, standing, entered, heard, held, shifted, dropped, learnt_of, after_learn, can_pin, after_pin, after_removal};
-ghost use Rattle.std.specs.Prelude.{◌-◌, is_some, replicate};
+ghost use Rattle.std.specs.Prelude.{is_some, replicate};
 ghost use Rattle.mac_arena.specs.Entry.{pinned_at};
 ghost use Rattle.mac_arena.specs.Slot.{held_on, shifted_to};
 ghost use Rattle.mac_arena.specs.ListsName.{ListsName};
@@ -10,6 +11,7 @@ ghost use Rattle.mac_arena.specs.ListsName.{ListsName};
 use crate::orders::NodeOrders;
 use crate::slot::Slot;
 use crate::station::{Entry, Learned, Station};
+use ether_wire::place_of_port;
 use std::alloc::{AllocError, Global};
 use std::marker::Model;
 
@@ -178,9 +180,9 @@ impl MacTable {
     pub fn first_of(&self, port: u8) -> Option<Station>
         requires some { 0 < port }
         requires port { port ≤ length self.now.ports }
-        ensures { result ≡ first_unpinned self.now (stations_at self.now.ports (port - 1)) }
+        ensures { result ≡ first_unpinned self.now (stations_at self.now.ports (place_of_port port)) }
     {
-        let list = port as usize - 1;
+        let list = place_of_port(port);
         let mut at = self.orders.first_at_port(list);
         for _ in 0..self.orders.port_len(list) {
             let Some(node) = at else { return None };
@@ -336,7 +338,7 @@ impl MacTable {
         ensures at { learned_at self.new node
             ≡ Some (record { station = key.now; entry = pinned_at port }) }
     {
-        self.orders.enter(node, bucket, port as usize - 1);
+        self.orders.enter(node, bucket, place_of_port(port));
         self.slots[node] = Slot::pinned(key, port);
         self.count += 1;
     }
@@ -371,7 +373,7 @@ impl MacTable {
         ensures after { let x = standing self.old node in self.new ≡ shifted self.old x.station x.entry port }
         ensures at { learned_at self.new node ≡ Some (shifted_to port (standing self.old node)) }
     {
-        self.orders.shift(node, port as usize - 1);
+        self.orders.shift(node, place_of_port(port));
         self.slots[node].shift(port);
     }
 

@@ -38,17 +38,17 @@ invariant_of-self c =
     let found : Found c.self.inside.orders c.self.inside.slots.items c.self.inside.count c.self.inside.buckets c.self.inside.salt c.args.self.now = record { table = c.self.invariant; seen = c.self.view_is } in
     let there : c.args.port - 1 < length c.self.inside.orders.ports = (let same = ports_in found in let low = c.requires.port in let some = c.requires.some in omega (arith, same, low, some)) in
     let bucket = c.requires.bucket ∙ bucket_is found c.args.key.now in
-    rw (c.enter.ensures, bucket, c.pinned.ensures) (entered_table c.self.invariant c.args.node c.args.key.now c.args.port (first_is found c.args.node c.requires.free) (new_in found c.args.key.now c.requires.new) c.requires.some there)
+    rw (c.enter.ensures, c.place_of_port.ensures, bucket, c.pinned.ensures) (entered_table c.self.invariant c.args.node c.args.key.now c.args.port (first_is found c.args.node c.requires.free) (new_in found c.args.key.now c.requires.new) c.requires.some there)
 
 pub returns-clause-after : goal.returns-clause-after
 returns-clause-after c =
     let found : Found c.self.inside.orders c.self.inside.slots.items c.self.inside.count c.self.inside.buckets c.self.inside.salt c.args.self.now = record { table = c.self.invariant; seen = c.self.view_is } in
     let bucket = c.requires.bucket ∙ bucket_is found c.args.key.now in
-    rw (c.enter.ensures, bucket, c.pinned.ensures) (entered_seen c.self.invariant c.args.node c.args.key.now c.args.port (first_is found c.args.node c.requires.free) (new_in found c.args.key.now c.requires.new) ∙ ap (λ w. entered w c.args.key.now c.args.port) c.self.view_is)
+    rw (c.enter.ensures, c.place_of_port.ensures, bucket, c.pinned.ensures) (entered_seen c.self.invariant c.args.node c.args.key.now c.args.port (first_is found c.args.node c.requires.free) (new_in found c.args.key.now c.requires.new) ∙ ap (λ w. entered w c.args.key.now c.args.port) c.self.view_is)
 
 pub returns-clause-at : goal.returns-clause-at
 returns-clause-at c =
     let found : Found c.self.inside.orders c.self.inside.slots.items c.self.inside.count c.self.inside.buckets c.self.inside.salt c.args.self.now = record { table = c.self.invariant; seen = c.self.view_is } in
     let there : c.args.port - 1 < length c.self.inside.orders.ports = (let same = ports_in found in let low = c.requires.port in let some = c.requires.some in omega (arith, same, low, some)) in
     let bucket = c.requires.bucket ∙ bucket_is found c.args.key.now in
-    rw (c.enter.ensures, bucket, c.pinned.ensures) (at_new c.self.inside.slots.items c.args.node _ (takes found c.args.node c.requires.free).0 (entered_table c.self.invariant c.args.node c.args.key.now c.args.port (first_is found c.args.node c.requires.free) (new_in found c.args.key.now c.requires.new) c.requires.some there))
+    rw (c.enter.ensures, c.place_of_port.ensures, bucket, c.pinned.ensures) (at_new c.self.inside.slots.items c.args.node _ (takes found c.args.node c.requires.free).0 (entered_table c.self.invariant c.args.node c.args.key.now c.args.port (first_is found c.args.node c.requires.free) (new_in found c.args.key.now c.requires.new) c.requires.some there))
