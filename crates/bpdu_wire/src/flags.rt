@@ -1,5 +1,5 @@
-//! The flags octet of a message (IEEE 802.1D-2004, 9.3.3). A Configuration BPDU has the first flag and
-//! the last one alone (9.3.1).
+//! The flags octet of a message (IEEE 802.1D-2004, 9.3.3). A Configuration BPDU has the first flag
+//! and the last one alone (9.3.1).
 
 /// The sender tells of a topology change.
 pub const TOPOLOGY_CHANGE: u8 = 0x01;

@@ -63,8 +63,9 @@ impl BridgeId {
     }
 }
 
-/// A port identifier, as the number of its two octets: a priority in the top four bits, and the
-/// port's number in the other twelve (IEEE 802.1D-2004, 9.2.7). The lower identifier is the better one.
+/// A port identifier, as the number of its two octets: a priority in the top four bits,
+/// and the port's number in the other twelve (IEEE 802.1D-2004, 9.2.7). The lower
+/// identifier is the better one.
 #[derive(Clone, Copy, Debug, Default, PartialEq, Eq, Hash, PartialOrd, Ord)]
 pub struct PortId {
     number: u16,

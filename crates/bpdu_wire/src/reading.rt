@@ -123,12 +123,13 @@ fn bpdu_in(octets: &[u8]) -> Bpdu
     }
 }
 
-/// The BPDU that the octets begin with. Octets after it are ignored, and so are a version other than
-/// its own at types 0x00 and 0x80, and one above 2 at type 0x02: a later protocol's BPDU is read by
-/// what it has in common with ours (IEEE 802.1D-2004, 9.3.4).
+/// The BPDU that the octets begin with. Octets after it are ignored, and so are a version other
+/// than its own at types 0x00 and 0x80, and one above 2 at type 0x02: a later protocol's BPDU is
+/// read by what it has in common with ours (IEEE 802.1D-2004, 9.3.4).
 ///
-/// The octets are refused, for the first cause that applies: `Short` where there are fewer than four,
-/// `BadProtocol`, `BadType`, `BadVersion`, `Short` where they are fewer than the type has, `Aged`.
+/// The octets are refused, for the first cause that applies: `Short` where there are fewer
+/// than four, `BadProtocol`, `BadType`, `BadVersion`, `Short` where they are fewer than
+/// the type has, `Aged`.
 #[tactic(auto, unfolding(crate::specs::Reading::reading))]
 pub fn read(octets: &[u8]) -> Result<Bpdu, Refusal>
     ensures { result ≡ reading octets.now }

@@ -1,6 +1,7 @@
 //! Why octets are no BPDU, and by which number that is told.
 
-/// There are fewer than four octets: asked first. Or, once the type is known, fewer than its kind has.
+/// There are fewer than four octets: asked first. Or, once the type is known,
+/// fewer than its kind has.
 pub const TOO_SHORT: u8 = 1;
 /// The protocol identifier isn't 0: asked behind four octets.
 pub const BAD_PROTOCOL: u8 = 2;

@@ -1,8 +1,8 @@
 //! BPDUs of a bridge that comes up, as octets both ways, and each refusal.
 use crate::{Bpdu, BridgeId, Message, PortId, SenderRole, read, write};
 
-/// What a designated port of bridge 8000.02:aa:00:00:00:01 first sends: it takes itself for the root,
-/// and proposes.
+/// What a designated port of bridge 8000.02:aa:00:00:00:01 first sends: it takes itself for
+/// the root, and proposes.
 const FIRST_PROPOSAL: [u8; 36] = [
     0x00, 0x00, 0x02, 0x02, 0x0e, 0x80, 0x00, 0x02, 0xaa, 0x00, 0x00, 0x00, 0x01, 0x00, 0x00, 0x00,
     0x00, 0x80, 0x00, 0x02, 0xaa, 0x00, 0x00, 0x00, 0x01, 0x80, 0x01, 0x00, 0x00, 0x14, 0x00, 0x02,

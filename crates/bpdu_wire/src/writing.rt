@@ -78,7 +78,8 @@ fn put_times(out: &mut ArrayVec<u8, 36>, message: &Message)
 /// Appends a BPDU of this version and type, and what follows its fields.
 fn put_message(out: &mut ArrayVec<u8, 36>, version: u8, kind: u8, message: &Message, after: &[u8])
     requires { array_vec_len out.old + 35 + length after.now ≤ 36 }
-    ensures items { out.new.items ≡ out.old.items ++ message_octets version kind message.now after.now }
+    ensures items { out.new.items
+        ≡ out.old.items ++ message_octets version kind message.now after.now }
     ensures vector { HasVector message.now }
     ensures times { HasTimes message.now }
 {

@@ -8,12 +8,12 @@ use arrayvec::ArrayVec;
 /// How many octets a buffered writer holds at most.
 const HELD: usize = 16_384;
 
-/// A writer that holds up to 16,384 octets for another one, so that many small calls make few of the
-/// other's. It takes no memory.
+/// A writer that holds up to 16,384 octets for another one, so that many small calls make few of
+/// the other's. It takes no memory.
 ///
 /// As written it tells what the other one holds and, behind that, what it holds itself: `finish`
-/// passes the latter on. Its failures are those of the other one. What it holds when a call fails is
-/// lost, so that nothing is given twice.
+/// passes the latter on. Its failures are those of the other one. What it holds when a call fails
+/// is lost, so that nothing is given twice.
 pub struct Buffered<W> {
     inner: W,
     held: ArrayVec<u8, HELD>,

@@ -4,8 +4,8 @@ ghost use Rattle.ether_wire.specs.Ends.{IsOpen, Allows, Puts, Gets};
 
 use crate::ends::{Device, In, Out};
 
-/// An end over another one. Its call of one number, counted from 1 on, fails and goes no further; all
-/// other calls are the other end's. With the number 0 none fails so.
+/// An end over another one. Its call of one number, counted from 1 on, fails and goes no further;
+/// all other calls are the other end's. With the number 0 none fails so.
 #[derive(Drop)]
 pub struct FailAt<E> {
     inner: E,

@@ -52,8 +52,8 @@ pub fn common_ports(set: u64, other: u64) -> u64
     set & other
 }
 
-/// The first port of the set after this number: after 0 the first of all. So a walk from 0 that goes on
-/// after each port that it was given meets each port of the set once, in ascending order.
+/// The first port of the set after this number: after 0 the first of all. So a walk from 0 that
+/// goes on after each port that it was given meets each port of the set once, in ascending order.
 pub fn next_port(set: u64, after: u8) -> Option<u8>
     ensures some { IfSome result (IsNextPort set after) }
     ensures none { IfNone result (ports_after set after ≡ []) }
@@ -68,7 +68,8 @@ pub fn next_port(set: u64, after: u8) -> Option<u8>
     Some(after + 1 + later.trailing_zeros() as u8)
 }
 
-/// Writes the numbers of the ports, ascending and with commas between, or a dash where there is none.
+/// Writes the numbers of the ports, ascending and with commas between, or a dash
+/// where there is none.
 pub fn put_ports<O: Out>(out: &mut O, set: u64) -> Result<(), Device>
     requires { IsOpen (O.end out.old) }
     ensures { Puts (O.end out.old) (O.end out.new) (ports_text set) result }
@@ -103,8 +104,9 @@ fn put_behind_comma<O: Out>(out: &mut O, port: u8) -> Result<(), Device>
     put_decimal(out, u64::from(port))
 }
 
-/// Laws: a set is told by its ports (two sets with the same ports are one, and no port is in
-/// `NO_PORTS`), and a walk from 0 meets each port of the set once, in ascending order, and no other.
+/// Laws: a set is told by its ports (two sets with the same ports are one, and no port
+/// is in `NO_PORTS`), and a walk from 0 meets each port of the set once, in ascending
+/// order, and no other.
 pub fn same_ports(set: u64, other: u64)
     ensures same { ((p : ℕ) → IsPort p → has_port set p ≡ has_port other p) → set ≡ other }
     ensures none { (p : ℕ) → has_port no_ports p ≡ false }

@@ -31,8 +31,8 @@ const SPENT: u64 = 1 << 55;
 
 /// An edge, the journal of the updates that it took and said, and what is kept of each pass.
 ///
-/// The table of the journal's updates is the edge's table, the table has what each pass took or announced
-/// last or something newer, and the counts together are those of all passes.
+/// The table of the journal's updates is the edge's table, the table has what each pass took or
+/// announced last or something newer, and the counts together are those of all passes.
 #[derive(Drop)]
 pub struct Book<L: Ledger> {
     edge: Edge,
@@ -84,8 +84,8 @@ fn new_passes<L: Ledger>(
 }
 
 impl<L: Ledger> Book<L> {
-    /// A book over an edge that opens, and its passes, as many as the blank has parts (1 to 256). The
-    /// edge's adverts are the journal.
+    /// A book over an edge that opens, and its passes, as many as the blank has parts (1 to 256).
+    /// The edge's adverts are the journal.
     ///
     /// # Errors
     ///
@@ -119,8 +119,8 @@ impl<L: Ledger> Book<L> {
         Ok((book, made))
     }
 
-    /// A law, which does nothing: a table that takes the journal's updates has the edge's registers and
-    /// its report.
+    /// A law, which does nothing: a table that takes the journal's updates has the edge's
+    /// registers and its report.
     pub fn always_replays(&self)
         ensures replays { Replays self.now }
         ensures good { IsGoodEdge self.now.edge }
@@ -169,14 +169,14 @@ impl<L: Ledger> Book<L> {
         result
     }
 
-    /// Enters an event: one call more for the pass, and one step of the edge. The journal grows by the
-    /// update that the event took and by the own updates that it made.
+    /// Enters an event: one call more for the pass, and one step of the edge. The journal grows by
+    /// the update that the event took and by the own updates that it made.
     ///
     /// # Errors
     ///
-    /// `PassStrange` exactly where the pass isn't what the book keeps of it, else `PassSpent` exactly at
-    /// 2^55 calls: nothing changed then. `NoRoom` where the journal's room is refused, and `Edge` as the
-    /// edge refuses: then the call is counted, and nothing else changed.
+    /// `PassStrange` exactly where the pass isn't what the book keeps of it, else `PassSpent`
+    /// exactly at 2^55 calls: nothing changed then. `NoRoom` where the journal's room is refused,
+    /// and `Edge` as the edge refuses: then the call is counted, and nothing else changed.
     pub fn enter(&mut self, pass: &mut Pass<L>, event: &Event<'_>) -> Result<Reply, BookRefusal>
         ensures calls { CallsBook self.old pass.old event.now result self.new pass.new }
         ensures number { pass.new.number ≡ pass.old.number }
@@ -189,8 +189,9 @@ impl<L: Ledger> Book<L> {
         }
     }
 
-    /// The same, with the reply written where another one stood: a caller that keeps one place for
-    /// replies spares the copies of a whole one. Of what stands there after a refusal nothing is said.
+    /// The same, with the reply written where another one stood: a caller that keeps one
+    /// place for replies spares the copies of a whole one. Of what stands there after a
+    /// refusal nothing is said.
     ///
     /// # Errors
     ///
@@ -201,9 +202,11 @@ impl<L: Ledger> Book<L> {
         event: &Event<'_>,
         reply: &mut Reply,
     ) -> Result<(), BookRefusal>
-        ensures calls { CallsBook self.old pass.old event.now (answered result reply.new) self.new pass.new }
+        ensures calls { CallsBook self.old pass.old event.now
+            (answered result reply.new) self.new pass.new }
         ensures number { pass.new.number ≡ pass.old.number }
-        ensures count { pass.new.count ≡ pass.old.count + calls_counted (answered result reply.new) }
+        ensures count { pass.new.count
+            ≡ pass.old.count + calls_counted (answered result reply.new) }
     {
         if !self.fits(pass) {
             return Err(BookRefusal::PassStrange);
@@ -227,8 +230,10 @@ impl<L: Ledger> Book<L> {
         mac: Mac,
     ) -> Result<Option<Addr>, BookRefusal>
         ensures strange { fits self.now pass.now ≡ false → result ≡ Err BookRefusal.PassStrange }
-        ensures found { fits self.now pass.now ≡ true → result ≡ Ok (owner (table_of self.now.edge) vni mac) }
-        ensures mark { fits self.now pass.now ≡ true → HoldsAt (table_of self.now.edge) pass.now.mark }
+        ensures found { fits self.now pass.now ≡ true
+            → result ≡ Ok (owner (table_of self.now.edge) vni mac) }
+        ensures mark { fits self.now pass.now ≡ true
+            → HoldsAt (table_of self.now.edge) pass.now.mark }
     {
         if !self.fits(pass) {
             return Err(BookRefusal::PassStrange);
@@ -237,8 +242,8 @@ impl<L: Ledger> Book<L> {
         Ok(self.edge.table().owner(vni, mac))
     }
 
-    /// Leaves one update of each register in the journal, the newest, in the order of a report. It takes
-    /// no memory, and steps in proportion to the journal's updates.
+    /// Leaves one update of each register in the journal, the newest, in the order of a report. It
+    /// takes no memory, and steps in proportion to the journal's updates.
     pub fn compact(&mut self)
         ensures edge { self.new.edge ≡ self.old.edge }
         ensures kept { self.new.kept ≡ self.old.kept }
@@ -248,8 +253,8 @@ impl<L: Ledger> Book<L> {
         compact(&mut self.journal, self.edge.table());
     }
 
-    /// Writes the journal's updates in their order, each as its record. It takes no memory. What it wrote
-    /// is read again: a table that takes the records' updates has the edge's report.
+    /// Writes the journal's updates in their order, each as its record. It takes no memory. What it
+    /// wrote is read again: a table that takes the records' updates has the edge's report.
     ///
     /// # Errors
     ///
@@ -257,15 +262,17 @@ impl<L: Ledger> Book<L> {
     pub fn write_journal<W: Out>(&self, out: &mut W) -> Result<(), Device>
         requires { IsOpen (W.end out.old) }
         ensures puts { Puts (W.end out.old) (W.end out.new) (records_of self.now.journal) result }
-        ensures again { OnOk result (Answers (records_of self.now.journal) (all_ok self.now.journal) []) }
-        ensures report { OnOk result (ReportsAs (listening self.now) (records_of self.now.journal) (report_of (table_of self.now.edge))) }
+        ensures again { OnOk result
+            (Answers (records_of self.now.journal) (all_ok self.now.journal) []) }
+        ensures report { OnOk result (ReportsAs (listening self.now) (records_of self.now.journal)
+            (report_of (table_of self.now.edge))) }
     {
         self.always_replays();
         put_records(self.journal.as_slice(), out)
     }
 
-    /// Ends the book, with all its passes: its edge, and how many calls of each pass were counted. These
-    /// are the passes' own counts, and together they are what the book counted.
+    /// Ends the book, with all its passes: its edge, and how many calls of each pass were counted.
+    /// These are the passes' own counts, and together they are what the book counted.
     pub fn close(self, passes: Vec<Pass<L>>) -> (Edge, Totals)
         requires all { vec_len passes ≡ L.parts }
         requires some { (0 < vec_len passes) × (vec_len passes ≤ 256) }

@@ -23,7 +23,8 @@ use route_wire::{Update, write};
 /// Appends the own updates with the numbers after this one, for which there is room.
 pub(crate) fn append_own(journal: &mut Vec<Update>, edge: &Edge, before: u64)
     requires numbered { HasOwnSince edge.now.claims.voice before }
-    requires room { vec_len journal.old + edge.now.claims.voice.counter ≤ vec_capacity journal.old + before }
+    requires room { vec_len journal.old + edge.now.claims.voice.counter
+        ≤ vec_capacity journal.old + before }
     ensures { AppendsOwn edge.now.claims.voice before journal.old.items journal.new.items }
 {
     edge.always_good();
@@ -39,7 +40,8 @@ pub(crate) fn append_own(journal: &mut Vec<Update>, edge: &Edge, before: u64)
 // Appends the update that an event took, for which there is room.
 fn append_taken(journal: &mut Vec<Update>, event: &Event<'_>, answer: &Result<(), Refusal>)
     requires { vec_len journal.old < vec_capacity journal.old }
-    ensures items { (reply : Replied) → journal.new.items ≡ journal.old.items ++ accepted event.now (stepped answer.now reply) }
+    ensures items { (reply : Replied) → journal.new.items
+        ≡ journal.old.items ++ accepted event.now (stepped answer.now reply) }
     ensures len { vec_len journal.new ≤ vec_len journal.old + 1 }
     ensures capacity { vec_capacity journal.new ≡ vec_capacity journal.old }
 {
@@ -61,10 +63,12 @@ fn step_within(
 ) -> Result<(), Refusal>
     requires table { IsTableOf journal.old.items (table_of edge.old) }
     requires room { vec_len journal.old + entries edge.old.claims + 2 ≤ vec_capacity journal.old }
-    ensures writes { Writes edge.old journal.old.items event.now (stepped result reply.new) edge.new journal.new.items }
+    ensures writes { Writes edge.old journal.old.items event.now
+        (stepped result reply.new) edge.new journal.new.items }
     ensures table { IsTableOf journal.new.items (table_of edge.new) }
     ensures marks { (m : Marked) → Holds (table_of edge.old) m → Holds (table_of edge.new) m }
-    ensures mark { IfSome (touched_by event.now (stepped result reply.new)) (λ u. Holds (table_of edge.new) (mark_of u)) }
+    ensures mark { IfSome (touched_by event.now (stepped result reply.new))
+        (λ u. Holds (table_of edge.new) (mark_of u)) }
 {
     edge.always_good();
     let before = edge.counter();
@@ -74,8 +78,8 @@ fn step_within(
     answer
 }
 
-/// One event of the edge, whose reply is written where another one stood, with what it took and said
-/// behind the journal.
+/// One event of the edge, whose reply is written where another one stood, with what it took and
+/// said behind the journal.
 pub(crate) fn step(
     edge: &mut Edge,
     journal: &mut Vec<Update>,
@@ -83,10 +87,12 @@ pub(crate) fn step(
     reply: &mut Reply,
 ) -> Result<(), BookRefusal>
     requires { IsTableOf journal.old.items (table_of edge.old) }
-    ensures writes { WritesOrNot edge.old journal.old.items event.now (answered result reply.new) edge.new journal.new.items }
+    ensures writes { WritesOrNot edge.old journal.old.items event.now
+        (answered result reply.new) edge.new journal.new.items }
     ensures table { IsTableOf journal.new.items (table_of edge.new) }
     ensures marks { (m : Marked) → Holds (table_of edge.old) m → Holds (table_of edge.new) m }
-    ensures mark { IfSome (touched_by event.now (answered result reply.new)) (λ u. Holds (table_of edge.new) (mark_of u)) }
+    ensures mark { IfSome (touched_by event.now (answered result reply.new))
+        (λ u. Holds (table_of edge.new) (mark_of u)) }
 {
     edge.always_good();
     if journal.reserve(edge.entries() + 2).is_err() {

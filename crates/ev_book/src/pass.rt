@@ -22,8 +22,8 @@ pub struct Kept {
     pub mark: Option<Mark>,
 }
 
-/// The right to enter a book, with the count of its calls and its mark. Its share of the book's ledger
-/// is that count: so nothing else can stand in for it.
+/// The right to enter a book, with the count of its calls and its mark. Its share of the book's
+/// ledger is that count: so nothing else can stand in for it.
 #[derive(Drop)]
 pub struct Pass<L: Ledger> {
     pub(crate) number: usize,
@@ -40,7 +40,8 @@ impl<L: Ledger> Model for Pass<L> {
 
     ghost view = { λ p. record { number = p.number; count = p.count; mark = p.mark } };
 
-    ghost invariant = { λ p. (p.share.parts ≡ 1) × (p.share.amount ≡ p.count) × (p.count ≤ 2 ^ 55) };
+    ghost invariant = { λ p. (p.share.parts ≡ 1) × (p.share.amount ≡ p.count)
+        × (p.count ≤ 2 ^ 55) };
 }
 
 impl<L: Ledger> Pass<L> {

@@ -1,5 +1,5 @@
-//! What an edge says and has learnt, and each change of it: a station is advertised exactly while it
-//! is learnt.
+//! What an edge says and has learnt, and each change of it: a station is advertised
+//! exactly while it is learnt.
 ghost use Rattle.std.specs.Prelude.{◌≡◌, ◌≢◌, ◌⊎◌, ◌+◌, ◌<◌, ◌≤◌, ◌^◌, ◌↔◌, ℕ, [], true, false, IfOk, IfSome, IfNone, IsSome, length, slice_get, OnOk, OnErr, Err, Some, None, Contains};
 ghost use Rattle.ether_wire.specs.Names.{is_group};
 ghost use Rattle.route_join.specs.Table.{AreOriginators, value_at, is_listed};
@@ -24,15 +24,15 @@ use route_wire::{Advert, Content, Ip, Key, Update};
 use std::alloc::{AllocError, Global};
 use std::marker::Model;
 
-/// So many of the latest own updates are found at once by their numbers, beside one for each station
-/// that may be learnt: an event says no more.
+/// So many of the latest own updates are found at once by their numbers, beside one for each
+/// station that may be learnt: an event says no more.
 const LATEST: usize = 64;
 
 /// What an edge says and what it has learnt on its ports.
 ///
-/// It advertises exactly the stations that it has learnt, as static exactly those that are pinned, and
-/// the flood lists of exactly its VNIs. Each change of what it says takes the next number, and is
-/// pending until it is announced.
+/// It advertises exactly the stations that it has learnt, as static exactly those that are pinned,
+/// and the flood lists of exactly its VNIs. Each change of what it says takes the next number, and
+/// is pending until it is announced.
 #[derive(Drop)]
 pub struct Claims {
     voice: Voice,
@@ -65,8 +65,8 @@ pub struct Heard {
 }
 
 impl Claims {
-    /// An edge that has heard and learnt nothing. It says that it is on the flood list of each of its
-    /// VNIs, the lowest first.
+    /// An edge that has heard and learnt nothing. It says that it is on the flood list of each of
+    /// its VNIs, the lowest first.
     pub fn open(alloc: Global, start: Start) -> Result<Self, AllocError>
         requires originators { AreOriginators start.originators.items }
         requires listed { Contains start.originators.items start.address }
@@ -95,8 +95,8 @@ impl Claims {
         })
     }
 
-    /// A law, which does nothing: what is said and what is learnt name each other, the numbers are kept,
-    /// and the lists of the learning table name what is learnt.
+    /// A law, which does nothing: what is said and what is learnt name each other, the numbers are
+    /// kept, and the lists of the learning table name what is learnt.
     pub fn always_good(&self)
         ensures { AreGood self.now }
     {
@@ -224,8 +224,8 @@ impl Claims {
         Ok(())
     }
 
-    /// A station that is learnt and not pinned is heard on a port of its VNI, the same or another one,
-    /// at a second that isn't below an earlier one. Nothing is said, and it takes no memory.
+    /// A station that is learnt and not pinned is heard on a port of its VNI, the same or another
+    /// one, at a second that isn't below an earlier one. Nothing is said, and it takes no memory.
     pub fn refresh(&mut self, station: &Station, port: u8, second: u64)
         requires port { vni_at self.old.ports port ≡ Some station.now.vni }
         requires there { IsSome (entry_at self.old.learned station.now) }
@@ -236,7 +236,8 @@ impl Claims {
         let _learnt = self.learned.learn(station, port, second);
     }
 
-    /// Pins a station on a port of its VNI, whether it is learnt or not, and advertises it as static.
+    /// Pins a station on a port of its VNI, whether it is learnt or not, and
+    /// advertises it as static.
     ///
     /// # Errors
     ///
@@ -260,8 +261,8 @@ impl Claims {
         Ok(())
     }
 
-    /// Pins a station that is pinned already on another port of its VNI. Nothing is said, and it takes
-    /// no memory.
+    /// Pins a station that is pinned already on another port of its VNI. Nothing is said,
+    /// and it takes no memory.
     pub fn shift(&mut self, station: &Station, port: u8)
         requires port { vni_at self.old.ports port ≡ Some station.now.vni }
         requires pinned { is_pinned (entry_at self.old.learned station.now) ≡ true }
@@ -280,13 +281,13 @@ impl Claims {
         self.voice.withdraw(key);
     }
 
-    /// Takes another edge's update. A station that it takes from this edge goes, and is withdrawn, in
-    /// the same step.
+    /// Takes another edge's update. A station that it takes from this edge goes, and is
+    /// withdrawn, in the same step.
     ///
     /// # Errors
     ///
-    /// `UnknownOriginator` exactly where the edge doesn't listen to its originator, `NoMemory` where its
-    /// register is new and memory was refused. Nothing changed then.
+    /// `UnknownOriginator` exactly where the edge doesn't listen to its originator, `NoMemory`
+    /// where its register is new and memory was refused. Nothing changed then.
     pub fn hear(&mut self, update: &Update) -> Result<Heard, TakeError>
         requires { update.now.register.originator ≢ self.old.voice.address }
         ensures taken { IfOk result
@@ -307,14 +308,14 @@ impl Claims {
         Ok(Heard { taken, lost_pinned })
     }
 
-    /// Takes an update under the edge's own name. An advert of an earlier life that would become its
-    /// register's value is withdrawn in the same step, by its key; a withdrawal of an earlier life that
-    /// becomes its register's value takes no number and isn't pending.
+    /// Takes an update under the edge's own name. An advert of an earlier life that would become
+    /// its register's value is withdrawn in the same step, by its key; a withdrawal of an earlier
+    /// life that becomes its register's value takes no number and isn't pending.
     ///
     /// # Errors
     ///
-    /// `Ahead` and `Spent` exactly where their conditions hold; `NoMemory` where the register is new, or
-    /// an advert returns, and memory was refused. Nothing changed then.
+    /// `Ahead` and `Spent` exactly where their conditions hold; `NoMemory` where the register is
+    /// new, or an advert returns, and memory was refused. Nothing changed then.
     pub fn hear_own(&mut self, update: &Update) -> Result<Taken, OwnError>
         requires { update.now.register.originator ≡ self.old.voice.address }
         ensures taken { IfOk result (λ taken. taken ≡ taken_of self.old.voice.table update.now) }
@@ -332,8 +333,8 @@ impl Claims {
         self.voice.hear_own(update)
     }
 
-    /// The unpinned stations that were last heard at this second or before go and are withdrawn, the one
-    /// heard longest ago first. It takes no memory.
+    /// The unpinned stations that were last heard at this second or before go and are withdrawn,
+    /// the one heard longest ago first. It takes no memory.
     pub fn age(&mut self, limit: u64)
         ensures { self.new ≡ after_ageing self.old limit }
     {
@@ -342,8 +343,8 @@ impl Claims {
         }
     }
 
-    /// The unpinned stations behind the ports of a set go and are withdrawn, port by port, in the order
-    /// in which they came to each. It takes no memory.
+    /// The unpinned stations behind the ports of a set go and are withdrawn, port by port, in the
+    /// order in which they came to each. It takes no memory.
     pub fn flush(&mut self, ports: u64)
         ensures { self.new ≡ after_flush self.old ports }
     {
@@ -421,9 +422,9 @@ impl Claims {
         self.voice.hear(update)
     }
 
-    /// Takes a station out and withdraws it, where the edge advertises it and isn't its owner. Tells
-    /// whether it was pinned. The edge advertises what it has learnt: the table is asked for nothing
-    /// else.
+    /// Takes a station out and withdraws it, where the edge advertises it and isn't its
+    /// owner. Tells whether it was pinned. The edge advertises what it has learnt: the table
+    /// is asked for nothing else.
     fn lose(&mut self, station: &Station) -> bool
         ensures lost { result ≡ is_pinned (lost_at self.old station.now) }
         ensures after { self.new ≡ after_losing_at self.old station.now }

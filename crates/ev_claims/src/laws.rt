@@ -1,5 +1,5 @@
-//! What goes by age or by a flush, and what an opening says, as functions that do nothing: the contract
-//! is the law.
+//! What goes by age or by a flush, and what an opening says, as functions that do nothing: the
+//! contract is the law.
 ghost use Rattle.std.specs.Prelude.{eqb};
 ghost use Rattle.std.specs.List.{IsDistinct};
 ghost use Rattle.ev_claims.specs.Laws.{AgesOut, FlushesOut};
@@ -24,8 +24,8 @@ pub fn flushed_out(claims: &Claims, ports: u64)
     claims.always_good();
 }
 
-/// The opening is a change like any other: from nothing said and counter 0, the flood list of each VNI
-/// is said, each once.
+/// The opening is a change like any other: from nothing said and counter 0, the flood list of each
+/// VNI is said, each once.
 pub fn opening_says(start: &Start, claims: &Claims)
     requires distinct { IsDistinct eqb start.now.vnis.items }
     requires opening { IsOpening start.now claims.now }

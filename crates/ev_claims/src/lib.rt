@@ -1,5 +1,5 @@
-//! What an edge says and has learnt: its own routes with their numbers, the stations behind its ports,
-//! and that each names the other.
+//! What an edge says and has learnt: its own routes with their numbers, the stations behind its
+//! ports, and that each names the other.
 #![tactic(auto)]
 
 mod claims;

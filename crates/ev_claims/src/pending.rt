@@ -10,9 +10,9 @@ use std::alloc::{AllocError, Global};
 use std::collections::BTreeMap;
 use std::marker::Model;
 
-/// The registers that an edge says something of, each with a node of one linked list: those that are still to be
-/// announced stand on it. Beside it a ring tells at once which register was marked under a number of
-/// late: it is a guess, since later numbers take its places.
+/// The registers that an edge says something of, each with a node of one linked list: those that
+/// are still to be announced stand on it. Beside it a ring tells at once which register was marked
+/// under a number of late: it is a guess, since later numbers take its places.
 #[derive(Drop)]
 pub struct Pending {
     links: Family<1>,
@@ -72,8 +72,8 @@ impl Pending {
         Ok(())
     }
 
-    /// Puts a register that has a node at the end of those that wait, unless it waits already. It was
-    /// said under this number.
+    /// Puts a register that has a node at the end of those that wait, unless it waits already. It
+    /// was said under this number.
     pub fn mark(&mut self, register: Register, number: u64)
         requires { Contains self.old.known register }
         ensures { self.new ≡ record self.old { waiting = marked self.old.waiting register } }

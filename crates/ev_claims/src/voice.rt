@@ -18,7 +18,8 @@ use std::marker::Model;
 /// Why an update under the edge's own name wasn't taken. Nothing changed.
 #[derive(Clone, Copy, Debug, PartialEq, Eq)]
 pub enum OwnError {
-    /// It is newer than what the edge said, and isn't of an earlier life: another speaks under this name.
+    /// It is newer than what the edge said, and isn't of an earlier life: another
+    /// speaks under this name.
     Ahead,
     /// It would have to be withdrawn, and the edge's counter is at 2^63 or above.
     Spent,
@@ -26,8 +27,8 @@ pub enum OwnError {
     NoMemory,
 }
 
-/// What an edge says itself: its table with its own registers, their numbers, and what is still to be
-/// announced.
+/// What an edge says itself: its table with its own registers, their numbers, and what is
+/// still to be announced.
 #[derive(Drop)]
 pub struct Voice {
     address: Addr,
@@ -48,12 +49,13 @@ impl Model for Voice {
 
     ghost view = { λ v. voice_of v.address v.incarnation v.table v.counter v.pending };
 
-    ghost invariant = { λ v. IsVoice (voice_of v.address v.incarnation v.table v.counter v.pending) v.pending.known };
+    ghost invariant = { λ v. IsVoice
+        (voice_of v.address v.incarnation v.table v.counter v.pending) v.pending.known };
 }
 
 impl Voice {
-    /// Nothing is said yet. As many of the latest own updates as there are places are found at once by
-    /// their numbers.
+    /// Nothing is said yet. As many of the latest own updates as there are places are found at
+    /// once by their numbers.
     pub fn new(
         alloc: Global,
         address: Addr,
@@ -134,8 +136,8 @@ impl Voice {
         Some(update)
     }
 
-    /// The own update of this life with this number, if it is still its register's value. One of the
-    /// latest is found at once, any other by a walk over all own registers.
+    /// The own update of this life with this number, if it is still its register's value. One of
+    /// the latest is found at once, any other by a walk over all own registers.
     pub fn own_at(&self, counter: u64) -> Option<Update>
         ensures some { IfSome result (IsOwnAt self.now counter) }
         ensures none { IfNone result (IsNoOwnAt self.now counter) }
@@ -227,8 +229,8 @@ impl Voice {
         self.table.take(update)
     }
 
-    /// Takes an update under the edge's own name. An advert of an earlier life that would become its
-    /// register's value is withdrawn in the same step.
+    /// Takes an update under the edge's own name. An advert of an earlier life that would become
+    /// its register's value is withdrawn in the same step.
     pub fn hear_own(&mut self, update: &Update) -> Result<Taken, OwnError>
         requires own { update.now.register.originator ≡ self.old.address }
         ensures taken { IfOk result (λ taken. taken ≡ taken_of self.old.table update.now) }
@@ -281,7 +283,8 @@ impl Voice {
         }
     }
 
-    /// Withdraws what an advert of an earlier life says, which would be its register's newest update.
+    /// Withdraws what an advert of an earlier life says, which would be its
+    /// register's newest update.
     fn refute(&mut self, update: &Update) -> Result<Taken, OwnError>
         requires own { update.now.register.originator ≡ self.old.address }
         requires returning { is_returning self.old update.now ≡ true }

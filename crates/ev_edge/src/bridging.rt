@@ -70,8 +70,8 @@ fn tell_sent(outcome: Outcome, reply: &mut Reply)
 }
 
 impl Edge {
-    /// An event of the bridge at a port that is there: the bridge goes on, and the stations behind the
-    /// ports that it flushes go.
+    /// An event of the bridge at a port that is there: the bridge goes on, and the stations behind
+    /// the ports that it flushes go.
     pub(crate) fn bridge_event(&mut self, event: Event, reply: &mut Reply)
         requires { IsAt event (length self.old.tree.ports) }
         ensures { BridgeSteps event self.old reply.new self.new }
@@ -82,8 +82,8 @@ impl Edge {
         tell_sent(outcome, reply);
     }
 
-    /// A second passes. The stations behind the ports that the bridge flushes go first, then those that
-    /// weren't heard for long enough.
+    /// A second passes. The stations behind the ports that the bridge flushes go first, then those
+    /// that weren't heard for long enough.
     pub(crate) fn second(&mut self, reply: &mut Reply)
         ensures { SecondSteps self.old reply.new self.new }
     {
@@ -105,7 +105,8 @@ impl Edge {
 
     /// A port comes up.
     pub(crate) fn port_up(&mut self, port: u8, reply: &mut Reply) -> Result<(), Refusal>
-        ensures { BridgesAt (vni_at self.old.claims.ports port) (Event.PortUp port) self.old (answered result reply.new) self.new }
+        ensures { BridgesAt (vni_at self.old.claims.ports port) (Event.PortUp port) self.old
+            (answered result reply.new) self.new }
     {
         if !self.is_there(port) {
             return Err(Refusal::Edge(EdgeRefusal::NoSuchPort));
@@ -116,7 +117,8 @@ impl Edge {
 
     /// A port goes down.
     pub(crate) fn port_down(&mut self, port: u8, reply: &mut Reply) -> Result<(), Refusal>
-        ensures { BridgesAt (vni_at self.old.claims.ports port) (Event.PortDown port) self.old (answered result reply.new) self.new }
+        ensures { BridgesAt (vni_at self.old.claims.ports port) (Event.PortDown port) self.old
+            (answered result reply.new) self.new }
     {
         if !self.is_there(port) {
             return Err(Refusal::Edge(EdgeRefusal::NoSuchPort));
@@ -127,7 +129,8 @@ impl Edge {
 
     /// A port's protocol is to be found out anew.
     pub(crate) fn mcheck(&mut self, port: u8, reply: &mut Reply) -> Result<(), Refusal>
-        ensures { BridgesAt (vni_at self.old.claims.ports port) (Event.Mcheck port) self.old (answered result reply.new) self.new }
+        ensures { BridgesAt (vni_at self.old.claims.ports port) (Event.Mcheck port) self.old
+            (answered result reply.new) self.new }
     {
         if !self.is_there(port) {
             return Err(Refusal::Edge(EdgeRefusal::NoSuchPort));

@@ -23,8 +23,8 @@ use std::marker::Model;
 
 /// An edge: what it says and has learnt, its bridge, its clock, and the stations that have moved.
 ///
-/// It advertises exactly the stations that it has learnt, as static exactly those that are pinned, and
-/// owns each of them.
+/// It advertises exactly the stations that it has learnt, as static exactly those that are pinned,
+/// and owns each of them.
 #[derive(Drop)]
 pub struct Edge {
     pub(crate) claims: Claims,
@@ -47,12 +47,13 @@ impl Model for Edge {
 
     ghost view = { λ e. edge_of e.claims e.clock e.ageing e.bridge e.moves };
 
-    ghost invariant = { λ e. IsEdge (edge_of e.claims e.clock e.ageing e.bridge e.moves) e.passing };
+    ghost invariant = { λ e. IsEdge
+        (edge_of e.claims e.clock e.ageing e.bridge e.moves) e.passing };
 }
 
 impl Edge {
-    /// An edge that has heard and learnt nothing, at second 0. It says that it is on the flood list of
-    /// each of its networks, the lowest first. All ports are down.
+    /// An edge that has heard and learnt nothing, at second 0. It says that it is on the flood list
+    /// of each of its networks, the lowest first. All ports are down.
     ///
     /// # Errors
     ///
@@ -88,8 +89,9 @@ impl Edge {
         })
     }
 
-    /// One event. A frame that comes at a port is learnt from before it is sent; an update that takes a
-    /// station from the edge withdraws it in the same step; so does whatever flushes or ages it.
+    /// One event. A frame that comes at a port is learnt from before it is sent; an
+    /// update that takes a station from the edge withdraws it in the same step; so does
+    /// whatever flushes or ages it.
     ///
     /// # Errors
     ///
@@ -104,8 +106,8 @@ impl Edge {
         }
     }
 
-    /// The same, written where another reply stood: a caller that keeps one place for replies spares
-    /// the copies of a whole one. Of what stands there after a refusal nothing is said.
+    /// The same, written where another reply stood: a caller that keeps one place for replies
+    /// spares the copies of a whole one. Of what stands there after a refusal nothing is said.
     ///
     /// # Errors
     ///
@@ -154,8 +156,8 @@ impl Edge {
         self.claims.table()
     }
 
-    /// Writes the report of the edge's table: a line for each register, and one for the owner of each
-    /// MAC address behind its last register. It takes no memory.
+    /// Writes the report of the edge's table: a line for each register, and one for the owner of
+    /// each MAC address behind its last register. It takes no memory.
     ///
     /// # Errors
     ///

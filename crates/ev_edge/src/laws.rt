@@ -15,10 +15,10 @@ use crate::refusal::Refusal;
 use crate::reply::Reply;
 use ether_wire::Addr;
 
-/// What an event changes in what an edge says: the table takes the update that is accepted, and then
-/// what the edge says itself. Its own changes take the numbers after the counter without a gap, and
-/// those of them that weren't pending are pending at the end, in the order of their numbers. They are
-/// one more at the most than it had stations.
+/// What an event changes in what an edge says: the table takes the update that is accepted, and
+/// then what the edge says itself. Its own changes take the numbers after the counter without a
+/// gap, and those of them that weren't pending are pending at the end, in the order of their
+/// numbers. They are one more at the most than it had stations.
 pub fn own_changes(before: &Edge, event: &Event<'_>, answer: &Result<Reply, Refusal>, after: &Edge)
     requires { Steps before.now event.now answer.now after.now }
     ensures { Changes before.now event.now answer.now after.now }
@@ -26,15 +26,16 @@ pub fn own_changes(before: &Edge, event: &Event<'_>, answer: &Result<Reply, Refu
     before.always_good();
 }
 
-/// The opening is such a change from nothing: the flood list of each network is said, numbered from 1.
+/// The opening is such a change from nothing: the flood list of each network is
+/// said, numbered from 1.
 pub fn opening_says(config: &EdgeConfig, edge: &Edge)
     requires config { IsConfig config.now }
     requires opening { IsOpening config.now edge.now }
     ensures { Opens (start_of config.now) edge.now.claims }
 {}
 
-/// A frame that comes at an access port leaves only by ports of its network that pass at that event,
-/// and never by its own port.
+/// A frame that comes at an access port leaves only by ports of its network that pass at that
+/// event, and never by its own port.
 pub fn leaves_by_members_that_pass(
     before: &Edge,
     port: u8,
@@ -48,8 +49,8 @@ pub fn leaves_by_members_that_pass(
     after.always_good();
 }
 
-/// A frame from a tunnel goes into no tunnel, and leaves only by ports of its network that pass at that
-/// event.
+/// A frame from a tunnel goes into no tunnel, and leaves only by ports of its network
+/// that pass at that event.
 pub fn never_from_tunnel_to_tunnel(
     before: &Edge,
     from: Addr,
@@ -97,8 +98,9 @@ pub fn advertises_its_own(edge: &Edge)
     edge.always_good();
 }
 
-/// Seconds, ports that come up or go down, frames from tunnels, BPDUs, unpinning, thawing, announcing,
-/// and taking another edge's update of a register that is there, never tell of refused memory.
+/// Seconds, ports that come up or go down, frames from tunnels, BPDUs, unpinning,
+/// thawing, announcing, and taking another edge's update of a register that is there,
+/// never tell of refused memory.
 pub fn takes_no_memory(
     before: &Edge,
     event: &Event<'_>,

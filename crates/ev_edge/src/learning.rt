@@ -79,7 +79,8 @@ impl Edge {
 
     // The case of a station that isn't learnt, with its next sequence number.
     fn numbered_case(&self, station: &Station, number: u32) -> Case
-        ensures { result ≡ numbered_case self.now (get self.now.windows station.now) (Seq.Next number) }
+        ensures { result
+            ≡ numbered_case self.now (get self.now.windows station.now) (Seq.Next number) }
     {
         if self.claims.counter() >= SPENT {
             return Case::Refuse(Alert::CounterSpent);
@@ -95,7 +96,8 @@ impl Edge {
 
     /// The sequence number of the next own advert of a station.
     pub(crate) fn next_seq(&self, station: &Station) -> Seq
-        ensures { result ≡ seq_for (table_of self.now) (address_of self.now) station.now.vni station.now.mac }
+        ensures { result
+            ≡ seq_for (table_of self.now) (address_of self.now) station.now.vni station.now.mac }
     {
         next_seq(
             self.claims.table(),
@@ -107,7 +109,8 @@ impl Edge {
 
     // Notes the fifth move of a station's window, which freezes it.
     fn freeze(&mut self, station: &Station) -> Option<Alert>
-        ensures { OrNoMemory self.old (Some Alert.Duplicate) (moved self.old station.now) result self.new }
+        ensures { OrNoMemory self.old (Some Alert.Duplicate)
+            (moved self.old station.now) result self.new }
     {
         if self.moves.room(station).is_err() {
             return Some(Alert::NoMemory);
@@ -123,7 +126,8 @@ impl Edge {
         requires new { entry_at self.old.claims.learned station.now ≡ None }
         requires room { is_full self.old.claims.learned ≡ false }
         requires counter { self.old.claims.voice.counter < 2 ^ 63 }
-        requires next { seq_for (table_of self.old) (address_of self.old) station.now.vni station.now.mac ≡ Seq.Next 0 }
+        requires next { seq_for (table_of self.old)
+            (address_of self.old) station.now.vni station.now.mac ≡ Seq.Next 0 }
         ensures { OrNoMemory self.old None (learnt self.old station.now port 0) result self.new }
     {
         self.claims.always_good();
@@ -140,9 +144,11 @@ impl Edge {
         requires new { entry_at self.old.claims.learned station.now ≡ None }
         requires room { is_full self.old.claims.learned ≡ false }
         requires counter { self.old.claims.voice.counter < 2 ^ 63 }
-        requires next { seq_for (table_of self.old) (address_of self.old) station.now.vni station.now.mac ≡ Seq.Next number }
+        requires next { seq_for (table_of self.old)
+            (address_of self.old) station.now.vni station.now.mac ≡ Seq.Next number }
         requires moves { (number == 0) ≡ false }
-        ensures { OrNoMemory self.old None (learnt self.old station.now port number) result self.new }
+        ensures { OrNoMemory self.old None
+            (learnt self.old station.now port number) result self.new }
     {
         self.claims.always_good();
         if self.moves.room(station).is_err() {

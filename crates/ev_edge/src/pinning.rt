@@ -31,7 +31,8 @@ impl Edge {
         port: u8,
         reply: &mut Reply,
     ) -> Result<(), Refusal>
-        ensures { Pins (refused_pin self.old station.now port) self.old station.now port (answered result reply.new) self.new }
+        ensures { Pins (refused_pin self.old station.now port) self.old station.now port
+            (answered result reply.new) self.new }
     {
         if let Some(refusal) = self.refused_pin(station, port) {
             return Err(Refusal::Edge(refusal));

@@ -10,10 +10,11 @@ use std::fmt::{Display, Error, Formatter, Write};
 pub enum EdgeRefusal {
     /// A group address can't be pinned.
     BadMac,
-    /// It comes from nobody that the edge listens to; or it came through a tunnel under the edge's own
-    /// name.
+    /// It comes from nobody that the edge listens to; or it came through a tunnel under
+    /// the edge's own name.
     UnknownOriginator,
-    /// It is under the edge's own name and of no earlier life, and newer than what the edge has said.
+    /// It is under the edge's own name and of no earlier life, and newer than
+    /// what the edge has said.
     OwnNameAhead,
     /// There is no memory for it.
     NoMemory,

@@ -48,7 +48,8 @@ impl Edge {
         octets: &[u8],
         reply: &mut Reply,
     ) -> Result<(), Refusal>
-        ensures { FrameSteps (frame_arrival self.old port octets.now) self.old port (answered result reply.new) self.new }
+        ensures { FrameSteps (frame_arrival self.old port octets.now) self.old port
+            (answered result reply.new) self.new }
     {
         match self.frame_arrival(port, octets)? {
             Arrival::Dropped => reply.clear(),
@@ -158,7 +159,8 @@ impl Edge {
         octets: &[u8],
         reply: &mut Reply,
     ) -> Result<(), Refusal>
-        ensures { TunnelSteps (tunnel_arrival self.old from octets.now) self.old (answered result reply.new) self.new }
+        ensures { TunnelSteps (tunnel_arrival self.old from octets.now) self.old
+            (answered result reply.new) self.new }
     {
         match self.tunnel_arrival(from, octets)? {
             Arrival::Data(vni, destination, _) => {

@@ -42,7 +42,8 @@ fn tell_own(outcome: Result<Taken, OwnError>, reply: &mut Reply) -> Result<(), R
 impl Edge {
     /// Takes an update, of another edge or of this one in an earlier life.
     pub(crate) fn take(&mut self, update: &Update, reply: &mut Reply) -> Result<(), Refusal>
-        ensures { Takes (update.now.register.originator == address_of self.old) self.old update.now (answered result reply.new) self.new }
+        ensures { Takes (update.now.register.originator == address_of self.old) self.old update.now
+            (answered result reply.new) self.new }
     {
         if update.register().originator == self.claims.address() {
             self.take_own(update, reply)

@@ -1,4 +1,5 @@
-//! Refusals and replies in plain words, for people. What is told by number has its number beside them.
+//! Refusals and replies in plain words, for people. What is told by number has
+//! its number beside them.
 
 use crate::refusal::Refusal;
 use crate::reply::Reply;
@@ -91,7 +92,8 @@ fn taken_words(taken: Taken) -> &'static str {
 }
 
 impl Reply {
-    // The first parts: where a frame goes, and out of which ports BPDUs go. Whether there were none.
+    // The first parts: where a frame goes, and out of which ports BPDUs go.
+    // Whether there were none.
     fn write_sent<W: Write>(&self, f: &mut Formatter<W>) -> Result<bool, Error> {
         let mut is_first = true;
         if let Some(decision) = &self.decision {

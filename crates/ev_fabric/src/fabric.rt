@@ -16,8 +16,8 @@ use std::marker::Model;
 
 /// Edges that share a pool of announced updates. Both are numbered from 1.
 ///
-/// Each edge is good, what an edge has of another was announced, and of one register, life and number
-/// there is one update in the pool.
+/// Each edge is good, what an edge has of another was announced, and of one register, life and
+/// number there is one update in the pool.
 #[derive(Drop)]
 pub struct Fabric {
     alloc: Global,
@@ -131,9 +131,9 @@ impl Fabric {
     ///
     /// # Errors
     ///
-    /// `NoSuchEdge`, `NoSuchUpdate` and `NoHigher` exactly where their conditions hold, in this order.
-    /// `NoMemory` where memory is refused: then an announcement is still pending, and at a restart the
-    /// old edge stays. `Edge` where the edge refuses the event. Nothing changed then.
+    /// `NoSuchEdge`, `NoSuchUpdate` and `NoHigher` exactly where their conditions hold, in this
+    /// order. `NoMemory` where memory is refused: then an announcement is still pending, and at a
+    /// restart the old edge stays. `Edge` where the edge refuses the event. Nothing changed then.
     pub fn step(&mut self, step: &Step<'_>) -> Result<Reply, Refusal>
         ensures { FabricSteps self.old step.now result self.new }
     {

@@ -11,8 +11,8 @@ pub fn every_run()
     ensures { EveryRun }
 {}
 
-/// No table holds a register newer than its originator's own, but for values of an earlier life of that
-/// originator.
+/// No table holds a register newer than its originator's own, but for values of an earlier
+/// life of that originator.
 pub fn none_ahead()
     ensures { NoneAhead }
 {}
@@ -63,27 +63,27 @@ pub fn none_back()
     ensures { NoneBack }
 {}
 
-/// Where all agree and an edge advertises a station, the next frame for it at another edge, from another
-/// source address on a port that passes, is given to the advertising edge alone.
+/// Where all agree and an edge advertises a station, the next frame for it at another edge, from
+/// another source address on a port that passes, is given to the advertising edge alone.
 pub fn frames_go()
     ensures { FramesGo }
 {}
 
-/// At the edge that advertises a station, the next frame for it, from another source address on a port
-/// that passes, is given to the port behind which it is learnt alone, if that passes and isn't the
-/// frame's own; else to nothing.
+/// At the edge that advertises a station, the next frame for it, from another source address on a
+/// port that passes, is given to the port behind which it is learnt alone, if that passes and isn't
+/// the frame's own; else to nothing.
 pub fn frames_come_out()
     ensures { FramesComeOut }
 {}
 
-/// At the edge that advertises a station, the next frame for it that comes from another edge is given to
-/// the port behind which it is learnt alone, if that passes; else to nothing.
+/// At the edge that advertises a station, the next frame for it that comes from another edge is
+/// given to the port behind which it is learnt alone, if that passes; else to nothing.
 pub fn tunnel_frames_come_out()
     ensures { TunnelFramesComeOut }
 {}
 
-/// Which edge's table is joined to which makes no difference, nor does the order of three; a table joined
-/// to itself stays as it is.
+/// Which edge's table is joined to which makes no difference, nor does the order of three; a table
+/// joined to itself stays as it is.
 pub fn tables_join()
     ensures { TablesJoin }
 {}

@@ -187,8 +187,8 @@ fn address(e: u8) -> Addr
     Addr::new(0x0a00_0000 + u32::from(e))
 }
 
-// Each step is made here: where a function makes one and names no `LocalEvent`, the borrow checker isn't told
-// of that type.
+// Each step is made here: where a function makes one and names no `LocalEvent`, the borrow checker
+// isn't told of that type.
 fn perform(fabric: &mut Fabric, e: usize, what: Act) -> Result<Reply, Refusal> {
     match what {
         Act::Up(port) => fabric.step(&Step::Local(e, LocalEvent::PortUp(port))),
@@ -234,7 +234,8 @@ fn announces(fabric: &mut Fabric, e: usize) -> bool {
     }
 }
 
-// Both edges are up, learn the same station and announce, and edge 2 hears of edge 1 and announces its withdrawal.
+// Both edges are up, learn the same station and announce, and edge 2 hears of edge 1 and
+// announces its withdrawal.
 fn both_learn(fabric: &mut Fabric) -> bool {
     for e in 1..3usize {
         let _ = perform(fabric, e, Act::Up(1));

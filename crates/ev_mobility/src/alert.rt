@@ -12,7 +12,8 @@ pub enum Alert {
     StaticElsewhere,
     /// Another edge has used the greatest sequence number: the address isn't learnt here.
     SequenceSpent,
-    /// The address moved for the fifth time within 180 seconds: it is frozen, and isn't learnt here.
+    /// The address moved for the fifth time within 180 seconds: it is frozen,
+    /// and isn't learnt here.
     Duplicate,
     /// An address that was pinned here belongs to another edge now: it isn't pinned any more.
     LostStatic,

@@ -11,7 +11,8 @@ use std::alloc::{AllocError, Global};
 use std::collections::BTreeMap;
 use std::marker::Model;
 
-/// The moves of addresses from edge to edge: how many of late, and who is frozen for moving too often.
+/// The moves of addresses from edge to edge: how many of late, and who is frozen
+/// for moving too often.
 ///
 /// A station needs a place before its first move is noted, and keeps it.
 #[derive(Drop)]
@@ -79,8 +80,8 @@ impl Moves {
         is_fifth(&self.window(key), second)
     }
 
-    /// Notes a move of a station that has a place, and tells whether it is the fifth of its window, and
-    /// the station frozen by it.
+    /// Notes a move of a station that has a place, and tells whether it is the fifth of its window,
+    /// and the station frozen by it.
     pub fn note(&mut self, key: &Station, second: u64) -> bool
         requires { has_place self.old key.now ≡ true }
         ensures fifth { result ≡ is_fifth (window_at self.old key.now) second }

@@ -90,9 +90,9 @@ fn seq_of(all: Heard) -> Seq
     }
 }
 
-/// The sequence number of an edge's next own advert of an address (RFC 7432, section 15): one above all
-/// that other edges advertise for it, by whatever IP address or none, and 0 where no other does. It
-/// takes no memory.
+/// The sequence number of an edge's next own advert of an address (RFC 7432, section 15): one above
+/// all that other edges advertise for it, by whatever IP address or none, and 0 where no other
+/// does. It takes no memory.
 pub fn next_seq(table: &Table, own: Addr, vni: Vni, mac: Mac) -> Seq
     ensures value { result ≡ seq_for table.now own vni mac }
     ensures exact { IsSeqFor table.now own vni mac result }

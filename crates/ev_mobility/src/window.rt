@@ -1,5 +1,5 @@
-//! The window in which an address moves (RFC 7432, section 15.1): it lasts 180 seconds from its first
-//! move, and its fifth move freezes the address.
+//! The window in which an address moves (RFC 7432, section 15.1): it lasts 180 seconds from its
+//! first move, and its fifth move freezes the address.
 ghost use Rattle.std.specs.Prelude.{◌≡◌};
 ghost use Rattle.ev_mobility.specs.Window.{one_more, runs, count_with, is_fifth, after_move, is_frozen};
 

@@ -39,8 +39,8 @@ pub struct Datagram {
     pub octets: Vec<u8>,
 }
 
-/// A channel between edges, or to a link, with room for one message: so that `last` can be sent over it
-/// whatever memory is refused, once what was sent before it is received.
+/// A channel between edges, or to a link, with room for one message: so that `last` can be sent
+/// over it whatever memory is refused, once what was sent before it is received.
 ///
 /// # Errors
 ///

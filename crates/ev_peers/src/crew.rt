@@ -123,7 +123,8 @@ struct Shared {
 /// What the threads of an edge begin and end with, so that this needs no memory.
 #[derive(Drop)]
 struct Crew<L: Ledger, I: Drop, O: Drop> {
-    /// What is entered from links: of the clock, the tunnel, and the ports from the last to the first.
+    /// What is entered from links: of the clock, the tunnel, and the ports from
+    /// the last to the first.
     tasks: Vec<Task<I>>,
     /// What is sent over links.
     sendings: Vec<Sending<O>>,
@@ -299,7 +300,9 @@ fn planned<L: Ledger, I: Drop, O: Drop, R: Wait>(
     ensures no_entering { IfOk result (λ r. vec_len r.1.no_entering ≡ vec_len links.ports + 2) }
     ensures sendings { IfOk result (λ r. vec_len r.0.sendings ≡ vec_len links.ports + 1) }
     ensures no_sending { IfOk result (λ r. vec_len r.1.no_sending ≡ vec_len links.ports + 1) }
-    ensures room { IfOk result (λ r. HasRoom (vec_len r.0.tasks) (vec_len r.0.sendings) (vec_len r.0.entering) (vec_capacity r.0.entering) (vec_len r.0.sending) (vec_capacity r.0.sending) (vec_len r.0.passes) (vec_capacity r.0.passes)) }
+    ensures room { IfOk result (λ r. HasRoom (vec_len r.0.tasks) (vec_len r.0.sendings)
+        (vec_len r.0.entering) (vec_capacity r.0.entering) (vec_len r.0.sending)
+        (vec_capacity r.0.sending) (vec_len r.0.passes) (vec_capacity r.0.passes)) }
 {
     let EdgeLinks {
         ports: mut port_links,
@@ -406,7 +409,8 @@ fn start_entering<
     requires fresh { vec_len fresh ≡ vec_len tasks }
     requires running { vec_len running + vec_len tasks ≤ vec_capacity running }
     requires passes { vec_len passes + vec_len tasks + 1 ≤ vec_capacity passes }
-    ensures all { vec_len result.0 + vec_len result.1 ≡ vec_len running + vec_len passes + vec_len tasks }
+    ensures all { vec_len result.0 + vec_len result.1
+        ≡ vec_len running + vec_len passes + vec_len tasks }
     ensures room { vec_capacity result.1 ≡ vec_capacity passes }
 {
     let mut fresh = fresh;
@@ -496,7 +500,8 @@ fn start_peer<
     }
 }
 
-/// What the workers of an edge begin with, ready to run. It is seen as how many passes the tasks have.
+/// What the workers of an edge begin with, ready to run. It is seen as how many
+/// passes the tasks have.
 #[derive(Drop)]
 struct Launch<'x, L: Ledger, I: Drop, O: Drop> {
     crew: Crew<L, I, O>,
@@ -515,12 +520,15 @@ impl<'x, L: Ledger, I: Drop, O: Drop> Model for Launch<'x, L, I, O> {
 
     ghost view = { λ l. vec_len l.fresh };
 
-    ghost invariant = { λ l. IsReady (vec_len l.crew.tasks) (vec_len l.crew.sendings) (vec_len l.crew.entering) (vec_capacity l.crew.entering) (vec_len l.crew.sending) (vec_capacity l.crew.sending) (vec_len l.crew.passes) (vec_capacity l.crew.passes) (vec_len l.shared.now.no_entering) (vec_len l.shared.now.no_sending) (vec_len l.fresh) };
+    ghost invariant = { λ l. IsReady (vec_len l.crew.tasks) (vec_len l.crew.sendings)
+        (vec_len l.crew.entering) (vec_capacity l.crew.entering) (vec_len l.crew.sending)
+        (vec_capacity l.crew.sending) (vec_len l.crew.passes) (vec_capacity l.crew.passes)
+        (vec_len l.shared.now.no_entering) (vec_len l.shared.now.no_sending) (vec_len l.fresh) };
 }
 
-/// Starts the workers of an edge, each on a thread, waits until they have ended, and gives all passes
-/// back: those of ports, tunnel and clock, then the one of the other edges' records, then those that
-/// send.
+/// Starts the workers of an edge, each on a thread, waits until they have ended, and gives all
+/// passes back: those of ports, tunnel and clock, then the one of the other edges' records,
+/// then those that send.
 fn run_within<
     's,
     'x: 's,
@@ -594,7 +602,10 @@ fn run_workers<
     fresh: Vec<Pass<L>>,
     peer: Pass<L>,
 ) -> (Vec<Pass<L>>, Faults)
-    requires { IsReady (vec_len crew.tasks) (vec_len crew.sendings) (vec_len crew.entering) (vec_capacity crew.entering) (vec_len crew.sending) (vec_capacity crew.sending) (vec_len crew.passes) (vec_capacity crew.passes) (vec_len shared.now.no_entering) (vec_len shared.now.no_sending) (vec_len fresh) }
+    requires { IsReady (vec_len crew.tasks) (vec_len crew.sendings) (vec_len crew.entering)
+        (vec_capacity crew.entering) (vec_len crew.sending) (vec_capacity crew.sending)
+        (vec_len crew.passes) (vec_capacity crew.passes) (vec_len shared.now.no_entering)
+        (vec_len shared.now.no_sending) (vec_len fresh) }
     ensures { vec_len result.0 ≡ vec_len fresh + 1 }
 {
     let launch = Launch {
@@ -628,12 +639,12 @@ fn run_workers<
     )
 }
 
-/// Opens an edge's book under a ledger of its own, runs the edge's workers, and closes the book with the
-/// passes that they give back: passes 0, 1 .. are those of the ports, then of the tunnel, the clock and
-/// the other edges' records.
+/// Opens an edge's book under a ledger of its own, runs the edge's workers, and closes the book
+/// with the passes that they give back: passes 0, 1 .. are those of the ports, then of the tunnel,
+/// the clock and the other edges' records.
 ///
-/// What comes back from a thread is known by its type alone, and so is the book that was under the lock: no
-/// clause says what the workers did meanwhile, nor what they ended with.
+/// What comes back from a thread is known by its type alone, and so is the book that was under the
+/// lock: no clause says what the workers did meanwhile, nor what they ended with.
 ///
 /// # Errors
 ///

@@ -5,8 +5,8 @@ ghost use Rattle.ev_peers.specs.FailAt.{inner_link, calls_of, fails_at, counted}
 use crate::links::{LinkIn, LinkOut};
 use ether_wire::{Addr, Device};
 
-/// A link over another one. Its call of one number, counted from 1 on, fails and goes no further; all
-/// other calls are the other link's. With the number 0 none fails so.
+/// A link over another one. Its call of one number, counted from 1 on, fails and goes no further;
+/// all other calls are the other link's. With the number 0 none fails so.
 #[derive(Drop)]
 pub struct FailAt<K> {
     inner: K,

@@ -13,8 +13,8 @@ pub enum Point {
 
 /// Is told of each call of a book. It may hold one up.
 pub trait Gate {
-    /// A call of this edge's book stands at this point. It gets no edge and answers nothing, so that all it
-    /// can do to the call is to hold it up, and a contract would have nothing to say.
+    /// A call of this edge's book stands at this point. It gets no edge and answers nothing, so
+    /// that all it can do to the call is to hold it up, and a contract would have nothing to say.
     fn at(&self, edge: usize, point: Point);
 }
 

@@ -11,7 +11,8 @@ use ev_tunnel::{Decision, wrap};
 
 /// Gives each BPDU to its port, in a frame from this bridge.
 fn give_bpdus<O: Outlet>(outlet: &mut O, bridge: Mac, bpdus: &[(u8, Bpdu)]) -> Result<(), NoMemory>
-    ensures frames { OnOk result (O.parcels outlet.new ≡ behind (O.parcels outlet.old) (map (bpdu_parcel bridge) bpdus.now)) }
+    ensures frames { OnOk result (O.parcels outlet.new
+        ≡ behind (O.parcels outlet.old) (map (bpdu_parcel bridge) bpdus.now)) }
     ensures records { O.records outlet.new ≡ O.records outlet.old }
 {
     let mut frame = [0u8; 60];
@@ -25,7 +26,8 @@ fn give_bpdus<O: Outlet>(outlet: &mut O, bridge: Mac, bpdus: &[(u8, Bpdu)]) -> R
 
 /// Gives a frame to each port of a set, ascending.
 fn give_ports<O: Outlet>(outlet: &mut O, ports: u64, frame: &[u8]) -> Result<(), NoMemory>
-    ensures frames { OnOk result (O.parcels outlet.new ≡ behind (O.parcels outlet.old) (to_ports frame.now (ports_of ports))) }
+    ensures frames { OnOk result (O.parcels outlet.new
+        ≡ behind (O.parcels outlet.old) (to_ports frame.now (ports_of ports))) }
     ensures records { O.records outlet.new ≡ O.records outlet.old }
 {
     let mut port = 0;
@@ -38,7 +40,8 @@ fn give_ports<O: Outlet>(outlet: &mut O, ports: u64, frame: &[u8]) -> Result<(),
 
 /// Gives a datagram to each of these edges.
 fn give_edges<O: Outlet>(outlet: &mut O, edges: &[Addr], datagram: &[u8]) -> Result<(), NoMemory>
-    ensures frames { OnOk result (O.parcels outlet.new ≡ behind (O.parcels outlet.old) (to_edges datagram.now edges.now)) }
+    ensures frames { OnOk result
+        (O.parcels outlet.new ≡ behind (O.parcels outlet.old) (to_edges datagram.now edges.now)) }
     ensures records { O.records outlet.new ≡ O.records outlet.old }
 {
     for edge in edges {
@@ -56,7 +59,8 @@ fn give_decided<O: Outlet>(
     decision: &Decision,
 ) -> Result<(), NoMemory>
     requires { length frame.now ≤ 9018 }
-    ensures frames { OnOk result (O.parcels outlet.new ≡ behind (O.parcels outlet.old) (decided vni frame.now (Some decision.now))) }
+    ensures frames { OnOk result (O.parcels outlet.new
+        ≡ behind (O.parcels outlet.old) (decided vni frame.now (Some decision.now))) }
     ensures records { O.records outlet.new ≡ O.records outlet.old }
 {
     give_ports(outlet, decision.local, frame)?;
@@ -68,9 +72,9 @@ fn give_decided<O: Outlet>(
     give_edges(outlet, edges, &scratch[..size])
 }
 
-/// Gives what a reply gives out to the links of its edge: each BPDU to its port, in a frame from this
-/// bridge; then the frame of network `vni`, of at most 9,018 octets, where it was decided to go, to the
-/// ports as it is and to the edges in a datagram.
+/// Gives what a reply gives out to the links of its edge: each BPDU to its port, in a frame from
+/// this bridge; then the frame of network `vni`, of at most 9,018 octets, where it was decided to
+/// go, to the ports as it is and to the edges in a datagram.
 ///
 /// # Errors
 ///
@@ -84,7 +88,8 @@ pub fn give_out<O: Outlet>(
     reply: &Reply,
 ) -> Result<(), NoMemory>
     requires { length frame.now ≤ 9018 }
-    ensures frames { OnOk result (O.parcels outlet.new ≡ behind (O.parcels outlet.old) (parcels_of bridge vni frame.now reply.now)) }
+    ensures frames { OnOk result (O.parcels outlet.new
+        ≡ behind (O.parcels outlet.old) (parcels_of bridge vni frame.now reply.now)) }
     ensures records { O.records outlet.new ≡ O.records outlet.old }
 {
     give_bpdus(outlet, bridge, reply.bpdus.as_slice())?;

@@ -47,7 +47,8 @@ fn datagram_of(output: Output) -> Option<(Addr, Vec<u8>)> {
     }
 }
 
-/// The updates that come over a channel. Clauses see nothing of its ends, so it doesn't tell which came.
+/// The updates that come over a channel. Clauses see nothing of its ends, so it
+/// doesn't tell which came.
 #[derive(Drop)]
 pub(crate) struct UpdateBox<'x, R> {
     pub(crate) rt: &'x R,
@@ -67,7 +68,8 @@ impl<R: Wait> UpdatesIn for UpdateBox<'_, R> {
     }
 }
 
-/// The datagrams that come over a channel. Clauses see nothing of its ends, so it doesn't tell which came.
+/// The datagrams that come over a channel. Clauses see nothing of its ends, so it
+/// doesn't tell which came.
 #[derive(Drop)]
 pub(crate) struct PacketBox<'x, R> {
     pub(crate) rt: &'x R,

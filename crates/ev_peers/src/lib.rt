@@ -1,5 +1,5 @@
-//! Workers of an edge: each enters what comes over its link or channel into the edge's book, and passes
-//! on what the book answers, frames to links and records to the other edges.
+//! Workers of an edge: each enters what comes over its link or channel into the edge's book, and
+//! passes on what the book answers, frames to links and records to the other edges.
 #![tactic(auto)]
 
 mod channels;

@@ -1,5 +1,5 @@
-//! Where the workers of an edge give what the book answers: frames to its links, records to the other
-//! edges.
+//! Where the workers of an edge give what the book answers: frames to its links,
+//! records to the other edges.
 ghost use Rattle.std.specs.Prelude.{◌≡◌, ◌∷◌, [], Option, List, OnOk, IfOk};
 ghost use Rattle.route_wire.specs.Fields.{Fields};
 ghost use Rattle.ev_peers.specs.Giving.{Parcel, parcel, behind};
@@ -38,7 +38,8 @@ pub trait Outlet {
     ///
     /// Where memory for it is refused. The frame is lost then.
     fn frame(&mut self, to: Target, octets: &[u8]) -> Result<(), NoMemory>
-        ensures given { OnOk result (parcels self.new ≡ behind (parcels self.old) (parcel to octets.now ∷ [])) }
+        ensures given { OnOk result
+            (parcels self.new ≡ behind (parcels self.old) (parcel to octets.now ∷ [])) }
         ensures records { records self.new ≡ records self.old };
 
     /// Takes a record for each of the other edges.

@@ -16,8 +16,8 @@ use std::sync::ledger::Blank;
 use std::thread;
 use std::thread::{JoinHandle, Scope, Threads};
 
-/// What an edge is opened with, and its links, of 64 ports at most. It is seen as that and as how many
-/// ports those are.
+/// What an edge is opened with, and its links, of 64 ports at most. It is seen as that and as how
+/// many ports those are.
 #[derive(Drop)]
 pub struct Setup<I: Drop, O: Drop> {
     config: EdgeConfig,
@@ -191,7 +191,8 @@ impl<I: Drop, O: Drop> Model for Start<I, O> {
 
     ghost view = { λ s. vec_len s.setups };
 
-    ghost invariant = { λ s. HasEdges (vec_len s.setups) (vec_len s.peers) (vec_len s.running) (vec_capacity s.running) (vec_len s.ended) (vec_capacity s.ended) };
+    ghost invariant = { λ s. HasEdges (vec_len s.setups) (vec_len s.peers) (vec_len s.running)
+        (vec_capacity s.running) (vec_len s.ended) (vec_capacity s.ended) };
 }
 
 /// Starts the edges, waits until `until` has returned and then until all their workers have ended.
@@ -251,9 +252,9 @@ fn run_start<
     )
 }
 
-/// Runs edges beside each other, each on a thread with its workers, until `until` has returned and the
-/// links have ended; it is `until` that makes them end. The outcomes are in the edges' order, with an
-/// error where an edge was refused memory or a thread before it began.
+/// Runs edges beside each other, each on a thread with its workers, until `until` has returned and
+/// the links have ended; it is `until` that makes them end. The outcomes are in the edges' order,
+/// with an error where an edge was refused memory or a thread before it began.
 ///
 /// # Errors
 ///

@@ -99,15 +99,16 @@ impl<L: Ledger, G: Gate, R: Wait> Site<'_, L, G, R> {
         announced_by(&answer, reply)
     }
 
-    /// Asks for the edge's announcements until there is none or one is refused, and gives each to the
-    /// other edges.
+    /// Asks for the edge's announcements until there is none or one is refused, and gives
+    /// each to the other edges.
     fn announce<O: Outlet>(
         &self,
         pass: &mut Pass<L>,
         outlet: &mut O,
         reply: &mut Reply,
     ) -> Result<(), NoMemory>
-        ensures announces { OnOk result (Announces pass.old (O.records outlet.old) pass.new (O.records outlet.new)) }
+        ensures announces { OnOk result
+            (Announces pass.old (O.records outlet.old) pass.new (O.records outlet.new)) }
         ensures parcels { O.parcels outlet.new ≡ O.parcels outlet.old }
     {
         for _ in self.rt.forever() {
@@ -119,8 +120,9 @@ impl<L: Ledger, G: Gate, R: Wait> Site<'_, L, G, R> {
         unreachable!()
     }
 
-    /// Enters an event that carries this frame of network `vni`, of at most 9,018 octets, and passes on what it gives out:
-    /// frames to the links, and then what is to be announced to the other edges.
+    /// Enters an event that carries this frame of network `vni`, of at most 9,018 octets,
+    /// and passes on what it gives out: frames to the links, and then what is to be
+    /// announced to the other edges.
     pub(crate) fn act<O: Outlet>(
         &self,
         pass: &mut Pass<L>,
@@ -131,7 +133,9 @@ impl<L: Ledger, G: Gate, R: Wait> Site<'_, L, G, R> {
         frame: &[u8],
     ) -> Result<(), NoMemory>
         requires { length frame.now ≤ 9018 }
-        ensures { OnOk result (PassesOn self.now.bridge vni frame.now pass.old event.now (O.parcels outlet.old) (O.records outlet.old) pass.new (O.parcels outlet.new) (O.records outlet.new)) }
+        ensures { OnOk result
+            (PassesOn self.now.bridge vni frame.now pass.old event.now (O.parcels outlet.old)
+            (O.records outlet.old) pass.new (O.parcels outlet.new) (O.records outlet.new)) }
     {
         let answer = self.enter(pass, event, &mut scratch.reply);
         give_answer(outlet, scratch, self.bridge, vni, frame, &answer)?;
@@ -172,7 +176,8 @@ fn give_answer<O: Outlet>(
     answer: &Result<(), BookRefusal>,
 ) -> Result<(), NoMemory>
     requires { length frame.now ≤ 9018 }
-    ensures parcels { OnOk result (O.parcels outlet.new ≡ behind (O.parcels outlet.old) (given_by bridge vni frame.now (answered answer.now scratch.old.reply))) }
+    ensures parcels { OnOk result (O.parcels outlet.new ≡ behind (O.parcels outlet.old)
+        (given_by bridge vni frame.now (answered answer.now scratch.old.reply))) }
     ensures records { O.records outlet.new ≡ O.records outlet.old }
 {
     match answer {

@@ -37,8 +37,8 @@ enum Spring<'x, C> {
     Clock(&'x C),
 }
 
-/// What comes to a socket, or the seconds of a clock, until a flag says to stop. An empty datagram wakes
-/// it to look at the flag.
+/// What comes to a socket, or the seconds of a clock, until a flag says to stop. An empty datagram
+/// wakes it to look at the flag.
 #[derive(Drop)]
 pub struct Wire<'x, C> {
     spring: Spring<'x, C>,

@@ -88,7 +88,9 @@ fn enter_datagram<L: Ledger, O: Outlet, G: Gate, R: Wait>(
     from: Addr,
     octets: &[u8],
 ) -> Result<(), NoMemory>
-    ensures { OnOk result (Handles site.now.bridge source.now (standing pass.old (O.parcels outlet.old) (O.records outlet.old)) (arrival from octets.now) (standing pass.new (O.parcels outlet.new) (O.records outlet.new))) }
+    ensures { OnOk result (Handles site.now.bridge source.now
+        (standing pass.old (O.parcels outlet.old) (O.records outlet.old)) (arrival from octets.now)
+        (standing pass.new (O.parcels outlet.new) (O.records outlet.new))) }
 {
     let Some(event) = event_of(source, from, octets) else {
         return Ok(());
@@ -97,7 +99,8 @@ fn enter_datagram<L: Ledger, O: Outlet, G: Gate, R: Wait>(
     site.act(pass, outlet, scratch, &event, vni, frame)
 }
 
-/// Waits for the next datagram of a link and enters it, and answers why the worker ends, if it does.
+/// Waits for the next datagram of a link and enters it, and answers why the
+/// worker ends, if it does.
 fn turn<L: Ledger, I: LinkIn, O: Outlet, G: Gate, R: Wait>(
     site: &Site<'_, L, G, R>,
     pass: &mut Pass<L>,
@@ -109,7 +112,9 @@ fn turn<L: Ledger, I: LinkIn, O: Outlet, G: Gate, R: Wait>(
 ) -> Option<Ended>
     requires { I.failed link.old + 1 < 2 ^ 64 }
     ensures failed { I.failed link.new ≡ I.failed link.old + failures_in result }
-    ensures turns { Turns result site.now.bridge source.now (I.came link.old) (standing pass.old (O.parcels outlet.old) (O.records outlet.old)) (I.came link.new) (standing pass.new (O.parcels outlet.new) (O.records outlet.new)) }
+    ensures turns { Turns result site.now.bridge source.now (I.came link.old)
+        (standing pass.old (O.parcels outlet.old) (O.records outlet.old)) (I.came link.new)
+        (standing pass.new (O.parcels outlet.new) (O.records outlet.new)) }
 {
     match link.recv(buffer) {
         Ok(Some((from, size))) => {
@@ -124,8 +129,8 @@ fn turn<L: Ledger, I: LinkIn, O: Outlet, G: Gate, R: Wait>(
     }
 }
 
-/// Enters what comes over a link until it ends or fails. One octet more than the longest datagram has
-/// room, so that none is cut to a shorter one that would be taken for whole.
+/// Enters what comes over a link until it ends or fails. One octet more than the longest datagram
+/// has room, so that none is cut to a shorter one that would be taken for whole.
 fn link_worker<L: Ledger, I: LinkIn, O: Outlet, G: Gate, R: Wait>(
     site: &Site<'_, L, G, R>,
     pass: &mut Pass<L>,
@@ -134,7 +139,9 @@ fn link_worker<L: Ledger, I: LinkIn, O: Outlet, G: Gate, R: Wait>(
     source: &Source,
 ) -> Ended
     ensures failed { I.failed link.new ≡ I.failed link.old + failures_told result }
-    ensures works { Ends result site.now.bridge source.now (I.failed link.new) (I.came link.old) (standing pass.old (O.parcels outlet.old) (O.records outlet.old)) (I.came link.new) (standing pass.new (O.parcels outlet.new) (O.records outlet.new)) }
+    ensures works { Ends result site.now.bridge source.now (I.failed link.new) (I.came link.old)
+        (standing pass.old (O.parcels outlet.old) (O.records outlet.old)) (I.came link.new)
+        (standing pass.new (O.parcels outlet.new) (O.records outlet.new)) }
 {
     let mut scratch = Scratch::new();
     let mut buffer = [0u8; 9027];
@@ -162,7 +169,9 @@ pub fn port_worker<L: Ledger, I: LinkIn, O: Outlet, G: Gate, R: Wait>(
     vni: Vni,
 ) -> Ended
     ensures failed { I.failed link.new ≡ I.failed link.old + failures_told result }
-    ensures works { PortEnds result site.now.bridge port vni (I.failed link.new) (I.came link.old) (standing pass.old (O.parcels outlet.old) (O.records outlet.old)) (I.came link.new) (standing pass.new (O.parcels outlet.new) (O.records outlet.new)) }
+    ensures works { PortEnds result site.now.bridge port vni (I.failed link.new) (I.came link.old)
+        (standing pass.old (O.parcels outlet.old) (O.records outlet.old)) (I.came link.new)
+        (standing pass.new (O.parcels outlet.new) (O.records outlet.new)) }
 {
     let mut scratch = Scratch::new();
     let up = site.act(pass, outlet, &mut scratch, &Event::PortUp(port), vni, &[]);
@@ -182,7 +191,9 @@ pub fn tunnel_worker<L: Ledger, I: LinkIn, O: Outlet, G: Gate, R: Wait>(
     link: &mut I,
 ) -> Ended
     ensures failed { I.failed link.new ≡ I.failed link.old + failures_told result }
-    ensures works { Ends result site.now.bridge Tunnel (I.failed link.new) (I.came link.old) (standing pass.old (O.parcels outlet.old) (O.records outlet.old)) (I.came link.new) (standing pass.new (O.parcels outlet.new) (O.records outlet.new)) }
+    ensures works { Ends result site.now.bridge Tunnel (I.failed link.new) (I.came link.old)
+        (standing pass.old (O.parcels outlet.old) (O.records outlet.old)) (I.came link.new)
+        (standing pass.new (O.parcels outlet.new) (O.records outlet.new)) }
 {
     link_worker(site, pass, outlet, link, &Source::Tunnel)
 }
@@ -197,7 +208,9 @@ pub fn clock_worker<L: Ledger, I: LinkIn, O: Outlet, G: Gate, R: Wait>(
     clock: &mut I,
 ) -> Ended
     ensures failed { I.failed clock.new ≡ I.failed clock.old + failures_told result }
-    ensures works { Ends result site.now.bridge Clock (I.failed clock.new) (I.came clock.old) (standing pass.old (O.parcels outlet.old) (O.records outlet.old)) (I.came clock.new) (standing pass.new (O.parcels outlet.new) (O.records outlet.new)) }
+    ensures works { Ends result site.now.bridge Clock (I.failed clock.new) (I.came clock.old)
+        (standing pass.old (O.parcels outlet.old) (O.records outlet.old)) (I.came clock.new)
+        (standing pass.new (O.parcels outlet.new) (O.records outlet.new)) }
 {
     link_worker(site, pass, outlet, clock, &Source::Clock)
 }
@@ -209,7 +222,9 @@ pub fn peer_worker<L: Ledger, I: UpdatesIn, O: Outlet, G: Gate, R: Wait>(
     outlet: &mut O,
     updates: &mut I,
 ) -> Ended
-    ensures { PeerEnds result site.now.bridge (I.came updates.old) (standing pass.old (O.parcels outlet.old) (O.records outlet.old)) (I.came updates.new) (standing pass.new (O.parcels outlet.new) (O.records outlet.new)) }
+    ensures { PeerEnds result site.now.bridge (I.came updates.old)
+        (standing pass.old (O.parcels outlet.old) (O.records outlet.old)) (I.came updates.new)
+        (standing pass.new (O.parcels outlet.new) (O.records outlet.new)) }
 {
     let mut scratch = Scratch::new();
     for _ in site.rt.forever() {
@@ -227,7 +242,8 @@ pub fn peer_worker<L: Ledger, I: UpdatesIn, O: Outlet, G: Gate, R: Wait>(
 /// Sends a datagram, and answers how many were lost in a failed call.
 fn send_one<O: LinkOut>(link: &mut O, to: Addr, octets: &[u8]) -> u64
     requires { O.failed link.old + 1 < 2 ^ 64 }
-    ensures sends { Sends (gone (O.sent link.old) (O.failed link.old)) (packet to octets.now) (gone (O.sent link.new) (O.failed link.new)) }
+    ensures sends { Sends (gone (O.sent link.old) (O.failed link.old)) (packet to octets.now)
+        (gone (O.sent link.new) (O.failed link.new)) }
     ensures lost { O.failed link.new ≡ O.failed link.old + result }
 {
     match link.send(to, octets) {
@@ -236,11 +252,12 @@ fn send_one<O: LinkOut>(link: &mut O, to: Addr, octets: &[u8]) -> u64
     }
 }
 
-/// Sends the datagrams that workers give for a link, until there are no more, and answers how many of
-/// them were lost in a failed call.
+/// Sends the datagrams that workers give for a link, until there are no more, and answers how many
+/// of them were lost in a failed call.
 pub fn out_worker<I: PacketsIn, O: LinkOut, R: Wait>(rt: &R, link: &mut O, packets: &mut I) -> u64
     ensures lost { O.failed link.new ≡ O.failed link.old + result }
-    ensures sends { OutEnds (I.came packets.old) (gone (O.sent link.old) (O.failed link.old)) (I.came packets.new) (gone (O.sent link.new) (O.failed link.new)) }
+    ensures sends { OutEnds (I.came packets.old) (gone (O.sent link.old) (O.failed link.old))
+        (I.came packets.new) (gone (O.sent link.new) (O.failed link.new)) }
 {
     let mut lost = 0;
     for _ in rt.forever() {

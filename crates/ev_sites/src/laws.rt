@@ -9,7 +9,8 @@ ghost use Rattle.ev_sites.specs.Sites.{
 
 use rstp_net::laws::{can_be_at_rest, no_circle};
 
-/// In a network at rest, a frame that a bridge sent onto a segment never comes in at that bridge again.
+/// In a network at rest, a frame that a bridge sent onto a segment never comes in
+/// at that bridge again.
 pub fn never_back_to_its_bridge()
     ensures { NeverBackToItsBridge }
 {

@@ -12,7 +12,8 @@ use vxlan_wire::{Refusal, header, read, written_header_is_read};
 pub fn wrap(buffer: &mut [u8; 9026], vni: Vni, frame: &[u8]) -> usize
     requires { length frame.now ≤ 9018 }
     ensures size { result ≡ 8 + length frame.now }
-    ensures octets { buffer.new ≡ datagram_of vni frame.now ++ drop (8 + length frame.now) buffer.old }
+    ensures octets { buffer.new
+        ≡ datagram_of vni frame.now ++ drop (8 + length frame.now) buffer.old }
 {
     let size = 8 + frame.len();
     buffer[..8].copy_from_slice(&header(vni));

@@ -131,11 +131,11 @@ fn put_remote(
 /// Decides where a frame of network `vni` goes. `entry` is the port where its destination was
 /// learnt, `members` are the network's ports, `passing` the ports that pass, `own` is this edge.
 ///
-/// A frame for a group address, or for one that is neither learnt nor owned by another edge, goes to
-/// all members that pass but the one that it came from, and from a port to all other edges that
+/// A frame for a group address, or for one that is neither learnt nor owned by another edge, goes
+/// to all members that pass but the one that it came from, and from a port to all other edges that
 /// advertise the network's flood list. A frame for a learnt address goes to that port alone, if it
-/// passes and the frame didn't come from it. A frame for an address that another edge owns goes from
-/// a port to that edge alone. No frame goes from a tunnel into a tunnel.
+/// passes and the frame didn't come from it. A frame for an address that another edge owns goes
+/// from a port to that edge alone. No frame goes from a tunnel into a tunnel.
 pub fn decide(
     destination: Mac,
     vni: Vni,
@@ -148,7 +148,8 @@ pub fn decide(
 ) -> Decision
     requires from { IsFrom from }
     requires entry { ForSome entry IsPort }
-    ensures local { result.local ≡ local_for table.now vni destination entry own from members passing }
+    ensures local { result.local
+        ≡ local_for table.now vni destination entry own from members passing }
     ensures remote { result.remote.items ≡ remote_for table.now vni destination entry own from }
 {
     let mut decision = Decision {
@@ -184,8 +185,10 @@ pub fn decide_into(
 )
     requires from { IsFrom from }
     requires entry { ForSome entry IsPort }
-    ensures local { decision.new.local ≡ local_for table.now vni destination entry own from members passing }
-    ensures remote { decision.new.remote.items ≡ remote_for table.now vni destination entry own from }
+    ensures local { decision.new.local
+        ≡ local_for table.now vni destination entry own from members passing }
+    ensures remote { decision.new.remote.items
+        ≡ remote_for table.now vni destination entry own from }
 {
     let place = place_of(destination, vni, entry, table, own);
     let ports = Ports { members, passing };

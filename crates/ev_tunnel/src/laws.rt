@@ -36,7 +36,8 @@ pub fn never_back(
     passing: u64,
 )
     requires { IsPort port }
-    ensures { has_port (local_for table.now vni destination entry own (Port port) members passing) port ≡ false }
+    ensures { has_port (local_for table.now vni destination entry own (Port port) members passing)
+        port ≡ false }
 {}
 
 /// Only members that pass get a frame, where a destination is learnt at members alone.
@@ -51,7 +52,8 @@ pub fn members_that_pass(
     passing: u64,
 )
     requires { ForSome entry (λ q. has_port members q ≡ true) }
-    ensures { ArePassing members passing (local_for table.now vni destination entry own from members passing) }
+    ensures { ArePassing members passing
+        (local_for table.now vni destination entry own from members passing) }
 {}
 
 /// A frame for an individual address that is learnt or owned by another edge goes to one place at
@@ -67,9 +69,13 @@ pub fn known_goes_to_one_place(
     passing: u64,
 )
     requires { place_of destination entry (owner table.now vni destination) own ≢ Everywhere }
-    ensures port { (p : ℕ) → has_port (local_for table.now vni destination entry own from members passing) p ≡ true → entry ≡ Some p }
-    ensures edge { (o : ℕ) → Contains (remote_for table.now vni destination entry own from) o → owner table.now vni destination ≡ Some o }
-    ensures one { IsOneCopy (local_for table.now vni destination entry own from members passing) (remote_for table.now vni destination entry own from) }
+    ensures port { (p : ℕ)
+        → has_port (local_for table.now vni destination entry own from members passing) p ≡ true
+        → entry ≡ Some p }
+    ensures edge { (o : ℕ) → Contains (remote_for table.now vni destination entry own from) o
+        → owner table.now vni destination ≡ Some o }
+    ensures one { IsOneCopy (local_for table.now vni destination entry own from members passing)
+        (remote_for table.now vni destination entry own from) }
 {}
 
 /// A frame from a port that is flooded goes to exactly the other edges that advertise the network's
@@ -83,7 +89,8 @@ pub fn others_that_advertise(
     own: Addr,
 )
     requires { place_of destination entry (owner table.now vni destination) own ≡ Everywhere }
-    ensures { AreOthers table.now vni own (remote_for table.now vni destination entry own (Port port)) }
+    ensures { AreOthers table.now vni own
+        (remote_for table.now vni destination entry own (Port port)) }
 {
     let _flood = table.flood(vni);
 }

@@ -42,7 +42,8 @@ fn tell_refusal<N: Out>(alloc: Global, text: &str, key: Option<&str>, notes: &mu
 fn check_text<W: Out, N: Out>(alloc: Global, text: &str, mut out: W, mut notes: N) -> (u8, W, N)
     requires out { IsOpen (W.end out) }
     requires notes { IsOpen (N.end notes) }
-    ensures { ChecksText text.now (W.end out) (N.end notes) (W.end result.1) (N.end result.2) result.0 }
+    ensures { ChecksText text.now (W.end out) (N.end notes) (W.end result.1)
+        (N.end result.2) result.0 }
 {
     match config_of(alloc, text, false) {
         Ok(config) => (sum_up(&config, &mut out), out, notes),

@@ -67,7 +67,8 @@ pub(crate) fn configured<F: Files, N: Out>(
 ) -> Result<Config, u8>
     requires files { HasRoom (F.shelf files.old) }
     requires notes { IsOpen (N.end notes.old) }
-    ensures value { FileGives for_run path.now (F.shelf files.old) (F.shelf files.new) (N.end notes.old) (N.end notes.new) result }
+    ensures value { FileGives for_run path.now (F.shelf files.old) (F.shelf files.new)
+        (N.end notes.old) (N.end notes.new) result }
     ensures opens { IfOk result (λ c. AreConfigs c.edges.items) }
 {
     match files.text_of(path) {

@@ -1,5 +1,5 @@
-//! The migration of records of versions 1 and 2, in which the IP address was a part of what is said,
-//! to version 3, in which it is a part of the key.
+//! The migration of records of versions 1 and 2, in which the IP address was a part of what is
+//! said, to version 3, in which it is a part of the key.
 ghost use Rattle.std.specs.Prelude.{◌≡◌, ◌+◌, ◌<◌, ◌^◌, ◌||◌, true, false, drop, if◌then◌else◌, []};
 ghost use Rattle.ether_wire.specs.Ends.{IsOpen, Allows, Puts};
 ghost use Rattle.route_wire.specs.Order.{ip_version, ip_number, ip_cmp, ip_of, rank_of, sequence_of, label2_of};
@@ -123,8 +123,8 @@ fn newer(newest: &Update, update: &Update) -> Update
     }
 }
 
-/// Goes behind the updates of the old register whose first one is given, and behind the first of the
-/// next: the newest of them.
+/// Goes behind the updates of the old register whose first one is given, and behind the first of
+/// the next: the newest of them.
 fn newest_along(first: &Update, ahead: &mut Updates<'_>) -> Update
     ensures newest { result ≡ newest_along first.now ahead.old }
     ensures ahead { ahead.new ≡ drop 1 (behind first.now ahead.old) }
@@ -139,8 +139,8 @@ fn newest_along(first: &Update, ahead: &mut Updates<'_>) -> Update
     newest
 }
 
-/// The newest of an update's old register, where `newest` is that of the update before: where the old
-/// register is another one, it goes behind that.
+/// The newest of an update's old register, where `newest` is that of the update before: where the
+/// old register is another one, it goes behind that.
 fn entered(newest: &Update, update: &Update, ahead: &mut Updates<'_>) -> Update
     ensures same { is_same_old newest.now.register update.now.register ≡ true
         → (result ≡ newest.now) × (ahead.new ≡ ahead.old) }
@@ -216,15 +216,16 @@ fn put_unless<W: Out>(is_withheld: bool, table: &Table, out: &mut W) -> Result<(
     put_migrated(table, out)
 }
 
-/// Reads update records of versions 1 and 2 up to the reader's end or the first fault (version 3 is
-/// the fault 2), and writes records of version 3 for those that were taken, in the order of a report.
-/// In the earlier versions an originator's newest update of a MAC address replaced what it had said of
-/// any IP address of it: that update is written as it is, and each other IP address that some update
-/// names is withdrawn with its incarnation and counter, so that no replaced address comes back.
+/// Reads update records of versions 1 and 2 up to the reader's end or the first fault (version 3
+/// is the fault 2), and writes records of version 3 for those that were taken, in the order of a
+/// report. In the earlier versions an originator's newest update of a MAC address replaced what
+/// it had said of any IP address of it: that update is written as it is, and each other IP
+/// address that some update names is withdrawn with its incarnation and counter, so that no
+/// replaced address comes back.
 ///
 /// Notes and statuses are those of `report_run`. Nothing is written where a read failed, 2^40 reads
-/// didn't reach the end, or there was no memory for an update: what was taken isn't all then. A fault
-/// or a cut record doesn't hold back what stood before it. The input takes no memory.
+/// didn't reach the end, or there was no memory for an update: what was taken isn't all then. A
+/// fault or a cut record doesn't hold back what stood before it. The input takes no memory.
 pub fn migrate_run<R: In, W: Out, N: Out>(
     alloc: Global,
     originators: ArrayVec<Addr, 64>,
@@ -251,9 +252,9 @@ pub fn migrate_run<R: In, W: Out, N: Out>(
     status(has_failed, is_starved, is_broken)
 }
 
-/// `migrate_run` with few and large writes: it takes the writers, and gives them back once they have
-/// all that was to be written, or a call of theirs has failed. A failure at the end counts as any
-/// other.
+/// `migrate_run` with few and large writes: it takes the writers, and gives them back once
+/// they have all that was to be written, or a call of theirs has failed. A failure at the end
+/// counts as any other.
 pub fn migrate_buffered<R: In, W: Out, N: Out>(
     alloc: Global,
     originators: ArrayVec<Addr, 64>,

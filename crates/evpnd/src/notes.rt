@@ -14,7 +14,8 @@ fn put_line<N: Out>(
     other: u64,
 ) -> Result<(), Device>
     requires { IsOpen (N.end notes.old) }
-    ensures { Puts (N.end notes.old) (N.end notes.new) (line first.now number second.now other) result }
+    ensures { Puts (N.end notes.old) (N.end notes.new)
+        (line first.now number second.now other) result }
 {
     notes.put(first)?;
     put_decimal(notes, number)?;

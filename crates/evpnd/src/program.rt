@@ -60,7 +60,8 @@ pub(crate) fn tell<N: Out>(text: &[u8], notes: &mut N) -> u8
 /// Tells which part of a list is wrong.
 fn tell_list<N: Out>(wrong: WrongPart<'_>, notes: &mut N) -> u8
     requires { IsOpen (N.end notes.old) }
-    ensures { IsTold (list_text (wrong.entry.part.now, wrong.entry.fault)) (N.end notes.old) (N.end notes.new) result }
+    ensures { IsTold (list_text (wrong.entry.part.now, wrong.entry.fault))
+        (N.end notes.old) (N.end notes.new) result }
 {
     usage_status(put_wrong_part(notes, wrong))
 }
@@ -69,7 +70,8 @@ fn tell_list<N: Out>(wrong: WrongPart<'_>, notes: &mut N) -> u8
 fn tell_fault<P: Parser, N: Out>(parser: &mut P, error: &Error, notes: &mut N) -> u8
     requires parser { P.refusals parser.old + 1 < 2 ^ 64 }
     requires notes { IsOpen (N.end notes.old) }
-    ensures { TellsFault (P.refusals parser.old) (P.refusals parser.new) (N.end notes.old) (N.end notes.new) result }
+    ensures { TellsFault (P.refusals parser.old) (P.refusals parser.new)
+        (N.end notes.old) (N.end notes.new) result }
 {
     match parser.text_of(error) {
         Ok(text) => tell(text.as_str().as_bytes(), notes),
@@ -133,7 +135,8 @@ fn follow<H: Threads + Wait + Net + Clock + Sync, F: Files, R: In, W: Out, N: Ou
     requires notes { IsOpen (N.end notes) }
     ensures { Follows (parts_of order.entry)
         (desk (F.shelf files.old) (devices (R.end reader.old) (W.end out) (N.end notes)))
-        (desk (F.shelf files.new) (devices (R.end reader.new) (W.end result.1) (N.end result.2))) result.0 }
+        (desk (F.shelf files.new) (devices (R.end reader.new) (W.end result.1) (N.end result.2)))
+        result.0 }
 {
     match order.subcommand {
         Subcommand::Report => report(alloc, order.value, reader, out, notes),
@@ -161,8 +164,10 @@ fn run_words<H: Threads + Wait + Net + Clock + Sync, P: Parser, F: Files, R: In,
     requires out { IsOpen (W.end out) }
     requires notes { IsOpen (N.end notes) }
     ensures { RunsWords (map string_bytes words.now)
-        (world (P.refusals parser.old) (F.shelf files.old) (R.end reader.old) (W.end out) (N.end notes))
-        (world (P.refusals parser.new) (F.shelf files.new) (R.end reader.new) (W.end result.1) (N.end result.2)) result.0 }
+        (world (P.refusals parser.old) (F.shelf files.old) (R.end reader.old) (W.end out)
+        (N.end notes))
+        (world (P.refusals parser.new) (F.shelf files.new) (R.end reader.new) (W.end result.1)
+        (N.end result.2)) result.0 }
 {
     match order_of(parser, words) {
         Ok(order) => follow(rt, alloc, order, files, reader, out, notes),
@@ -200,8 +205,10 @@ pub(crate) fn run<
     requires out { IsOpen (W.end out) }
     requires notes { IsOpen (N.end notes) }
     ensures { RunsProgram line.now
-        (world (P.refusals parser.old) (F.shelf files.old) (R.end reader.old) (W.end out) (N.end notes))
-        (world (P.refusals parser.new) (F.shelf files.new) (R.end reader.new) (W.end result.1) (N.end result.2)) result.0 }
+        (world (P.refusals parser.old) (F.shelf files.old) (R.end reader.old) (W.end out)
+        (N.end notes))
+        (world (P.refusals parser.new) (F.shelf files.new) (R.end reader.new) (W.end result.1)
+        (N.end result.2)) result.0 }
 {
     match line {
         Line::Words(words) => run_words(

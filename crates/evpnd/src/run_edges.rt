@@ -1,5 +1,5 @@
-//! Edges that carry frames: each on its address at UDP port 4789, its access ports at sockets of their
-//! own, until the input ends.
+//! Edges that carry frames: each on its address at UDP port 4789, its access ports at sockets of
+//! their own, until the input ends.
 ghost use Rattle.std.specs.Prelude.{◌≡◌, ◌+◌, ◌≤◌, ◌^◌, ◌||◌, not, nat_lt, vec_len, vec_capacity, IfOk, OnErr};
 ghost use Rattle.ether_wire.specs.Ends.{IsOpen, Allows};
 ghost use Rattle.ev_fabric.specs.Opening.{AreConfigs};
@@ -158,7 +158,8 @@ fn sum_of(ended: &[Result<Outcome, AllocError>]) -> Sum {
 
 /// Whether a device failed.
 fn has_failed(sum: Sum, is_read: bool, is_told: bool, is_noted: bool) -> bool
-    ensures { result ≡ (((not is_read || sum.is_device) || nat_lt 0 sum.lost) || (not is_told || not is_noted)) }
+    ensures { result
+        ≡ (((not is_read || sum.is_device) || nat_lt 0 sum.lost) || (not is_told || not is_noted)) }
 {
     !is_read || sum.is_device || sum.lost > 0 || !is_told || !is_noted
 }
@@ -172,7 +173,8 @@ fn tell_ended<W: Out, N: Out>(
 ) -> u8
     requires out { IsOpen (W.end out.old) }
     requires notes { IsOpen (N.end notes.old) }
-    ensures { TellsEnded is_read (W.end out.old) (W.end out.new) (N.end notes.old) (N.end notes.new) result }
+    ensures { TellsEnded is_read (W.end out.old) (W.end out.new)
+        (N.end notes.old) (N.end notes.new) result }
 {
     let sum = sum_of(ended);
     let is_told = put_reports(out, ended);
@@ -199,7 +201,8 @@ fn run_bound<R: Threads + Wait + Clock + Sync, E: In, W: Out, N: Out>(
     requires reader { Allows (2 ^ 40) (E.end reader.old) }
     requires out { IsOpen (W.end out.old) }
     requires notes { IsOpen (N.end notes.old) }
-    ensures ran { IfOk result (λ status. Ran (devices (E.end reader.old) (W.end out.old) (N.end notes.old))
+    ensures ran { IfOk result
+        (λ status. Ran (devices (E.end reader.old) (W.end out.old) (N.end notes.old))
         (devices (E.end reader.new) (W.end out.new) (N.end notes.new)) status) }
     ensures out { OnErr result (W.end out.new ≡ W.end out.old) }
     ensures notes { OnErr result (N.end notes.new ≡ N.end notes.old) }
@@ -241,13 +244,13 @@ fn tell_unbound<N: Out>(unbound: Unbound, notes: &mut N) -> u8
     }
 }
 
-/// Runs the edges of a configuration, each on a thread with its workers, until the reader ends; then
-/// writes `edge E` and the report of each edge, and on `notes` `lost N` where N sends failed. What is
-/// read is ignored.
+/// Runs the edges of a configuration, each on a thread with its workers, until the reader ends;
+/// then writes `edge E` and the report of each edge, and on `notes` `lost N` where N sends failed.
+/// What is read is ignored.
 ///
-/// The status is the greatest that applies: 4 where a device failed, be it a reader, a writer, a link or
-/// a socket that can't be bound; 3 where memory or a thread was refused; else 0. Where a socket can't be
-/// bound no edge begins, and a line on `notes` says which address, and why.
+/// The status is the greatest that applies: 4 where a device failed, be it a reader, a writer, a
+/// link or a socket that can't be bound; 3 where memory or a thread was refused; else 0. Where a
+/// socket can't be bound no edge begins, and a line on `notes` says which address, and why.
 pub(crate) fn run_edges<R: Threads + Wait + Net + Clock + Sync, E: In, W: Out, N: Out>(
     rt: &R,
     alloc: Global,

@@ -38,7 +38,8 @@ fn put_bad_line<N: Out>(line: Option<u64>, notes: &mut N) -> Result<(), Device>
 fn play<W: Out, N: Out>(fabric: Fabric, script: &[u8], out: &mut W, notes: &mut N) -> u8
     requires out { IsOpen (W.end out.old) }
     requires notes { IsOpen (N.end notes.old) }
-    ensures { PlaysOn fabric script.now (W.end out.old) (W.end out.new) (N.end notes.old) (N.end notes.new) result }
+    ensures { PlaysOn fabric script.now (W.end out.old) (W.end out.new)
+        (N.end notes.old) (N.end notes.new) result }
 {
     let mut player = Player::new(fabric);
     let bad = player.play(script, out);
@@ -58,7 +59,8 @@ fn open_and_play<W: Out, N: Out>(
     requires configs { AreConfigs configs.items }
     requires out { IsOpen (W.end out.old) }
     requires notes { IsOpen (N.end notes.old) }
-    ensures { PlaysRead configs.items (Ok script.now) (W.end out.old) (W.end out.new) (N.end notes.old) (N.end notes.new) result }
+    ensures { PlaysRead configs.items (Ok script.now) (W.end out.old) (W.end out.new)
+        (N.end notes.old) (N.end notes.new) result }
 {
     match Fabric::new(alloc, configs) {
         Ok(fabric) => play(fabric, script, out, notes),
@@ -97,17 +99,17 @@ fn read_and_play<R: In, W: Out, N: Out>(
     }
 }
 
-/// Reads a whole script, and then runs its lines, one after the other, on a fabric of edges that are
-/// opened with these configurations. Each command's lines come on `out`. The first line outside the
-/// grammar ends the run: `notes` gets `line N bad`; what stood before it has been run, and its lines
-/// stay.
+/// Reads a whole script, and then runs its lines, one after the other, on a fabric of edges that
+/// are opened with these configurations. Each command's lines come on `out`. The first line
+/// outside the grammar ends the run: `notes` gets `line N bad`; what stood before it has been
+/// run, and its lines stay.
 ///
-/// Where the script can't be read to its end, or there is no memory for it or for the edges, nothing
-/// is run. Where a call of `out` fails, no further one is made, and the script is run on.
+/// Where the script can't be read to its end, or there is no memory for it or for the edges,
+/// nothing is run. Where a call of `out` fails, no further one is made, and the script is run on.
 ///
 /// The status is the greatest that applies: 4 where a read or a write failed, or 2^40 reads didn't
-/// reach the end, 3 where memory was refused to the script, to the edges or to a step, 1 where a line
-/// is outside the grammar, else 0.
+/// reach the end, 3 where memory was refused to the script, to the edges or to a step, 1 where a
+/// line is outside the grammar, else 0.
 pub(crate) fn simulate_run<R: In, W: Out, N: Out>(
     alloc: Global,
     configs: Vec<EdgeConfig>,

@@ -267,7 +267,8 @@ pub(crate) trait Parser {
     /// exactly where memory was refused once more.
     fn parse<'a>(&mut self, words: &'a [String]) -> Result<ArgMatches<'a>, Error>
         requires { refusals self.old + 1 < 2 ^ 64 }
-        ensures { Parses (map string_bytes words.entry.now) (refusals self.old) (refusals self.new) result };
+        ensures { Parses (map string_bytes words.entry.now)
+            (refusals self.old) (refusals self.new) result };
 
     /// The text of an error for the user. It fails exactly where memory was refused once more.
     fn text_of(&mut self, error: &Error) -> Result<String, AllocError>
@@ -331,7 +332,8 @@ pub(crate) fn order_of<'a, P: Parser>(
     words: &'a [String],
 ) -> Result<Order<'a>, Refusal>
     requires { P.refusals parser.old + 1 < 2 ^ 64 }
-    ensures { Orders (map string_bytes words.entry.now) (P.refusals parser.old) (P.refusals parser.new) result }
+    ensures { Orders (map string_bytes words.entry.now)
+        (P.refusals parser.old) (P.refusals parser.new) result }
 {
     match parser.parse(words) {
         Ok(matches) => match order_in(&matches) {

@@ -9,9 +9,10 @@ use std::marker::Model;
 
 /// `K` independent families of doubly linked lists over one arena of nodes.
 ///
-/// A node is a number below the arena's size. In each family it is on one list at most, and on which
-/// one says nothing about the other families. Families, and the lists of a family, are numbered from 0.
-/// Only `new` and `grow` take memory; every other call does a constant number of steps.
+/// A node is a number below the arena's size. In each family it is on one list at most,
+/// and on which one says nothing about the other families. Families, and the lists of a
+/// family, are numbered from 0. Only `new` and `grow` take memory; every other call does a
+/// constant number of steps.
 #[derive(Drop)]
 pub struct Family<const K: usize> {
     nodes: usize,
@@ -33,8 +34,8 @@ impl<const K: usize> Model for Family<K> {
 }
 
 impl<const K: usize> Family<K> {
-    /// Empty lists, so many in each family, over nodes that are on none of them. Refused where the lists
-    /// and the nodes of all families are too many for numbers of 32 bits, too.
+    /// Empty lists, so many in each family, over nodes that are on none of them. Refused where the
+    /// lists and the nodes of all families are too many for numbers of 32 bits, too.
     pub fn new(alloc: Global, lists: [usize; K], nodes: usize) -> Result<Self, AllocError>
         ensures nodes { IfOk result (λ f. f.nodes ≡ nodes) }
         ensures lists { IfOk result

@@ -9,7 +9,8 @@ use std::marker::Model;
 
 /// Doubly linked lists over one arena of nodes. A node is on one list at most.
 ///
-/// List `l` is a ring through place `l`, its sentinel; node `n` is at the place `n` past the sentinels.
+/// List `l` is a ring through place `l`, its sentinel; node `n` is at the place
+/// `n` past the sentinels.
 #[derive(Drop)]
 pub(crate) struct LinkedLists {
     places: Places,
@@ -117,8 +118,8 @@ impl LinkedLists {
         self.places.leave(list, place);
     }
 
-    /// Gives the lists so many nodes at least. A new node is on no list. Refused where lists and nodes
-    /// are too many for numbers of 32 bits, too.
+    /// Gives the lists so many nodes at least. A new node is on no list. Refused where lists and
+    /// nodes are too many for numbers of 32 bits, too.
     pub(crate) fn grow(&mut self, nodes: usize) -> Result<(), AllocError>
         ensures lists { self.new.lists ≡ self.old.lists }
         ensures kept { self.old.nodes ≤ self.new.nodes }

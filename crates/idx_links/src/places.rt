@@ -9,19 +9,20 @@ use std::marker::Model;
 // Places are fewer than this, so that their numbers and the lists' lengths have 32 bits.
 const LIMIT: usize = 0xffff_ffff;
 
-// What is known of one place. 12 octets, so that a node's three places in `mac_arena` have 36, on one or two cache lines
-// of 64: the fewer octets a large table has, the more of it stays in the caches.
+// What is known of one place. 12 octets, so that a node's three places in `mac_arena` have
+// 36, on one or two cache lines of 64: the fewer octets a large table has, the more of it
+// stays in the caches.
 #[derive(Clone, Copy)]
 struct Link {
     next: u32,
     prev: u32,
-    // Of a list's own place, how many nodes the list has. Of a node's place, one more than the list that it is on; 0
-    // where it is on none.
+    // Of a list's own place, how many nodes the list has. Of a node's place, one more than the list
+    // that it is on; 0 where it is on none.
     mark: u32,
 }
 
-/// Places in rings, the first of which are the lists' own, and the others the nodes'. All that is known of a place stands
-/// together.
+/// Places in rings, the first of which are the lists' own, and the others the nodes'. All that is
+/// known of a place stands together.
 #[derive(Drop)]
 pub(crate) struct Places {
     lists: usize,
@@ -42,7 +43,8 @@ impl Model for Places {
 }
 
 impl Places {
-    /// Each place leads to itself, and is on no list. Refused where the places are too many for 32 bits.
+    /// Each place leads to itself, and is on no list. Refused where the places are
+    /// too many for 32 bits.
     pub(crate) fn new(alloc: Global, lists: usize, nodes: usize) -> Result<Places, AllocError>
         ensures next { IfOk result (λ p. p.next ≡ range_with_len 0 (lists + nodes)) }
         ensures prev { IfOk result (λ p. p.prev ≡ range_with_len 0 (lists + nodes)) }
@@ -152,8 +154,8 @@ impl Places {
         self.links[list].mark -= 1;
     }
 
-    /// Makes so many places, unless there are as many. A new one leads to itself, and is on no list.
-    /// Refused where they are too many for 32 bits, too.
+    /// Makes so many places, unless there are as many. A new one leads to itself, and is on no
+    /// list. Refused where they are too many for 32 bits, too.
     pub(crate) fn grow(&mut self, places: usize) -> Result<(), AllocError>
         ensures next { OnOk result
             (self.new.next ≡ self.old.next ++ range_with_len (length self.old.next)

@@ -28,7 +28,10 @@ impl Model for Slot {
 
     ghost Value = { Option Learned };
 
-    ghost view = { λ s. learned_in s.taken record { station = record { vni = s.vni; mac = s.mac }; entry = record { port = s.port; last = s.last; pinned = s.pinned } } };
+    ghost view = { λ s. learned_in s.taken record {
+      station = record { vni = s.vni; mac = s.mac };
+      entry = record { port = s.port; last = s.last; pinned = s.pinned };
+    } };
 }
 
 impl Slot {

@@ -1,4 +1,5 @@
-//! The learning table: a map from stations to their ports, over slots and the orders of their nodes.
+//! The learning table: a map from stations to their ports, over slots and the
+//! orders of their nodes.
 ghost use Rattle.std.specs.Prelude.{◌≡◌, ℕ, ◌+◌, ◌<◌, ◌≤◌, ◌^◌, true, false, Some, None, length, slice_get, IfOk, IfSome, IfNone, MatchOption};
 ghost use Rattle.std.specs.FinMap.{len};
 ghost use Rattle.ether_wire.specs.Ports.{place_of_port};
@@ -30,10 +31,12 @@ pub enum Learnt {
     Full,
 }
 
-/// A learning table: a map from stations to their ports, with the orders that ageing and flushing need.
+/// A learning table: a map from stations to their ports, with the orders that
+/// ageing and flushing need.
 ///
-/// Each station stands at one of as many nodes as the table has room for. A node is on the chain of its
-/// station's bucket, on the list of its port and, unless it is pinned, on the ageing list; or it is free.
+/// Each station stands at one of as many nodes as the table has room for. A node is on the chain
+/// of its station's bucket, on the list of its port and, unless it is pinned, on the ageing
+/// list; or it is free.
 #[derive(Drop)]
 pub struct MacTable {
     orders: NodeOrders,
@@ -100,8 +103,8 @@ impl MacTable {
         self.place().is_none()
     }
 
-    /// The bucket of a station: network and address as one number of 64 bits, mixed with the salt by
-    /// one multiplication, of whose product the upper half counts.
+    /// The bucket of a station: network and address as one number of 64 bits, mixed with the salt
+    /// by one multiplication, of whose product the upper half counts.
     pub fn bucket(&self, key: &Station) -> usize
         ensures { result ≡ bucket_in self.now key.now }
     {
@@ -120,8 +123,8 @@ impl MacTable {
         self.orders.chain_len(bucket)
     }
 
-    /// Who stands at a node, with what is known of it; nobody at a free node. It is a step of a walk over
-    /// all nodes: the caller goes from node to node.
+    /// Who stands at a node, with what is known of it; nobody at a free node. It is a step of a
+    /// walk over all nodes: the caller goes from node to node.
     pub fn walk(&self, node: usize) -> Option<Learned>
         requires { node < length self.now.places }
         ensures { result ≡ learned_at self.now node }
@@ -180,7 +183,8 @@ impl MacTable {
     pub fn first_of(&self, port: u8) -> Option<Station>
         requires some { 0 < port }
         requires port { port ≤ length self.now.ports }
-        ensures { result ≡ first_unpinned self.now (stations_at self.now.ports (place_of_port port)) }
+        ensures { result
+            ≡ first_unpinned self.now (stations_at self.now.ports (place_of_port port)) }
     {
         let list = place_of_port(port);
         let mut at = self.orders.first_at_port(list);
@@ -211,8 +215,8 @@ impl MacTable {
         }
     }
 
-    /// Pins a station on a port, whether it is known or not. Answers false, and changes nothing, where
-    /// it isn't known and there is no room.
+    /// Pins a station on a port, whether it is known or not. Answers false, and changes nothing,
+    /// where it isn't known and there is no room.
     pub fn pin(&mut self, key: &Station, port: u8) -> bool
         requires some { 0 < port }
         requires port { port ≤ length self.old.ports }
@@ -247,8 +251,8 @@ impl MacTable {
         if learned.entry.pinned {
             self.leave(node);
         } else {
-            // `leave` frees nodes that don't age: so the node leaves the ageing list first, as if its
-            // station were pinned.
+            // `leave` frees nodes that don't age: so the node leaves the ageing list first, as if
+            // its station were pinned.
             self.hold(node);
             self.leave(node);
         }
@@ -348,7 +352,8 @@ impl MacTable {
         requires at { learned_at self.old node ≡ Some (standing self.old node) }
         requires pinned { (standing self.old node).entry.pinned ≡ true }
         requires latest { IsLatest self.old second }
-        ensures { let x = standing self.old node in self.new ≡ heard self.old x.station x.entry.port second }
+        ensures { let x = standing self.old node in
+            self.new ≡ heard self.old x.station x.entry.port second }
     {
         self.orders.age(node);
         self.slots[node].hear(second);
@@ -358,7 +363,8 @@ impl MacTable {
     fn hold(&mut self, node: usize)
         requires at { learned_at self.old node ≡ Some (standing self.old node) }
         requires ageing { (standing self.old node).entry.pinned ≡ false }
-        ensures after { let x = standing self.old node in self.new ≡ held self.old x.station x.entry.port }
+        ensures after { let x = standing self.old node in
+            self.new ≡ held self.old x.station x.entry.port }
         ensures at { learned_at self.new node ≡ Some (held_on (standing self.old node)) }
     {
         self.orders.hold(node);
@@ -370,7 +376,8 @@ impl MacTable {
         requires some { 0 < port }
         requires port { port ≤ length self.old.ports }
         requires at { learned_at self.old node ≡ Some (standing self.old node) }
-        ensures after { let x = standing self.old node in self.new ≡ shifted self.old x.station x.entry port }
+        ensures after { let x = standing self.old node in
+            self.new ≡ shifted self.old x.station x.entry port }
         ensures at { learned_at self.new node ≡ Some (shifted_to port (standing self.old node)) }
     {
         self.orders.shift(node, place_of_port(port));

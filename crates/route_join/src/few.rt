@@ -37,8 +37,8 @@ pub(crate) fn wins(one: &Option<Advert>, other: &Option<Advert>, order: Ordering
     }
 }
 
-/// The winner's place, once the update at a place may win too. The order of registers is that of their
-/// places.
+/// The winner's place, once the update at a place may win too. The order of registers is
+/// that of their places.
 #[tactic(auto, using(crate::proofs::Within::wins_alone, crate::proofs::Within::wins_at))]
 fn better_place(updates: &[Update], at: usize, winner: Option<usize>) -> Option<usize>
     requires { IsOrdered updates.now }
@@ -107,8 +107,8 @@ fn moved(at: usize, winner: Option<usize>) -> Option<usize>
     }
 }
 
-/// Inserts an update at a place. A full group grows by a sixteenth: groups are small and many, and to
-/// double each would leave a third of a large table's memory unused.
+/// Inserts an update at a place. A full group grows by a sixteenth: groups are small and many, and
+/// to double each would leave a third of a large table's memory unused.
 fn insert_at(updates: &mut Vec<Update>, at: usize, update: &Update) -> Result<(), AllocError>
     requires { at ≤ vec_len updates.old }
     ensures { updates.new.items

@@ -98,8 +98,8 @@ impl Group {
         }
     }
 
-    /// Puts the updates into a tree once they are many. Where there is no memory for it they stay in
-    /// their list.
+    /// Puts the updates into a tree once they are many. Where there is no memory for it
+    /// they stay in their list.
     fn settle(&mut self, alloc: Global)
         ensures { self.new ≡ self.old }
     {

@@ -1,4 +1,5 @@
-//! A table's groups: an update comes into the group of its subject, and groups are reported one after the other.
+//! A table's groups: an update comes into the group of its subject, and groups are reported
+//! one after the other.
 ghost use Rattle.std.specs.Prelude.{◌≡◌, ◌+◌, ◌<◌, ◌^◌, IfOk, OnOk, OnErr, None, if◌then◌else◌};
 ghost use Rattle.ether_wire.specs.Ends.{IsOpen, Puts};
 ghost use Rattle.std.specs.FinMap.Entries.{find};

@@ -22,8 +22,8 @@ pub fn one_taken()
     ensures { OneTaken }
 {}
 
-/// The same for a list of updates, one after another: with [`one_table`], a table is that of the set of
-/// updates that it took.
+/// The same for a list of updates, one after another: with [`one_table`], a table is that of the
+/// set of updates that it took.
 pub fn all_taken()
     ensures { AllTaken }
 {}
@@ -78,7 +78,8 @@ pub fn owner_along()
     ensures { OwnerAlong }
 {}
 
-/// The same of the walk: tables in which the same is advertised of an address answer the same owner.
+/// The same of the walk: tables in which the same is advertised of an address
+/// answer the same owner.
 pub fn same_owner()
     ensures { SameOwner }
 {}

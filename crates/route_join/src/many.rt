@@ -1,4 +1,5 @@
-//! The updates of one subject, however many, in a tree by their registers, and the best advert among them.
+//! The updates of one subject, however many, in a tree by their registers, and the
+//! best advert among them.
 ghost use Rattle.std.specs.Prelude.{◌≡◌, ◌+◌, ◌<◌, ◌^◌, true, false, Some, None, IfOk, OnOk, OnErr, MatchOption, if◌then◌else◌};
 ghost use Rattle.std.specs.FinMap.Entries.{find, put};
 ghost use Rattle.std.specs.Map.{values_of};
@@ -30,8 +31,8 @@ fn are_level(one: &Option<Advert>, other: &Option<Advert>) -> bool
     }
 }
 
-/// Whether what an update says wins against what another one says. Registers are compared only where
-/// they decide.
+/// Whether what an update says wins against what another one says. Registers are compared
+/// only where they decide.
 fn wins_against(one: &Update, other: &Update) -> bool
     ensures { result ≡ against (candidate_in (Some one.now)) (candidate_in (Some other.now)) }
 {

@@ -34,8 +34,8 @@ fn cmp_within(one: &Register, other: &Register) -> Ordering
     }
 }
 
-/// Where a register stands among updates of its subject in the order of their registers, or where it
-/// would stand.
+/// Where a register stands among updates of its subject in the order of their registers, or
+/// where it would stand.
 pub(crate) fn place(updates: &[Update], register: &Register) -> Result<usize, usize>
     requires { AreAbout (subject_of register.now.key) (entries_of updates.now) }
     ensures { result ≡ place_of updates.now register.now }

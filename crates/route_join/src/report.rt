@@ -13,7 +13,8 @@ use ether_wire::{
 };
 use route_wire::{Addr6, Advert, Content, Ip, Key, Register, Update, Value};
 
-/// Room for a line: the longest one has 158 octets. A line that had no room would be written part by part.
+/// Room for a line: the longest one has 158 octets. A line that had no room would be
+/// written part by part.
 const LINE: usize = 160;
 
 /// Writes four groups of four hexadecimal digits with colons.

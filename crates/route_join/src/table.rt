@@ -1,4 +1,5 @@
-//! The table of route updates: the newest value of each register, of the originators that it listens to.
+//! The table of route updates: the newest value of each register, of the
+//! originators that it listens to.
 ghost use Rattle.std.specs.Prelude.{◌≡◌, ◌+◌, ◌↔◌, false, Some, None, Ok, Err, IfOk, OnOk, OnErr, IfErr, MatchOption, ℕ, true};
 ghost use Rattle.std.specs.List.{slice_get};
 ghost use Rattle.std.specs.FinMap.{empty};
@@ -29,7 +30,8 @@ use std::marker::Model;
 /// What a table made of an update that it took.
 #[derive(Clone, Copy, Debug, PartialEq, Eq)]
 pub enum Taken {
-    /// It is its register's value now: the register is new, or the update is newer than its value was.
+    /// It is its register's value now: the register is new, or the update is
+    /// newer than its value was.
     Newer,
     /// The register's value is this update or a newer one, and stays.
     Known,
@@ -112,7 +114,8 @@ impl Table {
         }
     }
 
-    /// The originators that the table listens to, as they were given. Each register is of one of them.
+    /// The originators that the table listens to, as they were given. Each
+    /// register is of one of them.
     pub fn originators(&self) -> &[Addr]
         ensures value { result.now ≡ self.now.originators }
         ensures listeners { AreOriginators result.now }
@@ -142,8 +145,9 @@ impl Table {
     ///
     /// # Errors
     ///
-    /// `UnknownOriginator` exactly where the update's originator isn't listed. `NoMemory` where the
-    /// register is new and the memory for it was refused; a register that is there already takes none.
+    /// `UnknownOriginator` exactly where the update's originator isn't listed. `NoMemory`
+    /// where the register is new and the memory for it was refused; a register that is
+    /// there already takes none.
     pub fn take(&mut self, update: &Update) -> Result<Taken, TakeError>
         ensures taken { IfOk result (λ taken. taken ≡ taken_of self.old update.now) }
         ensures table { OnOk result (self.new ≡ with_update self.old update.now) }
@@ -168,8 +172,9 @@ impl Table {
         Ok(taken)
     }
 
-    /// Joins another table to this one, register by register in the order of a report: each register
-    /// of either has then the newer of its values. Each originator of the other has to be listed.
+    /// Joins another table to this one, register by register in the order of a report:
+    /// each register of either has then the newer of its values. Each originator of the
+    /// other has to be listed.
     ///
     /// # Errors
     ///

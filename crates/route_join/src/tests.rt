@@ -286,7 +286,8 @@ fn updates_come_in_the_order_of_a_report(rt: HostRuntime) -> Result<(), Fail> {
     Ok(())
 }
 
-// Run with each growth refused in turn: a refused update leaves the table, and is newer the second time.
+// Run with each growth refused in turn: a refused update leaves the table, and is
+// newer the second time.
 #[test]
 fn refused_growth_is_made_up_for(rt: HostRuntime) -> Result<(), Fail> {
     let mut table = new_table(rt.alloc());

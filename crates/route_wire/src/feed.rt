@@ -168,9 +168,9 @@ impl Feed {
         }
     }
 
-    /// Takes octets from the piece as `feed` does, and tells what comes next as `next` does: how many
-    /// octets, and what. A record that lies whole in the piece is read there; only one that is cut is
-    /// copied.
+    /// Takes octets from the piece as `feed` does, and tells what comes next as `next` does:
+    /// how many octets, and what. A record that lies whole in the piece is read there; only one
+    /// that is cut is copied.
     pub fn take(&mut self, piece: &[u8]) -> (usize, Next)
         ensures fits { result.0 ≤ length piece.now }
         ensures takes { TakesNext self.old self.new piece.now result.0 result.1 }

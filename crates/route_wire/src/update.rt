@@ -6,8 +6,8 @@ use std::cmp::Ordering;
 use std::marker::Model;
 
 /// An IPv6 address, as the number of its sixteen octets, the first one highest.
-// Octets in the place of one number of 128 bits, which the machine would keep at multiples of 16 octets,
-// or of two of 64, at multiples of 8: an update is smaller by 56 octets, or by 8.
+// Octets in the place of one number of 128 bits, which the machine would keep at multiples of 16
+// octets, or of two of 64, at multiples of 8: an update is smaller by 56 octets, or by 8.
 #[derive(Clone, Copy, Debug, PartialEq, Eq, Hash)]
 pub struct Addr6 {
     octets: [u8; 16],
@@ -338,8 +338,8 @@ pub struct Value {
 impl Value {
     ghost use Rattle.route_wire.specs.Order.{is_newer};
 
-    /// Whether this value of a register replaces the other one: by its incarnation, then its counter,
-    /// then its content.
+    /// Whether this value of a register replaces the other one: by its incarnation, then its
+    /// counter, then its content.
     pub fn is_newer(&self, other: &Value) -> bool
         ensures { result ≡ is_newer self.now other.now }
     {

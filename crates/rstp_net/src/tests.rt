@@ -1,5 +1,5 @@
-//! A ring of four bridges whose messages take a second from bridge to bridge, and a plain function that
-//! says whether its passing ports hold a circle. What passes at each second is from outside.
+//! A ring of four bridges whose messages take a second from bridge to bridge, and a plain function
+//! that says whether its passing ports hold a circle. What passes at each second is from outside.
 
 use arrayvec::ArrayVec;
 use bpdu_wire::{Bpdu, BridgeId};
@@ -235,7 +235,8 @@ impl Ring {
     }
 }
 
-/// What passes at each of four bridges in the seconds after the ports came up, and after the link was cut.
+/// What passes at each of four bridges in the seconds after the ports came up, and
+/// after the link was cut.
 const COMING_UP: [[u8; 4]; 3] = [[0, 2, 2, 1], [3, 3, 2, 1], [3, 3, 2, 3]];
 
 const AFTER_CUT: [[u8; 4]; 3] = [[2, 1, 1, 3], [2, 1, 1, 3], [2, 1, 3, 3]];
@@ -262,8 +263,8 @@ fn ring_rests_three_seconds_after_it_came_up_and_after_a_cut(rt: HostRuntime) ->
     Ok(())
 }
 
-/// Ports that are edges by their settings pass as they come up: the circle is there until the bridges
-/// hear of one another.
+/// Ports that are edges by their settings pass as they come up: the circle is there until the
+/// bridges hear of one another.
 #[test]
 fn unheard_edges_hold_a_circle(rt: HostRuntime) -> Result<(), Fail> {
     let mut ring = Ring::new(true);

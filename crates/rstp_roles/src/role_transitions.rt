@@ -138,8 +138,8 @@ fn acts_as_backup(port: &PortState) -> bool
     port.may_act() && is_backup(port.role) && is_backup(port.selected_role)
 }
 
-/// Whether a discarding port has yet something to lay down: a timer that isn't at this delay, a wish
-/// to sync or to leave the old root, or that it isn't synced.
+/// Whether a discarding port has yet something to lay down: a timer that isn't at this delay, a
+/// wish to sync or to leave the old root, or that it isn't synced.
 fn is_unrested(port: &PortState, delay: u32) -> bool
     ensures { result ≡ is_unrested port.now delay }
 {

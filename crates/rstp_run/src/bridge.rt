@@ -46,8 +46,8 @@ impl Model for Bridge {
 
     ghost view = { λ b. b.engine };
 
-    ghost invariant = { λ b. (IsTrue b.settled ↔ IsSettled b.engine) × AreOrderly b.engine × AreNumbered b.engine
-        × (1 ≤ length b.engine.ports) };
+    ghost invariant = { λ b. (IsTrue b.settled ↔ IsSettled b.engine) × AreOrderly b.engine
+        × AreNumbered b.engine × (1 ≤ length b.engine.ports) };
 }
 
 /// Whether frames pass at the port of a bridge that is or isn't settled.
@@ -95,7 +95,8 @@ impl Bridge {
         ensures ports { length self.new.ports ≡ length self.old.ports }
 
         // The ports that are flushed, and those at which is sent, are there.
-        ensures flushed_at { (p : ℕ) → has_port result.flush p ≡ true → IsPort p (length self.new.ports) }
+        ensures flushed_at { (p : ℕ) → has_port result.flush p ≡ true
+            → IsPort p (length self.new.ports) }
         ensures sent_at { All (λ sent. IsPort sent.0 (length self.new.ports)) result.out.items }
     {
         let outcome = self.engine.event_within(event, limit);
@@ -106,13 +107,15 @@ impl Bridge {
     /// The event, with as many firings as an event may have: 64 for each port and 64 more.
     pub fn event(&mut self, event: Event) -> Outcome
         requires { IsAt event (length self.old.ports) }
-        ensures happens { Happens event (firings_at self.old) self.old self.new result.settled result.flush }
+        ensures happens { Happens event (firings_at self.old) self.old self.new
+            result.settled result.flush }
         ensures settled { IsTrue result.settled ↔ IsSettled self.new }
         ensures out { result.out.items ≡ sent_from 1 self.new.ports }
         ensures ports { length self.new.ports ≡ length self.old.ports }
 
         // The ports that are flushed, and those at which is sent, are there.
-        ensures flushed_at { (p : ℕ) → has_port result.flush p ≡ true → IsPort p (length self.new.ports) }
+        ensures flushed_at { (p : ℕ) → has_port result.flush p ≡ true
+            → IsPort p (length self.new.ports) }
         ensures sent_at { All (λ sent. IsPort sent.0 (length self.new.ports)) result.out.items }
     {
         let limit = 64 * (self.len() + 1);

@@ -122,7 +122,8 @@ fn is_enabled_in(
     p: usize,
 ) -> bool
     requires { p < length ports.now }
-    ensures { result ≡ guard rule (record { settings = settings.now; root = root.now; ports = ports.now }) p }
+    ensures { result
+        ≡ guard rule (record { settings = settings.now; root = root.now; ports = ports.now }) p }
 {
     let port = &ports[p];
     match rule {
@@ -141,9 +142,12 @@ fn is_enabled_in(
 /// Fires the rule at the port at place `p`.
 fn fire_in(settings: &Settings, root: &mut Root, ports: &mut [PortState], rule: Rule, p: usize)
     requires there { p < length ports.old }
-    requires guard { guard rule (record { settings = settings.now; root = root.old; ports = ports.old }) p ≡ true }
-    ensures root { root.new ≡ root_after rule (record { settings = settings.now; root = root.old; ports = ports.old }) }
-    ensures ports { ports.new ≡ ports_after rule (record { settings = settings.now; root = root.old; ports = ports.old }) p }
+    requires guard { guard rule
+        (record { settings = settings.now; root = root.old; ports = ports.old }) p ≡ true }
+    ensures root { root.new
+        ≡ root_after rule (record { settings = settings.now; root = root.old; ports = ports.old }) }
+    ensures ports { ports.new ≡ ports_after rule
+        (record { settings = settings.now; root = root.old; ports = ports.old }) p }
 {
     let timing = timing_of(settings, root);
     match rule {

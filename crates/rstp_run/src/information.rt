@@ -269,7 +269,8 @@ pub(crate) fn superior_guard(port: &PortState) -> bool
     may_take(port) && class_of(port).is_superior()
 }
 
-/// Whether the port still agrees: it agreed to received information, and the message says none worse.
+/// Whether the port still agrees: it agreed to received information, and the
+/// message says none worse.
 fn keeps_agree(port: &PortState) -> bool
     ensures { result ≡ keeps_agree port.now }
 {

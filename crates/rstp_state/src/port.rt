@@ -58,9 +58,9 @@ pub enum InfoIs {
     Received,
 }
 
-/// All that a port knows. Each field is named after a variable of IEEE 802.1D-2004, clause 17, in whole
-/// words; its line gives the standard's name and section. Timers count seconds down to 0. The default
-/// is a port that isn't there: it fills the places of a list that no port has taken.
+/// All that a port knows. Each field is named after a variable of IEEE 802.1D-2004, clause 17, in
+/// whole words; its line gives the standard's name and section. Timers count seconds down to 0. The
+/// default is a port that isn't there: it fills the places of a list that no port has taken.
 #[derive(Clone, Copy, Default)]
 pub struct PortState {
     /// Priority in the top four bits, port number in the low twelve: portId (17.19.19).

@@ -225,7 +225,8 @@ impl Path {
 
 /// Gives each port its role, given the root and the way there.
 fn choose_all(settings: &Settings, root: &Root, path: &Path, ports: &mut [PortState])
-    ensures { ports.new ≡ map (λ e. with_choice settings.now root.now (is_through path.now e.0) e.1) (enumerate_from 0 ports.old) }
+    ensures { ports.new ≡ map (λ e. with_choice settings.now root.now (is_through path.now e.0) e.1)
+        (enumerate_from 0 ports.old) }
 {
     for place in 0..ports.len() {
         choose(settings, root, path.is_through(place), &mut ports[place]);
@@ -239,7 +240,8 @@ fn choose_all(settings: &Settings, root: &Root, path: &Path, ports: &mut [PortSt
 pub fn select_roles(settings: &Settings, ports: &mut [PortState]) -> Root
     ensures root { result ≡ selected_root settings.now ports.old }
     ensures ports { ports.new ≡ selected_ports settings.now ports.old }
-    ensures least { IsLeastOf (candidates settings.now ports.old) (best_path settings.now ports.old) }
+    ensures least { IsLeastOf (candidates settings.now ports.old)
+        (best_path settings.now ports.old) }
 {
     let path = best_path(settings, ports);
     let root = root_along(settings, ports, &path);

@@ -1,5 +1,6 @@
-//! What calls make of refused memory: made to be run with one allocation refused, too. A call that is
-//! refused memory is counted and changes nothing else, and does what it should when it comes again.
+//! What calls make of refused memory: made to be run with one allocation refused, too. A
+//! call that is refused memory is counted and changes nothing else, and does what it should
+//! when it comes again.
 ghost use Rattle.std.specs.Prelude.{◌≡◌};
 
 use super::{config, journal, report, said};

@@ -15,7 +15,8 @@ use std::thread::Threads;
 /// How many calls each thread makes.
 const CALLS: u32 = 250;
 
-// The call of this number: an update, a second, an update of a stranger, or a port that isn't there.
+// The call of this number: an update, a second, an update of a stranger, or a
+// port that isn't there.
 fn call<L: Ledger, R: Wait>(rt: &R, book: &Mutex<Book<L>>, pass: &mut Pass<L>, number: u32) {
     let counter = u64::from(number) + 1;
     let event = match number % 4 {

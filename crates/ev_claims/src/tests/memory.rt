@@ -1,4 +1,5 @@
-//! What calls make of refused memory: run with each allocation refused in turn, these tests pass too.
+//! What calls make of refused memory: run with each allocation refused in turn,
+//! these tests pass too.
 
 use super::steps::{hear, hear_own, pin};
 use super::{Edge, Name, STATIC, dynamic, knows, knows_not, own, reborn, saying, says, station};
@@ -12,7 +13,8 @@ fn is_untouched(claims: &Claims, name: Name, counter: u64) -> bool {
     knows_not(claims, name) && says(claims, name).is_none() && claims.counter() == counter
 }
 
-/// Whether a station is advertised by the second try at the latest, and a refused one changes nothing.
+/// Whether a station is advertised by the second try at the latest, and a refused
+/// one changes nothing.
 fn advertises(edge: &mut Edge, n: u8) -> bool {
     let (name, counter) = ((1, n), u64::from(n));
     if edge.advertise(station(name), 1, 0, 0) == Some(false)
@@ -55,8 +57,8 @@ fn refused_pin_is_made_up_for(rt: HostRuntime) -> Result<(), Fail> {
     Ok(())
 }
 
-/// Whether a pinned station goes to another edge by the second try at the latest, and stays where that
-/// edge's update is refused.
+/// Whether a pinned station goes to another edge by the second try at the latest, and stays where
+/// that edge's update is refused.
 fn loses(claims: &mut Claims, n: u8) -> bool {
     let name = (1, n);
     if pin(claims, station(name), 1) == Some(false) && pin(claims, station(name), 1) != Some(true) {
@@ -86,8 +88,8 @@ fn refused_update_takes_no_station(rt: HostRuntime) -> Result<(), Fail> {
     Ok(())
 }
 
-/// Whether an advert of an earlier life is withdrawn by the second try at the latest, and a refused one
-/// changes nothing.
+/// Whether an advert of an earlier life is withdrawn by the second try at the latest, and a refused
+/// one changes nothing.
 fn withdraws(claims: &mut Claims, n: u8) -> bool {
     let (name, counter) = ((1, n), u64::from(n));
     let mut taken = hear_own(claims, own(name, 9, dynamic(4)));

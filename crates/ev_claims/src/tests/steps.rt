@@ -85,8 +85,8 @@ impl Step {
     }
 }
 
-/// Whether an edge that was taught these lessons goes through these steps. It serves the network 5002
-/// on port 2 or not at all.
+/// Whether an edge that was taught these lessons goes through these steps. It serves the network
+/// 5002 on port 2 or not at all.
 pub(super) fn goes(
     alloc: Global,
     incarnation: u32,
@@ -141,7 +141,8 @@ fn announces_flood(claims: &mut Claims, n: u8, counter: u64) -> bool {
         && value.content == up
 }
 
-/// Whether the station is pinned and advertised; nothing where a condition of the call doesn't hold.
+/// Whether the station is pinned and advertised; nothing where a condition of
+/// the call doesn't hold.
 pub(super) fn pin(claims: &mut Claims, station: Station, port: u8) -> Option<bool> {
     if station.mac.is_group()
         || claims.vni_of(port) != Some(station.vni)

@@ -22,7 +22,8 @@ fn spent_sequence_number_is_told_and_the_frame_forwarded(rt: HostRuntime) -> Res
     Ok(())
 }
 
-// Learnt at second 4 and moved at second 6, it goes with port 2 and not with port 1, and at second 16.
+// Learnt at second 4 and moved at second 6, it goes with port 2 and not with port
+// 1, and at second 16.
 #[test]
 fn station_moves_between_ports_without_an_update(rt: HostRuntime) -> Result<(), Fail> {
     let mut edge = open(rt.alloc(), 0, 16, 10)?;
@@ -62,7 +63,8 @@ fn full_table_is_told_and_the_frame_forwarded(rt: HostRuntime) -> Result<(), Fai
     Ok(())
 }
 
-// 10.0.0.1 takes the host from the edge by its nth number, and it is heard here again with this alert.
+// 10.0.0.1 takes the host from the edge by its nth number, and it is heard here
+// again with this alert.
 fn moves(edge: &mut Edge, n: u8, alert: u8) -> bool {
     let update = said(1, 0, u64::from(n) + 1, advert(false, 2 * u32::from(n)));
     let lines = [

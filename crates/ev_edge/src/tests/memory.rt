@@ -1,5 +1,6 @@
-//! What events make of refused memory: run with each allocation refused in turn, these tests pass too. An
-//! event that is refused memory leaves what was before, and does what it should when it comes again.
+//! What events make of refused memory: run with each allocation refused in turn, these tests
+//! pass too. An event that is refused memory leaves what was before, and does what it should
+//! when it comes again.
 
 use super::frames::DATAGRAM;
 use super::lines::{Line, first_wrong};
@@ -44,7 +45,8 @@ fn is_as(edge: &Edge, before: &Seen) -> bool {
         && now.counter == before.counter
 }
 
-// What is told of an event, of its second try where the first one was refused memory and changed nothing.
+// What is told of an event, of its second try where the first one was refused memory
+// and changed nothing.
 fn alert_at_last(edge: &mut Edge, event: &Event<'_>) -> Option<u8> {
     let before = look_at(edge);
     let alert = told(edge, event);
@@ -153,7 +155,8 @@ const NOTIFICATION: [u8; 21] = [
     0x03, 0x00, 0x00, 0x00, 0x80,
 ];
 
-// Whether 10.0.0.1 has the host, the edge the other station on port 1, and the pinned one on port 2.
+// Whether 10.0.0.1 has the host, the edge the other station on port 1, and the
+// pinned one on port 2.
 fn is_filled(edge: &mut Edge, pinned: u64) -> bool {
     let octets = frame(BROADCAST, OTHER);
     taken_at_last(edge, said(1, 0, 1, advert(false, 0))) == Some(Taken::Newer)

@@ -1,5 +1,6 @@
-//! What a fabric makes of refused memory: run with each allocation refused in turn, these tests pass too. A
-//! step that is refused memory leaves what was before, and does what it should when it comes again.
+//! What a fabric makes of refused memory: run with each allocation refused in turn, these
+//! tests pass too. A step that is refused memory leaves what was before, and does what it
+//! should when it comes again.
 
 use super::{Act, announces, outcome, perform, report_of, reports, two};
 use crate::Fabric;
@@ -44,7 +45,8 @@ fn are_as(fabric: &Fabric, before: &Seen) -> bool {
         && now.pool == before.pool
 }
 
-// Whether it succeeds, by its second try where the first one was refused memory and changed nothing.
+// Whether it succeeds, by its second try where the first one was refused memory
+// and changed nothing.
 fn succeeds_at_last(fabric: &mut Fabric, e: usize, what: Act) -> bool {
     let before = look_at(fabric);
     match outcome(fabric, e, what) {
@@ -55,7 +57,8 @@ fn succeeds_at_last(fabric: &mut Fabric, e: usize, what: Act) -> bool {
     }
 }
 
-// Edge 1 hears eight stations, each twice: where memory is refused the first time, it is learnt the second time.
+// Edge 1 hears eight stations, each twice: where memory is refused the first time, it is
+// learnt the second time.
 fn learn(fabric: &mut Fabric) {
     let _ = perform(fabric, 1, Act::Up(1));
     for n in 0..8u8 {

@@ -1,6 +1,6 @@
-//! Random runs of three edges: what they hear is lost, comes again and in another order, and edges are opened
-//! anew. Two rounds later all agree, and again after stations have moved; what the laws say is looked at by plain
-//! loops over public calls.
+//! Random runs of three edges: what they hear is lost, comes again and in another order, and edges
+//! are opened anew. Two rounds later all agree, and again after stations have moved; what the laws
+//! say is looked at by plain loops over public calls.
 ghost use Rattle.std.specs.Prelude.{◌≡◌, ◌<◌, [], ◌∷◌, IfOk};
 ghost use Rattle.ev_edge.specs.Config.{IsConfig};
 ghost use Rattle.ev_fabric.specs.Opening.{AreConfigs};
@@ -33,8 +33,9 @@ impl Dice {
         (self.state >> 33) % sides
     }
 
-    // Three stations are heard anywhere, updates announced, and taken in any order, again, or never; ports go down and
-    // come up; now and then an edge is opened anew, in a life that none has led yet.
+    // Three stations are heard anywhere, updates announced, and taken in any order, again,
+    // or never; ports go down and come up; now and then an edge is opened anew, in a life
+    // that none has led yet.
     fn act(&mut self, step: u32) -> Act {
         let port = self.roll(2) as u8 + 1;
         let station = self.roll(3) as u8 + 10;
@@ -116,8 +117,8 @@ fn edge_at(fabric: &Fabric, e: u8) -> Option<&Edge> {
     Some(fabric.edge(usize::from(e)))
 }
 
-// The update isn't edge e's, or is of an earlier life than the edge's flood advert, which it says first in each, or is
-// no newer than what the edge says itself.
+// The update isn't edge e's, or is of an earlier life than the edge's flood advert, which it says
+// first in each, or is no newer than what the edge says itself.
 fn is_behind(edge: &Edge, e: u8, update: &Update) -> bool {
     let register = update.register();
     let Some(flood) = edge
@@ -222,8 +223,8 @@ fn knows(fabric: &Fabric, e: u8, o: u8, n: u8) -> bool {
     edge.table().owner(Vni::new(5001), mac(n)) == Some(address(o))
 }
 
-// A frame for station n is given to edge o alone. There it comes out of the tunnel at one port of two, since n is learnt
-// there, and from the edge's own station, at port 1, at port 2 or nowhere.
+// A frame for station n is given to edge o alone. There it comes out of the tunnel at one port of
+// two, since n is learnt there, and from the edge's own station, at port 1, at port 2 or nowhere.
 fn goes_to(fabric: &mut Fabric, e: u8, o: u8, n: u8) -> bool {
     let here = sent(fabric, e, Act::Send(1, n, HOME | e));
     let Some(decision) = here else { return false };
@@ -281,8 +282,8 @@ fn is_found(fabric: &mut Fabric, n: u8) -> bool {
     place == 0 && n < HOME || all_find(fabric, place, n)
 }
 
-// Station n, if it is no edge's own, is heard at the edge after the one that has it, or is pinned there if it is the last
-// one. That edge, if it learns the station.
+// Station n, if it is no edge's own, is heard at the edge after the one that has it, or is pinned
+// there if it is the last one. That edge, if it learns the station.
 fn comes_to(fabric: &mut Fabric, n: u8) -> Option<u8> {
     let place = place_of(fabric, n)?;
     if place == 0 || n > HOME {

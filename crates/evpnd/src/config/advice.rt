@@ -119,7 +119,8 @@ fn allowed<'a>(place: Place<'_>, key: &str) -> &'a str {
     }
 }
 
-/// What is said of a key that isn't there. Of those that may be left out, `max_age` alone may be faulty even so.
+/// What is said of a key that isn't there. Of those that may be left out, `max_age` alone
+/// may be faulty even so.
 fn absent(key: &str) -> &'static [u8] {
     match key {
         "max_age" => b" is 20 where it is left out",

@@ -82,7 +82,8 @@ fn has_address(addresses: &[Addr], address: Addr) -> bool
 
 /// The edge's address, none of those before.
 fn address_of<'a>(table: &'a Table, before: &[Addr]) -> Result<Addr, Fault<'a>>
-    ensures value { Gives (λ n. n) (required (codes "address") (λ d. new_among before.now (addr_in d)) (table_view table.now)) result }
+    ensures value { Gives (λ n. n) (required (codes "address")
+        (λ d. new_among before.now (addr_in d)) (table_view table.now)) result }
     ensures new { IfOk result (λ n. list_any (λ x. eqb x n) before.now ≡ false) }
 {
     let Some(value) = value_at(table, "address") else {
@@ -103,7 +104,8 @@ fn has_bridge(bridges: &[Mac], bridge: Mac) -> bool
 
 /// The bridge's address, none of those before.
 fn bridge_of<'a>(table: &'a Table, before: &[Mac]) -> Result<Mac, Fault<'a>>
-    ensures { Gives (λ n. n) (required (codes "bridge") (λ d. new_among before.now (bridge_in d)) (table_view table.now)) result }
+    ensures { Gives (λ n. n) (required (codes "bridge") (λ d. new_among before.now (bridge_in d))
+        (table_view table.now)) result }
 {
     let Some(value) = value_at(table, "bridge") else {
         return Err(Fault::Key("bridge"));
@@ -120,7 +122,8 @@ pub(crate) fn names_of<'a>(
     bridges: &[Mac],
     table: &'a Table,
 ) -> Result<Names, Fault<'a>>
-    ensures value { Gives (λ n. n) (names_of addresses.now bridges.now (table_view table.now)) result }
+    ensures value { Gives (λ n. n)
+        (names_of addresses.now bridges.now (table_view table.now)) result }
     ensures new { IfOk result (λ n. list_any (λ x. eqb x n.address) addresses.now ≡ false) }
     ensures distinct { IfOk result (λ n. IsDistinct eqb n.vnis.items) }
 {
@@ -223,7 +226,8 @@ pub(crate) fn edge_of<'a>(
     bridges: &[Mac],
     table: &'a Table,
 ) -> Result<Described, Fault<'a>>
-    ensures value { Gives (λ e. e) (edge_of for_run addresses.now bridges.now (table_view table.now)) result }
+    ensures value { Gives (λ e. e)
+        (edge_of for_run addresses.now bridges.now (table_view table.now)) result }
     ensures new { IfOk result (λ e. list_any (λ x. eqb x e.config.address) addresses.now ≡ false) }
     ensures fits { IfOk result (λ e. Fits e.config) }
 {

@@ -36,7 +36,8 @@ fn add_edge<'a>(edges: &mut Edges, edge: Described) -> Result<(), Fault<'a>>
     requires fits { Fits edge.config }
     requires together { FitTogether (edges_view edges.old) }
     requires new { list_any (λ x. eqb x edge.config.address) edges.old.addresses.items ≡ false }
-    ensures value { Gives (λ _. edges_view edges.new) (Ok (with_edge (edges_view edges.old) edge)) result }
+    ensures value { Gives (λ _. edges_view edges.new)
+        (Ok (with_edge (edges_view edges.old) edge)) result }
     ensures together { OnOk result (FitTogether (edges_view edges.new)) }
 {
     let Described {

@@ -66,7 +66,8 @@ pub(crate) fn number<'a>(
 ) -> Result<u64, Fault<'a>>
     requires low { low ≤ default }
     requires high { default ≤ high }
-    ensures value { Gives (λ n. n) (optional key.now (number_in low high) default (table_view table.now)) result }
+    ensures value { Gives (λ n. n)
+        (optional key.now (number_in low high) default (table_view table.now)) result }
     ensures low { IfOk result (λ n. low ≤ n) }
     ensures high { IfOk result (λ n. n ≤ high) }
 {
@@ -101,7 +102,8 @@ pub(crate) fn steps<'a>(
 ) -> Result<u64, Fault<'a>>
     requires step { 0 < step }
     requires default { default ≤ high }
-    ensures value { Gives (λ n. n) (optional key.now (steps_in step high) default (table_view table.now)) result }
+    ensures value { Gives (λ n. n)
+        (optional key.now (steps_in step high) default (table_view table.now)) result }
     ensures high { IfOk result (λ n. n ≤ high) }
 {
     match value_at(table, key) {
@@ -202,7 +204,8 @@ fn are_tables(array: &Array) -> bool
 
 /// The array of 1 to 64 tables at a key.
 pub(crate) fn tables_at<'a>(table: &'a Table, key: &'a str) -> Result<&'a Array, Fault<'a>>
-    ensures value { Gives (λ v. array_view v.now) (required key.now tables_in (table_view table.now)) result }
+    ensures value { Gives (λ v. array_view v.now)
+        (required key.now tables_in (table_view table.now)) result }
     ensures some { IfOk result (λ v. 0 < length v.now.items) }
     ensures few { IfOk result (λ v. length v.now.items ≤ 64) }
 {
@@ -237,7 +240,8 @@ fn new_vni(before: &[Vni], value: &Value) -> Option<Vni>
 #[tactic(auto, using(crate::proofs::Walking::items_more, crate::proofs::Listing::distinct_none, crate::proofs::Listing::distinct_more))]
 fn distinct_vnis(array: &Array) -> Option<ArrayVec<Vni, 64>>
     requires { length array.now.items ≤ 64 }
-    ensures value { option_map (λ v. v.items) result ≡ numbers_from vni_in [] (array_view array.now) }
+    ensures value { option_map (λ v. v.items) result
+        ≡ numbers_from vni_in [] (array_view array.now) }
     ensures distinct { IfSome result (λ v. IsDistinct eqb v.items) }
 {
     let mut vnis = ArrayVec::new();

@@ -50,7 +50,8 @@ pub(crate) struct Ports {
 /// The network of the port, one of the edge's.
 #[tactic(auto, using(crate::proofs::Fitting::there))]
 fn vni_of<'a>(table: &'a Table, vnis: &[Vni]) -> Result<Vni, Fault<'a>>
-    ensures value { Gives (λ n. n) (required (codes "vni") (λ d. one_of vnis.now (vni_in d)) (table_view table.now)) result }
+    ensures value { Gives (λ n. n)
+        (required (codes "vni") (λ d. one_of vnis.now (vni_in d)) (table_view table.now)) result }
     ensures served { IfOk result (λ v. Contains vnis.now v) }
 {
     let Some(value) = value_at(table, "vni") else {
@@ -130,7 +131,8 @@ pub(crate) fn ports_of<'a>(
     tables: &'a Array,
 ) -> Result<Ports, Fault<'a>>
     requires { length tables.now.items ≤ 64 }
-    ensures value { Gives (λ p. p) (ports_from for_run vnis.now no_ports (array_view tables.now)) result }
+    ensures value { Gives (λ p. p)
+        (ports_from for_run vnis.now no_ports (array_view tables.now)) result }
     ensures count { IfOk result (λ p. length p.configs.items ≡ length tables.now.items) }
     ensures served { IfOk result (λ p. AreServed (vnis_of p.configs.items) vnis.now) }
 {

@@ -59,7 +59,8 @@ pub(crate) fn run_file<H: Threads + Wait + Net + Clock + Sync, F: Files, R: In, 
     requires notes { IsOpen (N.end notes) }
     ensures { OfFile true RunsFound path.now
         (desk (F.shelf files.old) (devices (R.end reader.old) (W.end out) (N.end notes)))
-        (desk (F.shelf files.new) (devices (R.end reader.new) (W.end result.1) (N.end result.2))) result.0 }
+        (desk (F.shelf files.new) (devices (R.end reader.new) (W.end result.1) (N.end result.2)))
+        result.0 }
 {
     match configured(alloc, files, path, true, &mut notes) {
         Ok(config) => run_buffered(rt, alloc, config, reader, out, notes),

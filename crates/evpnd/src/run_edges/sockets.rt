@@ -167,8 +167,8 @@ pub(crate) fn bind_all<R: Net>(
     Ok(all)
 }
 
-/// Sends a socket an empty datagram of its own, to wake its reader. One that is bound to all addresses
-/// of the host is reached at 127.0.0.1.
+/// Sends a socket an empty datagram of its own, to wake its reader. One that is bound to all
+/// addresses of the host is reached at 127.0.0.1.
 fn wake(socket: &UdpSocket) {
     let Ok(at) = socket.local_addr() else {
         return;

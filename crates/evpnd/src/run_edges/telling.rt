@@ -20,8 +20,8 @@ fn put_report<W: Out>(out: &mut W, number: u64, edge: &Edge) -> Result<(), Devic
     edge.report(out)
 }
 
-/// Writes the reports of the edges that ran, each with its number, and answers whether all is written.
-/// After a failed write no further one is made.
+/// Writes the reports of the edges that ran, each with its number, and answers whether all is
+/// written. After a failed write no further one is made.
 pub(crate) fn put_reports<W: Out>(out: &mut W, ended: &[Result<Outcome, AllocError>]) -> bool
     requires { IsOpen (W.end out.old) }
     ensures { Minds (W.end out.old) (W.end out.new) true result }

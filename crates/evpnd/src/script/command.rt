@@ -23,7 +23,8 @@ pub(crate) enum Verb {
     Restart,
 }
 
-/// What an edge is asked for. Ports and updates are numbered from 1; there may be none of that number.
+/// What an edge is asked for. Ports and updates are numbered from 1; there may be
+/// none of that number.
 #[derive(Clone, Copy)]
 pub(crate) enum Command<'a> {
     /// The port comes up.

@@ -27,7 +27,8 @@ pub(crate) fn simulate<F: Files, R: In, W: Out, N: Out>(
     requires notes { IsOpen (N.end notes) }
     ensures { OfFile false SimulatesFound path.now
         (desk (F.shelf files.old) (devices (R.end reader.old) (W.end out) (N.end notes)))
-        (desk (F.shelf files.new) (devices (R.end reader.new) (W.end result.1) (N.end result.2))) result.0 }
+        (desk (F.shelf files.new) (devices (R.end reader.new) (W.end result.1) (N.end result.2)))
+        result.0 }
 {
     match configured(alloc, files, path, false, &mut notes) {
         Ok(config) => simulate_run(alloc, config.edges, reader, out, notes),

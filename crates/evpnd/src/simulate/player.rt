@@ -54,8 +54,8 @@ fn put_answer<W: Out>(out: &mut W, edge: u64, answer: &Result<Reply, Refusal>) -
     }
 }
 
-/// Prints what became of a second, the first one (0) or a later one: where there is no such edge, that
-/// is told once.
+/// Prints what became of a second, the first one (0) or a later one: where there is no such
+/// edge, that is told once.
 fn put_second<W: Out>(
     out: &mut W,
     edge: u64,
@@ -72,7 +72,8 @@ fn put_second<W: Out>(
     }
 }
 
-/// Prints the number in the pool of what was announced, if anything was. The pool's last update is it.
+/// Prints the number in the pool of what was announced, if anything was. The
+/// pool's last update is it.
 fn put_announced<W: Out>(
     out: &mut W,
     edge: u64,
@@ -235,7 +236,8 @@ impl Player {
     /// Octets come at a port.
     fn frame<W: Out>(&mut self, edge: u64, port: u64, hex: Hex<'_>, out: &mut W)
         requires { self.old.is_told ≡ true → IsOpen (W.end out.old) }
-        ensures made { Performs edge (frame port (octets_of hex.entry.digits.now)) self.old self.new }
+        ensures made { Performs edge
+            (frame port (octets_of hex.entry.digits.now)) self.old self.new }
         ensures told { Minds (W.end out.old) (W.end out.new) self.old.is_told self.new.is_told }
     {
         let octets = hex.octets();
@@ -246,7 +248,8 @@ impl Player {
     /// A datagram comes from another edge.
     fn tunnel<W: Out>(&mut self, edge: u64, from: Addr, hex: Hex<'_>, out: &mut W)
         requires { self.old.is_told ≡ true → IsOpen (W.end out.old) }
-        ensures made { Performs edge (tunnel from (octets_of hex.entry.digits.now)) self.old self.new }
+        ensures made { Performs edge
+            (tunnel from (octets_of hex.entry.digits.now)) self.old self.new }
         ensures told { Minds (W.end out.old) (W.end out.new) self.old.is_told self.new.is_told }
     {
         let octets = hex.octets();

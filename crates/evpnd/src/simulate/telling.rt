@@ -1,5 +1,5 @@
-//! What a simulation prints of each command. Each line begins with the edge's number, but for those of a
-//! report.
+//! What a simulation prints of each command. Each line begins with the edge's number, but
+//! for those of a report.
 ghost use Rattle.std.specs.Prelude.{◌≡◌};
 ghost use Rattle.ether_wire.specs.Ends.{IsOpen};
 ghost use Rattle.evpnd.specs.Printing.{PutsSome};
@@ -228,7 +228,8 @@ pub(crate) fn put_refusal<W: Out>(out: &mut W, edge: u64, refusal: &Refusal) -> 
     put_number(out, edge, part(refusal), u64::from(refusal.number()))
 }
 
-/// Writes what a step gives out: BPDUs, then where a frame goes or what an update was, then an alert.
+/// Writes what a step gives out: BPDUs, then where a frame goes or what an
+/// update was, then an alert.
 pub(crate) fn put_reply<W: Out>(out: &mut W, edge: u64, reply: &Reply) -> Result<(), Device>
     requires { IsOpen (W.end out.old) }
     ensures { PutsSome (W.end out.old) (W.end out.new) result }

@@ -1,4 +1,5 @@
-//! What calls make of refused memory: run with each allocation refused in turn, these tests pass too.
+//! What calls make of refused memory: run with each allocation refused in turn,
+//! these tests pass too.
 ghost use Rattle.std.specs.Prelude.{◌≡◌, ◌<◌, ◌∷◌, [], IfOk};
 
 use crate::tests::sequences::Dice;
@@ -96,7 +97,8 @@ fn refused_merge_is_completed_by_another(rt: HostRuntime) -> Result<(), Fail> {
 
 // A table of random updates, which the plain list takes too.
 fn random_table(alloc: Global, seed: u64, plain: &mut Plain) -> Result<Table, AllocError>
-    ensures { IfOk result (λ t. t.originators ≡ 167772161 ∷ 167772162 ∷ 167772163 ∷ 167772164 ∷ 167772169 ∷ []) }
+    ensures { IfOk result
+        (λ t. t.originators ≡ 167772161 ∷ 167772162 ∷ 167772163 ∷ 167772164 ∷ 167772169 ∷ []) }
 {
     let mut dice = Dice::new(seed);
     let mut table = new_table(alloc);

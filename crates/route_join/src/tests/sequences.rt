@@ -132,8 +132,8 @@ impl Both {
         }
     }
 
-    /// Whether both make the same of an update, and agree then. Where memory is refused, the table is
-    /// as it was, and takes the update once more.
+    /// Whether both make the same of an update, and agree then. Where memory is refused, the table
+    /// is as it was, and takes the update once more.
     fn agree_on(&mut self, update: &Update) -> Result<bool, AllocError> {
         let mut taken = self.table.take(update);
         if taken == Err(TakeError::NoMemory) {

@@ -1,5 +1,5 @@
-//! A table as one list of updates in the order of their registers, where owners are found by a walk:
-//! what a table of groups is compared with.
+//! A table as one list of updates in the order of their registers, where owners are found by a
+//! walk: what a table of groups is compared with.
 ghost use Rattle.std.specs.Prelude.{◌≤◌, length};
 
 use crate::Table;

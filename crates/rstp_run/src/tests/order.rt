@@ -88,8 +88,8 @@ fn have_come(bridge: &Bridge) -> [bool; 8] {
     ]
 }
 
-/// A bridge of one port, which had found that the port leads to no bridge, once the port went down and
-/// this many rules fired.
+/// A bridge of one port, which had found that the port leads to no bridge, once the port went down
+/// and this many rules fired.
 fn falling(firings: usize) -> Bridge {
     let mut bridge = bridge_of_one(0x02aa_0000_0001, USUAL_PORT);
     let _up = happen(&mut bridge, Event::PortUp(1));
@@ -100,8 +100,8 @@ fn falling(firings: usize) -> Bridge {
     bridge
 }
 
-/// Receive, migration, detection and information follow one another; topology change comes last of the
-/// pass, and selection first of the next one, before role, state and topology change.
+/// Receive, migration, detection and information follow one another; topology change comes last of
+/// the pass, and selection first of the next one, before role, state and topology change.
 #[test]
 fn machines_come_to_a_falling_port_in_turn(rt: HostRuntime) -> Result<(), Fail> {
     for firings in 1..9 {
@@ -129,8 +129,8 @@ fn selection_comes_before_receive(rt: HostRuntime) -> Result<(), Fail> {
     Ok(())
 }
 
-/// The information machine comes before the role transitions: an edge port that hears a better bridge
-/// of a change that it may not yet pass on proposes with flags 0e, and not with 0f.
+/// The information machine comes before the role transitions: an edge port that hears a better
+/// bridge of a change that it may not yet pass on proposes with flags 0e, and not with 0f.
 #[test]
 fn information_comes_before_role(rt: HostRuntime) -> Result<(), Fail> {
     let port = PortSettings {
@@ -146,8 +146,8 @@ fn information_comes_before_role(rt: HostRuntime) -> Result<(), Fail> {
     Ok(())
 }
 
-/// The port's own message of its role as a root port is not sent within the pass, but after all else:
-/// its flags are 44, and not 45.
+/// The port's own message of its role as a root port is not sent within the pass, but after all
+/// else: its flags are 44, and not 45.
 #[test]
 fn transmit_comes_after_all_else(rt: HostRuntime) -> Result<(), Fail> {
     let mut bridge = Bridge::new(BridgeConfig {
@@ -209,7 +209,8 @@ fn is_so(bridge: &Bridge, port: u8, role: Role, passes: bool) -> bool {
         && bridge.passes(port) == passes
 }
 
-/// Ports are tried in ascending order: at the last event port 3 alone sends, and not port 2 as well.
+/// Ports are tried in ascending order: at the last event port 3 alone sends,
+/// and not port 2 as well.
 #[test]
 fn ports_come_in_ascending_order(rt: HostRuntime) -> Result<(), Fail> {
     let mut bridge = bridge_of_three();
