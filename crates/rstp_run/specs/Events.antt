@@ -1,7 +1,7 @@
 -- What an event may do to a bridge, and what it answers.
-use Rattle.std.specs.Prelude.{ℕ, Bool, true, false, ◌≡◌, ◌+◌, ◌-◌, ◌*◌, ◌≤◌, ◌&&◌, ◌==◌, List, [], ◌∷◌, length, map, Option, Some, None, IsTrue}
+use Rattle.std.specs.Prelude.{ℕ, Bool, true, false, ◌≡◌, ◌+◌, ◌*◌, ◌≤◌, ◌&&◌, ◌==◌, List, [], ◌∷◌, length, map, Option, Some, None, IsTrue}
 use Rattle.std.specs.List.{list_any}
-use Rattle.ether_wire.specs.Ports.{has_port}
+use Rattle.ether_wire.specs.Ports.{has_port, place_of_port}
 use Rattle.bpdu_wire.specs.declared.bpdu.Bpdu as bpdu
 use Rattle.rstp_state.specs.declared.port.PortState.{PortState}
 use Rattle.rstp_state.specs.declared.start.PortSettings.{PortSettings}
@@ -14,8 +14,6 @@ use Rattle.rstp_run.specs.Rules.{Tree}
 use Rattle.rstp_run.specs.Runs.{Firing, Run, IsSettled, flushed, is_flush}
 use Rattle.rstp_run.specs.declared.event.Event.{Event}
 use Rattle.rstp_run.specs.declared.event.Event.TheVariants as events
-
--- Port p stands at place p - 1 of the list.
 
 -- there is a port of this number
 abbrev pub IsPort : ℕ → ℕ → Type 0
@@ -31,11 +29,11 @@ IsAt (events.Mcheck p) ports = IsPort p ports
 
 -- the ports right after the event, before any rule fires
 abbrev pub ports_at : Event → List PortState → List PortState
-ports_at (events.Bpdu p message) ports = change_at (p - 1) (with_message message) ports
+ports_at (events.Bpdu p message) ports = change_at (place_of_port p) (with_message message) ports
 ports_at events.Second ports = map with_second ports
-ports_at (events.PortUp p) ports = change_at (p - 1) (with_enabled true) ports
-ports_at (events.PortDown p) ports = change_at (p - 1) (with_enabled false) ports
-ports_at (events.Mcheck p) ports = change_at (p - 1) with_migration_check ports
+ports_at (events.PortUp p) ports = change_at (place_of_port p) (with_enabled true) ports
+ports_at (events.PortDown p) ports = change_at (place_of_port p) (with_enabled false) ports
+ports_at (events.Mcheck p) ports = change_at (place_of_port p) with_migration_check ports
 
 -- the event's direct effect, with every slot empty
 abbrev pub direct : Event → Tree → Tree
@@ -74,11 +72,11 @@ sent_from p (port ∷ ports) = with_sent p port.slot (sent_from (p + 1) ports)
 
 -- frames pass at port p: the bridge is settled, and the port enabled and forwarding
 abbrev pub Passes : Tree → ℕ → Type 0
-Passes s p = IsSettled s × IsTrue (test_at (p - 1) (λ port. port.enabled && port.forwarding) s.ports)
+Passes s p = IsSettled s × IsTrue (test_at (place_of_port p) (λ port. port.enabled && port.forwarding) s.ports)
 
 -- addresses are learnt at port p: the bridge is settled, and the port enabled and learning
 abbrev pub Learns : Tree → ℕ → Type 0
-Learns s p = IsSettled s × IsTrue (test_at (p - 1) (λ port. port.enabled && port.learning) s.ports)
+Learns s p = IsSettled s × IsTrue (test_at (place_of_port p) (λ port. port.enabled && port.learning) s.ports)
 
 -- a bridge before its first event, its own root
 abbrev pub start : Settings → List PortSettings → Tree

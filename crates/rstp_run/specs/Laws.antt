@@ -1,5 +1,6 @@
 -- What holds of every bridge from its start on, whatever the events.
-use Rattle.std.specs.Prelude.{ℕ, Bool, true, not, ◌≡◌, ◌+◌, ◌-◌, ◌%◌, ◌^◌, ◌&&◌, ◌||◌, List, [], ◌∷◌, All, IsTrue}
+use Rattle.std.specs.Prelude.{ℕ, Bool, true, not, ◌≡◌, ◌+◌, ◌%◌, ◌^◌, ◌&&◌, ◌||◌, List, [], ◌∷◌, All, IsTrue}
+use Rattle.ether_wire.specs.Ports.{place_of_port}
 use Rattle.bpdu_wire.specs.Id.{port_number}
 use Rattle.rstp_state.specs.declared.port.PortState.{PortState}
 use Rattle.rstp_state.specs.Port.{test_at}
@@ -28,4 +29,4 @@ AreNumbered s = AreNumberedFrom 1 s.ports
 
 -- port p is the root port or a designated one: neither Disabled, Alternate nor Backup
 abbrev pub IsInTree : Tree → ℕ → Type 0
-IsInTree s p = IsTrue (test_at (p - 1) is_in_tree s.ports)
+IsInTree s p = IsTrue (test_at (place_of_port p) is_in_tree s.ports)

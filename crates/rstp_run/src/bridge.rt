@@ -1,8 +1,8 @@
 //! A bridge of the spanning tree.
 
-ghost use Rattle.std.specs.Prelude.{ℕ, ◌≡◌, ◌≤◌, ◌-◌, ◌↔◌, All, length, slice_get, IsTrue, true, false};
+ghost use Rattle.std.specs.Prelude.{ℕ, ◌≡◌, ◌≤◌, ◌↔◌, All, length, slice_get, IsTrue, true, false};
 ghost use Rattle.bpdu_wire.specs.Id.{port_number};
-ghost use Rattle.ether_wire.specs.Ports.{has_port};
+ghost use Rattle.ether_wire.specs.Ports.{has_port, place_of_port};
 ghost use Rattle.rstp_run.specs.Events.{
   firings_at,
   Happens,
@@ -147,7 +147,7 @@ impl Bridge {
     /// The state of the port.
     pub fn port(&self, p: u8) -> &PortState
         requires { IsPort p (length self.now.ports) }
-        ensures value { slice_get self.now.ports (p - 1) ≡ Some result.now }
+        ensures value { slice_get self.now.ports (place_of_port p) ≡ Some result.now }
         ensures number { port_number result.now.identifier ≡ p }
     {
         self.engine.port(p)

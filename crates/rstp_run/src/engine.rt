@@ -1,7 +1,8 @@
 //! The sweep: rules fire in the table's order until none is enabled, or the limit is reached.
 
-ghost use Rattle.std.specs.Prelude.{◌≡◌, ◌≤◌, ◌<◌, ◌-◌, length, map, slice_get, true, false};
+ghost use Rattle.std.specs.Prelude.{◌≡◌, ◌≤◌, ◌<◌, length, map, slice_get, true, false};
 ghost use Rattle.std.specs.List.{list_any};
+ghost use Rattle.ether_wire.specs.Ports.{place_of_port};
 ghost use Rattle.rstp_state.specs.Direct.{with_second, without_slot};
 ghost use Rattle.rstp_run.specs.Events.{direct, Happens, IsAt, ports_at, sent_from, start};
 ghost use Rattle.rstp_run.specs.Rules.{
@@ -25,6 +26,7 @@ use crate::firing::{
 use crate::rule::{MAIN, Rule, SENDS};
 use arrayvec::ArrayVec;
 use bpdu_wire::Bpdu;
+use ether_wire::place_of_port;
 use rstp_roles::firing::{fire_role, fire_state, role_is_enabled, state_is_enabled};
 use rstp_state::direct::{ask_migration_check, clear_slot, pass_second, set_enabled, store};
 use rstp_state::port::{PortState, Timing};
@@ -91,11 +93,11 @@ fn take_in(ports: &mut [PortState], event: Event)
     ensures { ports.new ≡ ports_at event ports.old }
 {
     match event {
-        Event::Bpdu(p, message) => store(&mut ports[usize::from(p) - 1], message),
+        Event::Bpdu(p, message) => store(&mut ports[place_of_port(p)], message),
         Event::Second => pass_seconds(ports),
-        Event::PortUp(p) => set_enabled(&mut ports[usize::from(p) - 1], true),
-        Event::PortDown(p) => set_enabled(&mut ports[usize::from(p) - 1], false),
-        Event::Mcheck(p) => ask_migration_check(&mut ports[usize::from(p) - 1]),
+        Event::PortUp(p) => set_enabled(&mut ports[place_of_port(p)], true),
+        Event::PortDown(p) => set_enabled(&mut ports[place_of_port(p)], false),
+        Event::Mcheck(p) => ask_migration_check(&mut ports[place_of_port(p)]),
     }
 }
 
@@ -350,8 +352,8 @@ impl Engine {
     /// The port of this number.
     pub(crate) fn port(&self, p: u8) -> &PortState
         requires { IsPort p (length self.now.ports) }
-        ensures { slice_get self.now.ports (p - 1) ≡ Some result.now }
+        ensures { slice_get self.now.ports (place_of_port p) ≡ Some result.now }
     {
-        &self.ports[usize::from(p) - 1]
+        &self.ports[place_of_port(p)]
     }
 }
