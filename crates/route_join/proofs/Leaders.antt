@@ -118,7 +118,7 @@ module _ (us : List Fields) (at : ℕ) (s : IsOrdered us) (h : at < length us) (
   split = sym (map-append (λ (u : Fields). (u.register, u.value)) (take at us) (get_or us at d ∷ drop (suc at) us))
       ∙ ap (λ x. entries_of (take at us ++ x)) (sym (drop-cons us at d h)) ∙ ap entries_of (take-append-drop at us)
 
-  not_yet : find register_cmp (get_or us at d).register (entries_of (take at us)) ≡ None
+  pub not_yet : find register_cmp (get_or us at d).register (entries_of (take at us)) ≡ None
   not_yet = fresh (entries_of (take at us)) (entries_of (drop (suc at) us)) ((get_or us at d).register, (get_or us at d).value) (ap (is_sorted register_cmp) split ∙ s)
 
   pub winner_more : (w : Option ℕ) → HasWinner us (told (take at us)) w → HasWinner us (told (take (at + 1) us)) (better_place us at w)

@@ -14,5 +14,7 @@ pub mod Holding
 pub mod Joins
 pub mod Lines
 pub mod Merging
+pub mod Sames
+pub mod Contests
 pub mod Trees
 pub mod Abouts

@@ -42,7 +42,7 @@ tested : (m n : ℕ) (b : Bool) → (nat_lt n m || (n == m && b)) ≡ true → (
 tested m n true e = (grind (arith, nat_tests), λ h. refl)
 tested m n false e = (grind (arith, nat_tests), λ h. grind (arith, nat_tests))
 
-untested : (m n : ℕ) (b : Bool) → (nat_lt n m || (n == m && b)) ≡ false → (m ≤ n) × (n ≡ m → b ≡ false)
+pub untested : (m n : ℕ) (b : Bool) → (nat_lt n m || (n == m && b)) ≡ false → (m ≤ n) × (n ≡ m → b ≡ false)
 untested m n true e = (grind (arith, nat_tests), λ h. grind (arith, nat_tests))
 untested m n false e = (grind (arith, nat_tests), λ h. refl)
 

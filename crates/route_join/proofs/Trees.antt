@@ -1,28 +1,35 @@
--- Updates at their registers in a tree: look-ups and edits, and their winner.
-use Rattle.std.proofs.Common.{◌≡◌, ◌≢◌, ℕ, suc, ◌+◌, ◌<◌, Bool, true, false, cond, Option, Some, None, List, [], ◌∷◌, ◌++◌, map, length, get_or, take, drop, refl, sym, ap, subst, ◌∙◌}
+-- Updates at their registers in a tree, each with its place: look-ups and edits.
+use Rattle.std.proofs.Common.{◌≡◌, ◌≢◌, inl, inr, ℕ, suc, ◌+◌, ◌<◌, Bool, true, false, cond, Option, Some, None, List, [], ◌∷◌, ◌++◌, map, length, get_or, set, take, drop, refl, sym, ap, subst, ◌∙◌, arith}
+use Rattle.std.specs.Prelude.{Result, Ok, Err, OnOk, OnErr}
 use Rattle.std.specs.declared.cmp.Ordering.TheVariants.{Less, Equal, Greater}
-use Rattle.std.specs.Ordering.{is_eq, is_lt, ordering_reverse, eq_by_cmp, match_ordering}
+use Rattle.std.specs.Ordering.{is_eq, is_lt, ordering_reverse, match_ordering}
 use Rattle.std.specs.List.{slice_get}
 use Rattle.std.specs.Option.{option_map}
 use Rattle.std.specs.Map.{lookup, values_of}
 use Rattle.std.specs.BTreeMap.{insert_entry, is_at}
 use Rattle.std.specs.FinMap.Entries.{by_order, find, put, below_all, is_sorted}
-use Rattle.std.proofs.lemmas.List.{map-append}
+use Rattle.std.proofs.lemmas.List.{length-map}
+use Rattle.std.proofs.lemmas.Option.{slice_get_within}
 use Rattle.route_wire.specs.declared.update.Register.{Register}
 use Rattle.route_wire.specs.declared.update.Advert.{Advert}
 use Rattle.route_wire.specs.declared.update.Value.{Value}
 use Rattle.route_wire.specs.Fields.{Fields}
 use Rattle.route_wire.specs.Order.{register_cmp}
 use Rattle.route_wire.specs.Totals.{register_total, register_exact}
+use Rattle.route_join.specs.declared.contest.Bout.{Bout}
+use Rattle.route_join.specs.declared.many.Entrant.{Entrant}
 use Rattle.route_join.specs.Table.{entries_of, IsOrdered}
-use Rattle.route_join.specs.Owner.{advert_in, advert_of, IsBetter}
 use Rattle.route_join.specs.Updates.{update_from}
-use Rattle.route_join.specs.Group.{told, Leads, HasWinner, candidate_in, wins, stays_best, update_among}
-use Rattle.route_join.specs.Many.{AreKeyed, IsLed, better_leader, is_of, still_leads}
+use Rattle.route_join.specs.Owner.{advert_in, advert_of}
+use Rattle.route_join.specs.Group.{told, update_among, candidate_in, wins, IsLeader, IsSilent}
+use Rattle.route_join.specs.Contest.{owns, AreSettled, Wins, IsChampion}
+use Rattle.route_join.specs.Many.{entrant_at, entered, AreKeyed, AreMatched, IsMany}
 use Rattle.route_join.proofs.Orders.{less, both}
-use Rattle.route_join.proofs.Tables.{same_register, itself_register}
-use Rattle.route_join.proofs.Owners.{in_list, at_last, at_before, fresh, as_good}
-use Rattle.route_join.proofs.Leaders.{next_winner, told_no_worse, told_same, told_other, first_more, split}
+use Rattle.route_join.proofs.Tables.{same_register, itself_register, other_register, same_or_other}
+use Rattle.route_join.proofs.Owners.{not_better_is}
+use Rattle.route_join.proofs.Leaders.{first_more, split}
+use Rattle.route_join.proofs.Contests.{last, before, either, nat_same, set_here, set_there}
+use Rattle.route_join.proofs.Edits.{ordered_put}
 use Rattle.route_join.proofs.Merging.{updates_back}
 
 abbrev Entries : Type 0
@@ -102,97 +109,237 @@ put_last (e ∷ es) fs r v s =
     ap (λ o. by_order o ((r, v) ∷ e ∷ es) ((e.0, v) ∷ es) (e ∷ put register_cmp r v es)) (register_total.antisymm r e.0 ∙ ap ordering_reverse (below_last e.0 es fs (r, v) parts.0))
     ∙ ap (λ x. e ∷ x) (put_last es fs r v parts.1)
 
--- a tree of the first updates, and one more
-pub filled_more : (us : List Fields) (at : ℕ) (s : IsOrdered us) (h : at < length us) (d : Fields) (es : Tree) → AreKeyed es → entries_of (values_of es) ≡ entries_of (take at us)
-    → entries_of (values_of (insert_entry register_cmp es (get_or us at d).register (get_or us at d))) ≡ entries_of (take (at + 1) us)
-filled_more us at s h d es k e =
+-- the first updates, and one more
+pub filled_more : (us : List Fields) (at : ℕ) (s : IsOrdered us) (h : at < length us) (d : Fields)
+    → put register_cmp (get_or us at d).register (get_or us at d).value (entries_of (take at us)) ≡ entries_of (take (at + 1) us)
+filled_more us at s h d =
     let u = get_or us at d in
-    put_insert es u k ∙ ap (put register_cmp u.register u.value) e
-    ∙ put_last (entries_of (take at us)) (entries_of (drop (suc at) us)) u.register u.value (ap (is_sorted register_cmp) (split us at s h d) ∙ s)
+    put_last (entries_of (take at us)) (entries_of (drop (suc at) us)) u.register u.value (ap (is_sorted register_cmp) (split us at s h d) ∙ s)
     ∙ sym (first_more us at s h d)
 
--- ---- the winner by what it says
-elsewhere : (says : Register → Option Advert) (us vs : List Fields) (i j : ℕ) → slice_get us i ≡ slice_get vs j → Leads us says i → Leads vs says j
-elsewhere says us vs i j e l = record {
-  update = l.update;
-  stands = sym e ∙ l.stands;
-  advert = l.advert;
-  advertises = l.advertises;
-  own = l.own;
-  best = l.best;
-}
+-- ---- what a search finds of an update that was put
+pub inserted_same : (es : List (Register × Entrant)) (r : Register) (v : Entrant) → entrant_at (insert_entry register_cmp es r v) r ≡ Some v
+inserted_same [] r v = ap (λ b. cond b (Some v) None) (itself_register r)
+inserted_same (e ∷ es) r v =
+    elim (register_cmp r e.0) as (λ o. register_cmp r e.0 ≡ o → entrant_at (match_ordering o ((r, v) ∷ e ∷ es) ((e.0, v) ∷ es) (e ∷ insert_entry register_cmp es r v)) r ≡ Some v) [
+      | Less ↦ λ q. ap (λ b. cond b (Some v) (entrant_at (e ∷ es) r)) (itself_register r)
+      | Equal ↦ λ q. ap (λ o. cond (is_eq o) (Some v) (entrant_at es r)) q
+      | Greater ↦ λ q. ap (λ o. cond (is_eq o) (Some e.1) (entrant_at (insert_entry register_cmp es r v) r)) q ∙ inserted_same es r v
+    ] refl
 
-module _ (says after : Register → Option Advert) (u : Fields) (same : after u.register ≡ advert_in u.value.content) (others : (q : Register) → q ≢ u.register → after q ≡ says q) where
-  -- an update of another register
-  pub lead_next : (w : Option Fields) → IsLed says w → ((x : Fields) → w ≡ Some x → x.register ≢ u.register) → IsLed after (better_leader w u)
-  lead_next None h apart = go (wins (candidate_in (Some u)) None) (next_winner (u ∷ []) says after 0 u refl same others None h (λ i l e. cc))
-    where
-      go : (b : Bool) → HasWinner (u ∷ []) after (cond b (Some 0) None) → IsLed after (cond b (Some u) None)
-      go true k = k
-      go false k = k
-  lead_next (Some x) h apart =
-      go (wins (candidate_in (Some u)) (candidate_in (Some x)))
-      (next_winner (x ∷ u ∷ []) says after 1 u refl same others (Some 0) (elsewhere says (x ∷ []) (x ∷ u ∷ []) 0 0 refl h)
-      (λ i l e. let first : i ≡ 0 = cc in
-      let here : Some x ≡ Some l.update = subst (λ n. slice_get (x ∷ u ∷ []) n ≡ Some l.update) first l.stands in
-      let is : x ≡ l.update = cc in
-      subst (λ (y : Fields). y.register ≢ u.register) is (apart x refl)))
-    where
-      go : (b : Bool) → HasWinner (x ∷ u ∷ []) after (cond b (Some 1) (Some 0)) → IsLed after (cond b (Some u) (Some x))
-      go true k = elsewhere after (x ∷ u ∷ []) (u ∷ []) 1 0 refl k
-      go false k = elsewhere after (x ∷ u ∷ []) (x ∷ []) 0 0 refl k
+pub inserted_other : (es : List (Register × Entrant)) (r : Register) (v : Entrant) (q : Register) → q ≢ r → entrant_at (insert_entry register_cmp es r v) q ≡ entrant_at es q
+inserted_other [] r v q ne = ap (λ b. cond b (Some v) None) (other_register q r ne)
+inserted_other (e ∷ es) r v q ne =
+    elim (register_cmp r e.0) as (λ o. register_cmp r e.0 ≡ o → entrant_at (match_ordering o ((r, v) ∷ e ∷ es) ((e.0, v) ∷ es) (e ∷ insert_entry register_cmp es r v)) q ≡ entrant_at (e ∷ es) q) [
+      | Less ↦ λ p. ap (λ b. cond b (Some v) (entrant_at (e ∷ es) q)) (other_register q r ne)
+      | Equal ↦ λ p.
+          let apart = other_register q e.0 (λ same. ne (same ∙ sym (register_exact r e.0 p))) in
+          ap (λ b. cond b (Some v) (entrant_at es q)) apart ∙ sym (ap (λ b. cond b (Some e.1) (entrant_at es q)) apart)
+      | Greater ↦ λ p. ap (λ x. cond (is_eq (register_cmp q e.0)) (Some e.1) x) (inserted_other es r v q ne)
+    ] refl
 
-  -- the winner's register says nothing worse
-  pub lead_stays : (w : Fields) → IsLed says (Some w) → w.register ≡ u.register → stays_best (advert_in w.value.content) (advert_in u.value.content) ≡ true → IsLed after (Some u)
-  lead_stays w l r t =
-      let old : w ≡ l.update = (let s = l.stands in cc) in
-      let named : l.update.register ≡ u.register = ap (λ (x : Fields). x.register) (sym old) ∙ r in
-      let now = told_no_worse u.register (advert_in w.value.content) (advert_in u.value.content) t l.advert (ap (λ (x : Fields). advert_in x.value.content) old ∙ l.advertises) in
-      record {
-        update = u;
-        stands = refl;
-        advert = now.0;
-        advertises = now.1;
-        own = same ∙ now.1;
-        best = λ q b ne is. as_good l.advert now.0 u.register b q now.2 (subst (λ x. IsBetter l.advert x b q) named (l.best q b (λ s. ne (s ∙ named)) (sym (others q ne) ∙ is)));
-      }
+-- ---- entrants without their places
+pub entered_insert : (es : List (Register × Entrant)) (r : Register) (v : Entrant) → entered (insert_entry register_cmp es r v) ≡ insert_entry register_cmp (entered es) r v.update
+entered_insert [] r v = refl
+entered_insert (e ∷ es) r v =
+    elim (register_cmp r e.0) as (λ o. entered (match_ordering o ((r, v) ∷ e ∷ es) ((e.0, v) ∷ es) (e ∷ insert_entry register_cmp es r v))
+    ≡ match_ordering o ((r, v.update) ∷ entered (e ∷ es)) ((e.0, v.update) ∷ entered es) ((e.0, e.1.update) ∷ insert_entry register_cmp (entered es) r v.update)) [
+      | Less ↦ refl
+      | Equal ↦ refl
+      | Greater ↦ ap (λ x. (e.0, e.1.update) ∷ x) (entered_insert es r v)
+    ]
 
--- of the first updates, and one more
-pub lead_more : (done rest : List Fields) (u : Fields) (w : Option Fields) → IsOrdered (done ++ u ∷ rest) → IsLed (told done) w → IsLed (told (done ++ u ∷ [])) (better_leader w u)
-lead_more done rest u w s h =
-    let e : Register × Value = (u.register, u.value) in
-    let many = map-append (λ (x : Fields). (x.register, x.value)) done (u ∷ rest) in
-    let one = map-append (λ (x : Fields). (x.register, x.value)) done (u ∷ []) in
-    let absent : find register_cmp u.register (entries_of done) ≡ None = fresh (entries_of done) (entries_of rest) e (ap (is_sorted register_cmp) (sym many) ∙ s) in
-    lead_next (told done) (told (done ++ u ∷ [])) u (ap (λ es. in_list es u.register) one ∙ at_last (entries_of done) e absent)
-    (λ q ne. ap (λ es. in_list es q) one ∙ at_before (entries_of done) e q absent ne) w h
-    (λ x is same. not_there done u w x h absent is same)
+pub entered_values : (es : List (Register × Entrant)) → map (λ (e : Entrant). e.update) (values_of es) ≡ values_of (entered es)
+entered_values [] = refl
+entered_values (e ∷ es) = ap (λ x. e.1.update ∷ x) (entered_values es)
+
+entered_lookup : (es : List (Register × Entrant)) (q : Register) → lookup (is_at (register_cmp q)) (entered es) ≡ option_map (λ (e : Entrant). e.update) (entrant_at es q)
+entered_lookup [] q = refl
+entered_lookup (e ∷ es) q =
+    elim (is_eq (register_cmp q e.0)) as (λ b. cond b (Some e.1.update) (lookup (is_at (register_cmp q)) (entered es)) ≡ option_map (λ (x : Entrant). x.update) (cond b (Some e.1) (entrant_at es q))) [
+      | true ↦ refl
+      | false ↦ entered_lookup es q
+    ]
+
+pub find_entered : (es : List (Register × Entrant)) (q : Register) → AreKeyed (entered es) → option_map (λ (e : Entrant). e.update) (entrant_at es q) ≡ update_among (values_of (entered es)) q
+find_entered es q k = sym (entered_lookup es q) ∙ find_keyed (entered es) q k
+
+-- an entrant is of its register
+pub of_register : (es : List (Register × Entrant)) (q : Register) (e : Entrant) → AreKeyed (entered es) → entrant_at es q ≡ Some e → e.update.register ≡ q
+of_register [] q e k is = cc
+of_register (x ∷ es) q e k is = go (of_register es q e k.1) (is_eq (register_cmp q x.0)) refl is
   where
-    not_there : (done : List Fields) (u : Fields) (w : Option Fields) (x : Fields) → IsLed (told done) w → find register_cmp u.register (entries_of done) ≡ None → w ≡ Some x → x.register ≡ u.register → ⊥
-    not_there done u None x l absent is same = cc
-    not_there done u (Some y) x l absent is same =
-        let first : y ≡ x = cc in
-        let stands : y ≡ l.update = (let s = l.stands in cc) in
-        let named : l.update.register ≡ u.register = ap (λ (z : Fields). z.register) (sym stands ∙ first) ∙ same in
-        let own : told done u.register ≡ Some l.advert = subst (λ r. told done r ≡ Some l.advert) named l.own in
-        let none : told done u.register ≡ None = ap advert_of absent in
+    go : (entrant_at es q ≡ Some e → e.update.register ≡ q) → (b : Bool) → is_eq (register_cmp q x.0) ≡ b → cond b (Some x.1) (entrant_at es q) ≡ Some e → e.update.register ≡ q
+    go further true t h = let same : x.1 ≡ e = cc in ap (λ (y : Entrant). y.update.register) (sym same) ∙ k.0 ∙ sym (same_register q x.0 t)
+    go further false t h = further h
+
+-- ---- the places of the updates
+module _ (es : List (Register × Entrant)) (us : List Fields) (u : Fields) (m : AreMatched es us) where
+  -- a register more
+  pub matched_new : entrant_at es u.register ≡ None → AreMatched (insert_entry register_cmp es u.register (record { update = u; place = length us })) (us ++ u ∷ [])
+  matched_new absent = record {
+    placed = λ r e is. elim (same_or_other r u.register) as (λ _. slice_get (us ++ u ∷ []) e.place ≡ Some e.update) [
+      | inl same ↦
+          let here : entrant_at (insert_entry register_cmp es u.register made) u.register ≡ Some e = subst (λ x. entrant_at (insert_entry register_cmp es u.register made) x ≡ Some e) same is in
+          let made_is : made ≡ e = (let there = inserted_same es u.register made in cc) in
+          subst (λ (x : Entrant). slice_get (us ++ u ∷ []) x.place ≡ Some x.update) made_is (last us u)
+      | inr ne ↦ before us u e.place e.update (m.placed r e (sym (inserted_other es u.register made r ne) ∙ is))
+    ];
+    known = λ p v is. elim (either us u p v is) as (λ _. entrant_at (insert_entry register_cmp es u.register made) v.register ≡ Some (record { update = v; place = p })) [
+      | inl old ↦ inserted_other es u.register made v.register (λ same.
+          let there : entrant_at es u.register ≡ Some (record { update = v; place = p }) = subst (λ r. entrant_at es r ≡ Some (record { update = v; place = p })) same (m.known p v old) in
+          cc) ∙ m.known p v old
+      | inr new ↦ subst (λ (x : Fields). entrant_at (insert_entry register_cmp es u.register made) x.register ≡ Some (record { update = x; place = p })) new.1
+          (subst (λ n. entrant_at (insert_entry register_cmp es u.register made) u.register ≡ Some (record { update = u; place = n })) new.0 (inserted_same es u.register made))
+    ];
+  }
+    where
+      made : Entrant
+      made = record { update = u; place = length us }
+
+  -- another update of a register
+  pub matched_again : AreKeyed (entered es) → (was : Entrant) → entrant_at es u.register ≡ Some was
+      → AreMatched (insert_entry register_cmp es u.register (record { update = u; place = was.place })) (set us was.place u)
+  matched_again k was there = record {
+    placed = λ r e is. elim (same_or_other r u.register) as (λ _. slice_get (set us was.place u) e.place ≡ Some e.update) [
+      | inl same ↦
+          let here : entrant_at (insert_entry register_cmp es u.register made) u.register ≡ Some e = subst (λ x. entrant_at (insert_entry register_cmp es u.register made) x ≡ Some e) same is in
+          let made_is : made ≡ e = (let at = inserted_same es u.register made in cc) in
+          subst (λ (x : Entrant). slice_get (set us was.place u) x.place ≡ Some x.update) made_is (set_here us was.place u within)
+      | inr ne ↦
+          let old = sym (inserted_other es u.register made r ne) ∙ is in
+          set_there us was.place e.place u (λ same. ne (
+          let both : slice_get us was.place ≡ Some e.update = subst (λ n. slice_get us n ≡ Some e.update) same (m.placed r e old) in
+          let own = m.placed u.register was there in
+          let one : was.update ≡ e.update = cc in
+          sym (of_register es r e k old) ∙ ap (λ (x : Fields). x.register) (sym one) ∙ of_register es u.register was k there)) ∙ m.placed r e old
+    ];
+    known = λ p v is. elim (nat_same p was.place) as (λ _. entrant_at (insert_entry register_cmp es u.register made) v.register ≡ Some (record { update = v; place = p })) [
+      | inl same ↦
+          let here : slice_get (set us was.place u) was.place ≡ Some v = subst (λ n. slice_get (set us was.place u) n ≡ Some v) same is in
+          let one : u ≡ v = (let at = set_here us was.place u within in cc) in
+          subst (λ (x : Fields). entrant_at (insert_entry register_cmp es u.register made) x.register ≡ Some (record { update = x; place = p })) one
+          (subst (λ n. entrant_at (insert_entry register_cmp es u.register made) u.register ≡ Some (record { update = u; place = n })) (sym same) (inserted_same es u.register made))
+      | inr ne ↦
+          let old = m.known p v (sym (set_there us was.place p u ne) ∙ is) in
+          inserted_other es u.register made v.register (λ same. ne (
+          let at : entrant_at es u.register ≡ Some (record { update = v; place = p }) = subst (λ r. entrant_at es r ≡ Some (record { update = v; place = p })) same old in
+          let one : record { update = v; place = p } ≡ was = cc in
+          ap (λ (x : Entrant). x.place) one)) ∙ old
+    ];
+  }
+    where
+      made : Entrant
+      made = record { update = u; place = was.place }
+
+      within : was.place < length us
+      within = slice_get_within us was.place was.update (m.placed u.register was there)
+
+-- ---- what is kept
+-- what isn't told of isn't entered, and the other way round
+pub absent_entrant : (es : List (Register × Entrant)) (q : Register) → AreKeyed (entered es) → find register_cmp q (entries_of (values_of (entered es))) ≡ None → entrant_at es q ≡ None
+absent_entrant es q k none = go (entrant_at es q) refl
+  where
+    go : (o : Option Entrant) → entrant_at es q ≡ o → entrant_at es q ≡ None
+    go None e = e
+    go (Some x) e =
+        let some : Some x.update ≡ update_among (values_of (entered es)) q = ap (option_map (λ (y : Entrant). y.update)) (sym e) ∙ find_entered es q k in
+        let no : update_among (values_of (entered es)) q ≡ None = ap (option_map (λ (v : Value). record { register = q; value = v })) none in
         cc
 
--- ---- the winner of a tree in which an update was put
-module _ (es after : Tree) (u : Fields) (k : AreKeyed es) (is : after ≡ insert_entry register_cmp es u.register u) where
-  pub put_in : entries_of (values_of after) ≡ put register_cmp u.register u.value (entries_of (values_of es))
-  put_in = ap (λ x. entries_of (values_of x)) is ∙ put_insert es u k
+pub absent_update : (es : List (Register × Entrant)) (q : Register) → AreKeyed (entered es) → entrant_at es q ≡ None → find register_cmp q (entries_of (values_of (entered es))) ≡ None
+absent_update es q k none = none_among (values_of (entered es)) q (sym (find_entered es q k) ∙ ap (option_map (λ (y : Entrant). y.update)) none)
 
-  pub keyed_in : AreKeyed after
-  keyed_in = subst AreKeyed (sym is) (keyed_insert es u k)
+module _ (es after : List (Register × Entrant)) (u : Fields) (place : ℕ) (k : AreKeyed (entered es)) (is : after ≡ insert_entry register_cmp es u.register (record { update = u; place = place })) where
+  pub put_entered : entries_of (values_of (entered after)) ≡ put register_cmp u.register u.value (entries_of (values_of (entered es)))
+  put_entered = ap (λ x. entries_of (values_of (entered x))) is ∙ ap (λ x. entries_of (values_of x)) (entered_insert es u.register (record { update = u; place = place })) ∙ put_insert (entered es) u k
 
-  pub other_led : (w : Option Fields) → IsLed (told (values_of es)) w → is_of w u ≡ false → IsLed (told (values_of after)) (better_leader w u)
-  other_led w h f = lead_next (told (values_of es)) (told (values_of after)) u (told_same (values_of es) (values_of after) u put_in) (told_other (values_of es) (values_of after) u put_in) w h
-      (λ x one same.
-      let no : eq_by_cmp register_cmp u.register x.register ≡ false = subst (λ y. is_of y u ≡ false) one f in
-      let yes : eq_by_cmp register_cmp u.register x.register ≡ true = subst (λ r. eq_by_cmp register_cmp u.register r ≡ true) (sym same) (itself_register u.register) in
-      cc)
+  keyed_entered : AreKeyed (entered after)
+  keyed_entered = subst AreKeyed (sym (ap entered is ∙ entered_insert es u.register (record { update = u; place = place }))) (keyed_insert (entered es) u k)
 
-  pub same_led : (w : Option Fields) → IsLed (told (values_of es)) w → is_of w u ≡ true → still_leads w u ≡ true → IsLed (told (values_of after)) (Some u)
-  same_led None h t s = cc
-  same_led (Some w) h t s = lead_stays (told (values_of es)) (told (values_of after)) u (told_same (values_of es) (values_of after) u put_in) (told_other (values_of es) (values_of after) u put_in) w h (sym (same_register u.register w.register t)) s
+pub many_new : (es after : List (Register × Entrant)) (bs cs : List Bout) (u : Fields) → IsMany es bs → entrant_at es u.register ≡ None
+    → after ≡ insert_entry register_cmp es u.register (record { update = u; place = length bs }) → owns cs ≡ owns bs ++ u ∷ [] → AreSettled cs → IsMany after cs
+many_new es after bs cs u m absent is own s =
+    let as_long : length bs ≡ length (owns bs) = sym (length-map bs (λ (b : Bout). b.own)) in
+    let made = is ∙ ap (λ n. insert_entry register_cmp es u.register (record { update = u; place = n })) as_long in
+    record {
+      keyed = keyed_entered es after u (length bs) m.keyed is;
+      ordered = ordered_put [] (values_of (entered es)) (values_of (entered after)) u m.ordered (put_entered es after u (length bs) m.keyed is);
+      matched = subst (AreMatched after) (sym own) (subst (λ x. AreMatched x (owns bs ++ u ∷ [])) (sym made) (matched_new es (owns bs) u m.matched absent));
+      settled = s;
+    }
+
+pub many_again : (es after : List (Register × Entrant)) (bs cs : List Bout) (u : Fields) (was : Entrant) → IsMany es bs → entrant_at es u.register ≡ Some was
+    → after ≡ insert_entry register_cmp es u.register (record { update = u; place = was.place }) → owns cs ≡ set (owns bs) was.place u → AreSettled cs → IsMany after cs
+many_again es after bs cs u was m there is own s = record {
+  keyed = keyed_entered es after u was.place m.keyed is;
+  ordered = ordered_put [] (values_of (entered es)) (values_of (entered after)) u m.ordered (put_entered es after u was.place m.keyed is);
+  matched = subst (AreMatched after) (sym own) (subst (λ x. AreMatched x (set (owns bs) was.place u)) (sym is) (matched_again es (owns bs) u m.matched m.keyed was there));
+  settled = s;
+}
+
+-- the place of an entrant is one
+pub place_within : (es : List (Register × Entrant)) (bs : List Bout) (q : Register) (e : Entrant) → IsMany es bs → entrant_at es q ≡ Some e → e.place < length bs
+place_within es bs q e m is =
+    let w = slice_get_within (owns bs) e.place e.update (m.matched.placed q e is) in
+    let as_long = length-map bs (λ (b : Bout). b.own) in
+    omega (arith, w, as_long)
+
+-- ---- who is best at the places is the owner
+module _ (es : List (Register × Entrant)) (us : List Fields) (k : AreKeyed (entered es)) (m : AreMatched es us) where
+  -- what is told of a register stands at a place
+  record IsToldAt (q : Register) (b : Advert) : Type 0 where
+    value : Value
+    place : ℕ
+    stands : slice_get us place ≡ Some (record { register = q; value = value })
+    advertises : advert_in value.content ≡ Some b
+
+  told_at : (q : Register) (b : Advert) → told (values_of (entered es)) q ≡ Some b → IsToldAt q b
+  told_at q b e = go (find register_cmp q (entries_of (values_of (entered es)))) refl e
+    where
+      at : (v : Value) (o : Option Entrant) → entrant_at es q ≡ o → option_map (λ (x : Entrant). x.update) o ≡ Some (record { register = q; value = v }) → advert_in v.content ≡ Some b → IsToldAt q b
+      at v None is h says = cc
+      at v (Some x) is h says = let same : x.update ≡ record { register = q; value = v } = cc in record {
+        value = v;
+        place = x.place;
+        stands = m.placed q x is ∙ ap Some same;
+        advertises = says;
+      }
+
+      go : (o : Option Value) → find register_cmp q (entries_of (values_of (entered es))) ≡ o → advert_of o ≡ Some b → IsToldAt q b
+      go None is h = cc
+      go (Some v) is h = at v (entrant_at es q) refl (find_entered es q k ∙ ap (option_map (λ (w : Value). record { register = q; value = w })) is) h
+
+  pub silent : IsChampion us None → IsSilent (values_of (entered es))
+  silent h q = go (told (values_of (entered es)) q) refl
+    where
+      go : (o : Option Advert) → told (values_of (entered es)) q ≡ o → told (values_of (entered es)) q ≡ None
+      go None e = e
+      go (Some b) e = let t = told_at q b e in let none = h t.place (record { register = q; value = t.value }) t.stands in let says = t.advertises in cc
+
+  pub leads : (w : Fields) → Wins us w → IsLeader (values_of (entered es)) w.register.originator
+  leads w l = record {
+    register = w.register;
+    advert = l.advert;
+    named = refl;
+    own = ap advert_of (some_among (values_of (entered es)) w.register w (sym (find_entered es w.register k) ∙ ap (option_map (λ (x : Entrant). x.update)) (m.known l.place w l.stands))) ∙ l.advertises;
+    best = λ q b ne is.
+        let t = told_at q b is in
+        not_better_is b q l.advert w.register ne
+        (subst (λ c. wins c (Some (w.register, l.advert)) ≡ false) (ap (option_map (λ (a : Advert). (q, a))) t.advertises)
+        (subst (λ c. wins (candidate_in (Some (record { register = q; value = t.value }))) c ≡ false) (ap (option_map (λ (a : Advert). (w.register, a))) l.advertises)
+        (l.best t.place (record { register = q; value = t.value }) t.stands)));
+  }
+
+-- ---- results
+pub on_ok_else : {X E : Type 0} (r : Result X E) (P Q : Type 0) → OnOk r P → OnErr r Q → (Q → ⊥) → P
+on_ok_else (Ok x) P Q p q n = p
+on_ok_else (Err e) P Q p q n = absurd (n q)
+
+pub on_ok_map : {X E : Type 0} (r : Result X E) (P Q : Type 0) → OnOk r P → (P → Q) → OnOk r Q
+on_ok_map (Ok x) P Q p f = f p
+on_ok_map (Err e) P Q p f = tt
+
+pub always_err : {X E : Type 0} (r : Result X E) (Q : Type 0) → Q → OnErr r Q
+always_err (Ok x) Q q = tt
+always_err (Err e) Q q = q

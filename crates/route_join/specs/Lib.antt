@@ -8,6 +8,7 @@ pub mod Joins
 pub mod Laws
 pub mod Subject
 pub mod Group
+pub mod Contest
 pub mod Many
 pub mod Kept
 pub mod Lines

@@ -68,7 +68,7 @@ fn best_place(updates: &[Update]) -> Option<usize>
 }
 
 /// Whether a winner that says something else now is the best still, since it says nothing worse.
-pub(crate) fn stays_best(was: &Option<Advert>, now: &Option<Advert>) -> bool
+fn stays_best(was: &Option<Advert>, now: &Option<Advert>) -> bool
     ensures { result ≡ stays_best was.now now.now }
 {
     match (was, now) {

@@ -1,6 +1,7 @@
 //! Tables of route updates: each register's newest value, and who owns a MAC address.
 #![tactic(auto)]
 
+mod contest;
 mod few;
 mod flood;
 mod group;

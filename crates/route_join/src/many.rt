@@ -1,137 +1,92 @@
 //! The updates of one subject, however many, in a tree by their registers, and the
 //! best advert among them.
-ghost use Rattle.std.specs.Prelude.{◌≡◌, ◌+◌, ◌<◌, ◌^◌, true, false, Some, None, IfOk, OnOk, OnErr, MatchOption, if◌then◌else◌};
+ghost use Rattle.std.specs.Prelude.{◌≡◌, ◌+◌, ◌<◌, ◌^◌, Some, None, IfOk, OnOk, OnErr, MatchOption, if◌then◌else◌, length, map};
 ghost use Rattle.std.specs.FinMap.Entries.{find, put};
-ghost use Rattle.std.specs.Map.{values_of};
+ghost use Rattle.std.specs.BTreeMap.{insert_entry};
 ghost use Rattle.route_wire.specs.Order.{register_cmp};
 ghost use Rattle.route_join.specs.Table.{entries_of, IsOrdered, is_news};
-ghost use Rattle.route_join.specs.Group.{told, candidate_in, wins as against, entries_with, added, update_among, IsLeader, IsSilent};
-ghost use Rattle.route_join.specs.Many.{AreKeyed, IsLed, are_level, better_leader, is_of, still_leads};
+ghost use Rattle.route_join.specs.Group.{entries_with, added, update_among, IsLeader, IsSilent};
+ghost use Rattle.route_join.specs.Many.{IsMany, entrant_at};
 
-use crate::few::{stays_best, wins};
+use crate::contest::{Bout, best, push, replace, reserve};
 use crate::named::Named;
-use crate::owner::advert_in;
 use crate::table::Taken;
 use ether_wire::Addr;
-use route_wire::{Advert, Register, Update};
+use route_wire::{Register, Update};
 use std::alloc::{AllocError, Global};
-use std::cmp::Ordering;
 use std::collections::{BTreeMap, btree_map};
 use std::marker::Model;
 
-/// Whether two adverts are equally good, so that the order of their registers tells the better one.
-fn are_level(one: &Option<Advert>, other: &Option<Advert>) -> bool
-    ensures { result ≡ are_level one.now other.now }
+/// An update at its register, and its place in the contest for the best advert.
+#[derive(Clone, Copy)]
+pub(crate) struct Entrant {
+    pub(crate) update: Update,
+    place: usize,
+}
+
+/// The entrant of a register, if there is one.
+fn entrant_at(tree: &BTreeMap<Named, Entrant>, register: &Register) -> Option<Entrant>
+    ensures { result ≡ entrant_at tree.now.entries register.now }
 {
-    match (one, other) {
-        (Some(one), Some(other)) => {
-            one.is_static == other.is_static && other.sequence == one.sequence
-        }
-        _ => false,
+    match tree.get(&Named::new(*register)) {
+        None => None,
+        Some(entrant) => Some(*entrant),
     }
 }
 
-/// Whether what an update says wins against what another one says. Registers are compared
-/// only where they decide.
-fn wins_against(one: &Update, other: &Update) -> bool
-    ensures { result ≡ against (candidate_in (Some one.now)) (candidate_in (Some other.now)) }
-{
-    let said = advert_in(&one.value().content);
-    let best = advert_in(&other.value().content);
-    if are_level(&said, &best) {
-        wins(&said, &best, one.register().cmp(&other.register()))
-    } else {
-        wins(&said, &best, Ordering::Equal)
-    }
-}
-
-/// Whether an update of another register wins against the winner so far.
-fn beats(winner: &Option<Update>, update: &Update) -> bool
-    ensures { result ≡ against (candidate_in (Some update.now)) (candidate_in winner.now) }
-{
-    match winner {
-        None => advert_in(&update.value().content).is_some(),
-        Some(best) => wins_against(update, best),
-    }
-}
-
-/// The winner, once an update of another register may win too.
-fn better_leader(winner: &Option<Update>, update: &Update) -> Option<Update>
-    ensures { result ≡ better_leader winner.now update.now }
-{
-    if beats(winner, update) {
-        Some(*update)
-    } else {
-        *winner
-    }
-}
-
-/// The best advert of a tree.
-fn leader(updates: &BTreeMap<Named, Update>) -> Option<Update>
-    requires { IsOrdered (values_of updates.now.entries) }
-    ensures { IsLed (told (values_of updates.now.entries)) result }
-{
-    let mut winner = None;
-    for update in updates.values() {
-        if beats(&winner, update) {
-            winner = Some(*update);
-        }
-    }
-    winner
-}
-
-/// Whether the update is of the winner's register.
-fn is_of(winner: &Option<Update>, update: &Update) -> bool
-    ensures { result ≡ is_of winner.now update.now }
-{
-    match winner {
-        None => false,
-        Some(best) => update.register().cmp(&best.register()).is_eq(),
-    }
-}
-
-/// Whether a winner that says this now is the best still, since it says nothing worse.
-fn still_leads(winner: &Option<Update>, update: &Update) -> bool
-    ensures { result ≡ still_leads winner.now update.now }
-{
-    match winner {
-        None => false,
-        Some(best) => stays_best(
-            &advert_in(&best.value().content),
-            &advert_in(&update.value().content),
-        ),
-    }
-}
-
-/// The winner, once an update was put. It is found anew only where its own register says something
-/// worse than before.
-fn winner_after(
-    updates: &BTreeMap<Named, Update>,
-    winner: &Option<Update>,
+/// Enters the first update of a register.
+fn enter(
+    tree: &mut BTreeMap<Named, Entrant>,
+    bouts: &mut Vec<Bout>,
     update: &Update,
-) -> Option<Update>
-    requires ordered { IsOrdered (values_of updates.now.entries) }
-    requires other { is_of winner.now update.now ≡ false
-        → IsLed (told (values_of updates.now.entries)) (better_leader winner.now update.now) }
-    requires same { is_of winner.now update.now ≡ true → still_leads winner.now update.now ≡ true
-        → IsLed (told (values_of updates.now.entries)) (Some update.now) }
-    ensures { IsLed (told (values_of updates.now.entries)) result }
+) -> Result<(), AllocError>
+    requires kept { IsMany tree.old.entries bouts.old.items }
+    requires new { entrant_at tree.old.entries update.now.register ≡ None }
+    ensures kept { IsMany tree.new.entries bouts.new.items }
+    ensures ok { OnOk result (tree.new.entries ≡ insert_entry register_cmp tree.old.entries
+        update.now.register (record { update = update.now; place = length bouts.old.items })) }
+    ensures err { OnErr result (tree.new.entries ≡ tree.old.entries) }
 {
-    if !is_of(winner, update) {
-        better_leader(winner, update)
-    } else if still_leads(winner, update) {
-        Some(*update)
-    } else {
-        leader(updates)
+    reserve(bouts)?;
+    let entrant = Entrant {
+        update: *update,
+        place: bouts.len(),
+    };
+    if tree.insert(Named::new(update.register()), entrant).is_err() {
+        return Err(AllocError);
     }
+    push(bouts, update);
+    Ok(())
 }
 
-/// The updates of one subject in a tree by their registers, with the best advert among them, if
-/// anything is advertised.
+/// Puts another update in the place of an entrant of its register.
+fn change(
+    tree: &mut BTreeMap<Named, Entrant>,
+    bouts: &mut Vec<Bout>,
+    was: &Entrant,
+    update: &Update,
+)
+    requires kept { IsMany tree.old.entries bouts.old.items }
+    requires there { entrant_at tree.old.entries update.now.register ≡ Some was.now }
+    ensures kept { IsMany tree.new.entries bouts.new.items }
+    ensures ok { tree.new.entries ≡ insert_entry register_cmp tree.old.entries
+        update.now.register (record { update = update.now; place = was.now.place }) }
+{
+    let entrant = Entrant {
+        update: *update,
+        place: was.place,
+    };
+    // the register is there, so that no memory is needed
+    let _ = tree.insert(Named::new(update.register()), entrant);
+    replace(bouts, was.place, update);
+}
+
+/// The updates of one subject in a tree by their registers, each of them entered in a contest
+/// for the best advert.
 #[derive(Drop)]
 pub(crate) struct Many {
-    updates: BTreeMap<Named, Update>,
-    winner: Option<Update>,
+    tree: BTreeMap<Named, Entrant>,
+    bouts: Vec<Bout>,
 }
 
 impl Model for Many {
@@ -139,15 +94,15 @@ impl Model for Many {
     ghost use Rattle.std.specs.Coded.{codes};
     ghost use Rattle.std.specs.Map.{values_of};
     ghost use Rattle.route_wire.specs.Fields.{Fields};
-    ghost use Rattle.route_join.specs.Many.{IsMany};
+    ghost use Rattle.route_join.specs.Many.{IsMany, entered};
 
     ghost Value = { List Fields };
 
     ghost coded = { Prim.hlevel codes };
 
-    ghost view = { λ m. values_of m.updates.entries };
+    ghost view = { λ m. values_of (entered m.tree.entries) };
 
-    ghost invariant = { λ m. IsMany m.updates.entries m.winner };
+    ghost invariant = { λ m. IsMany m.tree.entries m.bouts.items };
 }
 
 impl Many {
@@ -157,34 +112,28 @@ impl Many {
         ensures { IfOk result (λ m. m ≡ updates.now) }
     {
         let mut tree = BTreeMap::new(alloc);
+        let mut bouts = Vec::new(alloc);
         for update in updates {
-            let place = Named::new(update.register());
-            if tree.insert(place, *update).is_err() {
-                return Err(AllocError);
-            }
+            enter(&mut tree, &mut bouts, update)?;
         }
-        let winner = leader(&tree);
-        Ok(Many {
-            updates: tree,
-            winner,
-        })
+        Ok(Many { tree, bouts })
     }
 
     /// The updates, in the order of their registers.
-    pub(crate) fn updates(&self) -> btree_map::Values<'_, Named, Update>
-        ensures value { result ≡ self.now }
+    pub(crate) fn updates(&self) -> btree_map::Values<'_, Named, Entrant>
+        ensures value { map (λ (e : Entrant). e.update) result ≡ self.now }
         ensures ordered { IsOrdered self.now }
     {
-        self.updates.values()
+        self.tree.values()
     }
 
     /// The update of a register, if there is one.
     pub(crate) fn register(&self, register: &Register) -> Option<Update>
         ensures { result ≡ update_among self.now register.now }
     {
-        match self.updates.get(&Named::new(*register)) {
+        match entrant_at(&self.tree, register) {
             None => None,
-            Some(update) => Some(*update),
+            Some(entrant) => Some(entrant.update),
         }
     }
 
@@ -192,7 +141,7 @@ impl Many {
     pub(crate) fn owner(&self) -> Option<Addr>
         ensures { MatchOption result (IsSilent self.now) (IsLeader self.now) }
     {
-        match &self.winner {
+        match best(&self.bouts) {
             None => None,
             Some(best) => Some(best.register().originator),
         }
@@ -207,12 +156,13 @@ impl Many {
             ≡ None) }
         ensures err { OnErr result (self.new ≡ self.old) }
     {
-        let place = Named::new(update.register());
-        if self.updates.insert(place, *update).is_err() {
-            return Err(AllocError);
+        match entrant_at(&self.tree, &update.register()) {
+            None => enter(&mut self.tree, &mut self.bouts, update),
+            Some(was) => {
+                change(&mut self.tree, &mut self.bouts, &was, update);
+                Ok(())
+            }
         }
-        self.winner = winner_after(&self.updates, &self.winner, update);
-        Ok(())
     }
 
     /// Takes an update: its register has then the newer of the update and its value so far. A

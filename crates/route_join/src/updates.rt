@@ -1,9 +1,11 @@
 //! The updates of a table, one after the other in the order of a report. They take no memory.
-ghost use Rattle.std.specs.Prelude.{◌≡◌, []};
+ghost use Rattle.std.specs.Prelude.{◌≡◌, [], Some};
 ghost use Rattle.std.specs.Iterator.{YieldsFirst, item_count};
 ghost use Rattle.route_join.specs.Group.{AreGroups, updates_in};
+ghost use Rattle.route_join.specs.Many.{many_left};
 
 use crate::group::Group;
+use crate::many::Entrant;
 use crate::named::Named;
 use crate::subject::Subject;
 use route_wire::Update;
@@ -14,7 +16,7 @@ use std::marker::Model;
 #[derive(Drop)]
 pub struct UpdatesOf<'a> {
     few: &'a [Update],
-    many: Option<btree_map::Values<'a, Named, Update>>,
+    many: Option<btree_map::Values<'a, Named, Entrant>>,
 }
 
 impl<'a> Model for UpdatesOf<'a> {
@@ -46,8 +48,8 @@ impl<'a> UpdatesOf<'a> {
     }
 
     /// Those of a tree.
-    pub(crate) fn many(updates: btree_map::Values<'a, Named, Update>) -> Self
-        ensures { result ≡ updates.entry }
+    pub(crate) fn many(updates: btree_map::Values<'a, Named, Entrant>) -> Self
+        ensures { result ≡ many_left (Some updates.entry) }
     {
         UpdatesOf {
             few: &[],
@@ -72,7 +74,7 @@ impl<'a> Iterator for UpdatesOf<'a> {
             None => None,
             Some(updates) => match updates.next() {
                 None => None,
-                Some(first) => Some(*first),
+                Some(first) => Some(first.update),
             },
         }
     }

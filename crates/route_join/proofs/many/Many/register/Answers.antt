@@ -1,13 +1,14 @@
 use Rattle.std.proofs.Common.{ap, ◌∙◌}
-use Rattle.std.specs.BTreeMap.{is_at}
-use Rattle.std.specs.Map.{lookup}
-use Rattle.route_wire.specs.Order.{register_cmp}
+use Rattle.std.specs.Option.{option_map}
+use Rattle.route_join.specs.declared.many.Entrant.{Entrant}
 use Rattle.route_join.specs.Group.{update_among}
-use Rattle.route_join.proofs.Trees.{find_keyed}
+use Rattle.route_join.proofs.Trees.{find_entered}
 use Rattle.route_join.proofs.many.Many.register.Goals as goal
 
 pub returns-in-None : goal.returns-in-None
-returns-in-None c = c.in-None.ensures.value ∙ ap (λ r. lookup (is_at (register_cmp r)) c.self.inside.updates.entries) c.new.ensures ∙ find_keyed c.self.inside.updates.entries c.args.register.now c.self.invariant.keyed ∙ ap (λ us. update_among us c.args.register.now) c.self.view_is
+returns-in-None c =
+    ap (option_map (λ (e : Entrant). e.update)) c.in-None.ensures ∙ find_entered c.self.inside.tree.entries c.args.register.now c.self.invariant.keyed ∙ ap (λ us. update_among us c.args.register.now) c.self.view_is
 
 pub returns-in-Some : goal.returns-in-Some
-returns-in-Some c = c.in-Some.ensures.value ∙ ap (λ r. lookup (is_at (register_cmp r)) c.self.inside.updates.entries) c.new.ensures ∙ find_keyed c.self.inside.updates.entries c.args.register.now c.self.invariant.keyed ∙ ap (λ us. update_among us c.args.register.now) c.self.view_is
+returns-in-Some c =
+    ap (option_map (λ (e : Entrant). e.update)) c.in-Some.ensures ∙ find_entered c.self.inside.tree.entries c.args.register.now c.self.invariant.keyed ∙ ap (λ us. update_among us c.args.register.now) c.self.view_is

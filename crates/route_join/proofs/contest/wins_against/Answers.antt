@@ -4,7 +4,7 @@ use Rattle.route_wire.specs.Order.{register_cmp}
 use Rattle.route_join.specs.Owner.{advert_in}
 use Rattle.route_join.specs.Group.{wins_by}
 use Rattle.route_join.proofs.Within.{both_say}
-use Rattle.route_join.proofs.many.wins_against.Goals as goal
+use Rattle.route_join.proofs.contest.wins_against.Goals as goal
 
 pub returns-then-are_level : goal.returns-then-are_level
 returns-then-are_level c =
