@@ -344,6 +344,10 @@ wrong "edge that is no array" "edge is 1, allowed are 1 to 64 tables"
 opened
 tell "an unknown key of the file, before the edges" tells "config B"
 wrong "an unknown key of the file, before the edges" "B is 2, which is no key of the file"
+{ printf '"b\\u001b[2J\\n\\u009b\\u00e4" = "\\u0007"\n' && edge "" "vni = 5001"; } > "$conf"
+wrong "a key and a value that would steer a terminal" "b?[2J??ä is '?', which is no key of the file"
+{ printf '"%0200d" = 1\n' 0 && edge "" "vni = 5001"; } > "$conf"
+wrong "a key of 200 characters" "$(printf '%0100d' 0) is 1, which is no key of the file"
 for n in $(seq 65); do printf '[[edge]]\naddress = "10.0.0.%s"\nbridge = "02:aa:00:00:00:%02x"\nvnis = [5001]\n[[edge.port]]\nvni = 5001\n' "$n" "$n"; done > "$conf"
 opened
 tell "65 edges" tells "config edge"

@@ -12,7 +12,7 @@ use toml::de::Error;
 use toml::{Table, Value};
 
 /// Room for a line.
-pub(crate) type Line = Page<512>;
+pub(crate) type Line = Page<1024>;
 
 /// What may stand at a key of an edge.
 fn allowed_in_edge(key: &str) -> &'static str {
@@ -57,7 +57,7 @@ fn put_value(line: &mut Line, value: &Value) -> Result<(), Device>
     match value {
         Value::String(text) => {
             line.put(b"'")?;
-            line.put(shown(text.as_str()))?;
+            put_shown(line, text.as_str())?;
             line.put(b"'")
         }
         Value::Integer(number) => {
@@ -74,10 +74,27 @@ fn put_value(line: &mut Line, value: &Value) -> Result<(), Device>
     }
 }
 
-/// As much of a text as a line has room for.
-fn shown(text: &str) -> &[u8] {
-    let octets = text.as_bytes();
-    &octets[..octets.len().min(100)]
+/// Writes a character of the configuration, or a question mark where it would steer a terminal.
+fn put_plain_char(line: &mut Line, c: char) -> Result<(), Device>
+    requires { IsOpen (page_end line.old) }
+    ensures { OnOk result ((page_end line.new).failures ≡ (page_end line.old).failures) }
+{
+    if c.is_control() {
+        return line.put(b"?");
+    }
+    let mut room = [0; 4];
+    line.put(c.encode_utf8(&mut room).as_bytes())
+}
+
+/// Writes as much of a text as a line has room for.
+fn put_shown(line: &mut Line, text: &str) -> Result<(), Device>
+    requires { IsOpen (page_end line.old) }
+    ensures { OnOk result ((page_end line.new).failures ≡ (page_end line.old).failures) }
+{
+    for c in text.chars().take(100) {
+        put_plain_char(line, c)?;
+    }
+    Ok(())
 }
 
 /// Writes where the table is: `edge 2, port 3: `.
@@ -133,7 +150,7 @@ fn put_found(line: &mut Line, table: &Table, key: &str) -> Result<(), Device>
     requires { IsOpen (page_end line.old) }
     ensures { OnOk result ((page_end line.new).failures ≡ (page_end line.old).failures) }
 {
-    line.put(shown(key))?;
+    put_shown(line, key)?;
     match table.get(key) {
         Some(value) => {
             line.put(b" is ")?;
@@ -247,7 +264,7 @@ fn put_syntax(line: &mut Line, text: &str, error: &Error) -> Result<(), Device>
     line.put(b"line ")?;
     put_decimal(line, line_of(text, error))?;
     line.put(b": ")?;
-    line.put(shown(error.message()))?;
+    put_shown(line, error.message())?;
     line.put(b"\n")
 }
 
@@ -295,6 +312,6 @@ fn put_plain(line: &mut Line, key: &str) -> Result<(), Device>
     ensures { OnOk result ((page_end line.new).failures ≡ (page_end line.old).failures) }
 {
     line.put(b"config ")?;
-    line.put(shown(key))?;
+    put_shown(line, key)?;
     line.put(b"\n")
 }
