@@ -1,6 +1,7 @@
-/* Loaded before the C library, it refuses the allocation of the number in REFUSE, counted from 1, and at the end writes to
-   descriptor 3, if that is open, how many were asked for. */
+/* Loaded before the C library, it refuses the allocation of the number in REFUSE, counted from 1 over all threads, and at the
+   end writes to descriptor 3, if that is open, how many were asked for. */
 #include <errno.h>
+#include <stdatomic.h>
 #include <stddef.h>
 #include <stdio.h>
 #include <stdlib.h>
@@ -12,12 +13,12 @@ extern void *__libc_calloc(size_t count, size_t size);
 extern void *__libc_realloc(void *block, size_t size);
 extern void *__libc_memalign(size_t alignment, size_t size);
 
-static long asked;
+static atomic_long asked;
 
 static int is_refused(void) {
     const char *number = getenv("REFUSE");
-    asked += 1;
-    if (number == NULL || atol(number) != asked)
+    long own = atomic_fetch_add(&asked, 1) + 1;
+    if (number == NULL || atol(number) != own)
         return 0;
     errno = ENOMEM;
     return 1;
@@ -36,7 +37,7 @@ int posix_memalign(void **block, size_t alignment, size_t size) {
     return *block == NULL ? ENOMEM : 0;
 }
 
-__attribute__((destructor)) static void tell(void) { dprintf(3, "%ld\n", asked); }
+__attribute__((destructor)) static void tell(void) { dprintf(3, "%ld\n", atomic_load(&asked)); }
 
 /* A program that may start threads ends by this, which calls no destructor. */
 void _exit(int status) {

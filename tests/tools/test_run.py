@@ -4,10 +4,12 @@ import os
 import random
 import socket
 import subprocess
+import sys
 import tempfile
 import time
 import unittest
 from concurrent.futures import ThreadPoolExecutor
+from typing import Callable, Dict, List, NamedTuple, Tuple
 
 from preloaded import BY_RATTLE, Preloaded
 from test_audit import PROGRAM, needs_program
@@ -44,18 +46,19 @@ def free_port() -> int:
 class Cable:
     """The end of a port's cable: what it sends comes to the port, what the port sends comes to it."""
 
-    def __init__(self) -> None:
+    def __init__(self, address: str = ONE, port: int = 0) -> None:
+        self.address = address
         self.here = socket.socket(socket.AF_INET, socket.SOCK_DGRAM)
-        self.here.bind((ONE, 0))
-        self.port = free_port()
+        self.here.bind((address, 0))
+        self.port = port or free_port()
 
     def keys(self) -> str:
         """The port's keys in the configuration."""
-        return f'local = "{ONE}:{self.port}"\nremote = "{ONE}:{self.here.getsockname()[1]}"\n'
+        return f'local = "{self.address}:{self.port}"\nremote = "{self.address}:{self.here.getsockname()[1]}"\n'
 
     def send(self, octets: bytes) -> None:
         """Sends a frame to the port."""
-        self.here.sendto(octets, (ONE, self.port))
+        self.here.sendto(octets, (self.address, self.port))
 
     def receive(self, seconds: float = 5) -> bytes:
         """The next frame of the port within this time, none if there is none. BPDUs are passed over."""
@@ -265,41 +268,124 @@ class Beginning(unittest.TestCase):
         one.here.close()
 
 
+class Kept(NamedTuple):
+    """What came of a run that is refused memory."""
+
+    status: int
+    report: str
+    notes: str
+    asked: int
+    # whether the frames came out at the other edge's cable
+    carried: bool = False
+    # what nobody sent and came out at a cable nevertheless
+    strange: Tuple[bytes, ...] = ()
+
+
 class RefusedGrowth(Preloaded):
-    """Two edges whose input is at its end at once, with each allocation refused, one a run: each run ends."""
+    """Two edges with each allocation refused, one a run: each run ends by itself. Threads allocate in an order of their own, so that
+    what is refused by one number isn't the same in each run."""
 
     source = os.path.join(TOP, "tests", "refuse_allocation.c")
 
-    def config(self, number: int) -> str:
-        """The path of a configuration of two edges. Those of runs beside each other have other addresses."""
-        text = ""
-        for it in (1, 2):
-            address = f"{HOST}{2 * (number % 100) + it + 9}"
-            text += edge(address, it) + f'[[edge.port]]\nvni = {VNI}\nlocal = "{address}:20001"\nremote = "{address}:30001"\n'
-        return self.write(f"{number}.toml", text)
+    def cables(self, number: int) -> List[Cable]:
+        """A cable for each of two edges. Those of runs beside each other have other addresses."""
+        return [Cable(f"{HOST}{2 * (number % 100) + it + 9}", 20001) for it in (1, 2)]
 
-    def refused(self, number: int) -> tuple:
-        """Its status, report and notes with this allocation refused."""
-        words = ["env", f"LD_PRELOAD={self.library}", f"REFUSE={number}", PROGRAM, "run", "--config", self.config(number)]
-        done = subprocess.run(words, input=b"", capture_output=True, timeout=60, check=False)
-        return done.returncode, done.stdout.decode(), done.stderr.decode()
+    def config(self, number: int, cables: List[Cable]) -> str:
+        """The path of a configuration of two edges with these cables."""
+        return self.write(f"{number}.toml", "".join(edge(it.address, n, it) for n, it in enumerate(cables, 1)))
+
+    def begin(self, number: int, config: str) -> Tuple[subprocess.Popen, str]:
+        """The program with this allocation refused, and the file to which it tells how many were asked for."""
+        told = config + ".told"
+        shell = ["bash", "-c", 'exec 3> "$0"; exec env "$@"', told, f"LD_PRELOAD={self.library}", f"REFUSE={number}", PROGRAM]
+        pipes = {"stdin": subprocess.PIPE, "stdout": subprocess.PIPE, "stderr": subprocess.PIPE}
+        return subprocess.Popen([*shell, "run", "--config", config], **pipes), told
+
+    def ended(self, program: subprocess.Popen, told: str) -> Kept:
+        """Its end, for which it has a minute."""
+        try:
+            out, notes = program.communicate(timeout=60)
+        finally:
+            program.kill()
+        with open(told, encoding="utf-8") as it:
+            return Kept(program.returncode, out.decode(), notes.decode(), sum(int(n) for n in it.read().split()))
+
+    def idle(self, number: int) -> Kept:
+        """A run whose input is at its end at once, with this allocation refused."""
+        cables = self.cables(number)
+        try:
+            return self.ended(*self.begin(number, self.config(number, cables)))
+        finally:
+            for it in cables:
+                it.here.close()
+
+    def busy(self, number: int) -> Kept:
+        """A run with a station at each cable, with this allocation refused. Frames are sent until they came, for two seconds at most, and
+        then the input ends."""
+        one, two = cables = self.cables(number)
+        program, told = self.begin(number, self.config(number, cables))
+        frames = [frame(BROADCAST, station(1), b"who is there"), frame(station(1), station(2), b"station 2 is")]
+        end = time.monotonic() + 2
+        carried, strange = True, []
+        for source, to, octets in ((one, two, frames[0]), (two, one, frames[1])):
+            came = b""
+            while came != octets and program.poll() is None and time.monotonic() < end:
+                source.send(octets)
+                came = to.receive(0.05)
+                if came not in (b"", *frames):
+                    strange.append(came)
+            carried = carried and came == octets
+        if carried:
+            # for the last record
+            time.sleep(1)
+        try:
+            return self.ended(program, told)._replace(carried=carried, strange=tuple(strange))
+        finally:
+            for it in cables:
+                it.here.close()
+
+    def each(self, what: str, run: Callable[[int], Kept], is_whole: Callable[[str], bool]) -> Dict[int, int]:
+        """Refuses each allocation in turn, as many as a good run asks for and some more. Status 3 where an edge wants for it, with the
+        report of each edge that ran; 4 where a socket does, before an edge has begun; 0 where it was made up for, with whole reports. How
+        often each came."""
+        good = run(0)
+        self.assertEqual((good.status, good.notes), (0, ""))
+        most = good.asked + good.asked // 10
+        if not BY_RATTLE:
+            self.assertGreater(most, 0)
+        found = {0: 0, 3: 0, 4: 0}
+        carried = 0
+        with ThreadPoolExecutor(16) as pool:
+            for number, kept in enumerate(pool.map(run, range(1, most + 1)), 1):
+                with self.subTest(allocation=number, kept=kept):
+                    self.assertEqual(kept.strange, ())
+                    self.assertIn(kept.status, found)
+                    found[kept.status] += 1
+                    carried += kept.carried
+                    self.assertEqual(kept.notes.endswith(": there is no memory\n"), kept.status == 4)
+                    self.assertLessEqual(kept.report.count("edge "), 2 if kept.status != 4 else 0)
+                    if kept.status == 0:
+                        self.assertTrue(is_whole(kept.report))
+        print(f"evpnd run, {what}, each of {most} allocations refused: {found}, frames carried in {carried}", file=sys.stderr)
+        return found
 
     @needs_program
     def test_each_growth_refused(self) -> None:
-        """Status 3 where an edge wants for it, with the report of each edge that ran; or 0, where it was made up for."""
-        _, asked = self.run_with({"REFUSE": 0}, ["run", "--config", self.config(0)], b"")
+        """Of a run whose input is at its end at once. Then it isn't said which records the other edge has taken."""
+        found = self.each("no input", self.idle, lambda report: report.count("edge ") == 2)
         if not BY_RATTLE:
-            self.assertGreater(sum(asked), 0)
-        found = {0: 0, 3: 0, 4: 0}
-        with ThreadPoolExecutor(16) as pool:
-            for number, (status, report, notes) in enumerate(pool.map(self.refused, range(1, sum(asked) + 1)), 1):
-                with self.subTest(allocation=number, status=status, report=report, notes=notes):
-                    self.assertIn(status, found)
-                    found[status] += 1
-                    self.assertEqual(notes.endswith(": there is no memory\n"), status == 4)
-                    self.assertLessEqual(report.count("edge "), 2 if status != 4 else 0)
-                    if status == 0:
-                        self.assertEqual(report.count("edge "), 2)
+            self.assertGreater(found[3], 0)
+
+    @needs_program
+    def test_each_growth_refused_with_frames(self) -> None:
+        """Of a run in which stations speak to each other: no record of an edge is lost to the other one unless that is told."""
+
+        def is_agreed(report: str) -> bool:
+            one, _, two = report.removeprefix("edge 1\n").partition("edge 2\n")
+            return one == two and one.count("flood ") == 2
+
+        found = self.each("frames", self.busy, is_agreed)
         if not BY_RATTLE:
             self.assertGreater(found[3], 0)
 

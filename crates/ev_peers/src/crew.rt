@@ -71,7 +71,7 @@ pub struct Faults {
     pub lost: u64,
     /// Whether the link of a worker failed.
     pub device: bool,
-    /// Whether a worker was refused memory or a thread.
+    /// Whether a worker, or the book for an event, was refused memory, or a worker its thread.
     pub memory: bool,
 }
 
@@ -114,6 +114,8 @@ struct Shared {
     no_sending: Vec<AtomicBool>,
     /// Whether there was no thread for the records of other edges.
     no_peer: AtomicBool,
+    /// Whether a call of the book was refused memory.
+    starved: AtomicBool,
     /// An end of the channel over which they come.
     own: Sender<Message>,
     /// To the other edges.
@@ -163,6 +165,14 @@ impl Faults {
             lost: self.lost,
             device: self.device || ended == Ended::Device,
             memory: self.memory || ended == Ended::NoMemory,
+        }
+    }
+
+    /// With whether a call of the book was refused memory.
+    fn with_starved(self, starved: bool) -> Self {
+        Faults {
+            memory: self.memory || starved,
+            ..self
         }
     }
 
@@ -220,6 +230,7 @@ fn enter_alone<'x, L: Ledger, I: LinkIn + Drop, G: Gate, R: Wait>(
         gate,
         edge,
         bridge,
+        starved,
     } = site;
     let Senders {
         rt: _,
@@ -234,6 +245,7 @@ fn enter_alone<'x, L: Ledger, I: LinkIn + Drop, G: Gate, R: Wait>(
         gate,
         edge,
         bridge,
+        starved,
     };
     let outlet = Senders {
         rt,
@@ -346,6 +358,7 @@ fn planned<L: Ledger, I: Drop, O: Drop, R: Wait>(
         no_entering: no_words(alloc, count + 2)?,
         no_sending: no_words(alloc, count + 1)?,
         no_peer: AtomicBool::new(false),
+        starved: AtomicBool::new(false),
         own,
         others,
     };
@@ -626,6 +639,7 @@ fn run_workers<
                 gate,
                 edge,
                 bridge,
+                starved: &shared.starved,
             };
             let outlet = Senders {
                 rt,
@@ -684,9 +698,10 @@ pub fn edge_worker<
         rt, alloc, gate, number, bridge, &book, &shared, crew, fresh, peer,
     );
     let (edge, totals) = book.into_inner().close(passes);
+    let starved = shared.starved.load(Ordering::SeqCst);
     Ok(Outcome {
         edge,
         totals,
-        faults,
+        faults: faults.with_starved(starved),
     })
 }

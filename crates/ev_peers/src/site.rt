@@ -9,8 +9,10 @@ use crate::giving::give_out;
 use crate::outlet::{NoMemory, Outlet};
 use ether_wire::{Mac, Vni};
 use ev_book::{Book, BookRefusal, Pass};
-use ev_edge::{Event, Reply};
+use ev_edge::{EdgeRefusal, Event, Refusal, Reply};
+use ev_mobility::Alert;
 use route_wire::Update;
+use std::sync::atomic::{AtomicBool, Ordering};
 use std::sync::ledger::Ledger;
 use std::sync::{Mutex, Wait};
 
@@ -56,6 +58,8 @@ pub struct Site<'x, L: Ledger, G, R> {
     pub edge: usize,
     /// The address from which the edge sends BPDUs.
     pub bridge: Mac,
+    /// Set once a call of the book was refused memory.
+    pub starved: &'x AtomicBool,
 }
 
 impl<'x, L: Ledger, G, R> Site<'x, L, G, R> {
@@ -67,6 +71,7 @@ impl<'x, L: Ledger, G, R> Site<'x, L, G, R> {
             gate: self.gate,
             edge: self.edge,
             bridge: self.bridge,
+            starved: self.starved,
         }
     }
 }
@@ -88,6 +93,9 @@ impl<L: Ledger, G: Gate, R: Wait> Site<'_, L, G, R> {
             call(&mut *book, pass, event, reply)
         };
         self.gate.at(self.edge, Point::After);
+        if lacks_memory(&answer, reply) {
+            self.starved.store(true, Ordering::SeqCst);
+        }
         answer
     }
 
@@ -140,6 +148,27 @@ impl<L: Ledger, G: Gate, R: Wait> Site<'_, L, G, R> {
         let answer = self.enter(pass, event, &mut scratch.reply);
         give_answer(outlet, scratch, self.bridge, vni, frame, &answer)?;
         self.announce(pass, outlet, &mut scratch.reply)
+    }
+}
+
+/// Whether the book, or its edge, refused the call for want of memory.
+fn is_out_of_memory(refusal: &BookRefusal) -> bool {
+    match refusal {
+        BookRefusal::NoRoom => true,
+        BookRefusal::Edge(Refusal::Edge(EdgeRefusal::NoMemory)) => true,
+        _ => false,
+    }
+}
+
+/// Whether an answer tells that memory was refused: to the event, or to a station that isn't
+/// learnt.
+fn lacks_memory(answer: &Result<(), BookRefusal>, reply: &Reply) -> bool {
+    match answer {
+        Ok(()) => match reply.alert {
+            Some(Alert::NoMemory) => true,
+            _ => false,
+        },
+        Err(refusal) => is_out_of_memory(refusal),
     }
 }
 
