@@ -658,7 +658,8 @@ fn run_workers<
 /// the clock and the other edges' records.
 ///
 /// What comes back from a thread is known by its type alone, and so is the book that was under the
-/// lock: no clause says what the workers did meanwhile, nor what they ended with.
+/// lock: no clause says what the workers did meanwhile, nor what they ended with, but that each has
+/// its count.
 ///
 /// # Errors
 ///
@@ -684,6 +685,7 @@ pub fn edge_worker<
     requires each { blank.parts ≡ vec_len links.ports + 3 }
     requires most { vec_len links.ports ≤ 253 }
     requires config { IsConfig config }
+    ensures totals { IfOk result (λ o. length o.totals ≡ vec_len links.ports + 3) }
 {
     let count = links.ports.len() + 3;
     let bridge = bridge_of(&config);
