@@ -1,7 +1,8 @@
 -- What a frame that comes is, or why it is refused.
-use Rattle.std.specs.Prelude.{ℕ, ◌-◌, ◌==◌, ◌&&◌, Bool, not, nat_le, if◌then◌else◌, Option, Some, None, Result, Ok, Err, List, length, drop, slice_index}
+use Rattle.std.specs.Prelude.{ℕ, ◌==◌, ◌&&◌, Bool, not, nat_le, if◌then◌else◌, Option, Some, None, Result, Ok, Err, List, length, drop, slice_index}
 use Rattle.std.specs.List.{list_any}
 use Rattle.ether_wire.specs.Frame.{frame_of, destination_of, source_of, has_length, payload_of}
+use Rattle.ether_wire.specs.Ports.{place_of_port}
 use Rattle.ether_wire.specs.declared.frame.FrameRefusal.{FrameRefusal}
 use Rattle.bpdu_wire.specs.Reading.{reading}
 use Rattle.bpdu_wire.specs.declared.bpdu.Bpdu.{Bpdu}
@@ -49,7 +50,7 @@ data_in vni frame = Data vni (destination_of frame) (source_of frame)
 -- ---- on an access port
 
 abbrev pub is_up : Tree → ℕ → Bool
-is_up tree p = test_at (p - 1) (λ port. port.enabled) tree.ports
+is_up tree p = test_at (place_of_port p) (λ port. port.enabled) tree.ports
 
 -- a port that is down drops all frames
 abbrev pub arrival_at : Bool → ℕ → Result (List ℕ) FrameRefusal → Result Arrival Refusal
