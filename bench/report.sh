@@ -1,8 +1,8 @@
 #!/usr/bin/env bash
-# Times `evpnd report` beside two plain Rust programs on the same seeded streams: seconds, peak memory, ratios of medians.
-#   bench/report.sh [RECORDS] [MACS] [RUNS]        (default: 1000000 100000 5)
+# Times `evpnd report` beside three plain Rust programs on the same seeded streams: seconds, peak memory, ratios of medians.
+#   bench/report.sh [RECORDS] [MACS] [RUNS]        (default: 1000000 100000 5; 0 MACS: each record is the advert of another one)
 #   COUNT=1 bench/report.sh ..                     counts instructions by callgrind in the place of seconds, in one run (needs valgrind)
-# Needs rustc and the kit. Octet for octet the three outputs have to agree, notes too.
+# Needs rustc and the kit. Octet for octet the outputs have to agree, notes too.
 set -eu
 cd "$(dirname "$0")/.."
 records=${1:-1000000} macs=${2:-100000} runs=${3:-5}
@@ -47,13 +47,13 @@ count() {
 median() { sort -n | awk '{ n[NR] = $1 } END { print n[int((NR + 1) / 2)] }'; }
 
 for _ in $(seq "$runs"); do
-  for name in ours ordered flat; do measure "$name" >> "$work/$name.runs"; done
+  for name in ours ordered flat map; do measure "$name" >> "$work/$name.runs"; done
 done
-for name in ordered flat; do
+for name in ordered flat map; do
   cmp "$work/ours.out" "$work/$name.out"
   cmp "$work/ours.notes" "$work/$name.notes"
 done
-for name in ours ordered flat; do
+for name in ours ordered flat map; do
   if [ -n "${COUNT:-}" ]; then
     printf '%s\n' "$(count "$name")" > "$work/$name.figure"
   else

@@ -1,6 +1,7 @@
 #!/usr/bin/env bash
 # Times `evpnd run` beside plain Rust edges with the same threads, sockets and lock: frames a second over loopback sockets, from
-# port to port of one edge and from edge to edge, and the share of the program's time that was the system's. Medians and ratios.
+# port to port of one edge and from edge to edge, the microseconds of processor time a frame, and the share of it that was the
+# system's. Medians and ratios.
 #   bench/run.sh [RUNS] [FRAMES] [WINDOW]        (default: 5 200000 64)
 # Needs rustc, python3 and the built program (EVPND). So many frames are under way at once; both programs are measured in turn.
 set -eu
@@ -63,12 +64,17 @@ figure() {
   awk -v way="$2" -v size="$3" -v column="$4" '$1 == way && $2 == size { print $column }' "$work/times-$1" | sort -n | awk '{ n[NR] = $1 } END { print n[int((NR + 1) / 2)] }'
 }
 
-echo "| way | octets | ours (frames/s) | plain | ratio | the system's share: ours, plain (%) |"
-echo "|---|---|---|---|---|---|"
+# ratio NUMBER NUMBER
+ratio() { awk -v a="$1" -v b="$2" 'BEGIN { printf "%.2f", a / b }'; }
+
+echo "| way | octets | ours (frames/s) | plain | ours / plain | ours (µs a frame) | plain | plain / ours | the system's share: ours, plain (%) |"
+echo "|---|---|---|---|---|---|---|---|---|"
 for way in port-to-port edge-to-edge; do
   for size in 64 500 1400; do
     ours=$(figure ours $way $size 3) plain=$(figure plain $way $size 3)
-    echo "| $way | $size | $ours | $plain | $(awk -v a="$ours" -v b="$plain" 'BEGIN { printf "%.2f", a / b }') | $(figure ours $way $size 5), $(figure plain $way $size 5) |"
+    time=$(figure ours $way $size 5) time_plain=$(figure plain $way $size 5)
+    echo "| $way | $size | $ours | $plain | $(ratio "$ours" "$plain") | $time | $time_plain | $(ratio "$time_plain" "$time") |" \
+      "$(figure ours $way $size 6), $(figure plain $way $size 6) |"
   done
 done
 echo "lost in all runs: ours $(awk '{ n += $4 } END { print n }' "$work/times-ours"), plain $(awk '{ n += $4 } END { print n }' "$work/times-plain")"

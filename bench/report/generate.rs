@@ -1,7 +1,8 @@
 //! Writes a seeded stream of version 3 update records: `generate RECORDS MACS SEED`.
 //!
 //! 16 originators 10.0.0.1 to 10.0.0.16, VNIs 5001 to 5008, one record in ten a withdrawal, one in a hundred refused
-//! (a group address in the key), the rest adverts, one in twenty of them static.
+//! (a group address in the key), the rest adverts, one in twenty of them static. With 0 for MACS each record is the advert of a MAC
+//! of its own, in no order.
 
 use std::env;
 use std::io::{self, BufWriter, Write};
@@ -29,10 +30,13 @@ fn main() -> io::Result<()> {
     let mut random = Random(seed);
     let mut counters = [0u64; 16];
     let mut out = BufWriter::new(io::stdout().lock());
-    for _ in 0..records {
+    for number in 0..records {
         let edge = random.below(16) as usize;
-        let station = random.below(macs);
-        let kind = random.below(100);
+        let (station, kind) = match macs {
+            // times an odd number: no two are equal
+            0 => (number.wrapping_mul(0x9e_3779_b97f) % (1 << 40), 50),
+            _ => (random.below(macs), random.below(100)),
+        };
         counters[edge] += 1;
         let originator = [10, 0, 0, edge as u8 + 1];
         let vni = (5001 + (station % 8) as u32).to_be_bytes();

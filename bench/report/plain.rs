@@ -2,6 +2,7 @@
 //!
 //! `plain ordered ORIGINATORS`: an ordered map from network and MAC to a group of registers in order, with its best advert kept.
 //! `plain flat ORIGINATORS`: a hash map from register to value. It is brought into order, and owners are found, at the end.
+//! `plain map ORIGINATORS`: an ordered map from register to value, as anyone would write it first. Owners are found at the end.
 
 use std::cmp::Ordering;
 use std::collections::{BTreeMap, HashMap};
@@ -195,6 +196,7 @@ enum Table {
     /// By network, and then by place.
     Ordered(BTreeMap<u32, BTreeMap<u64, Group>>),
     Flat(HashMap<Register, Value, BuildHasherDefault<Mixer>>),
+    Map(BTreeMap<(Subject, Source), Value>),
 }
 
 impl Table {
@@ -208,6 +210,10 @@ impl Table {
                 if *known < entry.value {
                     *known = entry.value;
                 }
+            }
+            Table::Map(registers) => {
+                let known = registers.entry((subject, entry.source)).or_insert(entry.value);
+                *known = entry.value.max(*known);
             }
         }
     }
@@ -236,6 +242,18 @@ impl Table {
                         entries.sort_unstable_by_key(|entry| entry.source);
                     }
                     out.group(group[0] >> 32, &entries, best_of(&entries))?;
+                }
+                Ok(())
+            }
+            Table::Map(registers) => {
+                let mut entries = Vec::new();
+                let mut left = registers.iter().peekable();
+                while let Some((&(subject, source), &value)) = left.next() {
+                    entries.push(Entry { source, value });
+                    if left.peek().is_none_or(|next| next.0.0 != subject) {
+                        out.group(subject, &entries, best_of(&entries))?;
+                        entries.clear();
+                    }
                 }
                 Ok(())
             }
@@ -687,12 +705,13 @@ fn take_all(input: &mut Input, originators: &Listed, table: &mut Table, notes: &
 
 fn main() -> io::Result<ExitCode> {
     let words: Vec<String> = env::args().skip(1).collect();
-    let [table, list] = &words[..] else { panic!("usage: plain ordered|flat ORIGINATORS") };
+    let [table, list] = &words[..] else { panic!("usage: plain ordered|flat|map ORIGINATORS") };
     let originators = list.split(',').map(|a| a.parse::<std::net::Ipv4Addr>().expect("an address").into()).collect();
     let originators = Listed::new(originators);
     let mut table = match table.as_str() {
         "ordered" => Table::Ordered(BTreeMap::new()),
         "flat" => Table::Flat(HashMap::default()),
+        "map" => Table::Map(BTreeMap::new()),
         other => panic!("no table is called {other}"),
     };
     let mut input = Input { input: io::stdin().lock(), piece: vec![0; PIECE].into(), from: 0, to: 0 };
