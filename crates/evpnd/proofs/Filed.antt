@@ -1,8 +1,8 @@
 -- What is done with what a file gives for a configuration.
-use Rattle.std.proofs.Common.{◌≡◌, ℕ, ◌+◌, inl, inr, Bool, Result, Ok, Err, refl, ap, subst, ◌∙◌, arith}
+use Rattle.std.proofs.Common.{◌≡◌, ℕ, ◌+◌, inl, inr, Bool, Result, Ok, Err, refl, ap, subst, arith}
 use Rattle.ether_wire.specs.declared.ends.Device.{Device}
 use Rattle.ether_wire.specs.Ends.{End, Source, Puts}
-use Rattle.evpnd.specs.declared.config.Config.{Config}
+use Rattle.evpnd.specs.declared.config.whole.Config.{Config}
 use Rattle.evpnd.specs.declared.config.ConfigRefusal.{ConfigRefusal}
 use Rattle.evpnd.specs.declared.config.ConfigRefusal.TheVariants as refusal
 use Rattle.evpnd.specs.declared.files.Unread.{Unread}

@@ -1,6 +1,5 @@
 -- An input that is read whole.
 use Rattle.std.proofs.Common.{◌≡◌, inl, inr, ℕ, ◌+◌, ◌<◌, ◌^◌, List, [], ◌∷◌, ◌++◌, take, length, length-append, Ok, Err, refl, sym, ap, ◌∙◌, arith}
-use Rattle.std.specs.List.{concat}
 use Rattle.ether_wire.specs.declared.ends.Device as device
 use Rattle.ether_wire.specs.Ends.{Source, Gets}
 use Rattle.evpnd.specs.declared.input.Unread.TheVariants.{Device, NoMemory}

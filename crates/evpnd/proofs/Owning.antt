@@ -1,5 +1,5 @@
 -- After a migration each address has the owner that it had, and what was replaced stays away.
-use Rattle.std.proofs.Common.{◌≡◌, ◌≢◌, ◌⊎◌, inl, inr, ℕ, ◌+◌, ◌≤◌, ◌<◌, Bool, true, false, cond, List, ◌++◌, Contains, Option, Some, None, MatchOption, nat_cmp, refl, sym, ap, subst, ◌∙◌, arith}
+use Rattle.std.proofs.Common.{◌≡◌, ◌≢◌, ◌⊎◌, inl, inr, ℕ, ◌+◌, ◌≤◌, Bool, true, false, cond, List, Contains, Option, Some, None, MatchOption, nat_cmp, refl, sym, ap, subst, ◌∙◌, arith}
 use Rattle.std.proofs.lemmas.Bool.Decides.{nat_tests}
 use Rattle.std.proofs.lemmas.Cmp.{ranked}
 use Rattle.std.proofs.lemmas.List.Elements.{Contains-append_left, Contains-append_cases}
@@ -21,14 +21,14 @@ use Rattle.route_wire.specs.Fields.{Fields}
 use Rattle.route_wire.specs.Order.{ip_cmp, ip_of, vni_of, place_of, rank_of, sequence_of, label2_of, register_cmp, is_newer}
 use Rattle.route_wire.specs.Totals.{ip_exact, same_key, content_exact}
 use Rattle.route_wire.proofs.Newer.{next_newer}
-use Rattle.route_join.specs.Table.{Table, register_of, value_at, IsOrdered, IsTableOf}
+use Rattle.route_join.specs.Table.{Table, register_of, value_at, IsTableOf}
 use Rattle.route_join.specs.Owner.{advert_in, advert_of, advert_at, IsBetterBy, IsOwner, IsUnowned, owner}
-use Rattle.route_join.proofs.Tables.{same_register, itself_register, other_register}
+use Rattle.route_join.proofs.Tables.{itself_register, other_register}
 use Rattle.route_join.proofs.Owners.{owner_is}
 use Rattle.route_join.proofs.Abouts.{contains_found}
-use Rattle.evpnd.specs.Migrated.{is_same_subject, is_same_old, old_cmp, is_newer_old, IsNewest, withdrawn_for, migrated_at, AreMigrated}
+use Rattle.evpnd.specs.Migrated.{is_same_old, old_cmp, is_newer_old, IsNewest, withdrawn_for, migrated_at, AreMigrated}
 use Rattle.evpnd.specs.MigrationLaws.{IsOldOwner, IsOldUnowned, SameOwners, StaysAway}
-use Rattle.evpnd.proofs.Migrating.{Shares, shares, shared, same_itself, same_back, same_on, old_total}
+use Rattle.evpnd.proofs.Migrating.{shares, shared, same_itself, same_back, same_on, old_total}
 
 -- ---- an old register has one newest update
 

@@ -1,5 +1,5 @@
 -- Octets that pairs of hexadecimal digits spell.
-use Rattle.std.proofs.Common.{◌≡◌, ℕ, ◌<◌, ◌≤◌, List, [], ◌∷◌, ◌++◌, length, get_or, drop, append_assoc, refl, ap, ◌∙◌, arith}
+use Rattle.std.proofs.Common.{◌≡◌, ℕ, ◌<◌, ◌≤◌, List, [], ◌∷◌, length, get_or, drop, refl, arith}
 use Rattle.evpnd.specs.Script.{octet_of, octets_of}
 
 octets_pair : (s : List ℕ) → 2 ≤ length s → octets_of s ≡ octet_of (get_or s 0 0) (get_or s 1 0) ∷ octets_of (drop 2 s)

@@ -1,5 +1,5 @@
 -- Whether a call of a writer has failed, of what is written.
-use Rattle.std.proofs.Common.{◌≡◌, ◌+◌, ℕ, List, true, false, Result, Ok, Err, is_ok, refl, ap, ◌∙◌, arith}
+use Rattle.std.proofs.Common.{ℕ, List, true, Result, Ok, Err, is_ok, ap, ◌∙◌, arith}
 use Rattle.ether_wire.specs.declared.ends.Device.{Device}
 use Rattle.ether_wire.specs.Ends.{End, Puts}
 use Rattle.evpnd.specs.Printing.{PutsSome, Minds}

@@ -11,7 +11,7 @@ use Rattle.evpnd.specs.Words.{program}
 use Rattle.evpnd.specs.Originators.{Text, list_text}
 use Rattle.evpnd.specs.Ends.{devices, has_failed}
 use Rattle.evpnd.specs.Files.{Shelf}
-use Rattle.evpnd.specs.Checks.{desk, IsTold, TellsUsage, Sums, TellsLine}
+use Rattle.evpnd.specs.Checks.{desk, IsTold, TellsUsage, Sums}
 use Rattle.evpnd.specs.Program.{world, TellsFault, RunsWords}
 
 failed_put : (a b : End) (r : Result (Unit {0}) Device) (text : Text) (n : ℕ) → Puts a b text r → (if_ok : Bool) → if_ok ≡ is_ok r → ◌≡◌ {A = ℕ} (cond if_ok n 4) (cond (has_failed a b) 4 n)

@@ -1,7 +1,7 @@
 -- What becomes of a configuration's file.
 use Rattle.std.specs.Prelude.{◌≡◌, ℕ, ◌+◌, ◌⊎◌, Bool, false, Result, Ok, Err, if◌then◌else◌}
 use Rattle.ether_wire.specs.Ends.{End, Source}
-use Rattle.evpnd.specs.declared.config.Config.{Config}
+use Rattle.evpnd.specs.declared.config.whole.Config.{Config}
 use Rattle.evpnd.specs.declared.config.ConfigRefusal.{ConfigRefusal}
 use Rattle.evpnd.specs.declared.config.ConfigRefusal.TheVariants as refusal
 use Rattle.evpnd.specs.declared.files.Unread.{Unread}

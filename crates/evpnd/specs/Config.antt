@@ -1,13 +1,13 @@
 -- The configuration that a document gives, or its first fault.
-use Rattle.std.specs.Prelude.{◌≡◌, ℕ, ◌+◌, Bool, List, [], ◌∷◌, ◌++◌, map, codes, string_bytes, Option, Some, None, Result, Ok, Err}
-use Rattle.toml.specs.Data.{Data, Items, no_items, item, Members, as_table}
+use Rattle.std.specs.Prelude.{◌≡◌, ℕ, ◌+◌, Bool, List, [], ◌∷◌, ◌++◌, map, codes, string_bytes, Some, None, Result, Ok, Err}
+use Rattle.toml.specs.Data.{Items, no_items, item, Members, as_table}
 use Rattle.toml.specs.Parse.{parse_document}
 use Rattle.arrayvec.specs.ArrayVec.{ArrayVec}
 use Rattle.ev_edge.specs.declared.config.EdgeConfig.{EdgeConfig}
 use Rattle.evpnd.specs.declared.config.endpoint.Link.{Link}
 use Rattle.evpnd.specs.declared.config.edge.Described.{Described}
 use Rattle.evpnd.specs.declared.config.edges.Edges as code
-use Rattle.evpnd.specs.declared.config.Config.{Config}
+use Rattle.evpnd.specs.declared.config.whole.Config.{Config}
 use Rattle.evpnd.specs.declared.config.ConfigRefusal.{ConfigRefusal}
 use Rattle.evpnd.specs.declared.config.ConfigRefusal.TheVariants as refusal
 use Rattle.evpnd.specs.Keys.{Key, ◌>>=◌, read_or, required, tables_in, only}

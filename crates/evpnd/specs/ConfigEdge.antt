@@ -1,8 +1,7 @@
 -- An edge of the configuration: for each key, in the order of the faults, what it holds.
 use Rattle.std.specs.Prelude.{ℕ, ◌+◌, ◌-◌, ◌*◌, ◌^◌, Bool, true, ◌&&◌, nat_le, if◌then◌else◌, List, [], ◌∷◌, codes, Result, Ok, Err}
-use Rattle.toml.specs.Data.{Items, Members}
+use Rattle.toml.specs.Data.{Members}
 use Rattle.rstp_state.specs.declared.start.Settings.{Settings}
-use Rattle.ev_edge.specs.declared.config.EdgeConfig.{EdgeConfig}
 use Rattle.evpnd.specs.declared.config.port.Ports.{Ports}
 use Rattle.evpnd.specs.declared.config.edge.Names.{Names}
 use Rattle.evpnd.specs.declared.config.edge.Limits.{Limits}

@@ -1,9 +1,7 @@
 -- A port of the configuration: for each key, in the order of the faults, what it holds.
 use Rattle.std.specs.Prelude.{ℕ, ◌+◌, ◌∷◌, [], ◌++◌, Bool, true, false, if◌then◌else◌, List, codes, Option, Some, None, option_map, Result, Ok, Err}
 use Rattle.toml.specs.Data.{Data, Items, no_items, item, Members, get_member, as_table}
-use Rattle.ev_edge.specs.declared.config.PortConfig.{PortConfig}
 use Rattle.evpnd.specs.declared.config.endpoint.Endpoint.{Endpoint}
-use Rattle.evpnd.specs.declared.config.endpoint.Link.{Link}
 use Rattle.evpnd.specs.declared.config.port.Port.{Port}
 use Rattle.evpnd.specs.declared.config.port.Ports.{Ports}
 use Rattle.evpnd.specs.Keys.{Key, ◌>>=◌, read_or, required, optional, number_in, steps_in, flag_in, endpoint_in, vni_in, one_of, only}

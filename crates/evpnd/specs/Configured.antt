@@ -1,7 +1,7 @@
 -- What becomes of a configuration that is wanted, to be used.
 use Rattle.std.specs.Prelude.{◌≡◌, ℕ, ◌++◌, Bool, codes, string_bytes, Result, Ok, Err}
 use Rattle.ether_wire.specs.Ends.{End, Source}
-use Rattle.evpnd.specs.declared.config.Config.{Config}
+use Rattle.evpnd.specs.declared.config.whole.Config.{Config}
 use Rattle.evpnd.specs.declared.config.ConfigRefusal.{ConfigRefusal}
 use Rattle.evpnd.specs.declared.config.ConfigRefusal.TheVariants as refusal
 use Rattle.evpnd.specs.Ends.{Devices, devices}

@@ -1,11 +1,16 @@
 -- What a run of edges over sockets leaves.
-use Rattle.std.specs.Prelude.{◌≡◌, ℕ, ◌⊎◌, ◌||◌, Bool, true, false, not, nat_lt, if◌then◌else◌, List, [], ◌++◌, length, Contains, codes, Result, Ok, Err}
+use Rattle.std.specs.Prelude.{◌≡◌, ℕ, ◌+◌, ◌-◌, ◌^◌, min, ◌⊎◌, ◌||◌, Bool, true, false, not, nat_lt, if◌then◌else◌, List, [], ◌∷◌, ◌++◌, length, Contains, codes, Result, Ok, Err}
 use Rattle.std.specs.Fmt.{decimal}
+use Rattle.std.specs.List.{sum_by, list_any}
+use Rattle.std.specs.declared.alloc.AllocError.{AllocError}
 use Rattle.ether_wire.specs.Ends.{End, Source}
 use Rattle.ether_wire.specs.Names.{addr_text}
 use Rattle.ev_edge.specs.declared.config.EdgeConfig.{EdgeConfig}
 use Rattle.ev_edge.specs.Config.{IsConfig}
-use Rattle.evpnd.specs.declared.config.Config.{Config}
+use Rattle.ev_edge.specs.Edge.{Edge, table_of}
+use Rattle.ev_peers.specs.declared.crew.Outcome.{Outcome}
+use Rattle.route_join.specs.Report.{report_of}
+use Rattle.evpnd.specs.declared.config.whole.Config.{Config}
 use Rattle.evpnd.specs.declared.config.ConfigRefusal.{ConfigRefusal}
 use Rattle.evpnd.specs.declared.config.endpoint.Endpoint.{Endpoint}
 use Rattle.evpnd.specs.declared.run_edges.sockets.Hindrance.{Hindrance}
@@ -16,7 +21,7 @@ use Rattle.evpnd.specs.Ends.{Devices, has_failed, Gives, Holds}
 use Rattle.evpnd.specs.Input.{ReadsWhole}
 use Rattle.evpnd.specs.Configured.{OfFound}
 use Rattle.evpnd.specs.Notes.{status_of}
-use Rattle.evpnd.specs.Simulation.{CountsFailure, IsRefusedMemory}
+use Rattle.evpnd.specs.Simulation.{IsRefusedMemory}
 
 -- each of them may be opened
 abbrev pub EachConfig : List EdgeConfig → Type 0
@@ -57,27 +62,65 @@ abbrev pub ReadsOut : Source → Source → Bool → Type 0
 ReadsOut old new true = IsReadOut old new
 ReadsOut old new false = ReadsWhole old new (Err Device)
 
--- ---- a run
+-- ---- what is told of a run
+
+-- what an edge came to, or that it was refused what it begins with
+abbrev pub Ended : Type 0
+Ended = Result Outcome AllocError
+
+-- `edge N`, and the report of its table behind it
+abbrev pub edge_text : ℕ → Edge → Text
+edge_text number edge = (codes "edge " ++ decimal number ++ codes "\n") ++ report_of (table_of edge)
+
+-- nothing of an edge that didn't run
+abbrev pub ended_text : ℕ → Ended → Text
+ended_text number (Ok outcome) = edge_text number outcome.edge
+ended_text number (Err refused) = []
+
+-- the texts of all edges, the first of which has this number
+abbrev pub reports_from : ℕ → List Ended → Text
+reports_from number [] = []
+reports_from number (one ∷ more) = ended_text number one ++ reports_from (number + 1) more
 
 -- `lost N`, where sends failed
 abbrev pub lost_text : ℕ → Text
 lost_text lost = if nat_lt 0 lost then codes "lost " ++ decimal lost ++ codes "\n" else []
 
--- What is told of edges that ran: of their links `lost` sends failed and perhaps other calls, and perhaps memory or a thread
--- was refused to some. The text on the output isn't said.
-pub record TellsEnded (is_read : Bool) (out out' notes notes' : End) (status : ℕ) : Type 0 where
-  pub lost : ℕ
-  pub is_device : Bool
-  pub is_starved : Bool
-  pub written : CountsFailure out out'
-  pub noted : Holds notes notes' (lost_text lost)
-  pub status_is : status ≡ status_of (((not is_read || is_device) || nat_lt 0 lost) || (has_failed out out' || has_failed notes notes')) is_starved false
+-- how many sends of its workers failed
+abbrev pub sends_failed : Ended → ℕ
+sends_failed (Ok outcome) = outcome.faults.lost
+sends_failed (Err refused) = 0
 
--- The edges ran until the input's end.
-pub record Ran (before after : Devices) (status : ℕ) : Type 0 where
+-- a link of its workers failed
+abbrev pub link_failed : Ended → Bool
+link_failed (Ok outcome) = outcome.faults.device
+link_failed (Err refused) = false
+
+-- it, or one of its workers, was refused memory or a thread
+abbrev pub was_starved : Ended → Bool
+was_starved (Ok outcome) = outcome.faults.memory
+was_starved (Err refused) = true
+
+-- how many sends failed, as far as 64 bits count
+abbrev pub all_lost : List Ended → ℕ
+all_lost ended = min (sum_by sends_failed ended) (2 ^ 64 - 1)
+
+-- The reports of the edges that ran are written, and `lost N` is noted where sends failed. The status is 4 where a device
+-- failed, 3 where memory or a thread was refused, else 0.
+pub record TellsEnded (ended : List Ended) (is_read : Bool) (out out' notes notes' : End) (status : ℕ) : Type 0 where
+  pub written : Holds out out' (reports_from 1 ended)
+  pub noted : Holds notes notes' (lost_text (all_lost ended))
+  pub status_is : status ≡ status_of (((not is_read || list_any link_failed ended) || nat_lt 0 (all_lost ended)) || (has_failed out out' || has_failed notes notes')) (list_any was_starved ended) false
+
+-- ---- a run
+
+-- Edges ran until the input's end, and so many came to something.
+pub record Ran (many : ℕ) (before after : Devices) (status : ℕ) : Type 0 where
   pub is_read : Bool
   pub read : ReadsOut before.input after.input is_read
-  pub told : TellsEnded is_read before.out after.out before.notes after.notes status
+  pub ended : List Ended
+  pub all : length ended ≡ many
+  pub told : TellsEnded ended is_read before.out after.out before.notes after.notes status
 
 -- An address couldn't be bound, which is told, or a port has none: the status is 4.
 pub record IsUnbound (notes notes' : End) (status : ℕ) : Type 0 where
@@ -90,16 +133,17 @@ pub record IsUnbound (notes notes' : End) (status : ℕ) : Type 0 where
 abbrev pub TellsUnbound : End → End → ℕ → Type 0
 TellsUnbound notes notes' status = IsUnbound notes notes' status ⊎ ((notes' ≡ notes) × (status ≡ 3))
 
--- The edges ran; or no edge began and nothing was read, nothing but that written; or memory was refused to what they begin with.
-abbrev pub RunsEdges : Devices → Devices → ℕ → Type 0
-RunsEdges before after status =
-    Ran before after status
+-- So many edges were run; or no edge began and nothing was read, nothing but that written; or memory was refused to what they
+-- begin with.
+abbrev pub RunsEdges : ℕ → Devices → Devices → ℕ → Type 0
+RunsEdges many before after status =
+    Ran many before after status
     ⊎ (((after.input ≡ before.input) × Holds before.out after.out [] × IsUnbound before.notes after.notes status)
     ⊎ IsRefusedMemory before.out after.out before.notes after.notes status)
 
 -- the edges of a configuration are run
 abbrev pub RunsConfig : Config → Devices → Devices → ℕ → Type 0
-RunsConfig config before after status = RunsEdges before after status
+RunsConfig config = RunsEdges (length config.edges.items)
 
 abbrev pub RunsFound : Result Config ConfigRefusal → Devices → Devices → ℕ → Type 0
 RunsFound = OfFound RunsConfig

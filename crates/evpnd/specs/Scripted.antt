@@ -1,6 +1,6 @@
 -- What becomes of a script on the edges of a configuration.
 use Rattle.std.specs.Prelude.{ℕ, Result}
-use Rattle.evpnd.specs.declared.config.Config.{Config}
+use Rattle.evpnd.specs.declared.config.whole.Config.{Config}
 use Rattle.evpnd.specs.declared.config.ConfigRefusal.{ConfigRefusal}
 use Rattle.evpnd.specs.Ends.{Devices}
 use Rattle.evpnd.specs.Configured.{OfFound}

@@ -10,23 +10,14 @@ mod endpoint;
 mod keys;
 mod place;
 mod port;
+mod whole;
 
 use crate::config::edges::config_in;
 use crate::config::keys::Fault;
 pub(crate) use advice::{refusal_line, summary_line};
-use arrayvec::ArrayVec;
 pub(crate) use endpoint::{Endpoint, Link};
-use ev_edge::EdgeConfig;
 use std::alloc::Global;
-
-/// The edges of a document, in its order.
-#[derive(Drop)]
-pub(crate) struct Config {
-    /// What each edge is opened with. Each listens to all.
-    pub(crate) edges: Vec<EdgeConfig>,
-    /// For each edge, where its ports' frames go and come from.
-    pub(crate) links: Vec<ArrayVec<Link, 64>>,
-}
+pub(crate) use whole::Config;
 
 /// Why a text is no configuration.
 #[derive(Debug, Drop)]

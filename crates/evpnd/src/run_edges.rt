@@ -1,11 +1,12 @@
 //! Edges that carry frames: each on its address at UDP port 4789, its access ports at sockets of
 //! their own, until the input ends.
-ghost use Rattle.std.specs.Prelude.{◌≡◌, ◌+◌, ◌≤◌, ◌^◌, ◌||◌, not, nat_lt, vec_len, vec_capacity, IfOk, OnErr};
+ghost use Rattle.std.specs.Prelude.{◌≡◌, ◌+◌, ◌-◌, ◌≤◌, ◌^◌, ◌||◌, min, not, nat_lt, length, vec_len, vec_capacity, IfOk, OnErr};
+ghost use Rattle.std.specs.List.{list_any};
 ghost use Rattle.ether_wire.specs.Ends.{IsOpen, Allows};
 ghost use Rattle.ev_fabric.specs.Opening.{AreConfigs};
 ghost use Rattle.ev_edge.specs.Config.{IsConfig};
 ghost use Rattle.evpnd.specs.Ends.{devices};
-ghost use Rattle.evpnd.specs.RunEdges.{EachConfig, ReadsOut, TellsEnded, Ran, TellsUnbound, RunsEdges};
+ghost use Rattle.evpnd.specs.RunEdges.{EachConfig, ReadsOut, sends_failed, link_failed, was_starved, all_lost, TellsEnded, Ran, TellsUnbound, RunsEdges};
 
 mod order;
 mod sockets;
@@ -19,9 +20,7 @@ use crate::run_edges::telling::{put_lost, put_reports};
 use crate::status::{DEVICE, MEMORY};
 use ether_wire::{Device, In, Out};
 use ev_edge::EdgeConfig;
-use ev_peers::{
-    Destination, EdgeLinks, Faults, Link, OpenGate, Outcome, Setup, UdpOut, Wire, run_all,
-};
+use ev_peers::{Destination, EdgeLinks, Link, OpenGate, Outcome, Setup, UdpOut, Wire, run_all};
 pub(crate) use order::run_file;
 use std::alloc::{AllocError, Global};
 use std::net::Net;
@@ -105,7 +104,9 @@ fn all_ready<'x, R: Clock>(
     all: &'x [Sockets],
     stop: &'x AtomicBool,
 ) -> Result<Vec<Ready<'x, R>>, AllocError>
-    requires { EachConfig configs.items }
+    requires configs { EachConfig configs.items }
+    requires sockets { length all.now ≡ vec_len configs }
+    ensures { IfOk result (λ setups. vec_len setups ≡ vec_len configs) }
 {
     let mut configs = configs;
     let mut setups = Vec::with_capacity(alloc, configs.len())?;
@@ -130,28 +131,40 @@ struct Sum {
 }
 
 impl Sum {
-    /// With what one more edge's workers ended with.
-    fn with(self, faults: Faults) -> Self {
-        Sum {
-            lost: self.lost.saturating_add(faults.lost),
-            is_device: self.is_device || faults.device,
-            is_starved: self.is_starved || faults.memory,
+    /// With what one more edge came to.
+    fn with(self, ended: &Result<Outcome, AllocError>) -> Self
+        ensures lost { result.lost ≡ min (self.lost + sends_failed ended.now) (2 ^ 64 - 1) }
+        ensures device { result.is_device ≡ (self.is_device || link_failed ended.now) }
+        ensures starved { result.is_starved ≡ (self.is_starved || was_starved ended.now) }
+    {
+        match ended {
+            Ok(outcome) => Sum {
+                lost: self.lost.saturating_add(outcome.faults.lost),
+                is_device: self.is_device || outcome.faults.device,
+                is_starved: self.is_starved || outcome.faults.memory,
+            },
+            Err(_) => Sum {
+                lost: self.lost,
+                is_device: self.is_device,
+                is_starved: true,
+            },
         }
     }
 }
 
 /// Sums up what the workers of these edges ended with.
-fn sum_of(ended: &[Result<Outcome, AllocError>]) -> Sum {
+fn sum_of(ended: &[Result<Outcome, AllocError>]) -> Sum
+    ensures lost { result.lost ≡ all_lost ended.now }
+    ensures device { result.is_device ≡ list_any link_failed ended.now }
+    ensures starved { result.is_starved ≡ list_any was_starved ended.now }
+{
     let mut sum = Sum {
         lost: 0,
         is_device: false,
         is_starved: false,
     };
     for outcome in ended {
-        match outcome {
-            Ok(outcome) => sum = sum.with(outcome.faults),
-            Err(_) => sum.is_starved = true,
-        }
+        sum = sum.with(outcome);
     }
     sum
 }
@@ -173,11 +186,11 @@ fn tell_ended<W: Out, N: Out>(
 ) -> u8
     requires out { IsOpen (W.end out.old) }
     requires notes { IsOpen (N.end notes.old) }
-    ensures { TellsEnded is_read (W.end out.old) (W.end out.new)
+    ensures { TellsEnded ended.now is_read (W.end out.old) (W.end out.new)
         (N.end notes.old) (N.end notes.new) result }
 {
     let sum = sum_of(ended);
-    let is_told = put_reports(out, ended);
+    let is_told = put_reports(out, ended).is_ok();
     let is_noted = put_lost(notes, sum.lost).is_ok();
     let has_failed = has_failed(sum, is_read, is_told, is_noted);
     status(has_failed, sum.is_starved, false)
@@ -198,11 +211,13 @@ fn run_bound<R: Threads + Wait + Clock + Sync, E: In, W: Out, N: Out>(
     notes: &mut N,
 ) -> Result<u8, AllocError>
     requires configs { AreConfigs configs.items }
+    requires sockets { length sockets.now ≡ vec_len configs }
     requires reader { Allows (2 ^ 40) (E.end reader.old) }
     requires out { IsOpen (W.end out.old) }
     requires notes { IsOpen (N.end notes.old) }
     ensures ran { IfOk result
-        (λ status. Ran (devices (E.end reader.old) (W.end out.old) (N.end notes.old))
+        (λ status. Ran (length configs.items)
+        (devices (E.end reader.old) (W.end out.old) (N.end notes.old))
         (devices (E.end reader.new) (W.end out.new) (N.end notes.new)) status) }
     ensures out { OnErr result (W.end out.new ≡ W.end out.old) }
     ensures notes { OnErr result (N.end notes.new ≡ N.end notes.old) }
@@ -263,7 +278,8 @@ pub(crate) fn run_edges<R: Threads + Wait + Net + Clock + Sync, E: In, W: Out, N
     requires reader { Allows (2 ^ 40) (E.end reader.old) }
     requires out { IsOpen (W.end out.old) }
     requires notes { IsOpen (N.end notes.old) }
-    ensures { RunsEdges (devices (E.end reader.old) (W.end out.old) (N.end notes.old))
+    ensures { RunsEdges (length config.edges.items)
+        (devices (E.end reader.old) (W.end out.old) (N.end notes.old))
         (devices (E.end reader.new) (W.end out.new) (N.end notes.new)) result }
 {
     let sockets = match bind_all(rt, alloc, &config, TUNNELS) {

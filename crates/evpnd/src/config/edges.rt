@@ -1,5 +1,5 @@
 //! The edges of a document.
-ghost use Rattle.std.specs.Prelude.{◌≡◌, ◌≤◌, ◌<◌, length, map, Ok, eqb, false, IfOk, OnOk};
+ghost use Rattle.std.specs.Prelude.{◌≡◌, ◌+◌, ◌≤◌, ◌<◌, length, map, Ok, eqb, false, vec_len, IfOk, OnOk};
 ghost use Rattle.std.specs.List.{list_any};
 ghost use Rattle.toml.specs.View.{table_view, array_view};
 ghost use Rattle.ev_fabric.specs.Opening.{AreConfigs};
@@ -39,6 +39,8 @@ fn add_edge<'a>(edges: &mut Edges, edge: Described) -> Result<(), Fault<'a>>
     ensures value { Gives (λ _. edges_view edges.new)
         (Ok (with_edge (edges_view edges.old) edge)) result }
     ensures together { OnOk result (FitTogether (edges_view edges.new)) }
+    ensures configs { OnOk result (vec_len edges.new.configs ≡ vec_len edges.old.configs + 1) }
+    ensures links { OnOk result (vec_len edges.new.links ≡ vec_len edges.old.links + 1) }
 {
     let Described {
         bridge,
@@ -59,6 +61,7 @@ fn edges_of<'a>(alloc: Global, for_run: bool, tables: &'a Array) -> Result<Edges
     ensures value { Gives edges_view (edges_from for_run no_edges (array_view tables.now)) result }
     ensures count { IfOk result (λ e. length e.addresses.items ≡ length tables.now.items) }
     ensures together { IfOk result (λ e. FitTogether (edges_view e)) }
+    ensures each { IfOk result (λ e. vec_len e.links ≡ vec_len e.configs) }
 {
     let mut edges = Edges {
         addresses: ArrayVec::new(),
@@ -99,6 +102,7 @@ fn listen_all(edges: &mut [EdgeConfig], addresses: &ArrayVec<Addr, 64>)
 
 /// The configuration of these edges: each listens to all.
 fn whole_of(edges: Edges) -> Config
+    requires { vec_len edges.links ≡ vec_len edges.configs }
     ensures { view_of result ≡ whole_of (edges_view edges) }
 {
     let Edges {

@@ -1,5 +1,5 @@
 //! `evpnd run`: the edges of a configuration, over sockets.
-ghost use Rattle.std.specs.Prelude.{◌≡◌, ◌^◌, true};
+ghost use Rattle.std.specs.Prelude.{◌≡◌, ◌^◌, true, length};
 ghost use Rattle.ether_wire.specs.Ends.{IsOpen, Allows};
 ghost use Rattle.ev_fabric.specs.Opening.{AreConfigs};
 ghost use Rattle.evpnd.specs.Files.{HasRoom};
@@ -32,7 +32,8 @@ fn run_buffered<H: Threads + Wait + Net + Clock + Sync, R: In, W: Out, N: Out>(
     requires reader { Allows (2 ^ 40) (R.end reader.old) }
     requires out { IsOpen (W.end out) }
     requires notes { IsOpen (N.end notes) }
-    ensures { RunsEdges (devices (R.end reader.old) (W.end out) (N.end notes))
+    ensures { RunsEdges (length config.edges.items)
+        (devices (R.end reader.old) (W.end out) (N.end notes))
         (devices (R.end reader.new) (W.end result.1) (N.end result.2)) result.0 }
 {
     let (out_failures, notes_failures) = (out.failures(), notes.failures());

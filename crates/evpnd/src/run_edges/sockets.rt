@@ -147,7 +147,9 @@ pub(crate) fn bind_all<R: Net>(
     alloc: Global,
     config: &Config,
     tunnels: u16,
-) -> Result<Vec<Sockets>, Unbound> {
+) -> Result<Vec<Sockets>, Unbound>
+    ensures { IfOk result (λ all. vec_len all ≡ vec_len config.now.edges) }
+{
     let Ok(mut all) = Vec::with_capacity(alloc, config.edges.len()) else {
         return Err(Unbound::NoMemory);
     };

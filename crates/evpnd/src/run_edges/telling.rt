@@ -1,8 +1,6 @@
 //! What a run writes when it has ended.
-ghost use Rattle.std.specs.Prelude.{◌≡◌, true};
 ghost use Rattle.ether_wire.specs.Ends.{IsOpen, Puts};
-ghost use Rattle.evpnd.specs.Printing.{PutsSome, Minds};
-ghost use Rattle.evpnd.specs.RunEdges.{lost_text};
+ghost use Rattle.evpnd.specs.RunEdges.{edge_text, ended_text, reports_from, lost_text};
 
 use ether_wire::{Device, Out, put_decimal};
 use ev_edge::Edge;
@@ -10,9 +8,10 @@ use ev_peers::Outcome;
 use std::alloc::AllocError;
 
 /// Writes `edge E`, and the edge's report behind it.
+#[tactic(auto, using(ether_wire::proofs::Appending::with_text_twice))]
 fn put_report<W: Out>(out: &mut W, number: u64, edge: &Edge) -> Result<(), Device>
     requires { IsOpen (W.end out.old) }
-    ensures { PutsSome (W.end out.old) (W.end out.new) result }
+    ensures { Puts (W.end out.old) (W.end out.new) (edge_text number edge.now) result }
 {
     out.put(b"edge ")?;
     put_decimal(out, number)?;
@@ -20,21 +19,38 @@ fn put_report<W: Out>(out: &mut W, number: u64, edge: &Edge) -> Result<(), Devic
     edge.report(out)
 }
 
-/// Writes the reports of the edges that ran, each with its number, and answers whether all is
-/// written. After a failed write no further one is made.
-pub(crate) fn put_reports<W: Out>(out: &mut W, ended: &[Result<Outcome, AllocError>]) -> bool
+/// Writes the report of an edge, if it ran.
+#[tactic(auto, using(ether_wire::proofs::Appending::with_text_none))]
+fn put_ended<W: Out>(
+    out: &mut W,
+    number: u64,
+    ended: &Result<Outcome, AllocError>,
+) -> Result<(), Device>
     requires { IsOpen (W.end out.old) }
-    ensures { Minds (W.end out.old) (W.end out.new) true result }
+    ensures { Puts (W.end out.old) (W.end out.new) (ended_text number ended.now) result }
 {
-    let mut is_told = true;
-    let mut number = 0u64;
-    for outcome in ended {
-        number = number.saturating_add(1);
-        if let Ok(outcome) = outcome {
-            is_told = is_told && put_report(out, number, &outcome.edge).is_ok();
-        }
+    match ended {
+        Ok(outcome) => put_report(out, number, &outcome.edge),
+        Err(_) => Ok(()),
     }
-    is_told
+}
+
+/// Writes the reports of the edges that ran, each with its number.
+///
+/// # Errors
+///
+/// `Device` exactly where a call of the writer failed; then no further call is made.
+pub(crate) fn put_reports<W: Out>(
+    out: &mut W,
+    ended: &[Result<Outcome, AllocError>],
+) -> Result<(), Device>
+    requires { IsOpen (W.end out.old) }
+    ensures { Puts (W.end out.old) (W.end out.new) (reports_from 1 ended.now) result }
+{
+    for (place, one) in ended.iter().enumerate() {
+        put_ended(out, place as u64 + 1, one)?;
+    }
+    Ok(())
 }
 
 /// Writes `lost N`, where sends failed.

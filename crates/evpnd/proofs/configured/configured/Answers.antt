@@ -1,4 +1,4 @@
-use Rattle.std.proofs.Common.{List, ℕ, refl, subst}
+use Rattle.std.proofs.Common.{refl}
 use Rattle.evpnd.specs.Configured.{OfFound, Never}
 use Rattle.evpnd.specs.Ends.{devices}
 use Rattle.evpnd.proofs.Filed.{of_refused, of_unread, file_gives}

@@ -1,9 +1,12 @@
-use Rattle.std.proofs.Common.{vec_len}
+use Rattle.std.proofs.Common.{◌≡◌, ◌+◌, length, vec_len}
 use Rattle.evpnd.specs.RunEdges.{EachConfig}
 use Rattle.evpnd.proofs.run_edges.all_ready.Given as goal
 
 abbrev pub invariant-loop-config : goal.invariant-loop-config
-invariant-loop-config g l = EachConfig l.configs.items
+invariant-loop-config g l = record {
+  each : EachConfig l.configs.items;
+  all : vec_len l.setups + vec_len l.configs ≡ length l.all;
+}
 
 abbrev pub decreases-loop-config : goal.decreases-loop-config
 decreases-loop-config g l = vec_len l.configs

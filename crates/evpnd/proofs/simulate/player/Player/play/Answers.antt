@@ -1,6 +1,5 @@
-use Rattle.std.proofs.Common.{◌≡◌, ℕ, ◌+◌, ◌<◌, List, [], length, refl, sym, subst, arith}
+use Rattle.std.proofs.Common.{◌<◌, length, sym, arith}
 use Rattle.std.proofs.lemmas.Bool.Decides.{nat_tests}
-use Rattle.evpnd.specs.Playing.{Played}
 use Rattle.evpnd.proofs.Minding.{minds_none, minds_both, still_open}
 use Rattle.evpnd.proofs.Playings.{played_none, played_more}
 use Rattle.evpnd.proofs.simulate.player.Player.play.Goals as goal
