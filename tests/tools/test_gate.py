@@ -1,0 +1,107 @@
+"""The gate's own reading of sources, edits and checks: what it takes for a body, for a name, for a goal of its own."""
+
+import os
+import sys
+import unittest
+
+from test_records import TOP
+
+sys.path.insert(0, os.path.join(TOP, "tools", "gate"))
+import edits
+import sources
+
+SOURCE = """//! Numbers: fn in_a_comment() { .. }
+
+pub trait Shape {
+    fn area(&self) -> u64
+        ensures { result ≡ area self.now };
+}
+
+impl Shape for Square {
+    fn area(&self) -> u64
+        requires { self.now.side < 2 ^ 32 }
+        ensures { result ≡ area self.now }
+    {
+        let text = "fn no() { }";
+        self.side * self.side
+    }
+}
+
+/// Twice.
+pub fn twice(number: u32) -> u64
+    ghost it: { ℕ }
+    ensures {
+        result ≡ 2 * number
+    }
+{
+    u64::from(number) * 2
+}
+"""
+
+# as the kit's check says it (its terms shortened)
+SAID = """./proofs/table/Table/shift/Answers.antt:20:58: error: `invariant_of-self`: as printed, the two types first differ
+  (expected), right after `IsTable`
+./proofs/table/Table/shift/Answers.antt:26:58: error: `returns-clause-after`: computed as far as they go, the two types differ
+./proofs/table/Table/learn/Answers.antt:15:37: error: `hear-requires-clause-at`: record `After-hear` has no field `hold`
+fn low::orders::Orders::leave: no proof: expected answers in ./proofs/orders/Orders/leave/Answers.antt; `search` did not prove `returns`
+fn low::orders::Orders::hold: proved
+fn low::table::Table::shift: not proved
+fn low::table::Table::learn: not proved
+fn low::table::Table::move: not proved; it calls `low::table::Table::shift`, which is not proved
+only=5 proved=1
+"""
+
+
+class Crate:
+    """What the edits ask of a crate."""
+
+    name = "low"
+
+
+def edit(path: str, name: str) -> edits.Edit:
+    """An edit of one function's body."""
+    return edits.Edit("an.edit", {(path, name)})
+
+
+class Sources(unittest.TestCase):
+    """Where functions' bodies are."""
+
+    def test_bodies_are_told_from_clauses(self):
+        shape = sources.shape_of(SOURCE)
+        self.assertEqual(len(shape), len(SOURCE))
+        found = [(name, SOURCE[start:end].split("\n")[1].strip()) for name, _, start, end in sources.bodies(shape)]
+        self.assertEqual(found, [("area", 'let text = "fn no() { }";'), ("twice", "u64::from(number) * 2")])
+
+
+class Edits(unittest.TestCase):
+    """Which function an edit changes, and what a check said of it."""
+
+    def test_edit_of_a_body_has_its_function(self):
+        found = edits.function_at("src/shape.rt", SOURCE, "self.side * self.side")
+        self.assertEqual(found, "SquareShape::area")
+        found = edits.function_at("src/numbers/twice.rt", SOURCE, "u64::from(number) * 2")
+        self.assertEqual(found, "numbers::twice::twice")
+
+    def test_what_stands_outside_is_no_body(self):
+        self.assertIsNone(edits.function_at("src/shape.rt", SOURCE, "/// Twice."))
+        self.assertIsNone(edits.function_at("src/shape.rt", SOURCE, "result ≡ 2 * number"))
+
+    def test_refused_edit_tells_its_goals(self):
+        said = edits.refusal(Crate, edit("src/table.rt", "Table::shift"), SAID)
+        self.assertEqual(said, "low::table::Table::shift: invariant_of-self, returns-clause-after")
+        said = edits.refusal(Crate, edit("src/orders.rt", "Orders::leave"), SAID)
+        self.assertEqual(said, "low::orders::Orders::leave: returns")
+
+    def test_lost_name_is_told(self):
+        said = edits.refusal(Crate, edit("src/table.rt", "Table::learn"), SAID)
+        self.assertEqual(said, "low::table::Table::learn: hear-requires-clause-at (only names that the edit took away)")
+
+    def test_caller_of_what_is_not_proved_is_tried_again(self):
+        self.assertEqual(edits.refusal(Crate, edit("src/table.rt", "Table::move"), SAID), "")
+
+    def test_proved_edit_is_not_refused(self):
+        self.assertIsNone(edits.refusal(Crate, edit("src/orders.rt", "Orders::hold"), SAID))
+
+
+if __name__ == "__main__":
+    unittest.main()

@@ -1,0 +1,192 @@
+#!/usr/bin/env python3
+"""Tries must-fail edits, many in one check.
+
+usage: tools/gate/edits.py CRATE..      (at the top of the repository, over what `rt check` kept of these crates)
+
+A function is proved from the contracts of those that it calls, never from their bodies. So edits of the bodies of different
+functions don't disturb each other, and one check tries them together, which asks for these functions alone (`--only`); their
+callers are no concern of an edit of a body. An edit counts as refused where the check refuses the very function that it
+changes, for a goal of its own. Where it only calls one that isn't proved, it is tried again in other company. A check with
+`--only` may pass what a whole check refuses, and never the other way round. So whatever isn't refused like this is tried alone and
+whole, as `rt must-fail` does it, and counts as that says: an edit outside a body, one whose function has no clear name, one
+that isn't read or is proved.
+
+Of each refused edit the goals are told that refused it. Where they only miss a name that the edit took away, that is said:
+such an edit shows little of a contract.
+"""
+import os
+import re
+import shutil
+import subprocess
+import sys
+import tempfile
+
+sys.path.insert(0, os.path.dirname(os.path.realpath(__file__)))
+from kit import rt, rtlib
+from sources import bodies, shape_of
+
+IMPL = re.compile(r"^(?:unsafe )?impl\b(?:<[^{\n]*?>(?= ))?\s+(?:(?:\w+::)*(\w+)(?:<[^{\n]*?>)?\s+for\s+)?&?(\w+)", re.M)
+LOST = re.compile(r"has no field|is not in scope|has no `|was not admitted")
+
+
+class Edit:
+    """An edit of bodies: its file, and of each function that it changes the path of its source and the end of its name."""
+
+    def __init__(self, path, functions):
+        self.path, self.functions = path, functions
+
+    def names(self):
+        return {name for _, name in self.functions}
+
+
+def function_at(path, text, old):
+    """Returns the end of the name, as a check prints it, of the function in whose body this text stands, or None."""
+    at = text.index(old)
+    for name, head, start, end in bodies(shape_of(text)):
+        if start < at and at + len(old) < end:
+            return name_of(path, name, text[:head])
+    return None
+
+
+def name_of(path, name, before):
+    """The end of a function's name: with its type if it is a method, else with its module."""
+    module = [it for it in os.path.splitext(path)[0].split("/")[1:] if it not in ("lib", "main", "mod")]
+    is_method = before.rpartition("\n")[2].startswith(" ")
+    # of `impl Tr for Ty` a check says TyTr, of `impl Ty` Ty; and a type's module can be another than that of its impl
+    types = [kind + tr for tr, kind in IMPL.findall(before)]
+    return f"{types[-1]}::{name}" if is_method and types else "::".join([*module, name])
+
+
+def applied(edit, folder, texts):
+    """Applies an edit of bodies over the texts so far. Returns the new texts and the edit, or None if it is no such edit."""
+    texts, functions, path, old = dict(texts), set(), None, None
+    with open(edit, encoding="utf-8") as it:
+        lines = it.read().split("\n")
+    for line in lines:
+        word, _, rest = line.partition(":")
+        rest = rest[rest.startswith(" ") :]
+        if word == "file":
+            path = rest.strip()
+        elif word == "old":
+            old = rest
+        elif word == "new":
+            if not path or not old or not path.startswith("src/"):
+                return None
+            if path not in texts:
+                with open(f"{folder}/{path}", encoding="utf-8") as it:
+                    texts[path] = it.read()
+            found = function_at(path, texts[path], old) if texts[path].count(old) == 1 else None
+            if not found:
+                return None
+            functions.add((path, found))
+            texts[path] = texts[path].replace(old, rest)
+            old = None
+    return (texts, Edit(edit, functions)) if functions else None
+
+
+def check(crate, texts, kept, only):
+    """Checks these functions of a copy of the crate with these texts in place of its own, over the kept work."""
+    with tempfile.TemporaryDirectory(prefix="edits-") as room:
+        for part in rtlib.PARTS:
+            if os.path.isdir(f"{crate.folder}/{part}"):
+                shutil.copytree(f"{crate.folder}/{part}", f"{room}/{part}")
+        for path, text in texts.items():
+            with open(f"{room}/{path}", "w", encoding="utf-8") as it:
+                it.write(text)
+        words = [rtlib.RATTLE, "check", *crate.words(["--jobs", "1"], keeps=False), "--incremental", kept]
+        words += [word for it in only for word in ("--only", it)]
+        how = {"cwd": room, "stdin": subprocess.DEVNULL, "stdout": subprocess.PIPE, "stderr": subprocess.STDOUT, "errors": "replace"}
+        return subprocess.run([*rtlib.guarded(), *words], **how)
+
+
+def goals_of(function, said):
+    """Returns the function's own goals that the check refused, each with whether only a lost name refused it."""
+    folder = "/".join(function.split("::")[1:])
+    own = re.findall(rf"^(?:\./)?proofs/{re.escape(folder)}/\S+: error: (?:`([^`]*)`: )?(.*)$", said, re.M)
+    goals = {name or "its proof": bool(LOST.search(why)) for name, why in own}
+    line = re.search(rf"^fn {re.escape(function)}: .*$", said, re.M)[0]
+    for names in re.findall(r"`search` did not prove ([^;]*)", line):
+        goals |= {it: False for it in re.findall(r"`([^`]+)`", names)}
+    return goals
+
+
+def refusal(crate, edit, said):
+    """Returns the line that says how the check refused each function of the edit for goals of its own; an empty one where one
+    has no such goal, but calls what isn't proved; or None."""
+    told = []
+    for _, name in sorted(edit.functions):
+        is_own = rf"^fn ({crate.name}::(?:\S+::)?{re.escape(name)}): (not proved|no proof: expected answers)(.*)$"
+        found = re.search(is_own, said, re.M)
+        goals = goals_of(found[1], said) if found else {}
+        if not goals:
+            return "" if found and "it calls" in found[3] else None
+        kept = [it for it, is_lost in goals.items() if not is_lost]
+        lost = "" if kept else " (only names that the edit took away)"
+        told.append(f"{found[1]}: {', '.join(kept or goals)}{lost}")
+    return "; ".join(told)
+
+
+def next_batch(crate, waiting):
+    """Returns the edits that one check can try together, with the texts that they make, those for a later check, and the others."""
+    texts, taken, later, others = {}, [], [], []
+    for path in waiting:
+        made = applied(path, crate.folder, texts)
+        if made is None:
+            # it may be no edit of a body, or meet an edit that has been taken
+            (later if applied(path, crate.folder, {}) else others).append(path)
+        elif made[1].names() & {name for it in taken for name in it.names()}:
+            later.append(path)
+        else:
+            texts = made[0]
+            taken.append(made[1])
+    return texts, taken, later, others
+
+
+def tried_together(crate, edits, kept):
+    """Returns the edits that are refused with others, each with the line that says so, and those that are left."""
+    refused, left, waiting = {}, [], edits
+    while waiting:
+        texts, taken, waiting, others = next_batch(crate, waiting)
+        left += others
+        if not taken:
+            return refused, left + waiting
+        ran = check(crate, texts, kept, sorted(name for it in taken for name in it.names()))
+        is_judged = ran.returncode == 1 and re.search(r"^only=\d+ proved=\d+\n\Z", ran.stdout, re.M)
+        lines = {it.path: refusal(crate, it, ran.stdout) if is_judged else None for it in taken}
+        refused |= {it: line for it, line in lines.items() if line}
+        again = [it for it, line in lines.items() if line == ""]
+        # where nothing was judged, another check in this company would say the same
+        waiting, left = (waiting + again, left) if len(again) < len(lines) else (waiting, left + again)
+        left += [it for it, line in lines.items() if line is None]
+    return refused, left
+
+
+def try_all(crate, edits, kept):
+    """Tries a crate's edits over what was proved of it. Returns for each whether it was refused, and what to say of it."""
+    refused, left = tried_together(crate, edits, kept)
+    tried = {it: (True, f"must-fail {crate.name}/{os.path.basename(it)}: refused, as it must be: {line}") for it, line in refused.items()}
+    for edit in left:
+        well, text = rt.must_fail(crate, edit, ["--jobs", "1"], kept)
+        # what was not refused over kept work is tried from nothing, as in the kit
+        tried[edit] = (well, f"{text} (alone)") if well else rt.must_fail(crate, edit, ["--jobs", "1"])
+    return [tried[it] for it in edits]
+
+
+def main(names):
+    crates = {it.name: it for it in rtlib.crates_below(os.getcwd())}
+    passed = failed = 0
+    for crate in [crates[it] for it in names] or crates.values():
+        good, bad = rt.edits_of(crate)
+        failed += len(bad)
+        with tempfile.TemporaryDirectory(prefix="kept-") as room:
+            # an edit's check writes into the kept work, so it gets a copy
+            shutil.copytree(f"{crate.folder}/{rtlib.KEPT[1]}", f"{room}/kept")
+            for well, text in try_all(crate, good, f"{room}/kept"):
+                rt.say(text)
+                passed, failed = passed + well, failed + (not well)
+    print(f"{passed} passed, {failed} failed")
+    return 1 if failed else 0
+
+
+if __name__ == "__main__":
+    sys.exit(main(sys.argv[1:]))

@@ -1,0 +1,178 @@
+#!/usr/bin/env python3
+"""The gate's proofs, edits and tests, each function proved once.
+
+usage: tools/gate/gate.py      (at the top of the repository)
+
+`rt ci` proves a crate from nothing three times: alone, with its tests, and in an empty folder before its edits. Here a crate
+is proved once, from nothing, into a folder of this run, which ends with it. Over that folder its must-fail edits are tried,
+many in one check (edits.py), and its programs are built by both compilers. Its tests are compiled with the kit's checks and
+run, not proved: `rt try` stops at an index out of bounds, an overflow, a failed unwrap, a bad access, and at only some calls
+that break a `requires`. All else is the kit's own code: what it refuses in texts and last lines, the handles, the lanes, the
+programs' runs, what counts as a refused edit.
+
+Beside that the gate looks whether each function of the sources was among those that were proved, and prints what each crate
+took. The last line is 'N passed, M failed'.
+
+Last lines of checks say incremental=trusted: a check trusts whoever can write to its folder, and that is this run alone.
+"""
+import collections
+import os
+import re
+import shutil
+import sys
+import tempfile
+import threading
+
+sys.path.insert(0, os.path.dirname(os.path.realpath(__file__)))
+import edits
+from kit import rt, rtlib
+from sources import bodies
+from tried import tried_tests
+
+# As long as a check of evpnd, the largest, was ever seen to need. (The kit reckons more, and would let processors idle.)
+MOST_MEMORY = 5_500_000_000
+NOTHING = "other\tproof"
+
+
+class Run:
+    """What this run knows: its folder, what each thread works on, and which functions were proved."""
+
+    folder = ""
+    on = threading.local()
+    proved = {}
+    tests = {}
+    lost = []
+    # the kit's own count: crates and edits
+    counted = (0, 1)
+
+
+def work_for(label):
+    """Says what this thread's commands work for: a crate, and its proof, its tests or its edits."""
+    Run.on.label = label
+
+
+def noted(words):
+    """Puts a note of what a command takes before its words."""
+    spent = f"{os.path.dirname(os.path.realpath(__file__))}/spent.py"
+    return [*words, sys.executable, "-IS", spent, f"{Run.folder}/ledger", getattr(Run.on, "label", NOTHING)]
+
+
+class WithoutWord:
+    """The kit's pattern of a verdict, which also takes a last line that names the folder of this run."""
+
+    def __init__(self, pattern):
+        self.pattern = pattern
+
+    def search(self, text):
+        return self.pattern.search(text.replace(" incremental=trusted", ""))
+
+
+class Crate(rt.Crate):
+    """A crate under this gate: its checks share a folder of the run, and its tests are tried."""
+
+    def ci(self, flags, tests):
+        work_for(f"{self.name}\t{'tests' if tests else 'proof'}")
+        if tests:
+            status, Run.tests[self.name] = tried_tests(self)
+            return status
+        started = self.out.tell()
+        status = self.proof(flags)
+        self.out.seek(started)
+        Run.proved[self.name] = {*re.findall(r"^fn (\S+): proved$", self.out.read(), re.M)}
+        return status
+
+    def proof(self, flags):
+        words = [*self.words(flags, keeps=False), "--incremental", f"{Run.folder}/{self.name}"]
+        if not self.is_program:
+            shutil.rmtree(os.path.dirname(self.rlib), ignore_errors=True)
+            os.makedirs(os.path.dirname(self.rlib))
+            return self.prove(["build", *words, "-o", self.rlib])
+        status, to = self.prove(["check", *words]), f"out/{self.name}"
+        words = [*words, "--toolchain", f"{rt.KIT}/toolchain"]
+        return status or self.compile_by("llvm", words, to) or self.compile_by("rattle", words, to)
+
+    def has_tests(self):
+        return super().has_tests() or os.path.isdir(f"{os.getcwd()}/tests/unproved/{self.name}")
+
+
+def tried_edits(crate, good, flags):
+    """In the place of the kit's must_fail_all."""
+    work_for(f"{crate.name}\tedits")
+    told = edits.try_all(crate, good, f"{Run.folder}/{crate.name}")
+    Run.lost += [text for _, text in told if "only names that the edit took away" in text or "only because a proof file" in text]
+    return told
+
+
+def functions_in(folder):
+    """Returns how often each name is that of a function with a body in a crate's sources, its tests left out."""
+    found = collections.Counter()
+    for file, shape in rtlib.blanked(folder).items():
+        path = os.path.relpath(file, folder)
+        if path.endswith(".rt") and not re.match(r"src/(.*/)?tests(\.rt|/)", path):
+            found.update(name for name, *_ in bodies(shape))
+    return found
+
+
+def unproved(crates):
+    """Returns the functions of the sources that no check has called proved."""
+    lacking = []
+    for crate in crates:
+        names = collections.Counter(it.rpartition("::")[2] for it in Run.proved.get(crate.name, ()))
+        wanted = functions_in(crate.folder)
+        lacking += [f"{crate.name}: {it}" for it in sorted(wanted) if names[it] < wanted[it]]
+    return lacking
+
+
+def print_costs():
+    """Prints the processor seconds of each crate, of its proof, its tests and its edits, and the most memory of one process."""
+    took, most = collections.defaultdict(float), collections.defaultdict(int)
+    with open(f"{Run.folder}/ledger", encoding="utf-8") as it:
+        for line in it:
+            crate, what, seconds, memory = line.rstrip("\n").split("\t")
+            took[crate, what] += float(seconds)
+            most[crate] = max(most[crate], int(memory))
+    kinds = ("proof", "tests", "edits")
+    print(f"{'processor seconds':<20}" + "".join(f"{it:>8}" for it in kinds) + "   MiB")
+    for crate in sorted(most, key=lambda it: -sum(took[it, kind] for kind in kinds)):
+        print(f"{crate:<20}" + "".join(f"{took[crate, it]:8.0f}" for it in kinds) + f"{most[crate]:6}")
+    sums = [sum(took[it, kind] for it in most) for kind in kinds]
+    print(f"{'all':<20}" + "".join(f"{it:8.0f}" for it in sums) + f"   {sum(took.values()) / 60:.0f} minutes", flush=True)
+
+
+def print_but_count(*words, **named):
+    """In the place of the kit's print: keeps its count for the last line."""
+    found = re.fullmatch(r"(\d+) passed, (\d+) failed", " ".join(map(str, words)))
+    if found:
+        Run.counted = int(found[1]), int(found[2])
+    else:
+        print(*words, **named)
+
+
+def main():
+    guarded, pool = rtlib.guarded, rtlib.ThreadPoolExecutor
+    # the kit starts a crate's checks in threads of their own, which know by this what they work for
+    rtlib.ThreadPoolExecutor = lambda number: pool(number, initializer=work_for, initargs=(getattr(Run.on, "label", NOTHING),))
+    rt.print = print_but_count
+    rtlib.guarded = lambda: noted(guarded())
+    rtlib.VERDICT = WithoutWord(rtlib.VERDICT)
+    rt.Crate, rt.must_fail_all, needs = Crate, tried_edits, rt.need
+    rt.need = lambda crate: min(needs(crate), MOST_MEMORY)
+    with tempfile.TemporaryDirectory(prefix="gate-") as Run.folder:
+        open(f"{Run.folder}/ledger", "w").close()
+        status = rt.ci()
+        crates = [] if status == 2 else rtlib.crates_below(os.getcwd())
+        lacking = unproved(crates)
+        print_costs()
+    for it in lacking:
+        print(f"gate: no check has proved {it}")
+    for it in Run.lost:
+        print(f"gate: an edit that shows little: {it}")
+    functions, tests = sum(map(len, Run.proved.values())), sum(Run.tests.values())
+    print(f"gate: {functions} functions proved, {len(lacking)} of the sources not among them; {tests} tests run unproved")
+    passed, failed = Run.counted[0] + tests, Run.counted[1] + len(lacking)
+    print(f"{passed} passed, {failed} failed")
+    return 1 if status or failed else 0
+
+
+if __name__ == "__main__":
+    sys.exit(main())
