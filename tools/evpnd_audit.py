@@ -1,474 +1,187 @@
 #!/usr/bin/env python3
 """Says where a running fabric forwards a MAC to another edge than the owner by RFC 7432, 15.1 and 15.2.
 
-    evpnd_audit.py [--vni N]               on the host itself: runs vtysh and bridge
-    evpnd_audit.py --vni N VIEW ..         of directories, one a router, that hold what they printed:
-        routes.json   vtysh -c 'show bgp l2vpn evpn route json'
-        best.json     vtysh -c 'show bgp l2vpn evpn route vni N json'   (may be missing)
-        macs.json     vtysh -c 'show evpn mac vni N json'               (this or the next may be missing)
-        fdb.json      bridge -j fdb show dev vxlanN
+    evpnd_audit.py [--vni N[,N]]           on the host itself: runs vtysh, bridge and ip, each once for all VNIs
+    evpnd_audit.py [--vni N] VIEW ..       of directories, one a router, that hold what they printed:
+        routes.json    vtysh -c 'show bgp l2vpn evpn route json'
+        best.json      vtysh -c 'show bgp vni all json', before FRR 10 'show bgp l2vpn evpn route vni all json'
+        vnis.json      vtysh -c 'show evpn vni json'
+        macs.json      vtysh -c 'show evpn mac vni all json'
+        fdb.json       bridge -j fdb show
+        links.json     ip -j -d link show
+        vlans.json     bridge -j vlan show
+        tunnels.json   bridge -j vlan tunnelshow
+        neigh.json     ip -j neigh show
+    evpnd_audit.py save DIRECTORY          keeps what this host prints now as such a directory
+    evpnd_audit.py mac VNI MAC [VIEW ..]   all that is known of one station
+    evpnd_audit.py record DIRECTORY        audits, and keeps a snapshot of the routes as update records
+    evpnd_audit.py plot DIRECTORY [VNI MAC]   draws a MAC's owner over time, or how many MACs weren't equal, as SVG
 
-The routes become records (evpnd_records.py), `evpnd report` gives the owners, and each MAC is compared
-with where zebra and the kernel send it. Several views give one report, of all their routes together.
-One line a MAC that differs, then sums. Status 0: all agree; 1: something differs; 2: usage, or input
-that can't be read. docs/audit.md says what each difference means. Nothing here is proved; the report is.
+The routes become records (evpnd_records.py), `evpnd report` gives the owners, and each MAC is compared with
+where zebra and the kernel send it, each flood list with the inclusive multicast routes, and each ARP and ND
+entry with the routes that name an IP address. All files but routes.json and one of macs.json and fdb.json may
+be missing; what can't be compared then is said. Several views give one report, of all their routes together;
+with --routes, the routes of that directory (a route reflector's, say) alone are the truth.
+
+Each difference is a line, with the adverts in order of preference and what mends it below, then sums. Status
+0: all agree; 1: something differs; 2: usage, or nothing that can be read; 3: nothing differs, and something
+could not be judged. docs/audit.md says what each difference means. Nothing here is proved; the report is.
 """
 
 import argparse
-import json
 import os
-import re
-import shlex
-import shutil
-import subprocess
 import sys
-import tempfile
-from typing import Callable, Dict, Iterator, List, NamedTuple, Optional, Set, TextIO, Tuple
+import time
+from typing import List, Tuple
 
+import audit_history
+import audit_print
+import audit_views
 import evpnd_records
 import frr_routes
 import update_records as records
-from update_records import Advert, Unreadable
+from audit_compare import Truth, marks_of, results_of, seen_twice, truth_of
+from audit_print import Told
+from audit_report import program_of, read_report, report_of
+from audit_views import View
+from update_records import Unreadable
 
-LOCAL, NOWHERE, UNKNOWN = "local", "nowhere", "unknown"
-KINDS = ("equal", "wrong", "missing", "extra", "not judged")
-CAUSES = {
-    "forwarding": "differs from bgpd's own best path: a fault of the forwarding plane",
-    "unheard": "this router shows no route of the owner: it wasn't told, or its snapshot is of another moment",
-    "rule": "bgpd's own best path is there: a difference of rule, or of what the snapshot shows",
-    "unknown": "bgpd's own best path isn't known (no best.json)",
-}
+MONITORED = 30  # seconds between two looks where monitoring is asked for
 
-Station = Tuple[int, bytes]
-STATION_KEY = bytes(4 + 3 + 6)  # an originator, a VNI and a MAC: how a snapshot's key of a MAC begins
 
+# ---- looks -------------------------------------------------------------------------------------------------------
 
-class Said(NamedTuple):
-    """One advert of a MAC in the report."""
 
-    originator: bytes
-    advert: Advert
-    ip: str
+def views_of(arguments: argparse.Namespace) -> List[View]:
+    """The views of the named directories, or of this host."""
+    if arguments.views:
+        return [audit_views.view_of(audit_views.texts_of_directory(path), arguments) for path in arguments.views]
+    return [audit_views.view_of(audit_views.texts_of_host(arguments.vtysh), arguments)]
 
 
-class Owned(NamedTuple):
-    """A MAC's part of the report: its adverts and its owner."""
+def snapshots_of(views: List[View], arguments: argparse.Namespace) -> List[frr_routes.Snapshot]:
+    """The routes that are taken for the truth: those of the directories of --routes, else of all views."""
+    if not arguments.routes:
+        return [view.snapshot for view in views]
+    vnis = sorted({vni for view in views for vni in view.vnis})
+    snapshots = []
+    for path in arguments.routes:
+        name = os.path.join(path, "routes.json") if os.path.isdir(path) else path
+        with records.open_text(name) as stream:
+            snapshots.append(frr_routes.snapshot_of(audit_views.routes_of(vnis, arguments), stream, name))
+    return snapshots
 
-    adverts: List[Said]
-    owner: Optional[bytes]
 
-
-class Texts(NamedTuple):
-    """What one router printed; None where a text isn't there. The two that may be large are opened when they are read."""
-
-    name: str
-    routes: Callable[[], TextIO]
-    best: Optional[Callable[[], TextIO]]
-    macs: Optional[str]
-    fdb: Optional[str]
-
-
-class View(NamedTuple):
-    """What one router shows of one VNI."""
-
-    name: str
-    snapshot: frr_routes.Snapshot
-    heard: Set[bytes]
-    own: Set[bytes]
-    best: Optional[Dict[bytes, str]]
-    zebra: Optional[Dict[bytes, str]]
-    kernel: Optional[Dict[bytes, str]]
-
-
-class Verdict(NamedTuple):
-    """One MAC at one router."""
-
-    mac: bytes
-    kind: str
-    owner: str
-    reason: str
-    bgpd: str
-    zebra: str
-    kernel: str
-    heir: str
-    cause: str
-
-
-# ---- the report -------------------------------------------------------------------------------------------
-
-MAC_LINE = re.compile(
-    r"mac ([0-9]+) (\S+) (\S+) \S+ (?:withdrawn|(dynamic|static) ([0-9]+))(?: ip (\S+))?(?: label2 ([0-9]+))?"
-)
-OWNER_LINE = re.compile(r"owner ([0-9]+) (\S+) (\S+)")
-
-
-def read_report(text: str) -> Dict[Station, Owned]:
-    """Each MAC's adverts and owner, as a report says them (docs/routes.md)."""
-    stations: Dict[Station, Owned] = {}
-    adverts: List[Said] = []
-    for number, line in enumerate(text.splitlines(), 1):
-        mac_line, owner_line = MAC_LINE.fullmatch(line), OWNER_LINE.fullmatch(line)
-        if mac_line:
-            if mac_line[4]:
-                advert = Advert(mac_line[4] == "static", int(mac_line[5]))
-                adverts.append(Said(records.read_address(mac_line[3]), advert, mac_line[6] or ""))
-        elif owner_line:
-            owner = None if owner_line[3] == "none" else records.read_address(owner_line[3])
-            stations[int(owner_line[1]), records.read_mac(owner_line[2])] = Owned(adverts, owner)
-            adverts = []
-        elif not line.startswith("flood "):
-            raise Unreadable(f"line {number} of the report isn't one of a report: {line[:60]!r}")
-    return stations
-
-
-def best_of(adverts: List[Said]) -> Optional[Said]:
-    """The best of some adverts: static, then the higher sequence, then the lower address (RFC 7432, 15)."""
-    return min(adverts, key=lambda said: (not said.advert.static, -said.advert.sequence, said.originator), default=None)
-
-
-def advert_text(said: Said) -> str:
-    """An advert as the reasons name it."""
-    kind = "static" if said.advert.static else "dynamic"
-    return f"{kind} {said.advert.sequence} of {records.address_text(said.originator)}"
-
-
-def reason_of(owned: Owned) -> Tuple[str, str]:
-    """Why the owner is the owner, and who is it once its adverts are withdrawn."""
-    own = best_of([said for said in owned.adverts if said.originator == owned.owner])
-    other = best_of([said for said in owned.adverts if said.originator != owned.owner])
-    if own is None:
-        return "no router advertises it", NOWHERE
-    if other is None:
-        return "the only advert", NOWHERE
-    if own.advert.static != other.advert.static:
-        why = "static"
-    elif own.advert.sequence != other.advert.sequence:
-        why = f"the higher sequence {own.advert.sequence}"
-    else:
-        why = f"the lower address at sequence {own.advert.sequence}"
-    return f"{why}, against {advert_text(other)}", records.address_text(other.originator)
-
-
-def run_report(program: str, updates: List[records.Update]) -> str:
-    """What `evpnd report` prints of some updates; it has to take all of them."""
-    originators = sorted({update.originator for update in updates})
-    names = ",".join(records.address_text(originator) for originator in originators)
-    with tempfile.TemporaryFile() as stream:
-        for update in updates:
-            stream.write(records.record_of(update))
-        stream.seek(0)
-        try:
-            words = [program, "report", "--originators", names]
-            done = subprocess.run(words, stdin=stream, capture_output=True, check=False)
-        except OSError as fault:
-            what = f"{program}: {fault.strerror} (build it by `rt run` in crates/evpnd, or name it by --evpnd)"
-            raise Unreadable(what) from None
-    if done.returncode != 0 or done.stderr:
-        note = done.stderr.decode("utf-8", "replace").split("\n")[0]
-        raise Unreadable(f"{program} gave status {done.returncode}: {note}")
-    return done.stdout.decode("ascii")
-
-
-def parts_of(stations: Dict[Station, List[records.Update]]) -> Iterator[List[records.Update]]:
-    """The stations' updates in parts of 64 originators at most: an owner depends on its MAC's registers alone."""
-    part: List[records.Update] = []
-    originators: Set[bytes] = set()
-    for updates in sorted(stations.values(), key=lambda each: sorted(update.originator for update in each)):
-        more = {update.originator for update in updates}
-        if len(more) > records.MOST_ORIGINATORS:
-            where = f"{updates[0].vni} {records.mac_text(updates[0].mac or b'')}"
-            most = records.MOST_ORIGINATORS
-            raise Unreadable(f"{where} is advertised by {len(more)} routers, and a table has {most} at most")
-        if len(originators | more) > records.MOST_ORIGINATORS:
-            yield part
-            part, originators = [], set()
-        part += updates
-        originators |= more
-    if part:
-        yield part
-
-
-def report_of(program: str, views: List[View], wanted: Set[bytes]) -> Dict[Station, Owned]:
-    """The report of all views' routes together; only the wanted MACs, if any are named."""
-    stations: Dict[Station, List[records.Update]] = {}
-    for view in views:
-        for update in view.snapshot.updates(lambda _: 1):
-            if update.mac is not None and (not wanted or update.mac in wanted):
-                stations.setdefault((update.vni, update.mac), []).append(update)
-    owned: Dict[Station, Owned] = {}
-    for part in parts_of(stations):
-        owned.update(read_report(run_report(program, part)))
-    return owned
-
-
-# ---- what the routers print ---------------------------------------------------------------------------------
-
-
-def read_json(text: str, name: str) -> object:
-    """A text of JSON, whole."""
-    try:
-        return json.loads(text)
-    except (ValueError, RecursionError):
-        raise Unreadable(f"{name}: no JSON, or cut" if text.strip() else f"{name}: empty") from None
-
-
-def read_zebra(text: str, name: str, vni: int) -> Dict[bytes, str]:
-    """Where zebra sends each MAC: 'local', or a VTEP; of one VNI's text or of all VNIs'."""
-    table = read_json(text, name)
-    if isinstance(table, dict) and "macs" not in table:
-        table = table.get(str(vni))
-    macs = table.get("macs") if isinstance(table, dict) else None
-    if not isinstance(macs, dict):
-        raise Unreadable(f"{name}: no MACs of VNI {vni} stand there")
-    found = {}
-    for mac, entry in macs.items():
-        if not isinstance(entry, dict) or "type" not in entry:
-            raise Unreadable(f"{name}: MAC {mac} has no 'type'")
-        if entry["type"] == "local":
-            found[octets_of(mac, name)] = LOCAL
-        elif entry["type"] == "remote":
-            place = entry.get("remoteVtep", entry.get("remoteEs"))
-            if not isinstance(place, str):
-                raise Unreadable(f"{name}: remote MAC {mac} has no 'remoteVtep'")
-            found[octets_of(mac, name)] = place
-    return found
-
-
-def read_kernel(text: str, name: str, vni: int) -> Dict[bytes, str]:
-    """Where the VXLAN device sends each MAC: the VTEPs of its forwarding entries."""
-    entries = read_json(text, name)
-    if not isinstance(entries, list):
-        raise Unreadable(f"{name}: not what 'bridge -j fdb show dev' prints")
-    found: Dict[bytes, Set[str]] = {}
-    for entry in entries:
-        if not isinstance(entry, dict) or "mac" not in entry:
-            raise Unreadable(f"{name}: an entry without 'mac'")
-        mac = octets_of(entry["mac"], name)
-        if "dst" in entry and any(mac) and not mac[0] & 1 and entry.get("src_vni", vni) == vni:
-            found.setdefault(mac, set()).add(str(entry["dst"]))
-    return {mac: "+".join(sorted(places)) for mac, places in found.items()}
-
-
-def octets_of(mac: object, name: str) -> bytes:
-    """A MAC's octets, of a group or not."""
-    if not isinstance(mac, str) or not re.fullmatch("[0-9a-f]{2}(:[0-9a-f]{2}){5}", mac):
-        raise Unreadable(f"{name}: {mac!r} is no MAC address")
-    return bytes.fromhex(mac.replace(":", ""))
-
-
-def read_best(stream: TextIO, name: str, routes: frr_routes.Routes) -> Tuple[Dict[bytes, str], Set[bytes]]:
-    """Where bgpd's own best path of each MAC leads, and the router's own addresses."""
-    best: Dict[bytes, List[Said]] = {}
-    own: Set[bytes] = set()
-    for path in routes.read(stream, name):
-        if path.is_own:
-            own.add(path.vtep)
-        if path.is_best and path.mac is not None:
-            best.setdefault(path.mac, []).append(Said(path.vtep, path.advert, ""))
-    places = {mac: best_of(said).originator for mac, said in best.items()}
-    return {mac: LOCAL if place in own else records.address_text(place) for mac, place in places.items()}, own
-
-
-def view_of(texts: Texts, vni: int, arguments: argparse.Namespace) -> View:
-    """What a router's texts show of a VNI."""
-    routes = frr_routes.Routes([vni], arguments.any_rd, arguments.rt)
-    with texts.routes() as stream:
-        snapshot = frr_routes.snapshot_of(routes, stream, f"{texts.name}: routes")
-    own, best, zebra, kernel = set(snapshot.own), None, None, None
-    if texts.best is not None:
-        routes = frr_routes.Routes([vni], arguments.any_rd, arguments.rt)
-        with texts.best() as stream:
-            best, more = read_best(stream, f"{texts.name}: best paths", routes)
-        own |= more
-    if texts.macs is not None:
-        zebra = read_zebra(texts.macs, f"{texts.name}: MACs of zebra", vni)
-    if texts.fdb is not None:
-        kernel = read_kernel(texts.fdb, f"{texts.name}: entries of the kernel", vni)
-    if zebra is None and kernel is None:
-        raise Unreadable(f"{texts.name}: neither macs.json nor fdb.json is there, so there is nothing to compare with")
-    heard = {key[: len(STATION_KEY)] for key in snapshot.registers}
-    return View(texts.name, snapshot, heard, own, best, zebra, kernel)
-
-
-def texts_of_directory(path: str) -> Texts:
-    """The texts of a directory."""
-
-    def opened(name: str) -> Optional[Callable[[], TextIO]]:
-        place = os.path.join(path, name)
-        return (lambda: records.open_text(place)) if os.path.exists(place) else None
-
-    routes, macs, fdb = opened("routes.json"), opened("macs.json"), opened("fdb.json")
-    if routes is None:
-        raise Unreadable(f"{path}/routes.json: no such file")
-    return Texts(path, routes, opened("best.json"), macs and whole(macs(), path), fdb and whole(fdb(), path))
-
-
-def whole(stream: TextIO, name: str) -> str:
-    """A stream's text."""
-    with stream:
-        try:
-            return stream.read()
-        except (OSError, UnicodeDecodeError) as fault:
-            raise Unreadable(f"{name}: {fault}") from None
-
-
-def output_of(words: List[str]) -> TextIO:
-    """What a command of this host prints: it is run now, and read later."""
-    out = tempfile.TemporaryFile("w+", encoding="utf-8")
-    try:
-        done = subprocess.run(words, stdout=out, stderr=subprocess.PIPE, check=False)
-    except OSError as fault:
-        raise Unreadable(f"{words[0]}: {fault.strerror}") from None
-    out.seek(0)
-    if done.returncode != 0:
-        said = (done.stderr.decode("utf-8", "replace") or whole(out, words[0])).strip().split("\n")[0]
-        raise Unreadable(f"{shlex.join(words)}: status {done.returncode}: {said}")
-    return out
-
-
-def vnis_of_host(shell: List[str]) -> Dict[int, str]:
-    """The host's VNIs of layer 2, each with its VXLAN device."""
-    name = "show evpn vni json"
-    table = read_json(whole(output_of(shell + [name]), name), name)
-    if not isinstance(table, dict):
-        raise Unreadable(f"{name}: not a table of VNIs")
-    entries = [entry for entry in table.values() if isinstance(entry, dict) and entry.get("type", "L2") == "L2"]
-    return {entry["vni"]: str(entry.get("vxlanIf", "")) for entry in entries if isinstance(entry.get("vni"), int)}
-
-
-def texts_of_host(shell: List[str], vni: int, device: str) -> Texts:
-    """The texts that this host prints; the four commands run one right behind the other."""
-    name = "this host"
-    routes = output_of(shell + ["show bgp l2vpn evpn route json"])
-    best = output_of(shell + [f"show bgp l2vpn evpn route vni {vni} json"])
-    macs = output_of(shell + [f"show evpn mac vni {vni} json"])
-    fdb = output_of(["bridge", "-j", "fdb", "show", "dev", device])
-    return Texts(name, lambda: routes, lambda: best, whole(macs, name), whole(fdb, name))
-
-
-# ---- the comparison -----------------------------------------------------------------------------------------
-
-
-def verdict_of(view: View, station: Station, owned: Owned, is_unjudged: bool) -> Verdict:
-    """Compares one MAC at one router."""
-    vni, mac = station
-    owner = NOWHERE
-    if owned.owner is not None:
-        owner = LOCAL if owned.owner in view.own else records.address_text(owned.owner)
-    zebra = UNKNOWN if view.zebra is None else view.zebra.get(mac, NOWHERE)
-    kernel = UNKNOWN if view.kernel is None else view.kernel.get(mac, NOWHERE)
-    bgpd = UNKNOWN if view.best is None else view.best.get(mac, NOWHERE)
-    kind = "not judged" if is_unjudged else kind_of(owner, zebra, kernel)
-    reason, heir = reason_of(owned)
-    name = "none" if owned.owner is None else records.address_text(owned.owner)
-    is_heard = owned.owner is None or owned.owner + vni.to_bytes(3, "big") + mac in view.heard
-    return Verdict(mac, kind, name, reason, bgpd, zebra, kernel, heir, cause_of(bgpd, zebra, kernel, is_heard))
-
-
-def cause_of(bgpd: str, zebra: str, kernel: str, is_heard: bool) -> str:
-    """Which of the CAUSES a difference has."""
-    if bgpd == UNKNOWN:
-        return "unknown"
-    if kind_of(bgpd, zebra, kernel) != "equal":
-        return "forwarding"
-    return "rule" if is_heard else "unheard"
-
-
-def kind_of(wanted: str, zebra: str, kernel: str) -> str:
-    """How zebra and the kernel stand to where a MAC should go: a VTEP, 'local' or 'nowhere'."""
-    in_kernel = NOWHERE if wanted == LOCAL else wanted
-    if wanted == NOWHERE:
-        strays = zebra not in (UNKNOWN, NOWHERE, LOCAL) or kernel not in (UNKNOWN, NOWHERE)
-        return "extra" if strays else "equal"
-    if zebra in (UNKNOWN, wanted) and kernel in (UNKNOWN, in_kernel):
-        return "equal"
-    if zebra in (UNKNOWN, NOWHERE, wanted) and kernel in (UNKNOWN, NOWHERE, in_kernel):
-        return "missing"
-    return "wrong"
-
-
-def verdicts_of(
-    view: View, vni: int, report: Dict[Station, Owned], wanted: Set[bytes], unjudged: Set[Tuple[int, Optional[bytes]]]
-) -> List[Verdict]:
-    """All MACs that the report, zebra or the kernel knows, in order."""
-    macs = {mac for of_vni, mac in report if of_vni == vni}
-    for table in (view.zebra, view.kernel):
-        macs |= set(table or {})
-    macs |= {mac for of_vni, mac in unjudged if of_vni == vni and mac is not None}
-    if wanted:
-        macs &= wanted
-    nobody = Owned([], None)
-    stations = [(vni, mac) for mac in sorted(macs)]
-    verdicts = [verdict_of(view, each, report.get(each, nobody), each in unjudged) for each in stations]
-    return [
-        verdict
-        for verdict in verdicts
-        if verdict.owner != "none" or verdict.kind != "equal" or (vni, verdict.mac) in report
-    ]
-
-
-def line_of(vni: int, verdict: Verdict) -> str:
-    """The line of a MAC that differs."""
-    return (
-        f"{verdict.kind} {vni} {records.mac_text(verdict.mac)} owner {verdict.owner} ({verdict.reason}); "
-        f"bgpd {verdict.bgpd}, zebra {verdict.zebra}, kernel {verdict.kernel}; "
-        f"after a withdrawal {verdict.heir}; {CAUSES[verdict.cause]}"
-    )
-
-
-def sums_of(verdicts: List[Verdict]) -> Dict[str, int]:
-    """How many MACs are of each kind, and how many differ by which cause."""
-    sums = {"MACs": len(verdicts)}
-    for kind in KINDS:
-        sums[kind] = sum(verdict.kind == kind for verdict in verdicts)
-    for cause in CAUSES:
-        sums["by " + cause] = sum(verdict.cause == cause and differs(verdict) for verdict in verdicts)
-    return sums
-
-
-def differs(verdict: Verdict) -> bool:
-    """Whether a MAC is forwarded otherwise than the report says."""
-    return verdict.kind in ("wrong", "missing", "extra")
-
-
-def audit_vni(vni: int, texts: List[Texts], arguments: argparse.Namespace) -> List[dict]:
-    """Audits one VNI; prints lines, or gives what is to be printed as JSON."""
-    views = [view_of(each, vni, arguments) for each in texts]
-    unjudged = {station for view in views for station in view.snapshot.routes.unjudged}
-    wanted = set(arguments.mac)
+def truth_for(snapshots: List[frr_routes.Snapshot], arguments: argparse.Namespace) -> Truth:
+    """What those routes say, by the program's report or by one that was made before."""
     if arguments.report is not None:
         with records.open_text(arguments.report) as stream:
-            report = read_report(stream.read())
+            report = read_report(audit_views.whole(stream, arguments.report))
     else:
-        report = report_of(program_of(arguments), views, wanted)
-    results = []
-    for view in views:
-        verdicts = verdicts_of(view, vni, report, wanted, unjudged)
-        sums = sums_of(verdicts)
-        differing = [verdict for verdict in verdicts if differs(verdict)]
-        results.append({"vni": vni, "view": view.name, "sums": sums, "macs": [dict_of(verdict) for verdict in differing]})
-        if not arguments.json:
-            for verdict in differing:
-                print((f"{view.name}: " if len(views) > 1 else "") + line_of(vni, verdict))
-            counts = ", ".join(f"{count} {name}" for name, count in sums.items() if not name.startswith("by "))
-            alone = sums["by rule"] + sums["by unheard"] + sums["by unknown"]
-            causes = f"{sums['by forwarding']} unlike bgpd's own best path, {alone} unlike the report alone"
-            print(f"{view.name}: VNI {vni}: {counts}; {causes}")
+        updates = (update for snapshot in snapshots for update in snapshot.updates(lambda _: 1))
+        report = report_of(program_of(arguments.evpnd), updates, set(arguments.mac))
+    return truth_of(report, snapshots)
+
+
+def look(arguments: argparse.Namespace) -> Tuple[Told, List[View], List[frr_routes.Snapshot]]:
+    """One look at all views."""
+    views = views_of(arguments)
+    snapshots = snapshots_of(views, arguments)
+    truth = truth_for(snapshots, arguments)
+    results = [result for view in views for result in results_of(view, truth, set(arguments.mac))]
+    left_out = {view.name: dict(view.snapshot.routes.left_out) for view in views}
+    told = {view.name: dict(view.snapshot.routes.told) for view in views}
+    return Told(results, left_out, told, {}), views, snapshots
+
+
+def audited(arguments: argparse.Namespace) -> Tuple[Told, List[View], List[frr_routes.Snapshot]]:
+    """One look, or two where the first finds something and --again is given: what both saw by the same values stays."""
+    told, views, snapshots = look(arguments)
+    if arguments.again is not None and any(marks_of(result) for result in told.results):
+        time.sleep(arguments.again)
+        second, views, snapshots = look(arguments)
+        told = second._replace(results=seen_twice(told.results, second.results))
+    if arguments.state is not None:
+        told = told._replace(since=audit_history.since_of(arguments.state, told.results, int(time.time())))
+    return told, views, snapshots
+
+
+# ---- what the words ask for ---------------------------------------------------------------------------------------
+
+
+def audit(arguments: argparse.Namespace) -> int:
+    """Audits what the words name."""
+    if arguments.again is None and not arguments.views and (arguments.nagios or arguments.prometheus):
+        arguments.again = MONITORED
+    if arguments.again is not None and arguments.views:
+        raise Unreadable("a directory doesn't change: --again is for an audit of this host")
+    told, views, _ = audited(arguments)
+    status = audit_print.status_of(told.results, arguments.accept_unjudged)
+    if arguments.prometheus:
+        audit_print.write_whole(arguments.prometheus, audit_print.prometheus_text(told, status))
+    if arguments.nagios:
+        print(audit_print.nagios_line(told, audit_print.nagios_status(status)))
+        return audit_print.nagios_status(status)
+    if arguments.json:
+        print(audit_print.json_text(told))
+    elif not arguments.prometheus:
+        for result in told.results:
+            for line in audit_print.lines_of(result, told, arguments.brief):
+                is_sum = line.startswith((" ", f"{result.view}: "))
+                print(line if is_sum or len(views) == 1 else f"{result.view}: {line}")
+        for view in views:
             view.snapshot.routes.tell(sys.stderr)
-    return results
+    return status
 
 
-def dict_of(verdict: Verdict) -> dict:
-    """A verdict as JSON has it."""
-    fields = verdict._asdict()
-    fields["mac"] = records.mac_text(verdict.mac)
-    return fields
+def mac(arguments: argparse.Namespace) -> int:
+    """All that is known of one station."""
+    arguments.mac = [mac_word(arguments.station)]
+    told, views, snapshots = audited(arguments)
+    vni, station = arguments.vni[0], arguments.mac[0]
+    for result in told.results:
+        for verdict in result.macs:
+            print(f"{result.view}: {audit_print.line_of(vni, verdict)}")
+            for number, advert in enumerate(verdict.adverts, 1):
+                print(f"    {number}. {advert}")
+            print(*([f"    mend: {verdict.mend}"] if verdict.mend else []), sep="\n", end="\n" if verdict.mend else "")
+        if not result.macs:
+            print(f"{result.view}: " + (result.fault or "neither a route nor zebra nor the kernel knows it"))
+        for entry in result.neighbours or []:
+            print(f"{result.view}: {audit_print.difference_line(vni, entry)}")
+    key = vni.to_bytes(3, "big") + station
+    ips = {registered[13:] for each in snapshots for registered in each.registers if registered[4:13] == key}
+    print("addresses by the routes: " + (", ".join(sorted(map(records.ip_text, ips - {b""}))) or "none"))
+    for view in views:
+        network = view.networks.get(vni)
+        if network is not None:
+            vlan = "" if network.vlan is None else f", VLAN {network.vlan}"
+            print(f"{view.name}: VXLAN device {network.device}, bridge {network.bridge or 'none'}{vlan}, neighbours at {network.gateway or 'no interface'}")
+    return audit_print.status_of(told.results, arguments.accept_unjudged)
 
 
-def program_of(arguments: argparse.Namespace) -> str:
-    """The program `evpnd`: named, on the path, or where `rt run` leaves it."""
-    built = os.path.join(os.path.dirname(os.path.abspath(__file__)), "..", "crates", "evpnd", "out", "evpnd")
-    return arguments.evpnd or shutil.which("evpnd") or os.path.normpath(built)
+def record(arguments: argparse.Namespace) -> int:
+    """Audits, and adds a snapshot."""
+    told, _, snapshots = audited(arguments)
+    updates = [update for snapshot in snapshots for update in snapshot.updates(lambda _: 1)]
+    print(audit_history.record(arguments.directory, updates, told))
+    return audit_print.status_of(told.results, arguments.accept_unjudged)
+
+
+def save(arguments: argparse.Namespace) -> int:
+    """Keeps what this host prints."""
+    audit_views.save(audit_views.texts_of_host(arguments.vtysh), arguments.directory)
+    return 0
+
+
+def plot(arguments: argparse.Namespace) -> int:
+    """Draws."""
+    station = mac_word(arguments.station) if arguments.station else b""
+    vni = arguments.of_vni[0] if arguments.of_vni else 0
+    if bool(station) != bool(arguments.of_vni):
+        raise Unreadable("a drawing of an owner needs a VNI and a MAC")
+    print(audit_history.plot(arguments.directory, vni, station), end="")
+    return 0
 
 
 # ---- the command line -----------------------------------------------------------------------------------------
@@ -482,56 +195,98 @@ def mac_word(text: str) -> bytes:
         raise argparse.ArgumentTypeError(str(fault)) from None
 
 
+def seconds_word(text: str) -> float:
+    """Seconds as a word of the command line."""
+    try:
+        seconds = float(text)
+    except ValueError:
+        seconds = -1
+    if not 0 <= seconds <= 86400:
+        raise argparse.ArgumentTypeError(f"{text!r} is no number of seconds up to 86400")
+    return seconds
+
+
+def add_look_words(words: argparse.ArgumentParser) -> None:
+    """The words that say what is looked at."""
+    words.add_argument("--routes", action="append", default=[], metavar="DIRECTORY", help="the routes of this directory are the truth; may stand more than once")
+    words.add_argument("--again", type=seconds_word, metavar="SECONDS", help="look twice where something differs, and tell what differs twice by the same values")
+    words.add_argument("--state", metavar="FILE", help="keep there since when each difference is seen")
+    words.add_argument("--accept-unjudged", action="store_true", help="status 0 although MACs couldn't be judged")
+    words.add_argument("--evpnd", metavar="PROGRAM", help="the program evpnd")
+    words.add_argument("--report", metavar="FILE", help="a report that was made before, in the place of running evpnd")
+    words.add_argument("--vtysh", default="vtysh", metavar="COMMAND", help="vtysh with its options")
+    words.add_argument("--device", metavar="NAME", help="the VXLAN device, if neither links.json nor vnis.json says it")
+    evpnd_records.add_route_words(words)
+
+
 def parser() -> argparse.ArgumentParser:
     """The words of the command line."""
     words = argparse.ArgumentParser(description=__doc__, formatter_class=argparse.RawDescriptionHelpFormatter)
     words.add_argument(
-        "--vni", type=evpnd_records.vnis_of, metavar="N[,N]", help="the VNIs; on a host all, if none is named"
+        "--vni", type=evpnd_records.vnis_of, metavar="N[,N]", help="the VNIs; all that the host or the view has, if none is named"
     )
     words.add_argument(
         "--mac", type=mac_word, action="append", default=[], metavar="MAC", help="only this MAC; may stand more than once"
     )
-    words.add_argument("--json", action="store_true", help="print JSON")
-    words.add_argument("--evpnd", metavar="PROGRAM", help="the program evpnd")
-    words.add_argument("--report", metavar="FILE", help="a report that was made before, in the place of running evpnd")
-    words.add_argument("--vtysh", default="vtysh", metavar="COMMAND", help="vtysh with its options")
-    words.add_argument("--device", metavar="NAME", help="the VXLAN device, if zebra doesn't say it")
-    evpnd_records.add_route_words(words)
+    words.add_argument("--brief", action="store_true", help="a line a difference, without why and what mends it")
+    words.add_argument("--json", action="store_true", help="print JSON, every count with it")
+    words.add_argument("--nagios", action="store_true", help="print one line with figures; status 0, 2 (something differs) or 3")
+    words.add_argument("--prometheus", metavar="FILE", help="write a text file for node_exporter")
+    add_look_words(words)
     words.add_argument("views", nargs="*", metavar="VIEW", help="directories, one a router")
     return words
 
 
-def audit(arguments: argparse.Namespace) -> int:
-    """Audits what the words name."""
-    results: List[dict] = []
-    if arguments.views:
-        if arguments.vni is None or len(arguments.vni) != 1:
-            raise Unreadable("of views one VNI is audited: name it by --vni")
-        results = audit_vni(arguments.vni[0], [texts_of_directory(path) for path in arguments.views], arguments)
+def command_parser(command: str) -> argparse.ArgumentParser:
+    """The words behind `mac`, `record`, `save` and `plot`."""
+    words = argparse.ArgumentParser(prog=f"evpnd_audit.py {command}", description=__doc__, formatter_class=argparse.RawDescriptionHelpFormatter)
+    if command == "mac":
+        words.add_argument("vni", type=evpnd_records.vnis_of, metavar="VNI")
+        words.add_argument("station", metavar="MAC")
+        words.add_argument("views", nargs="*", metavar="VIEW", help="directories, one a router")
     else:
-        shell = shlex.split(arguments.vtysh) + ["-c"]
-        devices = vnis_of_host(shell)
-        for vni in arguments.vni or sorted(devices):
-            device = arguments.device or devices.get(vni)
-            if not device:
-                raise Unreadable(f"zebra knows no VXLAN device of VNI {vni}")
-            results += audit_vni(vni, [texts_of_host(shell, vni, device)], arguments)
-    if not results:
-        raise Unreadable("zebra knows no VNI")
-    if arguments.json:
-        print(json.dumps(results, indent=1))
-    return 1 if any(result["macs"] for result in results) else 0
+        words.add_argument("directory", metavar="DIRECTORY")
+    if command == "plot":
+        words.add_argument("of_vni", type=evpnd_records.vnis_of, nargs="?", metavar="VNI")
+        words.add_argument("station", nargs="?", metavar="MAC")
+    if command == "record":
+        words.add_argument("--vni", type=evpnd_records.vnis_of, metavar="N[,N]", help="the VNIs; all, if none is named")
+        words.add_argument("views", nargs="*", metavar="VIEW", help="directories in the place of this host, one a router")
+        words.set_defaults(mac=[])
+    if command != "plot":
+        add_look_words(words)
+    return words
+
+
+COMMANDS = {"mac": mac, "record": record, "save": save, "plot": plot}
+
+
+def run(words: List[str]) -> int:
+    """Runs what the words ask for."""
+    if words and words[0] in COMMANDS:
+        return COMMANDS[words[0]](command_parser(words[0]).parse_args(words[1:]))
+    arguments = parser().parse_args(words)
+    try:
+        return audit(arguments)
+    except Unreadable as fault:
+        if arguments.prometheus:
+            text = audit_print.prometheus_text(Told([], {}, {}, {}), audit_print.UNREADABLE, str(fault))
+            audit_print.write_whole(arguments.prometheus, text)
+        if arguments.nagios:
+            print(f"EVPN UNKNOWN: {fault}")
+            return audit_print.NAGIOS_UNKNOWN
+        raise
 
 
 def main() -> int:
     """Runs the audit; what can't be read is one line and status 2."""
     try:
-        return audit(parser().parse_args())
-    except Unreadable as fault:
+        return run(sys.argv[1:])
+    except (Unreadable, argparse.ArgumentTypeError) as fault:
         print(f"evpnd_audit: {fault}", file=sys.stderr)
     except BrokenPipeError:
         sys.stderr.close()
-    return 2
+    return audit_print.UNREADABLE
 
 
 if __name__ == "__main__":

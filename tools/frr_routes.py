@@ -34,7 +34,9 @@ class JsonText:
         """Reads a piece behind what isn't used yet; false at the end."""
         try:
             piece = self.stream.read(self.PIECE)
-        except (OSError, UnicodeDecodeError) as fault:
+        except UnicodeDecodeError as fault:
+            raise Unreadable(f"{self.name}: a binary file, no text ({fault.reason})") from None
+        except OSError as fault:
             raise Unreadable(f"{self.name}: {fault}") from None
         self.behind += self.place
         self.text = self.text[self.place :] + piece
@@ -130,9 +132,12 @@ class Path(NamedTuple):
 class Routes:
     """The paths of FRR's tables that are of the wanted VNIs; what is left out is counted by cause."""
 
-    def __init__(self, vnis: List[int], any_rd: bool = False, targets: Iterable[Tuple[str, int]] = ()) -> None:
+    def __init__(
+        self, vnis: Iterable[int], any_rd: bool = False, targets: Iterable[Tuple[str, int]] = (), may_be_empty: bool = False
+    ) -> None:
         self.vnis = set(vnis)
         self.any_rd = any_rd
+        self.may_be_empty = may_be_empty
         self.targets = dict(targets)
         self.left_out: Dict[str, int] = collections.Counter()
         self.told: Dict[str, int] = collections.Counter()
@@ -163,7 +168,7 @@ class Routes:
                 text.value()
         if text.peek() != "":
             raise text.fail("something stands behind the JSON text")
-        if self.routes == before:
+        if self.routes == before and not self.may_be_empty:
             raise Unreadable(f"{name}: no EVPN route stands there")
 
     def paths(self, rd: str, prefix: str, route: object, name: str) -> Iterator[Path]:
@@ -327,7 +332,7 @@ def snapshot_of(routes: Routes, stream: TextIO, name: str) -> Snapshot:
     snapshot = Snapshot(routes)
     for path in routes.read(stream, name):
         snapshot.take(path)
-    if not snapshot.registers:
+    if not snapshot.registers and not routes.may_be_empty:
         wanted = ", ".join(str(vni) for vni in sorted(routes.vnis))
         raise Unreadable(f"{name}: no route of VNI {wanted} that can be taken stands there")
     return snapshot

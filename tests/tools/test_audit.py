@@ -1,4 +1,4 @@
-"""The audit (tools/evpnd_audit.py): reports, what routers print, verdicts."""
+"""The audit (tools/evpnd_audit.py): reports, what routers print, verdicts; stored views of one VNI, as they once were taken."""
 
 import json
 import os
@@ -11,11 +11,14 @@ import unittest
 
 from test_records import DATA, TOP, answers
 
-import evpnd_audit as audit
+import audit_compare
+import audit_frr
+import audit_kernel
+import audit_report
 import frr_routes
 import update_records as records
 
-PROGRAM = os.environ.get("EVPND") or audit.program_of(audit.parser().parse_args([]))
+PROGRAM = os.environ.get("EVPND") or audit_report.program_of(None)
 needs_program = unittest.skipUnless(os.access(PROGRAM, os.X_OK), "evpnd isn't built")
 SHORT = os.path.join(DATA, "short")
 REPORT = """flood 5001 10.0.0.1 1 up
@@ -37,21 +40,22 @@ def station(last: str) -> bytes:
 def run(*words: str) -> subprocess.CompletedProcess:
     """The tool as a program."""
     tool = os.path.join(TOP, "tools", "evpnd_audit.py")
-    return subprocess.run([sys.executable, "-S", tool, "--evpnd", PROGRAM, *words], capture_output=True, encoding="utf-8", check=False)
+    there = {**os.environ, "EVPND": PROGRAM}
+    return subprocess.run([sys.executable, "-S", tool, *words], capture_output=True, encoding="utf-8", check=False, env=there)
 
 
 class ReadsReports(unittest.TestCase):
     """The report's lines (docs/routes.md)."""
 
     def setUp(self):
-        self.report = audit.read_report(REPORT)
+        self.report = audit_report.read_report(REPORT)
 
     def test_owners(self):
         owners = [owned.owner and records.address_text(owned.owner) for owned in self.report.values()]
         self.assertEqual(owners, ["10.0.0.1", "10.0.0.2", None])
 
     def test_reasons(self):
-        reasons = [audit.reason_of(owned) for owned in self.report.values()]
+        reasons = [audit_report.reason_of(owned) for owned in self.report.values()]
         self.assertEqual(
             reasons,
             [("the only advert", "nowhere"), ("static, against dynamic 3 of 10.0.0.1", "10.0.0.1"), ("no router advertises it", "nowhere")],
@@ -59,8 +63,8 @@ class ReadsReports(unittest.TestCase):
 
     def reason(self, *adverts: tuple) -> tuple:
         """The reason among some adverts, (last octet of the address, static, sequence), of which the first wins."""
-        said = [audit.Said(bytes([10, 0, 0, last]), audit.Advert(static, sequence), "") for last, static, sequence in adverts]
-        return audit.reason_of(audit.Owned(said, said[0].originator))
+        said = [audit_report.Said(bytes([10, 0, 0, last]), records.Advert(static, sequence), "") for last, static, sequence in adverts]
+        return audit_report.reason_of(audit_report.Owned(said, said[0].originator))
 
     def test_higher_sequence(self):
         self.assertEqual(self.reason((2, False, 5), (1, False, 3), (3, False, 4)), ("the higher sequence 5, against dynamic 4 of 10.0.0.3", "10.0.0.3"))
@@ -77,7 +81,7 @@ class ReadsReports(unittest.TestCase):
 
     def test_no_report(self):
         with self.assertRaises(records.Unreadable):
-            audit.read_report("mac 5001\n")
+            audit_report.read_report("mac 5001\n")
 
 
 class Judges(unittest.TestCase):
@@ -94,9 +98,16 @@ class Judges(unittest.TestCase):
         ("10.0.0.1", "unknown", "10.0.0.1", "equal"),
         ("10.0.0.1", "unknown", "nowhere", "missing"),
         ("10.0.0.1", "10.0.0.1", "10.0.0.1+10.0.0.2", "wrong"),
-        ("local", "local", "nowhere", "equal"),
+        ("local", "local", "local", "equal"),
+        ("local", "local", "nowhere", "missing"),
         ("local", "10.0.0.1", "10.0.0.1", "wrong"),
         ("local", "local", "10.0.0.1", "wrong"),
+        ("local", "local", "flooded to 10.0.0.1", "missing"),
+        ("10.0.0.1", "10.0.0.1", "local", "wrong"),
+        ("10.0.0.1", "10.0.0.1", "flooded to 10.0.0.1", "missing"),
+        ("10.0.0.1", "10.0.0.1", "flooded to 10.0.0.2", "wrong"),
+        ("nowhere", "local", "local", "equal"),
+        ("nowhere", "nowhere", "flooded to 10.0.0.1", "extra"),
         ("local", "nowhere", "nowhere", "missing"),
         ("nowhere", "nowhere", "nowhere", "equal"),
         ("nowhere", "local", "nowhere", "equal"),
@@ -107,7 +118,12 @@ class Judges(unittest.TestCase):
     def test_kinds(self):
         for wanted, zebra, kernel, kind in self.CASES:
             with self.subTest(wanted=wanted, zebra=zebra, kernel=kernel):
-                self.assertEqual(audit.kind_of(wanted, zebra, kernel), kind)
+                self.assertEqual(audit_compare.kind_of(wanted, zebra, kernel), kind)
+
+    def test_entries_of_the_device_alone(self):
+        """A local station's own entry can't be seen there."""
+        self.assertEqual(audit_compare.kind_of("local", "local", "nowhere", False), "equal")
+        self.assertEqual(audit_compare.kind_of("local", "local", "10.0.0.1", False), "wrong")
 
 
 class ReadsRouters(unittest.TestCase):
@@ -118,35 +134,48 @@ class ReadsRouters(unittest.TestCase):
         with open(os.path.join(SHORT, name), encoding="utf-8") as stream:
             return stream.read()
 
+    def zebra(self, text: str) -> dict:
+        """Where zebra sends the MACs of VNI 5001."""
+        return audit_frr.read_macs(text, "macs", [5001]).get(5001, {})
+
+    def kernel(self, text: str, vni: int = 5001) -> dict:
+        """Where a VXLAN device sends MACs, of which nothing else is known."""
+        entries = audit_kernel.read_list(text, "fdb", "bridge")
+        return audit_kernel.Tables(entries, None, "fdb").of_one_device(vni, "").places
+
     def test_zebra(self):
-        found = audit.read_zebra(self.text("macs.json"), "macs", 5001)
+        found = self.zebra(self.text("macs.json"))
         self.assertEqual((found[station("0a")], found[station("0b")]), ("10.0.0.2", "10.0.0.1"))
 
     def test_zebra_of_all_vnis(self):
         one = json.loads(self.text("macs.json"))
-        found = audit.read_zebra(json.dumps({"5001": one, "5002": {"numMacs": 0, "macs": {}}}), "macs", 5001)
-        self.assertEqual(found, audit.read_zebra(self.text("macs.json"), "macs", 5001))
+        found = audit_frr.read_macs(json.dumps({"5001": one, "5002": {"numMacs": 0, "macs": {}}, "5003": {"numMacs": 0}}), "macs", [5001, 5002])
+        self.assertEqual(found, {5001: self.zebra(self.text("macs.json")), 5002: {}, 5003: {}})
+
+    def test_one_vni_for_two(self):
+        with self.assertRaises(records.Unreadable):
+            audit_frr.read_macs(self.text("macs.json"), "macs", [5001, 5002])
 
     def test_local_macs(self):
-        found = audit.read_zebra('{"macs":{"02:00:00:00:00:0a":{"type":"local","intf":"up"},"02:00:00:00:00:0b":{"type":"auto"}}}', "macs", 5001)
+        found = self.zebra('{"macs":{"02:00:00:00:00:0a":{"type":"local","intf":"up"},"02:00:00:00:00:0b":{"type":"auto"}}}')
         self.assertEqual(found, {station("0a"): "local"})
 
     def test_kernel(self):
-        found = audit.read_kernel(self.text("fdb.json"), "fdb", 5001)
+        found = self.kernel(self.text("fdb.json"))
         self.assertEqual((found[station("0a")], found[station("0b")]), ("10.0.0.2", "10.0.0.1"))
         self.assertNotIn(bytes(6), found)
 
     def test_one_device_for_all_vnis(self):
         entries = [{"mac": "02:00:00:00:00:0a", "dst": "10.0.0.1", "src_vni": 5001}, {"mac": "02:00:00:00:00:0a", "dst": "10.0.0.2", "src_vni": 5002}]
-        self.assertEqual(audit.read_kernel(json.dumps(entries), "fdb", 5002), {station("0a"): "10.0.0.2"})
+        self.assertEqual(self.kernel(json.dumps(entries), 5002), {station("0a"): "10.0.0.2"})
 
     def test_cannot_be_read(self):
-        for text in ("", "{", "{}", "[]", "3", '{"macs":3}', '{"macs":{"x":{"type":"local"}}}', '{"macs":{"02:00:00:00:00:0a":{}}}', '{"macs":{"02:00:00:00:00:0a":{"type":"remote"}}}', "Error: VNI 77 doesn't exist"):
+        for text in ("", "{", "[]", "3", '{"macs":3}', '{"macs":{"x":{"type":"local"}}}', '{"macs":{"02:00:00:00:00:0a":{}}}', '{"macs":{"02:00:00:00:00:0a":{"type":"remote"}}}', "Error: VNI 77 doesn't exist"):
             with self.subTest(text=text), self.assertRaises(records.Unreadable):
-                audit.read_zebra(text, "macs", 5001)
-        for text in ("", "[", "{}", "3", "[3]", "[{}]", '[{"mac":3}]', '[{"mac":"x"}]'):
+                self.zebra(text)
+        for text in ("[", "{}", "3", "[3]", "[{}]", '[{"mac":3}]', '[{"mac":"x"}]'):
             with self.subTest(text=text), self.assertRaises(records.Unreadable):
-                audit.read_kernel(text, "fdb", 5001)
+                self.kernel(text)
 
 
 class Views:
@@ -172,14 +201,20 @@ class Views:
         return path
 
 
-VTYSH = """case "$2" in
+VTYSH = """echo "$2" >> 'FOLDER/commands'
+case "$2" in
   "show evpn vni json") echo 'VNIS' ;;
   "show bgp l2vpn evpn route json") cat 'SHORT/routes.json' ;;
-  "show bgp l2vpn evpn route vni 5001 json") cat 'SHORT/best.json' ;;
-  "show evpn mac vni 5001 json") cat 'SHORT/macs.json' ;;
-  *) echo '{}' ;;
+  "show bgp vni all json") echo '% Unknown command: show bgp vni all json'; exit UNKNOWN ;;
+  "show bgp l2vpn evpn route vni all json") printf '{"5001":'; cat 'SHORT/best.json'; echo '}' ;;
+  "show evpn mac vni all json") printf '{"5001":'; cat 'SHORT/macs.json'; echo '}' ;;
+  *) echo 'not expected' >&2; exit 1 ;;
 esac
 """
+BRIDGE = """echo "bridge $*" >> 'FOLDER/commands'
+case "$2" in fdb) cat 'SHORT/fdb.json' ;; *) echo '[]' ;; esac
+"""
+EMPTY = [("fdb.json", "[]"), ("fdb.json", ""), ("routes.json", "{}"), ("best.json", "{}"), ("macs.json", "{}")]  # nothing is there
 GONE = (
     "wrong 5001 02:00:00:00:00:0a owner 10.0.0.1 (the only advert); bgpd 10.0.0.1, zebra 10.0.0.2, kernel 10.0.0.2; "
     "after a withdrawal nowhere; differs from bgpd's own best path: a fault of the forwarding plane"
@@ -195,15 +230,19 @@ class Audits(unittest.TestCase):
     """Whole audits of the stored view of FRR 8.4.4 after its two short histories."""
 
     def test_short_histories(self):
-        done = run("--vni", "5001", SHORT)
+        done = run("--brief", "--vni", "5001", SHORT)
         self.assertEqual((done.returncode, done.stdout.splitlines()[:2]), (1, [GONE, STATIC]))
-        self.assertTrue(done.stdout.splitlines()[2].endswith(
-            "VNI 5001: 6 MACs, 4 equal, 2 wrong, 0 missing, 0 extra, 0 not judged; 2 unlike bgpd's own best path, 0 unlike the report alone"
-        ))
+        self.assertIn("VNI 5001: 6 MACs, 4 equal, 2 wrong, 0 missing, 0 extra, 0 not judged; 2 unlike bgpd's own best path, 0 unlike the report alone; 0 flood", done.stdout)
+
+    def test_why_and_what_mends_it(self):
+        done = run("--vni", "5001", SHORT)
+        mend = "    mend: vtysh -c 'clear bgp l2vpn evpn *'"
+        adverts = ["    1. static 0 of 10.0.0.2, before the next: static", "    2. dynamic 3 of 10.0.0.1"]
+        self.assertEqual(done.stdout.splitlines()[:7], [GONE, "    1. dynamic 0 of 10.0.0.1", mend, STATIC, *adverts, mend])
 
     def test_one_mac(self):
         done = run("--vni", "5001", "--mac", "02:00:00:00:00:0b", SHORT)
-        self.assertEqual((done.returncode, done.stdout.splitlines()[0], len(done.stdout.splitlines())), (1, STATIC, 2))
+        self.assertEqual((done.returncode, done.stdout.splitlines()[0], len(done.stdout.splitlines())), (1, STATIC, 5))
 
     def test_json(self):
         done = run("--vni", "5001", "--json", SHORT)
@@ -282,49 +321,78 @@ class Audits(unittest.TestCase):
     def test_cannot_be_read(self):
         with Views() as views:
             cases = [
-                ("--vni", "77", SHORT), ("--vni", "5001", "/nowhere"), (SHORT,), ("--vni", "5001,5002", SHORT),
+                ("--vni", "5001", "/nowhere"), (SHORT,), ("--vni", "5001,5002", SHORT),
                 ("--vni", "5001", "--vtysh", "/nowhere/vtysh"), ("--vni", "5001", "--evpnd", "/nowhere/evpnd", SHORT),
                 ("--vni", "5001", "--report", "/nowhere", SHORT),
             ]
             for place, text in enumerate(("", "{", "[]", "garbage", "{}")):
                 for name in ("routes.json", "best.json", "macs.json", "fdb.json"):
-                    if (name, text) != ("fdb.json", "[]"):
+                    if (name, text) not in EMPTY:
                         cases.append(("--vni", "5001", views.make(f"{place}{name}", {name: text})))
             cases.append(("--vni", "5001", views.make("nothing", {"macs.json": None, "fdb.json": None})))
+            cases.append(("--vni", "5001", "--again", "1", SHORT))
             for words in cases:
                 with self.subTest(words=words):
                     done = run(*words)
-                    self.assertEqual((done.returncode, done.stdout), (2, ""))
+                    self.assertEqual((done.returncode, done.stdout), (2, ""), done.stderr)
                     self.assertRegex(done.stderr, r"^evpnd_audit: [^\n]+\n$")
 
-    def on_a_host(self, *words: str, vnis: str = '{"5001":{"vni":5001,"type":"L2","vxlanIf":"vxlan5001"}}', last: str = "") -> subprocess.CompletedProcess:
-        """The audit on a host whose vtysh and bridge print the stored texts."""
+    def on_a_host(
+        self, *words: str, vnis: str = '{"5001":{"vni":5001,"type":"L2","vxlanIf":"vxlan5001"}}', last: str = "", unknown: str = "1"
+    ) -> subprocess.CompletedProcess:
+        """The audit on a host whose vtysh, bridge and ip print the stored texts."""
         with Views() as views:
-            for name, text in (("vtysh", VTYSH), ("bridge", f"cat '{SHORT}/fdb.json'\n{last}")):
+            for name, text in (("vtysh", VTYSH), ("bridge", f"{BRIDGE}{last}"), ("ip", "echo '[]'")):
                 path = os.path.join(views.folder, name)
                 with open(path, "w", encoding="utf-8") as stream:
-                    stream.write("#!/bin/sh\n" + text.replace("VNIS", vnis).replace("SHORT", SHORT))
+                    text = text.replace("VNIS", vnis).replace("SHORT", SHORT).replace("FOLDER", views.folder)
+                    stream.write("#!/bin/sh\n" + text.replace("UNKNOWN", unknown))
                 os.chmod(path, 0o755)
             there = {**os.environ, "PATH": views.folder + os.pathsep + os.environ["PATH"]}
             tool = os.path.join(TOP, "tools", "evpnd_audit.py")
             command = [sys.executable, tool, "--evpnd", PROGRAM, *words]
-            return subprocess.run(command, capture_output=True, encoding="utf-8", check=False, env=there)
+            done = subprocess.run(command, capture_output=True, encoding="utf-8", check=False, env=there)
+            with open(os.path.join(views.folder, "commands"), encoding="utf-8") as stream:
+                self.commands = stream.read().splitlines()
+            return done
 
     def test_on_the_host(self):
         for words in ((), ("--vni", "5001"), ("--device", "vxlan5001")):
-            done = self.on_a_host(*words)
-            self.assertEqual((done.returncode, done.stdout.splitlines()[:2]), (1, [GONE, STATIC]), done.stderr)
+            for unknown in ("0", "1"):
+                done = self.on_a_host("--brief", *words, unknown=unknown)
+                self.assertEqual((done.returncode, done.stdout.splitlines()[:2]), (1, [GONE, STATIC]), done.stderr)
+
+    def test_each_command_once(self):
+        """Three VNIs cost no more dumps than one."""
+        vnis = ",".join('"%d":{"vni":%d,"type":"L2","vxlanIf":"vxlan%d"}' % (vni, vni, vni) for vni in (5001, 5002, 5003))
+        done = self.on_a_host("--brief", vnis="{" + vnis + "}")
+        self.assertEqual((done.returncode, done.stdout.splitlines()[:2]), (1, [GONE, STATIC]), done.stderr)
+        self.assertEqual(sorted(self.commands), sorted(set(self.commands)))
+        self.assertEqual(len([command for command in self.commands if command.startswith("show bgp")]), 3)
+
+    def test_twice(self):
+        """What stays the same is told after the second look."""
+        done = self.on_a_host("--brief", "--again", "0")
+        self.assertEqual((done.returncode, done.stdout.splitlines()[:2]), (1, [GONE, STATIC]), done.stderr)
+        self.assertEqual(self.commands.count("show evpn mac vni all json"), 2)
 
     def test_on_a_host_that_fails(self):
         cases = [
-            ((), {"vnis": ""}), ((), {"vnis": "{}"}), ((), {"vnis": "[]"}), ((), {"vnis": '{"5001":{"vni":"x"}}'}), (("--vni", "77"), {}),
-            ((), {"last": "echo broken >&2; exit 3"}), (("--vtysh", "false"), {}), ((), {"vnis": '{"5001":{"vni":5001,"type":"L2"}}'}),
+            ((), {"vnis": ""}), ((), {"vnis": "{}"}), ((), {"vnis": "[]"}), ((), {"vnis": '{"5001":{"vni":"x"}}'}),
+            ((), {"last": "echo broken >&2; exit 3"}), (("--vtysh", "false"), {}),
         ]
         for words, how in cases:
             with self.subTest(words=words, how=how):
-                done = self.on_a_host(*words, **how)
+                done = self.on_a_host(*words, **how) if words == () else run(*words)
                 self.assertEqual((done.returncode, done.stdout), (2, ""))
                 self.assertRegex(done.stderr, r"^evpnd_audit: [^\n]+\n$")
+
+    def test_a_vni_that_is_not_there(self):
+        """It can't be audited, and the others are."""
+        done = self.on_a_host("--brief", "--vni", "77,5001")
+        self.assertEqual((done.returncode, done.stdout.splitlines()[1:3]), (1, [GONE, STATIC]), done.stderr)
+        self.assertIn("VNI 77: can't be audited: zebra and the kernel have no such VNI", done.stdout)
+        self.assertEqual(self.on_a_host("--brief", "--vni", "77").returncode, 3)
 
     def test_usage(self):
         for words in (("--vni", "x"), ("--mac", "x"), ("--colour",)):
@@ -354,10 +422,10 @@ class AgreesWithTheProgram(unittest.TestCase):
         octets = b"".join(records.record_of(update) for update in updates)
         done = self.report(octets, *sorted({records.address_text(update.originator) for update in updates}))
         self.assertEqual((done.returncode, done.stderr), (0, b""))
-        owned = audit.read_report(done.stdout.decode())
+        owned = audit_report.read_report(done.stdout.decode())
         self.assertEqual(len(owned), len({update.mac for update in updates if update.mac}))
         for (_, mac), part in owned.items():
-            self.assertEqual(part.owner, audit.best_of(part.adverts).originator, mac)
+            self.assertEqual(part.owner, audit_report.best_of(part.adverts).originator, mac)
 
     def test_more_originators_than_a_table_has(self):
         """200 MACs of 100 routers, two a MAC: several tables, each MAC in one."""
@@ -368,12 +436,12 @@ class AgreesWithTheProgram(unittest.TestCase):
         stations: dict = {}
         for update in updates:
             stations.setdefault((5001, update.mac), []).append(update)
-        parts = list(audit.parts_of(stations))
+        parts = list(audit_report.parts_of(stations))
         self.assertEqual(sum(len(part) for part in parts), len(updates))
         self.assertTrue(all(len({update.originator for update in part}) <= 64 for part in parts))
         owned: dict = {}
         for part in parts:
-            owned.update(audit.read_report(audit.run_report(PROGRAM, part)))
+            owned.update(audit_report.read_report(audit_report.run_report(PROGRAM, part)))
         self.assertEqual(len(owned), 200)
 
     def test_changed_records(self):

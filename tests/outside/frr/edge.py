@@ -1,17 +1,20 @@
 """A running FRR edge in network namespaces of its own, and the speaker that tells it routes.
 
-Two namespaces with a link between them: one has a VXLAN device, a bridge, zebra and bgpd, the other the
-speaker. No packet leaves them. Each daemon is a child of ours and is ended by its own process id.
+Two namespaces with a link between them: one has bridges, VXLAN devices, access ports where they are wanted,
+zebra and bgpd, the other the speaker. No packet leaves them. Each daemon is a child of ours and is ended
+by its own process id. FRR is the host's, or that of a folder with another Debian (debootstrap), which is
+entered by chroot.
 """
 
 import json
 import os
+import shlex
 import shutil
 import subprocess
 import sys
 import tempfile
 import time
-from typing import List, Optional
+from typing import Dict, List, Optional, Sequence
 
 HERE = os.path.dirname(os.path.abspath(__file__))
 TOOLS = os.path.join(HERE, "..", "..", "..", "tools")
@@ -36,12 +39,16 @@ def run(*words: str) -> str:
 class Edge:
     """One edge; use it by `with`."""
 
-    def __init__(self, name: str) -> None:
+    def __init__(self, name: str, root: str = "", vnis: Sequence[int] = (VNI,), access: bool = False, single: bool = False) -> None:
         self.inside = f"evpnd-{os.getpid()}-{name}"
         self.outside = f"{self.inside}-pe"
-        self.folder = tempfile.mkdtemp(prefix="evpnd-frr-")
+        self.root = root.rstrip("/")
+        self.vnis, self.access, self.single = list(vnis), access, single
+        self.folder = tempfile.mkdtemp(prefix="evpnd-frr-", dir=f"{self.root}/var/tmp" if root else None)
+        self.frr_folder = self.folder[len(self.root) :]
         self.children: List[subprocess.Popen] = []
         self.speaker: Optional[subprocess.Popen] = None
+        self.daemons: Dict[str, subprocess.Popen] = {}
         self.marks = 0
 
     def __enter__(self) -> "Edge":
@@ -83,29 +90,87 @@ class Edge:
         inside = ["ip", "-n", self.inside]
         run(*inside, "addr", "add", f"{OWN}/32", "dev", "lo")
         run(*inside, "route", "add", "10.0.0.0/24", "via", "192.168.77.2")
-        run(*inside, "link", "add", f"br{VNI}", "type", "bridge")
-        vxlan = ["type", "vxlan", "id", str(VNI), "dstport", "4789", "local", OWN, "nolearning"]
-        run(*inside, "link", "add", f"vxlan{VNI}", *vxlan)
-        run(*inside, "link", "set", f"vxlan{VNI}", "master", f"br{VNI}")
-        for device in (f"br{VNI}", f"vxlan{VNI}"):
+        if self.single:
+            self.make_single_device()
+        else:
+            for vni in self.vnis:
+                self.make_network(vni)
+
+    def make_network(self, vni: int) -> None:
+        """A VNI's bridge, its VXLAN device and, where they are wanted, its access port with an address on the bridge."""
+        inside = ["ip", "-n", self.inside]
+        run(*inside, "link", "add", f"br{vni}", "type", "bridge")
+        vxlan = ["type", "vxlan", "id", str(vni), "dstport", "4789", "local", OWN, "nolearning"]
+        run(*inside, "link", "add", f"vxlan{vni}", *vxlan)
+        run(*inside, "link", "set", f"vxlan{vni}", "master", f"br{vni}")
+        for device in (f"br{vni}", f"vxlan{vni}"):
             run(*inside, "link", "set", device, "up")
+        if self.access:
+            self.make_access(vni, f"br{vni}")
+            run(*inside, "addr", "add", f"198.18.{vni % 250}.1/24", "dev", f"br{vni}")
+
+    def make_access(self, vni: int, bridge: str) -> None:
+        """An access port of a bridge; its host is the other end, from which frames are sent as any station."""
+        inside = ["ip", "-n", self.inside]
+        run(*inside, "link", "add", f"acc{vni}", "type", "veth", "peer", "name", f"host{vni}")
+        run("ip", "netns", "exec", self.inside, "sysctl", "-qw", f"net.ipv6.conf.host{vni}.disable_ipv6=1")
+        run(*inside, "link", "set", f"acc{vni}", "master", bridge)
+        for device in (f"acc{vni}", f"host{vni}"):
+            run(*inside, "link", "set", device, "up")
+
+    def make_single_device(self) -> None:
+        """One VXLAN device for all VNIs in one bridge with VLANs: VLAN 10, 11, .. are the VNIs in order."""
+        inside, bridge = ["ip", "-n", self.inside], ["bridge", "-n", self.inside]
+        run(*inside, "link", "add", "br0", "type", "bridge", "vlan_filtering", "1", "vlan_default_pvid", "0")
+        vxlan = ["type", "vxlan", "dstport", "4789", "local", OWN, "nolearning", "external", "vnifilter"]
+        run(*inside, "link", "add", "vxlan0", *vxlan)
+        run(*inside, "link", "set", "vxlan0", "master", "br0")
+        run(*bridge, "link", "set", "dev", "vxlan0", "vlan_tunnel", "on")
+        for device in ("br0", "vxlan0"):
+            run(*inside, "link", "set", device, "up")
+        for vlan, vni in enumerate(self.vnis, 10):
+            for device in ("br0", "vxlan0"):
+                run(*bridge, "vlan", "add", "dev", device, "vid", str(vlan), *(["self"] if device == "br0" else []))
+            run(*bridge, "vni", "add", "dev", "vxlan0", "vni", str(vni))
+            run(*bridge, "vlan", "add", "dev", "vxlan0", "vid", str(vlan), "tunnel_info", "id", str(vni))
+            if self.access:
+                self.make_access(vni, "br0")
+                run(*bridge, "vlan", "add", "dev", f"acc{vni}", "vid", str(vlan), "pvid", "untagged")
+
+    def heard(self, vni: int, mac: str) -> None:
+        """A real frame of a station at the access port of a VNI."""
+        self.within(sys.executable, os.path.join(HERE, "frames.py"), "heard", f"host{vni}", mac)
+
+    def goes(self, vni: int, mac: str) -> str:
+        """Where a real frame to a MAC goes: 'local' at the access port, the edges of its VXLAN datagrams, or 'nowhere'."""
+        program = os.path.join(HERE, "frames.py")
+        return self.within(sys.executable, program, "goes", f"br{vni}", mac, f"host{vni}", "up0").strip()
+
+    def frr(self, *words: str) -> List[str]:
+        """A command of FRR, in its folder's Debian where there is one."""
+        enter = 'mount -t proc proc "$0/proc" && exec chroot "$0" "$@"'
+        return ["sh", "-c", enter, self.root, *words] if self.root else list(words)
 
     def start_daemons(self) -> None:
         """zebra, then bgpd, in the foreground, with their sockets in our folder."""
-        shutil.chown(self.folder, "frr", "frr")
         os.chmod(self.folder, 0o755)
+        inner = self.frr_folder
+        self.within(*self.frr("chown", "frr:frr", inner))
         lines = {"zebra": "hostname edge\n", "bgpd": BGPD_LINES}
         for daemon, text in lines.items():
             path = os.path.join(self.folder, f"{daemon}.conf")
             with open(path, "w", encoding="utf-8") as stream:
                 stream.write(text)
-            shutil.chown(path, "frr", "frr")
-            words = [os.path.join(DAEMONS, daemon), "-f", path, "-i", os.path.join(self.folder, f"{daemon}.pid")]
-            words += ["-A", "127.0.0.1", "--vty_socket", self.folder, "-z", os.path.join(self.folder, "zserv.api")]
+            self.within(*self.frr("chown", "frr:frr", f"{inner}/{daemon}.conf"))
+            words = [f"{DAEMONS}/{daemon}", "-f", f"{inner}/{daemon}.conf", "-i", f"{inner}/{daemon}.pid"]
+            words += ["-A", "127.0.0.1", "--vty_socket", inner, "-z", f"{inner}/zserv.api"]
             with open(os.path.join(self.folder, f"{daemon}.log"), "wb") as log:
-                self.children.append(self.start(self.inside, words, stdin=subprocess.DEVNULL, stdout=log, stderr=log))
+                how = {"stdin": subprocess.DEVNULL, "stdout": log, "stderr": log}
+                self.daemons[daemon] = self.start(self.inside, self.frr(*words), **how)
+                self.children.append(self.daemons[daemon])
             self.wait_for(lambda: os.path.exists(os.path.join(self.folder, f"{daemon}.vty")), daemon)
-        self.wait_for(lambda: str(VNI) in self.shell("show evpn vni json"), "the VNI")
+        known = lambda: all(str(vni) in self.shell("show evpn vni json") for vni in self.vnis)  # noqa: E731
+        self.wait_for(known, "the VNIs")
 
     def start_speaker(self) -> None:
         """The speaker, until its session stands."""
@@ -131,21 +196,25 @@ class Edge:
 
     def shell_words(self) -> List[str]:
         """vtysh for this edge's daemons."""
-        return ["vtysh", "--vty_socket", self.folder]
+        return self.frr("vtysh", "--vty_socket", self.frr_folder)
 
     def shell(self, command: str) -> str:
         """What vtysh prints."""
         return self.within(*self.shell_words(), "-c", command)
 
+    def shell_lines(self, *commands: str) -> str:
+        """What vtysh prints of several commands in one session."""
+        return self.within(*self.shell_words(), *(word for command in commands for word in ("-c", command)))
+
     def entries(self) -> str:
         """The kernel's forwarding entries at the VXLAN device."""
-        return self.within("bridge", "-j", "fdb", "show", "dev", f"vxlan{VNI}")
+        return self.within("bridge", "-j", "fdb", "show", "dev", "vxlan0" if self.single else f"vxlan{self.vnis[0]}")
 
     def tell(self, lines: List[str]) -> None:
         """Says some lines, and waits until the kernel has a mark that was said behind them."""
         self.marks += 1
         mark = f"02:ff:ff:ff:{self.marks >> 8:02x}:{self.marks & 255:02x}"
-        for line in [*lines, f"advert 10.0.0.1 {VNI} {mark} seq 0"]:
+        for line in [*lines, f"advert 10.0.0.1 {self.vnis[0]} {mark} seq 0"]:
             self.speaker.stdin.write(line + "\n")
         self.speaker.stdin.flush()
         self.wait_for(lambda: self.has_mark(mark), "the mark")
@@ -158,18 +227,16 @@ class Edge:
         """FRR's version."""
         return self.shell("show version").split("\n")[0].split()[1]
 
+    def audit_words(self, *words: str) -> List[str]:
+        """The audit of this edge, run in its namespace."""
+        tool = os.path.join(TOOLS, "evpnd_audit.py")
+        there = ["ip", "netns", "exec", self.inside, sys.executable, tool]
+        shell = " ".join(shlex.quote(word) for word in self.shell_words())
+        return [*there, *words, "--vtysh", shell]
+
     def save(self, folder: str) -> None:
         """A view of this edge, as docs/audit.md has it."""
-        os.makedirs(folder, exist_ok=True)
-        texts = {
-            "routes.json": self.shell("show bgp l2vpn evpn route json"),
-            "best.json": self.shell(f"show bgp l2vpn evpn route vni {VNI} json"),
-            "macs.json": self.shell(f"show evpn mac vni {VNI} json"),
-            "fdb.json": self.entries(),
-        }
-        for name, text in texts.items():
-            with open(os.path.join(folder, name), "w", encoding="utf-8") as stream:
-                stream.write(text)
+        run(*self.audit_words("save", folder))
 
 
 BGPD_LINES = f"""router bgp 65000

@@ -13,7 +13,7 @@ import random
 import subprocess
 import sys
 import tempfile
-from typing import List, Tuple
+from typing import Dict, List, Tuple
 
 from edge import TOOLS, VNI, Edge, Trouble
 
@@ -55,8 +55,13 @@ def audited(*words: str) -> Tuple[int, str]:
 
 def audited_there(edge: Edge) -> Tuple[int, str]:
     """The audit of the edge itself, in its namespace."""
-    there = ["ip", "netns", "exec", edge.inside, sys.executable, os.path.join(TOOLS, "evpnd_audit.py")]
-    return said(*there, "--vtysh", " ".join(edge.shell_words()))
+    return said(*edge.audit_words())
+
+
+def kernel_of(edge: Edge) -> Dict[bytes, str]:
+    """Where the VXLAN device's own entries send each MAC."""
+    entries = audit_kernel.read_list(edge.entries(), "kernel", "bridge")
+    return audit_kernel.Tables(entries, None, "kernel").of_one_device(VNI, f"vxlan{VNI}").places
 
 
 def short_histories(edge: Edge, folder: str, tally: Tally) -> None:
@@ -69,7 +74,7 @@ def short_histories(edge: Edge, folder: str, tally: Tally) -> None:
     status, text = audited(folder)
     print(text, end="")
     tally.see(audited_there(edge) == (status, text.replace(f"{folder}: VNI", "this host: VNI")), "on the host itself the audit says the same")
-    kernel = audit.read_kernel(edge.entries(), "kernel", VNI)
+    kernel = kernel_of(edge)
     places = {GONE: "10.0.0.1", STATIC: "10.0.0.2"}
     wrong = {mac for mac, place in places.items() if kernel.get(records.read_mac(mac)) != place}
     tally.see(status == (1 if wrong else 0), f"the status says whether the kernel is wrong ({len(wrong)} of 2 are)")
@@ -135,14 +140,14 @@ def random_history(edge: Edge, folder: str, tally: Tally) -> None:
     result = json.loads(text)[0] if status < 2 else {}
     print(text if status == 2 else json.dumps(result["sums"]))
     tally.see(status < 2 and result["sums"]["by rule"] == 0, "no difference is one of rule: bgpd's own best path is the owner")
-    program = audit.program_of(audit.parser().parse_args([]))
-    owners = audit.read_report(audit.run_report(program, told))
+    program = audit_report.program_of(None)
+    owners = audit_report.read_report(audit_report.run_report(program, told))
     with open(os.path.join(folder, "routes.json"), encoding="utf-8") as stream:
         snapshot = frr_routes.snapshot_of(frr_routes.Routes([VNI]), stream, "routes")
-    shown = audit.read_report(audit.run_report(program, list(snapshot.updates(lambda _: 1))))
+    shown = audit_report.read_report(audit_report.run_report(program, list(snapshot.updates(lambda _: 1))))
     equal = all(shown[station].owner == owned.owner if owned.owner else station not in shown for station, owned in owners.items())
     tally.see(equal, f"the owners of the routes that FRR shows are those of the history that it was told ({len(owners)} MACs)")
-    kernel = audit.read_kernel(edge.entries(), "kernel", VNI)
+    kernel = kernel_of(edge)
     wrong = sum(kernel.get(mac) != (records.address_text(owned.owner) if owned.owner else None) for (_, mac), owned in owners.items())
     tally.see(status < 2 and len(result["macs"]) == wrong, f"the audit tells of {wrong} MACs, as the kernel's entries say")
 

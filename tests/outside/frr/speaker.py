@@ -3,9 +3,10 @@
 
     speaker.py PEER OWN-ADDRESS
 
+A line may begin with 'esi' (its route has a nonzero ESI) and with 'pref N' (its local preference, 100 else).
 It speaks as a route reflector would: one internal session, the next hop of each route is the line's
-originator. A route's octets are exactly those of its record (RFC 7432, 7.2 and 7.3), the attributes
-are RFC 4271's, RFC 4760's and RFC 4360's. 'up' on standard output says that the session stands.
+originator. A route's octets are those of its record (RFC 7432, 7.2 and 7.3) but for the RD's number,
+which is the VNI's, so that one edge's routes of two VNIs are two; the attributes are RFC 4271's, RFC 4760's and RFC 4360's. 'up' on standard output says that the session stands.
 """
 
 import os
@@ -36,15 +37,29 @@ def attribute(flags: int, kind: int, value: bytes) -> bytes:
     return bytes([flags | 0x10, kind]) + struct.pack("!H", len(value)) + value
 
 
-def update_message(update: records.Update) -> bytes:
+def message_of_line(line: str) -> bytes:
+    """The UPDATE that a line says."""
+    words, esi, preference = line.split(), bytes(10), 100
+    while words and words[0] in ("esi", "pref"):
+        if words.pop(0) == "esi":
+            esi = bytes([3]) + bytes(8) + bytes([1])
+        else:
+            preference = int(words.pop(0))
+    return update_message(records.update_of_line(" ".join(words)), esi, preference)
+
+
+def update_message(update: records.Update, esi: bytes, preference: int) -> bytes:
     """The UPDATE that says an update."""
     route = records.route_of(update)
+    if update.mac is not None:
+        route = route[:10] + esi + route[20:]
+    route = route[:8] + (update.vni & 0xFFFF).to_bytes(2, "big") + route[10:]  # an RD for each VNI: routes of two VNIs differ
     if update.advert is None:
         attributes = attribute(0x80, UNREACH, L2VPN_EVPN + route)
     else:
         target = struct.pack("!BBHI", 0, 2, AUTONOMOUS_SYSTEM, update.vni)
         attributes = attribute(0x40, ORIGIN, b"\0") + attribute(0x40, AS_PATH, b"")
-        attributes += attribute(0x40, LOCAL_PREF, struct.pack("!I", 100))
+        attributes += attribute(0x40, LOCAL_PREF, struct.pack("!I", preference))
         attributes += attribute(0x80, REACH, L2VPN_EVPN + bytes([4]) + update.originator + b"\0" + route)
         attributes += attribute(0xC0, COMMUNITIES, target + VXLAN_ENCAPSULATION + records.community_of(update))
         if update.mac is None:
@@ -95,7 +110,7 @@ def main() -> None:
     for work in (listen, keep):
         threading.Thread(target=work, args=(session,), daemon=True).start()
     for line in sys.stdin:
-        session.sendall(update_message(records.update_of_line(line)))
+        session.sendall(message_of_line(line))
 
 
 if __name__ == "__main__":

@@ -1,0 +1,188 @@
+"""How an audit's results are printed: lines, JSON, one line for Nagios, a text for Prometheus; and the status."""
+
+import json
+import os
+import time
+from typing import Dict, Iterator, List, NamedTuple
+
+import update_records as records
+from audit_compare import CAUSES, Difference, Result, Verdict, differs, marks_of, sums_of
+
+AGREE, DIFFER, UNREADABLE, UNSAID = 0, 1, 2, 3
+NAGIOS_OK, NAGIOS_CRITICAL, NAGIOS_UNKNOWN = 0, 2, 3
+FIGURES = ("MACs", "wrong", "missing", "extra", "not judged", "flood entries", "neighbours")
+
+
+class Told(NamedTuple):
+    """All results, what was left out of the routes and what was taken in a way that one should know, by view and cause."""
+
+    results: List[Result]
+    left_out: Dict[str, Dict[str, int]]
+    told: Dict[str, Dict[str, int]]
+    since: Dict[str, int]
+
+
+def mark_text(view: str, vni: int, mark: tuple) -> str:
+    """The name of a difference in a state file."""
+    return " ".join([view, str(vni), *(str(part) for part in mark[:5])])
+
+
+def status_of(results: List[Result], skips_are_fine: bool) -> int:
+    """1 where something differs, 3 where nothing does and something couldn't be judged, else 0."""
+    if any(marks_of(result) for result in results):
+        return DIFFER
+    silent = any(result.fault for result in results)
+    unjudged = any(verdict.kind == "not judged" for result in results for verdict in result.macs)
+    return UNSAID if silent or (unjudged and not skips_are_fine) else AGREE
+
+
+def totals_of(results: List[Result]) -> Dict[str, int]:
+    """The sums over all results."""
+    totals: Dict[str, int] = dict.fromkeys(FIGURES, 0)
+    for result in results:
+        for name, count in sums_of(result).items():
+            totals[name] = totals.get(name, 0) + count
+    return totals
+
+
+# ---- lines ----------------------------------------------------------------------------------------------------------
+
+
+def line_of(vni: int, verdict: Verdict) -> str:
+    """The line of a MAC."""
+    line = (
+        f"{verdict.kind} {vni} {records.mac_text(verdict.mac)} owner {verdict.owner} ({verdict.reason}); "
+        f"bgpd {verdict.bgpd}, zebra {verdict.zebra}, kernel {verdict.kernel}; after a withdrawal {verdict.heir}"
+    )
+    return f"{line}; {CAUSES[verdict.cause]}" if differs(verdict) else line
+
+
+def difference_line(vni: int, entry: Difference) -> str:
+    """The line of a flood list's entry or of a neighbour."""
+    if entry.kind.startswith("flood"):
+        says = "its route is there, and the kernel doesn't flood to it" if entry.found == "not there" else "no route of it"
+        return f"{entry.kind} {vni} {entry.what}: {says}"
+    return f"{entry.kind} {vni} {entry.what}: by the routes {entry.wanted}, in the kernel {entry.found}"
+
+
+def time_text(seconds: int) -> str:
+    """A time as everybody reads it."""
+    return time.strftime("%Y-%m-%dT%H:%M:%SZ", time.gmtime(seconds))
+
+
+def lines_of(result: Result, told: Told, is_brief: bool) -> Iterator[str]:
+    """The lines of what differs in a result, each with why, since when and what mends it, and the sums."""
+    if result.fault:
+        yield f"{result.view}: VNI {result.vni}: can't be audited: {result.fault}"
+        return
+    for mark, entry in marks_of(result).items():
+        yield line_of(result.vni, entry) if isinstance(entry, Verdict) else difference_line(result.vni, entry)
+        if is_brief:
+            continue
+        for number, advert in enumerate(entry.adverts if isinstance(entry, Verdict) else [], 1):
+            yield f"    {number}. {advert}"
+        since = told.since.get(mark_text(result.view, result.vni, mark))
+        if since is not None:
+            yield f"    since {time_text(since)}"
+        yield f"    mend: {entry.mend}"
+    sums = sums_of(result)
+    counts = ", ".join(f"{sums[name]} {name}" for name in ("MACs", "equal", "wrong", "missing", "extra", "not judged"))
+    alone = sums["by rule"] + sums["by unheard"] + sums["by unknown"]
+    causes = f"{sums['by forwarding']} unlike bgpd's own best path, {alone} unlike the report alone"
+    yield f"{result.view}: VNI {result.vni}: {counts}; {causes}; {entries_text(result)}"
+
+
+def entries_text(result: Result) -> str:
+    """The sums of flood lists and neighbours, or that they aren't compared."""
+    floods = "flood list not compared" if result.floods is None else f"{len(result.floods)} flood entries differ"
+    neighbours = "neighbours not compared" if result.neighbours is None else f"{len(result.neighbours)} neighbours differ"
+    return f"{floods}, {neighbours}"
+
+
+# ---- JSON, Nagios, Prometheus ---------------------------------------------------------------------------------------
+
+
+def dict_of(verdict: Verdict) -> dict:
+    """A verdict as JSON has it."""
+    fields = verdict._asdict()
+    fields["mac"] = records.mac_text(verdict.mac)
+    return fields
+
+
+def json_text(told: Told) -> str:
+    """All that is known, every count with it."""
+    listed = []
+    for result in told.results:
+        since = {mark: told.since.get(mark_text(result.view, result.vni, mark)) for mark in marks_of(result)}
+        listed.append(
+            {
+                "vni": result.vni,
+                "view": result.view,
+                "fault": result.fault or None,
+                "sums": sums_of(result),
+                "macs": [{**dict_of(each), "since": since.get(mark)} for mark, each in marks_of(result).items() if isinstance(each, Verdict)],
+                "not judged": [records.mac_text(each.mac) for each in result.macs if each.kind == "not judged"],
+                "floods": None if result.floods is None else [entry._asdict() for entry in result.floods],
+                "neighbours": None if result.neighbours is None else [entry._asdict() for entry in result.neighbours],
+                "left out": told.left_out.get(result.view, {}),
+                "told": told.told.get(result.view, {}),
+            }
+        )
+    return json.dumps(listed, indent=1)
+
+
+def nagios_line(told: Told, status: int) -> str:
+    """One line with figures, as Nagios, Icinga and their kin read it."""
+    totals = totals_of(told.results)
+    faults = [f"VNI {result.vni}: {result.fault}" for result in told.results if result.fault]
+    word = {NAGIOS_OK: "OK", NAGIOS_CRITICAL: "CRITICAL"}.get(status, "UNKNOWN")
+    says = ", ".join(f"{totals[name]} {name}" for name in FIGURES)
+    figures = " ".join(f"'{name}'={totals[name]}" for name in FIGURES)
+    return f"EVPN {word}: {says}{'; ' if faults else ''}{'; '.join(faults)} | {figures}"
+
+
+def nagios_status(status: int) -> int:
+    """The status that Nagios wants."""
+    return {AGREE: NAGIOS_OK, DIFFER: NAGIOS_CRITICAL}.get(status, NAGIOS_UNKNOWN)
+
+
+def label_text(text: str) -> str:
+    """A label's value in the text form of Prometheus."""
+    return text.replace("\\", "\\\\").replace('"', '\\"').replace("\n", "\\n")
+
+
+def prometheus_text(told: Told, status: int, fault: str = "") -> str:
+    """The text form of Prometheus, for the directory that node_exporter's textfile collector reads."""
+    lines = [
+        "# HELP evpnd_audit_status 0 all agree, 1 something differs, 2 nothing could be read, 3 something could not be judged.",
+        "# TYPE evpnd_audit_status gauge",
+        f"evpnd_audit_status {status}",
+        "# HELP evpnd_audit_time_seconds When the audit ended.",
+        "# TYPE evpnd_audit_time_seconds gauge",
+        f"evpnd_audit_time_seconds {int(time.time())}",
+        "# HELP evpnd_audit_entries How many MACs, flood entries and neighbours are of each kind.",
+        "# TYPE evpnd_audit_entries gauge",
+    ]
+    for result in told.results:
+        place = f'view="{label_text(result.view)}",vni="{result.vni}"'
+        for name, count in sums_of(result).items():
+            lines.append(f'evpnd_audit_entries{{{place},kind="{name}"}} {count}')
+    lines += ["# HELP evpnd_audit_unreadable Whether a VNI could not be audited.", "# TYPE evpnd_audit_unreadable gauge"]
+    for result in told.results:
+        lines.append(f'evpnd_audit_unreadable{{view="{label_text(result.view)}",vni="{result.vni}"}} {int(bool(result.fault))}')
+    lines += ["# HELP evpnd_audit_left_out Paths left out of the records, by cause.", "# TYPE evpnd_audit_left_out gauge"]
+    for view, counts in told.left_out.items():
+        for cause, count in sorted(counts.items()):
+            lines.append(f'evpnd_audit_left_out{{view="{label_text(view)}",cause="{label_text(cause)}"}} {count}')
+    lines += [f"# {fault}"] if fault else []
+    return "\n".join(lines) + "\n"
+
+
+def write_whole(path: str, text: str) -> None:
+    """Writes a file so that a reader finds the old one or the new one, whole."""
+    try:
+        with open(f"{path}.new", "w", encoding="utf-8") as out:
+            out.write(text)
+        os.replace(f"{path}.new", path)
+    except OSError as fault:
+        raise records.Unreadable(f"{path}: can't be written: {fault.strerror}") from None
