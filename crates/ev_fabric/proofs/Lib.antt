@@ -22,3 +22,4 @@ pub mod RestingLearning
 pub mod RestingMotion
 pub mod StationStages
 pub mod StationMotion
+pub mod StationRest

@@ -284,7 +284,7 @@ module _ (base : List Fields) (i j : ℕ) (s : Station) (o : ℕ) (u : Fields) (
         same z in' = in'
 
         kept : SameOf s a.claims.voice hushed.claims.voice
-        kept = record { address = refl; values = λ q of. refl; waits = sym (waits_first ∙ ap (λ b. cond b (r ∷ left) left) other) }
+        kept = record { address = refl; incarnation = refl; values = λ q of. refl; waits = sym (waits_first ∙ ap (λ b. cond b (r ∷ left) left) other) }
 
     -- a register of the station: it waits at one of the two edges
     module _ (of : is_of s r ≡ true) where
@@ -472,10 +472,10 @@ module _ (base : List Fields) (i j : ℕ) (s : Station) (o : ℕ) (u : Fields) (
 -- ---- what a move begins with
 
 -- what an edge agrees on it has
-agreed_known : (f : Fabric) (s : Station) → AgreesOn f s → (i : ℕ) (a : Edge) (u : Fields) → IsEdge f i a → Contains f.pool u → is_of s u.register ≡ true → is_newest a.claims.voice u ≡ false
+pub agreed_known : (f : Fabric) (s : Station) → AgreesOn f s → (i : ℕ) (a : Edge) (u : Fields) → IsEdge f i a → Contains f.pool u → is_of s u.register ≡ true → is_newest a.claims.voice u ≡ false
 agreed_known f s agree i a u at in' of = let v = agree.arrived i a u at of in' in ap (λ o. is_news o u.value) v.1 ∙ v.2
 
-agreed_waits : (f : Fabric) (s : Station) → AgreesOn f s → (i : ℕ) (a : Edge) → IsEdge f i a → waiting s a.claims.voice ≡ []
+pub agreed_waits : (f : Fabric) (s : Station) → AgreesOn f s → (i : ℕ) (a : Edge) → IsEdge f i a → waiting s a.claims.voice ≡ []
 agreed_waits f s agree i a at = filter_none (is_of s) a.claims.voice.pending (λ r in' of. agree.quiet i a r at of in')
 
 -- a station that is said leaves what was no news

@@ -88,14 +88,15 @@ marked_first s rs r none mine = go (list_any (eq_by_cmp register_cmp r) rs) refl
 
 pub record SameOf (s : Station) (e v : Voice) : Type 0 where
   pub address : v.address ≡ e.address
+  pub incarnation : v.incarnation ≡ e.incarnation
   pub values : (r : Register) → is_of s r ≡ true → value_at v.table r ≡ value_at e.table r
   pub waits : waiting s v ≡ waiting s e
 
 pub same_itself : (s : Station) (e : Voice) → SameOf s e e
-same_itself s e = record { address = refl; values = λ r of. refl; waits = refl }
+same_itself s e = record { address = refl; incarnation = refl; values = λ r of. refl; waits = refl }
 
 pub same_trans : (s : Station) (e v w : Voice) → SameOf s e v → SameOf s v w → SameOf s e w
-same_trans s e v w h g = record { address = g.address ∙ h.address; values = λ r of. g.values r of ∙ h.values r of; waits = g.waits ∙ h.waits }
+same_trans s e v w h g = record { address = g.address ∙ h.address; incarnation = g.incarnation ∙ h.incarnation; values = λ r of. g.values r of ∙ h.values r of; waits = g.waits ∙ h.waits }
 
 not_both : {b : Bool} → b ≡ true → b ≡ false → ⊥
 not_both yes' no' = let bad : true ≡ false = sym yes' ∙ no' in cc
@@ -110,6 +111,7 @@ same_newest s e v w h of = ap (λ o. is_news o w.value) (h.values w.register of)
 pub says_other : (s : Station) (e : Voice) (k : Key) (c : Content) → is_about s.vni s.mac k ≡ false → SameOf s e (after_saying e k c)
 says_other s e k c other = record {
   address = refl;
+  incarnation = refl;
   values = λ r of. at_other e.table (own_register e k) (next_value e c) r (λ same. not_both (ap (is_of s) (sym same) ∙ of) other);
   waits = marked_other s e.pending (own_register e k) other;
 }
@@ -165,7 +167,7 @@ pub heard_other : (s : Station) (c : Claims) (w : Fields) → is_of s w.register
 heard_other s c w other = go (comes_back c.voice w) refl
   where
     hearing : SameOf s c.voice (after_hearing c.voice w)
-    hearing = record { address = refl; values = λ r of. update_other c.voice.table w.register w.value r (λ same. not_both (ap (is_of s) (sym same) ∙ of) other); waits = refl }
+    hearing = record { address = refl; incarnation = refl; values = λ r of. update_other c.voice.table w.register w.value r (λ same. not_both (ap (is_of s) (sym same) ∙ of) other); waits = refl }
 
     back : (d : Claims) → Heard c w d → comes_back c.voice w ≡ true → SameOf s c.voice d.voice
     back _ (Back b) is = says_other s c.voice w.register.key Withdrawn other
@@ -314,11 +316,11 @@ aside_grows pool s c w h g t = record {
 }
 
 -- who loses a station to an update of another one's registers loses that station, and has advertised it
-record LosesIt (s : Station) (c : Claims) (w : Fields) : Type 0 where
-  said : is_some (own_advert c.voice (key_of s)) ≡ true
-  is : heard c w ≡ after_removal (after_update c w) s
+pub record LosesIt (s : Station) (c : Claims) (w : Fields) : Type 0 where
+  pub said : is_some (own_advert c.voice (key_of s)) ≡ true
+  pub is : heard c w ≡ after_removal (after_update c w) s
 
-loses_it : (s : Station) (c : Claims) (w : Fields) → Hears c w → is_of s w.register ≡ true → comes_back c.voice w ≡ false → Loses c w → LosesIt s c w
+pub loses_it : (s : Station) (c : Claims) (w : Fields) → Hears c w → is_of s w.register ≡ true → comes_back c.voice w ≡ false → Loses c w → LosesIt s c w
 loses_it s c w h of never l = record {
   said = ap is_some (sym (advert_kept c.voice w (key_of s) h.numbers h.accepts never)) ∙ subst (λ r. is_some (own_advert (after_hearing c.voice w) (key_of r)) ≡ true) station some;
   is = l.is ∙ ap (after_removal (after_update c w)) station;

@@ -1,7 +1,7 @@
 -- One station of a fabric: when all edges agree on it, and what becomes of it when it moves, whatever else is pending,
 -- missing or under way.
-use Rattle.std.specs.Prelude.{◌≡◌, ◌≢◌, ◌⊎◌, ℕ, suc, ◌==◌, Bool, true, false, Option, Some, None, IsSome, Result, Ok, List, [], ◌∷◌, Contains}
-use Rattle.std.specs.List.{filter}
+use Rattle.std.specs.Prelude.{◌≡◌, ◌≢◌, ◌⊎◌, ℕ, suc, ◌+◌, ◌≤◌, ◌==◌, ◌&&◌, Bool, true, false, if◌then◌else◌, Option, Some, None, IsSome, is_some, Result, Ok, List, [], ◌∷◌, length, Contains}
+use Rattle.std.specs.List.{filter, count_by, sum_by}
 use Rattle.route_wire.specs.declared.update.Ip.{Ip}
 use Rattle.route_wire.specs.declared.update.Key.{Key}
 use Rattle.route_wire.specs.declared.update.Key.TheVariants.{Flood, Mac}
@@ -14,7 +14,9 @@ use Rattle.route_join.specs.Owner.{is_about, advert_in, IsOwner}
 use Rattle.mac_arena.specs.declared.station.Station.{Station}
 use Rattle.mac_arena.specs.declared.station.Entry.{Entry}
 use Rattle.mac_arena.specs.Learning.{entry_at}
-use Rattle.ev_claims.specs.Voice.{own}
+use Rattle.ev_claims.specs.Voice.{Voice, own, own_advert}
+use Rattle.ev_claims.specs.Claims.{key_of}
+use Rattle.ev_edge.specs.declared.config.EdgeConfig.{EdgeConfig}
 use Rattle.ev_edge.specs.declared.event.Event.{Event}
 use Rattle.ev_edge.specs.declared.reply.Reply.{Reply}
 use Rattle.ev_edge.specs.Edge.{Edge, table_of, address_of}
@@ -29,6 +31,9 @@ use Rattle.ev_fabric.specs.Sound.{update_of, IsSound}
 use Rattle.ev_fabric.specs.Agreed.{AllAgree, Advertises}
 use Rattle.ev_fabric.specs.Laws.{IsBehindPort, IsFrameFor, GoesTo}
 use Rattle.ev_fabric.specs.RestMove.{IsMoved}
+use Rattle.ev_fabric.specs.Opening.{AreConfigs, IsStart}
+use Rattle.ev_fabric.specs.RestEdge.{comes_back}
+use Rattle.ev_fabric.specs.Rest.{Rests, two_rounds}
 
 -- ---- registers
 
@@ -160,3 +165,47 @@ pub record StationMoved (old : Fabric) (i : ℕ) (s : Station) (from to : ℕ) (
 abbrev pub StationMoves : Type 0
 StationMoves = (i j : ℕ) (s : Station) (old mid new : Fabric) (steps : List Step) → IsSound old → (m : StationComes old i j s mid) → RunsBeside i j s mid steps new → AgreesOn new s
     → StationMoved old i s (address_of m.from) (address_of m.to) new
+
+-- ---- a station that is left alone
+
+-- No event from outside changes what any edge says of the station; and who restarts has announced no advert of it.
+abbrev pub IsLeftAlone : Station → Fabric → Step → Fabric → Type 0
+IsLeftAlone s old (Local e event) new = (x : ℕ) (a b : Edge) → e ≡ suc x → IsEdge old x a → IsEdge new x b → SaysTheSame s a b
+IsLeftAlone s old (Announce e) new = Unit {0}
+IsLeftAlone s old (Deliver e k) new = Unit {0}
+IsLeftAlone s old (Restart e n) new = (new ≡ old) ⊎ ((x : ℕ) (a : Edge) → e ≡ suc x → IsEdge old x a → NeverAdvertised old.pool s (address_of a))
+
+-- any list of steps, with whatever answers, each of which leaves the station alone
+abbrev pub RunsAlone : Station → Fabric → List Step → Fabric → Type 0
+RunsAlone s old [] new = new ≡ old
+RunsAlone s old (step ∷ steps) new = (mid : Fabric) × (result : Result Reply Refusal) × FabricSteps old step result mid × IsLeftAlone s old step mid × RunsAlone s mid steps new
+
+-- no edge restarts
+abbrev pub NoneRestarts : List Step → Type 0
+NoneRestarts [] = Unit {0}
+NoneRestarts (Local e event ∷ steps) = NoneRestarts steps
+NoneRestarts (Announce e ∷ steps) = NoneRestarts steps
+NoneRestarts (Deliver e k ∷ steps) = NoneRestarts steps
+NoneRestarts (Restart e n ∷ steps) = ⊥
+
+-- who agree on a station that is left alone go on agreeing on it, and nothing more of it is announced
+abbrev pub StationLasts : Type 0
+StationLasts = (s : Station) (steps : List Step) (old new : Fabric) → IsSound old → AgreesOn old s → RunsAlone s old steps new → NoneRestarts steps → AgreesOn new s × (updates_on s new.pool ≡ updates_on s old.pool)
+
+-- an opened fabric comes so far by two rounds that all agree on each station, and go on agreeing on it while others come
+-- and go
+abbrev pub StationReached : Type 0
+StationReached = (configs : List EdgeConfig) (f : Fabric) → AreConfigs configs → IsStart configs f
+    → (mid : Fabric) × Rests f (two_rounds f) mid × IsSound mid × ((s : Station) (steps : List Step) (new : Fabric) → RunsAlone s mid steps new → NoneRestarts steps → AgreesOn new s)
+
+-- How many updates of the station the edge may still announce: those that wait, one if it advertises the station, and
+-- one for each own advert of an earlier life that would come back from the pool.
+abbrev pub unannounced_on : Station → List Fields → Voice → ℕ
+unannounced_on s pool e = length (filter (is_of s) e.pending) + (if is_some (own_advert e (key_of s)) then 1 else 0) + count_by (λ (u : Fields). is_of s u.register && comes_back e u) pool
+
+abbrev pub to_come_on : Station → Fabric → ℕ
+to_come_on s f = sum_by (λ (a : Edge). unannounced_on s f.pool a.claims.voice) f.edges
+
+-- what the pool has of a station that is left alone, with what it may still get, never grows
+abbrev pub StationSettles : Type 0
+StationSettles = (s : Station) (steps : List Step) (old new : Fabric) → IsSound old → RunsAlone s old steps new → length (updates_on s new.pool) + to_come_on s new ≤ length (updates_on s old.pool) + to_come_on s old

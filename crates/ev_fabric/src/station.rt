@@ -2,7 +2,7 @@
 //! asked of other stations, nor of what else is pending or missing.
 ghost use Rattle.ev_fabric.specs.Fabric.{Fabric as State};
 ghost use Rattle.ev_fabric.specs.Agreed.{AllAgree};
-ghost use Rattle.ev_fabric.specs.Station.{AgreesOnEach, AgreedStation, StationFramesGo, StationMoves};
+ghost use Rattle.ev_fabric.specs.Station.{AgreesOnEach, AgreedStation, StationFramesGo, StationMoves, StationLasts, StationReached, StationSettles};
 
 /// A law, which does nothing: all agree exactly where they agree on each station and on each flood
 /// list.
@@ -32,4 +32,20 @@ pub fn station_frames_go()
 /// no more.
 pub fn station_moves()
     ensures { StationMoves }
+{}
+
+/// A law, which does nothing: who agree on a station go on agreeing on it, with nothing more of it
+/// announced, while anything else comes to any edge, is announced and delivered, as long as no
+/// event from outside changes its registers and no edge restarts. Every opened fabric comes so far
+/// by two rounds.
+pub fn station_lasts()
+    ensures stays { StationLasts }
+    ensures reached { StationReached }
+{}
+
+/// A law, which does nothing: left alone, a station is announced a bounded number of times: what
+/// the pool has of it, with what waits, what is advertised and what may still come back, never
+/// grows, whatever else goes on.
+pub fn station_settles()
+    ensures { StationSettles }
 {}
