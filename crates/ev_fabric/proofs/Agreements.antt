@@ -26,7 +26,7 @@ use Rattle.ev_edge.specs.Edge.{Edge, IsGoodEdge, table_of, address_of}
 use Rattle.ev_fabric.specs.Fabric.{Fabric, IsEdge, life_of}
 use Rattle.ev_fabric.specs.Sound.{update_of, IsBehind, IsSound}
 use Rattle.ev_fabric.specs.Agreed.{AllAgree, Advertises}
-use Rattle.ev_fabric.specs.Laws.{IsNotAhead, NoneAhead, Announced, OneOfTwo, AgreedTables, AgreedReports, OneOfAll, IsBehindPort, Learnt, OwnerOfAll, NoneBack}
+use Rattle.ev_fabric.specs.Laws.{IsNotAhead, NoneAhead, Announced, OneOfTwo, AgreedTables, AgreedReports, IsBehindPort, Learnt, NoneBack}
 
 -- ---- no table is ahead of its originator
 
@@ -58,7 +58,7 @@ announced f h i a at r v is quiet = elim (cases_eq r.originator (address_of a)) 
 -- ---- equal tables
 
 -- what a good edge advertises has no IP address
-advert_bare : (a : Edge) (s : Station) → IsGoodEdge a → Advertises a s → (x : Advert) × (own_advert a.claims.voice (key_of s) ≡ Some x)
+pub advert_bare : (a : Edge) (s : Station) → IsGoodEdge a → Advertises a s → (x : Advert) × (own_advert a.claims.voice (key_of s) ≡ Some x)
 advert_bare a s h y = go y.0 y.2
   where
     go : (ip : Option Ip) → own_advert a.claims.voice (Mac s.vni s.mac ip) ≡ Some y.1 → (x : Advert) × (own_advert a.claims.voice (key_of s) ≡ Some x)
@@ -79,7 +79,7 @@ one_of_two a b s good_a good_b same x y =
 
 -- ---- where all agree
 
-none_pending : {r : Register} → Contains [] r → ⊥
+pub none_pending : {r : Register} → Contains [] r → ⊥
 none_pending (x, lt, is) = omega (arith, lt)
 
 pub agreed_table : AgreedTables
@@ -95,9 +95,6 @@ agreed_registers f h agree i j a b at_a at_b = one_table f.pool f.pool (table_of
 pub agreed_reports : AgreedReports
 agreed_reports f h agree i j a b at_a at_b = ap (λ registers. report_of (record { originators = []; registers = registers })) (agreed_registers f h agree i j a b at_a at_b)
 
-pub one_of_all : OneOfAll
-one_of_all f h agree i j a b s at_a at_b x y = h.apart i j a b at_a at_b (one_of_two a b s (h.good i a at_a) (h.good j b at_b) (agreed_registers f h agree i j a b at_a at_b) x y)
-
 pub learnt : Learnt
 learnt a s h says = go (entry_at a.claims.learned s) refl
   where
@@ -111,9 +108,6 @@ learnt a s h says = go (entry_at a.claims.learned s) refl
         let left : option_map {U = Bool} (λ (x : Entry). x.pinned) (entry_at a.claims.learned s) ≡ None = ap (option_map (λ (x : Entry). x.pinned)) is in
         let right : option_map {U = Bool} (λ (x : Advert). x.is_static) (own_advert a.claims.voice (key_of s)) ≡ Some y.0.is_static = ap (option_map (λ (x : Advert). x.is_static)) y.1 in
         absurd (let bad : None ≡ Some y.0.is_static = sym left ∙ k ∙ right in cc)
-
-pub owner_of_all : OwnerOfAll
-owner_of_all f h agree i j a b s at_a at_b x = owner_along (table_of a) (table_of b) s.vni s.mac (address_of a) (same_adverts a b (agreed_registers f h agree i j a b at_a at_b) s) (owns a s (h.good i a at_a) x)
 
 -- no advert of an earlier life is left
 pub none_back : NoneBack

@@ -4,6 +4,7 @@ pub mod Events
 pub mod Fabrics
 pub mod Opened
 pub mod Agreements
+pub mod Stations
 pub mod Sends
 pub mod Calls
 pub mod RestingLists
@@ -19,3 +20,6 @@ pub mod RestingNumbers
 pub mod RestingStages
 pub mod RestingLearning
 pub mod RestingMotion
+pub mod StationStages
+pub mod StationMotion
+pub mod StationRest

@@ -32,7 +32,8 @@ use Rattle.ev_fabric.specs.Agreed.{AllAgree, Advertises}
 use Rattle.ev_fabric.specs.RestEdge.{is_latest, comes_back}
 use Rattle.ev_fabric.specs.Rest.{Rests, HasNumbers}
 use Rattle.ev_fabric.specs.RestMove.{StationMoves, IsMoved}
-use Rattle.ev_fabric.proofs.Agreements.{one_of_all, owner_of_all, learnt}
+use Rattle.ev_fabric.proofs.Agreements.{learnt}
+use Rattle.ev_fabric.proofs.Stations.{one_of_all, owner_of_all}
 use Rattle.ev_fabric.proofs.Places.{set_cases, set_same, set_other}
 use Rattle.ev_fabric.proofs.RestingEdge.{may_return, known_stays_away, news_stay}
 use Rattle.ev_fabric.proofs.RestingMoves.{minus, sound_kept}

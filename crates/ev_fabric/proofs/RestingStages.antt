@@ -47,20 +47,20 @@ advert_kept e u k n ok not = elim (update_cases e.table u (own_register e k)) as
   | inr kept ↦ ap advert_of kept
 ]
 
-advert_stays : (e : Voice) (u : Fields) (k : Key) (x : Advert) → KeepsNumbers e → Accepts e u → own_advert e k ≡ Some x → own (after_hearing e u) k ≡ own e k
+pub advert_stays : (e : Voice) (u : Fields) (k : Key) (x : Advert) → KeepsNumbers e → Accepts e u → own_advert e k ≡ Some x → own (after_hearing e u) k ≡ own e k
 advert_stays e u k x n ok is = elim (update_cases e.table u (own_register e k)) as (λ _. own (after_hearing e u) k ≡ own e k) [
   | inl c ↦ absurd (let bad : None ≡ Some x = sym (replaced_silent e u k n ok c.0 c.1) ∙ is in cc)
   | inr kept ↦ kept
 ]
 
-record Loses (c : Claims) (u : Fields) : Type 0 where
-  station : Station
-  ip : Option Ip
-  key : u.register.key ≡ Mac station.vni station.mac ip
-  lost : is_lost (after_update c u) station ≡ true
-  is : heard c u ≡ after_removal (after_update c u) station
+pub record Loses (c : Claims) (u : Fields) : Type 0 where
+  pub station : Station
+  pub ip : Option Ip
+  pub key : u.register.key ≡ Mac station.vni station.mac ip
+  pub lost : is_lost (after_update c u) station ≡ true
+  pub is : heard c u ≡ after_removal (after_update c u) station
 
-hear_cases : (c : Claims) (u : Fields) → comes_back c.voice u ≡ false → (heard c u ≡ after_update c u) ⊎ Loses c u
+pub hear_cases : (c : Claims) (u : Fields) → comes_back c.voice u ≡ false → (heard c u ≡ after_update c u) ⊎ Loses c u
 hear_cases c u never = choose (u.register.originator == c.voice.address) refl
   where
     pick : heard c u ≡ after_take c u → (v m : ℕ) (ip : Option Ip) → u.register.key ≡ Mac v m ip → (b : Bool) → is_lost (after_update c u) (record { vni = v; mac = m }) ≡ b → (heard c u ≡ after_update c u) ⊎ Loses c u

@@ -42,7 +42,9 @@ use Rattle.ev_edge.proofs.Owning.{other_key, said_other}
 use Rattle.ev_fabric.specs.Agreed.{Advertises}
 use Rattle.ev_fabric.specs.Laws.{IsBehindPort, frame_in, tunnel_frame_in, IsFrameFor, IsTunnelFrameFor, FramesGo, FramesComeOut, TunnelFramesComeOut}
 use Rattle.ev_fabric.proofs.Places.{below_length}
-use Rattle.ev_fabric.proofs.Agreements.{learnt, owner_of_all, one_of_all}
+use Rattle.ev_fabric.specs.Station.{StationFramesGo}
+use Rattle.ev_fabric.proofs.Agreements.{learnt}
+use Rattle.ev_fabric.proofs.Stations.{agree_on_each, station_one, station_owner}
 
 -- ---- learning a station leaves the others
 
@@ -183,8 +185,8 @@ elsewhere_local t vni m own o members passing port entry group none is ne = rw (
 elsewhere_remote : (t : Table) (vni m own o port : ℕ) (entry : Option ℕ) → is_group m ≡ false → entry ≡ None → owner t vni m ≡ Some o → (o == own) ≡ false → remote_for t vni m entry own (Port port) ≡ o ∷ []
 elsewhere_remote t vni m own o port entry group none is ne = rw (group, none, is, ne) refl
 
-pub frames_go : FramesGo
-frames_go f h agree i j o a b s at_o at_a apart says event port reply frame steps =
+pub station_frames_go : StationFramesGo
+station_frames_go f s h agree i j o a b at_o at_a apart says event port reply frame steps =
     record {
       decision = x.decision;
       there = x.there;
@@ -196,13 +198,17 @@ frames_go f h agree i j o a b s at_o at_a apart says event port reply frame step
     x = frame_sent a b event port s reply frame steps
 
     none : port_of b s.vni s.mac ≡ None
-    none = ap (option_map (λ (y : Entry). y.port)) (x.leaves.entry ∙ no_entry a s (h.good j a at_a) (λ y. apart (one_of_all f h agree i j o a s at_o at_a says y)))
+    none = ap (option_map (λ (y : Entry). y.port)) (x.leaves.entry ∙ no_entry a s (h.good j a at_a) (λ y. apart (station_one f s h agree i j o a at_o at_a says y)))
 
     owned : owner (table_of b) s.vni s.mac ≡ Some (address_of o)
-    owned = owner_found (table_of b) s.vni s.mac (address_of o) (owner_along (table_of a) (table_of b) s.vni s.mac (address_of o) (λ p ip. sym (x.leaves.adverts p ip)) (owner_of_all f h agree i j o a s at_o at_a says))
+    owned = owner_found (table_of b) s.vni s.mac (address_of o) (owner_along (table_of a) (table_of b) s.vni s.mac (address_of o) (λ p ip. sym (x.leaves.adverts p ip)) (station_owner f s h agree i j o a at_o at_a says))
 
     far : (address_of o == address_of b) ≡ false
     far = let differs : address_of o ≢ address_of b = (λ q. apart (h.apart i j o a at_o at_a (q ∙ x.leaves.address))) in grind (arith, nat_tests)
+
+-- who agree on everything agree on this station
+pub frames_go : FramesGo
+frames_go f h agree i j o a b s = station_frames_go f s h ((agree_on_each f agree).stations s) i j o a b
 
 -- ---- at the edge itself
 

@@ -29,7 +29,7 @@ marked_keeps rs r q in' = go (list_any (eq_by_cmp register_cmp r) rs)
     go true = in'
     go false = Contains-append_left rs (r ∷ []) q in'
 
-found : (rs : List Register) (r : Register) → list_any (eq_by_cmp register_cmp r) rs ≡ true → Contains rs r
+pub found : (rs : List Register) (r : Register) → list_any (eq_by_cmp register_cmp r) rs ≡ true → Contains rs r
 found [] r e = cc
 found (x ∷ rs) r e = go (eq_by_cmp register_cmp r x) refl e (found rs r)
   where

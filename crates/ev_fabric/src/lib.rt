@@ -5,6 +5,7 @@ mod fabric;
 mod laws;
 mod refusal;
 mod rest;
+mod station;
 mod step;
 #[cfg(test)]
 mod tests;
@@ -17,4 +18,7 @@ pub use laws::{
 };
 pub use refusal::Refusal;
 pub use rest::{agrees, bounded, fades, fair, moves, reached, settles};
+pub use station::{
+    agreed_station, agrees_on, station_frames_go, station_lasts, station_moves, station_settles,
+};
 pub use step::{LocalEvent, Step};

@@ -1,4 +1,4 @@
-use Rattle.ev_fabric.proofs.Agreements.{owner_of_all}
+use Rattle.ev_fabric.proofs.Stations.{owner_of_all}
 use Rattle.ev_fabric.proofs.laws.owner_of_all.Goals as goal
 
 pub returns : goal.returns

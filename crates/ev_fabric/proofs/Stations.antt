@@ -1,0 +1,144 @@
+-- What follows for one station of a sound fabric on which the edges agree.
+use Rattle.std.proofs.Common.{◌≡◌, ◌≢◌, ℕ, ◌==◌, ◌&&◌, Bool, true, false, Option, Some, None, List, [], ◌∷◌, refl, sym, ap, subst, ◌∙◌, arith}
+use Rattle.std.proofs.lemmas.Bool.Decides.{nat_tests}
+use Rattle.std.specs.Prelude.{Contains, IsSome}
+use Rattle.route_wire.specs.declared.update.Ip.{Ip}
+use Rattle.route_wire.specs.declared.update.Key.{Key}
+use Rattle.route_wire.specs.declared.update.Key.TheVariants.{Flood, Mac}
+use Rattle.route_wire.specs.declared.update.Register.{Register}
+use Rattle.route_wire.specs.declared.update.Value.{Value}
+use Rattle.route_wire.specs.Fields.{Fields}
+use Rattle.route_wire.specs.Order.{is_newer}
+use Rattle.route_wire.specs.Totals.{neither_newer}
+use Rattle.route_join.specs.Table.{value_at, register_of}
+use Rattle.route_join.specs.Owner.{is_about, advert_in, advert_of, advert_at, IsOwner}
+use Rattle.route_join.proofs.Owners.{one_owner, owner_along}
+use Rattle.mac_arena.specs.declared.station.Station.{Station}
+use Rattle.ev_edge.specs.Edge.{Edge, table_of, address_of}
+use Rattle.ev_fabric.specs.Fabric.{Fabric, IsEdge, life_of}
+use Rattle.ev_fabric.specs.Sound.{update_of, IsSound}
+use Rattle.ev_fabric.specs.Agreed.{AllAgree, Advertises}
+use Rattle.ev_fabric.specs.Laws.{OneOfAll, OwnerOfAll, NoneBack}
+use Rattle.ev_fabric.specs.Station.{is_of, is_flood_list, is_flood, AgreesAbout, AgreesOn, AgreesOnEach, IsOfPresentLife, AgreedStation}
+use Rattle.ev_fabric.proofs.Agreements.{announced, owns, learnt, none_pending, agreed_registers}
+
+-- ---- registers of a station
+
+pub same_number : (n : ℕ) → (n == n) ≡ true
+same_number n = grind (arith, nat_tests)
+
+-- a key of the station, whatever the IP address
+pub about_station : (s : Station) (ip : Option Ip) → is_about s.vni s.mac (Mac s.vni s.mac ip) ≡ true
+about_station s ip = ap (λ b. b && (s.mac == s.mac)) (same_number s.vni) ∙ same_number s.mac
+
+pub of_station : (s : Station) (r : Register) (ip : Option Ip) → r.key ≡ Mac s.vni s.mac ip → is_of s r ≡ true
+of_station s r ip key = ap (is_about s.vni s.mac) key ∙ about_station s ip
+
+pub station_key : (s : Station) (k : Key) → is_about s.vni s.mac k ≡ true → (ip : Option Ip) × (k ≡ Mac s.vni s.mac ip)
+station_key s (Flood v) e = cc
+station_key s (Mac v m ip) e =
+    let t = both (v == s.vni) (m == s.mac) e in
+    let a = t.0 in
+    let b = t.1 in
+    let vs : v ≡ s.vni = grind (arith, nat_tests) in
+    let ms : m ≡ s.mac = grind (arith, nat_tests) in
+    (ip, λ i. Mac (vs i) (ms i) ip)
+  where
+    both : (x y : Bool) → (x && y) ≡ true → (x ≡ true) × (y ≡ true)
+    both true true e = (refl, refl)
+    both true false e = absurd cc
+    both false y e = absurd cc
+
+-- ---- agreement on everything, and on each
+
+pub agree_on_each : (f : Fabric) → AllAgree f → AgreesOnEach f
+agree_on_each f h = record { stations = λ s. about (is_of s); floods = λ vni. about (is_flood vni) }
+  where
+    about : (these : Register → Bool) → AgreesAbout f these
+    about these = record {
+      quiet = λ i a r at is in'. none_pending (subst (λ l. Contains l r) (h.quiet i a at) in');
+      arrived = λ i a u at is in'. h.arrived i a at u in';
+    }
+
+pub each_agree : (f : Fabric) → AgreesOnEach f → AllAgree f
+each_agree f h = record {
+  quiet = λ i a at. empty i a at a.claims.voice.pending refl;
+  arrived = λ i a at u in'. got i a at u in' u.register.key refl;
+}
+  where
+    waits : (i : ℕ) (a : Edge) → IsEdge f i a → (r : Register) → Contains a.claims.voice.pending r → (k : Key) → r.key ≡ k → ⊥
+    waits i a at r in' (Flood v) key = (h.floods v).quiet i a r at (ap (is_flood_list v) key ∙ same_number v) in'
+    waits i a at r in' (Mac v m ip) key = let s : Station = record { vni = v; mac = m } in (h.stations s).quiet i a r at (of_station s r ip key) in'
+
+    empty : (i : ℕ) (a : Edge) → IsEdge f i a → (rs : List Register) → a.claims.voice.pending ≡ rs → a.claims.voice.pending ≡ []
+    empty i a at [] is = is
+    empty i a at (r ∷ rs) is = absurd (waits i a at r (subst (λ l. Contains l r) (sym is) (0, omega arith, refl)) r.key refl)
+
+    got : (i : ℕ) (a : Edge) → IsEdge f i a → (u : Fields) → Contains f.pool u → (k : Key) → u.register.key ≡ k → (v : Value) × (value_at (table_of a) u.register ≡ Some v) × (is_newer u.value v ≡ false)
+    got i a at u in' (Flood v) key = (h.floods v).arrived i a u at (ap (is_flood_list v) key ∙ same_number v) in'
+    got i a at u in' (Mac v m ip) key = let s : Station = record { vni = v; mac = m } in (h.stations s).arrived i a u at (of_station s u.register ip key) in'
+
+-- ---- agreement on one station
+
+module _ (f : Fabric) (s : Station) (h : IsSound f) (agree : AgreesOn f s) where
+  -- what an edge has of the station is in the pool
+  pub station_from : (i : ℕ) (a : Edge) (r : Register) (v : Value) → IsEdge f i a → is_of s r ≡ true → value_at (table_of a) r ≡ Some v → Contains f.pool (update_of r v)
+  station_from i a r v at of is = announced f h i a at r v is (λ mine in'. agree.quiet i a r at of in')
+
+  -- and the pool has nothing newer
+  pub station_newest : (i : ℕ) (a : Edge) (u : Fields) (v : Value) → IsEdge f i a → is_of s u.register ≡ true → Contains f.pool u → value_at (table_of a) u.register ≡ Some v → is_newer u.value v ≡ false
+  station_newest i a u v at of in' is =
+      let n = agree.arrived i a u at of in' in
+      let same : n.0 ≡ v = (let there = n.1 in cc) in
+      ap (λ w. is_newer u.value w) (sym same) ∙ n.2
+
+  pub station_equal : (i j : ℕ) (a b : Edge) (r : Register) → IsEdge f i a → IsEdge f j b → is_of s r ≡ true → value_at (table_of a) r ≡ value_at (table_of b) r
+  station_equal i j a b r at_a at_b of = go (value_at (table_of a) r) refl (value_at (table_of b) r) refl
+    where
+      go : (x : Option Value) → value_at (table_of a) r ≡ x → (y : Option Value) → value_at (table_of b) r ≡ y → value_at (table_of a) r ≡ value_at (table_of b) r
+      go None p None q = p ∙ sym q
+      go None p (Some w) q = let n = agree.arrived i a (update_of r w) at_a of (station_from j b r w at_b of q) in absurd (let bad : None ≡ Some n.0 = sym p ∙ n.1 in cc)
+      go (Some v) p None q = let n = agree.arrived j b (update_of r v) at_b of (station_from i a r v at_a of p) in absurd (let bad : None ≡ Some n.0 = sym q ∙ n.1 in cc)
+      go (Some v) p (Some w) q =
+          let back = station_newest j b (update_of r v) w at_b of (station_from i a r v at_a of p) q in
+          let there = station_newest i a (update_of r w) v at_a of (station_from j b r w at_b of q) p in
+          p ∙ ap Some (neither_newer v w back there) ∙ sym q
+
+  -- so all see the same adverts of it, and the same owner
+  station_adverts : (i j : ℕ) (a b : Edge) → IsEdge f i a → IsEdge f j b → (o : ℕ) (ip : Option Ip) → advert_at (table_of a) o (Mac s.vni s.mac ip) ≡ advert_at (table_of b) o (Mac s.vni s.mac ip)
+  station_adverts i j a b at_a at_b o ip = ap advert_of (station_equal i j a b (register_of o (Mac s.vni s.mac ip)) at_a at_b (about_station s ip))
+
+  pub station_owner : (i j : ℕ) (a b : Edge) → IsEdge f i a → IsEdge f j b → Advertises a s → IsOwner (table_of b) s.vni s.mac (address_of a)
+  station_owner i j a b at_a at_b x = owner_along (table_of a) (table_of b) s.vni s.mac (address_of a) (station_adverts i j a b at_a at_b) (owns a s (h.good i a at_a) x)
+
+  pub station_one : (i j : ℕ) (a b : Edge) → IsEdge f i a → IsEdge f j b → Advertises a s → Advertises b s → i ≡ j
+  station_one i j a b at_a at_b x y = h.apart i j a b at_a at_b (one_owner (table_of a) s.vni s.mac (address_of a) (address_of b) (owns a s (h.good i a at_a) x) (station_owner j i b a at_b at_a y))
+
+  -- an advert is of the present life of an edge of the fabric
+  pub station_present : (i : ℕ) (a : Edge) (r : Register) (v : Value) → IsEdge f i a → is_of s r ≡ true → value_at (table_of a) r ≡ Some v → IsSome (advert_in v.content) → IsOfPresentLife f r.originator v.incarnation
+  station_present i a r v at of is some = go (h.sources (update_of r v) (station_from i a r v at of is))
+    where
+      go : ((j : ℕ) × (b : Edge) × IsEdge f j b × (address_of b ≡ r.originator)) → IsOfPresentLife f r.originator v.incarnation
+      go (j, b, at_b, names) = record { place = j; edge = b; there = at_b; address = names; present = (h.good j b at_b).claims.numbers.alive r.key v (ap (value_at (table_of b)) (sym named) ∙ station_equal j i b a r at_b at of ∙ is) some }
+        where
+          named : r ≡ register_of (address_of b) r.key
+          named = λ k. register_of (sym names k) r.key
+
+pub agreed_station : AgreedStation
+agreed_station f s h agree = record {
+  equal = station_equal f s h agree;
+  from = station_from f s h agree;
+  newest = station_newest f s h agree;
+  one = station_one f s h agree;
+  learnt = λ i a at x. learnt a s (h.good i a at) x;
+  owner = station_owner f s h agree;
+  present = station_present f s h agree;
+}
+
+-- ---- the same where all agree on everything
+
+pub one_of_all : OneOfAll
+one_of_all f h agree i j a b s = station_one f s h ((agree_on_each f agree).stations s) i j a b
+
+pub owner_of_all : OwnerOfAll
+owner_of_all f h agree i j a b s = station_owner f s h ((agree_on_each f agree).stations s) i j a b
