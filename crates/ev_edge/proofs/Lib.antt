@@ -8,5 +8,6 @@ pub mod Returned
 pub mod Opened
 pub mod Changing
 pub mod Frames
+pub mod Going
 pub mod Memory
 pub mod Advertised

@@ -9,7 +9,9 @@ use Rattle.ev_claims.specs.Claims.{Claims}
 use Rattle.ev_claims.specs.Leaving.{after_ageing, after_flush}
 use Rattle.ev_edge.specs.Edge.{Edge}
 
--- The bridge goes on by the event, and these messages lie in its slots; `flush` are the ports that it flushes.
+-- The bridge goes on by the event until it is settled, or has fired as often as it may, and these
+-- messages lie in its slots; `flush` are the ports that it flushes. `happens` says that it is
+-- settled exactly where no rule is enabled.
 pub record BridgeGoes (event : Event) (old new : Tree) (flush : ℕ) (sent : List (ℕ × Bpdu)) : Type 0 where
   pub settled : Bool
   pub happens : Happens event (firings_at old) old new settled flush

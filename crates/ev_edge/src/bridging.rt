@@ -3,7 +3,7 @@ ghost use Rattle.std.specs.Prelude.{◌≡◌, ◌≤◌, ◌^◌, true, is_some
 ghost use Rattle.rstp_run.specs.Events.{IsAt, IsPort};
 ghost use Rattle.ev_claims.specs.Claims.{vni_at};
 ghost use Rattle.ev_edge.specs.Edge.{ArePassing};
-ghost use Rattle.ev_edge.specs.Bridging.{AddsPassing, next_second, aged};
+ghost use Rattle.ev_edge.specs.Bridging.{AddsPassing, BridgeGoes, next_second, aged};
 ghost use Rattle.ev_edge.specs.Steps.{BridgeSteps, BridgesAt, SecondSteps, answered, nothing};
 
 use crate::edge::Edge;
@@ -38,6 +38,16 @@ fn passing_ports(bridge: &Bridge) -> u64
         set = with_passing(set, bridge, place as u8 + 1);
     }
     set
+}
+
+// The bridge goes on by the event until it is settled, or has fired as often as it may.
+#[tactic(auto, using(crate::proofs::Going::goes_by))]
+fn go_on(bridge: &mut Bridge, event: Event) -> Outcome
+    requires { IsAt event (length bridge.old.ports) }
+    ensures goes { BridgeGoes event bridge.old bridge.new result.flush result.out.items }
+    ensures ports { length bridge.new.ports ≡ length bridge.old.ports }
+{
+    bridge.event(event)
 }
 
 // The second after this one: at 2^63 the clock stays.
@@ -76,7 +86,7 @@ impl Edge {
         requires { IsAt event (length self.old.tree.ports) }
         ensures { BridgeSteps event self.old reply.new self.new }
     {
-        let outcome = self.bridge.event(event);
+        let outcome = go_on(&mut self.bridge, event);
         self.passing = passing_ports(&self.bridge);
         self.claims.flush(outcome.flush);
         tell_sent(outcome, reply);
@@ -87,7 +97,7 @@ impl Edge {
     pub(crate) fn second(&mut self, reply: &mut Reply)
         ensures { SecondSteps self.old reply.new self.new }
     {
-        let outcome = self.bridge.event(Event::Second);
+        let outcome = go_on(&mut self.bridge, Event::Second);
         self.passing = passing_ports(&self.bridge);
         self.clock = next_second(self.clock);
         self.claims.flush(outcome.flush);

@@ -1,13 +1,14 @@
 -- The mask has the ports at which the flush rule fired.
-use Rattle.std.proofs.Common.{◌≡◌, ℕ, ◌≤◌, ◌<◌, ◌-◌, ◌^◌, ◌&&◌, ◌||◌, ◌==◌, Bool, true, false, List, [], ◌∷◌, length, refl, sym, arith, if◌then◌else◌, bit_or, max, ◌≢◌, ◌+◌, subst, ap, ◌∙◌}
+use Rattle.std.proofs.Common.{◌≡◌, ℕ, ◌≤◌, ◌<◌, ◌-◌, ◌^◌, ◌&&◌, ◌||◌, ◌==◌, Bool, true, false, List, [], ◌∷◌, length, refl, sym, arith, if◌then◌else◌, bit_or, max, ◌≢◌, ◌+◌, ◌⊎◌, inl, inr, subst, ap, ◌∙◌}
 use Rattle.std.specs.Int.{bit_at}
 use Rattle.std.proofs.lemmas.Bool.{eqb-true, eqb-false}
 use Rattle.std.proofs.lemmas.Nat.Bits.{bit_at_or, bit_at-pow_same, bit_at-pow_other, bit_at-lt}
 use Rattle.ether_wire.specs.Ports.{has_port, with_port}
 use Rattle.ether_wire.proofs.PortLemmas.{has_port-bit, has_port-none}
-use Rattle.rstp_run.specs.Runs.{Firing, Run, Goes, flushed, is_flush}
+use Rattle.rstp_run.specs.Runs.{Firing, Run, Goes, IsSettled, flushed, is_flush}
 use Rattle.rstp_run.specs.Rules.{Tree}
 use Rattle.rstp_run.specs.Events.{flushes, direct, Happens}
+use Rattle.rstp_run.proofs.Settled.{both-ways, settled_or_not}
 use Rattle.rstp_run.specs.declared.count.Count.{Count}
 use Rattle.rstp_run.specs.declared.event.Event.{Event}
 
@@ -50,26 +51,42 @@ has_port-flushed (f ∷ earlier) p =
     step (is_flush f.rule) (flushed earlier 0) f.place p (flushes p earlier) (has_port-flushed earlier p)
 
 -- what a run from no firings says of an event
-pub happens-from_goes : (event : Event) (limit : ℕ) (s m t : Tree) (b : Count) (settled : Bool) → m ≡ direct event s → Goes m (record { fired = 0; limit = limit; flush = 0 }) t b → (settled ≡ false → b.fired ≡ b.limit) → Happens event limit s t settled b.flush
-happens-from_goes event limit s m t b settled start goes full = record {
+pub happens-from_goes : (event : Event) (limit : ℕ) (s m t : Tree) (b : Count) (settled : Bool) → m ≡ direct event s → Goes m (record { fired = 0; limit = limit; flush = 0 }) t b
+    → (settled ≡ true → IsSettled t) → (settled ≡ false → IsSettled t → ⊥) → (settled ≡ false → b.fired ≡ b.limit)
+    → Happens event limit s t settled b.flush
+happens-from_goes event limit s m t b settled start goes is_so not_so full = record {
   firings = goes.firings;
   run = (let P : Tree → Type 0 = λ v. Run goes.firings v t in subst P start goes.run);
   few = (let f : b.fired ≡ 0 + length goes.firings = goes.fired in
       let l : b.limit ≡ limit = goes.limit in
       let w : b.fired ≤ b.limit = goes.within in omega arith);
-  unsettled = (λ not_so.
+  settles = both-ways settled (IsSettled t) is_so not_so;
+  unsettled = (λ off.
       let f : b.fired ≡ 0 + length goes.firings = goes.fired in
       let l : b.limit ≡ limit = goes.limit in
-      let e : b.fired ≡ b.limit = full not_so in omega arith);
+      let e : b.fired ≡ b.limit = full off in omega arith);
   flush = (λ p. rw goes.flush (has_port-flushed goes.firings p));
 }
 
 pub any_run : (event : Event) (limit : ℕ) (s t : Tree) (firings : List Firing) → Run firings (direct event s) t → length firings ≤ limit
-    → Happens event limit s t true (flushed firings 0)
-any_run event limit s t firings run few = record {
-  firings = firings;
-  run = run;
-  few = few;
-  unsettled = λ e. (let f : ⊥ = cc in absurd f);
-  flush = has_port-flushed firings;
-}
+    → (length firings ≡ limit) ⊎ IsSettled t → (settled : Bool) × Happens event limit s t settled (flushed firings 0)
+any_run event limit s t firings run few ends =
+    elim (settled_or_not t) [
+      | inl rests ↦ (true, happens true (λ e. rests) (λ e q. (let f : ⊥ = cc in f)) (λ e. (let f : ⊥ = cc in absurd f)))
+      | inr goes_on ↦ (false, happens false (λ e. (let f : ⊥ = cc in absurd f)) (λ e. goes_on) (λ e. full goes_on ends))
+    ]
+  where
+    happens : (settled : Bool) → (settled ≡ true → IsSettled t) → (settled ≡ false → IsSettled t → ⊥)
+        → (settled ≡ false → length firings ≡ limit) → Happens event limit s t settled (flushed firings 0)
+    happens settled is_so not_so full = record {
+      firings = firings;
+      run = run;
+      few = few;
+      settles = both-ways settled (IsSettled t) is_so not_so;
+      unsettled = full;
+      flush = has_port-flushed firings;
+    }
+
+    full : (IsSettled t → ⊥) → (length firings ≡ limit) ⊎ IsSettled t → length firings ≡ limit
+    full goes_on (inl all) = all
+    full goes_on (inr rests) = absurd (goes_on rests)

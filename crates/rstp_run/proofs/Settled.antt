@@ -1,5 +1,5 @@
 -- A bridge is settled where no rule of the two tables is enabled at a port that is there.
-use Rattle.std.proofs.Common.{◌≡◌, ℕ, ◌≤◌, Bool, true, false, Some, List, [], ◌∷◌, length, slice_get, refl, ◌⊎◌, inl, inr, ◌↔◌, IsTrue, not}
+use Rattle.std.proofs.Common.{◌≡◌, ℕ, ◌≤◌, Bool, true, false, Some, List, [], ◌∷◌, length, slice_get, zero, suc, ◌<◌, ◌+◌, below_more, arith, refl, ◌⊎◌, inl, inr, ◌↔◌, IsTrue, not}
 use Rattle.std.specs.List.{list_any}
 use Rattle.std.proofs.lemmas.Bool.{cases_lt}
 use Rattle.std.proofs.lemmas.Option.{slice_get_past}
@@ -16,7 +16,7 @@ use Rattle.rstp_run.specs.declared.rule.TopologyRule.TheVariants as topology_rul
 use Rattle.rstp_run.specs.declared.rule.TransmitRule.TheVariants as transmit_rule
 use Rattle.rstp_run.specs.declared.rule.TheConstants.{MAIN, SENDS}
 use Rattle.rstp_run.specs.Rules.{Tree, guard}
-use Rattle.rstp_run.specs.Runs.{AreOffAt, AreOff, IsSettled}
+use Rattle.rstp_run.specs.Runs.{AreOffAt, AreOffBelow, AreOff, IsSettled}
 
 -- each rule stands in one of the tables
 pub covered : (rule : Rule) → ((k : ℕ) × (slice_get MAIN k ≡ Some rule)) ⊎ ((k : ℕ) × (slice_get SENDS k ≡ Some rule))
@@ -109,6 +109,31 @@ none-off (rule ∷ rules) s p settled = rw (settled rule p) (none-off rules s p 
 
 pub off-settled : (rules : List Rule) (s : Tree) → IsSettled s → AreOff rules s
 off-settled rules s settled p below = none-off rules s p settled
+
+one_more : (rules : List Rule) (s : Tree) (n : ℕ) (b : Bool) → list_any (λ rule. guard rule s n) rules ≡ b → AreOffBelow rules n s
+    → AreOffBelow rules (suc n) s ⊎ (AreOffBelow rules (suc n) s → ⊥)
+one_more rules s n true is below = inr (λ all. (let within : n < suc n = omega arith in let off : AreOffAt rules n s = all n within in cc))
+one_more rules s n false is below = inl (λ p within. below_more (λ q. AreOffAt rules q s) n below is p (omega arith))
+
+off_or_not : (rules : List Rule) (s : Tree) (n : ℕ) → AreOffBelow rules n s ⊎ (AreOffBelow rules n s → ⊥)
+off_or_not rules s zero = inl (λ p below. (let f : ⊥ = omega arith in absurd f))
+off_or_not rules s (suc n) =
+    elim (off_or_not rules s n) [
+      | inl below ↦ one_more rules s n (list_any (λ rule. guard rule s n) rules) refl below
+      | inr on ↦ inr (λ all. on (λ p within. all p (omega arith)))
+    ]
+
+-- a bridge is settled, or isn't
+pub settled_or_not : (s : Tree) → IsSettled s ⊎ (IsSettled s → ⊥)
+settled_or_not s =
+    elim (off_or_not MAIN s (length s.ports)) [
+      | inl main ↦ rest main (off_or_not SENDS s (length s.ports))
+      | inr on ↦ inr (λ all. on (off-settled MAIN s all))
+    ]
+  where
+    rest : AreOff MAIN s → AreOff SENDS s ⊎ (AreOff SENDS s → ⊥) → IsSettled s ⊎ (IsSettled s → ⊥)
+    rest main (inl sends) = inl (settled-off s main sends)
+    rest main (inr on) = inr (λ all. on (off-settled SENDS s all))
 
 pub both-ways : (b : Bool) (P : Type 0) → (b ≡ true → P) → (b ≡ false → P → ⊥) → IsTrue b ↔ P
 both-ways b P is_so not_so = (is_so, from b not_so)

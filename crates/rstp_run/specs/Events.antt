@@ -1,5 +1,5 @@
 -- What an event may do to a bridge, and what it answers.
-use Rattle.std.specs.Prelude.{ℕ, Bool, true, false, ◌≡◌, ◌+◌, ◌*◌, ◌≤◌, ◌&&◌, ◌==◌, List, [], ◌∷◌, length, map, Option, Some, None, IsTrue}
+use Rattle.std.specs.Prelude.{ℕ, Bool, true, false, ◌≡◌, ◌⊎◌, ◌↔◌, ◌+◌, ◌*◌, ◌≤◌, ◌&&◌, ◌==◌, List, [], ◌∷◌, length, map, Option, Some, None, IsTrue}
 use Rattle.std.specs.List.{list_any}
 use Rattle.ether_wire.specs.Ports.{has_port, place_of_port}
 use Rattle.bpdu_wire.specs.declared.bpdu.Bpdu as bpdu
@@ -43,19 +43,23 @@ direct event s = record s { ports = ports_at event (map without_slot s.ports) }
 abbrev pub flushes : ℕ → List Firing → Bool
 flushes p firings = list_any (λ f. is_flush f.rule && f.place == p) firings
 
--- the bridge goes from s to t by the event and at most limit firings
+-- The bridge goes from s to t by the event and at most limit firings. It is settled exactly where
+-- no rule is enabled in t, and isn't only after as many firings as it may have.
 pub record Happens (event : Event) (limit : ℕ) (s t : Tree) (settled : Bool) (mask : ℕ) : Type 0 where
   pub firings : List Firing
   pub run : Run firings (direct event s) t
   pub few : length firings ≤ limit
+  pub settles : IsTrue settled ↔ IsSettled t
   pub unsettled : settled ≡ false → length firings ≡ limit
   pub flush : (p : ℕ) → has_port mask (p + 1) ≡ flushes p firings
 
--- firings within the limit that lead on from the event's direct effect are what the event may do
+-- Firings that lead on from the event's direct effect are what the event may do: as many as the
+-- limit, or fewer to where the bridge is settled.
 abbrev pub RunsHappen : Type 0
 RunsHappen =
-    (event : Event) (limit : ℕ) (s t : Tree) (firings : List Firing) → Run firings (direct event s) t → length firings ≤ limit
-    → Happens event limit s t true (flushed firings 0)
+    (event : Event) (limit : ℕ) (s t : Tree) (firings : List Firing) → Run firings (direct event s) t
+    → length firings ≤ limit → (length firings ≡ limit) ⊎ IsSettled t
+    → (settled : Bool) × Happens event limit s t settled (flushed firings 0)
 
 -- the greatest number of firings at an event
 abbrev pub firings_at : Tree → ℕ

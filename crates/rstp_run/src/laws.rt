@@ -47,7 +47,8 @@ pub fn settled_by_lists()
     ensures { SettledByLists }
 {}
 
-/// Firings within the limit that lead on from an event's direct effect are what the event may do.
+/// Firings that lead on from an event's direct effect are what the event may do: as many as the
+/// limit, or fewer to where the bridge is settled.
 pub fn runs_happen()
     ensures { RunsHappen }
 {}

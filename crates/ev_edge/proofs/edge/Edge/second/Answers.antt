@@ -3,7 +3,8 @@ use Rattle.ev_claims.specs.Claims.{Claims}
 use Rattle.ev_claims.specs.Leaving.{after_flush, flushed_in}
 use Rattle.ev_edge.specs.declared.reply.Reply.{Reply}
 use Rattle.ev_edge.specs.Edge.{Edge, edge_of}
-use Rattle.ev_edge.specs.Bridging.{aged}
+use Rattle.rstp_run.specs.declared.event.Event.TheVariants.{Second}
+use Rattle.ev_edge.specs.Bridging.{BridgeGoes, aged}
 use Rattle.ev_edge.specs.Steps.{SecondSteps, nothing}
 use Rattle.ev_edge.proofs.Keeping.{bridged, holds_of, flush_holds, later_holds, aged_holds, aged_ports, removals_ports, second_early}
 use Rattle.ev_edge.proofs.edge.Edge.second.Goals as goal
@@ -12,12 +13,12 @@ pub invariant_of-self : goal.invariant_of-self
 invariant_of-self c =
     let f = c.self.inside in
     let e = edge_of f.claims f.clock f.ageing f.bridge f.moves in
-    let set = c.event-outcome.result.flush in
+    let set = c.go_on-outcome.result.flush in
     let now = c.next_second-self-inside.result in
     let times = second_early f.clock c.self.invariant.keeps.early in
     let later : f.clock ≤ now = subst (λ n. f.clock ≤ n) (sym c.next_second-self-inside.ensures) times.0 in
     let early : now ≤ 2 ^ 63 = subst (λ n. n ≤ 2 ^ 63) (sym c.next_second-self-inside.ensures) times.1 in
-    bridged e f.passing c.passing_ports-self-inside.result now c.event-outcome.new.self (aged (after_flush f.claims set) f.ageing now) c.age.new.claims c.self.invariant c.event-outcome.ensures.ports c.passing_ports-self-inside.ensures
+    bridged e f.passing c.passing_ports-self-inside.result now c.go_on-outcome.new.bridge (aged (after_flush f.claims set) f.ageing now) c.age.new.claims c.self.invariant c.go_on-outcome.ensures.ports c.passing_ports-self-inside.ensures
     early (c.age.ensures ∙ ap (λ (x : Claims). aged x f.ageing now) c.flush.ensures)
     (aged_holds (after_flush f.claims set) f.ageing now (later_holds (after_flush f.claims set) f.clock now later (flush_holds f.claims set f.clock (holds_of e f.passing c.self.invariant))))
     (aged_ports (after_flush f.claims set) f.ageing now ∙ removals_ports f.claims (flushed_in f.claims.learned set))
@@ -25,14 +26,14 @@ invariant_of-self c =
 pub returns : goal.returns
 returns c =
     let f = c.self.inside in
-    subst (λ (x : Edge). SecondSteps x c.tell_sent.new.reply (edge_of c.age.new.claims c.next_second-self-inside.result f.ageing c.event-outcome.new.self f.moves)) c.self.view_is (record {
-      flush = c.event-outcome.result.flush;
-      goes = record { settled = c.event-outcome.result.settled; happens = c.event-outcome.ensures.happens; slots = ap (λ (r : Reply). r.bpdus.items) c.tell_sent.ensures ∙ c.event-outcome.ensures.out };
+    subst (λ (x : Edge). SecondSteps x c.tell_sent.new.reply (edge_of c.age.new.claims c.next_second-self-inside.result f.ageing c.go_on-outcome.new.bridge f.moves)) c.self.view_is (record {
+      flush = c.go_on-outcome.result.flush;
+      goes = subst (λ (r : Reply). BridgeGoes Second f.bridge c.go_on-outcome.new.bridge c.go_on-outcome.result.flush r.bpdus.items) (sym c.tell_sent.ensures) c.go_on-outcome.ensures.goes;
       after = λ i. record {
         claims = (c.age.ensures ∙ (λ j. aged (c.flush.ensures j) f.ageing (c.next_second-self-inside.ensures j))) i;
         clock = c.next_second-self-inside.ensures i;
         ageing = f.ageing;
-        tree = c.event-outcome.new.self;
+        tree = c.go_on-outcome.new.bridge;
         windows = f.moves.windows;
       };
       reply_is = subst (λ (r : Reply). r ≡ record nothing { bpdus = r.bpdus }) (sym c.tell_sent.ensures) refl;

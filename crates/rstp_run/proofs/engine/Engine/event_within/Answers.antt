@@ -3,4 +3,5 @@ use Rattle.rstp_run.proofs.engine.Engine.event_within.Goals as goal
 
 pub returns-clause-happens : goal.returns-clause-happens
 returns-clause-happens c =
-    happens-from_goes _ _ _ _ _ _ _ c.start.ensures c.run-settled.ensures.goes c.run-settled.ensures.unsettled
+    let given = c.run-settled.ensures in
+    happens-from_goes _ _ _ _ _ _ _ c.start.ensures given.goes given.yes given.no given.unsettled
