@@ -1,5 +1,7 @@
 """The gate's own reading of sources, edits and checks: what it takes for a body, for a name, for a goal of its own."""
 
+import importlib.machinery
+import importlib.util
 import os
 import sys
 import unittest
@@ -9,6 +11,10 @@ from test_records import TOP
 sys.path.insert(0, os.path.join(TOP, "tools", "gate"))
 import edits
 import sources
+
+LOADER = importlib.machinery.SourceFileLoader("check_of_a_change", os.path.join(TOP, "tools", "check"))
+check = importlib.util.module_from_spec(importlib.util.spec_from_loader("check_of_a_change", LOADER))
+LOADER.exec_module(check)
 
 SOURCE = """//! Numbers: fn in_a_comment() { .. }
 
@@ -71,6 +77,27 @@ class Sources(unittest.TestCase):
         self.assertEqual(len(shape), len(SOURCE))
         found = [(name, SOURCE[start:end].split("\n")[1].strip()) for name, _, start, end in sources.bodies(shape)]
         self.assertEqual(found, [("area", 'let text = "fn no() { }";'), ("twice", "u64::from(number) * 2")])
+
+
+class Changes(unittest.TestCase):
+    """What tools/check takes for a change of a body alone."""
+
+    def test_body_is_parted_from_what_callers_know(self):
+        rest, found = check.parted(SOURCE)
+        self.assertEqual(sorted(found), ["area", "twice"])
+        changed = check.parted(SOURCE.replace("u64::from(number) * 2", "2 * u64::from(number)"))
+        self.assertEqual(changed[0], rest)
+        self.assertNotEqual(changed[1]["twice"], found["twice"])
+        self.assertEqual(changed[1]["area"], found["area"])
+
+    def test_changed_clause_is_no_body(self):
+        rest, found = check.parted(SOURCE)
+        changed = check.parted(SOURCE.replace("2 * number", "3 * number"))
+        self.assertNotEqual(changed[0], rest)
+        self.assertEqual(changed[1], found)
+
+    def test_changed_comment_is_no_change(self):
+        self.assertEqual(check.parted(SOURCE.replace("/// Twice.", "/// Two times.")), check.parted(SOURCE))
 
 
 class Edits(unittest.TestCase):

@@ -29,8 +29,8 @@ from kit import rt, rtlib
 from sources import bodies
 from tried import tried_tests
 
-# As long as a check of evpnd, the largest, was ever seen to need. (The kit reckons more, and would let processors idle.)
-MOST_MEMORY = 5_500_000_000
+# What a check of the largest crate was seen to need, and half as much again. (The kit reckons more, and lets processors idle.)
+MOST_MEMORY = 4_500_000_000
 NOTHING = "other\tproof"
 
 
