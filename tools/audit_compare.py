@@ -46,9 +46,10 @@ class Difference(NamedTuple):
 
 
 class Truth(NamedTuple):
-    """What the routes say: owners, the edges of each flood list, each IP address's MACs, and what isn't judged."""
+    """What the routes say: owners, each VNI's stations, the edges of each flood list, each IP address's MACs, what isn't judged."""
 
     report: Dict[Station, Owned]
+    stations: Dict[int, Set[bytes]]
     floods: Dict[int, Set[bytes]]
     neighbours: Dict[int, Dict[bytes, Dict[bytes, Set[bytes]]]]
     unjudged: Set[Tuple[int, Optional[bytes]]]
@@ -67,9 +68,13 @@ class Result(NamedTuple):
 
 def truth_of(report: Dict[Station, Owned], snapshots: Iterable[frr_routes.Snapshot]) -> Truth:
     """What the routes of some snapshots say together."""
-    truth = Truth(report, {}, {}, set())
+    truth = Truth(report, {}, {}, {}, set())
+    for vni, mac in report:
+        truth.stations.setdefault(vni, set()).add(mac)
     for snapshot in snapshots:
         truth.unjudged.update(snapshot.routes.unjudged)
+        for vni, station in snapshot.routes.unjudged:
+            truth.stations.setdefault(vni, set()).update(() if station is None else (station,))
         for key in snapshot.registers:
             vni, mac, ip = int.from_bytes(key[4:7], "big"), key[7:13], key[13:]
             if not mac:
@@ -162,10 +167,8 @@ def mend_of(network: Optional[Network], mac: bytes, wanted: str, zebra: str, ker
 
 def verdicts_of(view: View, vni: int, truth: Truth, wanted: Set[bytes]) -> List[Verdict]:
     """All MACs that the report, zebra or the kernel knows, in order."""
-    macs = {mac for of_vni, mac in truth.report if of_vni == vni}
-    macs |= set((view.zebra or {}).get(vni, {}))
+    macs = truth.stations.get(vni, set()) | set((view.zebra or {}).get(vni, {}))
     macs |= set(view.kernel[vni].places) if vni in view.kernel else set()
-    macs |= {mac for of_vni, mac in truth.unjudged if of_vni == vni and mac is not None}
     if wanted:
         macs &= wanted
     verdicts = []

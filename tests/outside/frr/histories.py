@@ -1,12 +1,14 @@
 #!/usr/bin/env python3
 """Plays histories of routes to Debian's FRR and audits what it forwards. As root, with frr and iproute2:
 
-    apt-get install frr && python3 tests/outside/frr/histories.py [--keep FOLDER]
+    apt-get install frr && python3 tests/outside/frr/histories.py [--keep FOLDER] [ROOT]
 
+ROOT is a folder with another Debian that has frr (see leaves.py); without it, this host's FRR is taken.
 FRR 8.4.4 goes on forwarding to another edge than its own best path after some histories, and the audit
 has to find that; of another version only that the audit and the kernel agree is asked. Not part of the gate.
 """
 
+import argparse
 import json
 import os
 import random
@@ -18,7 +20,8 @@ from typing import Dict, List, Tuple
 from edge import TOOLS, VNI, Edge, Trouble
 
 sys.path.insert(0, TOOLS)
-import evpnd_audit as audit  # noqa: E402
+import audit_kernel  # noqa: E402
+import audit_report  # noqa: E402
 import frr_routes  # noqa: E402
 import update_records as records  # noqa: E402
 
@@ -90,7 +93,7 @@ def two_views(edge: Edge, folder: str, tally: Tally) -> None:
     edge.tell(FLOODS + [f"advert 10.0.0.1 {VNI} {STATIC} seq 3"])
     edge.tell([f"advert 10.0.0.2 {VNI} {STATIC} static seq 0"])
     edge.save(f"{folder}-one")
-    with Edge("other") as other:
+    with Edge("other", edge.root) as other:
         other.tell(FLOODS + [f"advert 10.0.0.1 {VNI} {STATIC} seq 3"])
         other.save(f"{folder}-two")
     tally.see(audited("--mac", STATIC, f"{folder}-two")[0] == 0, "alone the second edge forwards by what it knows")
@@ -154,12 +157,16 @@ def random_history(edge: Edge, folder: str, tally: Tally) -> None:
 
 def main() -> int:
     """Plays all histories, each to an edge of its own."""
-    keep = sys.argv[2] if sys.argv[1:2] == ["--keep"] and len(sys.argv) == 3 else None
+    words = argparse.ArgumentParser(description=__doc__, formatter_class=argparse.RawDescriptionHelpFormatter)
+    words.add_argument("--keep", metavar="FOLDER")
+    words.add_argument("root", nargs="?", default="", metavar="ROOT")
+    arguments = words.parse_args()
+    keep = arguments.keep
     tally = Tally()
     with tempfile.TemporaryDirectory() as made:
         for name, history in (("short", short_histories), ("two", two_views), ("clean", clean_history), ("random", random_history)):
             try:
-                with Edge(name) as edge:
+                with Edge(name, arguments.root) as edge:
                     print(f"-- {name}, FRR {edge.version()}", flush=True)
                     history(edge, os.path.join(keep or made, name), tally)
             except Trouble as trouble:

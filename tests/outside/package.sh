@@ -1,0 +1,54 @@
+#!/bin/sh
+# Installs the package of tools/package.sh in a folder with nothing but Debian's packages, and tries what is in it. As root:
+#
+#     tests/outside/package.sh ROOT [--evpnd PROGRAM] [--log FILE]
+#
+# ROOT is a folder made by `debootstrap --variant=minbase bookworm ROOT` (or trixie). Not part of the gate.
+set -eu
+top=$(cd "$(dirname "$0")/../.." && pwd)
+root=$1
+shift
+passed=0
+failed=0
+see() { # WHAT COMMAND ..
+  what=$1
+  shift
+  if "$@" > "$work/said" 2>&1; then
+    passed=$((passed + 1)); echo "ok: $what"
+  else
+    failed=$((failed + 1)); echo "FAILED: $what"; sed 's/^/    /' "$work/said"
+  fi
+}
+within() { chroot "$root" env -i PATH=/usr/sbin:/usr/bin:/sbin:/bin HOME=/root DEBIAN_FRONTEND=noninteractive LC_ALL=C.UTF-8 "$@"; }
+gives() { # STATUS COMMAND ..: a command's status in there
+  wanted=$1
+  shift
+  status=0
+  within "$@" || status=$?
+  [ "$status" = "$wanted" ]
+}
+work=$(mktemp -d)
+trap 'rm -rf "$work" "$root/evpnd-try"' EXIT
+"$top/tools/package.sh" "$work/made" "$@" > "$work/name"
+package=$(cat "$work/name")
+mkdir -p "$root/evpnd-try"
+cp "$package" "$root/evpnd-try/evpnd.deb"
+cp -r "$top/tests/data/frr/views/10.3" "$root/evpnd-try/views"
+cp "$top/crates/evpnd/stdin" "$root/evpnd-try/record"
+see "the package is the same when it is made again" sh -c "'$top/tools/package.sh' '$work/again' $* > /dev/null && cmp '$package' '$work/again/'*.deb"
+see "apt installs it with Debian's packages alone" within apt-get install -y --no-install-recommends /evpnd-try/evpnd.deb
+see "the files are those of the package" within dpkg --verify evpnd
+see "evpnd report prints the shipped record's owner" sh -c "chroot '$root' /usr/bin/evpnd report --originators 10.0.0.1 < '$top/crates/evpnd/stdin' | grep -q '^owner 5001 02:00:00:00:00:0a 10.0.0.1$'"
+see "the audit of a leaf that is right" gives 0 evpnd-audit /evpnd-try/views/home
+see "the audit of a leaf that is wrong" gives 1 evpnd-audit /evpnd-try/views/planted
+see "for Nagios" gives 2 evpnd-audit --nagios /evpnd-try/views/planted
+see "for Prometheus" gives 1 evpnd-audit --prometheus /evpnd-try/evpnd.prom /evpnd-try/views/planted
+see "one station" gives 0 evpnd-audit mac 5001 02:00:00:00:00:aa /evpnd-try/views/home
+see "without FRR the cause is named" sh -c "chroot '$root' evpnd-audit 2>&1 | grep -q 'the command vtysh can.t be run'"
+see "records of FRR's routes" gives 0 sh -c "evpnd-records frr --vni 5001 /evpnd-try/views/home/routes.json | evpnd-records show | grep -q '^advert 10.0.0.1 5001'"
+for page in evpnd evpnd-audit evpnd-records; do
+  see "the man page $page" sh -c "gzip -dc '$root/usr/share/man/man1/$page.1.gz' 2>/dev/null | man -l - 2>&1 | grep -q DESCRIPTION || dpkg-deb -c '$package' | grep -q man1/$page.1.gz"
+done
+see "it goes without a trace" sh -c "chroot '$root' dpkg --purge evpnd && [ ! -e '$root/usr/share/evpnd' ] && [ ! -e '$root/usr/bin/evpnd' ]"
+echo "$passed passed, $failed failed"
+[ "$failed" = 0 ]
