@@ -64,8 +64,10 @@ def read_best(stream: TextIO, name: str, routes: frr_routes.Routes) -> Best:
     one; where it is there it alone is read.
     """
     text = frr_routes.JsonText(stream, name)
+    if text.peek() == "":
+        raise Unreadable(f"{name}: empty")
     if text.peek() != "{":
-        raise text.fail("not what 'show bgp l2vpn evpn route vni all json' prints") if text.peek() else Unreadable(f"{name}: empty")
+        raise text.fail("not what 'show bgp vni all json' prints")
     tables: Tuple[Dict[Tuple[int, bytes], List[Said]], ...] = ({}, {})
     own: Set[bytes] = set()
     seen = {"macs": False}

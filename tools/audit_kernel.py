@@ -103,7 +103,8 @@ def each_network(
     kinds = {link["ifname"]: link.get("linkinfo", {}).get("info_kind") for link in links}
     data = {link["ifname"]: link.get("linkinfo", {}).get("info_data", {}) for link in links}
     up = {link["ifname"] for link in links if "UP" in link.get("flags", [])}
-    tagged = {(link.get("link"), data[link["ifname"]].get("id")): link["ifname"] for link in links if kinds[link["ifname"]] == "vlan"}
+    uppers = [link for link in links if kinds[link["ifname"]] == "vlan"]
+    tagged = {(link.get("link"), data[link["ifname"]].get("id")): link["ifname"] for link in uppers}
     for link in links:
         device = link["ifname"]
         if kinds[device] != "vxlan":

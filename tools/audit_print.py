@@ -113,14 +113,15 @@ def json_text(told: Told) -> str:
     """All that is known, every count with it."""
     listed = []
     for result in told.results:
-        since = {mark: told.since.get(mark_text(result.view, result.vni, mark)) for mark in marks_of(result)}
+        marks = [(mark, each) for mark, each in marks_of(result).items() if isinstance(each, Verdict)]
+        since = {mark: told.since.get(mark_text(result.view, result.vni, mark)) for mark, _ in marks}
         listed.append(
             {
                 "vni": result.vni,
                 "view": result.view,
                 "fault": result.fault or None,
                 "sums": sums_of(result),
-                "macs": [{**dict_of(each), "since": since.get(mark)} for mark, each in marks_of(result).items() if isinstance(each, Verdict)],
+                "macs": [{**dict_of(each), "since": since[mark]} for mark, each in marks],
                 "not judged": [records.mac_text(each.mac) for each in result.macs if each.kind == "not judged"],
                 "floods": None if result.floods is None else [entry._asdict() for entry in result.floods],
                 "neighbours": None if result.neighbours is None else [entry._asdict() for entry in result.neighbours],

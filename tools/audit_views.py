@@ -104,7 +104,8 @@ def output_of(words: List[str]) -> TextIO:
         who = "" if os.geteuid() == 0 else ", or run this as root or in the group frrvty"
         raise Unreadable(f"{command}: no daemon of FRR answers: start it{who}")
     if done.returncode != 0:
-        raise Unreadable(f"{command}: status {done.returncode}: {said.strip().splitlines()[0] if said.strip() else 'nothing said'}")
+        first = next(iter(said.strip().splitlines()), "nothing said")
+        raise Unreadable(f"{command}: status {done.returncode}: {first}")
     return out
 
 
@@ -183,8 +184,9 @@ def networks_of(texts: Texts) -> Dict[int, Network]:
     if "links" not in texts.whole:
         return {}
     name = f"{texts.name}: links"
-    lists = [audit_kernel.read_list(texts.whole.get(each, ""), name, shlex.join(KERNEL[each])) for each in ("links", "vlans", "tunnels")]
-    return audit_kernel.networks_of(lists[0], lists[1], lists[2], name)
+    parts = ("links", "vlans", "tunnels")
+    links, vlans, tunnels = (audit_kernel.read_list(texts.whole.get(each, ""), name, shlex.join(KERNEL[each])) for each in parts)
+    return audit_kernel.networks_of(links, vlans, tunnels, name)
 
 
 def kernels_of(

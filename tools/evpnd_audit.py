@@ -156,7 +156,8 @@ def mac(arguments: argparse.Namespace) -> int:
         network = view.networks.get(vni)
         if network is not None:
             vlan = "" if network.vlan is None else f", VLAN {network.vlan}"
-            print(f"{view.name}: VXLAN device {network.device}, bridge {network.bridge or 'none'}{vlan}, neighbours at {network.gateway or 'no interface'}")
+            bridge, gateway = network.bridge or "none", network.gateway or "no interface"
+            print(f"{view.name}: VXLAN device {network.device}, bridge {bridge}{vlan}, neighbours at {gateway}")
     return audit_print.status_of(told.results, arguments.accept_unjudged)
 
 
@@ -208,8 +209,10 @@ def seconds_word(text: str) -> float:
 
 def add_look_words(words: argparse.ArgumentParser) -> None:
     """The words that say what is looked at."""
-    words.add_argument("--routes", action="append", default=[], metavar="DIRECTORY", help="the routes of this directory are the truth; may stand more than once")
-    words.add_argument("--again", type=seconds_word, metavar="SECONDS", help="look twice where something differs, and tell what differs twice by the same values")
+    truth = "the routes of this directory are the truth; may stand more than once"
+    words.add_argument("--routes", action="append", default=[], metavar="DIRECTORY", help=truth)
+    twice = "look twice where something differs, and tell what differs twice by the same values"
+    words.add_argument("--again", type=seconds_word, metavar="SECONDS", help=twice)
     words.add_argument("--state", metavar="FILE", help="keep there since when each difference is seen")
     words.add_argument("--accept-unjudged", action="store_true", help="status 0 although MACs couldn't be judged")
     words.add_argument("--evpnd", metavar="PROGRAM", help="the program evpnd")
@@ -239,7 +242,8 @@ def parser() -> argparse.ArgumentParser:
 
 def command_parser(command: str) -> argparse.ArgumentParser:
     """The words behind `mac`, `record`, `save` and `plot`."""
-    words = argparse.ArgumentParser(prog=f"evpnd_audit.py {command}", description=__doc__, formatter_class=argparse.RawDescriptionHelpFormatter)
+    name, layout = f"evpnd_audit.py {command}", argparse.RawDescriptionHelpFormatter
+    words = argparse.ArgumentParser(prog=name, description=__doc__, formatter_class=layout)
     if command == "mac":
         words.add_argument("vni", type=evpnd_records.vnis_of, metavar="VNI")
         words.add_argument("station", metavar="MAC")

@@ -1,13 +1,17 @@
 #!/bin/sh
 # Installs the package of tools/package.sh in a folder with nothing but Debian's packages, and tries what is in it. As root:
 #
-#     tests/outside/package.sh ROOT [--evpnd PROGRAM] [--log FILE]
+#     tests/outside/package.sh ROOT [--monitoring] [--evpnd PROGRAM] [--log FILE]
 #
-# ROOT is a folder made by `debootstrap --variant=minbase bookworm ROOT` (or trixie). Not part of the gate.
+# ROOT is a folder made by `debootstrap --variant=minbase bookworm ROOT` (or trixie). With --monitoring, Debian's prometheus
+# and systemd are installed there too, and the examples of monitoring are tried by promtool and systemd-analyze: the rules
+# fire at what the audit writes of a wrong leaf and not at that of a right one. Not part of the gate.
 set -eu
 top=$(cd "$(dirname "$0")/../.." && pwd)
 root=$1
 shift
+monitoring=
+[ "${1-}" != --monitoring ] || { monitoring=yes; shift; }
 passed=0
 failed=0
 see() { # WHAT COMMAND ..
@@ -49,6 +53,33 @@ see "records of FRR's routes" gives 0 sh -c "evpnd-records frr --vni 5001 /evpnd
 for page in evpnd evpnd-audit evpnd-records; do
   see "the man page $page" sh -c "gzip -dc '$root/usr/share/man/man1/$page.1.gz' 2>/dev/null | man -l - 2>&1 | grep -q DESCRIPTION || dpkg-deb -c '$package' | grep -q man1/$page.1.gz"
 done
+if [ -n "$monitoring" ]; then
+  within apt-get install -y --no-install-recommends prometheus systemd > "$work/apt" 2>&1 || cat "$work/apt"
+  cp "$top"/examples/monitoring/* "$root/evpnd-try/"
+  see "systemd takes the units" within systemd-analyze verify /evpnd-try/evpnd-audit.service /evpnd-try/evpnd-audit.timer
+  see "Prometheus takes the rules" within promtool check rules /evpnd-try/evpnd.rules.yml
+  see "and what the audit writes" sh -c "chroot '$root' promtool check metrics < '$root/evpnd-try/evpnd.prom'"
+  series=$(sed -n 's/^\(evpnd_audit_entries{.*kind="wrong"}\) \([0-9]*\)$/\1 \2/p' "$root/evpnd-try/evpnd.prom")
+  {
+    echo "rule_files: [evpnd.rules.yml]"
+    echo "tests:"
+    echo "  - interval: 1m"
+    echo "    input_series:"
+    echo "$series" | while read -r name value; do
+      echo "      - series: '$(echo "$name" | sed 's/{/{instance="leaf1",/')'"
+      echo "        values: '$value $value'"
+    done
+    echo "    alert_rule_test:"
+    echo "      - eval_time: 1m"
+    echo "        alertname: EvpnForwardsWrong"
+    echo "        exp_alerts:"
+    echo "          - exp_labels: {severity: critical, instance: leaf1, vni: '5001', kind: wrong}"
+    echo "            exp_annotations:"
+    echo "              summary: 'leaf1: 1 wrong in VNI 5001'"
+    echo "              description: 'On that host, evpnd-audit says which, why, and what mends it.'"
+  } > "$root/evpnd-try/rules_test.yml"
+  see "the rule fires for the VNI that is wrong, and for no other" within promtool test rules /evpnd-try/rules_test.yml
+fi
 see "it goes without a trace" sh -c "chroot '$root' dpkg --purge evpnd && [ ! -e '$root/usr/share/evpnd' ] && [ ! -e '$root/usr/bin/evpnd' ]"
 echo "$passed passed, $failed failed"
 [ "$failed" = 0 ]
