@@ -23,3 +23,4 @@ pub mod RestingMotion
 pub mod StationStages
 pub mod StationMotion
 pub mod StationRest
+pub mod StationArrival

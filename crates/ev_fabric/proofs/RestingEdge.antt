@@ -273,7 +273,7 @@ back_gone a u w same mine = stays_away (after_saying a u.register.key Withdrawn)
     named : u.register ≡ own_register a u.register.key
     named = λ i. register_of (mine i) u.register.key
 
-marked_length : (rs : List Register) (r : Register) → length (marked rs r) ≤ length rs + 1
+pub marked_length : (rs : List Register) (r : Register) → length (marked rs r) ≤ length rs + 1
 marked_length rs r = go (list_any (eq_by_cmp register_cmp r) rs)
   where
     go : (b : Bool) → length (cond b rs (rs ++ r ∷ [])) ≤ length rs + 1

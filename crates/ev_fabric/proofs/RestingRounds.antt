@@ -169,7 +169,7 @@ OnlyTakes (Announce e ∷ steps) = ⊥
 OnlyTakes (Deliver e k ∷ steps) = OnlyTakes steps
 OnlyTakes (Restart e n ∷ steps) = ⊥
 
-deliver_pool : (old new : Fabric) (e k : ℕ) (result : Result Reply Refusal) → FabricSteps old (Deliver e k) result new → new.pool ≡ old.pool
+pub deliver_pool : (old new : Fabric) (e k : ℕ) (result : Result Reply Refusal) → FabricSteps old (Deliver e k) result new → new.pool ≡ old.pool
 deliver_pool old new e k result h = go (nth old.edges e) h
   where
     at : (a : Edge) (o : Option Fields) → MatchOption o (IsRefused NoSuchUpdate old result new) (λ u. StepsAt old e a (events.Take u) result new) → new.pool ≡ old.pool
@@ -276,11 +276,11 @@ announce_few old new e result h i n few c at_c = go e (nth old.edges e) refl h
     go zero (Some a) is h = cc
     go (suc j) (Some a) is h = at j a is result h
 
-announcing_few : (n e : ℕ) (old new : Fabric) → Rests old (announcing e n) new → (i m : ℕ) → Few old i m → Few new i m
+pub announcing_few : (n e : ℕ) (old new : Fabric) → Rests old (announcing e n) new → (i m : ℕ) → Few old i m → Few new i m
 announcing_few zero e old new h i m few = subst (λ f. Few f i m) (sym h) few
 announcing_few (suc n) e old new h i m few = announcing_few n e h.0 new h.5 i m (announce_few old h.0 e h.1 h.4 i m few)
 
-announcing_none : (n i : ℕ) (old new : Fabric) → Rests old (announcing (suc i) n) new → Few old i n → Few new i 0
+pub announcing_none : (n i : ℕ) (old new : Fabric) → Rests old (announcing (suc i) n) new → Few old i n → Few new i 0
 announcing_none zero i old new h few = subst (λ f. Few f i 0) (sym h) few
 announcing_none (suc n) i old new h few = announcing_none n i h.0 new h.5 (announce_one old h.0 i n h.1 h.3 h.4 few)
 

@@ -49,35 +49,35 @@ use Rattle.ev_fabric.proofs.RestingLearning.{LearnsIt, learns_anew}
 use Rattle.ev_fabric.proofs.StationStages.{filter_none, filter_has, filter_push, filter_past, no_push, waiting, marked_first, SameOf, same_own, left_same, floods_same, silent_quiet, heard_other, IsTo, IsFrom, IsAside, to_same, from_same, aside_same, to_push, from_push, aside_push, Hears, idle_grows, to_grows, from_grows, aside_hears, from_hears}
 
 -- an edge at a place of a list
-abbrev At : List Edge → ℕ → Edge → Type 0
+abbrev pub At : List Edge → ℕ → Edge → Type 0
 At edges i a = slice_get edges i ≡ Some a
 
-one_edge : (edges : List Edge) (i j : ℕ) (a b : Edge) → i ≡ j → At edges i a → At edges j b → b ≡ a
+pub one_edge : (edges : List Edge) (i j : ℕ) (a b : Edge) → i ≡ j → At edges i a → At edges j b → b ≡ a
 one_edge edges i j a b place at_a at_b = let both : Some b ≡ Some a = sym at_b ∙ subst (λ n. slice_get edges n ≡ Some a) place at_a in cc
 
-push_after : (pool extra : List Fields) (w : Fields) → (pool ++ extra) ++ w ∷ [] ≡ pool ++ (extra ++ w ∷ [])
+pub push_after : (pool extra : List Fields) (w : Fields) → (pool ++ extra) ++ w ∷ [] ≡ pool ++ (extra ++ w ∷ [])
 push_after [] extra w = refl
 push_after (x ∷ pool) extra w = ap (λ l. x ∷ l) (push_after pool extra w)
 
-not_both : {b : Bool} → b ≡ true → b ≡ false → ⊥
+pub not_both : {b : Bool} → b ≡ true → b ≡ false → ⊥
 not_both yes' no' = let bad : true ≡ false = sym yes' ∙ no' in cc
 
 -- ---- a stage
 
 -- The pool has these updates of the station more than before. The edge at place j says u of it; the one at place i, of
 -- the address o, says something of it or not; each has these of its registers pending, and the others none.
-record StageOf (base extra : List Fields) (i j : ℕ) (s : Station) (o : ℕ) (u : Fields) (here there : List Register) (says : Bool) (pool : List Fields) (edges : List Edge) : Type 0 where
-  grown : updates_on s pool ≡ base ++ extra
-  to : Edge
-  at_to : At edges j to
-  is_to : IsTo pool extra s u there to.claims.voice
-  from : Edge
-  at_from : At edges i from
-  is_from : IsFrom pool extra s o here says from.claims.voice
-  asides : (x : ℕ) (c : Edge) → x ≢ i → x ≢ j → At edges x c → IsAside pool s c.claims.voice
+pub record StageOf (base extra : List Fields) (i j : ℕ) (s : Station) (o : ℕ) (u : Fields) (here there : List Register) (says : Bool) (pool : List Fields) (edges : List Edge) : Type 0 where
+  pub grown : updates_on s pool ≡ base ++ extra
+  pub to : Edge
+  pub at_to : At edges j to
+  pub is_to : IsTo pool extra s u there to.claims.voice
+  pub from : Edge
+  pub at_from : At edges i from
+  pub is_from : IsFrom pool extra s o here says from.claims.voice
+  pub asides : (x : ℕ) (c : Edge) → x ≢ i → x ≢ j → At edges x c → IsAside pool s c.claims.voice
 
 -- the four stages, one after another
-data Stage (base : List Fields) (i j : ℕ) (s : Station) (o : ℕ) (u : Fields) (pool : List Fields) (edges : List Edge) : Type 0 where
+pub data Stage (base : List Fields) (i j : ℕ) (s : Station) (o : ℕ) (u : Fields) (pool : List Fields) (edges : List Edge) : Type 0 where
   AtFirst : StageOf base [] i j s o u [] (u.register ∷ []) true pool edges → Stage base i j s o u pool edges
   AtTold : StageOf base (u ∷ []) i j s o u [] [] true pool edges → Stage base i j s o u pool edges
   AtLost : StageOf base (u ∷ []) i j s o u (register_of o (key_of s) ∷ []) [] false pool edges → Stage base i j s o u pool edges
@@ -465,7 +465,7 @@ module _ (base : List Fields) (i j : ℕ) (s : Station) (o : ℕ) (u : Fields) (
       go (suc x) (Some a) is h elsewhere = restart_stage old new x a n result sound is h (elsewhere x refl) stage
 
   -- a list of steps
-  runs_stage : (steps : List Step) (old new : Fabric) → IsSound old → RunsBeside i j s old steps new → Stage base i j s o u old.pool old.edges → Stage base i j s o u new.pool new.edges × IsSound new
+  pub runs_stage : (steps : List Step) (old new : Fabric) → IsSound old → RunsBeside i j s old steps new → Stage base i j s o u old.pool old.edges → Stage base i j s o u new.pool new.edges × IsSound new
   runs_stage [] old new sound h stage = subst (λ (f : Fabric). Stage base i j s o u f.pool f.edges × IsSound f) (sym h) (stage, sound)
   runs_stage (step ∷ steps) old new sound h stage = runs_stage steps h.0 new (step_sound old h.0 step h.1 h.2 sound) h.4 (step_stage old h.0 step h.1 sound h.2 h.3 stage)
 
@@ -479,17 +479,17 @@ pub agreed_waits : (f : Fabric) (s : Station) → AgreesOn f s → (i : ℕ) (a 
 agreed_waits f s agree i a at = filter_none (is_of s) a.claims.voice.pending (λ r in' of. agree.quiet i a r at of in')
 
 -- a station that is said leaves what was no news
-said_news : (e : Voice) (k : Key) (c : Content) → KeepsNumbers e → (u : Fields) → is_newest e u ≡ false → is_newest (after_saying e k c) u ≡ false
+pub said_news : (e : Voice) (k : Key) (c : Content) → KeepsNumbers e → (u : Fields) → is_newest e u ≡ false → is_newest (after_saying e k c) u ≡ false
 said_news e k c h u old = ap (λ t. is_news (value_at t u.register) u.value) (sym (said_joins e k c h)) ∙ news_stay e.table (record { register = own_register e k; value = next_value e c }) u.register u.value old
 
 -- one event from outside, by which the second edge learns the station
-record Begins (old : Fabric) (i j : ℕ) (s : Station) (from to : Edge) (new : Fabric) : Type 0 where
-  after : Edge
-  learns : LearnsIt to s after
-  is : new ≡ record old { edges = slice_set old.edges j after }
-  apart : i ≢ j
+pub record Begins (old : Fabric) (i j : ℕ) (s : Station) (from to : Edge) (new : Fabric) : Type 0 where
+  pub after : Edge
+  pub learns : LearnsIt to s after
+  pub is : new ≡ record old { edges = slice_set old.edges j after }
+  pub apart : i ≢ j
 
-begins : (old : Fabric) (i j : ℕ) (s : Station) (new : Fabric) → IsSound old → (m : StationComes old i j s new) → Begins old i j s m.from m.to new
+pub begins : (old : Fabric) (i j : ℕ) (s : Station) (new : Fabric) → IsSound old → (m : StationComes old i j s new) → Begins old i j s m.from m.to new
 begins old i j s new sound m = go (slice_get old.edges j) refl m.step
   where
     apart : i ≢ j
@@ -516,16 +516,16 @@ begins old i j s new sound m = go (slice_get old.edges j) refl m.step
 
 -- the first stage
 module _ (old : Fabric) (i j : ℕ) (s : Station) (new : Fabric) (sound : IsSound old) (m : StationComes old i j s new) where
-  abbrev b : Begins old i j s m.from m.to new
+  abbrev pub b : Begins old i j s m.from m.to new
   b = begins old i j s new sound m
 
   abbrev said : Value
   said = next_value m.to.claims.voice b.learns.content
 
-  abbrev u : Fields
+  abbrev pub u : Fields
   u = update_of (register_of (address_of m.to) (key_of s)) said
 
-  abbrev base : List Fields
+  abbrev pub base : List Fields
   base = updates_on s old.pool
 
   quiet_aside : (x : ℕ) (c : Edge) → x ≢ i → IsEdge old x c → IsAside old.pool s c.claims.voice
@@ -539,7 +539,7 @@ module _ (old : Fabric) (i j : ℕ) (s : Station) (new : Fabric) (sound : IsSoun
       go None e = e
       go (Some y) e = absurd (ne (station_one old s sound m.agree x i c m.from at m.at_from (None, y, e) m.had))
 
-  first_stage : Stage base i j s (address_of m.from) u new.pool new.edges
+  pub first_stage : Stage base i j s (address_of m.from) u new.pool new.edges
   first_stage = subst (λ (f : Fabric). Stage base i j s (address_of m.from) u f.pool f.edges) (sym b.is) (AtFirst (record {
     grown = sym (no_push base);
     to = b.after;
@@ -570,12 +570,12 @@ some_in : (c : Option Advert) → IsSome c → (x : Advert) × (c ≡ Some x)
 some_in (Some x) is = (x, refl)
 some_in None is = cc
 
-some_is : (c : Option Advert) → is_some c ≡ true → (x : Advert) × (c ≡ Some x)
+pub some_is : (c : Option Advert) → is_some c ≡ true → (x : Advert) × (c ≡ Some x)
 some_is (Some x) is = (x, refl)
 some_is None is = cc
 
 -- what the edge of this stage says of the station
-to_advertises : (pool extra : List Fields) (s : Station) (u : Fields) (there : List Register) (c : Edge) → IsSome (advert_in u.value.content) → IsTo pool extra s u there c.claims.voice → Advertises c s
+pub to_advertises : (pool extra : List Fields) (s : Station) (u : Fields) (there : List Register) (c : Edge) → IsSome (advert_in u.value.content) → IsTo pool extra s u there c.claims.voice → Advertises c s
 to_advertises pool extra s u there c some t = let x = some_in (advert_in u.value.content) some in (None, x.0, ap advert_of t.says ∙ x.1)
 
 pub station_moves : StationMoves

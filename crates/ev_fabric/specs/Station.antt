@@ -33,7 +33,7 @@ use Rattle.ev_fabric.specs.Laws.{IsBehindPort, IsFrameFor, GoesTo}
 use Rattle.ev_fabric.specs.RestMove.{IsMoved}
 use Rattle.ev_fabric.specs.Opening.{AreConfigs, IsStart}
 use Rattle.ev_fabric.specs.RestEdge.{comes_back}
-use Rattle.ev_fabric.specs.Rest.{Rests, two_rounds}
+use Rattle.ev_fabric.specs.Rest.{Rests, HasNumbers, announcing, each, two_rounds}
 
 -- ---- registers
 
@@ -165,6 +165,20 @@ pub record StationMoved (old : Fabric) (i : ℕ) (s : Station) (from to : ℕ) (
 abbrev pub StationMoves : Type 0
 StationMoves = (i j : ℕ) (s : Station) (old mid new : Fabric) (steps : List Step) → IsSound old → (m : StationComes old i j s mid) → RunsBeside i j s mid steps new → AgreesOn new s
     → StationMoved old i s (address_of m.from) (address_of m.to) new
+
+-- ---- how far a move is from its end
+
+-- each of m edges takes update k of the pool
+abbrev pub all_take : ℕ → ℕ → List Step
+all_take m k = each (λ e. Deliver e k ∷ []) m
+
+-- The new place announces what was pending there, and one update more; then there is an update that each edge takes;
+-- then the old place announces what was pending there, and one update more; then there is another one, and once each
+-- edge has taken it they agree on the station again.
+abbrev pub StationArrives : Type 0
+StationArrives = (i j : ℕ) (s : Station) (old mid told : Fabric) → IsSound old → HasNumbers mid → (m : StationComes old i j s mid) → Rests mid (announcing (suc j) (length m.to.claims.voice.pending + 1)) told
+    → (k : ℕ) × ((heard left : Fabric) → Rests told (all_take (length mid.edges) (suc k)) heard → Rests heard (announcing (suc i) (length m.from.claims.voice.pending + 1)) left
+    → (l : ℕ) × ((new : Fabric) → Rests left (all_take (length mid.edges) (suc l)) new → AgreesOn new s))
 
 -- ---- a station that is left alone
 

@@ -2,7 +2,7 @@
 //! asked of other stations, nor of what else is pending or missing.
 ghost use Rattle.ev_fabric.specs.Fabric.{Fabric as State};
 ghost use Rattle.ev_fabric.specs.Agreed.{AllAgree};
-ghost use Rattle.ev_fabric.specs.Station.{AgreesOnEach, AgreedStation, StationFramesGo, StationMoves, StationLasts, StationReached, StationSettles};
+ghost use Rattle.ev_fabric.specs.Station.{AgreesOnEach, AgreedStation, StationFramesGo, StationMoves, StationArrives, StationLasts, StationReached, StationSettles};
 
 /// A law, which does nothing: all agree exactly where they agree on each station and on each flood
 /// list.
@@ -32,6 +32,14 @@ pub fn station_frames_go()
 /// no more.
 pub fn station_moves()
     ensures { StationMoves }
+{}
+
+/// A law, which does nothing: how far it is from a move to agreement on the station. The new edge
+/// announces what was pending there, and one update more; each edge takes one update; the old edge
+/// announces what was pending there, and one update more; each edge takes one update; then they
+/// agree, whatever else is pending and missing elsewhere.
+pub fn station_arrives()
+    ensures { StationArrives }
 {}
 
 /// A law, which does nothing: who agree on a station go on agreeing on it, with nothing more of it
