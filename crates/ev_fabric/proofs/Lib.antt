@@ -6,7 +6,6 @@ pub mod Opened
 pub mod Agreements
 pub mod Sends
 pub mod Calls
-pub mod RestingLists
 pub mod RestingSums
 pub mod RestingNewest
 pub mod RestingEdge
