@@ -35,7 +35,7 @@ kept_at kept n = slice_index_or kept n unused
 abbrev pub count_sum : List Kept → ℕ
 count_sum kept = sum_by (λ (k : Kept). k.count) kept
 
--- the table has each mark's register, with no lower number
+-- the table has each mark's register, with its value or a newer one
 abbrev pub HoldsMarks : Table → List Kept → Type 0
 HoldsMarks t kept = (n : ℕ) → n < length kept → HoldsAt t (kept_at kept n).mark
 

@@ -32,7 +32,8 @@ const SPENT: u64 = 1 << 55;
 /// An edge, the journal of the updates that it took and said, and what is kept of each pass.
 ///
 /// The table of the journal's updates is the edge's table, the table has what each pass took or
-/// announced last or something newer, and the counts together are those of all passes.
+/// announced last or a newer value of that register, and the counts together are those of all
+/// passes.
 #[derive(Drop)]
 pub struct Book<L: Ledger> {
     edge: Edge,
@@ -218,7 +219,7 @@ impl<L: Ledger> Book<L> {
     }
 
     /// The owner of a MAC address in a network, as the table says now: it has what the pass took or
-    /// announced last, or something newer.
+    /// announced last, or a newer value of that register.
     ///
     /// # Errors
     ///

@@ -2,35 +2,33 @@
 ghost use Rattle.std.specs.Prelude.{◌≡◌};
 ghost use Rattle.ev_book.specs.Mark.{mark_of, is_same, same_mark};
 
-use route_wire::{Register, Update};
+use route_wire::{Register, Update, Value};
 
 /// The last update that the calls of a pass took or announced.
 #[derive(Clone, Copy, Debug, PartialEq, Eq)]
 pub struct Mark {
     /// The update's register.
     pub register: Register,
-    /// The life of its originator.
-    pub incarnation: u32,
-    /// The number of the update in that life.
-    pub counter: u64,
+    /// What it says of it, and when.
+    pub value: Value,
 }
 
 /// The mark of an update.
 pub(crate) fn mark_of(update: &Update) -> Mark
     ensures { result ≡ mark_of update.now }
 {
-    let value = update.value();
     Mark {
         register: update.register(),
-        incarnation: value.incarnation,
-        counter: value.counter,
+        value: update.value(),
     }
 }
 
+// Of two different values of a register one is newer.
 fn is_same(a: &Mark, b: &Mark) -> bool
     ensures { result ≡ is_same a.now b.now }
 {
-    a.register.cmp(&b.register).is_eq() && a.incarnation == b.incarnation && a.counter == b.counter
+    let differ = a.value.is_newer(&b.value) || b.value.is_newer(&a.value);
+    a.register.cmp(&b.register).is_eq() && !differ
 }
 
 /// Whether there are two equal marks, or none.

@@ -12,3 +12,4 @@ pub mod Members
 pub mod Keeping
 pub mod Queue
 pub mod Ageing
+pub mod Lists

@@ -35,6 +35,14 @@ own_advert e k = advert_at e.table e.address k
 abbrev pub IsPresent : Voice → Value → Type 0
 IsPresent e v = v.incarnation ≡ e.incarnation
 
+-- something was said of the key in this life, as a value that is still its register's
+abbrev pub said_in : ℕ → Option Value → Bool
+said_in incarnation None = false
+said_in incarnation (Some v) = v.incarnation == incarnation
+
+abbrev pub is_said : Voice → Key → Bool
+is_said e k = said_in e.incarnation (own e k)
+
 -- The own registers of this life have numbers up to the counter, each its own; none is of a later life, and one that
 -- advertises is of this one. The edge listens to itself. What is pending is an own register of this life.
 pub record KeepsNumbers (e : Voice) : Type 0 where

@@ -1,13 +1,13 @@
 //! What an edge says and has learnt, and each change of it: a station is advertised
 //! exactly while it is learnt.
-ghost use Rattle.std.specs.Prelude.{◌≡◌, ◌≢◌, ◌⊎◌, ◌+◌, ◌<◌, ◌≤◌, ◌^◌, ◌↔◌, ℕ, [], true, false, IfOk, IfSome, IfNone, IsSome, length, slice_get, OnOk, OnErr, Err, Some, None, Contains};
+ghost use Rattle.std.specs.Prelude.{◌≡◌, ◌≢◌, ◌⊎◌, ◌+◌, ◌<◌, ◌≤◌, ◌^◌, ◌↔◌, ℕ, [], true, false, IfOk, IfSome, IfNone, IsSome, length, slice_get, IsOk, OnOk, OnErr, Err, Some, None, Contains};
 ghost use Rattle.ether_wire.specs.Names.{is_group};
 ghost use Rattle.route_join.specs.Table.{AreOriginators, value_at, is_listed};
 ghost use Rattle.route_join.specs.Taken.{taken_of};
 ghost use Rattle.mac_arena.specs.Learning.{entry_at, is_full, is_pinned, IsLatest, first_unpinned, stations_at};
 ghost use Rattle.mac_arena.specs.ListsName.{ListsName};
 ghost use Rattle.ether_wire.specs.Ports.{has_port};
-ghost use Rattle.ev_claims.specs.Voice.{announced, is_ahead, is_spent, is_returning, IsOwnAt, IsNoOwnAt};
+ghost use Rattle.ev_claims.specs.Voice.{announced, is_said, is_ahead, is_spent, is_returning, IsOwnAt, IsNoOwnAt};
 ghost use Rattle.ev_claims.specs.Claims.{AreGood, entries, vni_at, is_member, key_of, station_of, after_advert, after_refresh, after_pin, after_shift, after_update, after_removal, after_removals, after_take, after_losing_at, after_own, after_announcement, lost_at, loses_pinned};
 ghost use Rattle.mac_arena.specs.Laws.{unpinned_on};
 ghost use Rattle.ev_claims.specs.Leaving.{after_ageing, after_flush, due_in, AreKept};
@@ -196,7 +196,8 @@ impl Claims {
     ///
     /// # Errors
     ///
-    /// Where memory is refused, and then nothing changed.
+    /// Where nothing was said of the station in this life, and memory is refused. Nothing changed
+    /// then.
     pub fn advertise(
         &mut self,
         station: &Station,
@@ -210,6 +211,7 @@ impl Claims {
         requires room { is_full self.old.learned ≡ false }
         requires number { self.old.voice.counter < 2 ^ 63 }
         requires latest { IsLatest self.old.learned second }
+        ensures there { is_said self.old.voice (key_of station.now) ≡ true → IsOk result }
         ensures ok { OnOk result
             (self.new ≡ after_advert self.old station.now port second sequence) }
         ensures err { OnErr result (self.new ≡ self.old) }
@@ -241,13 +243,15 @@ impl Claims {
     ///
     /// # Errors
     ///
-    /// Where memory is refused, and then nothing changed.
+    /// Where nothing was said of the station in this life, and memory is refused. Nothing changed
+    /// then.
     pub fn pin(&mut self, station: &Station, port: u8) -> Result<(), AllocError>
         requires individual { is_group station.now.mac ≡ false }
         requires port { vni_at self.old.ports port ≡ Some station.now.vni }
         requires room { entry_at self.old.learned station.now ≡ None
             → is_full self.old.learned ≡ false }
         requires number { self.old.voice.counter < 2 ^ 63 }
+        ensures there { is_said self.old.voice (key_of station.now) ≡ true → IsOk result }
         ensures ok { OnOk result (self.new ≡ after_pin self.old station.now port) }
         ensures err { OnErr result (self.new ≡ self.old) }
     {

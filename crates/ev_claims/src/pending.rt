@@ -1,5 +1,5 @@
 //! The registers that an edge says something of, and those of them that wait to be announced.
-ghost use Rattle.std.specs.Prelude.{◌≡◌, ◌++◌, ◌∷◌, [], ℕ, ◌≤◌, ◌<◌, ◌^◌, IfOk, IfSome, OnOk, OnErr, Contains, drop, slice_get, length};
+ghost use Rattle.std.specs.Prelude.{◌≡◌, ◌++◌, ◌∷◌, [], ℕ, ◌≤◌, ◌<◌, ◌^◌, IfOk, IfSome, IsOk, OnOk, OnErr, Contains, drop, slice_get, length};
 ghost use Rattle.idx_links.specs.Families.{lists_of};
 ghost use Rattle.ev_claims.specs.Pending.{marked};
 
@@ -51,8 +51,10 @@ impl Pending {
         })
     }
 
-    /// Gives a register a node, unless it has one. Where memory is refused, all stays as it was.
+    /// Gives a register a node, unless it has one: then no memory is asked for. Where it is
+    /// refused, all stays as it was.
     pub fn make_room(&mut self, register: &Register) -> Result<(), AllocError>
+        ensures there { Contains self.old.known register.now → IsOk result }
         ensures waiting { self.new.waiting ≡ self.old.waiting }
         ensures known { OnOk result (Contains self.new.known register.now) }
         ensures kept { (r : Register) → Contains self.old.known r → Contains self.new.known r }

@@ -1,10 +1,10 @@
 //! What an edge says itself: its own registers, their numbers, and what is still to be announced.
-ghost use Rattle.std.specs.Prelude.{◌≡◌, ◌≢◌, ◌⊎◌, ◌+◌, ◌<◌, ◌^◌, ◌↔◌, [], IfOk, IfSome, IfNone, IsSome, IsErr, true, false, OnOk, OnErr, Ok, Err, None, Contains, nat_le, length};
+ghost use Rattle.std.specs.Prelude.{◌≡◌, ◌≢◌, ◌⊎◌, ◌+◌, ◌<◌, ◌^◌, ◌↔◌, [], IfOk, IfSome, IfNone, IsSome, IsOk, IsErr, true, false, OnOk, OnErr, Ok, Err, None, Contains, nat_le, length};
 ghost use Rattle.route_join.specs.Table.{AreOriginators, value_at, is_listed};
 ghost use Rattle.route_wire.specs.Fields.{is_individual, FitsKey, flood_advert};
 ghost use Rattle.route_join.specs.Owner.{owner};
 ghost use Rattle.route_join.specs.Taken.{taken_of};
-ghost use Rattle.ev_claims.specs.Voice.{own, own_advert, is_at, is_ahead, is_spent, is_newest, is_returning, silent, announced, IsOwnAt, IsNoOwnAt, KeepsNumbers, after_saying, after_hearing, after_hearing_own, after_announcing};
+ghost use Rattle.ev_claims.specs.Voice.{own, own_advert, is_said, is_at, is_ahead, is_spent, is_newest, is_returning, silent, announced, IsOwnAt, IsNoOwnAt, KeepsNumbers, after_saying, after_hearing, after_hearing_own, after_announcing};
 ghost use Rattle.ev_claims.specs.Opening.{after_floods};
 
 use crate::pending::Pending;
@@ -167,11 +167,14 @@ impl Voice {
         self.table.owner(vni, mac) == Some(self.address)
     }
 
-    /// Says this of a key, under the next number. Where memory is refused, all stays as it was.
+    /// Says this of a key, under the next number. Where something was said of it in this life,
+    /// its register has its places, and no memory is asked for. Where memory is refused, all
+    /// stays as it was.
     pub fn say(&mut self, key: &Key, content: Content) -> Result<(), AllocError>
         requires number { self.old.counter + 1 < 2 ^ 64 }
         requires individual { is_individual key.now ≡ true }
         requires fits { FitsKey key.now content }
+        ensures there { is_said self.old key.now ≡ true → IsOk result }
         ensures ok { OnOk result (self.new ≡ after_saying self.old key.now content) }
         ensures err { OnErr result (self.new ≡ self.old) }
     {

@@ -76,10 +76,8 @@ learn_says : (e : Edge) (s : Station) (port : ℕ) (told : Option Alert) (e' : E
 learn_says e s port told e' Leave h = same e e' h.1
 learn_says e s port told e' Refresh h = nothing_said e.claims.voice e e' (ap (λ (x : Edge). x.claims.voice) h.1)
 learn_says e s port told e' (Refuse alert) h = same e e' h.1
-learn_says e s port told e' Freeze h = elim h as (λ _. Saying e.claims.voice e e') [
-  | inl done ↦ nothing_said e.claims.voice e e' (ap (λ (x : Edge). x.claims.voice) done.1)
-  | inr refused ↦ same e e' refused.1
-]
+learn_says e s port told e' Freeze h =
+    nothing_said e.claims.voice e e' (ap (λ (x : Edge). x.claims.voice) h.1)
 learn_says e s port told e' (Learn n) h = elim h as (λ _. Saying e.claims.voice e e') [
   | inl done ↦ one_said e.claims.voice e e' (key_of s) (moving n) (ap (λ (x : Edge). x.claims.voice) done.1)
   | inr refused ↦ same e e' refused.1

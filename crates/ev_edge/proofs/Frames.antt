@@ -104,10 +104,8 @@ learn_stays : (e : Edge) (s : Station) (port : ℕ) (told : Option Alert) (e' : 
 learn_stays e s port told e' Leave h = same_stays e e' h.1
 learn_stays e s port told e' Refresh h = record { ports = ap (λ (x : Edge). x.claims.ports) h.1; tree = ap (λ (x : Edge). x.tree) h.1 }
 learn_stays e s port told e' (Refuse alert) h = same_stays e e' h.1
-learn_stays e s port told e' Freeze h = elim h as (λ _. Stays e e') [
-  | inl done ↦ record { ports = ap (λ (x : Edge). x.claims.ports) done.1; tree = ap (λ (x : Edge). x.tree) done.1 }
-  | inr refused ↦ same_stays e e' refused.1
-]
+learn_stays e s port told e' Freeze h =
+    record { ports = ap (λ (x : Edge). x.claims.ports) h.1; tree = ap (λ (x : Edge). x.tree) h.1 }
 learn_stays e s port told e' (Learn n) h = elim h as (λ _. Stays e e') [
   | inl done ↦ record { ports = ap (λ (x : Edge). x.claims.ports) done.1; tree = ap (λ (x : Edge). x.tree) done.1 ∙ go (eqb n 0) }
   | inr refused ↦ same_stays e e' refused.1

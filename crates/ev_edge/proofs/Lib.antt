@@ -11,3 +11,4 @@ pub mod Frames
 pub mod Going
 pub mod Memory
 pub mod Advertised
+pub mod Removing

@@ -1,6 +1,6 @@
 -- Learning the source of a frame (IEEE 802.1D-2004, 7.8, and RFC 7432, section 15): the first of the ten cases that
 -- applies, with what it does.
-use Rattle.std.specs.Prelude.{◌≡◌, ◌⊎◌, ℕ, ◌^◌, ◌==◌, nat_le, Bool, Option, Some, None, if◌then◌else◌}
+use Rattle.std.specs.Prelude.{◌≡◌, ◌⊎◌, ℕ, ◌^◌, ◌==◌, ◌&&◌, ◌||◌, not, nat_le, Bool, true, Option, Some, None, is_none, if◌then◌else◌}
 use Rattle.std.specs.FinMap.{get, insert}
 use Rattle.mac_arena.specs.declared.station.Station.{Station}
 use Rattle.mac_arena.specs.declared.station.Entry.{Entry}
@@ -12,7 +12,8 @@ use Rattle.ev_mobility.specs.declared.seq.Seq.{Seq}
 use Rattle.ev_mobility.specs.declared.seq.Seq.TheVariants.{Next, Static, Spent}
 use Rattle.ev_mobility.specs.Seq.{seq_for}
 use Rattle.ev_mobility.specs.Window.{is_fifth, is_frozen, after_move}
-use Rattle.ev_claims.specs.Claims.{Claims, after_advert, after_refresh}
+use Rattle.ev_claims.specs.Voice.{is_said}
+use Rattle.ev_claims.specs.Claims.{Claims, key_of, after_advert, after_refresh}
 use Rattle.ev_edge.specs.declared.learning.Case.{Case}
 use Rattle.ev_edge.specs.declared.learning.Case.TheVariants.{Leave, Refresh, Refuse, Freeze, Learn}
 use Rattle.ev_edge.specs.Edge.{Edge, table_of, address_of}
@@ -61,16 +62,34 @@ moved e s = record e { windows = insert e.windows s (after_move (get e.windows s
 abbrev pub learnt : Edge → Station → ℕ → ℕ → Edge
 learnt e s port n = record (if n == 0 then e else moved e s) { claims = after_advert e.claims s port e.clock n }
 
--- it happened, or the memory for it was refused: then nothing changed
-abbrev pub OrNoMemory : Edge → Option Alert → Edge → Option Alert → Edge → Type 0
-OrNoMemory e alert after told e' = ((told ≡ alert) × (e' ≡ after)) ⊎ ((told ≡ Some NoMemory) × (e' ≡ e))
+-- ---- memory
+
+-- a register has to be made for what is said of the station: nothing was said of it in this life
+abbrev pub needs_register : Edge → Station → Bool
+needs_register e s = not (is_said e.claims.voice (key_of s))
+
+-- a window has to be made for its move: none is kept of it
+abbrev pub needs_window : Edge → Station → Bool
+needs_window e s = is_none (get e.windows s)
+
+-- what learning it with this sequence number has to make; a number above 0 is a move
+abbrev pub needs_memory : Edge → Station → ℕ → Bool
+needs_memory e s n = needs_register e s || (not (n == 0) && needs_window e s)
+
+-- It happened; or it needs memory, which was refused: then nothing changed.
+abbrev pub OrNoMemory : Bool → Edge → Option Alert → Edge → Option Alert → Edge → Type 0
+OrNoMemory needs e alert after told e' =
+    ((told ≡ alert) × (e' ≡ after)) ⊎ ((told ≡ Some NoMemory) × (e' ≡ e) × (needs ≡ true))
+
+-- ---- what each case does
 
 abbrev pub Does : Case → Edge → Station → ℕ → Option Alert → Edge → Type 0
 Does Leave e s port told e' = (told ≡ None) × (e' ≡ e)
 Does Refresh e s port told e' = (told ≡ None) × (e' ≡ refreshed e s port)
 Does (Refuse alert) e s port told e' = (told ≡ Some alert) × (e' ≡ e)
-Does Freeze e s port told e' = OrNoMemory e (Some Duplicate) (moved e s) told e'
-Does (Learn n) e s port told e' = OrNoMemory e None (learnt e s port n) told e'
+Does Freeze e s port told e' = (told ≡ Some Duplicate) × (e' ≡ moved e s)
+Does (Learn n) e s port told e' =
+    OrNoMemory (needs_memory e s n) e None (learnt e s port n) told e'
 
 -- learning the station on the port
 abbrev pub Learning : Edge → Station → ℕ → Option Alert → Edge → Type 0

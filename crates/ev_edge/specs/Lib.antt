@@ -10,3 +10,4 @@ pub mod Changes
 pub mod Laws
 pub mod Opening
 pub mod Refusal
+pub mod Removed

@@ -16,7 +16,7 @@ use Rattle.ev_edge.specs.declared.pinning.PinCase.TheVariants.{Keep, Shift, Deny
 use Rattle.ev_edge.specs.declared.refusal.EdgeRefusal.{EdgeRefusal}
 use Rattle.ev_edge.specs.declared.refusal.EdgeRefusal.TheVariants.{BadMac, NoSuchPort, NoSuchVni}
 use Rattle.ev_edge.specs.Edge.{Edge, table_of, address_of}
-use Rattle.ev_edge.specs.Learning.{is_spent, OrNoMemory}
+use Rattle.ev_edge.specs.Learning.{is_spent, needs_register, OrNoMemory}
 
 -- why a pin is refused: there is no such port, it is of another network, or a group address can't be pinned
 abbrev pub pin_refusal : Option ℕ → Station → Option EdgeRefusal
@@ -51,7 +51,8 @@ abbrev pub DoesPin : PinCase → Edge → Station → ℕ → Option Alert → E
 DoesPin Keep e s port told e' = (told ≡ None) × (e' ≡ e)
 DoesPin Shift e s port told e' = (told ≡ None) × (e' ≡ record e { claims = after_shift e.claims s port })
 DoesPin (Deny alert) e s port told e' = (told ≡ Some alert) × (e' ≡ e)
-DoesPin Pin e s port told e' = OrNoMemory e None (record e { claims = after_pin e.claims s port }) told e'
+DoesPin Pin e s port told e' =
+    OrNoMemory (needs_register e s) e None (record e { claims = after_pin e.claims s port }) told e'
 
 -- pinning the station on the port
 abbrev pub Pinning : Edge → Station → ℕ → Option Alert → Edge → Type 0

@@ -7,6 +7,7 @@ ghost use Rattle.ev_edge.specs.Opening.{IsOpening, start_of};
 ghost use Rattle.ev_edge.specs.Steps.{Steps};
 ghost use Rattle.ev_edge.specs.Changes.{Changes};
 ghost use Rattle.ev_edge.specs.Laws.{decision_in, LeavesBy, LeavesTunnel, IsReserved, HoldsReserved, AdvertisesItsOwn, takes_none, TellsNoMemory};
+ghost use Rattle.ev_edge.specs.Removed.{StepsRemove};
 
 use crate::config::EdgeConfig;
 use crate::edge::Edge;
@@ -110,4 +111,13 @@ pub fn takes_no_memory(
     requires none { takes_none before.now event.now ≡ true }
     requires step { Steps before.now event.now answer.now after.now }
     ensures { TellsNoMemory answer.now → ⊥ }
+{}
+
+/// At each event of a good edge exactly those stations go from the learning table that pass the
+/// event's test, and no other one: an unpinned one behind a port that the bridge flushes; as a
+/// second passes also an unpinned one that is too old by the new second; the station of another
+/// edge's update, where the edge's own advert isn't the best one any more; and a pinned one that
+/// is unpinned. A frame takes none but by a BPDU, and what is refused takes none.
+pub fn steps_remove()
+    ensures { StepsRemove }
 {}

@@ -1,12 +1,13 @@
 //! Learning the source of a frame: which of the ten cases it is, and what that does.
-ghost use Rattle.std.specs.Prelude.{◌≡◌, ◌<◌, ◌^◌, ◌==◌, false, None, Some};
+ghost use Rattle.std.specs.Prelude.{◌≡◌, ◌<◌, ◌^◌, ◌==◌, true, false, None, Some};
 ghost use Rattle.std.specs.FinMap.{get};
 ghost use Rattle.ether_wire.specs.Names.{is_group};
 ghost use Rattle.mac_arena.specs.Learning.{entry_at, is_full};
 ghost use Rattle.ev_mobility.specs.Seq.{seq_for};
 ghost use Rattle.ev_claims.specs.Claims.{vni_at};
 ghost use Rattle.ev_edge.specs.Edge.{table_of, address_of};
-ghost use Rattle.ev_edge.specs.Learning.{case_of, new_case, numbered_case, moved, learnt, OrNoMemory, Learning};
+ghost use Rattle.ev_mobility.specs.Window.{is_fifth};
+ghost use Rattle.ev_edge.specs.Learning.{case_of, new_case, numbered_case, moved, learnt, needs_memory, OrNoMemory, Learning};
 
 use crate::edge::Edge;
 use ev_mobility::{Alert, Seq, next_seq};
@@ -107,19 +108,20 @@ impl Edge {
         )
     }
 
-    // Notes the fifth move of a station's window, which freezes it.
+    // Notes the fifth move of a station's window, which freezes it. It takes no memory: who has a
+    // window has its place.
     fn freeze(&mut self, station: &Station) -> Option<Alert>
-        ensures { OrNoMemory self.old (Some Alert.Duplicate)
-            (moved self.old station.now) result self.new }
+        requires { is_fifth (get self.old.windows station.now) self.old.clock ≡ true }
+        ensures told { result ≡ Some Alert.Duplicate }
+        ensures after { self.new ≡ moved self.old station.now }
     {
-        if self.moves.room(station).is_err() {
-            return Some(Alert::NoMemory);
-        }
+        self.moves.always_placed();
         self.moves.note(station, self.clock);
         Some(Alert::Duplicate)
     }
 
-    // Learns a station that no other edge advertises.
+    // Learns a station that no other edge advertises. Only a register that has to be made can
+    // want memory.
     fn learn_first(&mut self, station: &Station, port: u8) -> Option<Alert>
         requires individual { is_group station.now.mac ≡ false }
         requires port { vni_at self.old.claims.ports port ≡ Some station.now.vni }
@@ -128,7 +130,8 @@ impl Edge {
         requires counter { self.old.claims.voice.counter < 2 ^ 63 }
         requires next { seq_for (table_of self.old)
             (address_of self.old) station.now.vni station.now.mac ≡ Seq.Next 0 }
-        ensures { OrNoMemory self.old None (learnt self.old station.now port 0) result self.new }
+        ensures { OrNoMemory (needs_memory self.old station.now 0) self.old None
+            (learnt self.old station.now port 0) result self.new }
     {
         self.claims.always_good();
         if self.claims.advertise(station, port, self.clock, 0).is_err() {
@@ -137,7 +140,8 @@ impl Edge {
         None
     }
 
-    // Learns a station that another edge advertises: it moves here.
+    // Learns a station that another edge advertises: it moves here. Only a register or a window
+    // that has to be made can want memory.
     fn learn_moved(&mut self, station: &Station, port: u8, number: u32) -> Option<Alert>
         requires individual { is_group station.now.mac ≡ false }
         requires port { vni_at self.old.claims.ports port ≡ Some station.now.vni }
@@ -147,10 +151,11 @@ impl Edge {
         requires next { seq_for (table_of self.old)
             (address_of self.old) station.now.vni station.now.mac ≡ Seq.Next number }
         requires moves { (number == 0) ≡ false }
-        ensures { OrNoMemory self.old None
+        ensures { OrNoMemory (needs_memory self.old station.now number) self.old None
             (learnt self.old station.now port number) result self.new }
     {
         self.claims.always_good();
+        self.moves.always_placed();
         if self.moves.room(station).is_err() {
             return Some(Alert::NoMemory);
         }

@@ -59,16 +59,17 @@ aged_talks c ageing clock = go (nat_le ageing clock)
     go false = Quiet
 
 -- ---- learning
-either : (e after e' : Edge) (alert told : Option Alert) → Goes e after → OrNoMemory e alert after told e' → Goes e e'
-either e after e' alert told t (inl h) = subst (Goes e) (sym h.1) t
-either e after e' alert told t (inr h) = stays e e' h.1
+either : (needs : Bool) (e after e' : Edge) (alert told : Option Alert) → Goes e after
+    → OrNoMemory needs e alert after told e' → Goes e e'
+either needs e after e' alert told t (inl h) = subst (Goes e) (sym h.1) t
+either needs e after e' alert told t (inr h) = stays e e' h.1
 
 does_talk : (c : Case) (e : Edge) (s : Station) (port : ℕ) (told : Option Alert) (e' : Edge) → Does c e s port told e' → Goes e e'
 does_talk Leave e s port told e' h = stays e e' h.1
 does_talk Refresh e s port told e' h = subst (Goes e) (sym h.1) Quiet
 does_talk (Refuse alert) e s port told e' h = stays e e' h.1
-does_talk Freeze e s port told e' h = either e _ e' _ told Quiet h
-does_talk (Learn n) e s port told e' h = either e _ e' _ told (Says e.claims.voice (key_of s) _ Quiet) h
+does_talk Freeze e s port told e' h = subst (Goes e) (sym h.1) Quiet
+does_talk (Learn n) e s port told e' h = either _ e _ e' _ told (Says e.claims.voice (key_of s) _ Quiet) h
 
 learns_talk : (b : Bool) (e : Edge) (s : Station) (port : ℕ) (told : Option Alert) (e' : Edge) → LearnsIf b e s port told e' → Goes e e'
 learns_talk true e s port told e' h = does_talk (case_of e s) e s port told e' h
@@ -109,7 +110,7 @@ does_pin_talk : (c : PinCase) (e : Edge) (s : Station) (port : ℕ) (told : Opti
 does_pin_talk pins.Keep e s port told e' h = stays e e' h.1
 does_pin_talk pins.Shift e s port told e' h = subst (Goes e) (sym h.1) Quiet
 does_pin_talk (pins.Deny alert) e s port told e' h = stays e e' h.1
-does_pin_talk pins.Pin e s port told e' h = either e _ e' _ told (Says e.claims.voice (key_of s) _ Quiet) h
+does_pin_talk pins.Pin e s port told e' h = either _ e _ e' _ told (Says e.claims.voice (key_of s) _ Quiet) h
 
 pins_talk : (o : Option EdgeRefusal) (e : Edge) (s : Station) (port : ℕ) (result : Result Reply Refusal) (e' : Edge) → Pins o e s port result e' → Goes e e'
 pins_talk (Some r) e s port result e' h = stays e e' h.1

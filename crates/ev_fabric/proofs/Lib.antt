@@ -7,7 +7,6 @@ pub mod Agreements
 pub mod Stations
 pub mod Sends
 pub mod Calls
-pub mod RestingLists
 pub mod RestingSums
 pub mod RestingNewest
 pub mod RestingEdge

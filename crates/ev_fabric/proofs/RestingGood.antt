@@ -22,7 +22,7 @@ use Rattle.ev_edge.proofs.Owning.{Holds, taken_holds}
 use Rattle.ev_edge.proofs.Returning.{own_holds}
 use Rattle.ev_fabric.specs.RestEdge.{comes_back}
 use Rattle.ev_fabric.proofs.RestingEdge.{Accepts, Heard, Back, Lost, Kept, heard, hears, silent, learnt}
-use Rattle.ev_fabric.proofs.RestingLists.{removal_lists}
+use Rattle.ev_claims.proofs.Lists.{removal_lists}
 use Rattle.ev_fabric.proofs.RestingSums.{later_one}
 
 -- what a good edge keeps of its claims

@@ -153,10 +153,7 @@ module _ (b : Edge) (s : Station) (c : Edge) (unknown : entry_at b.claims.learne
     | inr ne ↦ without _ h.1 ((learn_entry b.claims.learned q port b.clock (learnt_of b.claims.learned q port)).others s (λ is. ne (sym is)) ∙ unknown)
   ]
   learns q port (Refuse alert) e told h = same h.1
-  learns q port Freeze e told h = elim h as (λ _. LearnsIt b s c) [
-    | inl moves ↦ without _ moves.1 unknown
-    | inr refused ↦ same refused.1
-  ]
+  learns q port Freeze e told h = without _ h.1 unknown
   learns q port (Learn n) e told h = elim h as (λ _. LearnsIt b s c) [
     | inl is ↦ elim (same_or_other q s) as (λ _. LearnsIt b s c) [
       | inl this ↦ record { content = moving n; advert = refl; voice = ap (λ (e : Edge). e.claims.voice) is.1 ∙ ap (λ r. after_saying b.claims.voice (key_of r) (moving n)) this }

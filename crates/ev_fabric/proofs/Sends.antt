@@ -68,16 +68,19 @@ learning_leaves e q port n s ne = record {
   adverts = λ o ip. said_other e.claims.voice (key_of q) (moving n) (Mac s.vni s.mac ip) o (other_key s q ip None ne);
 }
 
-either_leaves : (e after e' : Edge) (alert told : Option Alert) (s : Station) → LeavesBe e after s → OrNoMemory e alert after told e' → LeavesBe e e' s
-either_leaves e after e' alert told s l (inl h) = subst (λ x. LeavesBe e x s) (sym h.1) l
-either_leaves e after e' alert told s l (inr h) = same_leaves e e' s h.1
+either_leaves : (needs : Bool) (e after e' : Edge) (alert told : Option Alert) (s : Station)
+    → LeavesBe e after s → OrNoMemory needs e alert after told e' → LeavesBe e e' s
+either_leaves needs e after e' alert told s l (inl h) = subst (λ x. LeavesBe e x s) (sym h.1) l
+either_leaves needs e after e' alert told s l (inr h) = same_leaves e e' s h.1
 
 does_leave : (c : Case) (e : Edge) (q : Station) (port : ℕ) (told : Option Alert) (e' : Edge) (s : Station) → s ≢ q → Does c e q port told e' → LeavesBe e e' s
 does_leave Leave e q port told e' s ne h = same_leaves e e' s h.1
 does_leave Refresh e q port told e' s ne h = subst (λ x. LeavesBe e x s) (sym h.1) (record { address = refl; tree = refl; entry = (learn_entry e.claims.learned q port e.clock (learnt_of e.claims.learned q port)).others s ne; adverts = λ o ip. refl })
 does_leave (Refuse alert) e q port told e' s ne h = same_leaves e e' s h.1
-does_leave Freeze e q port told e' s ne h = either_leaves e (moved e q) e' _ told s (record { address = refl; tree = refl; entry = refl; adverts = λ o ip. refl }) h
-does_leave (Learn n) e q port told e' s ne h = either_leaves e (after_learning e q port n) e' _ told s (learning_leaves e q port n s ne) h
+does_leave Freeze e q port told e' s ne h =
+    subst (λ x. LeavesBe e x s) (sym h.1)
+    (record { address = refl; tree = refl; entry = refl; adverts = λ o ip. refl })
+does_leave (Learn n) e q port told e' s ne h = either_leaves _ e (after_learning e q port n) e' _ told s (learning_leaves e q port n s ne) h
 
 learns_leave : (b : Bool) (e : Edge) (q : Station) (port : ℕ) (told : Option Alert) (e' : Edge) (s : Station) → s ≢ q → LearnsIf b e q port told e' → LeavesBe e e' s
 learns_leave true e q port told e' s ne h = does_leave (case_of e q) e q port told e' s ne h

@@ -11,7 +11,7 @@ use Rattle.mac_arena.specs.declared.station.Station.{Station}
 use Rattle.mac_arena.specs.Station.{station_cmp, is_same}
 use Rattle.mac_arena.proofs.Entries.{station_total, station_exact, same_true, same_self}
 use Rattle.ev_mobility.specs.declared.window.Window.{Window}
-use Rattle.ev_mobility.specs.Moves.{Moves, has_place, window_at, after_note, after_thaw, with_window, windows_of, moves_of}
+use Rattle.ev_mobility.specs.Moves.{Moves, ArePlaced, has_place, window_at, after_note, after_thaw, with_window, windows_of, moves_of}
 use Rattle.ev_mobility.specs.Window.{after_move}
 
 abbrev pub Places : Type 0
@@ -45,6 +45,19 @@ some_cond false w o = refl
 pub place_found : (es : Places) (q : Station) → has_place (moves_of es) q ≡ is_some (find es q)
 place_found [] q = refl
 place_found (e ∷ es) q = ap (λ b. is_same q e.0 || b) (place_found es q) ∙ some_cond (is_same q e.0) e.1 (find es q)
+
+-- who has a window has a place
+pub all_placed : (es : Places) → ArePlaced (moves_of es)
+all_placed es q window = place_found es q ∙ found (find es q) (subst IsSome (window_found es q) window)
+  where
+    found : (o : Option (Option Window)) → IsSome (joined o) → is_some o ≡ true
+    found None h = cc
+    found (Some w) h = refl
+
+-- no place, and yet one
+pub never_placed : (es : Places) (m : Moves) (q : Station) (b : Bool) → moves_of es ≡ m → b ≡ is_some (find es q) → b ≡ false → has_place m q ≡ true → ⊥
+never_placed es m q b view found absent has =
+    let there : is_some (find es q) ≡ true = sym (place_found es q) ∙ ap (λ n. has_place n q) view ∙ has in cc
 
 -- ---- a station's entry is set
 

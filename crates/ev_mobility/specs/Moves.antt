@@ -1,5 +1,5 @@
 -- The windows of stations that have moved.
-use Rattle.std.specs.Prelude.{ℕ, Bool, Option, Some, None, List, [], ◌∷◌}
+use Rattle.std.specs.Prelude.{◌≡◌, ℕ, Bool, true, Option, Some, None, IsSome, List, [], ◌∷◌}
 use Rattle.std.specs.List.{list_any}
 use Rattle.std.specs.Map.{keys_of}
 use Rattle.std.specs.FinMap.{FinMap, get, insert, remove, empty}
@@ -18,6 +18,10 @@ window_at m s = get m.windows s
 
 abbrev pub has_place : Moves → Station → Bool
 has_place m s = list_any (is_same s) m.places
+
+-- whoever has moved since the last thaw has a place
+abbrev pub ArePlaced : Moves → Type 0
+ArePlaced m = (s : Station) → IsSome (window_at m s) → has_place m s ≡ true
 
 -- one more move of the station
 abbrev pub after_note : Moves → Station → ℕ → Moves

@@ -1,9 +1,9 @@
 //! The moves of addresses from edge to edge, and who is frozen for moving too often.
-ghost use Rattle.std.specs.Prelude.{◌≡◌, [], true, OnOk, OnErr};
+ghost use Rattle.std.specs.Prelude.{◌≡◌, [], true, IsOk, OnOk, OnErr};
 ghost use Rattle.std.specs.FinMap.{empty};
 ghost use Rattle.mac_arena.specs.declared.station.Station.{Station as Who};
 ghost use Rattle.ev_mobility.specs.Window.{is_fifth, after_move, is_frozen};
-ghost use Rattle.ev_mobility.specs.Moves.{has_place, window_at, after_note, after_thaw};
+ghost use Rattle.ev_mobility.specs.Moves.{has_place, ArePlaced, window_at, after_note, after_thaw};
 
 use crate::window::{Window, after_move, is_fifth, is_frozen};
 use mac_arena::Station;
@@ -47,8 +47,9 @@ impl Moves {
     ///
     /// # Errors
     ///
-    /// Where there is no memory for the place. Nothing has changed then.
+    /// Where the station has no place, and there is no memory for one. Nothing has changed then.
     pub fn room(&mut self, key: &Station) -> Result<(), AllocError>
+        ensures there { has_place self.old key.now ≡ true → IsOk result }
         ensures place { OnOk result (has_place self.new key.now ≡ true) }
         ensures windows { self.new.windows ≡ self.old.windows }
         ensures kept { (s : Who) → has_place self.old s ≡ true → has_place self.new s ≡ true }
@@ -61,6 +62,13 @@ impl Moves {
             return Err(AllocError);
         }
         Ok(())
+    }
+
+    /// A law, which does nothing: a station that has moved since its last thaw has its place.
+    pub fn always_placed(&self)
+        ensures { ArePlaced self.now }
+    {
+        let _ = &self.places;
     }
 
     /// The newest window of a station.

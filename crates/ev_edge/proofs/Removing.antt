@@ -1,0 +1,325 @@
+-- Which stations go at an event.
+use Rattle.std.proofs.Common.{◌≡◌, ◌≢◌, inl, inr, ℕ, ◌+◌, ◌-◌, ◌≤◌, Bool, true, false, cond, eqb}
+use Rattle.std.proofs.Common.{Option, Some, None, Result, Ok, Err, List, [], ◌∷◌, refl, sym, ap, subst}
+use Rattle.std.proofs.Common.{◌∙◌, arith}
+use Rattle.std.specs.Prelude.{◌↔◌, ◌&&◌, ◌||◌, not, nat_le, is_some, IsSome}
+use Rattle.std.proofs.lemmas.Bool.Decides.{nat_tests}
+use Rattle.route_wire.specs.declared.update.Key.{Key}
+use Rattle.route_wire.specs.declared.update.Key.TheVariants.{Flood, Mac}
+use Rattle.route_wire.specs.Fields.{Fields}
+use Rattle.mac_arena.specs.declared.station.Station.{Station}
+use Rattle.mac_arena.specs.declared.station.Entry.{Entry}
+use Rattle.mac_arena.specs.declared.table.Learnt.{Learnt}
+use Rattle.mac_arena.specs.declared.table.Learnt.TheVariants.{New, Moved, Refreshed, Pinned, Full}
+use Rattle.mac_arena.specs.Entry.{pinned_at}
+use Rattle.mac_arena.specs.Station.{is_same}
+use Rattle.mac_arena.specs.Learning.{Learning, entry_at, is_full, is_pinned, learnt_of}
+use Rattle.mac_arena.specs.Learning.{after_learn, after_pin as pinned_on}
+use Rattle.mac_arena.specs.Laws.{ChangesEntry, entry_learnt, is_due}
+use Rattle.mac_arena.specs.ListsName.{ListsName, stands, ages}
+use Rattle.mac_arena.proofs.Entries.{same_or_other, same_self, same_true}
+use Rattle.mac_arena.proofs.Going.{due_exact}
+use Rattle.mac_arena.proofs.Looking.{learn_entry, pin_entry}
+use Rattle.rstp_run.specs.declared.event.Event as tree
+use Rattle.rstp_run.specs.declared.event.Event.TheVariants as tree_events
+use Rattle.ev_mobility.specs.declared.alert.Alert.{Alert}
+use Rattle.ev_claims.specs.Claims.{Claims, AreGood, vni_at, after_removal, after_removals}
+use Rattle.ev_claims.specs.Claims.{after_update, after_losing, after_losing_at, is_lost, station_of}
+use Rattle.ev_claims.specs.Leaving.{after_ageing, after_flush, due_in, flushed_in, goes_by_age, goes_by_flush}
+use Rattle.ev_claims.proofs.Changed.{flushes_out, removals_entries}
+use Rattle.ev_claims.proofs.Lists.{removal_lists}
+use Rattle.ev_edge.specs.declared.arrival.Arrival.{Arrival}
+use Rattle.ev_edge.specs.declared.arrival.Arrival.TheVariants.{Dropped, Message, Data}
+use Rattle.ev_edge.specs.declared.event.Event.{Event}
+use Rattle.ev_edge.specs.declared.event.Event.TheVariants as events
+use Rattle.ev_edge.specs.declared.learning.Case.{Case}
+use Rattle.ev_edge.specs.declared.learning.Case.TheVariants.{Leave, Refresh, Refuse, Freeze, Learn}
+use Rattle.ev_edge.specs.declared.pinning.PinCase.{PinCase}
+use Rattle.ev_edge.specs.declared.pinning.PinCase.TheVariants as pins
+use Rattle.ev_edge.specs.declared.refusal.EdgeRefusal.{EdgeRefusal}
+use Rattle.ev_edge.specs.declared.refusal.Refusal.{Refusal}
+use Rattle.ev_edge.specs.declared.reply.Reply.{Reply}
+use Rattle.ev_edge.specs.Edge.{Edge, IsGoodEdge, address_of}
+use Rattle.ev_edge.specs.Arrival.{frame_arrival, tunnel_arrival}
+use Rattle.ev_edge.specs.Bridging.{BridgeGoes, aged, next_second}
+use Rattle.ev_edge.specs.Learning.{Does, case_of}
+use Rattle.ev_edge.specs.Pinning.{DoesPin, pin_case, refused_pin, after_unpin}
+use Rattle.ev_edge.specs.Removed.{GoExactly, nobody, is_flushed, is_old, goes_in_second, is_of}
+use Rattle.ev_edge.specs.Removed.{goes_by_take, goes_by_unpin, FlushRemoves, SecondRemoves}
+use Rattle.ev_edge.specs.Removed.{FrameRemoves, RemovesBy, Removed}
+use Rattle.ev_edge.specs.Steps.{Steps, FrameSteps, TunnelSteps, Bridges, BridgesAt, Seconds}
+use Rattle.ev_edge.specs.Steps.{Takes, TakesOther, TakesOwn, Pins, LearnsIf}
+
+-- ---- one entry
+
+-- the entry is out exactly where the test says so
+either_way : (o p : Option Entry) (b : Bool) → IsSome o → p ≡ cond b None o → (p ≡ None) ↔ (b ≡ true)
+either_way None p b known is = let f : ⊥ = cc in absurd f
+either_way (Some x) p true known is = (λ _. refl, λ _. is)
+either_way (Some x) p false known is =
+    (λ gone. (let f : ⊥ = cc in absurd f), λ bad. (let f : ⊥ = cc in absurd f))
+
+-- it is still there
+still : (o : Option Entry) → IsSome o → (o ≡ None) ↔ (false ≡ true)
+still None known = let f : ⊥ = cc in absurd f
+still (Some x) known = (λ gone. (let f : ⊥ = cc in absurd f), λ bad. (let f : ⊥ = cc in absurd f))
+
+-- ---- what takes nobody
+
+same_table : (e e' : Edge) → e'.claims.learned ≡ e.claims.learned → GoExactly e e' nobody
+same_table e e' is = λ s known.
+    either_way (entry_at e.claims.learned s) (entry_at e'.claims.learned s) false known
+    (ap (λ t. entry_at t s) is)
+
+same : (e e' : Edge) → e' ≡ e → GoExactly e e' nobody
+same e e' is = same_table e e' (ap (λ (x : Edge). x.claims.learned) is)
+
+-- one entry changes, and is there
+changed : (e e' : Edge) (q : Station) (x : Option Entry) → ChangesEntry e.claims.learned e'.claims.learned q x
+    → (IsSome (entry_at e.claims.learned q) → IsSome x) → GoExactly e e' nobody
+changed e e' q x c there = λ s known. elim (same_or_other s q) as (λ _. (entry_at e'.claims.learned s ≡ None) ↔ (false ≡ true)) [
+  | inl is ↦ still (entry_at e'.claims.learned s)
+      (subst IsSome (sym (ap (entry_at e'.claims.learned) is ∙ c.here)) (there (subst (λ r. IsSome (entry_at e.claims.learned r)) is known)))
+  | inr ne ↦ still (entry_at e'.claims.learned s) (subst IsSome (sym (c.others s ne)) known)
+]
+
+changes_to : (t u v : Learning) (q : Station) (x : Option Entry) → v ≡ u → ChangesEntry t u q x → ChangesEntry t v q x
+changes_to t u v q x is c = subst (λ w. ChangesEntry t w q x) (sym is) c
+
+learnt_there : (o : Option Entry) (port second : ℕ) (answer : Learnt) → IsSome o → IsSome (entry_learnt o port second answer)
+learnt_there o port second New known = refl
+learnt_there o port second Moved known = refl
+learnt_there o port second Refreshed known = refl
+learnt_there o port second Pinned known = known
+learnt_there o port second Full known = known
+
+learnt : (e e' : Edge) (q : Station) (port second : ℕ) (answer : Learnt)
+    → e'.claims.learned ≡ after_learn e.claims.learned q port second answer → GoExactly e e' nobody
+learnt e e' q port second answer is =
+    changed e e' q (entry_learnt (entry_at e.claims.learned q) port second answer)
+    (changes_to e.claims.learned (after_learn e.claims.learned q port second answer) e'.claims.learned q _ is (learn_entry e.claims.learned q port second answer))
+    (learnt_there (entry_at e.claims.learned q) port second answer)
+
+pinned_there : (o : Option Entry) (full : Bool) (port : ℕ) → IsSome o
+    → IsSome (cond (cond (is_some o) true (cond full false true)) (Some (pinned_at port)) None)
+pinned_there None full port known = let f : ⊥ = cc in absurd f
+pinned_there (Some x) full port known = refl
+
+pinned : (e e' : Edge) (q : Station) (port : ℕ) → e'.claims.learned ≡ pinned_on e.claims.learned q port → GoExactly e e' nobody
+pinned e e' q port is =
+    changed e e' q _ (changes_to e.claims.learned (pinned_on e.claims.learned q port) e'.claims.learned q _ is (pin_entry e.claims.learned q port))
+    (pinned_there (entry_at e.claims.learned q) (is_full e.claims.learned) port)
+
+does : (c : Case) (e : Edge) (q : Station) (port : ℕ) (told : Option Alert) (e' : Edge) → Does c e q port told e' → GoExactly e e' nobody
+does Leave e q port told e' h = same e e' h.1
+does Refresh e q port told e' h = learnt e e' q port e.clock (learnt_of e.claims.learned q port) (ap (λ (x : Edge). x.claims.learned) h.1)
+does (Refuse alert) e q port told e' h = same e e' h.1
+does Freeze e q port told e' h = same_table e e' (ap (λ (x : Edge). x.claims.learned) h.1)
+does (Learn n) e q port told e' h = elim h as (λ _. GoExactly e e' nobody) [
+  | inl done ↦ learnt e e' q port e.clock New (ap (λ (x : Edge). x.claims.learned) done.1)
+  | inr refused ↦ same e e' refused.1
+]
+
+does_pin : (c : PinCase) (e : Edge) (q : Station) (port : ℕ) (told : Option Alert) (e' : Edge) → DoesPin c e q port told e' → GoExactly e e' nobody
+does_pin pins.Keep e q port told e' h = same e e' h.1
+does_pin pins.Shift e q port told e' h = pinned e e' q port (ap (λ (x : Edge). x.claims.learned) h.1)
+does_pin (pins.Deny alert) e q port told e' h = same e e' h.1
+does_pin pins.Pin e q port told e' h = elim h as (λ _. GoExactly e e' nobody) [
+  | inl done ↦ pinned e e' q port (ap (λ (x : Edge). x.claims.learned) done.1)
+  | inr refused ↦ same e e' refused.1
+]
+
+learns : (b : Bool) (e : Edge) (q : Station) (port : ℕ) (told : Option Alert) (e' : Edge) → LearnsIf b e q port told e' → GoExactly e e' nobody
+learns true e q port told e' h = does (case_of e q) e q port told e' h
+learns false e q port told e' h = same e e' h.1
+
+-- ---- what goes by one test
+
+exactly : (e e' : Edge) (goes : Station → Bool)
+    → ((s : Station) → entry_at e'.claims.learned s ≡ cond (goes s) None (entry_at e.claims.learned s)) → GoExactly e e' goes
+exactly e e' goes is = λ s known. either_way (entry_at e.claims.learned s) (entry_at e'.claims.learned s) (goes s) known (is s)
+
+-- one station goes
+one_gone : (c : Claims) (q s : Station) → entry_at (after_removal c q).learned s ≡ cond (is_same q s) None (entry_at c.learned s)
+one_gone c q s = removals_entries c (q ∷ []) s ∙ go (is_same q s)
+  where
+    go : (b : Bool) → cond (b || false) None (entry_at c.learned s) ≡ cond b None (entry_at c.learned s)
+    go true = refl
+    go false = refl
+
+-- a test that holds wherever the first one does changes nothing
+pick : (b d : Bool) (o : Option Entry) → (b ≡ true → d ≡ true) → cond b None o ≡ cond (b && d) None o
+pick true d o h = ap (λ x. cond x None o) (sym (h refl))
+pick false d o h = refl
+
+-- the station goes if it is so, which is asked of it as of the one that goes
+one_if : (c : Claims) (q s : Station) (test : Station → Bool)
+    → entry_at (cond (test q) (after_removal c q) c).learned s ≡ cond (is_same q s && test s) None (entry_at c.learned s)
+one_if c q s test = go (test q) refl (is_same q s) refl
+  where
+    goes_on : is_same q s ≡ true → test s ≡ test q
+    goes_on e = ap test (sym (same_true q s e))
+
+    go : (p : Bool) → test q ≡ p → (b : Bool) → is_same q s ≡ b
+        → entry_at (cond p (after_removal c q) c).learned s ≡ cond (b && test s) None (entry_at c.learned s)
+    go true is b there =
+        one_gone c q s ∙ ap (λ x. cond x None (entry_at c.learned s)) there
+        ∙ pick b (test s) (entry_at c.learned s) (λ t. goes_on (there ∙ t) ∙ is)
+    go false is true there = ap (λ x. cond x None (entry_at c.learned s)) (sym (goes_on there ∙ is))
+    go false is false there = refl
+
+unpinned : (e : Edge) (q s : Station) → entry_at (after_unpin e q).claims.learned s ≡ cond (goes_by_unpin e q s) None (entry_at e.claims.learned s)
+unpinned e q s =
+    go (is_pinned (entry_at e.claims.learned q)) ∙ one_if e.claims q s (λ r. is_pinned (entry_at e.claims.learned r))
+  where
+    go : (p : Bool) → entry_at (cond p (record e { claims = after_removal e.claims q }) e).claims.learned s
+        ≡ entry_at (cond p (after_removal e.claims q) e.claims).learned s
+    go true = refl
+    go false = refl
+
+lost : (c : Claims) (k : Key) (s : Station) → entry_at (after_losing c k).learned s ≡ cond (is_of (station_of k) s && is_lost c s) None (entry_at c.learned s)
+lost c (Flood v) s = refl
+lost c (Mac v m ip) s = one_if c (record { vni = v; mac = m }) s (is_lost c)
+
+-- ---- the bridge
+
+flushed : (e e' : Edge) (flush : ℕ) → IsGoodEdge e → e'.claims ≡ after_flush e.claims flush → GoExactly e e' (is_flushed e flush)
+flushed e e' flush good is = exactly e e' (is_flushed e flush)
+    (λ s. ap (λ (c : Claims). entry_at c.learned s) is ∙ (flushes_out e.claims flush good.claims).exactly s)
+
+bridged : (event : tree.Event) (e : Edge) (reply : Reply) (e' : Edge) → IsGoodEdge e → Bridges event e (Ok reply) e' → FlushRemoves event e reply e'
+bridged event e reply e' good h = record { flush = h.flush; goes = h.goes; gone = flushed e e' h.flush good (ap (λ (x : Edge). x.claims) h.after) }
+
+-- ---- a second
+
+removals_lists : (c : Claims) (ss : List Station) → ListsName c.learned → ListsName (after_removals c ss).learned
+removals_lists c [] h = h
+removals_lists c (s ∷ ss) h = removals_lists (after_removal c s) ss (removal_lists c.learned s h)
+
+due_goes : (c : Claims) (limit : ℕ) (s : Station) → ListsName c.learned
+    → entry_at (after_ageing c limit).learned s ≡ cond (goes_by_age limit (entry_at c.learned s)) None (entry_at c.learned s)
+due_goes c limit s h = removals_entries c (due_in c.learned limit) s ∙ ap (λ b. cond b None (entry_at c.learned s)) (due_exact c.learned limit h s)
+
+old_is : (ageing now : ℕ) (o : Option Entry) → ageing ≤ now → goes_by_age (now - ageing) o ≡ is_old ageing now o
+old_is ageing now None le = refl
+old_is ageing now (Some x) le = go x.pinned (nat_le x.last (now - ageing)) refl (nat_le (x.last + ageing) now) refl
+  where
+    go : (p a : Bool) → nat_le x.last (now - ageing) ≡ a → (b : Bool) → nat_le (x.last + ageing) now ≡ b → (not p && a) ≡ (not p && b)
+    go true a at b bt = refl
+    go false true at true bt = refl
+    go false false at false bt = refl
+    go false true at false bt = let f : ⊥ = grind (arith, nat_tests) in absurd f
+    go false false at true bt = let f : ⊥ = grind (arith, nat_tests) in absurd f
+
+young : (ageing now : ℕ) (o : Option Entry) → nat_le ageing now ≡ false → is_old ageing now o ≡ false
+young ageing now None off = refl
+young ageing now (Some x) off = go x.pinned (nat_le (x.last + ageing) now) refl
+  where
+    go : (p b : Bool) → nat_le (x.last + ageing) now ≡ b → (not p && b) ≡ false
+    go true b bt = refl
+    go false false bt = refl
+    go false true bt = let f : ⊥ = grind (arith, nat_tests) in absurd f
+
+aged_goes : (c : Claims) (ageing now : ℕ) (s : Station) → ListsName c.learned
+    → entry_at (aged c ageing now).learned s ≡ cond (is_old ageing now (entry_at c.learned s)) None (entry_at c.learned s)
+aged_goes c ageing now s h = go (nat_le ageing now) refl
+  where
+    go : (b : Bool) → nat_le ageing now ≡ b → entry_at (cond b (after_ageing c (now - ageing)) c).learned s ≡ cond (is_old ageing now (entry_at c.learned s)) None (entry_at c.learned s)
+    go true is =
+        let le : ageing ≤ now = grind (arith, nat_tests) in
+        due_goes c (now - ageing) s h ∙ ap (λ b. cond b None (entry_at c.learned s)) (old_is ageing now (entry_at c.learned s) le)
+    go false is = sym (ap (λ b. cond b None (entry_at c.learned s)) (young ageing now (entry_at c.learned s) is))
+
+-- first by the flush, then by age
+twice : (ageing now : ℕ) (f : Bool) (o : Option Entry) → cond (is_old ageing now (cond f None o)) None (cond f None o) ≡ cond (f || is_old ageing now o) None o
+twice ageing now true o = refl
+twice ageing now false o = refl
+
+second : (e : Edge) (reply : Reply) (e' : Edge) → IsGoodEdge e → Seconds e (Ok reply) e' → SecondRemoves e reply e'
+second e reply e' good h = record {
+  flush = h.flush;
+  goes = h.goes;
+  gone = exactly e e' (goes_in_second e h.flush) (λ s.
+      let now = next_second e.clock in
+      let c = after_flush e.claims h.flush in
+      let out = (flushes_out e.claims h.flush good.claims).exactly s in
+      ap (λ (x : Edge). entry_at x.claims.learned s) h.after
+      ∙ aged_goes c e.ageing now s (removals_lists e.claims (flushed_in e.claims.learned h.flush) good.claims.lists)
+      ∙ (λ i. cond (is_old e.ageing now (out i)) None (out i))
+      ∙ twice e.ageing now (is_flushed e h.flush s) (entry_at e.claims.learned s));
+}
+
+-- ---- all events
+
+by_frame : (a : Result Arrival Refusal) (e : Edge) (port : ℕ) (reply : Reply) (e' : Edge) → IsGoodEdge e → FrameSteps a e port (Ok reply) e' → FrameRemoves a e port reply e'
+by_frame (Err r) e port reply e' good h = same e e' h.1
+by_frame (Ok Dropped) e port reply e' good h = same e e' h.1
+by_frame (Ok (Message b)) e port reply e' good h = bridged (tree_events.Bpdu port b) e reply e' good h
+by_frame (Ok (Data vni destination source)) e port reply e' good h = learns _ e _ port reply.alert e' h.learning.learning
+
+no_frame : (a : Result Arrival Refusal) (e : Edge) (port : ℕ) (r : Refusal) (e' : Edge) → FrameSteps a e port (Err r) e' → GoExactly e e' nobody
+no_frame (Err q) e port r e' h = same e e' h.1
+no_frame (Ok Dropped) e port r e' h = same e e' h.1
+no_frame (Ok (Message b)) e port r e' h = absurd h
+no_frame (Ok (Data vni destination source)) e port r e' h = absurd h
+
+by_tunnel : (a : Result Arrival Refusal) (e : Edge) (result : Result Reply Refusal) (e' : Edge) → TunnelSteps a e result e' → GoExactly e e' nobody
+by_tunnel (Err r) e result e' h = same e e' h.1
+by_tunnel (Ok Dropped) e result e' h = same e e' h.1
+by_tunnel (Ok (Message b)) e result e' h = absurd h
+by_tunnel (Ok (Data vni destination source)) e (Ok reply) e' h = same e e' h.2
+by_tunnel (Ok (Data vni destination source)) e (Err r) e' h = absurd h
+
+by_take : (b : Bool) (e : Edge) (u : Fields) (reply : Reply) (e' : Edge) → Takes b e u (Ok reply) e'
+    → GoExactly e e' (λ s. not b && (is_of (station_of u.register.key) s && is_lost (after_update e.claims u) s))
+by_take true e u reply e' h = same_table e e' (ap (λ (x : Edge). x.claims.learned) h.3)
+by_take false e u reply e' h = exactly e e' _
+    (λ s. ap (λ (x : Edge). entry_at x.claims.learned s) h.2 ∙ lost (after_update e.claims u) u.register.key s)
+
+no_take : (b : Bool) (e : Edge) (u : Fields) (r : Refusal) (e' : Edge) → Takes b e u (Err r) e' → GoExactly e e' nobody
+no_take true e u r e' h = same e e' h.1
+no_take false e u r e' h = same e e' h.1
+
+by_pin : (o : Option EdgeRefusal) (e : Edge) (q : Station) (port : ℕ) (result : Result Reply Refusal) (e' : Edge) → Pins o e q port result e' → GoExactly e e' nobody
+by_pin (Some r) e q port result e' h = same e e' h.1
+by_pin None e q port (Ok reply) e' h = does_pin (pin_case e q port) e q port reply.alert e' h.0
+by_pin None e q port (Err r) e' h = absurd h
+
+by_port : (vni : Option ℕ) (event : tree.Event) (e : Edge) (reply : Reply) (e' : Edge) → IsGoodEdge e → BridgesAt vni event e (Ok reply) e' → FlushRemoves event e reply e'
+by_port None event e reply e' good h = let f : ⊥ = (let bad = h.0 in cc) in absurd f
+by_port (Some vni) event e reply e' good h = bridged event e reply e' good h
+
+no_port : (vni : Option ℕ) (event : tree.Event) (e : Edge) (r : Refusal) (e' : Edge) → BridgesAt vni event e (Err r) e' → GoExactly e e' nobody
+no_port None event e r e' h = same e e' h.1
+no_port (Some vni) event e r e' h = absurd h
+
+taken : (event : Event) (e : Edge) (reply : Reply) (e' : Edge) → IsGoodEdge e → Steps e event (Ok reply) e' → RemovesBy event e reply e'
+taken (events.Frame port octets) e reply e' good h = by_frame (frame_arrival e port octets.now) e port reply e' good h
+taken (events.TunnelFrame from octets) e reply e' good h = by_tunnel (tunnel_arrival e from octets.now) e (Ok reply) e' h
+taken (events.Take u) e reply e' good h = by_take (eqb u.register.originator (address_of e)) e u reply e' h
+taken (events.Pin q port) e reply e' good h = by_pin (refused_pin e q port) e q port (Ok reply) e' h
+taken (events.Unpin q) e reply e' good h = exactly e e' (goes_by_unpin e q) (λ s. ap (λ (x : Edge). entry_at x.claims.learned s) h.1 ∙ unpinned e q s)
+taken (events.Thaw q) e reply e' good h = same_table e e' (ap (λ (x : Edge). x.claims.learned) h.1)
+taken events.Second e reply e' good h = second e reply e' good h
+taken (events.PortUp port) e reply e' good h = by_port (vni_at e.claims.ports port) (tree_events.PortUp port) e reply e' good h
+taken (events.PortDown port) e reply e' good h = by_port (vni_at e.claims.ports port) (tree_events.PortDown port) e reply e' good h
+taken (events.Mcheck port) e reply e' good h = by_port (vni_at e.claims.ports port) (tree_events.Mcheck port) e reply e' good h
+taken events.Announce e reply e' good h = same_table e e' (ap (λ (x : Edge). x.claims.learned) h.1)
+
+refused : (event : Event) (e : Edge) (r : Refusal) (e' : Edge) → Steps e event (Err r) e' → GoExactly e e' nobody
+refused (events.Frame port octets) e r e' h = no_frame (frame_arrival e port octets.now) e port r e' h
+refused (events.TunnelFrame from octets) e r e' h = by_tunnel (tunnel_arrival e from octets.now) e (Err r) e' h
+refused (events.Take u) e r e' h = no_take (eqb u.register.originator (address_of e)) e u r e' h
+refused (events.Pin q port) e r e' h = by_pin (refused_pin e q port) e q port (Err r) e' h
+refused (events.Unpin q) e r e' h = let f : ⊥ = (let bad = h.0 in cc) in absurd f
+refused (events.Thaw q) e r e' h = let f : ⊥ = (let bad = h.0 in cc) in absurd f
+refused events.Second e r e' h = absurd h
+refused (events.PortUp port) e r e' h = no_port (vni_at e.claims.ports port) (tree_events.PortUp port) e r e' h
+refused (events.PortDown port) e r e' h = no_port (vni_at e.claims.ports port) (tree_events.PortDown port) e r e' h
+refused (events.Mcheck port) e r e' h = no_port (vni_at e.claims.ports port) (tree_events.Mcheck port) e r e' h
+refused events.Announce e r e' h = let f : ⊥ = (let bad = h.0 in cc) in absurd f
+
+-- so it is at each event
+pub removed : (e : Edge) (event : Event) (result : Result Reply Refusal) (e' : Edge) → IsGoodEdge e → Steps e event result e' → Removed event e result e'
+removed e event (Ok reply) e' good h = taken event e reply e' good h
+removed e event (Err r) e' good h = refused event e r e' h
