@@ -193,6 +193,16 @@ def is_not_told(edge: Edge, tally: Tally) -> None:
     tally.see(status == 1 and len(found) == 1 and "this router shows no route of the owner" in found[0], "a route that it wasn't told" + ("" if found else f"\n{text}"))
 
 
+def is_gateway(edge: Edge, tally: Tally) -> None:
+    """The bridge's own address, set by hand, is advertised: it is local, though no port learnt it."""
+    edge.within("ip", "link", "set", "br5001", "address", "02:00:00:00:fe:01")
+    edge.tell(start_of(edge))
+    for words in ("advertise-svi-ip", "no advertise-svi-ip", "advertise-default-gw"):
+        edge.shell_lines("configure terminal", "router bgp 65000", "address-family l2vpn evpn", words)
+        time.sleep(2)
+        agrees(edge, tally, words)
+
+
 def is_multihomed(edge: Edge, tally: Tally) -> None:
     """All stations have an ESI: nothing is judged, and that isn't agreement."""
     lines = [f"advert 10.0.0.1 {vni} flood" for vni in VNIS] + [f"esi advert 10.0.0.1 5001 02:00:00:00:03:{last:02x} seq 0" for last in range(251)]
@@ -232,7 +242,7 @@ def loses_session(edge: Edge, tally: Tally) -> None:
 
 CASES: Tuple[Tuple[str, Callable[[Edge, Tally], None]], ...] = (
     ("home", moves_home), ("sticky", is_sticky), ("entries", has_planted_entries), ("floods", has_planted_floods),
-    ("untold", is_not_told), ("esi", is_multihomed), ("lost", loses_session),
+    ("untold", is_not_told), ("gateway", is_gateway), ("esi", is_multihomed), ("lost", loses_session),
 )
 
 
@@ -264,8 +274,8 @@ def while_moving(edge: Edge, tally: Tally, audits: int, again: str) -> None:
         for turn in range(audits):
             status, text = audited(edge, "--brief", "--again", again)
             alarms += status != 0
-            if status:
-                print(f"audit {turn}: {text}", flush=True)
+            if status or turn % 10 == 9:
+                print(f"audit {turn + 1}: {alarms} alarms {text if status else ''}", flush=True)
         tally.see(alarms == 0, f"{alarms} alarms in {audits} audits of two looks ({once} of 6 of one look)")
         edge.tell([f"advert 10.0.0.1 5001 {FAR} seq 0"])
         edge.within("bridge", "fdb", "replace", FAR, "dev", "vxlan5001", "dst", "10.0.0.2", "self")
