@@ -1,5 +1,5 @@
 -- What follows for a sound fabric, and for one whose edges agree.
-use Rattle.std.proofs.Common.{◌≡◌, ◌≢◌, ◌⊎◌, inl, inr, ℕ, ◌<◌, Bool, false, Option, Some, None, [], ◌∷◌, refl, sym, ap, subst, ◌∙◌, arith}
+use Rattle.std.proofs.Common.{◌≡◌, ◌⊎◌, inl, inr, ℕ, ◌<◌, Bool, false, Option, Some, None, [], refl, sym, ap, subst, ◌∙◌, arith}
 use Rattle.std.proofs.lemmas.Bool.{cases_eq}
 use Rattle.std.specs.Prelude.{Contains, IsSome}
 use Rattle.std.specs.FinMap.{get}
@@ -8,12 +8,11 @@ use Rattle.route_wire.specs.declared.update.Ip.{Ip}
 use Rattle.route_wire.specs.declared.update.Key.TheVariants.{Mac}
 use Rattle.route_wire.specs.declared.update.Register.{Register}
 use Rattle.route_wire.specs.declared.update.Advert.{Advert}
-use Rattle.route_wire.specs.declared.update.Value.{Value}
 use Rattle.route_wire.specs.Fields.{Fields}
 use Rattle.route_wire.specs.Order.{is_newer}
 use Rattle.route_wire.proofs.Newer.{not_newer_lower, not_newer_itself}
-use Rattle.route_join.specs.Table.{value_at, register_of, IsTableOf}
-use Rattle.route_join.specs.Owner.{advert_in, advert_of, advert_at, IsOwner}
+use Rattle.route_join.specs.Table.{value_at, register_of}
+use Rattle.route_join.specs.Owner.{advert_of, advert_at, IsOwner}
 use Rattle.route_join.specs.Report.{report_of}
 use Rattle.route_join.proofs.Tables.{one_table}
 use Rattle.route_join.proofs.Owners.{one_owner, owner_along}

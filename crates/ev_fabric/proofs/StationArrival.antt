@@ -1,14 +1,13 @@
 -- How far it is from a move to agreement: what waits at two edges, and two deliveries to each edge.
-use Rattle.std.proofs.Common.{◌≡◌, ◌≢◌, ◌⊎◌, inl, inr, ℕ, zero, suc, ◌+◌, ◌-◌, ◌<◌, ◌≤◌, Bool, true, false, cond, Option, Some, None, Result, List, [], ◌∷◌, ◌++◌, length, refl, sym, ap, subst, ◌∙◌, arith}
+use Rattle.std.proofs.Common.{◌≡◌, ◌≢◌, inl, inr, ℕ, zero, suc, ◌+◌, ◌<◌, ◌≤◌, Bool, true, false, cond, Option, Some, None, Result, List, [], ◌∷◌, ◌++◌, length, refl, sym, ap, subst, ◌∙◌, arith}
 use Rattle.std.proofs.lemmas.Bool.{cases_eq}
 use Rattle.std.proofs.lemmas.List.Elements.{Contains-push_cases, Contains-push, Contains-append_left}
-use Rattle.std.specs.Prelude.{Contains, is_some, slice_get, slice_set}
+use Rattle.std.specs.Prelude.{Contains, slice_get, slice_set}
 use Rattle.std.specs.List.{filter}
 use Rattle.std.specs.Option.{MatchOption}
 use Rattle.route_wire.specs.declared.update.Register.{Register}
 use Rattle.route_wire.specs.Fields.{Fields}
 use Rattle.route_join.specs.Table.{value_at, register_of}
-use Rattle.route_join.specs.Owner.{advert_in}
 use Rattle.mac_arena.specs.declared.station.Station.{Station}
 use Rattle.ev_claims.specs.Voice.{Voice, own_register, own_advert, is_newest}
 use Rattle.ev_claims.specs.Claims.{Claims, key_of}
@@ -34,7 +33,7 @@ use Rattle.ev_fabric.proofs.RestingGood.{quieter}
 use Rattle.ev_fabric.proofs.RestingMoves.{Kept, Move, Stays, Tells, Takes, minus, moved, move_kept, sound_kept, rests_before}
 use Rattle.ev_fabric.proofs.RestingRounds.{IsReady, move_ready, rests_ready, Has, rests_has, given, deliver_pool, Few, announcing_few, announcing_none, arrived_value}
 use Rattle.ev_fabric.proofs.StationStages.{filter_has, filter_push, filter_past, no_push, waiting}
-use Rattle.ev_fabric.proofs.StationMotion.{At, one_edge, push_after, StageOf, Stage, AtFirst, AtTold, AtLost, AtOver, runs_stage, agreed_known, said_news, begins, b, u, base, first_stage, some_is, to_advertises, Begins}
+use Rattle.ev_fabric.proofs.StationMotion.{At, one_edge, push_after, StageOf, Stage, AtFirst, AtTold, AtLost, AtOver, runs_stage, agreed_known, said_news, begins, u, base, first_stage, some_is, to_advertises, Begins}
 
 -- ---- lists
 filter_from : {X : Type 0} (p : X → Bool) (xs : List X) (x : X) → Contains (filter p xs) x → Contains xs x × (p x ≡ true)

@@ -1,7 +1,7 @@
 -- A station moves while all else goes on: two updates of its registers, and the new edge owns it everywhere.
-use Rattle.std.proofs.Common.{◌≡◌, ◌≢◌, ◌⊎◌, inl, inr, ℕ, zero, suc, ◌-◌, Bool, true, false, cond, Option, Some, None, Result, Ok, Err, List, [], ◌∷◌, ◌++◌, refl, sym, ap, subst, ◌∙◌, arith}
+use Rattle.std.proofs.Common.{◌≡◌, ◌≢◌, ◌⊎◌, inl, inr, ℕ, zero, suc, Bool, true, false, cond, Option, Some, None, Result, Ok, Err, List, [], ◌∷◌, ◌++◌, refl, sym, ap, subst, ◌∙◌, arith}
 use Rattle.std.proofs.lemmas.Bool.{cases_eq}
-use Rattle.std.proofs.lemmas.List.Elements.{Contains-append_left, Contains-push, Contains-push_cases}
+use Rattle.std.proofs.lemmas.List.Elements.{Contains-append_left, Contains-push}
 use Rattle.std.specs.Prelude.{Contains, IsSome, is_some, slice_get, slice_set}
 use Rattle.std.specs.Option.{MatchOption}
 use Rattle.std.specs.List.{filter}
@@ -9,7 +9,6 @@ use Rattle.route_wire.specs.declared.update.Key.{Key}
 use Rattle.route_wire.specs.declared.update.Register.{Register}
 use Rattle.route_wire.specs.declared.update.Advert.{Advert}
 use Rattle.route_wire.specs.declared.update.Content.{Content}
-use Rattle.route_wire.specs.declared.update.Content.TheVariants.{Withdrawn}
 use Rattle.route_wire.specs.declared.update.Value.{Value}
 use Rattle.route_wire.specs.Fields.{Fields}
 use Rattle.route_join.specs.Table.{value_at, is_news, register_of}
@@ -19,7 +18,6 @@ use Rattle.mac_arena.specs.declared.station.Station.{Station}
 use Rattle.mac_arena.specs.Learning.{entry_at}
 use Rattle.ev_claims.specs.Voice.{Voice, KeepsNumbers, own_register, own, own_advert, next_value, is_newest, after_saying, silent}
 use Rattle.ev_claims.specs.Claims.{key_of}
-use Rattle.ev_claims.specs.Opening.{after_floods}
 use Rattle.ev_claims.proofs.Numbers.{own_same, said_joins}
 use Rattle.ev_edge.specs.declared.config.EdgeConfig.{EdgeConfig}
 use Rattle.ev_edge.specs.declared.reply.Reply.{Reply}
@@ -35,18 +33,17 @@ use Rattle.ev_fabric.specs.Local.{event_of}
 use Rattle.ev_fabric.specs.Steps.{IsRefused, StepsAt, in_life, OpensAnew, RestartsAt, FabricSteps}
 use Rattle.ev_fabric.specs.Sound.{update_of, IsSound}
 use Rattle.ev_fabric.specs.Agreed.{Advertises}
-use Rattle.ev_fabric.specs.RestMove.{IsMoved}
 use Rattle.ev_fabric.specs.Station.{is_of, AgreesOn, StationComes, RestartsElsewhere, LeavesStation, RunsBeside, SaysTheSame, updates_on, StationMoved, StationMoves}
-use Rattle.ev_fabric.proofs.Agreements.{advert_bare, learnt, none_pending}
+use Rattle.ev_fabric.proofs.Agreements.{advert_bare, learnt}
 use Rattle.ev_fabric.proofs.Stations.{about_station, station_one, station_owner}
 use Rattle.ev_fabric.proofs.Places.{set_cases, set_same, set_other}
 use Rattle.ev_fabric.proofs.Events.{local_talks}
 use Rattle.ev_fabric.proofs.Fabrics.{step_sound}
-use Rattle.ev_fabric.proofs.RestingEdge.{Accepts, heard, news_stay}
+use Rattle.ev_fabric.proofs.RestingEdge.{heard, news_stay}
 use Rattle.ev_fabric.proofs.RestingGood.{quieter}
 use Rattle.ev_fabric.proofs.RestingMoves.{Kept, Move, Stays, Tells, Takes, minus, moved, own_pending, sound_kept}
 use Rattle.ev_fabric.proofs.RestingLearning.{LearnsIt, learns_anew}
-use Rattle.ev_fabric.proofs.StationStages.{filter_none, filter_has, filter_push, filter_past, no_push, waiting, marked_first, SameOf, same_own, left_same, floods_same, silent_quiet, heard_other, IsTo, IsFrom, IsAside, to_same, from_same, aside_same, to_push, from_push, aside_push, Hears, idle_grows, to_grows, from_grows, aside_hears, from_hears}
+use Rattle.ev_fabric.proofs.StationStages.{filter_none, filter_push, filter_past, no_push, waiting, marked_first, SameOf, same_own, left_same, floods_same, silent_quiet, heard_other, IsTo, IsFrom, IsAside, to_same, from_same, aside_same, to_push, from_push, aside_push, Hears, idle_grows, to_grows, from_grows, aside_hears, from_hears}
 
 -- an edge at a place of a list
 abbrev pub At : List Edge → ℕ → Edge → Type 0

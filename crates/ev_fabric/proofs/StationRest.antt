@@ -1,9 +1,9 @@
 -- A station that is left alone: who agree on it go on agreeing, and what may still be announced of it never grows.
-use Rattle.std.proofs.Common.{◌≡◌, ◌≢◌, ◌⊎◌, inl, inr, ℕ, zero, suc, ◌+◌, ◌-◌, ◌≤◌, ◌&&◌, Bool, true, false, cond, nat_lt, Option, Some, None, Result, Ok, Err, List, [], ◌∷◌, ◌++◌, length, refl, sym, ap, subst, ◌∙◌, arith}
+use Rattle.std.proofs.Common.{◌≡◌, ◌≢◌, inl, inr, ℕ, zero, suc, ◌+◌, ◌≤◌, ◌&&◌, Bool, true, false, cond, nat_lt, Option, Some, None, Result, Ok, Err, List, [], ◌∷◌, ◌++◌, length, refl, sym, ap, subst, ◌∙◌, arith}
 use Rattle.std.proofs.lemmas.List.Elements.{Contains-push_cases}
 use Rattle.std.proofs.lemmas.List.Sums.{sum_by-cons}
 use Rattle.std.specs.Prelude.{Contains, is_some, slice_get, slice_set}
-use Rattle.std.specs.List.{filter, count_by, sum_by, list_any}
+use Rattle.std.specs.List.{filter, count_by, list_any}
 use Rattle.std.specs.Option.{MatchOption}
 use Rattle.std.specs.Ordering.{eq_by_cmp}
 use Rattle.route_wire.specs.declared.update.Register.{Register}
@@ -12,13 +12,12 @@ use Rattle.route_wire.specs.declared.update.Content.TheVariants.{Withdrawn}
 use Rattle.route_wire.specs.declared.update.Value.{Value}
 use Rattle.route_wire.specs.Fields.{Fields}
 use Rattle.route_wire.specs.Order.{register_cmp, is_newer}
-use Rattle.route_join.specs.Table.{value_at, is_news}
-use Rattle.route_join.specs.Owner.{advert_in, advert_of}
-use Rattle.route_join.proofs.Tables.{not_newer_itself}
+use Rattle.route_join.specs.Table.{value_at}
+use Rattle.route_join.specs.Owner.{advert_of}
 use Rattle.mac_arena.specs.declared.station.Station.{Station}
 use Rattle.ev_claims.specs.Pending.{marked}
-use Rattle.ev_claims.specs.Voice.{Voice, own_register, own_advert, is_newest, silent, after_hearing}
-use Rattle.ev_claims.specs.Claims.{Claims, key_of, after_update, after_removal}
+use Rattle.ev_claims.specs.Voice.{Voice, own_register, own_advert, silent, after_hearing}
+use Rattle.ev_claims.specs.Claims.{Claims, key_of}
 use Rattle.ev_claims.proofs.Numbers.{own_same}
 use Rattle.ev_edge.specs.declared.config.EdgeConfig.{EdgeConfig}
 use Rattle.ev_edge.specs.declared.reply.Reply.{Reply}
@@ -30,13 +29,12 @@ use Rattle.ev_fabric.specs.declared.step.Step.{Step}
 use Rattle.ev_fabric.specs.declared.step.Step.TheVariants.{Local, Announce, Deliver, Restart}
 use Rattle.ev_fabric.specs.Fabric.{Fabric, IsEdge, nth}
 use Rattle.ev_fabric.specs.Local.{event_of}
-use Rattle.ev_fabric.specs.Opening.{AreConfigs, IsStart}
 use Rattle.ev_fabric.specs.Steps.{IsRefused, StepsAt, in_life, OpensAnew, RestartsAt, FabricSteps}
 use Rattle.ev_fabric.specs.Sound.{update_of, IsSound}
 use Rattle.ev_fabric.specs.RestEdge.{comes_back, IsLater}
 use Rattle.ev_fabric.specs.Agreed.{AllAgree}
 use Rattle.ev_fabric.specs.Rest.{Rests, two_rounds, full_pool}
-use Rattle.ev_fabric.specs.Station.{is_of, AgreesOn, SaysTheSame, NeverAdvertised, updates_on, IsLeftAlone, RunsAlone, NoneRestarts, StationLasts, StationReached, unannounced_on, to_come_on, StationSettles}
+use Rattle.ev_fabric.specs.Station.{is_of, AgreesOn, SaysTheSame, NeverAdvertised, updates_on, IsLeftAlone, StationLasts, StationReached, unannounced_on, to_come_on, StationSettles}
 use Rattle.ev_fabric.proofs.Agreements.{none_pending}
 use Rattle.ev_fabric.proofs.Stations.{agree_on_each}
 use Rattle.ev_fabric.proofs.Places.{set_cases, set_same, push_length}
@@ -44,13 +42,13 @@ use Rattle.ev_fabric.proofs.Events.{local_talks}
 use Rattle.ev_fabric.proofs.Fabrics.{step_sound, rests_sound}
 use Rattle.ev_fabric.proofs.Opened.{start_sound}
 use Rattle.ev_fabric.proofs.RestingSums.{sum_set, count_le, count_less, count_push, later_one}
-use Rattle.ev_fabric.proofs.RestingEdge.{ComesBack, comes, comes_when, Heard, Back, Lost, Kept as HeardKept, heard, hears, heard_later, heard_has, comes_before, others_stay_away, known_stays_away, stays_away}
+use Rattle.ev_fabric.proofs.RestingEdge.{comes, comes_when, Heard, Back, Lost, Kept as HeardKept, heard, hears, heard_later, heard_has, comes_before, others_stay_away, known_stays_away}
 use Rattle.ev_fabric.proofs.RestingIdle.{known_hearing}
 use Rattle.ev_fabric.proofs.RestingGood.{quieter}
 use Rattle.ev_fabric.proofs.RestingMoves.{Kept, Move, Stays, Tells, Takes, minus, moved, own_pending, announced_away, sound_kept}
 use Rattle.ev_fabric.proofs.RestingRounds.{IsReady, two_rounds_agree, enough_itself, may_rest, quiet_rounds}
 use Rattle.ev_fabric.proofs.RestingNumbers.{start_numbers}
-use Rattle.ev_fabric.proofs.RestingStages.{Loses, hear_cases}
+use Rattle.ev_fabric.proofs.RestingStages.{hear_cases}
 use Rattle.ev_fabric.proofs.StationStages.{filter_has, filter_push, filter_past, waiting, SameOf, same_own, same_newest, same_itself, left_same, floods_same, silent_quiet, heard_other, Hears, loses_it}
 use Rattle.ev_fabric.proofs.StationMotion.{agreed_known, agreed_waits}
 

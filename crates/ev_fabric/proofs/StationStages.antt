@@ -1,9 +1,9 @@
 -- What each step leaves of one station at an edge, and the stages of its move among all other steps.
-use Rattle.std.proofs.Common.{◌≡◌, ◌≢◌, ◌⊎◌, inl, inr, ℕ, zero, suc, ◌+◌, ◌-◌, ◌<◌, ◌≤◌, Bool, true, false, cond, Option, Some, None, List, [], ◌∷◌, ◌++◌, refl, sym, ap, subst, ◌∙◌, arith}
+use Rattle.std.proofs.Common.{◌≡◌, ◌≢◌, ◌⊎◌, inl, inr, ℕ, zero, suc, ◌<◌, ◌≤◌, Bool, true, false, cond, Option, Some, None, List, [], ◌∷◌, ◌++◌, refl, sym, ap, subst, ◌∙◌, arith}
 use Rattle.std.proofs.lemmas.Bool.{cases_eq}
 use Rattle.std.proofs.lemmas.List.Elements.{filter-append, Contains-push_cases}
 use Rattle.std.specs.Prelude.{Contains, IsSome, is_some, not, ◌&&◌}
-use Rattle.std.specs.FinMap.{get, empty, get-empty}
+use Rattle.std.specs.FinMap.{get-empty}
 use Rattle.std.specs.List.{filter, list_any}
 use Rattle.std.specs.Ordering.{eq_by_cmp}
 use Rattle.route_wire.specs.declared.update.Ip.{Ip}
@@ -28,7 +28,7 @@ use Rattle.ev_claims.specs.Opening.{after_floods}
 use Rattle.ev_claims.proofs.Numbers.{own_same, own_other}
 use Rattle.ev_edge.specs.Edge.{OwnsAt}
 use Rattle.ev_fabric.specs.RestEdge.{comes_back}
-use Rattle.ev_fabric.specs.Station.{is_of, updates_on}
+use Rattle.ev_fabric.specs.Station.{is_of}
 use Rattle.ev_fabric.proofs.Voices.{Talks, Quiet, Says, talks_one, found}
 use Rattle.ev_fabric.proofs.Stations.{about_station, station_key}
 use Rattle.ev_fabric.proofs.Agreements.{none_pending}

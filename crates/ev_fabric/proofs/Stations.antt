@@ -1,5 +1,5 @@
 -- What follows for one station of a sound fabric on which the edges agree.
-use Rattle.std.proofs.Common.{◌≡◌, ◌≢◌, ℕ, ◌==◌, ◌&&◌, Bool, true, false, Option, Some, None, List, [], ◌∷◌, refl, sym, ap, subst, ◌∙◌, arith}
+use Rattle.std.proofs.Common.{◌≡◌, ℕ, ◌==◌, ◌&&◌, Bool, true, false, Option, Some, None, List, [], ◌∷◌, refl, sym, ap, subst, ◌∙◌, arith}
 use Rattle.std.proofs.lemmas.Bool.Decides.{nat_tests}
 use Rattle.std.specs.Prelude.{Contains, IsSome}
 use Rattle.route_wire.specs.declared.update.Ip.{Ip}
@@ -15,12 +15,12 @@ use Rattle.route_join.specs.Owner.{is_about, advert_in, advert_of, advert_at, Is
 use Rattle.route_join.proofs.Owners.{one_owner, owner_along}
 use Rattle.mac_arena.specs.declared.station.Station.{Station}
 use Rattle.ev_edge.specs.Edge.{Edge, table_of, address_of}
-use Rattle.ev_fabric.specs.Fabric.{Fabric, IsEdge, life_of}
+use Rattle.ev_fabric.specs.Fabric.{Fabric, IsEdge}
 use Rattle.ev_fabric.specs.Sound.{update_of, IsSound}
 use Rattle.ev_fabric.specs.Agreed.{AllAgree, Advertises}
-use Rattle.ev_fabric.specs.Laws.{OneOfAll, OwnerOfAll, NoneBack}
+use Rattle.ev_fabric.specs.Laws.{OneOfAll, OwnerOfAll}
 use Rattle.ev_fabric.specs.Station.{is_of, is_flood_list, is_flood, AgreesAbout, AgreesOn, AgreesOnEach, IsOfPresentLife, AgreedStation}
-use Rattle.ev_fabric.proofs.Agreements.{announced, owns, learnt, none_pending, agreed_registers}
+use Rattle.ev_fabric.proofs.Agreements.{announced, owns, learnt, none_pending}
 
 -- ---- registers of a station
 

@@ -28,7 +28,7 @@ use Rattle.ev_fabric.specs.declared.step.Step.TheVariants.{Local, Announce, Deli
 use Rattle.ev_fabric.specs.Fabric.{Fabric, IsEdge, life_of}
 use Rattle.ev_fabric.specs.Steps.{FabricSteps}
 use Rattle.ev_fabric.specs.Sound.{update_of, IsSound}
-use Rattle.ev_fabric.specs.Agreed.{AllAgree, Advertises}
+use Rattle.ev_fabric.specs.Agreed.{Advertises}
 use Rattle.ev_fabric.specs.Laws.{IsBehindPort, IsFrameFor, GoesTo}
 use Rattle.ev_fabric.specs.RestMove.{IsMoved}
 use Rattle.ev_fabric.specs.Opening.{AreConfigs, IsStart}
