@@ -92,10 +92,7 @@ learn_stays : (e : Edge) (s : Station) (port : ℕ) (told : Option Alert) (e' : 
 learn_stays e s port told e' Leave h = ap (λ (x : Edge). x.tree) h.1
 learn_stays e s port told e' Refresh h = ap (λ (x : Edge). x.tree) h.1
 learn_stays e s port told e' (Refuse alert) h = ap (λ (x : Edge). x.tree) h.1
-learn_stays e s port told e' Freeze h = elim h as (λ _. e'.tree ≡ e.tree) [
-  | inl done ↦ ap (λ (x : Edge). x.tree) done.1
-  | inr refused ↦ ap (λ (x : Edge). x.tree) refused.1
-]
+learn_stays e s port told e' Freeze h = ap (λ (x : Edge). x.tree) h.1
 learn_stays e s port told e' (Learn n) h = elim h as (λ _. e'.tree ≡ e.tree) [
   | inl done ↦ ap (λ (x : Edge). x.tree) done.1 ∙ go (eqb n 0)
   | inr refused ↦ ap (λ (x : Edge). x.tree) refused.1
