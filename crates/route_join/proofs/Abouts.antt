@@ -21,7 +21,8 @@ use Rattle.route_join.proofs.Orders.{from_T}
 use Rattle.route_join.proofs.Tables.{same_register}
 use Rattle.route_join.proofs.Edits.{listed_as}
 use Rattle.route_join.proofs.Merging.{find_at, updates_back}
-use Rattle.route_join.proofs.Groupings.{Groups, Entries, entries_in, entries_in_all, group_at, about_there as group_about, before_rest, same_rest, not_before, first_is, later_is, not_first}
+use Rattle.route_join.proofs.Groupings.{Groups, Entries, entries_in, entries_in_all, about_there as group_about, before_rest, same_rest, not_before, first_is, later_is, not_first}
+use Rattle.route_join.specs.Groups.{group_at}
 use Rattle.route_join.proofs.Holding.{differs}
 use Rattle.route_join.proofs.Subjects.{address, about_address, about_itself}
 

@@ -4,7 +4,7 @@ use Rattle.std.specs.declared.cmp.Ordering.{Ordering}
 use Rattle.std.specs.declared.cmp.Ordering.TheVariants.{Less, Equal, Greater}
 use Rattle.std.specs.Ordering.{is_eq, ordering_reverse, eq_by_cmp, match_ordering}
 use Rattle.std.specs.BTreeMap.{insert_entry, is_at}
-use Rattle.std.specs.Map.{lookup, set_value}
+use Rattle.std.specs.Map.{set_value}
 use Rattle.std.specs.FinMap.Entries.{by_order, put, find}
 use Rattle.std.proofs.lemmas.List.{map-append}
 use Rattle.route_wire.specs.declared.update.Register.{Register}
@@ -15,6 +15,7 @@ use Rattle.route_join.specs.declared.subject.Subject.{Subject}
 use Rattle.route_join.specs.Subject.{subject_cmp, subject_of}
 use Rattle.route_join.specs.Table.{entries_of}
 use Rattle.route_join.specs.Group.{AreAbout, IsSome, IsBefore, AreGroups, updates_in}
+use Rattle.route_join.specs.Groups.{group_at}
 use Rattle.route_join.proofs.Subjects.{subject_total, subject_exact, less_by_subject, greater_by_subject}
 
 abbrev pub Groups : Type 0
@@ -92,9 +93,6 @@ module _ (r : Register) (v : Value) where
       ∙ ap (λ x. e ∷ x) (put_after es fs h.1)
 
 -- ---- the group of a subject
-abbrev pub group_at : Subject → Groups → Option (List Fields)
-group_at s gs = lookup (is_at (subject_cmp s)) gs
-
 group_none : (s : Subject) (gs : Groups) → IsBefore s gs → group_at s gs ≡ None
 group_none s [] b = refl
 group_none s (g ∷ gs) b = ap (λ o. cond (is_eq o) (Some g.1) (group_at s gs)) b.0 ∙ group_none s gs b.1

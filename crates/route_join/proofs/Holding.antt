@@ -34,7 +34,8 @@ use Rattle.route_join.proofs.Tables.{same_register}
 use Rattle.route_join.proofs.Edits.{found, listed_as, kept_put, table_put}
 use Rattle.route_join.proofs.Owners.{owner_is, one_owner, owner_along}
 use Rattle.route_join.proofs.Subjects.{subject_total, address, address_key}
-use Rattle.route_join.proofs.Groupings.{Groups, Entries, entries_in, entries_in_all, group_at, about_there, find_there, find_nowhere, before_rest, same_rest, not_before, first_is, later_is, not_first}
+use Rattle.route_join.proofs.Groupings.{Groups, Entries, entries_in, entries_in_all, about_there, find_there, find_nowhere, before_rest, same_rest, not_before, first_is, later_is, not_first}
+use Rattle.route_join.specs.Groups.{group_at}
 
 -- ---- values
 module _ (os : List ℕ) (gs : Groups) (k : IsGrouped os gs) where

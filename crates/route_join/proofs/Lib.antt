@@ -7,6 +7,7 @@ pub mod Owners
 pub mod Floods
 pub mod Subjects
 pub mod Groupings
+pub mod Indexed
 pub mod Leaders
 pub mod Within
 pub mod Taking

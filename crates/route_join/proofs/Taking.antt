@@ -16,7 +16,8 @@ use Rattle.route_join.specs.declared.subject.Subject.{Subject}
 use Rattle.route_join.specs.Subject.{subject_cmp, subject_of}
 use Rattle.route_join.specs.Table.{entries_of, is_news, IsOrdered}
 use Rattle.route_join.specs.Group.{AreAbout, IsSome, AreGroups, updates_in, entries_with, added}
-use Rattle.route_join.proofs.Groupings.{Groups, Entries, entries_in, entries_in_all, group_at, about_there, some_there, find_there, find_nowhere, put_there, same_there, put_new, about_put, some_put, groups_set, groups_insert}
+use Rattle.route_join.proofs.Groupings.{Groups, Entries, entries_in, entries_in_all, about_there, some_there, find_there, find_nowhere, put_there, same_there, put_new, about_put, some_put, groups_set, groups_insert}
+use Rattle.route_join.specs.Groups.{group_at}
 use Rattle.route_join.proofs.Leaders.{verdict, held_new}
 use Rattle.route_join.proofs.Orders.{to_T}
 

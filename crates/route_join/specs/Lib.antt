@@ -7,7 +7,9 @@ pub mod Flood
 pub mod Joins
 pub mod Laws
 pub mod Subject
+pub mod Hashes
 pub mod Group
+pub mod Groups
 pub mod Contest
 pub mod Many
 pub mod Kept

@@ -56,7 +56,7 @@ fn better_place(updates: &[Update], at: usize, winner: Option<usize>) -> Option<
 }
 
 /// The place of the best advert among updates in the order of their registers.
-fn best_place(updates: &[Update]) -> Option<usize>
+pub(crate) fn best_place(updates: &[Update]) -> Option<usize>
     requires { IsOrdered updates.now }
     ensures { HasWinner updates.now (told updates.now) result }
 {
@@ -65,6 +65,17 @@ fn best_place(updates: &[Update]) -> Option<usize>
         winner = better_place(updates, at, winner);
     }
     winner
+}
+
+/// The originator of the winner, if there is one.
+pub(crate) fn owner_at(updates: &[Update], winner: Option<usize>) -> Option<Addr>
+    requires { HasWinner updates.now (told updates.now) winner }
+    ensures { MatchOption result (IsSilent updates.now) (IsLeader updates.now) }
+{
+    match winner {
+        None => None,
+        Some(at) => Some(updates[at].register().originator),
+    }
 }
 
 /// Whether a winner that says something else now is the best still, since it says nothing worse.
@@ -152,11 +163,12 @@ impl Model for Few {
 }
 
 impl Few {
-    /// The update alone.
+    /// The update alone, with room for a second one.
     pub(crate) fn new(alloc: Global, update: &Update) -> Result<Self, AllocError>
         ensures { IfOk result (λ g. g ≡ update.now ∷ []) }
     {
         let mut updates = Vec::new(alloc);
+        updates.reserve_exact(2)?;
         insert_at(&mut updates, 0, update)?;
         let winner = best_place(&updates);
         Ok(Few { updates, winner })
@@ -190,10 +202,7 @@ impl Few {
     pub(crate) fn owner(&self) -> Option<Addr>
         ensures { MatchOption result (IsSilent self.now) (IsLeader self.now) }
     {
-        match self.winner {
-            None => None,
-            Some(at) => Some(self.updates[at].register().originator),
-        }
+        owner_at(&self.updates, self.winner)
     }
 
     /// A newer update comes to the place of its register.

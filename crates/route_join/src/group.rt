@@ -1,23 +1,27 @@
 //! The updates of one subject: a few are walked through, and more of them are kept in a tree.
-ghost use Rattle.std.specs.Prelude.{◌≡◌, ◌∷◌, [], ◌+◌, ◌<◌, ◌^◌, None, IfOk, OnOk, OnErr, MatchOption, if◌then◌else◌};
+ghost use Rattle.std.specs.Prelude.{◌≡◌, ◌∷◌, [], ◌+◌, ◌<◌, ◌^◌, None, IfOk, OnOk, OnErr, IfSome, OnSome, IfNone, MatchOption, if◌then◌else◌};
 ghost use Rattle.std.specs.FinMap.Entries.{find};
 ghost use Rattle.route_wire.specs.Order.{register_cmp};
 ghost use Rattle.route_join.specs.Table.{entries_of, IsOrdered, is_news};
 ghost use Rattle.route_join.specs.Subject.{subject_of};
 ghost use Rattle.route_join.specs.Group.{AreAbout, entries_with, added, update_among, IsLeader, IsSilent};
 
-use crate::few::Few;
+use crate::few::{Few, best_place, owner_at};
 use crate::many::Many;
+use crate::place::place;
 use crate::table::Taken;
 use crate::updates::UpdatesOf;
 use ether_wire::Addr;
 use route_wire::{Register, Update};
 use std::alloc::{AllocError, Global};
 use std::marker::Model;
+use std::slice;
 
 /// How updates are kept.
 #[derive(Drop)]
 enum Kept {
+    /// One alone, without memory of its own.
+    One(Update),
     /// In one list.
     Few(Few),
     /// In a tree. The box keeps small groups small.
@@ -33,6 +37,30 @@ fn spread(alloc: Global, few: &Few) -> Result<Box<Many>, AllocError>
         Ok(many) => Ok(many),
         Err(_) => Err(AllocError),
     }
+}
+
+/// Takes an update of the only register, which has then the newer one. None where the update
+/// is of another register.
+fn take_one(own: &mut Update, update: &Update) -> Option<Taken>
+    requires { AreAbout (subject_of update.now.register.key) (entries_of (own.old ∷ [])) }
+    ensures taken { IfSome result
+        (λ t. t ≡ (if is_news (find register_cmp update.now.register (entries_of (own.old ∷ [])))
+        update.now.value then Taken.Newer else Taken.Known)) }
+    ensures entries { OnSome result
+        (entries_of (own.new ∷ []) ≡ entries_with (entries_of (own.old ∷ [])) update.now) }
+    ensures added { OnSome result (added (entries_of (own.old ∷ [])) update.now ≡ 0) }
+    ensures none { IfNone result (find register_cmp update.now.register
+        (entries_of (own.old ∷ [])) ≡ None) }
+    ensures same { IfNone result (own.new ≡ own.old) }
+{
+    if place(slice::from_ref(own), &update.register()).is_err() {
+        return None;
+    }
+    if !update.is_newer(own) {
+        return Some(Taken::Known);
+    }
+    *own = *update;
+    Some(Taken::Newer)
 }
 
 /// The updates of one subject in the order of their registers, and the best advert among them, if
@@ -56,14 +84,13 @@ impl Model for Group {
 }
 
 impl Group {
-    /// A group of one update.
-    pub(crate) fn new(alloc: Global, update: &Update) -> Result<Self, AllocError>
-        ensures { IfOk result (λ g. g ≡ update.now ∷ []) }
+    /// A group of one update. It takes no memory.
+    pub(crate) fn new(update: &Update) -> Self
+        ensures { result ≡ update.now ∷ [] }
     {
-        let few = Few::new(alloc, update)?;
-        Ok(Group {
-            kept: Kept::Few(few),
-        })
+        Group {
+            kept: Kept::One(*update),
+        }
     }
 
     /// The updates, in the order of their registers.
@@ -72,6 +99,7 @@ impl Group {
         ensures ordered { IsOrdered self.now }
     {
         match &self.kept {
+            Kept::One(own) => UpdatesOf::few(slice::from_ref(own)),
             Kept::Few(few) => UpdatesOf::few(few.updates()),
             Kept::Many(many) => UpdatesOf::many(many.updates()),
         }
@@ -83,6 +111,10 @@ impl Group {
         ensures { result ≡ update_among self.now register.now }
     {
         match &self.kept {
+            Kept::One(own) => match place(slice::from_ref(own), register) {
+                Ok(_) => Some(*own),
+                Err(_) => None,
+            },
             Kept::Few(few) => few.register(register),
             Kept::Many(many) => many.register(register),
         }
@@ -93,6 +125,7 @@ impl Group {
         ensures { MatchOption result (IsSilent self.now) (IsLeader self.now) }
     {
         match &self.kept {
+            Kept::One(own) => owner_at(slice::from_ref(own), best_place(slice::from_ref(own))),
             Kept::Few(few) => few.owner(),
             Kept::Many(many) => many.owner(),
         }
@@ -113,7 +146,12 @@ impl Group {
     }
 
     /// Takes an update as it is kept.
-    fn take_kept(&mut self, held: &mut usize, update: &Update) -> Result<Taken, AllocError>
+    fn take_kept(
+        &mut self,
+        alloc: Global,
+        held: &mut usize,
+        update: &Update,
+    ) -> Result<Taken, AllocError>
         requires { AreAbout (subject_of update.now.register.key) (entries_of self.old) }
         ensures taken { IfOk result
             (λ t. t ≡ (if is_news (find register_cmp update.now.register (entries_of self.old))
@@ -128,6 +166,15 @@ impl Group {
         ensures err_held { OnErr result (held.new ≡ held.old) }
     {
         match &mut self.kept {
+            Kept::One(own) => match take_one(own, update) {
+                Some(taken) => Ok(taken),
+                None => {
+                    let mut few = Few::new(alloc, own)?;
+                    let taken = few.take(held, update)?;
+                    self.kept = Kept::Few(few);
+                    Ok(taken)
+                }
+            },
             Kept::Few(few) => few.take(held, update),
             Kept::Many(many) => many.take(held, update),
         }
@@ -155,7 +202,7 @@ impl Group {
         ensures err_held { OnErr result (held.new ≡ held.old) }
     {
         let before = *held;
-        let taken = self.take_kept(held, update);
+        let taken = self.take_kept(alloc, held, update);
         if *held != before {
             self.settle(alloc);
         }

@@ -1,65 +1,169 @@
-//! A table's groups: an update comes into the group of its subject, and groups are reported
-//! one after the other.
-ghost use Rattle.std.specs.Prelude.{◌≡◌, ◌+◌, ◌<◌, ◌^◌, IfOk, OnOk, OnErr, None, if◌then◌else◌};
+//! A table's groups behind an index: an update comes into the group of its subject, and groups are
+//! reported one after the other in the order of their subjects.
+ghost use Rattle.std.specs.Prelude.{◌≡◌, ◌+◌, ◌<◌, ◌^◌, ◌∷◌, [], IfOk, OnOk, OnErr, None, if◌then◌else◌};
+ghost use Rattle.std.specs.Option.{option_copied};
+ghost use Rattle.std.specs.Iterator.{YieldsFirstBy, item_count};
+ghost use Rattle.std.specs.BTreeMap.{insert_entry};
 ghost use Rattle.ether_wire.specs.Ends.{IsOpen, Puts};
 ghost use Rattle.std.specs.FinMap.Entries.{find};
 ghost use Rattle.route_wire.specs.Order.{register_cmp};
+ghost use Rattle.route_join.specs.Subject.{subject_cmp};
 ghost use Rattle.route_join.specs.Table.{entries_of, is_news};
 ghost use Rattle.route_join.specs.Group.{entries_with, added, AreAbout, IsSome, AreGroups, updates_in};
+ghost use Rattle.route_join.specs.Groups.{group_at};
 ghost use Rattle.route_join.specs.Report.{report_lines};
 ghost use Rattle.route_join.specs.Lines.{group_lines};
 
 use crate::group::Group;
 use crate::report::{put_owner, put_updates};
+use crate::salt::Salted;
 use crate::subject::{Subject, subject_of};
 use crate::table::Taken;
 use ether_wire::{Device, Out};
 use route_wire::Update;
 use std::alloc::{AllocError, Global};
-use std::collections::BTreeMap;
+use std::collections::{BTreeSet, HashMap, btree_set};
+use std::marker::Model;
 
-/// Takes an update into the group of its subject, which is made where there is none yet. A new
-/// register is one more of those held. Where memory is refused, all stays as it was.
-pub(crate) fn take_in(
-    groups: &mut BTreeMap<Subject, Group>,
+/// Groups by their subjects, and the subjects in the order of a report: a look-up asks the hash
+/// map alone, and only a new subject changes the order. Contracts see the groups in that order.
+#[derive(Drop)]
+pub(crate) struct Groups {
     alloc: Global,
-    held: &mut usize,
-    update: &Update,
-) -> Result<Taken, AllocError>
-    requires { AreGroups groups.old.entries }
-    ensures taken { IfOk result
-        (λ t. t ≡ (if is_news
-        (find register_cmp update.now.register (entries_of (updates_in groups.old.entries)))
-        update.now.value then Taken.Newer else Taken.Known)) }
-    ensures entries { OnOk result
-        (entries_of (updates_in groups.new.entries)
-        ≡ entries_with (entries_of (updates_in groups.old.entries)) update.now) }
-    ensures held { OnOk result
-        (held.new ≡ held.old + added (entries_of (updates_in groups.old.entries)) update.now) }
-    ensures few { held.old < 2 ^ 64 → held.new < 2 ^ 64 }
-    ensures groups { AreGroups groups.new.entries }
-    ensures new { OnErr result
-        (find register_cmp update.now.register (entries_of (updates_in groups.old.entries))
-        ≡ None) }
-    ensures err { OnErr result (groups.new.entries ≡ groups.old.entries) }
-    ensures err_held { OnErr result (held.new ≡ held.old) }
-{
-    let subject = subject_of(&update.register().key);
-    match groups.get_mut(&subject) {
-        Some(group) => group.take(alloc, held, update),
-        None => {
-            let Some(more) = held.checked_add(1) else {
-                return Err(AllocError);
-            };
-            let Ok(group) = Group::new(alloc, update) else {
-                return Err(AllocError);
-            };
-            if groups.insert(subject, group).is_err() {
-                return Err(AllocError);
-            }
-            *held = more;
-            Ok(Taken::Newer)
+    index: HashMap<Subject, Group, Salted>,
+    order: BTreeSet<Subject>,
+}
+
+impl Model for Groups {
+    ghost use Rattle.std.specs.Prelude.{List};
+    ghost use Rattle.std.specs.Coded.{codes};
+    ghost use Rattle.route_wire.specs.Fields.{Fields};
+    ghost use Rattle.route_join.specs.declared.subject.Subject.{Subject};
+    ghost use Rattle.route_join.specs.Groups.{groups_along, AreIndexed};
+
+    ghost Value = { List (Subject × List Fields) };
+
+    ghost coded = { Prim.hlevel codes };
+
+    ghost view = { λ g. groups_along g.order.keys g.index.entries };
+
+    ghost invariant = { λ g. AreIndexed g.order.keys g.index.entries };
+}
+
+impl Groups {
+    /// No groups, whose subjects are to be hashed under this salt. It takes no memory.
+    pub(crate) fn new(alloc: Global, salt: u64) -> Self
+        ensures { result ≡ [] }
+    {
+        Groups {
+            alloc,
+            index: HashMap::with_hasher(alloc, Salted::new(salt)),
+            order: BTreeSet::new(alloc),
         }
+    }
+
+    /// The group of a subject, if there is one.
+    pub(crate) fn get(&self, subject: &Subject) -> Option<&Group>
+        ensures { option_copied result ≡ group_at subject.now self.now }
+    {
+        self.index.get(subject)
+    }
+
+    /// The groups, in the order of their subjects.
+    pub(crate) fn iter(&self) -> GroupsIter<'_>
+        ensures { result ≡ self.now }
+    {
+        GroupsIter {
+            order: self.order.iter(),
+            index: &self.index,
+        }
+    }
+
+    /// Makes the group of a new subject. Each growth is asked for before anything changes.
+    fn enter(&mut self, subject: &Subject, update: &Update) -> Result<(), AllocError>
+        requires { group_at subject.now self.old ≡ None }
+        ensures ok { OnOk result (self.new
+            ≡ insert_entry subject_cmp self.old subject.now (update.now ∷ [])) }
+        ensures err { OnErr result (self.new ≡ self.old) }
+    {
+        self.index.reserve(1)?;
+        if self.order.insert(*subject).is_err() {
+            return Err(AllocError);
+        }
+        // there is room for it
+        match self.index.insert(*subject, Group::new(update)) {
+            Ok(_) => Ok(()),
+            Err(_) => Err(AllocError),
+        }
+    }
+
+    /// Takes an update into the group of its subject, which is made where there is none yet. A new
+    /// register is one more of those held. Where memory is refused, all stays as it was.
+    pub(crate) fn take(&mut self, held: &mut usize, update: &Update) -> Result<Taken, AllocError>
+        requires { AreGroups self.old }
+        ensures taken { IfOk result
+            (λ t. t ≡ (if is_news
+            (find register_cmp update.now.register (entries_of (updates_in self.old)))
+            update.now.value then Taken.Newer else Taken.Known)) }
+        ensures entries { OnOk result
+            (entries_of (updates_in self.new)
+            ≡ entries_with (entries_of (updates_in self.old)) update.now) }
+        ensures held { OnOk result
+            (held.new ≡ held.old + added (entries_of (updates_in self.old)) update.now) }
+        ensures few { held.old < 2 ^ 64 → held.new < 2 ^ 64 }
+        ensures groups { AreGroups self.new }
+        ensures new { OnErr result
+            (find register_cmp update.now.register (entries_of (updates_in self.old)) ≡ None) }
+        ensures err { OnErr result (self.new ≡ self.old) }
+        ensures err_held { OnErr result (held.new ≡ held.old) }
+    {
+        let alloc = self.alloc;
+        let subject = subject_of(&update.register().key);
+        match self.index.get_mut(&subject) {
+            Some(group) => group.take(alloc, held, update),
+            None => {
+                let Some(more) = held.checked_add(1) else {
+                    return Err(AllocError);
+                };
+                self.enter(&subject, update)?;
+                *held = more;
+                Ok(Taken::Newer)
+            }
+        }
+    }
+}
+
+/// The groups in the order of their subjects, seen as the list of those that are left.
+#[derive(Drop)]
+pub(crate) struct GroupsIter<'a> {
+    order: btree_set::Iter<'a, Subject>,
+    index: &'a HashMap<Subject, Group, Salted>,
+}
+
+impl<'a> Model for GroupsIter<'a> {
+    ghost use Rattle.std.specs.Prelude.{List};
+    ghost use Rattle.route_wire.specs.Fields.{Fields};
+    ghost use Rattle.route_join.specs.declared.subject.Subject.{Subject};
+    ghost use Rattle.route_join.specs.Groups.{groups_along, AreThere};
+
+    ghost Value = { List (Subject × List Fields) };
+
+    ghost view = { λ it. groups_along it.order it.index.now.entries };
+
+    ghost invariant = { λ it. AreThere it.order it.index.now.entries };
+}
+
+impl<'a> Iterator for GroupsIter<'a> {
+    type Item = (&'a Subject, &'a Group);
+
+    ghost next_gives = { YieldsFirstBy (λ item. (item.0.now, item.1.now)) (λ left. left) };
+
+    ghost remaining = { item_count (λ left. left) };
+
+    fn next(&mut self) -> Option<(&'a Subject, &'a Group)> {
+        let subject = self.order.next()?;
+        let group = self.index.get(subject)?;
+        Some((subject, group))
     }
 }
 
@@ -80,15 +184,12 @@ fn put_group<O: Out>(out: &mut O, subject: &Subject, group: &Group) -> Result<()
 }
 
 /// Writes the report of the groups, one after the other.
-pub(crate) fn put_groups<O: Out>(
-    out: &mut O,
-    groups: &BTreeMap<Subject, Group>,
-) -> Result<(), Device>
+pub(crate) fn put_groups<O: Out>(out: &mut O, groups: &Groups) -> Result<(), Device>
     requires room { IsOpen (O.end out.old) }
-    requires groups { AreGroups groups.now.entries }
-    ensures { Puts (O.end out.old) (O.end out.new) (group_lines groups.now.entries) result }
+    requires groups { AreGroups groups.now }
+    ensures { Puts (O.end out.old) (O.end out.new) (group_lines groups.now) result }
 {
-    for (subject, group) in groups {
+    for (subject, group) in groups.iter() {
         put_group(out, subject, group)?;
     }
     Ok(())

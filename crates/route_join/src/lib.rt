@@ -12,6 +12,7 @@ mod named;
 mod owner;
 mod place;
 mod report;
+mod salt;
 mod subject;
 mod table;
 #[cfg(test)]

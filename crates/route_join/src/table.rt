@@ -16,15 +16,13 @@ ghost use Rattle.route_wire.specs.declared.update.Value.{Value};
 ghost use Rattle.route_wire.specs.Fields.{Fields};
 
 use crate::flood::flood_of;
-use crate::group::Group;
-use crate::groups::{put_groups, take_in};
+use crate::groups::{Groups, put_groups};
 use crate::subject::{Subject, subject_of};
 use crate::updates::{Updates, UpdatesOf};
 use arrayvec::ArrayVec;
 use ether_wire::{Addr, Device, Mac, Out, Vni};
 use route_wire::{Key, NO_MEMORY, Register, UNKNOWN_ORIGINATOR, Update};
 use std::alloc::Global;
-use std::collections::BTreeMap;
 use std::marker::Model;
 
 /// What a table made of an update that it took.
@@ -77,9 +75,8 @@ impl TakeError {
 /// The newest value of each register, of the originators that the table listens to.
 #[derive(Drop)]
 pub struct Table {
-    alloc: Global,
     originators: ArrayVec<Addr, 64>,
-    groups: BTreeMap<Subject, Group>,
+    groups: Groups,
     // How many registers all groups hold: a merge can count as many.
     held: usize,
 }
@@ -94,9 +91,9 @@ impl Model for Table {
 
     ghost coded = { Prim.hlevel (codes, code) };
 
-    ghost view = { λ t. table_from t.originators.items (updates_in t.groups.entries) };
+    ghost view = { λ t. table_from t.originators.items (updates_in t.groups) };
 
-    ghost invariant = { λ t. IsCounted t.originators.items t.groups.entries t.held };
+    ghost invariant = { λ t. IsCounted t.originators.items t.groups t.held };
 }
 
 impl Table {
@@ -106,10 +103,18 @@ impl Table {
         requires { AreOriginators originators.items }
         ensures { result ≡ record { originators = originators.items; registers = empty } }
     {
+        Table::with_salt(alloc, originators, 0)
+    }
+
+    /// The same, whose registers are sought by a hash under this salt. Who may send updates and knows
+    /// the salt can make look-ups slow; what they answer doesn't depend on it.
+    pub fn with_salt(alloc: Global, originators: ArrayVec<Addr, 64>, salt: u64) -> Self
+        requires { AreOriginators originators.items }
+        ensures { result ≡ record { originators = originators.items; registers = empty } }
+    {
         Table {
-            alloc,
             originators,
-            groups: BTreeMap::new(alloc),
+            groups: Groups::new(alloc, salt),
             held: 0,
         }
     }
@@ -166,7 +171,7 @@ impl Table {
             return Err(TakeError::UnknownOriginator);
         }
         update.always_well_formed();
-        let Ok(taken) = take_in(&mut self.groups, self.alloc, &mut self.held, update) else {
+        let Ok(taken) = self.groups.take(&mut self.held, update) else {
             return Err(TakeError::NoMemory);
         };
         Ok(taken)

@@ -2,6 +2,7 @@
 ghost use Rattle.std.specs.Prelude.{◌≡◌, ◌<◌, ◌∷◌, [], None};
 ghost use Rattle.route_wire.specs.Fields.{FitsKey};
 
+mod collisions;
 mod memory;
 mod sequences;
 mod sorted_list;

@@ -4,12 +4,11 @@ ghost use Rattle.std.specs.Iterator.{YieldsFirst, item_count};
 ghost use Rattle.route_join.specs.Group.{AreGroups, updates_in};
 ghost use Rattle.route_join.specs.Many.{many_left};
 
-use crate::group::Group;
+use crate::groups::{Groups, GroupsIter};
 use crate::many::Entrant;
 use crate::named::Named;
-use crate::subject::Subject;
 use route_wire::Update;
-use std::collections::{BTreeMap, btree_map};
+use std::collections::btree_map;
 use std::marker::Model;
 
 /// The updates of a MAC address, seen as the list of those that are left.
@@ -84,7 +83,7 @@ impl<'a> Iterator for UpdatesOf<'a> {
 #[derive(Drop)]
 pub struct Updates<'a> {
     first: UpdatesOf<'a>,
-    groups: btree_map::Iter<'a, Subject, Group>,
+    groups: GroupsIter<'a>,
 }
 
 impl<'a> Model for Updates<'a> {
@@ -101,9 +100,9 @@ impl<'a> Model for Updates<'a> {
 
 impl<'a> Updates<'a> {
     /// The updates of these groups.
-    pub(crate) fn of(groups: &'a BTreeMap<Subject, Group>) -> Self
-        requires { AreGroups groups.now.entries }
-        ensures { result ≡ updates_in groups.now.entries }
+    pub(crate) fn of(groups: &'a Groups) -> Self
+        requires { AreGroups groups.now }
+        ensures { result ≡ updates_in groups.now }
     {
         Updates {
             first: UpdatesOf::none(),

@@ -13,7 +13,7 @@ use Rattle.route_join.proofs.table.Table.merge.Goals as goal
 pub loop-update-init : goal.loop-update-init
 loop-update-init c = record {
   done = [];
-  whole = c.into_iter-update-iterator.ensures.into_iter_gives ∙ c.of-update-items.ensures ∙ sym (all_is c.args.other.now c.other.inside.originators.items c.other.inside.groups.entries c.other.invariant.grouped c.other.view_is);
+  whole = c.into_iter-update-iterator.ensures.into_iter_gives ∙ c.of-update-items.ensures ∙ sym (all_is c.args.other.now c.other.inside.originators.items c.other.inside.groups c.other.invariant.grouped c.other.view_is);
   merged = refl;
   counted = omega arith;
 }
@@ -33,7 +33,7 @@ loop-update-preserved c =
 pub returns-then-is_err-clause-part : goal.returns-then-is_err-clause-part
 returns-then-is_err-clause-part c =
     let inv = c.loop-update.invariant in
-    let gs = c.other.inside.groups.entries in
+    let gs = c.other.inside.groups in
     let os = c.other.inside.originators.items in
     let u = c.in-Some.update in
     let left : List Fields = u ∷ c.next.new.self in
@@ -61,14 +61,14 @@ overflow_add-joined c =
     let inv = c.loop-update.invariant in
     let left : List Fields = c.in-Some.update ∷ c.next.new.self in
     let some : length left ≡ length (c.next.new.self) + 1 = omega arith in
-    let all = all_counted c.args.other.now c.other.inside.originators.items c.other.inside.groups.entries inv.done left [] c.other.inside.held c.other.invariant c.other.view_is
+    let all = all_counted c.args.other.now c.other.inside.originators.items c.other.inside.groups inv.done left [] c.other.inside.held c.other.invariant c.other.view_is
     (ap (λ x. inv.done ++ x) (append-nil left ∙ sym c.in-Some.ensures.steps) ∙ inv.whole) in
     omega (arith, inv.counted, some, all, c.other.invariant.few)
 
 pub returns-clause-merged : goal.returns-clause-merged
 returns-clause-merged c =
     let inv = c.loop-update.invariant in
-    let gs = c.other.inside.groups.entries in
+    let gs = c.other.inside.groups in
     let os = c.other.inside.originators.items in
     join_all c.args.self.now c.args.other.now os gs inv.done c.loop-update.self c.other.invariant.grouped c.other.view_is
     (sym (append-nil inv.done) ∙ ap (λ x. inv.done ++ x) (sym c.in-None.ensures.steps.0) ∙ inv.whole ∙ all_is c.args.other.now os gs c.other.invariant.grouped c.other.view_is) inv.merged

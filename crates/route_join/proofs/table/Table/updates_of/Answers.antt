@@ -6,7 +6,7 @@ use Rattle.route_join.proofs.table.Table.updates_of.Goals as goal
 
 pub returns-in-None-clause-value : goal.returns-in-None-clause-value
 returns-in-None-clause-value c =
-    c.none.ensures ∙ updates_nowhere c.self.inside.originators.items c.self.inside.groups.entries c.self.invariant.grouped c.args.vni c.args.mac (sym c.in-None.ensures.value)
+    c.none.ensures ∙ updates_nowhere c.self.inside.originators.items c.self.inside.groups c.self.invariant.grouped c.args.vni c.args.mac (sym c.in-None.ensures)
     ∙ ap (λ (t : Table). updates_of t c.args.vni c.args.mac) c.self.view_is
 
 pub returns-in-None-clause-exact : goal.returns-in-None-clause-exact
@@ -14,7 +14,7 @@ returns-in-None-clause-exact c = subst (AreUpdatesOf c.args.self.now c.args.vni 
 
 pub returns-in-Some-clause-value : goal.returns-in-Some-clause-value
 returns-in-Some-clause-value c =
-    c.updates.ensures.value ∙ updates_there c.self.inside.originators.items c.self.inside.groups.entries c.self.invariant.grouped c.args.vni c.args.mac c.in-Some.group.now (sym c.in-Some.ensures.value)
+    c.updates.ensures.value ∙ updates_there c.self.inside.originators.items c.self.inside.groups c.self.invariant.grouped c.args.vni c.args.mac c.in-Some.group.now (sym c.in-Some.ensures)
     ∙ ap (λ (t : Table). updates_of t c.args.vni c.args.mac) c.self.view_is
 
 pub returns-in-Some-clause-exact : goal.returns-in-Some-clause-exact

@@ -1,0 +1,178 @@
+-- Groups behind an index are groups in the order of their subjects: a look-up, a change and a new group there are the same here.
+use Rattle.std.proofs.Common.{◌≡◌, ℕ, ◌<◌, Bool, true, false, cond, is_some, Option, Some, None, IsSome, Result, Ok, Err, OnErr, List, [], ◌∷◌, ◌||◌, ◌&&◌, refl, sym, ap, subst, ◌∙◌, arith}
+use Rattle.std.specs.Prelude.{◌==◌}
+use Rattle.std.proofs.lemmas.Bool.Decides.{nat_tests}
+use Rattle.std.specs.declared.cmp.Ordering.{Ordering}
+use Rattle.std.specs.declared.cmp.Ordering.TheVariants.{Less, Equal, Greater}
+use Rattle.std.specs.Ordering.{MatchOrdering, is_eq, nat_cmp, match_ordering, ordering_then, ordering_reverse}
+use Rattle.std.specs.Cmp.{ranked}
+use Rattle.std.specs.Option.{option_eq, option_cmp, unwrap_or}
+use Rattle.std.specs.List.{AllByRecursion}
+use Rattle.std.specs.List.Sorted.{IsStrictlySortedBy}
+use Rattle.std.specs.Map.{set_value}
+use Rattle.std.specs.BTreeMap.{insert_entry, is_at}
+use Rattle.std.specs.BTreeSet.{insert_key}
+use Rattle.route_wire.specs.Fields.{Fields}
+use Rattle.route_join.specs.declared.subject.Subject.{Subject}
+use Rattle.route_join.specs.Subject.{subject_cmp, subject_eq}
+use Rattle.route_join.specs.Groups.{group_at, group_in, groups_along, is_among, AreIndexed, AreThere}
+use Rattle.route_join.proofs.Subjects.{subject_exact, subject_total}
+use Rattle.route_join.proofs.Groupings.{Groups}
+
+-- ---- equal subjects
+eq_nat : (a b : ℕ) → (a == b) ≡ is_eq (nat_cmp a b)
+eq_nat a b = go (nat_cmp a b) (ranked a b (nat_cmp a b) refl)
+  where
+    go : (o : Ordering) → MatchOrdering o (a < b) (a ≡ b) (b < a) → (a == b) ≡ is_eq o
+    go Less h = grind (arith, nat_tests)
+    go Equal h = grind (arith, nat_tests)
+    go Greater h = grind (arith, nat_tests)
+
+eq_mac : (a b : Option ℕ) → option_eq ◌==◌ a b ≡ is_eq (option_cmp nat_cmp a b)
+eq_mac None None = refl
+eq_mac None (Some y) = refl
+eq_mac (Some x) None = refl
+eq_mac (Some x) (Some y) = eq_nat x y
+
+eq_then : (o p : Ordering) → is_eq o && is_eq p ≡ is_eq (ordering_then o p)
+eq_then Less p = refl
+eq_then Equal p = refl
+eq_then Greater p = refl
+
+pub eq_at : (s t : Subject) → subject_eq s t ≡ is_at (subject_cmp s) t
+eq_at s t = (λ i. eq_nat s.vni t.vni i && eq_mac s.mac t.mac i) ∙ eq_then (nat_cmp s.vni t.vni) (option_cmp nat_cmp s.mac t.mac)
+
+equal : (o : Ordering) → is_eq o ≡ true → o ≡ Equal
+equal Less h = cc
+equal Equal h = refl
+equal Greater h = cc
+
+exact_at : (s t : Subject) → is_at (subject_cmp s) t ≡ true → s ≡ t
+exact_at s t h = subject_exact s t (equal (subject_cmp s t) h)
+
+tied : (o : Ordering) → o ≡ ordering_reverse o → is_eq o ≡ true
+tied Less h = cc
+tied Equal h = refl
+tied Greater h = cc
+
+pub itself : (s : Subject) → is_at (subject_cmp s) s ≡ true
+itself s = tied (subject_cmp s s) (subject_total.antisymm s s)
+
+-- ---- a look-up
+found_along : (s : Subject) (ss : List Subject) (gs : Groups) → group_at s (groups_along ss gs) ≡ cond (is_among ss s) (Some (unwrap_or (group_in gs s) [])) None
+found_along s [] gs = refl
+found_along s (t ∷ ss) gs =
+    elim (is_at (subject_cmp s) t) as (λ b. is_at (subject_cmp s) t ≡ b → cond b (Some (unwrap_or (group_in gs t) [])) (group_at s (groups_along ss gs)) ≡ cond (b || is_among ss s) (Some (unwrap_or (group_in gs s) [])) None) [
+      | true ↦ λ e. ap (λ x. Some (unwrap_or (group_in gs x) [])) (sym (exact_at s t e))
+      | false ↦ λ e. found_along s ss gs
+    ] refl
+
+there : (o : Option (List Fields)) → cond (is_some o) (Some (unwrap_or o [])) None ≡ o
+there None = refl
+there (Some us) = refl
+
+pub found : (s : Subject) (ss : List Subject) (gs : Groups) → AreIndexed ss gs → group_in gs s ≡ group_at s (groups_along ss gs)
+found s ss gs k = sym (found_along s ss gs ∙ ap (λ b. cond b (Some (unwrap_or (group_in gs s) [])) None) (k.same s) ∙ there (group_in gs s))
+
+-- ---- groups in another order in the index
+pub same_along : (ss : List Subject) (gs hs : Groups) → ((q : Subject) → group_in hs q ≡ group_in gs q) → groups_along ss hs ≡ groups_along ss gs
+same_along [] gs hs h = refl
+same_along (t ∷ ss) gs hs h = λ i. (t, unwrap_or (h t i) []) ∷ same_along ss gs hs h i
+
+-- ---- the subject has another group now
+module _ (s : Subject) (w : List Fields) (gs hs : Groups) (h : (q : Subject) → group_in hs q ≡ cond (subject_eq s q) (Some w) (group_in gs q)) where
+  has_it : (t : Subject) → is_at (subject_cmp s) t ≡ true → group_in hs t ≡ Some w
+  has_it t e = h t ∙ ap (λ b. cond b (Some w) (group_in gs t)) (eq_at s t ∙ e)
+
+  keeps_it : (t : Subject) → is_at (subject_cmp s) t ≡ false → group_in hs t ≡ group_in gs t
+  keeps_it t e = h t ∙ ap (λ b. cond b (Some w) (group_in gs t)) (eq_at s t ∙ e)
+
+  neither : (a b : Bool) → a || b ≡ false → (a ≡ false) × (b ≡ false)
+  neither true b e = cc
+  neither false b e = (refl, e)
+
+  -- other subjects keep theirs
+  others_along : (ss : List Subject) → is_among ss s ≡ false → groups_along ss hs ≡ groups_along ss gs
+  others_along [] e = refl
+  others_along (t ∷ ss) e =
+      let parts = neither (is_at (subject_cmp s) t) (is_among ss s) e in
+      λ i. (t, unwrap_or (keeps_it t parts.0 i) []) ∷ others_along ss parts.1 i
+
+  none_behind : (ss : List Subject) → AllByRecursion (λ y. subject_cmp s y ≡ Less) ss → is_among ss s ≡ false
+  none_behind [] a = refl
+  none_behind (y ∷ ss) a = ap (λ o. is_eq o || is_among ss s) a.0 ∙ none_behind ss a.1
+
+  pub written : (ss : List Subject) → IsStrictlySortedBy subject_cmp ss → groups_along ss hs ≡ set_value (is_at (subject_cmp s)) (groups_along ss gs) w
+  unfolding IsStrictlySortedBy
+  written [] a = refl
+  written (t ∷ ss) a =
+      elim (is_at (subject_cmp s) t) as (λ b. is_at (subject_cmp s) t ≡ b → (t, unwrap_or (group_in hs t) []) ∷ groups_along ss hs ≡ cond b ((t, w) ∷ groups_along ss gs) ((t, unwrap_or (group_in gs t) []) ∷ set_value (is_at (subject_cmp s)) (groups_along ss gs) w)) [
+        | true ↦ λ e. let rest = others_along ss (none_behind ss (subst (λ x. AllByRecursion (λ y. subject_cmp x y ≡ Less) ss) (sym (exact_at s t e)) a.0)) in λ i. (t, unwrap_or (has_it t e i) []) ∷ rest i
+        | false ↦ λ e. λ i. (t, unwrap_or (keeps_it t e i) []) ∷ written ss a.1 i
+      ] refl
+
+  pub entered : (ss : List Subject) → is_among ss s ≡ false → groups_along (insert_key subject_cmp ss s) hs ≡ insert_entry subject_cmp (groups_along ss gs) s w
+  entered [] e = λ i. (s, unwrap_or (has_it s (itself s) i) []) ∷ []
+  entered (t ∷ ss) e =
+      elim (subject_cmp s t) as (λ o. subject_cmp s t ≡ o → groups_along (match_ordering o (s ∷ t ∷ ss) (t ∷ ss) (t ∷ insert_key subject_cmp ss s)) hs
+      ≡ match_ordering o ((s, w) ∷ (t, unwrap_or (group_in gs t) []) ∷ groups_along ss gs) ((t, w) ∷ groups_along ss gs) ((t, unwrap_or (group_in gs t) []) ∷ insert_entry subject_cmp (groups_along ss gs) s w)) [
+        | Less ↦ λ o. λ i. (s, unwrap_or (has_it s (itself s) i) []) ∷ others_along (t ∷ ss) e i
+        | Equal ↦ λ o. let parts = neither (is_at (subject_cmp s) t) (is_among ss s) e in let no = sym parts.0 ∙ ap is_eq o in cc
+        | Greater ↦ λ o. let parts = neither (is_at (subject_cmp s) t) (is_among ss s) e in λ i. (t, unwrap_or (keeps_it t parts.0 i) []) ∷ entered ss parts.1 i
+      ] refl
+
+-- ---- what an index keeps
+pub same_indexed : (ss : List Subject) (gs hs : Groups) → ((q : Subject) → group_in hs q ≡ group_in gs q) → AreIndexed ss gs → AreIndexed ss hs
+same_indexed ss gs hs h k = record { ascend = k.ascend; same = λ q. k.same q ∙ ap is_some (sym (h q)) }
+
+module _ (s : Subject) (w : List Fields) (gs hs : Groups) (h : (q : Subject) → group_in hs q ≡ cond (subject_eq s q) (Some w) (group_in gs q)) where
+  pub set_indexed : (ss : List Subject) (us : List Fields) → Some us ≡ group_in gs s → AreIndexed ss gs → AreIndexed ss hs
+  set_indexed ss us is k = record {
+    ascend = k.ascend;
+    same = λ q. elim (is_at (subject_cmp s) q) as (λ b. is_at (subject_cmp s) q ≡ b → is_among ss q ≡ is_some (group_in hs q)) [
+      | true ↦ λ e. ap (is_among ss) (sym (exact_at s q e)) ∙ k.same s ∙ ap is_some (sym is) ∙ ap is_some (sym (has_it s w gs hs h q e))
+      | false ↦ λ e. k.same q ∙ ap is_some (sym (keeps_it s w gs hs h q e))
+    ] refl;
+  }
+
+  pub new_indexed : (ss ts : List Subject) → IsStrictlySortedBy subject_cmp ts → ((q : Subject) → is_among ts q ≡ cond (is_at (subject_cmp s) q) true (is_among ss q)) → AreIndexed ss gs → AreIndexed ts hs
+  new_indexed ss ts a n k = record {
+    ascend = a;
+    same = λ q. elim (is_at (subject_cmp s) q) as (λ b. is_at (subject_cmp s) q ≡ b → is_among ts q ≡ is_some (group_in hs q)) [
+      | true ↦ λ e. n q ∙ ap (λ b. cond b true (is_among ss q)) e ∙ ap is_some (sym (has_it s w gs hs h q e))
+      | false ↦ λ e. n q ∙ ap (λ b. cond b true (is_among ss q)) e ∙ k.same q ∙ ap is_some (sym (keeps_it s w gs hs h q e))
+    ] refl;
+  }
+
+-- ---- seen from the groups in their order
+module _ (ss : List Subject) (gs now : Groups) (k : AreIndexed ss gs) (is : groups_along ss gs ≡ now) where
+  pub found_as : (s t : Subject) (o : Option (List Fields)) → s ≡ t → o ≡ group_in gs s → group_at t now ≡ o
+  found_as s t o same at = ap (group_at t) (sym is) ∙ sym (found t ss gs k) ∙ ap (group_in gs) (sym same) ∙ sym at
+
+  pub not_among : (s : Subject) → group_at s now ≡ None → is_among ss s ≡ false
+  not_among s none = k.same s ∙ ap is_some (found s ss gs k ∙ ap (group_at s) is ∙ none)
+
+  pub written_as : (s t : Subject) (w : List Fields) (hs : Groups) → s ≡ t → ((q : Subject) → group_in hs q ≡ cond (subject_eq s q) (Some w) (group_in gs q))
+      → groups_along ss hs ≡ set_value (is_at (subject_cmp t)) now w
+  written_as s t w hs same h = written s w gs hs h ss k.ascend ∙ (λ i. set_value (is_at (subject_cmp (same i))) (is i) w)
+
+pub some_is : (us : List Fields) (o : Option (List Fields)) → Some us ≡ o → IsSome o
+some_is us o h = subst IsSome h refl
+
+pub any_err : {X E : Type 0} (r : Result X E) (P : Type 0) → P → OnErr r P
+any_err (Ok x) P p = tt
+any_err (Err e) P p = p
+
+-- ---- a walk
+among_first : (t : Subject) (ss : List Subject) → is_among (t ∷ ss) t ≡ true
+among_first t ss = ap (λ b. b || is_among ss t) (itself t)
+
+among_rest : (t : Subject) (ss : List Subject) (q : Subject) → is_among ss q ≡ true → is_among (t ∷ ss) q ≡ true
+among_rest t ss q h = elim (is_at (subject_cmp q) t) as (λ b. b || is_among ss q ≡ true) [ true ↦ refl | false ↦ h ]
+
+all_there : (ss : List Subject) (gs : Groups) → ((q : Subject) → is_among ss q ≡ true → is_some (group_in gs q) ≡ true) → AreThere ss gs
+all_there [] gs h = tt
+all_there (t ∷ ss) gs h = (h t (among_first t ss), all_there ss gs (λ q a. h q (among_rest t ss q a)))
+
+pub are_there : (ss : List Subject) (gs : Groups) → AreIndexed ss gs → AreThere ss gs
+are_there ss gs k = all_there ss gs (λ q a. sym (k.same q) ∙ a)
