@@ -10,3 +10,5 @@ pub mod Changing
 pub mod Frames
 pub mod Memory
 pub mod Advertised
+pub mod Staying
+pub mod Remaining

@@ -19,3 +19,5 @@ pub mod RestingNumbers
 pub mod RestingStages
 pub mod RestingLearning
 pub mod RestingMotion
+pub mod Goings
+pub mod Journeys

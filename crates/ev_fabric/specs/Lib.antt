@@ -10,3 +10,4 @@ pub mod Laws
 pub mod RestEdge
 pub mod Rest
 pub mod RestMove
+pub mod Later
