@@ -6,3 +6,4 @@ pub mod Counting
 pub mod Replaying
 pub mod Stepping
 pub mod Totalling
+pub mod Refitting

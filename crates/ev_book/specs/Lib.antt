@@ -6,3 +6,4 @@ pub mod Opening
 pub mod Closing
 pub mod Refusal
 pub mod Laws
+pub mod Fitting

@@ -3,12 +3,14 @@
 #![tactic(auto)]
 
 mod book;
+mod fitting;
 mod journal;
 mod mark;
 mod pass;
 mod refusal;
 
 pub use book::Book;
+pub use fitting::fits_again;
 pub use mark::Mark;
 pub use pass::{Counted, Pass, Totals};
 pub use refusal::BookRefusal;

@@ -12,3 +12,5 @@ pub mod Going
 pub mod Memory
 pub mod Advertised
 pub mod Removing
+pub mod Staying
+pub mod Remaining

@@ -1,6 +1,8 @@
 -- An edge that is opened is good: it advertises no station, has heard none, and no port passes.
 use Rattle.std.proofs.Common.{◌≡◌, ℕ, zero, suc, ◌+◌, ◌-◌, true, false, Option, Some, None, List, [], ◌∷◌, length, refl, sym, ap, subst, ◌∙◌, arith}
-use Rattle.std.specs.Prelude.{IsSome, ◌&&◌}
+use Rattle.std.specs.Prelude.{IsSome, Contains, replicate, ◌<◌, ◌&&◌}
+use Rattle.std.proofs.lemmas.List.{length-replicate}
+use Rattle.std.proofs.lemmas.List.Sorted.{Contains-permutation}
 use Rattle.std.specs.FinMap.{get-empty}
 use Rattle.route_wire.specs.declared.update.Key.TheVariants.{Flood, Mac}
 use Rattle.route_wire.specs.declared.update.Advert.{Advert}
@@ -12,7 +14,9 @@ use Rattle.route_join.specs.Table.{register_of}
 use Rattle.route_join.specs.Owner.{advert_of}
 use Rattle.ether_wire.proofs.PortLemmas.{has_port-none}
 use Rattle.mac_arena.specs.declared.station.Station.{Station}
-use Rattle.mac_arena.specs.Learning.{IsLatest}
+use Rattle.mac_arena.specs.declared.station.Entry.{Entry}
+use Rattle.mac_arena.specs.Station.{station_cmp}
+use Rattle.mac_arena.specs.Learning.{Learning, entry_at, nothing_learnt, IsLatest}
 use Rattle.mac_arena.proofs.Values.{latest_nothing}
 use Rattle.rstp_state.specs.declared.start.PortSettings.{PortSettings}
 use Rattle.rstp_state.specs.declared.start.Settings.{Settings}
@@ -25,7 +29,7 @@ use Rattle.ev_claims.specs.Voice.{Voice, own_advert, after_saying, silent}
 use Rattle.ev_claims.specs.Claims.{Claims, key_of}
 use Rattle.ev_claims.specs.Opening.{IsOpening, after_floods}
 use Rattle.ev_mobility.specs.Moves.{Moves}
-use Rattle.ev_edge.specs.Edge.{ArePassing, IsEdge, edge_of}
+use Rattle.ev_edge.specs.Edge.{ArePassing, AreIndividual, IsEdge, edge_of}
 use Rattle.ev_edge.proofs.Owning.{said_other}
 
 -- ---- nothing is advertised but flood lists
@@ -63,12 +67,26 @@ none_passing settings ports p = (
   λ h. absurd (let up : test_at (p - 1) (λ port. port.enabled && port.forwarding) (ports_from 1 settings ports) ≡ true = h.1.1 in let no : false ≡ true = sym (down settings ports 1 (p - 1)) ∙ up in cc),
 )
 
+abbrev none_there : List Station
+none_there = []
+
+-- nobody is learnt
+nobody_individual : (s : Start) (c : Claims) → IsOpening s c → AreIndividual c.learned
+nobody_individual s c h = subst AreIndividual (sym h.learned) (λ r some. absurd (never_learnt (entry_at (nothing_learnt s.capacity (length s.ports.items) s.buckets s.salt) r) (get-empty {X = Entry} station_cmp r) some))
+  where
+    never_learnt : (o : Option Entry) → o ≡ None → IsSome o → ⊥
+    never_learnt None is some = cc
+    never_learnt (Some a) is some = cc
+
 pub opened : (s : Start) (c : Claims) (settings : Settings) (ports : List PortSettings) (ageing : ℕ) (tree : Tree) (moves : Moves) → IsOpening s c → tree ≡ start settings ports → length s.ports.items ≡ length ports
-    → IsEdge (edge_of c 0 ageing tree moves) 0
-opened s c settings ports ageing tree moves h is size = subst (λ t. IsEdge (edge_of c 0 ageing t moves) 0) (sym is) (record {
+    → ((v : ℕ) → Contains s.ports.items v → Contains s.vnis.items v) → 0 < s.buckets → IsEdge (edge_of c 0 ageing tree moves) 0
+opened s c settings ports ageing tree moves h is size serves some = subst (λ t. IsEdge (edge_of c 0 ageing t moves) 0) (sym is) (record {
   keeps = record {
     owns = λ r some. absurd (never_some (own_advert c.voice (key_of r)) (ap (λ v. own_advert v (key_of r)) h.voice ∙ nothing_said s.address s.incarnation s.originators.items c.vnis r) some);
     latest = subst (λ l. IsLatest l 0) (sym h.learned) (latest_nothing s.capacity (length s.ports.items) s.buckets s.salt 0);
+    individual = nobody_individual s c h;
+    served = λ v in'. Contains-permutation s.vnis.items c.vnis v h.vnis (serves v (subst (λ l. Contains l v) h.ports in'));
+    buckets = subst (λ (l : Learning). 0 < length l.chains) (sym h.learned) (let many : length (replicate s.buckets none_there) ≡ s.buckets = length-replicate s.buckets none_there in omega (arith, many, some));
     ports = ports_length settings ports 1 ∙ sym size ∙ sym (ap length h.ports);
     early = omega arith;
   };

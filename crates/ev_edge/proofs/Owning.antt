@@ -1,7 +1,8 @@
 -- An edge owns what it advertises, and has heard no station later than now, through each change of what it claims.
-use Rattle.std.proofs.Common.{◌≡◌, ◌≢◌, inl, inr, ℕ, Bool, true, false, cond, not, Option, Some, None, List, [], ◌∷◌, refl, sym, ap, subst, ◌∙◌, arith}
+use Rattle.std.proofs.Common.{◌≡◌, ◌≢◌, inl, inr, ℕ, ◌<◌, Bool, true, false, cond, not, Option, Some, None, List, [], ◌∷◌, length, refl, sym, ap, subst, ◌∙◌, arith}
 use Rattle.std.specs.Prelude.{IsSome, is_some, ◌&&◌, MatchOption}
 use Rattle.std.proofs.lemmas.Bool.Decides.{nat_tests}
+use Rattle.ether_wire.specs.Names.{is_group}
 use Rattle.route_wire.specs.declared.update.Ip.{Ip}
 use Rattle.route_wire.specs.declared.update.Key.{Key}
 use Rattle.route_wire.specs.declared.update.Key.TheVariants.{Flood, Mac}
@@ -16,12 +17,15 @@ use Rattle.route_join.proofs.Owners.{owner_is, owner_along}
 use Rattle.route_join.proofs.Joins.{others_stay}
 use Rattle.route_join.proofs.Tables.{at_same, at_other}
 use Rattle.mac_arena.specs.declared.station.Station.{Station}
-use Rattle.mac_arena.specs.Learning.{IsLatest}
+use Rattle.mac_arena.specs.declared.station.Entry.{Entry}
+use Rattle.mac_arena.specs.Learning.{Learning, entry_at, IsLatest, after_removal as gone}
+use Rattle.mac_arena.specs.Laws.{ChangesEntry}
 use Rattle.mac_arena.proofs.Entries.{same_or_other}
-use Rattle.mac_arena.proofs.Values.{latest_removal}
+use Rattle.mac_arena.proofs.Looking.{removal_entry}
+use Rattle.mac_arena.proofs.Values.{latest_removal, chains_removal}
 use Rattle.ev_claims.specs.Voice.{Voice, own_register, own_advert, is_at, next_value, after_saying}
 use Rattle.ev_claims.specs.Claims.{Claims, key_of, after_removal, after_removals, after_update, after_losing_at, after_losing, after_take, is_lost}
-use Rattle.ev_edge.specs.Edge.{OwnsAt}
+use Rattle.ev_edge.specs.Edge.{OwnsAt, AreIndividual, ServesPorts}
 
 -- ---- another key is said
 pub other_key : (r s : Station) (i j : Option Ip) → r ≢ s → Mac r.vni r.mac i ≢ Mac s.vni s.mac j
@@ -55,12 +59,38 @@ removal_owns c s others r = elim (same_or_other r s) as (λ _. OwnsAt (after_rem
 
 -- ---- several removals
 
+-- no group address is learnt, where one entry changes
+pub changed_individual : (t t' : Learning) (s : Station) (o : Option Entry) → ChangesEntry t t' s o → (IsSome o → is_group s.mac ≡ false) → AreIndividual t → AreIndividual t'
+changed_individual t t' s o change free h r some = elim (same_or_other r s) as (λ _. is_group r.mac ≡ false) [
+  | inl same ↦ subst (λ (q : Station). is_group q.mac ≡ false) (sym same) (free (subst IsSome change.here (subst (λ q. IsSome (entry_at t' q)) same some)))
+  | inr ne ↦ h r (subst IsSome (change.others r ne) some)
+]
+
+no_entry : {P : Type 0} → IsSome {T = Entry} None → P
+no_entry some = cc
+
+pub removal_individual : (t : Learning) (s : Station) → AreIndividual t → AreIndividual (gone t s)
+removal_individual t s h = changed_individual t (gone t s) s None (removal_entry t s) no_entry h
+
 pub record Holds (c : Claims) (second : ℕ) : Type 0 where
   pub owns : (s : Station) → OwnsAt c s
   pub latest : IsLatest c.learned second
+  pub individual : AreIndividual c.learned
+  pub served : ServesPorts c
+  pub buckets : 0 < length c.learned.chains
+
+-- one bucket at least, where there are as many as before
+pub some_bucket : (t t' : Learning) → length t'.chains ≡ length t.chains → 0 < length t.chains → 0 < length t'.chains
+some_bucket t t' same h = omega (arith, same, h)
 
 pub removal_holds : (c : Claims) (s : Station) (second : ℕ) → Holds c second → Holds (after_removal c s) second
-removal_holds c s second h = record { owns = removal_owns c s (λ r ne. h.owns r); latest = latest_removal c.learned s second h.latest }
+removal_holds c s second h = record {
+  owns = removal_owns c s (λ r ne. h.owns r);
+  latest = latest_removal c.learned s second h.latest;
+  individual = removal_individual c.learned s h.individual;
+  served = h.served;
+  buckets = some_bucket c.learned (gone c.learned s) (chains_removal c.learned s) h.buckets;
+}
 
 pub removals_hold : (c : Claims) (ss : List Station) (second : ℕ) → Holds c second → Holds (after_removals c ss) second
 removals_hold c [] second h = h
@@ -91,20 +121,29 @@ not_lost c s h some = go (owner c.voice.table s.vni s.mac) (at (own_advert c.voi
     go None p q = cc
     go (Some o) p q = let same : o ≡ c.voice.address = grind (arith, nat_tests) in subst (IsOwner c.voice.table s.vni s.mac) same q
 
-losing_holds : (c : Claims) (s : Station) (second : ℕ) → ((r : Station) → r ≢ s → OwnsAt c r) → IsLatest c.learned second → Holds (after_losing_at c s) second
-losing_holds c s second others latest = go (is_lost c s) refl
+losing_holds : (c : Claims) (s : Station) (second : ℕ) → ((r : Station) → r ≢ s → OwnsAt c r) → IsLatest c.learned second → AreIndividual c.learned → ServesPorts c → 0 < length c.learned.chains → Holds (after_losing_at c s) second
+losing_holds c s second others latest single served buckets = go (is_lost c s) refl
   where
     go : (x : Bool) → is_lost c s ≡ x → Holds (cond x (after_removal c s) c) second
-    go true lost = record { owns = removal_owns c s others; latest = latest_removal c.learned s second latest }
+    go true lost = record {
+      owns = removal_owns c s others;
+      latest = latest_removal c.learned s second latest;
+      individual = removal_individual c.learned s single;
+      served = served;
+      buckets = some_bucket c.learned (gone c.learned s) (chains_removal c.learned s) buckets;
+    }
     go false lost = record {
       owns = λ r. elim (same_or_other r s) as (λ _. OwnsAt c r) [ inl same ↦ subst (OwnsAt c) (sym same) (not_lost c s lost) | inr ne ↦ others r ne ];
       latest = latest;
+      individual = single;
+      served = served;
+      buckets = buckets;
     }
 
 pub taken_holds : (c : Claims) (u : Fields) (second : ℕ) → Holds c second → Holds (after_take c u) second
 taken_holds c u second h = go u.register.key refl
   where
     go : (k : Key) → u.register.key ≡ k → Holds (after_losing (after_update c u) k) second
-    go (Flood v) key = record { owns = λ r. elsewhere c u r (λ j q. let both : Mac r.vni r.mac j ≡ Flood v = q ∙ key in cc) (h.owns r); latest = h.latest }
+    go (Flood v) key = record { owns = λ r. elsewhere c u r (λ j q. let both : Mac r.vni r.mac j ≡ Flood v = q ∙ key in cc) (h.owns r); latest = h.latest; individual = h.individual; served = h.served; buckets = h.buckets }
     go (Mac v m ip) key =
-        losing_holds (after_update c u) (record { vni = v; mac = m }) second (λ r ne. elsewhere c u r (λ j q. other_key r (record { vni = v; mac = m }) j ip ne (q ∙ key)) (h.owns r)) h.latest
+        losing_holds (after_update c u) (record { vni = v; mac = m }) second (λ r ne. elsewhere c u r (λ j q. other_key r (record { vni = v; mac = m }) j ip ne (q ∙ key)) (h.owns r)) h.latest h.individual h.served h.buckets

@@ -33,6 +33,9 @@ same_holds : (c : Claims) (v : Voice) (second : ℕ) → v.address ≡ c.voice.a
 same_holds c v second address own others h = record {
   owns = λ s some. subst (λ a. IsOwner v.table s.vni s.mac a) (sym address) (owner_along c.voice.table v.table s.vni s.mac c.voice.address (λ o j. go s o j (eqb o c.voice.address) refl) (h.owns s (subst IsSome (own (key_of s)) some)));
   latest = h.latest;
+  individual = h.individual;
+  served = h.served;
+  buckets = h.buckets;
 }
   where
     go : (s : Station) (o : ℕ) (j : Option Ip) (b : Bool) → eqb o c.voice.address ≡ b → advert_at c.voice.table o (Mac s.vni s.mac j) ≡ advert_at v.table o (Mac s.vni s.mac j)

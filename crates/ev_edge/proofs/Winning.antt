@@ -3,6 +3,7 @@ use Rattle.std.proofs.Common.{◌≡◌, ◌≢◌, inl, inr, ℕ, ◌<◌, Bool
 use Rattle.std.specs.declared.cmp.Ordering.{Ordering}
 use Rattle.std.proofs.lemmas.Bool.{eq-eqb}
 use Rattle.std.proofs.lemmas.Bool.Decides.{nat_tests}
+use Rattle.ether_wire.specs.Names.{is_group}
 use Rattle.route_wire.specs.declared.update.Ip.{Ip}
 use Rattle.route_wire.specs.declared.update.Key.TheVariants.{Mac}
 use Rattle.route_wire.specs.declared.update.Advert.{Advert}
@@ -19,19 +20,22 @@ use Rattle.mac_arena.specs.declared.station.Entry.{Entry}
 use Rattle.mac_arena.specs.declared.table.Learnt.TheVariants.{New}
 use Rattle.mac_arena.specs.Learning.{is_full}
 use Rattle.mac_arena.proofs.Entries.{same_or_other}
-use Rattle.mac_arena.proofs.Values.{latest_learn, latest_pin}
+use Rattle.mac_arena.proofs.Looking.{learn_entry, pin_entry}
+use Rattle.mac_arena.proofs.Values.{latest_learn, latest_pin, chains_learn, chains_pin}
 use Rattle.ev_mobility.specs.declared.seq.Seq.{Seq}
 use Rattle.ev_mobility.specs.declared.seq.Seq.TheVariants.{Next, Static, Spent}
 use Rattle.ev_mobility.specs.Seq.{EveryElsewhere, IsSeqFor, seq_for}
 use Rattle.ev_mobility.proofs.Hearing.{seq_is}
 use Rattle.ev_mobility.specs.declared.alert.Alert.TheVariants.{StaticElsewhere, CounterSpent, TableFull}
 use Rattle.ev_claims.specs.Voice.{Voice, own_register, next_value, after_saying}
-use Rattle.ev_claims.specs.Claims.{Claims, KeepsClaims, key_of, after_advert, after_pin}
+use Rattle.ev_claims.specs.Claims.{Claims, KeepsClaims, key_of, vni_at, after_advert, after_pin}
 use Rattle.ev_edge.specs.declared.pinning.PinCase.TheVariants.{Keep, Shift, Deny, Pin}
 use Rattle.ev_edge.specs.Edge.{Edge, OwnsAt, table_of, address_of}
 use Rattle.ev_edge.specs.Learning.{is_spent}
-use Rattle.ev_edge.specs.Pinning.{is_static, unpinned_case, pin_case_at}
-use Rattle.ev_edge.proofs.Owning.{Holds, other_key, said_other, saying_owns}
+use Rattle.ev_edge.specs.declared.refusal.EdgeRefusal.{EdgeRefusal}
+use Rattle.ev_edge.specs.declared.refusal.EdgeRefusal.TheVariants.{BadMac, NoSuchVni}
+use Rattle.ev_edge.specs.Pinning.{is_static, unpinned_case, pin_case_at, pin_refusal, refused_pin}
+use Rattle.ev_edge.proofs.Owning.{Holds, changed_individual, some_bucket, other_key, said_other, saying_owns}
 
 pub seq_exact : (t : Table) (own vni mac : ℕ) → IsSeqFor t own vni mac (seq_for t own vni mac)
 seq_exact t own vni mac = seq_is t own vni mac (updates_of t vni mac) (updates_of_are t vni mac)
@@ -92,10 +96,13 @@ next_beats c s n next b o p j other is = pick b.is_static loose
     pick true e = cc
     pick false e = (omega (arith, less), λ same. absurd (omega (arith, less, same)))
 
-pub advert_holds : (c : Claims) (s : Station) (port second n : ℕ) → KeepsClaims c → seq_for c.voice.table c.voice.address s.vni s.mac ≡ Next n → Holds c second → Holds (after_advert c s port second n) second
-advert_holds c s port second n good next h = record {
+pub advert_holds : (c : Claims) (s : Station) (port second n : ℕ) → KeepsClaims c → seq_for c.voice.table c.voice.address s.vni s.mac ≡ Next n → is_group s.mac ≡ false → Holds c second → Holds (after_advert c s port second n) second
+advert_holds c s port second n good next single h = record {
   owns = said_holds c s (record { is_static = false; sequence = n; label2 = None }) good (next_beats c s n next) h.owns;
   latest = latest_learn c.learned s port second New h.latest;
+  individual = changed_individual c.learned (after_advert c s port second n).learned s _ (learn_entry c.learned s port second New) (λ some. single) h.individual;
+  served = h.served;
+  buckets = some_bucket c.learned (after_advert c s port second n).learned (chains_learn c.learned s port second New) h.buckets;
 }
 
 -- ---- pinning
@@ -112,11 +119,30 @@ static_beats c s free b o p j other is = pick b.is_static (loose (seq_for c.voic
     pick true e = cc
     pick false e = tt
 
-pub pin_holds : (c : Claims) (s : Station) (port second : ℕ) → KeepsClaims c → is_static (seq_for c.voice.table c.voice.address s.vni s.mac) ≡ false → Holds c second → Holds (after_pin c s port) second
-pin_holds c s port second good free h = record {
+pub pin_holds : (c : Claims) (s : Station) (port second : ℕ) → KeepsClaims c → is_static (seq_for c.voice.table c.voice.address s.vni s.mac) ≡ false → is_group s.mac ≡ false → Holds c second → Holds (after_pin c s port) second
+pin_holds c s port second good free single h = record {
   owns = said_holds c s (record { is_static = true; sequence = 0; label2 = None }) good (static_beats c s free) h.owns;
   latest = latest_pin c.learned s port second h.latest;
+  individual = changed_individual c.learned (after_pin c s port).learned s _ (pin_entry c.learned s port) (λ some. single) h.individual;
+  served = h.served;
+  buckets = some_bucket c.learned (after_pin c s port).learned (chains_pin c.learned s port) h.buckets;
 }
+
+-- what isn't refused is an individual address, and the port is of its network
+pub pin_fits : (e : Edge) (s : Station) (port : ℕ) → refused_pin e s port ≡ None → (vni_at e.claims.ports port ≡ Some s.vni) × (is_group s.mac ≡ false)
+pin_fits e s port is = go (vni_at e.claims.ports port) refl is
+  where
+    single : (b : Bool) → cond b (Some BadMac) None ≡ None → b ≡ false
+    single true q = cc
+    single false q = refl
+
+    there : (vni : ℕ) → vni_at e.claims.ports port ≡ Some vni → (b : Bool) → eqb vni s.vni ≡ b → cond b (cond (is_group s.mac) (Some BadMac) None) (Some NoSuchVni) ≡ None → (vni_at e.claims.ports port ≡ Some s.vni) × (is_group s.mac ≡ false)
+    there vni at true t q = (at ∙ ap Some (let same : vni ≡ s.vni = grind (arith, nat_tests) in same), single (is_group s.mac) q)
+    there vni at false t q = cc
+
+    go : (o : Option ℕ) → vni_at e.claims.ports port ≡ o → pin_refusal o s ≡ None → (vni_at e.claims.ports port ≡ Some s.vni) × (is_group s.mac ≡ false)
+    go None at q = cc
+    go (Some vni) at q = there vni at (eqb vni s.vni) refl q
 
 -- what is pinned isn't static elsewhere
 not_static : (e : Edge) (s : Station) (known : Bool) → unpinned_case e s known ≡ Pin → is_static (seq_for (table_of e) (address_of e) s.vni s.mac) ≡ false

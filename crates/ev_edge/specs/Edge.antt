@@ -1,12 +1,13 @@
 -- An edge, and when it is good.
-use Rattle.std.specs.Prelude.{◌≡◌, ℕ, ◌≤◌, ◌^◌, ◌↔◌, true, IsSome, length}
+use Rattle.std.specs.Prelude.{◌≡◌, ℕ, ◌<◌, ◌≤◌, ◌^◌, ◌↔◌, true, false, IsSome, Contains, length}
 use Rattle.std.specs.FinMap.{FinMap}
+use Rattle.ether_wire.specs.Names.{is_group}
 use Rattle.ether_wire.specs.Ports.{has_port}
 use Rattle.route_join.specs.Table.{Table}
 use Rattle.route_join.specs.Owner.{IsOwner}
 use Rattle.mac_arena.specs.declared.station.Station.{Station}
 use Rattle.mac_arena.specs.Station.{station_cmp}
-use Rattle.mac_arena.specs.Learning.{IsLatest}
+use Rattle.mac_arena.specs.Learning.{Learning, entry_at, IsLatest}
 use Rattle.rstp_run.specs.Rules.{Tree}
 use Rattle.rstp_run.specs.Events.{IsPort, Passes}
 use Rattle.ev_mobility.specs.declared.window.Window.{Window}
@@ -36,10 +37,22 @@ address_of e = e.claims.voice.address
 abbrev pub OwnsAt : Claims → Station → Type 0
 OwnsAt c s = IsSome (own_advert c.voice (key_of s)) → IsOwner c.voice.table s.vni s.mac c.voice.address
 
--- The edge owns what it advertises, has heard no station later than now, and its bridge has its ports.
+-- no group address is learnt
+abbrev pub AreIndividual : Learning → Type 0
+AreIndividual t = (s : Station) → IsSome (entry_at t s) → is_group s.mac ≡ false
+
+-- each port is of a network that the edge serves
+abbrev pub ServesPorts : Claims → Type 0
+ServesPorts c = (v : ℕ) → Contains c.ports v → Contains c.vnis v
+
+-- The edge owns what it advertises, has heard no station later than now, and learns no group address; it serves the
+-- networks of its ports; its learning table has a bucket; and its bridge has its ports.
 pub record KeepsEdge (e : Edge) : Type 0 where
   pub owns : (s : Station) → OwnsAt e.claims s
   pub latest : IsLatest e.claims.learned e.clock
+  pub individual : AreIndividual e.claims.learned
+  pub served : ServesPorts e.claims
+  pub buckets : 0 < length e.claims.learned.chains
   pub ports : length e.tree.ports ≡ length e.claims.ports
   pub early : e.clock ≤ 2 ^ 63
 

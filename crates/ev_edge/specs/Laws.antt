@@ -1,5 +1,6 @@
 -- What the laws of edges say.
 use Rattle.std.specs.Prelude.{◌≡◌, ◌≢◌, ◌↔◌, ℕ, ◌==◌, ◌&&◌, Bool, true, false, not, Option, Some, None, IsSome, is_some, Result, Ok, Err, List, []}
+use Rattle.std.specs.Option.{ForSome}
 use Rattle.ether_wire.specs.Ports.{IsPort, has_port}
 use Rattle.ether_wire.specs.Frame.{frame_of, destination_of}
 use Rattle.vxlan_wire.specs.Vxlan.{instance_of}
@@ -24,8 +25,10 @@ use Rattle.ev_edge.specs.declared.refusal.EdgeRefusal.TheVariants.{NoMemory}
 use Rattle.ev_edge.specs.declared.refusal.Refusal.{Refusal}
 use Rattle.ev_edge.specs.declared.refusal.Refusal.TheVariants.{Edge as OfEdge}
 use Rattle.ev_edge.specs.declared.reply.Reply.{Reply}
-use Rattle.ev_edge.specs.Edge.{Edge, table_of, address_of}
-use Rattle.ev_edge.specs.Arrival.{is_reserved, frame_arrival}
+use Rattle.ev_edge.specs.Edge.{Edge, IsGoodEdge, table_of, address_of}
+use Rattle.ev_edge.specs.Arrival.{is_reserved, frame_arrival, tunnel_arrival}
+use Rattle.ev_edge.specs.Steps.{FrameSteps, TunnelSteps, Steps}
+use Rattle.ev_edge.specs.Changes.{Changes}
 
 -- ---- where frames go
 
@@ -89,3 +92,30 @@ takes_none e events.Announce = true
 abbrev pub TellsNoMemory : Result Reply Refusal → Type 0
 TellsNoMemory (Ok reply) = reply.alert ≡ Some Unroomed
 TellsNoMemory (Err r) = r ≡ OfEdge NoMemory
+
+-- ---- over all states of an edge, so over those between two steps, too
+
+-- an edge stays good, whatever comes
+abbrev pub StaysGood : Type 0
+StaysGood = (e e' : Edge) (event : Event) (result : Result Reply Refusal) → IsGoodEdge e → Steps e event result e' → IsGoodEdge e'
+
+abbrev pub ChangesItsOwn : Type 0
+ChangesItsOwn = (e e' : Edge) (event : Event) (result : Result Reply Refusal) → IsGoodEdge e → Steps e event result e' → Changes e event result e'
+
+abbrev pub LeavesByMembers : Type 0
+LeavesByMembers =
+    (e e' : Edge) (port : ℕ) (octets : List ℕ) (result : Result Reply Refusal) → IsGoodEdge e
+    → FrameSteps (frame_arrival e port octets) e port result e' → ForSome (decision_in result) (LeavesBy e port)
+
+abbrev pub LeavesNoTunnelByOne : Type 0
+LeavesNoTunnelByOne =
+    (e e' : Edge) (from : ℕ) (octets : List ℕ) (result : Result Reply Refusal) → IsGoodEdge e
+    → TunnelSteps (tunnel_arrival e from octets) e result e' → ForSome (decision_in result) (LeavesTunnel e octets)
+
+abbrev pub OwnsItsAdverts : Type 0
+OwnsItsAdverts = (e : Edge) → IsGoodEdge e → AdvertisesItsOwn e
+
+abbrev pub TakesNoMemory : Type 0
+TakesNoMemory =
+    (e e' : Edge) (event : Event) (result : Result Reply Refusal) → takes_none e event ≡ true
+    → Steps e event result e' → TellsNoMemory result → ⊥

@@ -1,12 +1,11 @@
-//! Laws of edges, each a function that does nothing and whose contract is the law.
-ghost use Rattle.std.specs.Prelude.{◌≡◌, true, None};
-ghost use Rattle.std.specs.Option.{ForSome};
+//! Laws of edges, each a function that does nothing and whose contract is the law. What holds of
+//! each state of an edge is said of all of them, so of those between two steps of a run, too.
+ghost use Rattle.std.specs.Prelude.{◌≡◌, None};
 ghost use Rattle.ev_claims.specs.Opening.{Opens};
 ghost use Rattle.ev_edge.specs.Config.{IsConfig};
 ghost use Rattle.ev_edge.specs.Opening.{IsOpening, start_of};
 ghost use Rattle.ev_edge.specs.Steps.{Steps};
-ghost use Rattle.ev_edge.specs.Changes.{Changes};
-ghost use Rattle.ev_edge.specs.Laws.{decision_in, LeavesBy, LeavesTunnel, IsReserved, HoldsReserved, AdvertisesItsOwn, takes_none, TellsNoMemory};
+ghost use Rattle.ev_edge.specs.Laws.{decision_in, IsReserved, HoldsReserved, StaysGood, ChangesItsOwn, LeavesByMembers, LeavesNoTunnelByOne, OwnsItsAdverts, TakesNoMemory};
 ghost use Rattle.ev_edge.specs.Removed.{StepsRemove};
 
 use crate::config::EdgeConfig;
@@ -16,16 +15,19 @@ use crate::refusal::Refusal;
 use crate::reply::Reply;
 use ether_wire::Addr;
 
-/// What an event changes in what an edge says: the table takes the update that is accepted, and
+/// A good edge is good after each event, whatever is answered: it follows from what a step is, and
+/// needs nothing that only this code does.
+pub fn stays_good()
+    ensures { StaysGood }
+{}
+
+/// What an event changes in what a good edge says: the table takes the update that is accepted, and
 /// then what the edge says itself. Its own changes take the numbers after the counter without a
 /// gap, and those of them that weren't pending are pending at the end, in the order of their
 /// numbers. They are one more at the most than it had stations.
-pub fn own_changes(before: &Edge, event: &Event<'_>, answer: &Result<Reply, Refusal>, after: &Edge)
-    requires { Steps before.now event.now answer.now after.now }
-    ensures { Changes before.now event.now answer.now after.now }
-{
-    before.always_good();
-}
+pub fn own_changes()
+    ensures { ChangesItsOwn }
+{}
 
 /// The opening is such a change from nothing: the flood list of each network is
 /// said, numbered from 1.
@@ -35,35 +37,17 @@ pub fn opening_says(config: &EdgeConfig, edge: &Edge)
     ensures { Opens (start_of config.now) edge.now.claims }
 {}
 
-/// A frame that comes at an access port leaves only by ports of its network that pass at that
-/// event, and never by its own port.
-pub fn leaves_by_members_that_pass(
-    before: &Edge,
-    port: u8,
-    octets: &[u8],
-    answer: &Result<Reply, Refusal>,
-    after: &Edge,
-)
-    requires { Steps before.now (Event.Frame port octets) answer.now after.now }
-    ensures { ForSome (decision_in answer.now) (LeavesBy before.now port) }
-{
-    after.always_good();
-}
+/// A frame that comes at an access port of a good edge leaves only by ports of its network that
+/// pass at that event, and never by its own port.
+pub fn leaves_by_members_that_pass()
+    ensures { LeavesByMembers }
+{}
 
-/// A frame from a tunnel goes into no tunnel, and leaves only by ports of its network
+/// A frame from a tunnel goes into no tunnel, and leaves a good edge only by ports of its network
 /// that pass at that event.
-pub fn never_from_tunnel_to_tunnel(
-    before: &Edge,
-    from: Addr,
-    octets: &[u8],
-    answer: &Result<Reply, Refusal>,
-    after: &Edge,
-)
-    requires { Steps before.now (Event.TunnelFrame from octets) answer.now after.now }
-    ensures { ForSome (decision_in answer.now) (LeavesTunnel before.now octets.now) }
-{
-    before.always_good();
-}
+pub fn never_from_tunnel_to_tunnel()
+    ensures { LeavesNoTunnelByOne }
+{}
 
 /// A frame to a reserved destination goes nowhere.
 pub fn reserved_goes_nowhere(
@@ -91,26 +75,17 @@ pub fn reserved_in_tunnel_goes_nowhere(
     ensures { decision_in answer.now ≡ None }
 {}
 
-/// The stations that an edge has learnt or pinned are exactly those that it advertises, as static
-/// exactly the pinned ones, and it owns each of them.
-pub fn advertises_its_own(edge: &Edge)
-    ensures { AdvertisesItsOwn edge.now }
-{
-    edge.always_good();
-}
+/// The stations that a good edge has learnt or pinned are exactly those that it advertises, as
+/// static exactly the pinned ones, and it owns each of them.
+pub fn advertises_its_own()
+    ensures { OwnsItsAdverts }
+{}
 
 /// Seconds, ports that come up or go down, frames from tunnels, BPDUs, unpinning,
 /// thawing, announcing, and taking another edge's update of a register that is there,
 /// never tell of refused memory.
-pub fn takes_no_memory(
-    before: &Edge,
-    event: &Event<'_>,
-    answer: &Result<Reply, Refusal>,
-    after: &Edge,
-)
-    requires none { takes_none before.now event.now ≡ true }
-    requires step { Steps before.now event.now answer.now after.now }
-    ensures { TellsNoMemory answer.now → ⊥ }
+pub fn takes_no_memory()
+    ensures { TakesNoMemory }
 {}
 
 /// At each event of a good edge exactly those stations go from the learning table that pass the

@@ -4,6 +4,7 @@ use Rattle.std.proofs.lemmas.Bool.{cases_eq}
 use Rattle.std.specs.Prelude.{Contains, IsSome}
 use Rattle.std.specs.FinMap.{get}
 use Rattle.std.specs.Option.{option_map}
+use Rattle.ether_wire.specs.Names.{is_group}
 use Rattle.route_wire.specs.declared.update.Ip.{Ip}
 use Rattle.route_wire.specs.declared.update.Key.TheVariants.{Mac}
 use Rattle.route_wire.specs.declared.update.Register.{Register}
@@ -107,6 +108,10 @@ learnt a s h says = go (entry_at a.claims.learned s) refl
         let left : option_map {U = Bool} (λ (x : Entry). x.pinned) (entry_at a.claims.learned s) ≡ None = ap (option_map (λ (x : Entry). x.pinned)) is in
         let right : option_map {U = Bool} (λ (x : Advert). x.is_static) (own_advert a.claims.voice (key_of s)) ≡ Some y.0.is_static = ap (option_map (λ (x : Advert). x.is_static)) y.1 in
         absurd (let bad : None ≡ Some y.0.is_static = sym left ∙ k ∙ right in cc)
+
+-- a station that is advertised has an individual address
+pub individual : (a : Edge) (s : Station) → IsGoodEdge a → Advertises a s → is_group s.mac ≡ false
+individual a s h says = h.keeps.individual s (subst IsSome (sym (learnt a s h says).1.learnt) refl)
 
 -- no advert of an earlier life is left
 pub none_back : NoneBack

@@ -38,7 +38,7 @@ local_does f ys e event result h s = record { steps = steps; sound = step_sound 
   where
     steps : FabricSteps f (Local e event) result (fabric_of ys f.configs f.pool)
     steps = at_some (IsRefused NoSuchEdge f result (fabric_of ys f.configs f.pool)) (λ a. StepsAt f e a (event_of event) result (fabric_of ys f.configs f.pool)) s.before s.there
-        (record { after = s.after; answer = s.answer; steps = s.steps; good = s.good; result_is = s.result_is; new_is = ap (λ l. fabric_of l f.configs f.pool) s.new_is })
+        (record { after = s.after; answer = s.answer; steps = s.steps; result_is = s.result_is; new_is = ap (λ l. fabric_of l f.configs f.pool) s.new_is })
 
 pub deliver_does : (f : Fabric) (ys : List Edge) (e k : ℕ) (u : Fields) (result : Result Reply Refusal) → IsSound f → nth f.pool k ≡ Some u → OneSteps f.edges e (events.Take u) result ys → Does f (fabric_of ys f.configs f.pool) (Deliver e k) result
 deliver_does f ys e k u result h at s = record { steps = steps; sound = step_sound f (fabric_of ys f.configs f.pool) (Deliver e k) result steps h }
@@ -46,7 +46,7 @@ deliver_does f ys e k u result h at s = record { steps = steps; sound = step_sou
     steps : FabricSteps f (Deliver e k) result (fabric_of ys f.configs f.pool)
     steps = at_some (IsRefused NoSuchEdge f result (fabric_of ys f.configs f.pool)) (λ a. MatchOption (nth f.pool k) (IsRefused NoSuchUpdate f result (fabric_of ys f.configs f.pool)) (λ w. StepsAt f e a (events.Take w) result (fabric_of ys f.configs f.pool))) s.before s.there
         (at_some (IsRefused NoSuchUpdate f result (fabric_of ys f.configs f.pool)) (λ w. StepsAt f e s.before (events.Take w) result (fabric_of ys f.configs f.pool)) u at
-        (record { after = s.after; answer = s.answer; steps = s.steps; good = s.good; result_is = s.result_is; new_is = ap (λ l. fabric_of l f.configs f.pool) s.new_is }))
+        (record { after = s.after; answer = s.answer; steps = s.steps; result_is = s.result_is; new_is = ap (λ l. fabric_of l f.configs f.pool) s.new_is }))
 
 pub no_update : (f : Fabric) (e k : ℕ) (a : Edge) → IsSound f → nth f.edges e ≡ Some a → nth f.pool k ≡ None → Does f f (Deliver e k) (Err NoSuchUpdate)
 no_update f e k a h there none = refuses f (Deliver e k) NoSuchUpdate h
@@ -66,7 +66,7 @@ announce_does f ys grown e reply h s pool = record { steps = steps; sound = step
   where
     steps : FabricSteps f (Announce e) (Ok reply) (fabric_of ys f.configs grown)
     steps = at_some (IsRefused NoSuchEdge f (Ok reply) (fabric_of ys f.configs grown)) (λ a. AnnouncesAt f e a (Ok reply) (fabric_of ys f.configs grown)) s.before s.there
-        (s.after, subst (λ r. Steps s.before events.Announce r s.after) (answered reply s.answer s.result_is) s.steps, (λ i. fabric_of (s.new_is i) f.configs (pool i)), s.good)
+        (s.after, subst (λ r. Steps s.before events.Announce r s.after) (answered reply s.answer s.result_is) s.steps, (λ i. fabric_of (s.new_is i) f.configs (pool i)))
 
 -- ---- a restart
 pub not_higher : (f : Fabric) (e n : ℕ) (a : Edge) → IsSound f → nth f.edges e ≡ Some a → n ≤ life_of a → Does f f (Restart e n) (Err NoHigher)

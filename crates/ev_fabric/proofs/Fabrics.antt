@@ -20,6 +20,7 @@ use Rattle.ev_edge.specs.declared.event.Event.TheVariants as events
 use Rattle.ev_edge.specs.Config.{IsConfig}
 use Rattle.ev_edge.specs.Edge.{Edge, IsGoodEdge, table_of, address_of}
 use Rattle.ev_edge.specs.Steps.{Steps, nothing}
+use Rattle.ev_edge.proofs.Remaining.{steps_good}
 use Rattle.ev_fabric.specs.declared.refusal.Refusal.{Refusal}
 use Rattle.ev_fabric.specs.declared.refusal.Refusal.TheVariants.{NoSuchEdge, NoSuchUpdate, Edge as OfEdge}
 use Rattle.ev_fabric.specs.declared.step.LocalEvent.{LocalEvent}
@@ -135,7 +136,7 @@ pool_stays old new i before after step pool configs one good told h = record {
 
 -- the edge steps
 steps_at : (old new : Fabric) (i : ℕ) (a : Edge) (event : Event) (result : Result Reply Refusal) → IsEdge old i a → (s : StepsAt old (suc i) a event result new) → Leaves old.pool a.claims.voice s.after.claims.voice → IsSound old → IsSound new
-steps_at old new i a event result at s leaves h = pool_stays old new i a s.after step (ap (λ (f : Fabric). f.pool) s.new_is) (ap (λ (f : Fabric). f.configs) s.new_is) leaves.one s.good (leaves.told (h.told i a at)) h
+steps_at old new i a event result at s leaves h = pool_stays old new i a s.after step (ap (λ (f : Fabric). f.pool) s.new_is) (ap (λ (f : Fabric). f.configs) s.new_is) leaves.one (steps_good a event s.answer s.after (h.good i a at) s.steps) (leaves.told (h.told i a at)) h
   where
     index : suc i - 1 ≡ i
     index = omega arith
@@ -239,6 +240,9 @@ announces_at old new i a (Ok reply) at s h = go (announced_cases a a.claims.voic
     index : suc i - 1 ≡ i
     index = omega arith
 
+    good : IsGoodEdge b
+    good = steps_good a events.Announce (Ok reply) b (h.good i a at) s.1
+
     says : reply ≡ record nothing { announced = announced a.claims.voice }
     says = let p = s.1.0 in cc
 
@@ -266,10 +270,10 @@ announces_at old new i a (Ok reply) at s h = go (announced_cases a a.claims.voic
     quiet none = voice ∙ ap (λ l. record a.claims.voice { pending = l }) (ap (drop 1) none ∙ sym none)
 
     go : ((a.claims.voice.pending ≡ []) × (announced a.claims.voice ≡ None)) ⊎ IsAnnounced a (announced a.claims.voice) (drop 1 a.claims.voice.pending) → IsSound new
-    go (inl none) = pool_stays old new i a b step (pool ∙ ap (with_announced old.pool) none.1) configs (subst (AreOne a.claims.voice) (sym (quiet none.0)) (one_itself a.claims.voice)) s.3 (subst (IsTold old.pool) (sym (quiet none.0)) (h.told i a at)) h
+    go (inl none) = pool_stays old new i a b step (pool ∙ ap (with_announced old.pool) none.1) configs (subst (AreOne a.claims.voice) (sym (quiet none.0)) (one_itself a.claims.voice)) good (subst (IsTold old.pool) (sym (quiet none.0)) (h.told i a at)) h
     go (inr first) =
         pool_grows old new i a b (drop 1 a.claims.voice.pending) first.register first.value step (pool ∙ ap (with_announced old.pool) first.is) configs voice
-        first.first first.there first.alive first.own s.3 h
+        first.first first.there first.alive first.own good h
 
 -- ---- a restart
 restart_sound : (old new : Fabric) (i : ℕ) (a : Edge) (n : ℕ) (reply : Reply) → IsEdge old i a → OpensAnew old (suc i) a n reply new → IsSound old → IsSound new

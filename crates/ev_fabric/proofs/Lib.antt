@@ -23,3 +23,5 @@ pub mod StationStages
 pub mod StationMotion
 pub mod StationRest
 pub mod StationArrival
+pub mod Goings
+pub mod Journeys

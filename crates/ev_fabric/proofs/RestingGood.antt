@@ -37,23 +37,16 @@ pub record IsSteady (a : Edge) : Type 0 where
   pub ports : length a.tree.ports ≡ length a.claims.ports
   pub early : a.clock ≤ 2 ^ 63
 
--- together they make it good
 pub good_kept : (a : Edge) → IsGoodEdge a → Keeps a.claims a.clock × IsSteady a
 good_kept a h = (
   record {
     claims = h.claims.claims;
     numbers = h.claims.numbers;
     lists = h.claims.lists;
-    holds = record { owns = h.keeps.owns; latest = h.keeps.latest };
+    holds = record { owns = h.keeps.owns; latest = h.keeps.latest; individual = h.keeps.individual; served = h.keeps.served; buckets = h.keeps.buckets };
   },
   record { ports = h.keeps.ports; early = h.keeps.early },
 )
-
-pub kept_good : (a : Edge) → Keeps a.claims a.clock → IsSteady a → IsGoodEdge a
-kept_good a k r = record {
-  claims = record { claims = k.claims; numbers = k.numbers; lists = k.lists };
-  keeps = record { owns = k.holds.owns; latest = k.holds.latest; ports = r.ports; early = r.early };
-}
 
 -- ---- the own numbers
 unheard : (e : Voice) (u : Fields) → is_newest e u ≡ false → e ≡ after_hearing e u
@@ -138,6 +131,9 @@ heard_keeps c u second ok h = record {
 abbrev pub quieter : Claims → List Register → Claims
 quieter c rs = record c { voice = record c.voice { pending = rs } }
 
+announced_like : (c : Claims) (rs : List Register) (second : ℕ) → Holds c second → Holds (quieter c rs) second
+announced_like c rs second h = record { owns = h.owns; latest = h.latest; individual = h.individual; served = h.served; buckets = h.buckets }
+
 pub quieter_keeps : (c : Claims) (r : Register) (rs : List Register) (second : ℕ) → c.voice.pending ≡ r ∷ rs → Keeps c second → Keeps (quieter c rs) second
 quieter_keeps c r rs second pend h = record {
   claims = record { kinds = h.claims.kinds; bare = h.claims.bare; ports = h.claims.ports; floods = h.claims.floods; fits = h.claims.fits; small = h.claims.small; left = h.claims.left; lists = h.claims.lists; few = h.claims.few };
@@ -150,5 +146,5 @@ quieter_keeps c r rs second pend h = record {
     pending = λ q in'. h.numbers.pending q (subst (λ l. Contains l q) (sym pend) (later_one r rs q in'));
   };
   lists = h.lists;
-  holds = record { owns = h.holds.owns; latest = h.holds.latest };
+  holds = announced_like c rs second h.holds;
 }

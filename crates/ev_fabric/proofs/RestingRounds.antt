@@ -19,7 +19,7 @@ use Rattle.ev_edge.specs.declared.reply.Reply.{Reply}
 use Rattle.ev_edge.specs.declared.refusal.Refusal as edge
 use Rattle.ev_edge.specs.declared.refusal.Refusal.TheVariants.{Edge as OfEdge}
 use Rattle.ev_edge.specs.declared.refusal.EdgeRefusal.TheVariants.{NoMemory as EdgeNoMemory}
-use Rattle.ev_edge.specs.Edge.{Edge, IsGoodEdge, table_of, address_of}
+use Rattle.ev_edge.specs.Edge.{Edge, table_of, address_of}
 use Rattle.ev_edge.specs.Steps.{Steps, Takes as TakesBy, nothing, lost_alert}
 use Rattle.ev_fabric.specs.declared.refusal.Refusal.{Refusal}
 use Rattle.ev_fabric.specs.declared.refusal.Refusal.TheVariants.{NoSuchEdge, NoSuchUpdate, Edge as OfAnEdge}
@@ -35,8 +35,8 @@ use Rattle.ev_fabric.proofs.Places.{set_cases, set_same, contains_at, below_leng
 use Rattle.ev_fabric.proofs.RestingSums.{sum_has, count_some, place_of, later_one}
 use Rattle.ev_fabric.proofs.RestingEdge.{Accepts, heard, heard_has, may_return, counted}
 use Rattle.ev_fabric.proofs.RestingIdle.{idle_hearing, Mourns, heard_mourns}
-use Rattle.ev_fabric.proofs.RestingGood.{Keeps, IsSteady, kept_good, heard_keeps, heard_steady, quieter, quieter_keeps}
-use Rattle.ev_fabric.proofs.RestingMoves.{Kept, Move, Stays, Tells, Takes, minus, quiet_claims, silent_claims, moved, before, move_kept, rests_kept, rests_full, rests_before}
+use Rattle.ev_fabric.proofs.RestingGood.{quieter}
+use Rattle.ev_fabric.proofs.RestingMoves.{Kept, Move, Stays, Tells, Takes, minus, moved, before, move_kept, rests_kept, rests_full, rests_before}
 
 -- ---- a fabric whose edges take each update of the pool
 pub record IsReady (f : Fabric) : Type 0 where
@@ -553,15 +553,6 @@ taking_step a u ok = choose (u.register.originator == address_of a) refl
     choose false t =
         (record nothing { taken = Some (taken_of (table_of a) u); alert = lost_alert (loses_pinned a.claims u) }, record a { claims = after_take a.claims u }, (ok.listed, refl, refl))
 
--- an edge that is good stays so where it announces, and where it hears
-announced_good : (a : Edge) (rs : List Register) → a.claims.voice.pending ≡ rs → Keeps a.claims a.clock → IsSteady a → IsGoodEdge (record a { claims = after_announcement a.claims })
-announced_good a [] pend k r = subst (λ c. IsGoodEdge (record a { claims = c })) (sym (silent_claims a.claims pend)) (kept_good a k r)
-announced_good a (q ∷ rs) pend k r = subst (λ c. IsGoodEdge (record a { claims = c })) (sym (quiet_claims a.claims rs (ap (drop 1) pend)))
-    (kept_good (record a { claims = quieter a.claims rs }) (quieter_keeps a.claims q rs a.clock pend k) (record { ports = r.ports; early = r.early }))
-
-heard_good : (a b : Edge) (u : Fields) → Accepts a.claims.voice u → b ≡ record a { claims = heard a.claims u } → Keeps a.claims a.clock → IsSteady a → IsGoodEdge b
-heard_good a b u ok is k r = subst IsGoodEdge (sym is) (kept_good (record a { claims = heard a.claims u }) (heard_keeps a.claims u a.clock ok k) (heard_steady a u r))
-
 pub quiet_step : (f : Fabric) (step : Step) → IsReady f → IsQuiet step → MayStep f step
 quiet_step f (Local e event) ready quiet = absurd quiet
 quiet_step f (Restart e n) ready quiet = absurd quiet
@@ -571,7 +562,7 @@ quiet_step f (Announce e) ready quiet = go e (nth f.edges e) refl
     at i a is =
         let b : Edge = record a { claims = after_announcement a.claims } in
         let reply : Reply = record nothing { announced = announced a.claims.voice } in
-        (record (with_edge f (suc i) b) { pool = with_announced f.pool reply.announced }, Ok reply, tt, (b, (refl, refl), refl, announced_good a a.claims.voice.pending refl (ready.kept.keeps i a is) (ready.kept.steady i a is)))
+        (record (with_edge f (suc i) b) { pool = with_announced f.pool reply.announced }, Ok reply, tt, (b, (refl, refl), refl))
 
     go : (e : ℕ) (o : Option Edge) → nth f.edges e ≡ o → (mid : Fabric) × (result : Result Reply Refusal) × IsGranted result × MatchOption o (IsRefused NoSuchEdge f result mid) (λ a. AnnouncesAt f e a result mid)
     go e None is = (f, Err NoSuchEdge, ((λ q. cc), (λ q. cc)), (refl, refl))
@@ -585,8 +576,7 @@ quiet_step f (Deliver e k) ready quiet = go e (nth f.edges e) refl
     at i a is (suc k) (Some u) there =
         let ok = ready_accepted f ready i a u is (contains_at f.pool k u there) in
         let t = taking_step a u ok in
-        let good = heard_good a t.1 u ok (answered a t.1 u t.0 t.2) (ready.kept.keeps i a is) (ready.kept.steady i a is) in
-        (with_edge f (suc i) t.1, Ok t.0, tt, record { after = t.1; answer = Ok t.0; steps = t.2; good = good; result_is = refl; new_is = refl })
+        (with_edge f (suc i) t.1, Ok t.0, tt, record { after = t.1; answer = Ok t.0; steps = t.2; result_is = refl; new_is = refl })
 
     go : (e : ℕ) (o : Option Edge) → nth f.edges e ≡ o → (mid : Fabric) × (result : Result Reply Refusal) × IsGranted result × MatchOption o (IsRefused NoSuchEdge f result mid) (λ a. MatchOption (nth f.pool k) (IsRefused NoSuchUpdate f result mid) (λ u. StepsAt f e a (events.Take u) result mid))
     go e None is = (f, Err NoSuchEdge, ((λ q. cc), (λ q. cc)), (refl, refl))

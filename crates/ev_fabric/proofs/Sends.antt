@@ -43,7 +43,7 @@ use Rattle.ev_fabric.specs.Agreed.{Advertises}
 use Rattle.ev_fabric.specs.Laws.{IsBehindPort, frame_in, tunnel_frame_in, IsFrameFor, IsTunnelFrameFor, FramesGo, FramesComeOut, TunnelFramesComeOut}
 use Rattle.ev_fabric.proofs.Places.{below_length}
 use Rattle.ev_fabric.specs.Station.{StationFramesGo}
-use Rattle.ev_fabric.proofs.Agreements.{learnt}
+use Rattle.ev_fabric.proofs.Agreements.{learnt, individual}
 use Rattle.ev_fabric.proofs.Stations.{agree_on_each, station_one, station_owner}
 
 -- ---- learning a station leaves the others
@@ -112,7 +112,7 @@ frame_step a (events.PortDown p) result b port octets is h = absurd cc
 frame_step a (events.Mcheck p) result b port octets is h = absurd cc
 frame_step a events.Announce result b port octets is h = absurd cc
 
-tunnel_step : (a : Edge) (event : Event) (result : Result Reply Refusal) (b : Edge) (from : ℕ) (octets : List ℕ) → tunnel_frame_in event ≡ Some (from, octets) → Steps a event result b → TunnelSteps (tunnel_arrival a from octets) a result b
+pub tunnel_step : (a : Edge) (event : Event) (result : Result Reply Refusal) (b : Edge) (from : ℕ) (octets : List ℕ) → tunnel_frame_in event ≡ Some (from, octets) → Steps a event result b → TunnelSteps (tunnel_arrival a from octets) a result b
 tunnel_step a (events.TunnelFrame o bytes) result b from octets is h =
     let edges : o ≡ from = ap (λ p. port_or p o) is in
     let same : bytes.now ≡ octets = ap (λ p. octets_or p bytes.now) is in
@@ -193,12 +193,15 @@ station_frames_go f s h agree i j o a b at_o at_a apart says event port reply fr
     record {
       decision = x.decision;
       there = x.there;
-      local = x.is.local ∙ elsewhere_local (table_of b) s.vni s.mac (address_of b) (address_of o) x.is.members x.is.passing port (port_of b s.vni s.mac) frame.individual none owned far;
-      remote = x.is.remote ∙ elsewhere_remote (table_of b) s.vni s.mac (address_of b) (address_of o) port (port_of b s.vni s.mac) frame.individual none owned far;
+      local = x.is.local ∙ elsewhere_local (table_of b) s.vni s.mac (address_of b) (address_of o) x.is.members x.is.passing port (port_of b s.vni s.mac) single none owned far;
+      remote = x.is.remote ∙ elsewhere_remote (table_of b) s.vni s.mac (address_of b) (address_of o) port (port_of b s.vni s.mac) single none owned far;
     }
   where
     x : IsSent a b s (Port port) reply
     x = frame_sent a b event port s reply frame steps
+
+    single : is_group s.mac ≡ false
+    single = individual o s (h.good i o at_o) says
 
     none : port_of b s.vni s.mac ≡ None
     none = ap (option_map (λ (y : Entry). y.port)) (x.leaves.entry ∙ no_entry a s (h.good j a at_a) (λ y. apart (station_one f s h agree i j o a at_o at_a says y)))
@@ -253,7 +256,7 @@ both_back x y p q = ap (λ b. b && y) p ∙ q
 
 pub frames_come_out : FramesComeOut
 frames_come_out o b s good says event port reply frame steps =
-    (e.0, e.1, record { decision = x.decision; there = x.there; local = local; remote = x.is.remote ∙ home_remote (table_of b) s.vni s.mac (address_of b) port e.0.port (port_of b s.vni s.mac) frame.individual some })
+    (e.0, e.1, record { decision = x.decision; there = x.there; local = local; remote = x.is.remote ∙ home_remote (table_of b) s.vni s.mac (address_of b) port e.0.port (port_of b s.vni s.mac) (individual o s good says) some })
   where
     x : IsSent o b s (Port port) reply
     x = frame_sent o b event port s reply frame steps
@@ -272,7 +275,7 @@ frames_come_out o b s good says event port reply frame steps =
 
     local : (p : ℕ) → (has_port x.decision.local p ≡ true) ↔ ((p ≡ e.0.port) × (Passes o.tree e.0.port × (e.0.port ≢ port)))
     local p =
-        let is = x.is.local ∙ home_local (table_of b) s.vni s.mac (address_of b) x.is.members x.is.passing port e.0.port (port_of b s.vni s.mac) frame.individual some in
+        let is = x.is.local ∙ home_local (table_of b) s.vni s.mac (address_of b) x.is.members x.is.passing port e.0.port (port_of b s.vni s.mac) (individual o s good says) some in
         let a = alone (has_port x.is.passing e.0.port && not (port == e.0.port)) e.0.port p (record { least = t.least; most = t.few }) in (
           λ there.
               let h = a.0 (ap (λ set. has_port set p) (sym is) ∙ there) in
@@ -304,7 +307,7 @@ tunnel_frames_come_out o b s good says event reply frame steps =
 
     local : (p : ℕ) → (has_port x.decision.local p ≡ true) ↔ ((p ≡ e.0.port) × Passes o.tree e.0.port)
     local p =
-        let is = x.is.local ∙ tunnel_local (table_of b) s.vni s.mac (address_of b) x.is.members x.is.passing e.0.port (port_of b s.vni s.mac) frame.individual some in
+        let is = x.is.local ∙ tunnel_local (table_of b) s.vni s.mac (address_of b) x.is.members x.is.passing e.0.port (port_of b s.vni s.mac) (individual o s good says) some in
         let passes = x.is.are_passing e.0.port in
         let a = alone (has_port x.is.passing e.0.port && true) e.0.port p (record { least = t.least; most = t.few }) in (
           λ there.

@@ -1,6 +1,5 @@
 -- What holds of every run of a fabric.
-use Rattle.std.specs.Prelude.{◌≡◌, ◌≢◌, ◌⊎◌, ◌↔◌, ℕ, ◌<◌, true, false, Option, Some, None, IsSome, Ok, List, [], ◌∷◌, ◌++◌, Contains}
-use Rattle.ether_wire.specs.Names.{is_group}
+use Rattle.std.specs.Prelude.{◌≡◌, ◌≢◌, ◌⊎◌, ◌↔◌, ℕ, ◌<◌, ◌^◌, true, false, Option, Some, None, IsSome, Result, Ok, List, [], ◌∷◌, ◌++◌, Contains}
 use Rattle.ether_wire.specs.Ports.{has_port, no_ports}
 use Rattle.route_wire.specs.declared.update.Register.{Register}
 use Rattle.route_wire.specs.declared.update.Value.{Value}
@@ -15,11 +14,13 @@ use Rattle.mac_arena.specs.declared.station.Entry.{Entry}
 use Rattle.mac_arena.specs.Learning.{entry_at}
 use Rattle.rstp_run.specs.Events.{Passes}
 use Rattle.ev_tunnel.specs.declared.decision.Decision.{Decision}
+use Rattle.ev_tunnel.specs.Datagram.{datagram_of}
 use Rattle.ev_claims.specs.Claims.{vni_at}
 use Rattle.ev_edge.specs.declared.arrival.Arrival.TheVariants.{Data}
 use Rattle.ev_edge.specs.declared.config.EdgeConfig.{EdgeConfig}
 use Rattle.ev_edge.specs.declared.event.Event.{Event}
 use Rattle.ev_edge.specs.declared.event.Event.TheVariants as events
+use Rattle.ev_edge.specs.declared.refusal.Refusal.{Refusal}
 use Rattle.ev_edge.specs.declared.reply.Reply.{Reply}
 use Rattle.ev_edge.specs.Arrival.{frame_arrival, tunnel_arrival}
 use Rattle.ev_edge.specs.Edge.{Edge, IsGoodEdge, table_of, address_of}
@@ -124,14 +125,12 @@ tunnel_frame_in (events.PortDown port) = None
 tunnel_frame_in (events.Mcheck port) = None
 tunnel_frame_in events.Announce = None
 
--- The event is a frame for the station, which is no group address, in its network: it comes from another source address
--- at a port that passes.
+-- The event is a frame for the station in its network: it comes from another source address at a port that passes.
 pub record IsFrameFor (a : Edge) (event : Event) (port : ℕ) (s : Station) : Type 0 where
   pub octets : List ℕ
   pub frame : frame_in event ≡ Some (port, octets)
   pub source : ℕ
   pub arrives : frame_arrival a port octets ≡ Ok (Data s.vni s.mac source)
-  pub individual : is_group s.mac ≡ false
   pub other : source ≢ s.mac
   pub passes : Passes a.tree port
 
@@ -142,7 +141,6 @@ pub record IsTunnelFrameFor (a : Edge) (event : Event) (s : Station) : Type 0 wh
   pub frame : tunnel_frame_in event ≡ Some (from, octets)
   pub source : ℕ
   pub arrives : tunnel_arrival a from octets ≡ Ok (Data s.vni s.mac source)
-  pub individual : is_group s.mac ≡ false
 
 -- the frame is given to the edge o alone
 pub record GoesTo (o : ℕ) (reply : Reply) : Type 0 where
@@ -172,6 +170,23 @@ FramesComeOut = (o b : Edge) (s : Station) → IsGoodEdge o → Advertises o s �
 abbrev pub TunnelFramesComeOut : Type 0
 TunnelFramesComeOut = (o b : Edge) (s : Station) → IsGoodEdge o → Advertises o s → (event : Event) (reply : Reply) → IsTunnelFrameFor o event s → Steps o event (Ok reply) b
     → (x : Entry) × IsBehindPort o s x × GoesOut x.port (Passes o.tree x.port) reply
+
+-- The datagram, entered at the edge o as one from this address, isn't refused, and its frame is given to the port behind
+-- which the station is alone, if that passes; else to nothing.
+pub record ComesOut (o : Edge) (from : ℕ) (datagram : List ℕ) (s : Station) : Type 0 where
+  pub entry : Entry
+  pub behind : IsBehindPort o s entry
+  pub out : (event : Event) (result : Result Reply Refusal) (after : Edge) → tunnel_frame_in event ≡ Some (from, datagram) → Steps o event result after
+      → (reply : Reply) × (result ≡ Ok reply) × GoesOut entry.port (Passes o.tree entry.port) reply
+
+-- From port to port, where all agree: a frame at a port of edge a for a station that edge o advertises is given to o
+-- alone; and the datagram of its network and octets, entered at o, comes out at the station's port. A network's number
+-- has three octets, as each VNI has by its type.
+abbrev pub FromPortToPort : Type 0
+FromPortToPort =
+    (f : Fabric) → IsSound f → AllAgree f → (i j : ℕ) (o a b : Edge) (s : Station) → IsEdge f i o → IsEdge f j a → i ≢ j → Advertises o s
+    → s.vni < 2 ^ 24 → (event : Event) (port : ℕ) (reply : Reply) → (frame : IsFrameFor a event port s) → Steps a event (Ok reply) b
+    → GoesTo (address_of o) reply × ComesOut o (address_of a) (datagram_of s.vni frame.octets) s
 
 -- ---- tables of edges
 

@@ -11,3 +11,4 @@ pub mod RestEdge
 pub mod Rest
 pub mod RestMove
 pub mod Station
+pub mod Later

@@ -35,23 +35,21 @@ with_announced pool (Some u) = pool ++ u ∷ []
 abbrev pub IsRefused : Refusal → Fabric → Result Reply Refusal → Fabric → Type 0
 IsRefused why old result new = (result ≡ Err why) × (new ≡ old)
 
--- the edge at place e of a list steps by the event, and is good, as its type says; the others stay
+-- the edge at place e of a list steps by the event; the others stay
 pub record OneSteps (old : List Edge) (e : ℕ) (event : Event) (result : Result Reply Refusal) (new : List Edge) : Type 0 where
   pub before : Edge
   pub there : nth old e ≡ Some before
   pub after : Edge
   pub answer : Result Reply edge.Refusal
   pub steps : Steps before event answer after
-  pub good : IsGoodEdge after
   pub result_is : result ≡ of_edge answer
   pub new_is : new ≡ slice_set old (e - 1) after
 
--- the edge a at place e steps by the event, and answers, and is good afterwards; all else stays
+-- the edge a at place e steps by the event, and answers; all else stays
 pub record StepsAt (old : Fabric) (e : ℕ) (a : Edge) (event : Event) (result : Result Reply Refusal) (new : Fabric) : Type 0 where
   pub after : Edge
   pub answer : Result Reply edge.Refusal
   pub steps : Steps a event answer after
-  pub good : IsGoodEdge after
   pub result_is : result ≡ of_edge answer
   pub new_is : new ≡ with_edge old e after
 
@@ -59,7 +57,7 @@ pub record StepsAt (old : Fabric) (e : ℕ) (a : Edge) (event : Event) (result :
 -- it is still pending.
 abbrev pub AnnouncesAt : Fabric → ℕ → Edge → Result Reply Refusal → Fabric → Type 0
 AnnouncesAt old e a (Ok reply) new =
-    (b : Edge) × Steps a events.Announce (Ok reply) b × (new ≡ record (with_edge old e b) { pool = with_announced old.pool reply.announced }) × IsGoodEdge b
+    (b : Edge) × Steps a events.Announce (Ok reply) b × (new ≡ record (with_edge old e b) { pool = with_announced old.pool reply.announced })
 AnnouncesAt old e a (Err why) new = (why ≡ NoMemory) × (new ≡ old)
 
 -- what an edge is opened with in the life n
@@ -70,8 +68,8 @@ in_life c n = record c { incarnation = n }
 abbrev pub with_opened : Fabric → ℕ → Edge → EdgeConfig → Fabric
 with_opened f e b c = record (with_edge f e b) { configs = slice_set f.configs (e - 1) c }
 
--- The edge a at place e is opened anew in the life n, which is a higher one, with all else that it was opened with; all
--- else stays.
+-- The edge a at place e is opened anew in the life n, which is a higher one, with all else that it was opened with, and
+-- is good then, as its type says; all else stays.
 pub record OpensAnew (old : Fabric) (e : ℕ) (a : Edge) (n : ℕ) (reply : Reply) (new : Fabric) : Type 0 where
   pub higher : life_of a < n
   pub config : EdgeConfig

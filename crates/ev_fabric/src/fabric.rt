@@ -91,7 +91,6 @@ fn step_edge(edges: &mut Vec<Edge>, e: usize, event: &Event<'_>) -> Result<Reply
 {
     let edge = &mut edges[e - 1];
     let answer = edge.step(event);
-    edge.always_good();
     match answer {
         Ok(reply) => Ok(reply),
         Err(refusal) => Err(Refusal::Edge(refusal)),

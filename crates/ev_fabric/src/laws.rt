@@ -1,5 +1,5 @@
 //! What holds of every run of a fabric, as functions that do nothing: the contract is the law.
-ghost use Rattle.ev_fabric.specs.Laws.{Starts, EveryRun, NoneAhead, Announced, SaidOnce, OneOfTwo, AgreedTables, AgreedReports, OneOfAll, Learnt, OwnerOfAll, NoneBack, FramesGo, FramesComeOut, TunnelFramesComeOut, TablesJoin, SetsJoin};
+ghost use Rattle.ev_fabric.specs.Laws.{Starts, EveryRun, NoneAhead, Announced, SaidOnce, OneOfTwo, AgreedTables, AgreedReports, OneOfAll, Learnt, OwnerOfAll, NoneBack, FramesGo, FramesComeOut, TunnelFramesComeOut, FromPortToPort, TablesJoin, SetsJoin};
 
 /// A fabric of edges as they are opened is sound.
 pub fn starts()
@@ -80,6 +80,13 @@ pub fn frames_come_out()
 /// given to the port behind which it is learnt alone, if that passes; else to nothing.
 pub fn tunnel_frames_come_out()
     ensures { TunnelFramesComeOut }
+{}
+
+/// Where all agree, a frame at a port that passes, for a station that another edge advertises, is
+/// given to that edge alone; and the datagram of its network and octets, entered there, is given to
+/// the port behind which the station is learnt alone, if that passes; else to nothing.
+pub fn from_port_to_port()
+    ensures { FromPortToPort }
 {}
 
 /// Which edge's table is joined to which makes no difference, nor does the order of three; a table

@@ -1,3 +1,4 @@
 pub mod Back
 pub mod Leaving
 pub mod Through
+pub mod Reaching

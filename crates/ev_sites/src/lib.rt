@@ -2,8 +2,10 @@
 //! not even through tunnels.
 #![tactic(auto)]
 
+mod fabrics;
 mod laws;
 
+pub use fabrics::{every_run_can_be, no_circle_in_a_fabric};
 pub use laws::{
     never_back_to_its_bridge, no_circle_through_tunnels, one_tunnel_at_most, sites_can_be_at_rest,
 };

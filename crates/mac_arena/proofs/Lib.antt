@@ -6,3 +6,5 @@ pub mod Values
 pub mod Naming
 pub mod Looking
 pub mod Going
+pub mod Placing
+pub mod Held

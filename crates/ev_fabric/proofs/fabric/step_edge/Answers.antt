@@ -9,7 +9,6 @@ returns-in-Ok c = record {
   after = c.step-answer.new.self;
   answer = Ok c.in-Ok.reply;
   steps = c.in-Ok.ensures;
-  good = c.always_good.ensures;
   result_is = refl;
   new_is = refl;
 }
@@ -21,7 +20,6 @@ returns-in-Err c = record {
   after = c.step-answer.new.self;
   answer = Err c.in-Err.refusal;
   steps = c.in-Err.ensures;
-  good = c.always_good.ensures;
   result_is = refl;
   new_is = refl;
 }
