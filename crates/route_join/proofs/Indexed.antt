@@ -1,4 +1,5 @@
--- Groups behind an index are groups in the order of their subjects: a look-up, a change and a new group there are the same here.
+-- Groups behind an index are groups in the order of their subjects: a look-up, a change and
+-- a new group there are the same here.
 use Rattle.std.proofs.Common.{◌≡◌, ℕ, ◌<◌, Bool, true, false, cond, is_some, Option, Some, None, IsSome, Result, Ok, Err, OnErr, List, [], ◌∷◌, ◌||◌, ◌&&◌, refl, sym, ap, subst, ◌∙◌, arith}
 use Rattle.std.specs.Prelude.{◌==◌}
 use Rattle.std.proofs.lemmas.Bool.Decides.{nat_tests}

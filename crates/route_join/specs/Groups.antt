@@ -1,5 +1,5 @@
--- Groups behind an index: they are found by their subjects, and the subjects stand in the order of a report.
-use Rattle.std.specs.Prelude.{◌≡◌, Bool, true, Option, Some, None, is_some, List, [], ◌∷◌}
+-- Groups behind an index: found by their subjects, which stand in the order of a report.
+use Rattle.std.specs.Prelude.{◌≡◌, Bool, true, Option, is_some, List, [], ◌∷◌}
 use Rattle.std.specs.List.{list_any}
 use Rattle.std.specs.List.Sorted.{IsStrictlySortedBy}
 use Rattle.std.specs.Option.{unwrap_or}

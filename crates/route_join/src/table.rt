@@ -106,8 +106,8 @@ impl Table {
         Table::with_salt(alloc, originators, 0)
     }
 
-    /// The same, whose registers are sought by a hash under this salt. Who may send updates and knows
-    /// the salt can make look-ups slow; what they answer doesn't depend on it.
+    /// The same, whose registers are sought by a hash under this salt. Who may send updates and
+    /// knows the salt can make look-ups slow; what they answer doesn't depend on it.
     pub fn with_salt(alloc: Global, originators: ArrayVec<Addr, 64>, salt: u64) -> Self
         requires { AreOriginators originators.items }
         ensures { result ≡ record { originators = originators.items; registers = empty } }

@@ -1,4 +1,4 @@
-use Rattle.std.proofs.Common.{◌≡◌, ◌∷◌, ◌++◌, [], ℕ, List, sym, subst, ◌∙◌, lit<, lit≤}
+use Rattle.std.proofs.Common.{◌∷◌, ◌++◌, [], ℕ, sym, subst, ◌∙◌, lit<, lit≤}
 use Rattle.std.specs.List.{IsDistinct}
 use Rattle.route_join.specs.Table.{AreOriginators}
 use Rattle.route_join.proofs.tests.collisions.listening.Goals as goal
