@@ -2,13 +2,13 @@
 use Rattle.std.proofs.Common.{◌≡◌, ℕ, ◌+◌, inl, inr, Bool, Result, Ok, Err, refl, ap, subst, arith}
 use Rattle.ether_wire.specs.declared.ends.Device.{Device}
 use Rattle.ether_wire.specs.Ends.{End, Source, Puts}
-use Rattle.evpnd.specs.declared.config.whole.Config.{Config}
-use Rattle.evpnd.specs.declared.config.ConfigRefusal.{ConfigRefusal}
-use Rattle.evpnd.specs.declared.config.ConfigRefusal.TheVariants as refusal
+use Rattle.ev_config.specs.declared.whole.Config.{Config}
+use Rattle.ev_config.specs.declared.config.ConfigRefusal.{ConfigRefusal}
+use Rattle.ev_config.specs.declared.config.ConfigRefusal.TheVariants as refusal
 use Rattle.evpnd.specs.declared.files.Unread.{Unread}
 use Rattle.evpnd.specs.Files.{Text, Shelf, IsTextOf, unread_text}
-use Rattle.evpnd.specs.Ends.{Devices, devices, Holds}
-use Rattle.evpnd.specs.Config.{ConfigOf}
+use Rattle.ev_report.specs.Ends.{Devices, devices, Holds}
+use Rattle.ev_config.specs.Config.{ConfigOf}
 use Rattle.evpnd.specs.Checks.{Desk, desk, OfFile}
 use Rattle.evpnd.specs.Configured.{OfFound, Never, TextGives, FileGives}
 

@@ -6,10 +6,10 @@ use Rattle.ether_wire.specs.Ends.{End, Source, Puts}
 use Rattle.clap.specs.Words.{IsAmong, fault_of}
 use Rattle.clap.specs.Kinds.{Kinds}
 use Rattle.clap.specs.declared.error.kind.ErrorKind.{ErrorKind}
-use Rattle.evpnd.specs.declared.originators.ListFault.{ListFault}
-use Rattle.evpnd.specs.Words.{program}
-use Rattle.evpnd.specs.Originators.{Text, list_text}
-use Rattle.evpnd.specs.Ends.{devices, has_failed}
+use Rattle.ev_report.specs.declared.originators.ListFault.{ListFault}
+use Rattle.ev_words.specs.Words.{program}
+use Rattle.ev_report.specs.Originators.{Text, list_text}
+use Rattle.ev_report.specs.Ends.{devices, has_failed}
 use Rattle.evpnd.specs.Files.{Shelf}
 use Rattle.evpnd.specs.Checks.{desk, IsTold, TellsUsage, Sums}
 use Rattle.evpnd.specs.Program.{world, TellsFault, RunsWords}

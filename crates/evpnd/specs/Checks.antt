@@ -1,13 +1,13 @@
 -- What becomes of a configuration's file.
 use Rattle.std.specs.Prelude.{◌≡◌, ℕ, ◌+◌, ◌⊎◌, Bool, false, Result, Ok, Err, if◌then◌else◌}
 use Rattle.ether_wire.specs.Ends.{End, Source}
-use Rattle.evpnd.specs.declared.config.whole.Config.{Config}
-use Rattle.evpnd.specs.declared.config.ConfigRefusal.{ConfigRefusal}
-use Rattle.evpnd.specs.declared.config.ConfigRefusal.TheVariants as refusal
+use Rattle.ev_config.specs.declared.whole.Config.{Config}
+use Rattle.ev_config.specs.declared.config.ConfigRefusal.{ConfigRefusal}
+use Rattle.ev_config.specs.declared.config.ConfigRefusal.TheVariants as refusal
 use Rattle.evpnd.specs.declared.files.Unread.{Unread}
 use Rattle.evpnd.specs.Files.{Text, Shelf, IsTextOf, unread_text}
-use Rattle.evpnd.specs.Ends.{Devices, devices, has_failed, Holds}
-use Rattle.evpnd.specs.Config.{ConfigOf}
+use Rattle.ev_report.specs.Ends.{Devices, devices, has_failed, Holds}
+use Rattle.ev_config.specs.Config.{ConfigOf}
 
 -- the devices and the files
 pub record Desk : Type 0 where

@@ -1,12 +1,12 @@
 -- What becomes of a configuration that is wanted, to be used.
 use Rattle.std.specs.Prelude.{◌≡◌, ℕ, ◌++◌, Bool, codes, string_bytes, Result, Ok, Err}
 use Rattle.ether_wire.specs.Ends.{End, Source}
-use Rattle.evpnd.specs.declared.config.whole.Config.{Config}
-use Rattle.evpnd.specs.declared.config.ConfigRefusal.{ConfigRefusal}
-use Rattle.evpnd.specs.declared.config.ConfigRefusal.TheVariants as refusal
-use Rattle.evpnd.specs.Ends.{Devices, devices}
+use Rattle.ev_config.specs.declared.whole.Config.{Config}
+use Rattle.ev_config.specs.declared.config.ConfigRefusal.{ConfigRefusal}
+use Rattle.ev_config.specs.declared.config.ConfigRefusal.TheVariants as refusal
+use Rattle.ev_report.specs.Ends.{Devices, devices}
 use Rattle.evpnd.specs.Files.{Text, Shelf, IsTextOf}
-use Rattle.evpnd.specs.Config.{ConfigOf}
+use Rattle.ev_config.specs.Config.{ConfigOf}
 use Rattle.evpnd.specs.Checks.{desk, TellsUsage, OfFile}
 
 -- `config KEY`

@@ -4,17 +4,16 @@ use Rattle.ether_wire.specs.Ends.{End, Source}
 use Rattle.clap.specs.Words.{fault_of}
 use Rattle.evpnd.specs.declared.program.Line.{Line}
 use Rattle.evpnd.specs.declared.program.Line.TheVariants.{Words, NotText, NoMemory}
-use Rattle.evpnd.specs.declared.words.Subcommand.{Subcommand}
-use Rattle.evpnd.specs.declared.words.Subcommand.TheVariants.{Report, Migrate, Check, Simulate, Run}
-use Rattle.evpnd.specs.Words.{program, Spells}
-use Rattle.evpnd.specs.Originators.{Text, originators_of_text, list_text}
-use Rattle.evpnd.specs.Ends.{Devices, devices}
+use Rattle.ev_words.specs.declared.words.Subcommand.{Subcommand}
+use Rattle.ev_words.specs.declared.words.Subcommand.TheVariants.{Report, Migrate, Check, Simulate, Run}
+use Rattle.ev_words.specs.Words.{program, Spells}
+use Rattle.ev_report.specs.Originators.{Text, originators_of_text, list_text}
+use Rattle.ev_report.specs.Ends.{Devices, devices}
 use Rattle.evpnd.specs.Files.{Shelf}
 use Rattle.evpnd.specs.Checks.{Desk, desk, IsTold, TellsUsage, OfFile, Checks}
-use Rattle.evpnd.specs.Runs.{Reports}
-use Rattle.evpnd.specs.Migrations.{Migrates}
-use Rattle.evpnd.specs.Scripted.{SimulatesFound}
-use Rattle.evpnd.specs.RunEdges.{RunsFound}
+use Rattle.ev_report.specs.Runs.{Reports}
+use Rattle.ev_report.specs.Migrations.{Migrates}
+use Rattle.evpnd.specs.Used.{SimulatesFound, RunsFound}
 
 -- the devices and the files, and how often what reads the words was refused memory
 pub record World : Type 0 where

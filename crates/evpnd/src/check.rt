@@ -1,15 +1,15 @@
 //! `evpnd check`: whether a configuration is right.
 ghost use Rattle.std.specs.Prelude.{◌≡◌, is_ok, if◌then◌else◌, false};
 ghost use Rattle.ether_wire.specs.Ends.{Source, IsOpen};
-ghost use Rattle.evpnd.specs.Ends.{devices};
+ghost use Rattle.ev_report.specs.Ends.{devices};
 ghost use Rattle.evpnd.specs.Files.{HasRoom};
 ghost use Rattle.evpnd.specs.Checks.{desk, OfFile, Sums, TellsLine, Checks, ChecksText};
 
-use crate::config::{Config, ConfigRefusal, config_of, refusal_line, summary_line};
 use crate::files::{FileFault, Files, put_unread};
 use crate::program::tell;
-use crate::status::{DEVICE, DONE, MEMORY};
 use ether_wire::{Device, Out};
+use ev_config::{Config, ConfigRefusal, config_of, refusal_line, summary_line};
+use ev_report::{DEVICE, DONE, MEMORY};
 use std::alloc::Global;
 
 /// The status of what was done, by whether it could be written.

@@ -7,11 +7,11 @@ ghost use Rattle.evpnd.specs.Checks.{IsTold};
 ghost use Rattle.evpnd.specs.Configured.{config_text, TextGives, FileGives};
 
 use crate::check::unread_status;
-use crate::config::{Config, ConfigRefusal, config_of};
 use crate::files::{FileFault, Files, put_unread};
 use crate::program::usage_status;
-use crate::status::MEMORY;
 use ether_wire::{Device, Out};
+use ev_config::{Config, ConfigRefusal, config_of};
+use ev_report::MEMORY;
 use std::alloc::Global;
 
 /// Writes `config KEY`.

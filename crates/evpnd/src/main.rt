@@ -2,28 +2,17 @@
 #![tactic(auto)]
 
 mod check;
-mod config;
 mod configured;
-mod ending;
 mod files;
-mod input;
-mod migrate;
-mod migration_laws;
-mod notes;
-mod originators;
 mod program;
-mod report;
-mod run_edges;
-mod script;
+mod run_file;
 mod simulate;
 mod status;
-mod stream;
-mod words;
 
 use crate::files::SystemFiles;
 use crate::program::{Line, run};
-use crate::words::ClapParser;
 use ether_wire::{Reader, Writer};
+use ev_words::ClapParser;
 use std::io;
 use std::process::ExitCode;
 

@@ -2,26 +2,26 @@
 ghost use Rattle.std.specs.Prelude.{◌≡◌, ◌≢◌, ◌+◌, ◌<◌, ◌^◌, map, string_bytes, [], is_ok, if◌then◌else◌, false};
 ghost use Rattle.ether_wire.specs.Ends.{IsOpen, Allows};
 ghost use Rattle.clap.specs.Words.{fault_of};
-ghost use Rattle.evpnd.specs.Ends.{devices};
-ghost use Rattle.evpnd.specs.Originators.{originators_of_text, list_text};
-ghost use Rattle.evpnd.specs.Words.{program, parts_of};
+ghost use Rattle.ev_report.specs.Ends.{devices};
+ghost use Rattle.ev_report.specs.Originators.{originators_of_text, list_text};
+ghost use Rattle.ev_words.specs.Words.{program, parts_of};
 ghost use Rattle.evpnd.specs.Files.{HasRoom};
 ghost use Rattle.evpnd.specs.Checks.{desk, IsTold, TellsUsage};
-ghost use Rattle.evpnd.specs.Runs.{Reports};
-ghost use Rattle.evpnd.specs.Migrations.{Migrates};
+ghost use Rattle.ev_report.specs.Runs.{Reports};
+ghost use Rattle.ev_report.specs.Migrations.{Migrates};
 ghost use Rattle.evpnd.specs.Program.{world, TellsFault, not_text, OfList, FollowsAs, Follows, RunsWords, RunsProgram};
 
 use crate::check::check;
 use crate::files::Files;
-use crate::migrate::migrate_buffered;
-use crate::originators::{WrongPart, put_wrong_part, read_originators};
-use crate::report::report_buffered;
-use crate::run_edges::run_file;
+use crate::run_file::run_file;
 use crate::simulate::simulate;
-use crate::status::{DEVICE, MEMORY, USAGE};
-use crate::words::{Order, Parser, Refusal, Subcommand, order_of};
+use crate::status::USAGE;
 use clap::Error;
 use ether_wire::{Device, In, Out};
+use ev_report::{
+    DEVICE, MEMORY, WrongPart, migrate_buffered, put_wrong_part, read_originators, report_buffered,
+};
+use ev_words::{Order, Parser, Refusal, Subcommand, order_of};
 use std::alloc::Global;
 use std::net::Net;
 use std::sync::Wait;

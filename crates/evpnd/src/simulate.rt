@@ -1,133 +1,37 @@
-//! The simulation: a script's commands, one after the other, on a fabric of edges.
-ghost use Rattle.std.specs.Prelude.{◌≡◌, ◌^◌, Ok};
-ghost use Rattle.ether_wire.specs.Ends.{IsOpen, Allows, Puts};
-ghost use Rattle.ev_fabric.specs.Opening.{AreConfigs};
-ghost use Rattle.evpnd.specs.Ends.{devices};
-ghost use Rattle.evpnd.specs.Simulation.{note_of_line, PlaysOn, PlaysRead, unread_status, Simulates};
+//! `evpnd simulate`: a script on the edges of a configuration.
+ghost use Rattle.std.specs.Prelude.{◌≡◌, ◌^◌, false};
+ghost use Rattle.ether_wire.specs.Ends.{IsOpen, Allows};
+ghost use Rattle.ev_report.specs.Ends.{devices};
+ghost use Rattle.evpnd.specs.Files.{HasRoom};
+ghost use Rattle.evpnd.specs.Checks.{desk, OfFile};
+ghost use Rattle.evpnd.specs.Used.{SimulatesFound};
 
-mod order;
-mod player;
-mod telling;
-
-use crate::ending::Ending;
-use crate::input::{Unread, read_whole};
-use crate::report::{finish, has_failed, last_status, status};
-use crate::simulate::player::Player;
-use crate::status::{DEVICE, MEMORY};
-use ether_wire::{Buffered, Device, In, Out, put_decimal};
-use ev_edge::EdgeConfig;
-use ev_fabric::Fabric;
-pub(crate) use order::simulate;
+use crate::configured::configured;
+use crate::files::Files;
+use ether_wire::{In, Out};
+use ev_script::simulate_run;
 use std::alloc::Global;
 
-/// Writes `line N bad`, if there is such a line.
-#[tactic(auto, using(ether_wire::proofs::Appending::with_text_twice, ether_wire::proofs::Appending::with_text_none))]
-fn put_bad_line<N: Out>(line: Option<u64>, notes: &mut N) -> Result<(), Device>
-    requires { IsOpen (N.end notes.old) }
-    ensures { Puts (N.end notes.old) (N.end notes.new) (note_of_line line) result }
-{
-    let Some(number) = line else {
-        return Ok(());
-    };
-    notes.put(b"line ")?;
-    put_decimal(notes, number)?;
-    notes.put(b" bad\n")
-}
-
-/// Runs a script on a fabric.
-fn play<W: Out, N: Out>(fabric: Fabric, script: &[u8], out: &mut W, notes: &mut N) -> u8
-    requires out { IsOpen (W.end out.old) }
-    requires notes { IsOpen (N.end notes.old) }
-    ensures { PlaysOn fabric script.now (W.end out.old) (W.end out.new)
-        (N.end notes.old) (N.end notes.new) result }
-{
-    let mut player = Player::new(fabric);
-    let bad = player.play(script, out);
-    let is_noted = put_bad_line(bad, notes).is_ok();
-    let has_failed = has_failed(Ending::Ended, player.is_told(), is_noted);
-    status(has_failed, player.is_starved(), bad.is_some())
-}
-
-/// Runs a script on a fabric of edges that are opened with these configurations.
-fn open_and_play<W: Out, N: Out>(
+/// Runs a script on the edges that the file at a path configures.
+pub(crate) fn simulate<F: Files, R: In, W: Out, N: Out>(
     alloc: Global,
-    configs: Vec<EdgeConfig>,
-    script: &[u8],
-    out: &mut W,
-    notes: &mut N,
-) -> u8
-    requires configs { AreConfigs configs.items }
-    requires out { IsOpen (W.end out.old) }
-    requires notes { IsOpen (N.end notes.old) }
-    ensures { PlaysRead configs.items (Ok script.now) (W.end out.old) (W.end out.new)
-        (N.end notes.old) (N.end notes.new) result }
-{
-    match Fabric::new(alloc, configs) {
-        Ok(fabric) => play(fabric, script, out, notes),
-        Err(_) => MEMORY,
-    }
-}
-
-/// The status of a script that wasn't read to its end.
-fn unread_status(unread: Unread) -> u8
-    ensures { result ≡ unread_status unread }
-{
-    match unread {
-        Unread::Device => DEVICE,
-        Unread::NoMemory => MEMORY,
-    }
-}
-
-/// Reads a script, and runs it on a fabric of edges that are opened with these configurations.
-fn read_and_play<R: In, W: Out, N: Out>(
-    alloc: Global,
-    configs: Vec<EdgeConfig>,
-    reader: &mut R,
-    out: &mut W,
-    notes: &mut N,
-) -> u8
-    requires configs { AreConfigs configs.items }
-    requires reader { Allows (2 ^ 40) (R.end reader.old) }
-    requires out { IsOpen (W.end out.old) }
-    requires notes { IsOpen (N.end notes.old) }
-    ensures { Simulates configs.items (devices (R.end reader.old) (W.end out.old) (N.end notes.old))
-        (devices (R.end reader.new) (W.end out.new) (N.end notes.new)) result }
-{
-    match read_whole(alloc, reader) {
-        Ok(script) => open_and_play(alloc, configs, script.as_slice(), out, notes),
-        Err(unread) => unread_status(unread),
-    }
-}
-
-/// Reads a whole script, and then runs its lines, one after the other, on a fabric of edges that
-/// are opened with these configurations. Each command's lines come on `out`. The first line
-/// outside the grammar ends the run: `notes` gets `line N bad`; what stood before it has been
-/// run, and its lines stay.
-///
-/// Where the script can't be read to its end, or there is no memory for it or for the edges,
-/// nothing is run. Where a call of `out` fails, no further one is made, and the script is run on.
-///
-/// The status is the greatest that applies: 4 where a read or a write failed, or 2^40 reads didn't
-/// reach the end, 3 where memory was refused to the script, to the edges or to a step, 1 where a
-/// line is outside the grammar, else 0.
-pub(crate) fn simulate_run<R: In, W: Out, N: Out>(
-    alloc: Global,
-    configs: Vec<EdgeConfig>,
+    files: &mut F,
+    path: &str,
     reader: &mut R,
     out: W,
-    notes: N,
+    mut notes: N,
 ) -> (u8, W, N)
-    requires configs { AreConfigs configs.items }
+    requires files { HasRoom (F.shelf files.old) }
     requires reader { Allows (2 ^ 40) (R.end reader.old) }
     requires out { IsOpen (W.end out) }
     requires notes { IsOpen (N.end notes) }
-    ensures { Simulates configs.items (devices (R.end reader.old) (W.end out) (N.end notes))
-        (devices (R.end reader.new) (W.end result.1) (N.end result.2)) result.0 }
+    ensures { OfFile false SimulatesFound path.now
+        (desk (F.shelf files.old) (devices (R.end reader.old) (W.end out) (N.end notes)))
+        (desk (F.shelf files.new) (devices (R.end reader.new) (W.end result.1) (N.end result.2)))
+        result.0 }
 {
-    let (out_failures, notes_failures) = (out.failures(), notes.failures());
-    let (mut out, mut notes) = (Buffered::new(out), Buffered::new(notes));
-    let status = read_and_play(alloc, configs, reader, &mut out, &mut notes);
-    let (out, is_written) = finish(out, out_failures);
-    let (notes, is_noted) = finish(notes, notes_failures);
-    (last_status(is_written, is_noted, status), out, notes)
+    match configured(alloc, files, path, false, &mut notes) {
+        Ok(config) => simulate_run(alloc, config.edges, reader, out, notes),
+        Err(status) => (status, out, notes),
+    }
 }

@@ -1,6 +1,6 @@
 use Rattle.std.proofs.Common.{List, ℕ, false, refl, subst}
 use Rattle.std.specs.Prelude.{string_bytes}
-use Rattle.evpnd.specs.Ends.{devices}
+use Rattle.ev_report.specs.Ends.{devices}
 use Rattle.evpnd.specs.Checks.{Checks, ChecksText}
 use Rattle.evpnd.proofs.Filed.{of_refused, of_unread, of_read}
 use Rattle.evpnd.proofs.check.check.Goals as goal

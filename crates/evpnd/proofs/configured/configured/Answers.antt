@@ -1,6 +1,6 @@
 use Rattle.std.proofs.Common.{refl}
 use Rattle.evpnd.specs.Configured.{OfFound, Never}
-use Rattle.evpnd.specs.Ends.{devices}
+use Rattle.ev_report.specs.Ends.{devices}
 use Rattle.evpnd.proofs.Filed.{of_refused, of_unread, file_gives}
 use Rattle.evpnd.proofs.configured.configured.Goals as goal
 

@@ -1,4 +1,4 @@
-use Rattle.evpnd.specs.Originators.{list_text}
+use Rattle.ev_report.specs.Originators.{list_text}
 use Rattle.evpnd.proofs.Telling.{told_put}
 use Rattle.evpnd.proofs.program.tell_list.Goals as goal
 

@@ -1,0 +1,125 @@
+-- Edges that fit together, one by one, and then told of each other.
+use Rattle.std.proofs.Common.{◌≡◌, ℕ, zero, suc, ◌<◌, ◌≤◌, ◌⊎◌, inl, inr, true, false, List, [], ◌∷◌, ◌++◌, length, map, refl, sym, ap, subst, ◌∙◌, arith, Contains}
+use Rattle.std.specs.Prelude.{eqb}
+use Rattle.std.specs.List.{IsDistinct, list_any}
+use Rattle.std.proofs.lemmas.Bool.{eqb-true}
+use Rattle.std.proofs.lemmas.List.{length-map}
+use Rattle.std.proofs.lemmas.List.Elements.{Contains-push_cases}
+use Rattle.std.proofs.lemmas.Map.Views.{Contains-from_any}
+use Rattle.ev_edge.specs.declared.config.PortConfig.{PortConfig}
+use Rattle.ev_edge.specs.declared.config.EdgeConfig.{EdgeConfig}
+use Rattle.ev_edge.specs.Config.{IsConfig, vnis_of}
+use Rattle.ev_fabric.specs.Fabric.{addresses_of}
+use Rattle.ev_fabric.specs.Opening.{AreConfigs}
+use Rattle.ev_config.specs.declared.edge.Described.{Described}
+use Rattle.ev_config.specs.Config.{Edges, Whole, no_edges, with_edge, listening, whole_of}
+use Rattle.ev_config.specs.Fitting.{AreServed, Fits, FitTogether}
+use Rattle.ev_config.proofs.Listing.{same_tests, distinct_more, distinct_none}
+
+-- a number that the test finds is there
+pub there : (v : ℕ) (vs : List ℕ) → list_any (λ x. eqb x v) vs ≡ true → Contains vs v
+there v vs h = Contains-from_any eqb-true v vs (sym (same_tests v vs) ∙ h)
+
+-- ---- ports
+
+vnis_push : (ps : List PortConfig) (p : PortConfig) → vnis_of (ps ++ p ∷ []) ≡ vnis_of ps ++ p.vni ∷ []
+vnis_push [] p = refl
+vnis_push (x ∷ ps) p = ap (λ vs. x.vni ∷ vs) (vnis_push ps p)
+
+pub none_served : (vnis : List ℕ) → AreServed [] vnis
+none_served vnis v (n, l, e) = absurd (omega (arith, l))
+
+pub served_more : (ps : List PortConfig) (p : PortConfig) (vnis : List ℕ) → AreServed (vnis_of ps) vnis → Contains vnis p.vni → AreServed (vnis_of (ps ++ p ∷ [])) vnis
+served_more ps p vnis h one v c = go (Contains-push_cases (vnis_of ps) p.vni v (subst (λ l. Contains l v) (vnis_push ps p) c))
+  where
+    go : Contains (vnis_of ps) v ⊎ (p.vni ≡ v) → Contains vnis v
+    go (inl b) = h v b
+    go (inr e) = subst (Contains vnis) e one
+
+-- ---- edges
+
+names_push : (cs : List EdgeConfig) (c : EdgeConfig) → addresses_of (cs ++ c ∷ []) ≡ addresses_of cs ++ c.address ∷ []
+names_push [] c = refl
+names_push (x ∷ cs) c = ap (λ names. x.address ∷ names) (names_push cs c)
+
+pub none_fit : FitTogether no_edges
+none_fit = record {
+  named = refl;
+  apart = distinct_none;
+  fit = λ c (n, l, e). absurd (omega (arith, l));
+}
+
+pub fit_more : (e : Edges) (d : Described) → FitTogether e → Fits d.config → list_any (λ x. eqb x d.config.address) e.addresses ≡ false → FitTogether (with_edge e d)
+fit_more e d h one new = record {
+  named = ap (λ names. names ++ d.config.address ∷ []) h.named ∙ sym (names_push e.configs d.config);
+  apart = distinct_more e.addresses d.config.address h.apart new;
+  fit = λ c in'. go c (Contains-push_cases e.configs d.config c in');
+}
+  where
+    go : (c : EdgeConfig) → Contains e.configs c ⊎ (d.config ≡ c) → Fits c
+    go c (inl b) = h.fit c b
+    go c (inr p) = subst Fits p one
+
+-- ---- told of each other
+
+same_names : (names : List ℕ) (cs : List EdgeConfig) → addresses_of (map (listening names) cs) ≡ addresses_of cs
+same_names names [] = refl
+same_names names (c ∷ cs) = ap (λ xs. c.address ∷ xs) (same_names names cs)
+
+-- one of the edges, before it was told
+abbrev WasOne : List ℕ → List EdgeConfig → EdgeConfig → Type 0
+WasOne names cs c = (d : EdgeConfig) × Contains cs d × (listening names d ≡ c)
+
+further : (names : List ℕ) (x : EdgeConfig) (cs : List EdgeConfig) (c : EdgeConfig) → WasOne names cs c → WasOne names (x ∷ cs) c
+further names x cs c (d, (n, l, e), p) = (d, (suc n, omega (arith, l), e), p)
+
+untold : (names : List ℕ) (cs : List EdgeConfig) (c : EdgeConfig) → Contains (map (listening names) cs) c → WasOne names cs c
+untold names [] c (n, l, e) = absurd (omega (arith, l))
+untold names (x ∷ cs) c (zero, l, e) = (x, (zero, omega arith, refl), e)
+untold names (x ∷ cs) c (suc n, l, e) = further names x cs c (untold names cs c (n, omega (arith, l), e))
+
+name_there : (cs : List EdgeConfig) (c : EdgeConfig) → Contains cs c → Contains (addresses_of cs) c.address
+name_there [] c (n, l, e) = absurd (omega (arith, l))
+name_there (x ∷ cs) c (zero, l, e) = (zero, omega arith, ap (λ (d : EdgeConfig). d.address) e)
+name_there (x ∷ cs) c (suc n, l, e) = next (name_there cs c (n, omega (arith, l), e))
+  where
+    next : Contains (addresses_of cs) c.address → Contains (addresses_of (x ∷ cs)) c.address
+    next (m, k, p) = (suc m, omega (arith, k), p)
+
+opens : (e : Edges) → 0 < length e.addresses → length e.addresses ≤ 64 → FitTogether e → AreConfigs (whole_of e).0
+opens e some few h = record {
+  some = subst (λ n. 0 < n) count some;
+  few = subst (λ n. n ≤ 64) count few;
+  apart = subst (IsDistinct eqb) same h.apart;
+  configs = λ c in'. is_config c (untold e.addresses e.configs c in');
+  listed = λ c in' o at. lists c (untold e.addresses e.configs c in') o (subst (λ names. Contains names o) (sym same) at);
+}
+  where
+    same : e.addresses ≡ addresses_of (map (listening e.addresses) e.configs)
+    same = h.named ∙ sym (same_names e.addresses e.configs)
+
+    count : length e.addresses ≡ length (map (listening e.addresses) e.configs)
+    count = ap length h.named ∙ length-map e.configs (λ (c : EdgeConfig). c.address) ∙ sym (length-map e.configs (listening e.addresses))
+
+    of_told : (d : EdgeConfig) → Contains e.configs d → Fits d → IsConfig (listening e.addresses d)
+    of_told d in' f = record {
+      originators = record { some = some; few = few; distinct = h.apart };
+      listed = subst (λ names. Contains names d.address) (sym h.named) (name_there e.configs d in');
+      distinct = f.distinct;
+      some_port = f.some_port;
+      served = f.served;
+      some_place = f.some_place;
+      places = f.places;
+      some_bucket = f.some_bucket;
+      buckets = f.buckets;
+      hello = f.hello;
+    }
+
+    is_config : (c : EdgeConfig) → WasOne e.addresses e.configs c → IsConfig c
+    is_config c (d, in', p) = subst IsConfig p (of_told d in' (h.fit d in'))
+
+    lists : (c : EdgeConfig) → WasOne e.addresses e.configs c → (o : ℕ) → Contains e.addresses o → Contains c.originators.items o
+    lists c (d, in', p) o at = subst (λ (x : EdgeConfig). Contains x.originators.items o) p at
+
+pub opens_as : (w : Whole) (e : Edges) → w ≡ whole_of e → 0 < length e.addresses → length e.addresses ≤ 64 → FitTogether e → AreConfigs w.0
+opens_as w e is some few h = subst (λ (x : Whole). AreConfigs x.0) (sym is) (opens e some few h)

@@ -1,0 +1,71 @@
+-- The configuration that a document gives, or its first fault.
+use Rattle.std.specs.Prelude.{◌≡◌, ℕ, ◌+◌, Bool, List, [], ◌∷◌, ◌++◌, map, codes, string_bytes, Some, None, Result, Ok, Err}
+use Rattle.toml.specs.Data.{Items, no_items, item, Members, as_table}
+use Rattle.toml.specs.Parse.{parse_document}
+use Rattle.arrayvec.specs.ArrayVec.{ArrayVec}
+use Rattle.ev_edge.specs.declared.config.EdgeConfig.{EdgeConfig}
+use Rattle.ev_config.specs.declared.endpoint.Link.{Link}
+use Rattle.ev_config.specs.declared.edge.Described.{Described}
+use Rattle.ev_config.specs.declared.edges.Edges as code
+use Rattle.ev_config.specs.declared.whole.Config.{Config}
+use Rattle.ev_config.specs.declared.config.ConfigRefusal.{ConfigRefusal}
+use Rattle.ev_config.specs.declared.config.ConfigRefusal.TheVariants as refusal
+use Rattle.ev_config.specs.Keys.{Key, ◌>>=◌, read_or, required, tables_in, only}
+use Rattle.ev_config.specs.ConfigEdge.{edge_of}
+
+-- the edges read so far
+pub record Edges : Type 0 where
+  pub addresses : List ℕ
+  pub bridges : List ℕ
+  pub configs : List EdgeConfig
+  pub links : List (ArrayVec Link)
+
+abbrev pub no_edges : Edges
+no_edges = record { addresses = []; bridges = []; configs = []; links = [] }
+
+abbrev pub with_edge : Edges → Described → Edges
+with_edge before edge = record {
+  addresses = before.addresses ++ edge.config.address ∷ [];
+  bridges = before.bridges ++ edge.bridge ∷ [];
+  configs = before.configs ++ edge.config ∷ [];
+  links = before.links ++ edge.links ∷ [];
+}
+
+abbrev pub edges_view : code.Edges → Edges
+edges_view e = record { addresses = e.addresses.items; bridges = e.bridges.items; configs = e.configs.items; links = e.links.items }
+
+-- the edges of the tables, after those before
+abbrev pub edges_from : Bool → Edges → Items → Result Edges Key
+edges_from for_run before no_items = Ok before
+edges_from for_run before (item d ds) = do
+  t ← read_or (codes "edge") (as_table d)
+  edge ← edge_of for_run before.addresses before.bridges t
+  edges_from for_run (with_edge before edge) ds
+
+-- the edge listens to these
+abbrev pub listening : List ℕ → EdgeConfig → EdgeConfig
+listening addresses c = record c { originators = record { items = addresses } }
+
+-- each edge, told of all edges' addresses, and the links of each one's ports
+abbrev pub Whole : Type 0
+Whole = List EdgeConfig × List (ArrayVec Link)
+
+abbrev pub whole_of : Edges → Whole
+whole_of edges = (map (listening edges.addresses) edges.configs, edges.links)
+
+abbrev pub config_in : Bool → Members → Result Whole Key
+config_in for_run t = do
+  tables ← required (codes "edge") tables_in t
+  _ ← only (codes "edge" ∷ []) t
+  edges ← edges_from for_run no_edges tables
+  Ok (whole_of edges)
+
+abbrev pub view_of : Config → Whole
+view_of c = (c.edges.items, c.links.items)
+
+-- The document gives this configuration, or this first faulty key, or it is none. Memory excuses any text.
+abbrev pub ConfigOf : Bool → List ℕ → Result Config ConfigRefusal → Type 0
+ConfigOf for_run text (Ok c) = (t : Members) × (parse_document text ≡ Some t) × (config_in for_run t ≡ Ok (view_of c))
+ConfigOf for_run text (Err (refusal.Key k)) = (t : Members) × (parse_document text ≡ Some t) × (config_in for_run t ≡ Err (string_bytes k))
+ConfigOf for_run text (Err refusal.Text) = parse_document text ≡ None
+ConfigOf for_run text (Err refusal.NoMemory) = Unit {0}

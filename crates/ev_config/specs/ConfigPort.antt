@@ -1,0 +1,56 @@
+-- A port of the configuration: for each key, in the order of the faults, what it holds.
+use Rattle.std.specs.Prelude.{ℕ, ◌+◌, ◌∷◌, [], ◌++◌, Bool, true, false, if◌then◌else◌, List, codes, Option, Some, None, option_map, Result, Ok, Err}
+use Rattle.toml.specs.Data.{Data, Items, no_items, item, Members, get_member, as_table}
+use Rattle.ev_config.specs.declared.endpoint.Endpoint.{Endpoint}
+use Rattle.ev_config.specs.declared.port.Port.{Port}
+use Rattle.ev_config.specs.declared.port.Ports.{Ports}
+use Rattle.ev_config.specs.Keys.{Key, ◌>>=◌, read_or, required, optional, number_in, steps_in, flag_in, endpoint_in, vni_in, one_of, only}
+
+abbrev pub port_keys : List Key
+port_keys =
+    codes "vni" ∷ codes "cost" ∷ codes "priority" ∷ codes "admin_edge" ∷ codes "auto_edge" ∷ codes "point_to_point" ∷ codes "local" ∷ codes "remote" ∷ []
+
+-- an endpoint that may be left out unless it is needed
+abbrev pub endpoint_at : Bool → Key → Option Data → Result (Option Endpoint) Key
+endpoint_at is_needed key None = if is_needed then Err key else Ok None
+endpoint_at is_needed key (Some d) = read_or key (option_map (λ e. Some e) (endpoint_in d))
+
+abbrev pub endpoint_of : Bool → Key → Members → Result (Option Endpoint) Key
+endpoint_of is_needed key t = endpoint_at is_needed key (get_member key t)
+
+-- what stands in a port's table, given the networks of its edge
+abbrev pub port_of : Bool → List ℕ → Members → Result Port Key
+port_of for_run vnis t = do
+  vni ← required (codes "vni") (λ d. one_of vnis (vni_in d)) t
+  cost ← optional (codes "cost") (number_in 1 200000000) 20000 t
+  priority ← optional (codes "priority") (steps_in 16 240) 128 t
+  admin_edge ← optional (codes "admin_edge") flag_in false t
+  auto_edge ← optional (codes "auto_edge") flag_in true t
+  point_to_point ← optional (codes "point_to_point") flag_in true t
+  local ← endpoint_of for_run (codes "local") t
+  remote ← endpoint_of for_run (codes "remote") t
+  _ ← only port_keys t
+  Ok (record {
+    config = record {
+      vni = vni;
+      settings = record { priority = priority; cost = cost; admin_edge = admin_edge; auto_edge = auto_edge; point_to_point = point_to_point };
+    };
+    link = record { local = local; remote = remote };
+  })
+
+abbrev pub no_ports : Ports
+no_ports = record { configs = record { items = [] }; links = record { items = [] } }
+
+abbrev pub with_port : Ports → Port → Ports
+with_port before port = record {
+  configs = record { items = before.configs.items ++ port.config ∷ [] };
+  links = record { items = before.links.items ++ port.link ∷ [] };
+}
+
+-- the ports of the tables, after those before
+abbrev pub ports_from : Bool → List ℕ → Ports → Items → Result Ports Key
+ports_from for_run vnis before no_items = Ok before
+ports_from for_run vnis before (item d ds) = do
+  t ← read_or (codes "port") (as_table d)
+  port ← port_of for_run vnis t
+  ports_from for_run vnis (with_port before port) ds

@@ -1,0 +1,28 @@
+-- What the edges of a configuration are, so that they can be opened.
+use Rattle.std.specs.Prelude.{◌≡◌, ℕ, ◌≤◌, eqb, List, length, Contains}
+use Rattle.std.specs.List.{IsDistinct}
+use Rattle.ev_edge.specs.declared.config.EdgeConfig.{EdgeConfig}
+use Rattle.ev_edge.specs.Config.{vnis_of}
+use Rattle.ev_fabric.specs.Fabric.{addresses_of}
+use Rattle.ev_config.specs.Config.{Edges}
+
+-- each port's network is one of the edge's
+abbrev pub AreServed : List ℕ → List ℕ → Type 0
+AreServed networks vnis = (v : ℕ) → Contains networks v → Contains vnis v
+
+-- what an edge has to be, whomever it listens to
+pub record Fits (c : EdgeConfig) : Type 0 where
+  pub distinct : IsDistinct eqb c.vnis.items
+  pub some_port : 1 ≤ length c.ports.items
+  pub served : AreServed (vnis_of c.ports.items) c.vnis.items
+  pub some_place : 1 ≤ c.capacity
+  pub places : c.capacity ≤ 65536
+  pub some_bucket : 1 ≤ c.buckets
+  pub buckets : c.buckets ≤ 65536
+  pub hello : 1 ≤ c.tree.hello
+
+-- edges that fit, each of another address
+pub record FitTogether (e : Edges) : Type 0 where
+  pub named : e.addresses ≡ addresses_of e.configs
+  pub apart : IsDistinct eqb e.addresses
+  pub fit : (c : EdgeConfig) → Contains e.configs c → Fits c

@@ -1,0 +1,6 @@
+pub mod Endpoint
+pub mod Keys
+pub mod ConfigPort
+pub mod ConfigEdge
+pub mod Config
+pub mod Fitting

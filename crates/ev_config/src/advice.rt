@@ -1,0 +1,317 @@
+//! What is told to people of a configuration. Its words are tested, not proved.
+ghost use Rattle.std.specs.Prelude.{◌≡◌, OnOk};
+ghost use Rattle.ether_wire.specs.Ends.{IsOpen};
+ghost use Rattle.ether_wire.specs.Memory.{page_end};
+
+use crate::place::{Place, place_of};
+use crate::whole::Config;
+use ether_wire::{Device, Out, Page, Vni, put_decimal};
+use ev_edge::EdgeConfig;
+use std::alloc::Global;
+use toml::de::Error;
+use toml::{Table, Value};
+
+/// Room for a line.
+pub type Line = Page<1024>;
+
+/// What may stand at a key of an edge.
+fn allowed_in_edge(key: &str) -> &'static str {
+    match key {
+        "address" => "allowed is an IPv4 address that no edge before has, as '10.0.0.1'",
+        "bridge" =>
+            "allowed is a MAC address of one station that no edge before has, as '02:aa:00:00:00:01'",
+        "vnis" => "allowed are 1 to 64 different numbers, 0 to 16777215",
+        "priority" => "allowed are 0 to 61440 in steps of 4096",
+        "hello" => "allowed are 1 to 2",
+        "max_age" =>
+            "allowed are 6 to 40, at least 2 * (hello + 1), at most 2 * (forward_delay - 1)",
+        "forward_delay" => "allowed are 4 to 30",
+        "hold" => "allowed are 1 to 10",
+        "ageing" => "allowed are 10 to 1000000",
+        "capacity" => "allowed are 1 to 65536",
+        "buckets" => "allowed are 1 to 65536",
+        "salt" => "allowed are 0 to 9223372036854775807",
+        "incarnation" => "allowed are 0 to 4294967295",
+        "port" => "allowed are 1 to 64 tables",
+        _ => "which is no key of an edge",
+    }
+}
+
+/// What may stand at a key of a port.
+fn allowed_in_port(key: &str) -> &'static str {
+    match key {
+        "vni" => "allowed is one of the edge's vnis",
+        "cost" => "allowed are 1 to 200000000",
+        "priority" => "allowed are 0 to 240 in steps of 16",
+        "admin_edge" | "auto_edge" | "point_to_point" => "allowed are true and false",
+        "local" | "remote" => "allowed is an IPv4 address with a UDP port, as '127.0.0.1:5000'",
+        _ => "which is no key of a port",
+    }
+}
+
+/// Writes what stands at a key.
+fn put_value(line: &mut Line, value: &Value) -> Result<(), Device>
+    requires { IsOpen (page_end line.old) }
+    ensures { OnOk result ((page_end line.new).failures ≡ (page_end line.old).failures) }
+{
+    match value {
+        Value::String(text) => {
+            line.put(b"'")?;
+            put_shown(line, text.as_str())?;
+            line.put(b"'")
+        }
+        Value::Integer(number) => {
+            if *number < 0 {
+                line.put(b"-")?;
+            }
+            put_decimal(line, number.unsigned_abs())
+        }
+        Value::Boolean(flag) => line.put(if *flag { b"true" } else { b"false" }),
+        Value::Float(_) => line.put(b"a float"),
+        Value::Datetime(_) => line.put(b"a date"),
+        Value::Array(_) => line.put(b"an array"),
+        Value::Table(_) => line.put(b"a table"),
+    }
+}
+
+/// Writes a character of the configuration, or a question mark where it would steer a terminal.
+fn put_plain_char(line: &mut Line, c: char) -> Result<(), Device>
+    requires { IsOpen (page_end line.old) }
+    ensures { OnOk result ((page_end line.new).failures ≡ (page_end line.old).failures) }
+{
+    if c.is_control() {
+        return line.put(b"?");
+    }
+    let mut room = [0; 4];
+    line.put(c.encode_utf8(&mut room).as_bytes())
+}
+
+/// Writes as much of a text as a line has room for.
+fn put_shown(line: &mut Line, text: &str) -> Result<(), Device>
+    requires { IsOpen (page_end line.old) }
+    ensures { OnOk result ((page_end line.new).failures ≡ (page_end line.old).failures) }
+{
+    for c in text.chars().take(100) {
+        put_plain_char(line, c)?;
+    }
+    Ok(())
+}
+
+/// Writes where the table is: `edge 2, port 3: `.
+fn put_place(line: &mut Line, place: Place<'_>) -> Result<(), Device>
+    requires { IsOpen (page_end line.old) }
+    ensures { OnOk result ((page_end line.new).failures ≡ (page_end line.old).failures) }
+{
+    match place {
+        Place::File(_) => Ok(()),
+        Place::Edge(edge, _) => {
+            line.put(b"edge ")?;
+            put_decimal(line, edge as u64)?;
+            line.put(b": ")
+        }
+        Place::Port(edge, port, _) => {
+            line.put(b"edge ")?;
+            put_decimal(line, edge as u64)?;
+            line.put(b", port ")?;
+            put_decimal(line, port as u64)?;
+            line.put(b": ")
+        }
+    }
+}
+
+/// The table of a place.
+fn table_of(place: Place<'_>) -> &Table {
+    match place {
+        Place::File(table) | Place::Edge(_, table) | Place::Port(_, _, table) => table,
+    }
+}
+
+/// What may stand at a key there.
+fn allowed<'a>(place: Place<'_>, key: &str) -> &'a str {
+    match place {
+        Place::File(_) if key == "edge" => "allowed are 1 to 64 tables",
+        Place::File(_) => "which is no key of the file",
+        Place::Edge(..) => allowed_in_edge(key),
+        Place::Port(..) => allowed_in_port(key),
+    }
+}
+
+/// What is said of a key that isn't there. Of those that may be left out, `max_age` alone
+/// may be faulty even so.
+fn absent(key: &str) -> &'static [u8] {
+    match key {
+        "max_age" => b" is 20 where it is left out",
+        _ => b" is missing",
+    }
+}
+
+/// Writes a key and what stands there.
+fn put_found(line: &mut Line, table: &Table, key: &str) -> Result<(), Device>
+    requires { IsOpen (page_end line.old) }
+    ensures { OnOk result ((page_end line.new).failures ≡ (page_end line.old).failures) }
+{
+    put_shown(line, key)?;
+    match table.get(key) {
+        Some(value) => {
+            line.put(b" is ")?;
+            put_value(line, value)
+        }
+        None => line.put(absent(key)),
+    }
+}
+
+/// Writes the end of a line: what is allowed.
+fn put_allowed(line: &mut Line, place: Place<'_>, key: &str) -> Result<(), Device>
+    requires { IsOpen (page_end line.old) }
+    ensures { OnOk result ((page_end line.new).failures ≡ (page_end line.old).failures) }
+{
+    line.put(b", ")?;
+    line.put(allowed(place, key).as_bytes())?;
+    line.put(b"\n")
+}
+
+/// Writes where a key is faulty, what stands there and what is allowed.
+fn put_fault(line: &mut Line, table: &Table, key: &str) -> Result<(), Device>
+    requires { IsOpen (page_end line.old) }
+    ensures { OnOk result ((page_end line.new).failures ≡ (page_end line.old).failures) }
+{
+    let place = place_of(table);
+    put_place(line, place)?;
+    put_found(line, table_of(place), key)?;
+    put_allowed(line, place, key)
+}
+
+/// The line that tells of a faulty key.
+pub(crate) fn fault_line(table: &Table, key: &str) -> Line {
+    let mut line = Line::new();
+    let _fits = put_fault(&mut line, table, key);
+    line
+}
+
+/// How many ports the edges have.
+fn count_ports(config: &Config) -> usize {
+    let mut count = 0usize;
+    for edge in config.edges.iter() {
+        count = count.saturating_add(edge.ports.len());
+    }
+    count
+}
+
+/// Whether one of the first edges serves the network.
+fn is_served(config: &Config, edges: usize, vni: Vni) -> bool {
+    for edge in config.edges.iter().take(edges) {
+        if edge.vnis.contains(&vni) {
+            return true;
+        }
+    }
+    false
+}
+
+/// How many networks the edge behind the first ones serves that none of them does.
+fn count_new(config: &Config, edges: usize, edge: &EdgeConfig) -> usize {
+    let mut count = 0usize;
+    for vni in edge.vnis.iter() {
+        if !is_served(config, edges, *vni) {
+            count = count.saturating_add(1);
+        }
+    }
+    count
+}
+
+/// How many networks the edges serve.
+fn count_vnis(config: &Config) -> usize {
+    let mut count = 0usize;
+    for (edges, edge) in config.edges.iter().enumerate() {
+        count = count.saturating_add(count_new(config, edges, edge));
+    }
+    count
+}
+
+/// Writes a number of things, behind what leads to it.
+fn put_count(line: &mut Line, lead: &[u8], count: usize, one: &[u8]) -> Result<(), Device>
+    requires { IsOpen (page_end line.old) }
+    ensures { OnOk result ((page_end line.new).failures ≡ (page_end line.old).failures) }
+{
+    line.put(lead)?;
+    put_decimal(line, count as u64)?;
+    line.put(one)?;
+    line.put(if count == 1 { b"" } else { b"s" })
+}
+
+/// Writes how much there is.
+fn put_summary(line: &mut Line, config: &Config) -> Result<(), Device>
+    requires { IsOpen (page_end line.old) }
+    ensures { OnOk result ((page_end line.new).failures ≡ (page_end line.old).failures) }
+{
+    put_count(line, b"ok: ", config.edges.len(), b" edge")?;
+    put_count(line, b", ", count_ports(config), b" port")?;
+    put_count(line, b", ", count_vnis(config), b" VNI")?;
+    line.put(b"\n")
+}
+
+/// The line that tells of a configuration without fault.
+pub fn summary_line(config: &Config) -> Line {
+    let mut line = Line::new();
+    let _fits = put_summary(&mut line, config);
+    line
+}
+
+/// Writes in which line the text is no TOML, and why.
+fn put_syntax(line: &mut Line, text: &str, error: &Error) -> Result<(), Device>
+    requires { IsOpen (page_end line.old) }
+    ensures { OnOk result ((page_end line.new).failures ≡ (page_end line.old).failures) }
+{
+    line.put(b"line ")?;
+    put_decimal(line, line_of(text, error))?;
+    line.put(b": ")?;
+    put_shown(line, error.message())?;
+    line.put(b"\n")
+}
+
+/// The line of an error in a text, from 1.
+fn line_of(text: &str, error: &Error) -> u64 {
+    let start = match error.span() {
+        Some(span) => span.start,
+        None => 0,
+    };
+    let mut number = 1u64;
+    for octet in text.as_bytes().iter().take(start) {
+        if *octet == b'\n' {
+            number = number.saturating_add(1);
+        }
+    }
+    number
+}
+
+/// The line that tells where a text is no TOML document.
+pub(crate) fn syntax_line(text: &str, error: &Error) -> Line {
+    let mut line = Line::new();
+    let _fits = put_syntax(&mut line, text, error);
+    line
+}
+
+/// What is told of a text that is no configuration, and of its faulty key if it is a document.
+pub fn refusal_line(alloc: Global, text: &str, key: Option<&str>) -> Line {
+    match toml::table_from_str(alloc, text) {
+        Ok(table) => fault_line(&table, key.unwrap_or("text")),
+        Err(error) if error.is_memory() => plain_line(key),
+        Err(error) => syntax_line(text, &error),
+    }
+}
+
+/// What is told where there is no memory to say more.
+fn plain_line(key: Option<&str>) -> Line {
+    let mut line = Line::new();
+    let _fits = put_plain(&mut line, key.unwrap_or("text"));
+    line
+}
+
+/// Writes the faulty key alone.
+fn put_plain(line: &mut Line, key: &str) -> Result<(), Device>
+    requires { IsOpen (page_end line.old) }
+    ensures { OnOk result ((page_end line.new).failures ≡ (page_end line.old).failures) }
+{
+    line.put(b"config ")?;
+    put_shown(line, key)?;
+    line.put(b"\n")
+}

@@ -1,0 +1,240 @@
+//! The edge of a table, key by key.
+ghost use Rattle.std.specs.Prelude.{◌≡◌, ◌≤◌, ◌<◌, ◌^◌, codes, eqb, false, IfOk};
+ghost use Rattle.std.specs.List.{list_any, IsDistinct};
+ghost use Rattle.toml.specs.View.{table_view};
+ghost use Rattle.ev_config.specs.Keys.{Gives, required, addr_in, bridge_in, new_among};
+ghost use Rattle.ev_config.specs.Fitting.{Fits};
+ghost use Rattle.ev_config.specs.ConfigEdge.{names_of, tree_of, limits_of, related, edge_from, edge_of};
+
+use crate::endpoint::Link;
+use crate::keys::{Fault, addr_in, bridge_in, number, only, steps, tables_at, value_at, vnis_at};
+use crate::port::{Ports, ports_of};
+use arrayvec::ArrayVec;
+use bpdu_wire::BridgeId;
+use ether_wire::{Addr, Mac, Vni};
+use ev_edge::EdgeConfig;
+use rstp_state::start::Settings;
+use toml::Table;
+
+/// The keys of an edge's table.
+pub(crate) const EDGE_KEYS: [&'static str; 14] = [
+    "address",
+    "bridge",
+    "vnis",
+    "priority",
+    "hello",
+    "max_age",
+    "forward_delay",
+    "hold",
+    "ageing",
+    "capacity",
+    "buckets",
+    "salt",
+    "incarnation",
+    "port",
+];
+
+/// Who an edge is.
+#[derive(Drop)]
+pub(crate) struct Names {
+    /// The address under which it speaks.
+    pub(crate) address: Addr,
+    /// Its bridge's address.
+    pub(crate) bridge: Mac,
+    /// The networks that it serves.
+    pub(crate) vnis: ArrayVec<Vni, 64>,
+}
+
+/// How much an edge keeps, how long, and in which of its lives.
+#[derive(Clone, Copy)]
+pub(crate) struct Limits {
+    /// How many seconds an entry lives that isn't heard again.
+    pub(crate) ageing: u64,
+    /// How many stations may be learnt.
+    pub(crate) capacity: u64,
+    /// How many buckets the learning table has.
+    pub(crate) buckets: u64,
+    /// What keeps a stranger from choosing the buckets.
+    pub(crate) salt: u64,
+    /// Which life of the originator begins.
+    pub(crate) incarnation: u64,
+}
+
+/// An edge as its table describes it. It listens to nobody yet.
+#[derive(Drop)]
+pub(crate) struct Described {
+    /// Its bridge's address.
+    pub(crate) bridge: Mac,
+    /// What it is opened with.
+    pub(crate) config: EdgeConfig,
+    /// Where its ports' frames go and come from.
+    pub(crate) links: ArrayVec<Link, 64>,
+}
+
+/// Whether the address is one of these.
+fn has_address(addresses: &[Addr], address: Addr) -> bool
+    ensures { result ≡ list_any (λ x. eqb x address) addresses.now }
+{
+    addresses.contains(&address)
+}
+
+/// The edge's address, none of those before.
+fn address_of<'a>(table: &'a Table, before: &[Addr]) -> Result<Addr, Fault<'a>>
+    ensures value { Gives (λ n. n) (required (codes "address")
+        (λ d. new_among before.now (addr_in d)) (table_view table.now)) result }
+    ensures new { IfOk result (λ n. list_any (λ x. eqb x n) before.now ≡ false) }
+{
+    let Some(value) = value_at(table, "address") else {
+        return Err(Fault::Key("address"));
+    };
+    match addr_in(value) {
+        Some(address) if !has_address(before, address) => Ok(address),
+        _ => Err(Fault::Key("address")),
+    }
+}
+
+/// Whether the bridge is one of these.
+fn has_bridge(bridges: &[Mac], bridge: Mac) -> bool
+    ensures { result ≡ list_any (λ x. eqb x bridge) bridges.now }
+{
+    bridges.contains(&bridge)
+}
+
+/// The bridge's address, none of those before.
+fn bridge_of<'a>(table: &'a Table, before: &[Mac]) -> Result<Mac, Fault<'a>>
+    ensures { Gives (λ n. n) (required (codes "bridge") (λ d. new_among before.now (bridge_in d))
+        (table_view table.now)) result }
+{
+    let Some(value) = value_at(table, "bridge") else {
+        return Err(Fault::Key("bridge"));
+    };
+    match bridge_in(value) {
+        Some(bridge) if !has_bridge(before, bridge) => Ok(bridge),
+        _ => Err(Fault::Key("bridge")),
+    }
+}
+
+/// Who the edge is, given the addresses and bridges of the edges before it.
+pub(crate) fn names_of<'a>(
+    addresses: &[Addr],
+    bridges: &[Mac],
+    table: &'a Table,
+) -> Result<Names, Fault<'a>>
+    ensures value { Gives (λ n. n)
+        (names_of addresses.now bridges.now (table_view table.now)) result }
+    ensures new { IfOk result (λ n. list_any (λ x. eqb x n.address) addresses.now ≡ false) }
+    ensures distinct { IfOk result (λ n. IsDistinct eqb n.vnis.items) }
+{
+    let address = address_of(table, addresses)?;
+    let bridge = bridge_of(table, bridges)?;
+    let vnis = vnis_at(table, "vnis")?;
+    Ok(Names {
+        address,
+        bridge,
+        vnis,
+    })
+}
+
+/// The bridge's identifier and times.
+pub(crate) fn tree_of<'a>(bridge: Mac, table: &'a Table) -> Result<Settings, Fault<'a>>
+    ensures value { Gives (λ s. s) (tree_of bridge (table_view table.now)) result }
+    ensures some { IfOk result (λ s. 1 ≤ s.hello) }
+    ensures hello { IfOk result (λ s. s.hello ≤ 2) }
+    ensures forward_delay { IfOk result (λ s. s.forward_delay ≤ 30) }
+{
+    let priority = steps(table, "priority", 4096, 61_440, 32_768)?;
+    let hello = number(table, "hello", 1, 2, 2)?;
+    let max_age = number(table, "max_age", 6, 40, 20)?;
+    let forward_delay = number(table, "forward_delay", 4, 30, 15)?;
+    let hold = number(table, "hold", 1, 10, 6)?;
+    Ok(Settings {
+        identifier: BridgeId::from_parts(priority as u16, bridge.number()),
+        hello: hello as u16,
+        max_age: max_age as u16,
+        forward_delay: forward_delay as u16,
+        hold: hold as u32,
+    })
+}
+
+/// How much the edge keeps, how long, and in which of its lives.
+pub(crate) fn limits_of<'a>(table: &'a Table) -> Result<Limits, Fault<'a>>
+    ensures value { Gives (λ l. l) (limits_of (table_view table.now)) result }
+    ensures some_place { IfOk result (λ l. 1 ≤ l.capacity) }
+    ensures places { IfOk result (λ l. l.capacity ≤ 65536) }
+    ensures some_bucket { IfOk result (λ l. 1 ≤ l.buckets) }
+    ensures buckets { IfOk result (λ l. l.buckets ≤ 65536) }
+    ensures incarnation { IfOk result (λ l. l.incarnation < 2 ^ 32) }
+{
+    let ageing = number(table, "ageing", 10, 1_000_000, 300)?;
+    let capacity = number(table, "capacity", 1, 65_536, 1024)?;
+    let buckets = number(table, "buckets", 1, 65_536, capacity)?;
+    let salt = number(table, "salt", 0, 0x7fff_ffff_ffff_ffff, 0)?;
+    let incarnation = number(table, "incarnation", 0, 0xffff_ffff, 0)?;
+    Ok(Limits {
+        ageing,
+        capacity,
+        buckets,
+        salt,
+        incarnation,
+    })
+}
+
+/// Refuses times that don't fit together (IEEE 802.1D-2004, section 17.14).
+pub(crate) fn related<'a>(tree: &Settings) -> Result<bool, Fault<'a>>
+    requires hello { tree.now.hello ≤ 2 }
+    requires forward_delay { tree.now.forward_delay ≤ 30 }
+    ensures { Gives (λ b. b) (related tree.now) result }
+{
+    if tree.max_age <= 2 * tree.forward_delay.saturating_sub(1)
+        && 2 * (tree.hello + 1) <= tree.max_age
+    {
+        Ok(true)
+    } else {
+        Err(Fault::Key("max_age"))
+    }
+}
+
+/// The edge of these parts, which listens to nobody yet.
+fn edge_from(names: Names, tree: Settings, limits: Limits, ports: Ports) -> Described
+    requires { limits.incarnation < 2 ^ 32 }
+    ensures { result ≡ edge_from names tree limits ports }
+{
+    Described {
+        bridge: names.bridge,
+        config: EdgeConfig {
+            address: names.address,
+            incarnation: limits.incarnation as u32,
+            originators: ArrayVec::new(),
+            vnis: names.vnis,
+            tree,
+            ageing: limits.ageing,
+            capacity: limits.capacity as usize,
+            buckets: limits.buckets as usize,
+            salt: limits.salt,
+            ports: ports.configs,
+        },
+        links: ports.links,
+    }
+}
+
+/// The edge of a table, given the addresses and bridges of the edges before it.
+pub(crate) fn edge_of<'a>(
+    for_run: bool,
+    addresses: &[Addr],
+    bridges: &[Mac],
+    table: &'a Table,
+) -> Result<Described, Fault<'a>>
+    ensures value { Gives (λ e. e)
+        (edge_of for_run addresses.now bridges.now (table_view table.now)) result }
+    ensures new { IfOk result (λ e. list_any (λ x. eqb x e.config.address) addresses.now ≡ false) }
+    ensures fits { IfOk result (λ e. Fits e.config) }
+{
+    let names = names_of(addresses, bridges, table)?;
+    let tree = tree_of(names.bridge, table)?;
+    let limits = limits_of(table)?;
+    let tables = tables_at(table, "port")?;
+    only(table, &EDGE_KEYS)?;
+    related(&tree)?;
+    let ports = ports_of(for_run, names.vnis.as_slice(), tables)?;
+    Ok(edge_from(names, tree, limits, ports))
+}

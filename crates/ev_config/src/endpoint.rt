@@ -1,0 +1,42 @@
+//! Where a port's frames go and come from.
+ghost use Rattle.std.specs.Prelude.{◌≡◌, Some};
+ghost use Rattle.ether_wire.specs.Spelling.{decimal_of_text};
+ghost use Rattle.ev_config.specs.Endpoint.{endpoint_of_text};
+
+use ether_wire::{Addr, parted, read_decimal};
+
+/// A UDP endpoint.
+#[derive(Clone, Copy, Debug, PartialEq, Eq)]
+pub struct Endpoint {
+    /// Its IPv4 address.
+    pub address: Addr,
+    /// Its UDP port.
+    pub port: u16,
+}
+
+/// The two ends of the link that stands for a port's cable.
+#[derive(Clone, Copy, Debug, Default, PartialEq, Eq)]
+pub struct Link {
+    /// Where the port's frames are taken.
+    pub local: Option<Endpoint>,
+    /// Where they are sent.
+    pub remote: Option<Endpoint>,
+}
+
+/// The UDP port that the text spells in decimal.
+fn read_udp_port(text: &[u8]) -> Option<u16>
+    ensures { result ≡ decimal_of_text 65535 text.now }
+{
+    let number = read_decimal(text, 65535)?;
+    Some(number as u16)
+}
+
+/// The endpoint that the text spells: an IPv4 address, a colon, a UDP port.
+pub(crate) fn read_endpoint(text: &[u8]) -> Option<Endpoint>
+    ensures { result ≡ endpoint_of_text text.now }
+{
+    let (address, port) = parted(b':', text)?;
+    let address = Addr::read_text(address)?;
+    let port = read_udp_port(port)?;
+    Some(Endpoint { address, port })
+}

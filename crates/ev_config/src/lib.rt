@@ -1,0 +1,17 @@
+//! The configuration: the edges that a TOML text describes, or where it is wrong.
+#![tactic(auto)]
+
+mod advice;
+mod config;
+mod edge;
+mod edges;
+mod endpoint;
+mod keys;
+mod place;
+mod port;
+mod whole;
+
+pub use advice::{Line, refusal_line, summary_line};
+pub use config::{ConfigRefusal, config_of};
+pub use endpoint::{Endpoint, Link};
+pub use whole::Config;

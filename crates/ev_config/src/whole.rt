@@ -1,0 +1,16 @@
+//! What a document describes, whole.
+ghost use Rattle.std.specs.Prelude.{◌≡◌, vec_len};
+
+use crate::endpoint::Link;
+use arrayvec::ArrayVec;
+use ev_edge::EdgeConfig;
+
+/// The edges of a document, in its order.
+#[derive(Drop)]
+pub struct Config {
+    /// What each edge is opened with. Each listens to all.
+    pub edges: Vec<EdgeConfig>,
+    /// For each edge, where its ports' frames go and come from.
+    pub links: Vec<ArrayVec<Link, 64>>,
+    ghost each: { vec_len links ≡ vec_len edges },
+}

@@ -1,0 +1,150 @@
+-- What the devices of a report hold at its end, and its status.
+use Rattle.std.proofs.Common.{◌≡◌, ◌≢◌, ◌⊎◌, inl, inr, ℕ, ◌+◌, Bool, true, false, cond, not, ◌&&◌, ◌||◌, List, [], length, Result, Ok, Err, is_ok, refl, sym, ap, subst, ◌∙◌, arith}
+use Rattle.std.proofs.lemmas.Bool.Decides.{nat_tests}
+use Rattle.ether_wire.specs.declared.ends.Device.{Device}
+use Rattle.ether_wire.specs.Ends.{End, Source, Puts}
+use Rattle.route_wire.specs.Stream.{whole_up_to}
+use Rattle.route_wire.specs.Record.{AnswersUpTo}
+use Rattle.route_wire.specs.Feed.{HasRead, shown}
+use Rattle.route_wire.proofs.Cuttings.{read_whole_stream}
+use Rattle.route_join.specs.Table.{Table, IsTableOf}
+use Rattle.ev_report.specs.declared.ending.Ending.{Ending}
+use Rattle.ev_report.specs.declared.stream.Intake.{Intake}
+use Rattle.ev_report.specs.Notes.{refusals_from, end_note, notes_of, has_stopped, is_broken, has_starved, status_of}
+use Rattle.ev_report.specs.Ends.{devices, has_failed, fault_in, Holds, Tells, Finishes}
+use Rattle.ev_report.specs.Runs.{taken_of, Output, Renders}
+use Rattle.ev_report.specs.Progressing.{state, new_intake, TakesInput}
+use Rattle.ev_report.proofs.Taking.{tells_more, table_of_all}
+use Rattle.ev_report.proofs.Feeding.{same_note, same_broken}
+
+-- ---- one call after the other
+
+tells_holds : (a b : End) (q : Bool) (t : List ℕ) → Tells a b true q t → Holds a b t
+tells_holds a b true t h = record { written = λ _. h.written refl; failures = inl (ap (λ (x : End). x.failures) (h.written refl)) }
+tells_holds a b false t h = let one = h.failed refl refl in record { written = λ e. absurd (omega arith); failures = inr one }
+
+tells_failed : (a b : End) (q : Bool) (t : List ℕ) → Tells a b true q t → has_failed a b ≡ not q
+tells_failed a b true t h = let none : b.failures ≡ a.failures = ap (λ (x : End). x.failures) (h.written refl) in grind (arith, nat_tests)
+tells_failed a b false t h = let one = h.failed refl refl in grind (arith, nat_tests)
+
+pub put_holds : (a b : End) (r : Result (Unit {0}) Device) (text : List ℕ) → Puts a b text r → Holds a b text
+put_holds a b (Ok x) text h = record { written = λ _. h; failures = inl (ap (λ (x : End). x.failures) h) }
+put_holds a b (Err e) text h = record { written = λ same. absurd (omega arith); failures = inr h }
+
+pub put_failed : (a b : End) (r : Result (Unit {0}) Device) (text : List ℕ) → Puts a b text r → has_failed a b ≡ not (is_ok r)
+put_failed a b (Ok x) text h = let same : b.failures ≡ a.failures = ap (λ (x : End). x.failures) h in grind (arith, nat_tests)
+put_failed a b (Err e) text h = grind (arith, nat_tests)
+
+-- ---- the whole stream
+
+same_status : (e p q x y s t k l : Bool) → x ≡ not p → y ≡ not q → s ≡ t → k ≡ l → status_of (e || (not p || not q)) s k ≡ status_of (e || (x || y)) t l
+same_status e p q x y s t k l hx hy hs hk =
+    ap (λ z. status_of (e || (z || not q)) s k) (sym hx) ∙ ap (λ z. status_of (e || (x || z)) s k) (sym hy)
+    ∙ ap (λ z. status_of (e || (x || y)) z k) hs ∙ ap (λ z. status_of (e || (x || y)) t z) hk
+
+-- the records of a reader were taken, the end was noted, and what is made of them written
+module _ (newest : ℕ) (output : Output) (originators : List ℕ) (reader reader' : Source) (out out' notes mid notes' : End) (intake last : Intake) (ending : Ending) where
+  pub renders : (i : TakesInput newest ending reader reader' (state (new_intake newest originators) notes) (state intake mid)) → last ≡ record intake { is_told = last.is_told }
+      → Tells mid notes' intake.is_told last.is_told (end_note ending (intake.count + 1) intake.feed.rest) → (r : Result (Unit {0}) Device) → (text : List ℕ) → Puts out out' text r
+      → text ≡ output ending i.octets.taken.outcomes last.table → (status : ℕ) → status ≡ status_of (has_stopped ending || (not (is_ok r) || not last.is_told)) last.is_starved (is_broken ending intake.feed.rest)
+      → Renders newest output originators (devices reader out notes) (devices reader' out' notes') status
+  renders i kept told r text put makes status is =
+      let o = i.octets in
+      let outcomes = o.taken.outcomes in
+      let first : HasRead (new_intake newest originators).feed [] [] = record { skipped = []; reads = refl; faulty = λ _. refl } in
+      let found = read_whole_stream intake.feed i.input o.answers (o.read [] [] first) i.none_held in
+      let rest = found.0 in
+      let shows : whole_up_to newest rest ≡ shown intake.feed = ap (λ v. whole_up_to v rest) (sym o.version) ∙ found.2 in
+      let number : intake.count ≡ length outcomes = o.taken.counts.count ∙ grind arith in
+      let same = same_note (shown intake.feed) rest intake.feed.rest i.none_held found.3 ending (length outcomes + 1) i.shows in
+      let all : Tells notes notes' true last.is_told (notes_of outcomes ending rest) =
+      tells_more notes mid notes' true intake.is_told last.is_told (refusals_from 1 outcomes) (end_note ending (length outcomes + 1) rest) o.taken.counts.told
+      (subst (λ text. Tells mid notes' intake.is_told last.is_told text) same
+      (subst (λ n. Tells mid notes' intake.is_told last.is_told (end_note ending (n + 1) intake.feed.rest)) number told)) in
+      let table_is : last.table ≡ intake.table = ap (λ (x : Intake). x.table) kept in
+      record {
+        input = i.input;
+        ending = ending;
+        outcomes = outcomes;
+        rest = rest;
+        table = last.table;
+        gave = i.gave;
+        shows = i.shows ∙ ap fault_in (sym shows);
+        taken = record {
+          answers = o.answers;
+          answered = subst (λ v. AnswersUpTo v i.input o.answers rest) o.version found.1;
+          became = o.taken.became;
+          table_of = subst (λ (x : Table). IsTableOf (taken_of outcomes) x) (sym (table_is ∙ o.taken.table_is)) (table_of_all originators outcomes);
+        };
+        written = subst (λ (x : List ℕ). Holds out out' x) makes (put_holds out out' r text put);
+        noted = tells_holds notes notes' last.is_told (notes_of outcomes ending rest) all;
+        status_is = is ∙ same_status (has_stopped ending) (is_ok r) last.is_told (has_failed out out') (has_failed notes notes') last.is_starved (has_starved outcomes) (is_broken ending intake.feed.rest) (is_broken ending rest)
+            (put_failed out out' r text put) (tells_failed notes notes' last.is_told (notes_of outcomes ending rest) all)
+            (ap (λ (x : Intake). x.is_starved) kept ∙ o.taken.counts.starved) (same_broken (shown intake.feed) rest intake.feed.rest i.none_held found.3 ending i.shows);
+      }
+
+-- ---- writers that are given more at once
+
+pub finish_holds : (a b c : End) (q : Bool) (t : List ℕ) → Holds a b t → Finishes a.failures b c q → Holds a c t
+finish_holds a b c true t h f = let p = f.passed refl in record { written = λ _. p.0 ∙ h.written p.1; failures = inl (ap (λ (x : End). x.failures) p.0 ∙ p.1) }
+finish_holds a b c false t h f = go (f.failed refl) h.failures
+  where
+    late : c.failures ≡ a.failures + 1 → Holds a c t
+    late e = record { written = λ same. absurd (omega arith); failures = inr e }
+
+    go : ((b.failures ≢ a.failures) × (c.failures ≡ b.failures)) ⊎ ((b.failures ≡ a.failures) × (c.failures ≡ a.failures + 1)) → (b.failures ≡ a.failures) ⊎ (b.failures ≡ a.failures + 1) → Holds a c t
+    go (inl p) (inl e) = absurd (p.0 e)
+    go (inl p) (inr e) = late (p.1 ∙ e)
+    go (inr p) e = late p.1
+
+pub finish_failed : (a b c : End) (q : Bool) (t : List ℕ) → Holds a b t → Finishes a.failures b c q → has_failed a c ≡ not q
+finish_failed a b c true t h f =
+    let p = f.passed refl in
+    let same : c.failures ≡ a.failures = ap (λ (x : End). x.failures) p.0 ∙ p.1 in
+    grind (arith, nat_tests)
+finish_failed a b c false t h f = go (f.failed refl) h.failures
+  where
+    late : c.failures ≡ a.failures + 1 → has_failed a c ≡ true
+    late e = grind (arith, nat_tests)
+
+    go : ((b.failures ≢ a.failures) × (c.failures ≡ b.failures)) ⊎ ((b.failures ≡ a.failures) × (c.failures ≡ a.failures + 1)) → (b.failures ≡ a.failures) ⊎ (b.failures ≡ a.failures + 1) → has_failed a c ≡ true
+    go (inl p) (inl e) = absurd (p.0 e)
+    go (inl p) (inr e) = late (p.1 ∙ e)
+    go (inr p) e = late p.1
+
+pub finish_unfailed : (a b c : End) (q : Bool) → Finishes a.failures b c q → q ≡ true → has_failed a b ≡ false
+finish_unfailed a b c q f e = let p = (f.passed e).1 in grind (arith, nat_tests)
+
+pub last_status : (e p q s k x y : Bool) (status last : ℕ) → status ≡ status_of (e || (x || y)) s k → last ≡ cond (p && q) status 4 → (p ≡ true → x ≡ false) → (q ≡ true → y ≡ false)
+    → last ≡ status_of (e || (not p || not q)) s k
+last_status false false q s k x y status last h l f g = l
+last_status false true false s k x y status last h l f g = l
+last_status false true true s k x y status last h l f g = l ∙ h ∙ ap (λ b. status_of (b || y) s k) (f refl) ∙ ap (λ b. status_of b s k) (g refl)
+last_status true true true s k x y status last h l f g = l ∙ h
+last_status true false q s k x y status last h l f g = l
+last_status true true false s k x y status last h l f g = l
+
+pub buffered_renders : (newest : ℕ) (output : Output) (originators : List ℕ) (reader reader' : Source) (out held out' notes kept notes' : End) (p q : Bool) (status last : ℕ)
+    → Renders newest output originators (devices reader out notes) (devices reader' held kept) status → Finishes out.failures held out' p → Finishes notes.failures kept notes' q
+    → last ≡ cond (p && q) status 4 → Renders newest output originators (devices reader out notes) (devices reader' out' notes') last
+buffered_renders newest output originators reader reader' out held out' notes kept notes' p q status last r f g l =
+    let text = output r.ending r.outcomes r.table in
+    let lines = notes_of r.outcomes r.ending r.rest in
+    let starved = has_starved r.outcomes in
+    let broken = is_broken r.ending r.rest in
+    record {
+      input = r.input;
+      ending = r.ending;
+      outcomes = r.outcomes;
+      rest = r.rest;
+      table = r.table;
+      gave = r.gave;
+      shows = r.shows;
+      taken = r.taken;
+      written = finish_holds out held out' p text r.written f;
+      noted = finish_holds notes kept notes' q lines r.noted g;
+      status_is = last_status (has_stopped r.ending) p q starved broken (has_failed out held) (has_failed notes kept) status last r.status_is l
+          (finish_unfailed out held out' p f) (finish_unfailed notes kept notes' q g)
+          ∙ ap (λ x. status_of (has_stopped r.ending || (x || not q)) starved broken) (sym (finish_failed out held out' p text r.written f))
+          ∙ ap (λ x. status_of (has_stopped r.ending || (has_failed out out' || x)) starved broken) (sym (finish_failed notes kept notes' q lines r.noted g));
+    }

@@ -1,0 +1,12 @@
+use Rattle.std.proofs.Common.{◌≡◌, drop}
+use Rattle.ev_report.specs.Migrated.{newest_along, behind}
+use Rattle.ev_report.proofs.migrate.newest_along.Given as goal
+
+-- what is to be found from here on is what is to be found from the first
+abbrev pub invariant-loop-update : goal.invariant-loop-update
+invariant-loop-update l = record {
+  can_next : (goal.iterator-loop-update).can_next l.ahead;
+  is_finite : (goal.iterator-loop-update).is_finite l.ahead;
+  newest : newest_along l.newest l.ahead ≡ newest_along l.fn.first l.initial.ahead;
+  ahead : drop 1 (behind l.newest l.ahead) ≡ drop 1 (behind l.fn.first l.initial.ahead);
+}

@@ -1,0 +1,10 @@
+pub mod Notes
+pub mod Ends
+pub mod Runs
+pub mod Progressing
+pub mod Originators
+pub mod Migrated
+pub mod Migrations
+pub mod MigrationLaws
+pub mod Input
+pub mod Silence

@@ -1,0 +1,82 @@
+-- How far the records of a stream were taken.
+use Rattle.std.specs.Prelude.{◌≡◌, ℕ, ◌+◌, true, false, ◌||◌, List, [], ◌++◌, length, Result, Ok, Err}
+use Rattle.std.specs.List.{concat}
+use Rattle.ether_wire.specs.Ends.{End, Source}
+use Rattle.route_wire.specs.Fields.{Fields}
+use Rattle.route_wire.specs.Record.{is_length}
+use Rattle.route_wire.specs.Feed.{shown, HasRead}
+use Rattle.route_join.specs.declared.table.Taken.{Taken}
+use Rattle.route_join.specs.declared.table.TakeError.{TakeError}
+use Rattle.route_join.specs.Taken.{number_of}
+use Rattle.ev_report.specs.declared.ending.Ending.{Ending}
+use Rattle.ev_report.specs.declared.stream.Intake.{Intake}
+use Rattle.ev_report.specs.Notes.{refused_line, refusals_from, has_starved}
+use Rattle.ev_report.specs.Ends.{fault_in, fault_told, Gives, Gave, Tells}
+use Rattle.ev_report.specs.Runs.{BecomeAll, table_after_all, fresh}
+
+-- the records on their way into a table, and what the notes hold of them
+pub record State : Type 0 where
+  pub intake : Intake
+  pub notes : End
+
+abbrev pub state : Intake → End → State
+state intake notes = record { intake = intake; notes = notes }
+
+-- nothing was taken yet of records up to a version
+abbrev pub new_intake : ℕ → List ℕ → Intake
+new_intake newest originators = record { feed = record { newest = newest; rest = [] }; table = fresh originators; count = 0; is_starved = false; is_told = true }
+
+-- ---- records
+
+-- what a table's answer makes of an update's record
+abbrev pub outcome_of : Fields → Result Taken TakeError → Result Fields ℕ
+outcome_of u (Ok taken) = Ok u
+outcome_of u (Err error) = Err (number_of error)
+
+-- a record more that wasn't taken, and its note
+pub record Refuses (refusal : ℕ) (old new : State) : Type 0 where
+  pub kept : new.intake ≡ record old.intake { count = old.intake.count + 1; is_told = new.intake.is_told }
+  pub told : Tells old.notes new.notes old.intake.is_told new.intake.is_told (refused_line (old.intake.count + 1) refusal)
+
+-- records more of which this became
+pub record Counts (outcomes : List (Result Fields ℕ)) (old new : State) : Type 0 where
+  pub count : new.intake.count ≡ old.intake.count + length outcomes
+  pub starved : new.intake.is_starved ≡ (old.intake.is_starved || has_starved outcomes)
+  pub told : Tells old.notes new.notes old.intake.is_told new.intake.is_told (refusals_from (old.intake.count + 1) outcomes)
+
+-- records of these answers more, one after the other
+pub record TakesAnswers (answers : List (Result Fields ℕ)) (old new : State) : Type 0 where
+  pub outcomes : List (Result Fields ℕ)
+  pub became : BecomeAll old.intake.table answers outcomes
+  pub table_is : new.intake.table ≡ table_after_all old.intake.table outcomes
+  pub counts : Counts outcomes old new
+
+-- ---- octets
+
+-- octets more, of which the feed gives answers
+pub record TakesOctets (octets : List ℕ) (old new : State) : Type 0 where
+  pub answers : List (Result Fields ℕ)
+  pub read : (stream : List ℕ) (earlier : List (Result Fields ℕ)) → HasRead old.intake.feed stream earlier → HasRead new.intake.feed (stream ++ octets) (earlier ++ answers)
+  pub version : new.intake.feed.newest ≡ old.intake.feed.newest
+  pub taken : TakesAnswers answers old new
+
+-- the octets of a piece in front of its rest
+pub record TakesFront (piece rest : List ℕ) (old new : State) : Type 0 where
+  pub front : List ℕ
+  pub split : piece ≡ front ++ rest
+  pub octets : TakesOctets front old new
+
+-- the octets that so many reads gave
+pub record TakesReads (turn : ℕ) (reader reader' : Source) (old new : State) : Type 0 where
+  pub pieces : List (List ℕ)
+  pub gives : Gives reader reader' pieces
+  pub many : length pieces ≡ turn
+  pub octets : TakesOctets (concat pieces) old new
+
+-- all octets that a reader gave, up to where the reading ended so
+pub record TakesInput (newest : ℕ) (ending : Ending) (reader reader' : Source) (old new : State) : Type 0 where
+  pub input : List ℕ
+  pub gave : Gave newest reader reader' input ending
+  pub octets : TakesOctets input old new
+  pub shows : fault_told ending ≡ fault_in (shown new.intake.feed)
+  pub none_held : is_length (shown new.intake.feed) ≡ false

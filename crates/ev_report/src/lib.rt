@@ -1,0 +1,21 @@
+//! The report of a stream of update records, and the migration of old ones; with the ends, the
+//! whole input and the statuses that other programs share with them.
+#![tactic(auto)]
+
+mod ending;
+mod input;
+mod migrate;
+mod migration_laws;
+mod notes;
+mod originators;
+mod report;
+mod status;
+mod stream;
+
+pub use ending::Ending;
+pub use input::{MOST_READS, Unread, read_whole};
+pub use migrate::{migrate_buffered, migrate_run};
+pub use migration_laws::{same_owners, stays_away};
+pub use originators::{ListFault, WrongPart, put_wrong_part, read_originators};
+pub use report::{finish, has_failed, last_status, report_buffered, report_run, status_of};
+pub use status::{BROKEN, DEVICE, DONE, MEMORY};

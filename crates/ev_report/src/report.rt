@@ -1,0 +1,118 @@
+//! The report of a stream of update records.
+ghost use Rattle.std.specs.Prelude.{◌≡◌, ◌+◌, ◌<◌, ◌^◌, ◌&&◌, ◌||◌, not, if◌then◌else◌};
+ghost use Rattle.ether_wire.specs.Buffered.{buffered_end};
+ghost use Rattle.ether_wire.specs.Ends.{IsOpen, Allows};
+ghost use Rattle.route_join.specs.Table.{AreOriginators};
+ghost use Rattle.ev_report.specs.Notes.{has_stopped, status_of};
+ghost use Rattle.ev_report.specs.Ends.{devices, Finishes};
+ghost use Rattle.ev_report.specs.Runs.{Reports};
+
+use crate::ending::Ending;
+use crate::status::{BROKEN, DEVICE, DONE, MEMORY};
+use crate::stream::Intake;
+use arrayvec::ArrayVec;
+use ether_wire::{Addr, Buffered, In, Out};
+use route_wire::Feed;
+use std::alloc::Global;
+
+/// Whether a device failed, where the report and the notes were written so.
+pub fn has_failed(ending: Ending, is_reported: bool, is_told: bool) -> bool
+    ensures { result ≡ (has_stopped ending || (not is_reported || not is_told)) }
+{
+    ending.has_stopped() || !is_reported || !is_told
+}
+
+/// The greatest status that applies.
+pub fn status_of(has_failed: bool, is_starved: bool, is_broken: bool) -> u8
+    ensures { result ≡ status_of has_failed is_starved is_broken }
+{
+    if has_failed {
+        return DEVICE;
+    }
+    if is_starved {
+        return MEMORY;
+    }
+    if is_broken { BROKEN } else { DONE }
+}
+
+/// Reads update records up to the reader's end or the first fault, and writes the report of the
+/// table of those that were taken. `notes` gets a line for each record that wasn't, by its number
+/// from 1 on, and then one for what broke the stream off: `record N refused C`, `fault C at record
+/// N`, `truncated K at record N`. They are given out with each piece that was read. A failed read
+/// ends the input; no record counts as cut then. An end that has failed is called no more.
+///
+/// The status is the greatest that applies: 4 where a read or a write failed, or 2^40 reads didn't
+/// reach the end, 3 where there was no memory for an update, 1 where the stream ends with a fault
+/// or a cut record, else 0. The input takes no memory.
+pub fn report_run<R: In, W: Out, N: Out>(
+    alloc: Global,
+    originators: ArrayVec<Addr, 64>,
+    reader: &mut R,
+    out: &mut W,
+    notes: &mut N,
+) -> u8
+    requires originators { AreOriginators originators.items }
+    requires reader { Allows (2 ^ 40) (R.end reader.old) }
+    requires out { IsOpen (W.end out.old) }
+    requires notes { IsOpen (N.end notes.old) }
+    ensures { Reports originators.items
+        (devices (R.end reader.old) (W.end out.old) (N.end notes.old))
+        (devices (R.end reader.new) (W.end out.new) (N.end notes.new)) result }
+{
+    let feed = Feed::new();
+    let mut intake = Intake::new(alloc, originators, feed);
+    let ending = intake.take_input(reader, notes);
+    let is_broken = intake.note_end(ending, notes);
+    let is_reported = intake.table().write_report(out).is_ok();
+    let has_failed = has_failed(ending, is_reported, intake.is_told());
+    status_of(has_failed, intake.is_starved(), is_broken)
+}
+
+/// The status so far, unless a writer has failed since.
+pub fn last_status(is_reported: bool, is_told: bool, status: u8) -> u8
+    ensures { result ≡ (if is_reported && is_told then status else 4) }
+{
+    if is_reported && is_told {
+        status
+    } else {
+        DEVICE
+    }
+}
+
+/// Gives a writer what is still held for it, and gives it back: whether no call of it has failed
+/// since it had this many failures. After a failed call it makes none.
+pub fn finish<W: Out>(out: Buffered<W>, failures: u64) -> (W, bool)
+    requires { failures + 1 < 2 ^ 64 }
+    ensures { Finishes failures (buffered_end W.end out) (W.end result.0) result.1 }
+{
+    if out.failures() != failures {
+        return (out.abandon(), false);
+    }
+    let (out, result) = out.finish();
+    (out, result.is_ok())
+}
+
+/// `report_run` with few and large writes: it takes the writers, and gives them back once they have
+/// all that was to be written, or a call of theirs has failed. A failure at the end counts as any
+/// other.
+pub fn report_buffered<R: In, W: Out, N: Out>(
+    alloc: Global,
+    originators: ArrayVec<Addr, 64>,
+    reader: &mut R,
+    out: W,
+    notes: N,
+) -> (u8, W, N)
+    requires originators { AreOriginators originators.items }
+    requires reader { Allows (2 ^ 40) (R.end reader.old) }
+    requires out { IsOpen (W.end out) }
+    requires notes { IsOpen (N.end notes) }
+    ensures { Reports originators.items (devices (R.end reader.old) (W.end out) (N.end notes))
+        (devices (R.end reader.new) (W.end result.1) (N.end result.2)) result.0 }
+{
+    let (out_failures, notes_failures) = (out.failures(), notes.failures());
+    let (mut out, mut notes) = (Buffered::new(out), Buffered::new(notes));
+    let status = report_run(alloc, originators, reader, &mut out, &mut notes);
+    let (out, is_reported) = finish(out, out_failures);
+    let (notes, is_told) = finish(notes, notes_failures);
+    (last_status(is_reported, is_told, status), out, notes)
+}

@@ -1,0 +1,229 @@
+//! The records of a stream, taken as its octets come.
+ghost use Rattle.std.specs.Prelude.{◌≡◌, ◌+◌, ◌*◌, ◌<◌, ◌≤◌, ◌^◌, [], ◌∷◌, true, false, length, take, Ok, ℕ};
+ghost use Rattle.ether_wire.specs.Ends.{IsOpen, Allows};
+ghost use Rattle.route_wire.specs.Record.{is_length};
+ghost use Rattle.route_wire.specs.Feed.{shown, added};
+ghost use Rattle.route_join.specs.Table.{AreOriginators};
+ghost use Rattle.ev_report.specs.Runs.{Becomes, table_after};
+ghost use Rattle.ev_report.specs.Ends.{fault_in, fault_told};
+
+use crate::ending::Ending;
+use crate::input::{MOST_READS, PIECE};
+use crate::notes::{put_fault, put_refused, put_truncated};
+use arrayvec::ArrayVec;
+use ether_wire::{Addr, Device, In, Out};
+use route_join::{Table, TakeError};
+use route_wire::{Feed, Next, Truncated, Update};
+use std::alloc::Global;
+
+/// The records of a stream on their way into a table.
+#[derive(Drop)]
+pub(crate) struct Intake {
+    /// What is held of a record that isn't whole yet.
+    feed: Feed,
+    /// What took the updates so far.
+    table: Table,
+    /// How many records there were so far.
+    count: u64,
+    /// There was no memory for some update.
+    is_starved: bool,
+    /// No note has failed.
+    is_told: bool,
+}
+
+impl Intake {
+    ghost use Rattle.ev_report.specs.Ends.{Tells};
+    ghost use Rattle.ev_report.specs.Notes.{end_note, is_broken};
+    ghost use Rattle.ev_report.specs.Progressing.{state, new_intake, Refuses, TakesAnswers, TakesOctets, TakesInput};
+
+    /// Before anything was read, with a feed that holds nothing.
+    pub(crate) fn new(alloc: Global, originators: ArrayVec<Addr, 64>, feed: Feed) -> Intake
+        requires originators { AreOriginators originators.items }
+        requires feed { feed.rest ≡ [] }
+        ensures { result ≡ new_intake feed.newest originators.items }
+    {
+        Intake {
+            feed,
+            table: Table::new(alloc, originators),
+            count: 0,
+            is_starved: false,
+            is_told: true,
+        }
+    }
+
+    /// Counts a record that wasn't taken, and notes it.
+    fn refuse<N: Out>(&mut self, refusal: u8, notes: &mut N)
+        requires count { self.old.count + 1 < 2 ^ 64 }
+        requires room { self.old.is_told ≡ true → IsOpen (N.end notes.old) }
+        ensures { Refuses refusal (state self.old (N.end notes.old))
+            (state self.new (N.end notes.new)) }
+    {
+        self.count += 1;
+        self.is_told = self.is_told && put_refused(notes, self.count, refusal).is_ok();
+    }
+
+    /// Takes the update of a record, or notes why not.
+    fn take<N: Out>(&mut self, update: &Update, notes: &mut N)
+        requires count { self.old.count + 1 < 2 ^ 64 }
+        requires room { self.old.is_told ≡ true → IsOpen (N.end notes.old) }
+        ensures taken { TakesAnswers (Ok update.now ∷ []) (state self.old (N.end notes.old))
+            (state self.new (N.end notes.new)) }
+        ensures feed { self.new.feed ≡ self.old.feed }
+        ensures count { self.new.count ≡ self.old.count + 1 }
+    {
+        match self.table.take(update) {
+            Ok(_) => self.count += 1,
+            Err(TakeError::UnknownOriginator) => {
+                self.refuse(TakeError::UnknownOriginator.number(), notes);
+            }
+            Err(TakeError::NoMemory) => {
+                self.is_starved = true;
+                self.refuse(TakeError::NoMemory.number(), notes);
+            }
+        }
+    }
+
+    /// Takes octets at the front of a piece, up to a record's end, and tells how many.
+    fn step<N: Out>(&mut self, piece: &[u8], notes: &mut N) -> usize
+        requires feed { is_length (shown self.old.feed) ≡ false }
+        requires piece { 0 < length piece.now }
+        requires count { self.old.count + 1 < 2 ^ 64 }
+        requires room { self.old.is_told ≡ true → IsOpen (N.end notes.old) }
+        ensures taken { TakesOctets (take result piece.now) (state self.old (N.end notes.old))
+            (state self.new (N.end notes.new)) }
+        ensures some { 0 < result }
+        ensures fits { result ≤ length piece.now }
+        ensures feed { is_length (shown self.new.feed) ≡ false }
+        ensures few { self.new.count ≤ self.old.count + 1 }
+    {
+        let (n, next) = self.feed.take(piece);
+        match next {
+            Next::More => {}
+            Next::Fault(_) => {}
+            Next::Record(update) => self.take(&update, notes),
+            Next::Refused(refusal) => self.refuse(refusal, notes),
+        }
+        n
+    }
+
+    /// Takes the octets of a piece.
+    fn take_piece<N: Out>(&mut self, piece: &[u8], notes: &mut N)
+        requires feed { is_length (shown self.old.feed) ≡ false }
+        requires count { self.old.count + length piece.now < 2 ^ 64 }
+        requires room { self.old.is_told ≡ true → IsOpen (N.end notes.old) }
+        ensures taken { TakesOctets piece.now (state self.old (N.end notes.old))
+            (state self.new (N.end notes.new)) }
+        ensures feed { is_length (shown self.new.feed) ≡ false }
+        ensures few { self.new.count ≤ self.old.count + length piece.now }
+    {
+        let mut rest = piece;
+        while !rest.is_empty() {
+            let n = self.step(rest, notes);
+            let (_, behind) = rest.split_at(n);
+            rest = behind;
+        }
+    }
+
+    /// Takes a piece that was read, and gives out the notes on it.
+    fn piece<N: Out>(&mut self, piece: &[u8], notes: &mut N)
+        requires feed { is_length (shown self.old.feed) ≡ false }
+        requires count { self.old.count + length piece.now < 2 ^ 64 }
+        requires room { self.old.is_told ≡ true → IsOpen (N.end notes.old) }
+        ensures taken { TakesOctets piece.now (state self.old (N.end notes.old))
+            (state self.new (N.end notes.new)) }
+        ensures feed { is_length (shown self.new.feed) ≡ false }
+        ensures few { self.new.count ≤ self.old.count + length piece.now }
+    {
+        self.take_piece(piece, notes);
+        self.is_told = self.is_told && notes.flush().is_ok();
+    }
+
+    /// The fault that the octets show.
+    fn fault(&mut self) -> Option<u8>
+        requires { is_length (shown self.old.feed) ≡ false }
+        ensures value { result ≡ fault_in (shown self.old.feed) }
+        ensures same { self.new ≡ self.old }
+    {
+        match self.feed.next() {
+            Next::Fault(fault) => Some(fault),
+            Next::More => None,
+            Next::Record(_) => None,
+            Next::Refused(_) => None,
+        }
+    }
+
+    /// Takes the records of a reader, piece by piece, up to its end or the first fault: how the
+    /// reading ended. After a fault, or a failed read, it makes no read more.
+    pub(crate) fn take_input<R: In, N: Out>(&mut self, reader: &mut R, notes: &mut N) -> Ending
+        requires feed { self.old.feed.rest ≡ [] }
+        requires count { self.old.count ≡ 0 }
+        requires reader { Allows (2 ^ 40) (R.end reader.old) }
+        requires room { self.old.is_told ≡ true → IsOpen (N.end notes.old) }
+        ensures taken { TakesInput self.old.feed.newest result (R.end reader.old) (R.end reader.new)
+            (state self.old (N.end notes.old)) (state self.new (N.end notes.new)) }
+        ensures few { self.new.count + 1 < 2 ^ 64 }
+    {
+        let mut buffer = [0; PIECE];
+        for turn in 0..MOST_READS {
+            match reader.read(&mut buffer) {
+                Ok(0) => return Ending::Ended,
+                Ok(n) => self.piece(&buffer[..n], notes),
+                Err(Device) => return Ending::Failed,
+            }
+            if let Some(fault) = self.fault() {
+                return Ending::Faulty(fault);
+            }
+        }
+        Ending::Unended
+    }
+
+    /// Notes what broke the stream off, if anything did: whether so.
+    pub(crate) fn note_end<N: Out>(&mut self, ending: Ending, notes: &mut N) -> bool
+        requires none_held { is_length (shown self.old.feed) ≡ false }
+        requires shows { fault_told ending ≡ fault_in (shown self.old.feed) }
+        requires count { self.old.count + 1 < 2 ^ 64 }
+        requires room { self.old.is_told ≡ true → IsOpen (N.end notes.old) }
+        ensures broken { result ≡ is_broken ending self.old.feed.rest }
+        ensures kept { self.new ≡ record self.old { is_told = self.new.is_told } }
+        ensures told { Tells (N.end notes.old) (N.end notes.new) self.old.is_told self.new.is_told
+            (end_note ending (self.old.count + 1) self.old.feed.rest) }
+    {
+        let number = self.count + 1;
+        match ending {
+            Ending::Failed | Ending::Unended => false,
+            Ending::Faulty(fault) => {
+                self.is_told = self.is_told && put_fault(notes, fault, number).is_ok();
+                true
+            }
+            Ending::Ended => match self.feed.end() {
+                Ok(()) => false,
+                Err(Truncated { octets }) => {
+                    self.is_told = self.is_told
+                        && put_truncated(notes, octets as u64, number).is_ok();
+                    true
+                }
+            },
+        }
+    }
+
+    /// What took the updates.
+    pub(crate) fn table(&self) -> &Table
+        ensures { result.now ≡ self.now.table }
+    {
+        &self.table
+    }
+
+    /// Whether there was no memory for some update.
+    pub(crate) fn is_starved(&self) -> bool
+        ensures { result ≡ self.now.is_starved }
+    {
+        self.is_starved
+    }
+
+    /// Whether no note has failed.
+    pub(crate) fn is_told(&self) -> bool
+        ensures { result ≡ self.now.is_told }
+    {
+        self.is_told
+    }
+}

@@ -1,0 +1,154 @@
+-- A run of edges: the input that is read out, and what is told at the end.
+use Rattle.std.proofs.Common.{◌≡◌, inl, inr, ℕ, ◌+◌, ◌-◌, ◌<◌, ◌^◌, min, Bool, true, false, cond, not, ◌&&◌, ◌||◌, nat_lt, List, [], ◌∷◌, ◌++◌, take, length, get_or, append-nil, append_assoc, Result, Ok, Err, is_ok, refl, sym, ap, subst, ◌∙◌, arith}
+use Rattle.std.proofs.lemmas.List.{take_more, length-take-le}
+use Rattle.std.proofs.lemmas.List.Sums.{sum_by_push}
+use Rattle.std.specs.List.{sum_by, list_any}
+use Rattle.std.proofs.lemmas.List.Elements.{Contains-append_left, Contains-append_right}
+use Rattle.std.specs.List.{concat, Contains}
+use Rattle.ether_wire.specs.declared.ends.Device as device
+use Rattle.ether_wire.specs.Ends.{End, Source, Gets, Puts}
+use Rattle.ev_edge.specs.declared.config.EdgeConfig.{EdgeConfig}
+use Rattle.ev_edge.specs.Config.{IsConfig}
+use Rattle.ev_config.specs.declared.endpoint.Endpoint.{Endpoint}
+use Rattle.ev_run.specs.declared.sockets.Hindrance.{Hindrance}
+use Rattle.ev_report.specs.Ends.{devices, has_failed, Finishes}
+use Rattle.ev_report.specs.declared.input.Unread.TheVariants.{Device}
+use Rattle.ev_report.specs.Input.{ReadsWhole, Gathers}
+use Rattle.ev_report.specs.Notes.{status_of}
+use Rattle.ev_run.specs.RunEdges.{EachConfig, unbound_text, Ended, ended_text, reports_from, lost_text, sends_failed, link_failed, was_starved, all_lost, Drains, IsReadOut, TellsEnded, IsUnbound, TellsUnbound, RunsEdges}
+use Rattle.ev_report.proofs.Finishing.{put_holds, put_failed, finish_holds, finish_failed, finish_unfailed, last_status}
+use Rattle.ev_report.proofs.Gathering.{gathers_more, whole_ended, whole_failed, whole_unended}
+use Rattle.ev_report.proofs.Reading.{gives_none}
+use Rattle.ev_report.proofs.Silence.{finished_refused, holds_none, refused_memory}
+
+-- ---- the input
+
+pub drains_none : (s : Source) → Drains 0 s s
+drains_none s = record { pieces = []; gives = gives_none s; many = refl }
+
+gathered : (turn : ℕ) (s mid : Source) (d : Drains turn s mid) → Gathers turn s mid (concat d.pieces)
+gathered turn s mid d = record { pieces = d.pieces; gives = d.gives; many = d.many; is = refl }
+
+module _ (turn : ℕ) (s mid last : Source) (buffer : List ℕ) (d : Drains turn s mid) where
+  pub drains_more : (n : ℕ) → Gets mid last buffer (Ok n) → 0 < n → Drains (turn + 1) s last
+  drains_more n got some =
+      let more = gathers_more turn s mid last (concat d.pieces) buffer (gathered turn s mid d) n got some in
+      record { pieces = more.pieces; gives = more.gives; many = more.many }
+
+  pub drained_ended : turn < 2 ^ 40 → 0 < length buffer → Gets mid last buffer (Ok 0) → IsReadOut s last
+  drained_ended turns room got = record { input = concat d.pieces; read = whole_ended turn s mid last (concat d.pieces) buffer (gathered turn s mid d) turns room got }
+
+  pub drained_failed : (failed : device.Device) → turn < 2 ^ 40 → Gets mid last buffer (Err failed) → ReadsWhole s last (Err Device)
+  drained_failed failed turns got = whole_failed turn s mid last (concat d.pieces) buffer (gathered turn s mid d) failed turns got
+
+pub drained_unended : (turn : ℕ) (s mid : Source) → Drains turn s mid → turn ≡ 2 ^ 40 → ReadsWhole s mid (Err Device)
+drained_unended turn s mid d turns = whole_unended turn s mid mid (concat d.pieces) [] (gathered turn s mid d) turns
+
+-- ---- configurations, taken from behind
+
+module _ (all left : List EdgeConfig) (config : EdgeConfig) (same : all ≡ left ++ config ∷ []) (each : EachConfig all) where
+  pub last_config : IsConfig config
+  last_config = each config (subst (λ (cs : List EdgeConfig). Contains cs config) (sym same) (Contains-append_right left (config ∷ []) config (0, omega arith, refl)))
+
+  pub each_left : EachConfig left
+  each_left = λ c k. each c (subst (λ (cs : List EdgeConfig). Contains cs c) (sym same) (Contains-append_left left (config ∷ []) c k))
+
+-- ---- what is told
+
+reports_both : (number : ℕ) (xs ys : List Ended) → reports_from number (xs ++ ys) ≡ reports_from number xs ++ reports_from (number + length xs) ys
+reports_both number [] ys = ap (λ n. reports_from n ys) (grind arith)
+reports_both number (x ∷ xs) ys =
+    ap (λ text. ended_text number x ++ text) (reports_both (number + 1) xs ys ∙ ap (λ n. reports_from (number + 1) xs ++ reports_from n ys) (grind arith))
+    ∙ sym (append_assoc (ended_text number x) (reports_from (number + 1) xs) (reports_from (number + length (x ∷ xs)) ys))
+
+-- one edge more
+pub reports_more : (ended : List Ended) (place : ℕ) (d : Ended) → place < length ended
+    → reports_from 1 (take (place + 1) ended) ≡ reports_from 1 (take place ended) ++ ended_text (place + 1) (get_or ended place d)
+reports_more ended place d within =
+    let before = take place ended in
+    let one = get_or ended place d in
+    let count : 1 + length before ≡ place + 1 = ap (λ n. 1 + n) (length-take-le place ended (omega arith)) ∙ grind arith in
+    ap (reports_from 1) (take_more ended place d within) ∙ reports_both 1 before (one ∷ [])
+    ∙ ap (λ n. reports_from 1 before ++ reports_from n (one ∷ [])) count
+    ∙ ap (λ text. reports_from 1 before ++ text) (append-nil (ended_text (place + 1) one))
+
+min_twice : (a b m : ℕ) → min (min a m + b) m ≡ min (a + b) m
+min_twice a b m = grind arith
+
+-- one edge's sends more
+pub lost_more : (ended : List Ended) (place : ℕ) (d : Ended) → place < length ended
+    → all_lost (take (place + 1) ended) ≡ min (all_lost (take place ended) + sends_failed (get_or ended place d)) (2 ^ 64 - 1)
+lost_more ended place d within =
+    let before = take place ended in
+    let one = get_or ended place d in
+    ap all_lost (take_more ended place d within)
+    ∙ ap (λ n. min n (2 ^ 64 - 1)) (sum_by_push sends_failed before one)
+    ∙ sym (min_twice (sum_by sends_failed before) (sends_failed one) (2 ^ 64 - 1))
+
+module _ (ended : List Ended) (is_read : Bool) (out out' notes notes' : End) (r s : Result (Unit {0}) device.Device) where
+  pub tells_ended : (status : ℕ) → Puts out out' (reports_from 1 ended) r → Puts notes notes' (lost_text (all_lost ended)) s
+      → status ≡ status_of (((not is_read || list_any link_failed ended) || nat_lt 0 (all_lost ended)) || (not (is_ok r) || not (is_ok s))) (list_any was_starved ended) false
+      → TellsEnded ended is_read out out' notes notes' status
+  tells_ended status told put is =
+      let e = (not is_read || list_any link_failed ended) || nat_lt 0 (all_lost ended) in
+      let starved = list_any was_starved ended in
+      record {
+        written = put_holds out out' r (reports_from 1 ended) told;
+        noted = put_holds notes notes' s (lost_text (all_lost ended)) put;
+        status_is = is ∙ ap (λ x. status_of (e || (x || not (is_ok s))) starved false) (sym (put_failed out out' r (reports_from 1 ended) told))
+            ∙ ap (λ x. status_of (e || (has_failed out out' || x)) starved false) (sym (put_failed notes notes' s (lost_text (all_lost ended)) put));
+      }
+
+-- an address is told
+pub tells_address : (notes notes' : End) (r : Result (Unit {0}) device.Device) (at : Endpoint) (why : Hindrance) → Puts notes notes' (unbound_text at why) r → TellsUnbound notes notes' 4
+tells_address notes notes' r at why put =
+    inl (record { text = unbound_text at why; is_text = inr (at, why, refl); noted = put_holds notes notes' r (unbound_text at why) put; status_is = refl })
+
+-- no address is told
+pub tells_nothing : (notes : End) → TellsUnbound notes notes 4
+tells_nothing notes = inl (record { text = []; is_text = inl refl; noted = holds_none notes; status_is = refl })
+
+-- no edge began
+pub runs_none : (many : ℕ) (input : Source) (out notes notes' : End) (status : ℕ) → TellsUnbound notes notes' status → RunsEdges many (devices input out notes) (devices input out notes') status
+runs_none many input out notes notes' status (inl u) = inr (inl (refl, holds_none out, u))
+runs_none many input out notes notes' status (inr p) = rw p.0 (inr (inr (refused_memory out notes status p.1)))
+
+-- memory was refused to what the edges begin with
+pub runs_refused : (many : ℕ) (input input' : Source) (out out' notes notes' : End) → out' ≡ out → notes' ≡ notes → RunsEdges many (devices input out notes) (devices input' out' notes') 3
+runs_refused many input input' out out' notes notes' a b = rw (a, b) (inr (inr (refused_memory out notes 3 refl)))
+
+-- ---- writers that are given more at once
+
+four : (b : Bool) (status last : ℕ) → last ≡ cond b status 4 → status ≡ 4 → last ≡ 4
+four true status last h e = h ∙ e
+four false status last h e = h
+
+module _ (input input' : Source) (out held out' notes kept notes' : End) (p q : Bool) (status last : ℕ)
+    (f : Finishes out.failures held out' p) (g : Finishes notes.failures kept notes' q) (l : last ≡ cond (p && q) status 4) where
+  finished_ended : (ended : List Ended) (is_read : Bool) → TellsEnded ended is_read out held notes kept status → TellsEnded ended is_read out out' notes notes' last
+  finished_ended ended is_read t =
+      let e = (not is_read || list_any link_failed ended) || nat_lt 0 (all_lost ended) in
+      let starved = list_any was_starved ended in
+      let text = reports_from 1 ended in
+      let lost = lost_text (all_lost ended) in
+      record {
+        written = finish_holds out held out' p text t.written f;
+        noted = finish_holds notes kept notes' q lost t.noted g;
+        status_is = last_status e p q starved false (has_failed out held) (has_failed notes kept) status last t.status_is l
+            (finish_unfailed out held out' p f) (finish_unfailed notes kept notes' q g)
+            ∙ ap (λ x. status_of (e || (x || not q)) starved false) (sym (finish_failed out held out' p text t.written f))
+            ∙ ap (λ x. status_of (e || (has_failed out out' || x)) starved false) (sym (finish_failed notes kept notes' q lost t.noted g));
+      }
+
+  finished_unbound : IsUnbound notes kept status → IsUnbound notes notes' last
+  finished_unbound u = record {
+    text = u.text;
+    is_text = u.is_text;
+    noted = finish_holds notes kept notes' q u.text u.noted g;
+    status_is = four (p && q) status last l u.status_is;
+  }
+
+  pub buffered_runs : (many : ℕ) → RunsEdges many (devices input out notes) (devices input' held kept) status → RunsEdges many (devices input out notes) (devices input' out' notes') last
+  buffered_runs many (inl r) = inl (record { is_read = r.is_read; read = r.read; ended = r.ended; all = r.all; told = finished_ended r.ended r.is_read r.told })
+  buffered_runs many (inr (inl h)) = inr (inl (h.0, finish_holds out held out' p [] h.1 f, finished_unbound h.2))
+  buffered_runs many (inr (inr h)) = inr (inr (finished_refused out held out' notes kept notes' p q status last f g l h))

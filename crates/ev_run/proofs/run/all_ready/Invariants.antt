@@ -1,0 +1,12 @@
+use Rattle.std.proofs.Common.{◌≡◌, ◌+◌, length, vec_len}
+use Rattle.ev_run.specs.RunEdges.{EachConfig}
+use Rattle.ev_run.proofs.run.all_ready.Given as goal
+
+abbrev pub invariant-loop-config : goal.invariant-loop-config
+invariant-loop-config g l = record {
+  each : EachConfig l.configs.items;
+  all : vec_len l.setups + vec_len l.configs ≡ length l.all;
+}
+
+abbrev pub decreases-loop-config : goal.decreases-loop-config
+decreases-loop-config g l = vec_len l.configs

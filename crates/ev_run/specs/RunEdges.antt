@@ -1,0 +1,144 @@
+-- What a run of edges over sockets leaves.
+use Rattle.std.specs.Prelude.{◌≡◌, ℕ, ◌+◌, ◌-◌, ◌^◌, min, ◌⊎◌, ◌||◌, Bool, true, false, not, nat_lt, if◌then◌else◌, List, [], ◌∷◌, ◌++◌, length, Contains, codes, Result, Ok, Err}
+use Rattle.std.specs.Fmt.{decimal}
+use Rattle.std.specs.List.{sum_by, list_any}
+use Rattle.std.specs.declared.alloc.AllocError.{AllocError}
+use Rattle.ether_wire.specs.Ends.{End, Source}
+use Rattle.ether_wire.specs.Names.{addr_text}
+use Rattle.ev_edge.specs.declared.config.EdgeConfig.{EdgeConfig}
+use Rattle.ev_edge.specs.Config.{IsConfig}
+use Rattle.ev_edge.specs.Edge.{Edge, table_of}
+use Rattle.ev_peers.specs.declared.crew.Outcome.{Outcome}
+use Rattle.route_join.specs.Report.{report_of}
+use Rattle.ev_config.specs.declared.whole.Config.{Config}
+use Rattle.ev_config.specs.declared.endpoint.Endpoint.{Endpoint}
+use Rattle.ev_run.specs.declared.sockets.Hindrance.{Hindrance}
+use Rattle.ev_run.specs.declared.sockets.Hindrance.TheVariants as hindrance
+use Rattle.ev_report.specs.declared.input.Unread.TheVariants.{Device}
+use Rattle.ev_report.specs.Ends.{Devices, has_failed, Gives, Holds}
+use Rattle.ev_report.specs.Input.{ReadsWhole}
+use Rattle.ev_report.specs.Notes.{status_of}
+use Rattle.ev_report.specs.Silence.{IsRefusedMemory}
+use Rattle.ev_report.specs.Originators.{Text}
+
+-- each of them may be opened
+abbrev pub EachConfig : List EdgeConfig → Type 0
+EachConfig configs = (c : EdgeConfig) → Contains configs c → IsConfig c
+
+-- ---- sockets
+
+abbrev pub why_text : Hindrance → Text
+why_text hindrance.InUse = codes "it is in use\n"
+why_text hindrance.NotHere = codes "no device here has it\n"
+why_text hindrance.Denied = codes "it isn't permitted\n"
+why_text hindrance.NoMemory = codes "there is no memory\n"
+why_text hindrance.Other = codes "the system refuses it\n"
+
+-- `ADDRESS:PORT`
+abbrev pub endpoint_text : Endpoint → Text
+endpoint_text at = addr_text at.address ++ codes ":" ++ decimal at.port
+
+-- `can't bind ADDRESS:PORT: WHY`
+abbrev pub unbound_text : Endpoint → Hindrance → Text
+unbound_text at why = codes "can't bind " ++ (endpoint_text at ++ codes ": ") ++ why_text why
+
+-- ---- the input
+
+-- so many reads gave octets, whatever those were
+pub record Drains (turn : ℕ) (old new : Source) : Type 0 where
+  pub pieces : List (List ℕ)
+  pub gives : Gives old new pieces
+  pub many : length pieces ≡ turn
+
+-- it was read up to its end
+pub record IsReadOut (old new : Source) : Type 0 where
+  pub input : List ℕ
+  pub read : ReadsWhole old new (Ok input)
+
+-- It was read up to its end; or a read failed, or 2^40 reads didn't reach it.
+abbrev pub ReadsOut : Source → Source → Bool → Type 0
+ReadsOut old new true = IsReadOut old new
+ReadsOut old new false = ReadsWhole old new (Err Device)
+
+-- ---- what is told of a run
+
+-- what an edge came to, or that it was refused what it begins with
+abbrev pub Ended : Type 0
+Ended = Result Outcome AllocError
+
+-- `edge N`, and the report of its table behind it
+abbrev pub edge_text : ℕ → Edge → Text
+edge_text number edge = (codes "edge " ++ decimal number ++ codes "\n") ++ report_of (table_of edge)
+
+-- nothing of an edge that didn't run
+abbrev pub ended_text : ℕ → Ended → Text
+ended_text number (Ok outcome) = edge_text number outcome.edge
+ended_text number (Err refused) = []
+
+-- the texts of all edges, the first of which has this number
+abbrev pub reports_from : ℕ → List Ended → Text
+reports_from number [] = []
+reports_from number (one ∷ more) = ended_text number one ++ reports_from (number + 1) more
+
+-- `lost N`, where sends failed
+abbrev pub lost_text : ℕ → Text
+lost_text lost = if nat_lt 0 lost then codes "lost " ++ decimal lost ++ codes "\n" else []
+
+-- how many sends of its workers failed
+abbrev pub sends_failed : Ended → ℕ
+sends_failed (Ok outcome) = outcome.faults.lost
+sends_failed (Err refused) = 0
+
+-- a link of its workers failed
+abbrev pub link_failed : Ended → Bool
+link_failed (Ok outcome) = outcome.faults.device
+link_failed (Err refused) = false
+
+-- it, or one of its workers, was refused memory or a thread
+abbrev pub was_starved : Ended → Bool
+was_starved (Ok outcome) = outcome.faults.memory
+was_starved (Err refused) = true
+
+-- how many sends failed, as far as 64 bits count
+abbrev pub all_lost : List Ended → ℕ
+all_lost ended = min (sum_by sends_failed ended) (2 ^ 64 - 1)
+
+-- The reports of the edges that ran are written, and `lost N` is noted where sends failed. The status is 4 where a device
+-- failed, 3 where memory or a thread was refused, else 0.
+pub record TellsEnded (ended : List Ended) (is_read : Bool) (out out' notes notes' : End) (status : ℕ) : Type 0 where
+  pub written : Holds out out' (reports_from 1 ended)
+  pub noted : Holds notes notes' (lost_text (all_lost ended))
+  pub status_is : status ≡ status_of (((not is_read || list_any link_failed ended) || nat_lt 0 (all_lost ended)) || (has_failed out out' || has_failed notes notes')) (list_any was_starved ended) false
+
+-- ---- a run
+
+-- Edges ran until the input's end, and so many came to something.
+pub record Ran (many : ℕ) (before after : Devices) (status : ℕ) : Type 0 where
+  pub is_read : Bool
+  pub read : ReadsOut before.input after.input is_read
+  pub ended : List Ended
+  pub all : length ended ≡ many
+  pub told : TellsEnded ended is_read before.out after.out before.notes after.notes status
+
+-- An address couldn't be bound, which is told, or a port has none: the status is 4.
+pub record IsUnbound (notes notes' : End) (status : ℕ) : Type 0 where
+  pub text : Text
+  pub is_text : (text ≡ []) ⊎ ((at : Endpoint) × (why : Hindrance) × (text ≡ unbound_text at why))
+  pub noted : Holds notes notes' text
+  pub status_is : status ≡ 4
+
+-- No edge began, for want of an address or of memory.
+abbrev pub TellsUnbound : End → End → ℕ → Type 0
+TellsUnbound notes notes' status = IsUnbound notes notes' status ⊎ ((notes' ≡ notes) × (status ≡ 3))
+
+-- So many edges were run; or no edge began and nothing was read, nothing but that written; or memory was refused to what they
+-- begin with.
+abbrev pub RunsEdges : ℕ → Devices → Devices → ℕ → Type 0
+RunsEdges many before after status =
+    Ran many before after status
+    ⊎ (((after.input ≡ before.input) × Holds before.out after.out [] × IsUnbound before.notes after.notes status)
+    ⊎ IsRefusedMemory before.out after.out before.notes after.notes status)
+
+-- the edges of a configuration are run
+abbrev pub RunsConfig : Config → Devices → Devices → ℕ → Type 0
+RunsConfig config = RunsEdges (length config.edges.items)

@@ -1,0 +1,312 @@
+//! Edges that carry frames: each on its address at UDP port 4789, its access ports at sockets of
+//! their own, until the input ends.
+ghost use Rattle.std.specs.Prelude.{◌≡◌, ◌+◌, ◌-◌, ◌≤◌, ◌^◌, ◌||◌, min, not, nat_lt, length, vec_len, vec_capacity, IfOk, OnErr};
+ghost use Rattle.std.specs.List.{list_any};
+ghost use Rattle.ether_wire.specs.Ends.{IsOpen, Allows};
+ghost use Rattle.ev_fabric.specs.Opening.{AreConfigs};
+ghost use Rattle.ev_edge.specs.Config.{IsConfig};
+ghost use Rattle.ev_report.specs.Ends.{devices};
+ghost use Rattle.ev_run.specs.RunEdges.{EachConfig, ReadsOut, sends_failed, link_failed, was_starved, all_lost, TellsEnded, Ran, TellsUnbound, RunsEdges};
+
+use crate::sockets::{PortSocket, Sockets, Unbound, bind_all, put_unbound, wake_all};
+use crate::telling::{put_lost, put_reports};
+use ether_wire::{Buffered, Device, In, Out};
+use ev_config::Config;
+use ev_edge::EdgeConfig;
+use ev_peers::{Destination, EdgeLinks, Link, OpenGate, Outcome, Setup, UdpOut, Wire, run_all};
+use ev_report::{DEVICE, MEMORY, MOST_READS, finish, last_status, status_of};
+use std::alloc::{AllocError, Global};
+use std::net::Net;
+use std::sync::Wait;
+use std::sync::atomic::{AtomicBool, Ordering};
+use std::thread::Threads;
+use std::time::Clock;
+
+/// The UDP port of tunnels (RFC 7348).
+const TUNNELS: u16 = 4789;
+
+/// An edge over sockets, ready to run.
+type Ready<'x, R> = Setup<Wire<'x, R>, UdpOut<'x>>;
+
+/// Reads up to the end, whatever is read: whether no read failed, and 2^40 of them reached it.
+fn is_read_out<E: In>(reader: &mut E) -> bool
+    requires { Allows (2 ^ 40) (E.end reader.old) }
+    ensures { ReadsOut (E.end reader.old) (E.end reader.new) result }
+{
+    let mut buffer = [0; 4096];
+    for turn in 0..MOST_READS {
+        let _ = turn;
+        match reader.read(&mut buffer) {
+            Ok(0) => return true,
+            Ok(n) => {
+                let _ = n;
+            }
+            Err(Device) => return false,
+        }
+    }
+    false
+}
+
+/// These links and one more, for which there is room.
+fn with_link<I: Drop, O: Drop>(links: Vec<Link<I, O>>, input: I, output: O) -> Vec<Link<I, O>>
+    requires { vec_len links + 1 ≤ vec_capacity links }
+    ensures len { vec_len result ≡ vec_len links + 1 }
+    ensures room { vec_capacity result ≡ vec_capacity links }
+{
+    let mut links = links;
+    links.push_reserved(Link { input, output });
+    links
+}
+
+/// An edge over these sockets.
+fn ready<'x, R: Clock>(
+    rt: &'x R,
+    alloc: Global,
+    config: EdgeConfig,
+    sockets: &'x Sockets,
+    stop: &'x AtomicBool,
+) -> Result<Ready<'x, R>, AllocError>
+    requires { IsConfig config }
+{
+    let mut ports = Vec::with_capacity(alloc, sockets.ports.len())?;
+    for port in sockets.ports.as_slice() {
+        let PortSocket { socket, remote } = port;
+        let output = UdpOut::new(socket, Destination::Fixed(remote.address, remote.port));
+        ports = with_link(ports, Wire::socket(socket, stop), output);
+    }
+    let tunnel = Link {
+        input: Wire::socket(&sockets.tunnel, stop),
+        output: UdpOut::new(&sockets.tunnel, Destination::At(TUNNELS)),
+    };
+    let clock = Wire::clock(rt, stop);
+    Ok(Setup::new(
+        config,
+        EdgeLinks {
+            ports,
+            tunnel,
+            clock,
+        },
+    ))
+}
+
+/// All edges over their sockets.
+fn all_ready<'x, R: Clock>(
+    rt: &'x R,
+    alloc: Global,
+    configs: Vec<EdgeConfig>,
+    all: &'x [Sockets],
+    stop: &'x AtomicBool,
+) -> Result<Vec<Ready<'x, R>>, AllocError>
+    requires configs { EachConfig configs.items }
+    requires sockets { length all.now ≡ vec_len configs }
+    ensures { IfOk result (λ setups. vec_len setups ≡ vec_len configs) }
+{
+    let mut configs = configs;
+    let mut setups = Vec::with_capacity(alloc, configs.len())?;
+    while let Some(config) = configs.pop() {
+        if let Some(sockets) = all.get(configs.len()) {
+            setups.push(ready(rt, alloc, config, sockets, stop)?)?;
+        }
+    }
+    setups.as_mut_slice().reverse();
+    Ok(setups)
+}
+
+/// What the workers of all edges ended with.
+#[derive(Clone, Copy)]
+struct Sum {
+    /// How many sends failed.
+    lost: u64,
+    /// Whether a link failed.
+    is_device: bool,
+    /// Whether memory or a thread was refused.
+    is_starved: bool,
+}
+
+impl Sum {
+    /// With what one more edge came to.
+    fn with(self, ended: &Result<Outcome, AllocError>) -> Self
+        ensures lost { result.lost ≡ min (self.lost + sends_failed ended.now) (2 ^ 64 - 1) }
+        ensures device { result.is_device ≡ (self.is_device || link_failed ended.now) }
+        ensures starved { result.is_starved ≡ (self.is_starved || was_starved ended.now) }
+    {
+        match ended {
+            Ok(outcome) => Sum {
+                lost: self.lost.saturating_add(outcome.faults.lost),
+                is_device: self.is_device || outcome.faults.device,
+                is_starved: self.is_starved || outcome.faults.memory,
+            },
+            Err(_) => Sum {
+                lost: self.lost,
+                is_device: self.is_device,
+                is_starved: true,
+            },
+        }
+    }
+}
+
+/// Sums up what the workers of these edges ended with.
+fn sum_of(ended: &[Result<Outcome, AllocError>]) -> Sum
+    ensures lost { result.lost ≡ all_lost ended.now }
+    ensures device { result.is_device ≡ list_any link_failed ended.now }
+    ensures starved { result.is_starved ≡ list_any was_starved ended.now }
+{
+    let mut sum = Sum {
+        lost: 0,
+        is_device: false,
+        is_starved: false,
+    };
+    for outcome in ended {
+        sum = sum.with(outcome);
+    }
+    sum
+}
+
+/// Whether a device failed.
+fn has_failed(sum: Sum, is_read: bool, is_told: bool, is_noted: bool) -> bool
+    ensures { result
+        ≡ (((not is_read || sum.is_device) || nat_lt 0 sum.lost) || (not is_told || not is_noted)) }
+{
+    !is_read || sum.is_device || sum.lost > 0 || !is_told || !is_noted
+}
+
+/// Tells what the edges have come to, and answers the status.
+fn tell_ended<W: Out, N: Out>(
+    ended: &[Result<Outcome, AllocError>],
+    is_read: bool,
+    out: &mut W,
+    notes: &mut N,
+) -> u8
+    requires out { IsOpen (W.end out.old) }
+    requires notes { IsOpen (N.end notes.old) }
+    ensures { TellsEnded ended.now is_read (W.end out.old) (W.end out.new)
+        (N.end notes.old) (N.end notes.new) result }
+{
+    let sum = sum_of(ended);
+    let is_told = put_reports(out, ended).is_ok();
+    let is_noted = put_lost(notes, sum.lost).is_ok();
+    let has_failed = has_failed(sum, is_read, is_told, is_noted);
+    status_of(has_failed, sum.is_starved, false)
+}
+
+/// Runs the edges of a configuration over these sockets until the reader ends.
+///
+/// # Errors
+///
+/// Where memory is refused before an edge has begun.
+fn run_bound<R: Threads + Wait + Clock + Sync, E: In, W: Out, N: Out>(
+    rt: &R,
+    alloc: Global,
+    configs: Vec<EdgeConfig>,
+    sockets: &[Sockets],
+    reader: &mut E,
+    out: &mut W,
+    notes: &mut N,
+) -> Result<u8, AllocError>
+    requires configs { AreConfigs configs.items }
+    requires sockets { length sockets.now ≡ vec_len configs }
+    requires reader { Allows (2 ^ 40) (E.end reader.old) }
+    requires out { IsOpen (W.end out.old) }
+    requires notes { IsOpen (N.end notes.old) }
+    ensures ran { IfOk result
+        (λ status. Ran (length configs.items)
+        (devices (E.end reader.old) (W.end out.old) (N.end notes.old))
+        (devices (E.end reader.new) (W.end out.new) (N.end notes.new)) status) }
+    ensures out { OnErr result (W.end out.new ≡ W.end out.old) }
+    ensures notes { OnErr result (N.end notes.new ≡ N.end notes.old) }
+{
+    let stop = AtomicBool::new(false);
+    let setups = all_ready(rt, alloc, configs, sockets, &stop)?;
+    // The reader comes back from the closure: by its name it is known to be this one.
+    let (ended, (is_read, _reader)) = run_all(
+        rt,
+        alloc,
+        setups,
+        &OpenGate,
+        || -> (bool, &mut E)
+            requires { Allows (2 ^ 40) (E.end reader.now) }
+            ensures same { result.1.ghost_name ≡ reader.entry.ghost_name }
+            ensures read { ReadsOut (E.end reader.entry.now) (E.end result.1.now) result.0 }
+        {
+            let is_read = is_read_out(&mut *reader);
+            stop.store(true, Ordering::SeqCst);
+            wake_all(sockets);
+            (is_read, reader)
+        },
+    )?;
+    Ok(tell_ended(ended.as_slice(), is_read, out, notes))
+}
+
+/// Tells why no edge begins, and answers the status.
+fn tell_unbound<N: Out>(unbound: Unbound, notes: &mut N) -> u8
+    requires { IsOpen (N.end notes.old) }
+    ensures { TellsUnbound (N.end notes.old) (N.end notes.new) result }
+{
+    match unbound {
+        Unbound::Unbindable(at, why) => {
+            let _ = put_unbound(notes, at, why);
+            DEVICE
+        }
+        Unbound::Unnamed => DEVICE,
+        Unbound::NoMemory => MEMORY,
+    }
+}
+
+/// Runs the edges of a configuration, each on a thread with its workers, until the reader ends;
+/// then writes `edge E` and the report of each edge, and on `notes` `lost N` where N sends failed.
+/// What is read is ignored.
+///
+/// The status is the greatest that applies: 4 where a device failed, be it a reader, a writer, a
+/// link or a socket that can't be bound; 3 where memory or a thread was refused; else 0. Where a
+/// socket can't be bound no edge begins, and a line on `notes` says which address, and why.
+pub fn run_edges<R: Threads + Wait + Net + Clock + Sync, E: In, W: Out, N: Out>(
+    rt: &R,
+    alloc: Global,
+    config: Config,
+    reader: &mut E,
+    out: &mut W,
+    notes: &mut N,
+) -> u8
+    requires config { AreConfigs config.edges.items }
+    requires reader { Allows (2 ^ 40) (E.end reader.old) }
+    requires out { IsOpen (W.end out.old) }
+    requires notes { IsOpen (N.end notes.old) }
+    ensures { RunsEdges (length config.edges.items)
+        (devices (E.end reader.old) (W.end out.old) (N.end notes.old))
+        (devices (E.end reader.new) (W.end out.new) (N.end notes.new)) result }
+{
+    let sockets = match bind_all(rt, alloc, &config, TUNNELS) {
+        Ok(sockets) => sockets,
+        Err(unbound) => return tell_unbound(unbound, notes),
+    };
+    let Config { edges, links: _ } = config;
+    match run_bound(rt, alloc, edges, sockets.as_slice(), reader, out, notes) {
+        Ok(status) => status,
+        Err(_) => MEMORY,
+    }
+}
+
+/// `run_edges` with few and large writes: it takes the writers, and gives them back.
+pub fn run_buffered<H: Threads + Wait + Net + Clock + Sync, R: In, W: Out, N: Out>(
+    rt: &H,
+    alloc: Global,
+    config: Config,
+    reader: &mut R,
+    out: W,
+    notes: N,
+) -> (u8, W, N)
+    requires config { AreConfigs config.edges.items }
+    requires reader { Allows (2 ^ 40) (R.end reader.old) }
+    requires out { IsOpen (W.end out) }
+    requires notes { IsOpen (N.end notes) }
+    ensures { RunsEdges (length config.edges.items)
+        (devices (R.end reader.old) (W.end out) (N.end notes))
+        (devices (R.end reader.new) (W.end result.1) (N.end result.2)) result.0 }
+{
+    let (out_failures, notes_failures) = (out.failures(), notes.failures());
+    let (mut out, mut notes) = (Buffered::new(out), Buffered::new(notes));
+    let status = run_edges(rt, alloc, config, reader, &mut out, &mut notes);
+    let (out, is_written) = finish(out, out_failures);
+    let (notes, is_noted) = finish(notes, notes_failures);
+    (last_status(is_written, is_noted, status), out, notes)
+}

@@ -1,0 +1,5 @@
+pub mod Minding
+pub mod Pairs
+pub mod Playings
+pub mod Putting
+pub mod Simulating

@@ -1,0 +1,97 @@
+-- Steps that are made one after the other, and the lines that ask for them.
+use Rattle.std.proofs.Common.{◌≡◌, ℕ, ◌+◌, ◌<◌, Bool, ◌||◌, List, [], ◌∷◌, ◌++◌, length, length-append, append_assoc, Result, Some, refl, sym, ap, subst, ◌∙◌, arith}
+use Rattle.std.proofs.lemmas.List.{append-nil}
+use Rattle.std.proofs.lemmas.List.Elements.{All-nil, All-push}
+use Rattle.ev_edge.specs.declared.reply.Reply.{Reply}
+use Rattle.ev_fabric.specs.declared.refusal.Refusal.{Refusal}
+use Rattle.ev_fabric.specs.declared.step.Step.{Step}
+use Rattle.ev_fabric.specs.declared.step.Step.TheVariants as steps
+use Rattle.ev_fabric.specs.declared.step.LocalEvent.TheVariants as events
+use Rattle.ev_fabric.specs.Fabric.{Fabric}
+use Rattle.ev_fabric.specs.Steps.{FabricSteps}
+use Rattle.ev_script.specs.declared.simulate.player.Player.{Player}
+use Rattle.ev_script.specs.Script.{Command, second, line_of, cut_line, Follows}
+use Rattle.ev_script.specs.Simulation.{Made, IsOne, Asked, AskedAll, joined, Goes, is_starved, has_starved}
+use Rattle.ev_script.specs.Playing.{Makes, MakesOne, Performs, Played}
+use Rattle.ev_report.proofs.Taking.{or_assoc, or_false}
+
+-- ---- steps
+
+goes_both : (a b c : Fabric) (m n : List Made) → Goes a m b → Goes b n c → Goes a (m ++ n) c
+goes_both a b c [] n g h = subst (λ (f : Fabric). Goes f n c) g h
+goes_both a b c (x ∷ m) n g h = (g.0, g.1, goes_both g.0 b c m n g.2 h)
+
+starved_both : (m n : List Made) → has_starved (m ++ n) ≡ (has_starved m || has_starved n)
+starved_both [] n = refl
+starved_both (x ∷ m) n = ap (λ b. is_starved x.1 || b) (starved_both m n) ∙ or_assoc (is_starved x.1) (has_starved m) (has_starved n)
+
+pub one_made : (p q : Player) (step : Step) (answer : Result Reply Refusal) → FabricSteps p.fabric step answer q.fabric → q.is_starved ≡ (p.is_starved || is_starved answer)
+    → Makes ((step, answer) ∷ []) p q
+one_made p q step answer s e = record { goes = (q.fabric, s, refl); starved = e ∙ ap (λ b. p.is_starved || b) (or_false (is_starved answer)) }
+
+pub makes_none : (p q : Player) → q.fabric ≡ p.fabric → q.is_starved ≡ p.is_starved → Makes [] p q
+makes_none p q f s = record { goes = f; starved = s ∙ or_false p.is_starved }
+
+pub makes_both : (p q r : Player) (m n : List Made) → Makes m p q → Makes n q r → Makes (m ++ n) p r
+makes_both p q r m n h k = record {
+  goes = goes_both p.fabric q.fabric r.fabric m n h.goes k.goes;
+  starved = k.starved ∙ ap (λ b. b || has_starved n) h.starved ∙ sym (or_assoc p.is_starved (has_starved m) (has_starved n)) ∙ ap (λ b. p.is_starved || b) (sym (starved_both m n));
+}
+
+-- whether text was lost doesn't matter
+pub retold : (p q : Player) (made : List Made) (b : Bool) → Makes made p q → Makes made p (record q { is_told = b })
+retold p q made b h = record { goes = h.goes; starved = h.starved }
+
+pub performs_none : (p q : Player) → Makes [] p q → (made : List Made) × (made ≡ []) × Makes made p q
+performs_none p q h = ([], refl, h)
+
+pub performs_one : (p q : Player) (step : Step) → MakesOne step p q → (made : List Made) × IsOne step made × Makes made p q
+performs_one p q step h = ((step, h.0) ∷ [], (h.0, refl), h.1)
+
+-- ---- seconds
+
+pub no_seconds : (p : Player) (e : ℕ) → Performs e (second 0) p p
+no_seconds p e = ([], (refl, All-nil _), makes_none p p refl refl)
+
+pub second_more : (p q r : Player) (e n : ℕ) → Performs e (second n) p q → MakesOne (steps.Local e events.Second) q r → Performs e (second (n + 1)) p r
+second_more p q r e n h k =
+    let one : List Made = (steps.Local e events.Second, k.0) ∷ [] in (
+      h.0 ++ one,
+      (
+        let l = length-append h.0 one in let c = h.1.0 in omega arith,
+        All-push (λ (m : Made). m.0 ≡ steps.Local e events.Second) h.0 (steps.Local e events.Second, k.0) h.1.1 refl,
+      ),
+      makes_both p q r h.0 one h.2 k.1,
+    )
+
+-- ---- lines
+
+joined_more : (made : List (List Made)) (m : List Made) → joined (made ++ m ∷ []) ≡ joined made ++ m
+joined_more [] m = append-nil m
+joined_more (x ∷ made) m = ap (λ y. x ++ y) (joined_more made m) ∙ sym (append_assoc x (joined made) m)
+
+asked_more : (lines : List (ℕ × Command)) (made : List (List Made)) (line : ℕ × Command) (m : List Made) → AskedAll lines made → Asked line.0 line.1 m → AskedAll (lines ++ line ∷ []) (made ++ m ∷ [])
+asked_more [] [] line m h k = (k, tt)
+asked_more [] (x ∷ made) line m h k = absurd h
+asked_more (l ∷ lines) [] line m h k = absurd h
+asked_more (l ∷ lines) (x ∷ made) line m h k = (h.0, asked_more lines made line m h.1 k)
+
+follows_more : (s : List ℕ) (cs : List (ℕ × Command)) (rest : List ℕ) (c : ℕ × Command) (line after : List ℕ) → Follows s cs rest → 0 < length rest → (line, after) ≡ cut_line rest → line_of line ≡ Some c → Follows s (cs ++ c ∷ []) after
+follows_more s [] rest c line after h some cut good =
+    let P : List ℕ → Type 0 = λ t. Follows t (c ∷ []) after in
+    subst P (sym h) (some, ap line_of (sym (ap (λ (p : List ℕ × List ℕ). p.0) cut)) ∙ good, sym (ap (λ (p : List ℕ × List ℕ). p.1) cut))
+follows_more s (d ∷ ds) rest c line after h some cut good = (h.0, h.1, follows_more (cut_line s).1 ds rest c line after h.2 some cut good)
+
+pub played_none : (script : List ℕ) (p : Player) → Played script script p p 0
+played_none script p = record { lines = []; follows = refl; count = refl; made = []; asked = tt; makes = makes_none p p refl refl }
+
+pub played_more : (script rest line after : List ℕ) (p q r : Player) (n e : ℕ) (command : Command) → Played script rest p q n → 0 < length rest → (line, after) ≡ cut_line rest
+    → line_of line ≡ Some (e, command) → Performs e command q r → Played script after p r (n + 1)
+played_more script rest line after p q r n e command h some cut good k = record {
+  lines = h.lines ++ (e, command) ∷ [];
+  follows = follows_more script h.lines rest (e, command) line after h.follows some cut good;
+  count = let l = length-append h.lines ((e, command) ∷ []) in let c = h.count in omega arith;
+  made = h.made ++ k.0 ∷ [];
+  asked = asked_more h.lines h.made (e, command) k.0 h.asked k.1;
+  makes = subst (λ (m : List Made). Makes m p r) (sym (joined_more h.made k.0)) (makes_both p q r (joined h.made) k.0 h.makes k.2);
+}

@@ -1,0 +1,128 @@
+-- A simulation's status and notes at its end.
+use Rattle.std.proofs.Common.{◌≡◌, ◌≢◌, ◌⊎◌, inl, inr, ℕ, ◌+◌, Bool, true, false, cond, not, ◌&&◌, ◌||◌, List, [], length, Option, Some, None, is_some, Result, Ok, Err, is_ok, refl, sym, ap, subst, ◌∙◌, arith}
+use Rattle.std.proofs.lemmas.Bool.Decides.{nat_tests}
+use Rattle.ether_wire.specs.declared.ends.Device as device
+use Rattle.ether_wire.specs.Ends.{End, Source, Puts}
+use Rattle.ev_edge.specs.declared.config.EdgeConfig.{EdgeConfig}
+use Rattle.ev_fabric.specs.Fabric.{Fabric}
+use Rattle.ev_report.specs.declared.input.Unread.{Unread}
+use Rattle.ev_report.specs.declared.input.Unread.TheVariants.{Device, NoMemory}
+use Rattle.ev_script.specs.declared.simulate.player.Player.{Player}
+use Rattle.ev_report.specs.Ends.{devices, has_failed, Holds, Finishes}
+use Rattle.ev_report.specs.Notes.{status_of}
+use Rattle.ev_report.proofs.Silence.{status_as, is_silent, refused_memory, status_last, finished_silent, finished_refused}
+use Rattle.ev_script.specs.Simulation.{Goes, joined, has_starved, bad_line, note_of, note_of_line, CountsFailure, PlaysOn, PlaysRead, unread_status, Simulates}
+use Rattle.ev_script.specs.Printing.{Minds}
+use Rattle.ev_script.specs.Playing.{PlaysTo}
+use Rattle.ev_report.proofs.Finishing.{put_holds, put_failed, finish_holds, finish_failed}
+use Rattle.ev_script.proofs.Minding.{minds_failed, minds_counts}
+
+-- ---- a run on a fabric
+
+module _ (start : Fabric) (script : List ℕ) (p final : Player) (out out' notes notes' : End) (r : Result (Unit {0}) device.Device) (status : ℕ)
+    (from : p.fabric ≡ start) (fed : p.is_starved ≡ false) (told : Minds out out' true final.is_told) where
+  status_played : (bad : Option ℕ) (starved : Bool) → Puts notes notes' (note_of_line bad) r → final.is_starved ≡ (p.is_starved || starved)
+      → status ≡ status_of (not final.is_told || not (is_ok r)) final.is_starved (is_some bad) → status ≡ status_of (has_failed out out' || has_failed notes notes') starved (is_some bad)
+  status_played bad starved put s is =
+      is ∙ status_as (not final.is_told) (not (is_ok r)) (has_failed out out') (has_failed notes notes') final.is_starved starved (is_some bad)
+      (sym (minds_failed out out' final.is_told told)) (sym (put_failed notes notes' r (note_of_line bad) put)) (s ∙ ap (λ b. b || starved) fed)
+
+  pub plays_on : (bad : Option ℕ) → PlaysTo script p final bad → Puts notes notes' (note_of_line bad) r
+      → status ≡ status_of (not final.is_told || not (is_ok r)) final.is_starved (is_some bad) → PlaysOn start script out out' notes notes' status
+  plays_on None h put is =
+      let played = h.1 in
+      record {
+        lines = played.lines;
+        rest = [];
+        is_bad = false;
+        follows = played.follows;
+        ends = refl;
+        made = played.made;
+        asked = played.asked;
+        final = final.fabric;
+        goes = subst (λ (f : Fabric). Goes f (joined played.made) final.fabric) from played.makes.goes;
+        written = minds_counts out out' final.is_told told;
+        noted = put_holds notes notes' r [] put;
+        status_is = status_played None (has_starved (joined played.made)) put played.makes.starved is;
+      }
+  plays_on (Some number) h put is =
+      let played = h.4 in
+      let at : number ≡ length played.lines + 1 = h.2 ∙ ap (λ n. n + 1) (sym played.count) in
+      record {
+        lines = played.lines;
+        rest = h.1;
+        is_bad = true;
+        follows = played.follows;
+        ends = h.3;
+        made = played.made;
+        asked = played.asked;
+        final = final.fabric;
+        goes = subst (λ (f : Fabric). Goes f (joined played.made) final.fabric) from played.makes.goes;
+        written = minds_counts out out' final.is_told told;
+        noted = subst (λ n. Holds notes notes' (bad_line n)) at (put_holds notes notes' r (bad_line number) put);
+        status_is = status_played (Some number) (has_starved (joined played.made)) put played.makes.starved is;
+      }
+
+-- ---- nothing is run
+
+pub plays_unread : (configs : List EdgeConfig) (unread : Unread) (out notes : End) (status : ℕ) → status ≡ unread_status unread → PlaysRead configs (Err unread) out out notes notes status
+plays_unread configs Device out notes status is = (is_silent out notes, is)
+plays_unread configs NoMemory out notes status is = refused_memory out notes status is
+
+-- ---- writers that are given more at once
+
+module _ (a b c : End) (q : Bool) (counts : CountsFailure a b) (f : Finishes a.failures b c q) where
+  -- a run that says nothing of what it wrote holds as good as any text
+  late : c.failures ≡ a.failures + 1 → CountsFailure a c
+  late e = inr e
+
+  pub finish_late : q ≡ false → c.failures ≡ a.failures + 1
+  finish_late e = go (f.failed e) counts
+    where
+      go : ((b.failures ≢ a.failures) × (c.failures ≡ b.failures)) ⊎ ((b.failures ≡ a.failures) × (c.failures ≡ a.failures + 1)) → CountsFailure a b → c.failures ≡ a.failures + 1
+      go (inl p) (inl e) = absurd (p.0 e)
+      go (inl p) (inr e) = p.1 ∙ e
+      go (inr p) e = p.1
+
+  pub finish_kept : q ≡ true → c.failures ≡ a.failures
+  finish_kept e = let p = f.passed e in ap (λ (x : End). x.failures) p.0 ∙ p.1
+
+pub finish_counts : (a b c : End) (q : Bool) → CountsFailure a b → Finishes a.failures b c q → CountsFailure a c
+finish_counts a b c true counts f = inl (finish_kept a b c true counts f refl)
+finish_counts a b c false counts f = inr (finish_late a b c false counts f refl)
+
+pub finish_told : (a b c : End) (q : Bool) → CountsFailure a b → Finishes a.failures b c q → has_failed a c ≡ not q
+finish_told a b c true counts f = let same = finish_kept a b c true counts f refl in grind (arith, nat_tests)
+finish_told a b c false counts f = let one = finish_late a b c false counts f refl in grind (arith, nat_tests)
+
+module _ (input input' : Source) (out held out' notes kept notes' : End) (p q : Bool) (status last : ℕ)
+    (f : Finishes out.failures held out' p) (g : Finishes notes.failures kept notes' q) (l : last ≡ cond (p && q) status 4) where
+  finished_plays : (start : Fabric) (script : List ℕ) → PlaysOn start script out held notes kept status → PlaysOn start script out out' notes notes' last
+  finished_plays start script r = record {
+    lines = r.lines;
+    rest = r.rest;
+    is_bad = r.is_bad;
+    follows = r.follows;
+    ends = r.ends;
+    made = r.made;
+    asked = r.asked;
+    final = r.final;
+    goes = r.goes;
+    written = finish_counts out held out' p r.written f;
+    noted = finish_holds notes kept notes' q (note_of r.is_bad (length r.lines + 1)) r.noted g;
+    status_is = status_last out held out' notes kept notes' p q status last f g l (has_starved (joined r.made)) r.is_bad r.status_is (finish_told out held out' p r.written f)
+        (finish_failed notes kept notes' q (note_of r.is_bad (length r.lines + 1)) r.noted g);
+  }
+
+  four : (b : Bool) → last ≡ cond b status 4 → status ≡ 4 → last ≡ 4
+  four true h e = h ∙ e
+  four false h e = h
+
+  finished : (configs : List EdgeConfig) (script : Result (List ℕ) Unread) → PlaysRead configs script out held notes kept status → PlaysRead configs script out out' notes notes' last
+  finished configs (Ok script) (inl h) = inl (h.0, h.1, finished_plays h.0 script h.2)
+  finished configs (Ok script) (inr h) = inr (finished_refused out held out' notes kept notes' p q status last f g l h)
+  finished configs (Err Device) h = (finished_silent out held out' notes kept notes' p q status last f g l h.0, four (p && q) l h.1)
+  finished configs (Err NoMemory) h = finished_refused out held out' notes kept notes' p q status last f g l h
+
+  pub buffered_simulates : (configs : List EdgeConfig) → Simulates configs (devices input out notes) (devices input' held kept) status → Simulates configs (devices input out notes) (devices input' out' notes') last
+  buffered_simulates configs s = record { script = s.script; read = s.read; plays = finished configs s.script s.plays }

@@ -1,0 +1,4 @@
+pub mod Script
+pub mod Simulation
+pub mod Playing
+pub mod Printing

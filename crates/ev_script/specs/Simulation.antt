@@ -1,0 +1,134 @@
+-- What a simulation does: the steps that its lines ask for, from an opened fabric on.
+use Rattle.std.specs.Prelude.{◌≡◌, ℕ, ◌⊎◌, ◌+◌, ◌||◌, ◌==◌, Bool, true, false, nat_le, if◌then◌else◌, List, [], ◌∷◌, ◌++◌, length, codes, decimal, Result, Ok, Err, Option, Some, None}
+use Rattle.std.specs.Borrow.{Bor}
+use Rattle.std.specs.List.{All}
+use Rattle.ether_wire.specs.Ends.{End}
+use Rattle.ev_edge.specs.declared.config.EdgeConfig.{EdgeConfig}
+use Rattle.ev_edge.specs.declared.reply.Reply.{Reply}
+use Rattle.ev_fabric.specs.declared.refusal.Refusal.{Refusal}
+use Rattle.ev_fabric.specs.declared.step.Step.{Step}
+use Rattle.ev_fabric.specs.declared.step.Step.TheVariants as steps
+use Rattle.ev_fabric.specs.declared.step.LocalEvent.TheVariants as events
+use Rattle.ev_fabric.specs.Fabric.{Fabric}
+use Rattle.ev_fabric.specs.Opening.{IsStart}
+use Rattle.ev_fabric.specs.Refusal.{refusal_number}
+use Rattle.ev_fabric.specs.Steps.{FabricSteps}
+use Rattle.ev_report.specs.declared.input.Unread.{Unread}
+use Rattle.ev_report.specs.declared.input.Unread.TheVariants.{Device, NoMemory}
+use Rattle.ev_report.specs.Ends.{Devices, has_failed, Holds}
+use Rattle.ev_report.specs.Notes.{status_of}
+use Rattle.ev_report.specs.Input.{ReadsWhole}
+use Rattle.ev_report.specs.Silence.{IsSilent, IsRefusedMemory}
+use Rattle.ev_script.specs.Script.{Command, up, down, mcheck, second, frame, tunnel, pin, unpin, thaw, announce, deliver, port, report, restart, Follows, Ends}
+
+-- ---- steps
+
+-- a step that was made, and its answer
+abbrev pub Made : Type 0
+Made = Step × Result Reply Refusal
+
+-- A port's number, in an octet. Those above 255 are as 255: there are 64 at most.
+abbrev pub port_number : ℕ → ℕ
+port_number p = if nat_le p 255 then p else 255
+
+-- that step alone was made
+abbrev pub IsOne : Step → List Made → Type 0
+IsOne step made = (answer : Result Reply Refusal) × (made ≡ (step, answer) ∷ [])
+
+-- the steps that a command asks of an edge
+abbrev pub Asked : ℕ → Command → List Made → Type 0
+Asked e (up p) made = IsOne (steps.Local e (events.PortUp (port_number p))) made
+Asked e (down p) made = IsOne (steps.Local e (events.PortDown (port_number p))) made
+Asked e (mcheck p) made = IsOne (steps.Local e (events.Mcheck (port_number p))) made
+Asked e (second n) made = (length made ≡ n) × All (λ (m : Made). m.0 ≡ steps.Local e events.Second) made
+Asked e (frame p octets) made = (b : Bor (List ℕ)) × (b.now ≡ octets) × IsOne (steps.Local e (events.Frame (port_number p) b)) made
+Asked e (tunnel from octets) made = (b : Bor (List ℕ)) × (b.now ≡ octets) × IsOne (steps.Local e (events.TunnelFrame from b)) made
+Asked e (pin s p) made = IsOne (steps.Local e (events.Pin s (port_number p))) made
+Asked e (unpin s) made = IsOne (steps.Local e (events.Unpin s)) made
+Asked e (thaw s) made = IsOne (steps.Local e (events.Thaw s)) made
+Asked e announce made = IsOne (steps.Announce e) made
+Asked e (deliver k) made = IsOne (steps.Deliver e k) made
+Asked e (port p) made = made ≡ []
+Asked e report made = made ≡ []
+Asked e (restart n) made = IsOne (steps.Restart e n) made
+
+-- the steps of line after line
+abbrev pub AskedAll : List (ℕ × Command) → List (List Made) → Type 0
+AskedAll [] [] = Unit {0}
+AskedAll [] (made ∷ more) = ⊥
+AskedAll (line ∷ lines) [] = ⊥
+AskedAll (line ∷ lines) (made ∷ more) = Asked line.0 line.1 made × AskedAll lines more
+
+abbrev pub joined : List (List Made) → List Made
+joined [] = []
+joined (made ∷ more) = made ++ joined more
+
+-- steps with their answers, each from where the one before has led
+abbrev pub Goes : Fabric → List Made → Fabric → Type 0
+Goes old [] new = new ≡ old
+Goes old (m ∷ made) new = (mid : Fabric) × FabricSteps old m.0 m.1 mid × Goes mid made new
+
+-- a step that was refused for memory
+abbrev pub is_starved : Result Reply Refusal → Bool
+is_starved (Ok reply) = false
+is_starved (Err refusal) = refusal_number refusal == 15
+
+abbrev pub has_starved : List Made → Bool
+has_starved [] = false
+has_starved (m ∷ made) = is_starved m.1 || has_starved made
+
+-- ---- a run
+
+-- `line N bad`
+abbrev pub bad_line : ℕ → List ℕ
+bad_line number = codes "line " ++ decimal number ++ codes " bad\n"
+
+abbrev pub note_of : Bool → ℕ → List ℕ
+note_of is_bad number = if is_bad then bad_line number else []
+
+-- for the line of this number, if there is one
+abbrev pub note_of_line : Option ℕ → List ℕ
+note_of_line None = []
+note_of_line (Some number) = bad_line number
+
+-- some text was written, or one call failed
+abbrev pub CountsFailure : End → End → Type 0
+CountsFailure old new = (new.failures ≡ old.failures) ⊎ (new.failures ≡ old.failures + 1)
+
+-- The script's lines up to its end or its first bad one were run on the fabric: it went exactly the steps that they ask
+-- for, in their order.
+pub record PlaysOn (start : Fabric) (script : List ℕ) (out out' notes notes' : End) (status : ℕ) : Type 0 where
+  pub lines : List (ℕ × Command)
+  pub rest : List ℕ
+  pub is_bad : Bool
+  pub follows : Follows script lines rest
+  pub ends : Ends is_bad rest
+  pub made : List (List Made)
+  pub asked : AskedAll lines made
+  pub final : Fabric
+  pub goes : Goes start (joined made) final
+  pub written : CountsFailure out out'
+  pub noted : Holds notes notes' (note_of is_bad (length lines + 1))
+  pub status_is : status ≡ status_of (has_failed out out' || has_failed notes notes') (has_starved (joined made)) is_bad
+
+-- on a fabric of edges that are opened so
+abbrev pub Plays : List EdgeConfig → List ℕ → End → End → End → End → ℕ → Type 0
+Plays configs script out out' notes notes' status = (start : Fabric) × IsStart configs start × PlaysOn start script out out' notes notes' status
+
+-- What became of a script that was read or not. Where memory was refused to the script or to the edges, or the script
+-- wasn't read to its end, nothing was run.
+abbrev pub PlaysRead : List EdgeConfig → Result (List ℕ) Unread → End → End → End → End → ℕ → Type 0
+PlaysRead configs (Ok script) out out' notes notes' status = Plays configs script out out' notes notes' status ⊎ IsRefusedMemory out out' notes notes' status
+PlaysRead configs (Err Device) out out' notes notes' status = IsSilent out out' notes notes' × (status ≡ 4)
+PlaysRead configs (Err NoMemory) out out' notes notes' status = IsRefusedMemory out out' notes notes' status
+
+-- the status of a script that wasn't read to its end
+abbrev pub unread_status : Unread → ℕ
+unread_status Device = 4
+unread_status NoMemory = 3
+
+-- The script was read whole, and then run.
+pub record Simulates (configs : List EdgeConfig) (before after : Devices) (status : ℕ) : Type 0 where
+  pub script : Result (List ℕ) Unread
+  pub read : ReadsWhole before.input after.input script
+  pub plays : PlaysRead configs script before.out after.out before.notes after.notes status

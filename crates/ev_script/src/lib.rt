@@ -1,0 +1,7 @@
+//! Scripts: the language of a line, and the simulation that plays the lines on a fabric of edges.
+#![tactic(auto)]
+
+mod script;
+mod simulate;
+
+pub use simulate::simulate_run;

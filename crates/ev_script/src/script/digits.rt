@@ -1,0 +1,49 @@
+//! Hexadecimal digits.
+ghost use Rattle.std.specs.Prelude.{◌≡◌, ◌<◌, is_some, IfSome};
+ghost use Rattle.std.specs.List.{list_all};
+ghost use Rattle.ether_wire.specs.Spelling.{hex_value};
+ghost use Rattle.ev_script.specs.Script.{is_hex_digit, value_or_zero, octet_of};
+
+/// The value of a lower case digit.
+fn hex_value(octet: u8) -> Option<u8>
+    ensures value { result ≡ hex_value octet }
+    ensures small { IfSome result (λ value. value < 16) }
+{
+    match octet {
+        b'0'..=b'9' => Some(octet - b'0'),
+        b'a'..=b'f' => Some(octet - b'a' + 10),
+        _ => None,
+    }
+}
+
+/// Whether an octet is a lower case digit.
+fn is_hex_digit(octet: u8) -> bool
+    ensures { result ≡ is_hex_digit octet }
+{
+    hex_value(octet).is_some()
+}
+
+/// Whether all octets are digits.
+pub(crate) fn are_hex_digits(word: &[u8]) -> bool
+    ensures { result ≡ list_all is_hex_digit word.now }
+{
+    word.iter().all(|octet| is_hex_digit(*octet))
+}
+
+/// The value of a digit, 0 for none.
+fn value_or_zero(octet: u8) -> u8
+    ensures value { result ≡ value_or_zero (hex_value octet) }
+    ensures small { result < 16 }
+{
+    match hex_value(octet) {
+        None => 0,
+        Some(value) => value,
+    }
+}
+
+/// The octet of two digits.
+pub(crate) fn octet_of(high: u8, low: u8) -> u8
+    ensures { result ≡ octet_of high low }
+{
+    16 * value_or_zero(high) + value_or_zero(low)
+}

@@ -1,0 +1,372 @@
+//! The program's words.
+ghost use Rattle.std.specs.Prelude.{◌≡◌, ◌≢◌, ◌+◌, ◌<◌, ◌^◌, map, string_bytes, IfOk, OnOk, OnErr, ℕ, option_map, false};
+ghost use Rattle.clap.specs.Words.{app_of, kind_of, rule_of, subcommand_rows_of, with_subcommand};
+ghost use Rattle.clap.specs.declared.builder.command.Command.TheViews.{out-Command};
+ghost use Rattle.ev_words.specs.Words.{name_of, option_of, named, order_in, parts_of, IsAnswer, Parses, Orders, parser_refusals, program, order_app, option_rule};
+
+use clap::error::ErrorKind;
+use clap::{Arg, ArgAction, ArgMatches, Command, Error};
+use std::alloc::{AllocError, Global};
+
+/// What the program can do.
+#[derive(Clone, Copy, Debug, PartialEq, Eq)]
+pub enum Subcommand {
+    /// `evpnd report --originators LIST`
+    Report,
+    /// `evpnd migrate --originators LIST`
+    Migrate,
+    /// `evpnd check --config FILE`
+    Check,
+    /// `evpnd simulate --config FILE`
+    Simulate,
+    /// `evpnd run --config FILE`
+    Run,
+}
+
+/// What the program is to do.
+#[derive(Clone, Copy, Debug, Drop)]
+pub struct Order<'a> {
+    pub subcommand: Subcommand,
+    /// The value of the subcommand's option.
+    pub value: &'a str,
+}
+
+/// Why the words are no order.
+#[derive(Debug, Drop)]
+pub enum Refusal {
+    /// They are none of the program's, or ask for help: what `clap` tells of it.
+    Usage(Error),
+    /// There was no memory to read them.
+    NoMemory,
+}
+
+impl Subcommand {
+    /// Its word.
+    fn name<'a>(self) -> &'a str
+        ensures { result.now ≡ name_of self }
+    {
+        match self {
+            Subcommand::Report => "report",
+            Subcommand::Migrate => "migrate",
+            Subcommand::Check => "check",
+            Subcommand::Simulate => "simulate",
+            Subcommand::Run => "run",
+        }
+    }
+
+    /// The option that it has to be given.
+    fn option<'a>(self) -> &'a str
+        ensures { result.now ≡ option_of self }
+    {
+        match self {
+            Subcommand::Report | Subcommand::Migrate => "originators",
+            Subcommand::Check | Subcommand::Simulate | Subcommand::Run => "config",
+        }
+    }
+
+    /// What help calls the option's value.
+    fn value_name<'a>(self) -> &'a str {
+        match self {
+            Subcommand::Report | Subcommand::Migrate => "LIST",
+            Subcommand::Check | Subcommand::Simulate | Subcommand::Run => "FILE",
+        }
+    }
+
+    /// What the option's value is.
+    fn value_help<'a>(self) -> &'a str {
+        match self {
+            Subcommand::Report | Subcommand::Migrate => {
+                "1 to 64 different IPv4 addresses with commas between them"
+            }
+            Subcommand::Check | Subcommand::Simulate | Subcommand::Run => {
+                "The path of a configuration, a TOML document"
+            }
+        }
+    }
+
+    /// What it does, in a line.
+    fn about<'a>(self) -> &'a str {
+        match self {
+            Subcommand::Report => "Report the table that a stream of route updates defines",
+            Subcommand::Migrate => "Write records of versions 1 and 2 anew in version 3",
+            Subcommand::Check => "Tell whether a configuration is right, or where it is wrong",
+            Subcommand::Simulate => "Run a script of events on the edges of a configuration",
+            Subcommand::Run => "Carry frames: run the edges of a configuration over UDP sockets",
+        }
+    }
+
+    /// What it reads and prints, its statuses, and an example.
+    fn help<'a>(self) -> &'a str {
+        match self {
+            Subcommand::Report => {
+                "\
+Reads update records on standard input, up to its end or to the first fault. Then standard output
+has the report of the records that were taken: a line for each register, and each MAC's owner.
+Standard error has a line for each record that wasn't taken, and one for what broke the stream off.
+
+Status, the greatest that applies:
+  0  the input was read to its end
+  1  it shows a fault, or ends within a record
+  2  the words are wrong, or ask for help: nothing is read
+  3  memory was refused
+  4  reading or writing failed
+
+Example:
+  evpnd report --originators 10.0.0.1,10.0.0.2 < records"
+            }
+            Subcommand::Migrate => {
+                "\
+Reads update records of versions 1 and 2 on standard input, up to its end or to the first fault.
+Then standard output has records of version 3, in which the IP address is a part of the key: what each
+edge said last of each MAC, and a withdrawal for each address that it replaced; none where reading
+failed or memory was refused. Standard error has a line for each record that wasn't taken, and one
+for what broke the stream off.
+
+Status, the greatest that applies:
+  0  the input was read to its end
+  1  it shows a fault, or ends within a record
+  2  the words are wrong, or ask for help: nothing is read
+  3  memory was refused
+  4  reading or writing failed
+
+Example:
+  evpnd migrate --originators 10.0.0.1,10.0.0.2 < old > new"
+            }
+            Subcommand::Check => {
+                "\
+Reads the configuration in FILE, as docs/configuration.md describes it; standard input isn't read.
+If it is right, standard output has how many edges, ports and VNIs it has. Else standard error has
+where its first fault is, what stands there and what is allowed.
+
+Status, the greatest that applies:
+  0  the configuration is right
+  2  it has a fault; or the words are wrong, or ask for help
+  3  memory was refused
+  4  FILE can't be read, or writing failed
+
+Example:
+  evpnd check --config fabric.toml"
+            }
+            Subcommand::Simulate => {
+                "\
+Opens the edges that FILE configures, as docs/configuration.md describes it, reads a script on standard
+input up to its end, and runs it line by line; docs/script.md has its commands. Standard output has
+what became of each. Standard error has the number of the first line that is none, which ends the run.
+
+Status, the greatest that applies:
+  0  all lines were run
+  1  a line is no command
+  2  the configuration has a fault; or the words are wrong, or ask for help
+  3  memory was refused
+  4  FILE can't be read, or reading or writing failed
+
+Example:
+  evpnd simulate --config fabric.toml < script"
+            }
+            Subcommand::Run => {
+                "\
+Runs the edges that FILE configures, as docs/configuration.md describes it; each port needs `local`
+and `remote`. Each edge takes and sends VXLAN datagrams at its address, UDP port 4789; each port takes
+frames at `local`, one a datagram, and sends them to `remote`. It ends when standard input ends, whose
+content is ignored. Then standard output has for each edge the line `edge E` and its report.
+Standard error has `lost N` where N sends failed; or which address can't be bound, and why: then no
+edge has begun.
+
+Status, the greatest that applies:
+  0  the edges ran until standard input ended
+  2  the configuration has a fault; or the words are wrong, or ask for help
+  3  memory or a thread was refused
+  4  FILE can't be read, an address can't be bound, or a socket, reading or writing failed
+
+Example:
+  evpnd run --config fabric.toml"
+            }
+        }
+    }
+}
+
+/// The subcommand of this name.
+fn named(name: &str) -> Option<Subcommand>
+    ensures { result ≡ named name.now }
+{
+    if name == Subcommand::Report.name() {
+        return Some(Subcommand::Report);
+    }
+    if name == Subcommand::Migrate.name() {
+        return Some(Subcommand::Migrate);
+    }
+    if name == Subcommand::Check.name() {
+        return Some(Subcommand::Check);
+    }
+    if name == Subcommand::Simulate.name() {
+        return Some(Subcommand::Simulate);
+    }
+    if name == Subcommand::Run.name() {
+        return Some(Subcommand::Run);
+    }
+    None
+}
+
+/// A subcommand's option, which has to be there.
+fn option_arg<'a>(alloc: Global, subcommand: Subcommand) -> Arg<'a>
+    ensures rule { rule_of result ≡ option_rule (option_of subcommand) }
+    ensures local { result.global ≡ false }
+{
+    Arg::new(alloc, subcommand.option())
+        .long(subcommand.option())
+        .action(ArgAction::Set)
+        .value_name(subcommand.value_name())
+        .help(subcommand.value_help())
+        .required(true)
+}
+
+/// A subcommand with its option.
+fn order_command<'a>(alloc: Global, subcommand: Subcommand) -> Result<Command<'a>, AllocError>
+    ensures app { IfOk result (λ c. app_of c ≡ order_app subcommand) }
+    ensures local { IfOk result (λ c. (out-Command c).has_globals ≡ false) }
+{
+    let command = Command::new(alloc, subcommand.name())
+        .about(subcommand.about())
+        .after_help(subcommand.help());
+    command.arg(option_arg(alloc, subcommand))
+}
+
+/// What the program does, and what help tells of all subcommands.
+const ABOUT: &str = "What a stream of EVPN route updates defines, proved from octet to octet";
+
+const HELP: &str = "\
+Each subcommand's --help says what it reads and prints, and its statuses: 0 done, 1 broken input,
+2 wrong words or a request for help, 3 no memory, 4 a failed device.
+
+Example:
+  evpnd report --originators 10.0.0.1,10.0.0.2 < records";
+
+/// The command with one subcommand more.
+fn with_order<'a>(
+    alloc: Global,
+    command: Command<'a>,
+    subcommand: Subcommand,
+) -> Result<Command<'a>, AllocError>
+    ensures { IfOk result
+        (λ c. app_of c ≡ with_subcommand (app_of command.entry) (order_app subcommand).top) }
+{
+    command.subcommand(order_command(alloc, subcommand)?)
+}
+
+/// The program's command.
+fn program<'a>(alloc: Global) -> Result<Command<'a>, AllocError>
+    ensures { IfOk result (λ c. app_of c ≡ program) }
+{
+    let start = Command::new(alloc, "evpnd").about(ABOUT).after_help(HELP);
+    let first = with_order(alloc, start, Subcommand::Report)?;
+    let second = with_order(alloc, first, Subcommand::Migrate)?;
+    let third = with_order(alloc, second, Subcommand::Check)?;
+    let fourth = with_order(alloc, third, Subcommand::Simulate)?;
+    let command = with_order(alloc, fourth, Subcommand::Run)?;
+    Ok(command.subcommand_required(true))
+}
+
+/// What reads the program's words, and tells what is wrong with them. It may be refused memory.
+pub trait Parser {
+    /// How often it was refused memory.
+    ghost refusals: { Self → ℕ };
+
+    /// Reads the words: the first is the program's name. An error is of the kind `OutOfMemory`
+    /// exactly where memory was refused once more.
+    fn parse<'a>(&mut self, words: &'a [String]) -> Result<ArgMatches<'a>, Error>
+        requires { refusals self.old + 1 < 2 ^ 64 }
+        ensures { Parses (map string_bytes words.entry.now)
+            (refusals self.old) (refusals self.new) result };
+
+    /// The text of an error for the user. It fails exactly where memory was refused once more.
+    fn text_of(&mut self, error: &Error) -> Result<String, AllocError>
+        requires { refusals self.old + 1 < 2 ^ 64 }
+        ensures kept { OnOk result (refusals self.new ≡ refusals self.old) }
+        ensures refused { OnErr result (refusals self.new ≡ refusals self.old + 1) };
+}
+
+/// `clap`, over the program's memory.
+#[derive(Debug, Drop)]
+pub struct ClapParser {
+    alloc: Global,
+    refusals: u64,
+}
+
+impl ClapParser {
+    /// A parser that wasn't refused anything yet.
+    pub fn new(alloc: Global) -> ClapParser
+        ensures { parser_refusals result ≡ 0 }
+    {
+        ClapParser { alloc, refusals: 0 }
+    }
+}
+
+/// What `clap` makes of the words.
+fn matches_of<'a>(alloc: Global, words: &'a [String]) -> Result<ArgMatches<'a>, Error>
+    ensures { IsAnswer (map string_bytes words.entry.now) result }
+{
+    program(alloc)?.try_get_matches_from(words)
+}
+
+impl Parser for ClapParser {
+    ghost refusals = { parser_refusals };
+
+    fn parse<'a>(&mut self, words: &'a [String]) -> Result<ArgMatches<'a>, Error> {
+        match matches_of(self.alloc, words) {
+            Ok(matches) => Ok(matches),
+            Err(error) => {
+                if error.kind() == ErrorKind::OutOfMemory {
+                    self.refusals += 1;
+                }
+                Err(error)
+            }
+        }
+    }
+
+    fn text_of(&mut self, error: &Error) -> Result<String, AllocError> {
+        match error.to_string(self.alloc) {
+            Ok(text) => Ok(text),
+            Err(error) => {
+                self.refusals += 1;
+                Err(error)
+            }
+        }
+    }
+}
+
+/// The order that the words give: the first is the program's name.
+pub fn order_of<'a, P: Parser>(parser: &mut P, words: &'a [String]) -> Result<Order<'a>, Refusal>
+    requires { P.refusals parser.old + 1 < 2 ^ 64 }
+    ensures { Orders (map string_bytes words.entry.now)
+        (P.refusals parser.old) (P.refusals parser.new) result }
+{
+    match parser.parse(words) {
+        Ok(matches) => match order_in(&matches) {
+            Some(order) => Ok(order),
+            None => unreachable!(),
+        },
+        Err(error) => Err(refusal_of(error)),
+    }
+}
+
+/// What an error of `clap` says of the words: they aren't the program's, or there was no memory.
+fn refusal_of(error: Error) -> Refusal
+    ensures memory { kind_of error ≡ ErrorKind.OutOfMemory → result ≡ Refusal.NoMemory }
+    ensures usage { kind_of error ≢ ErrorKind.OutOfMemory → result ≡ Refusal.Usage error }
+{
+    if error.kind() == ErrorKind::OutOfMemory {
+        Refusal::NoMemory
+    } else {
+        Refusal::Usage(error)
+    }
+}
+
+/// The order at the subcommand that was used.
+fn order_in<'a>(matches: &ArgMatches<'a>) -> Option<Order<'a>>
+    ensures { option_map parts_of result ≡ order_in (subcommand_rows_of matches.now) }
+{
+    let (name, inner) = matches.subcommand()?;
+    let subcommand = named(name)?;
+    let value = inner.get_str(subcommand.option())?;
+    Some(Order { subcommand, value })
+}

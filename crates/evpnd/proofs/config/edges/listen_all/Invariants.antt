@@ -1,6 +1,0 @@
-use Rattle.std.proofs.Common.{◌≡◌, ◌++◌, take, drop, map}
-use Rattle.evpnd.specs.Config.{listening}
-use Rattle.evpnd.proofs.config.edges.listen_all.Given as goal
-
-abbrev pub invariant-loop-edge : goal.invariant-loop-edge
-invariant-loop-edge l = l.edges ≡ map (listening l.addresses.items) (take l.edge-index l.fn.edges) ++ drop l.edge-index l.fn.edges

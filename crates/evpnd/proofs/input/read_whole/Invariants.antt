@@ -1,5 +1,0 @@
-use Rattle.evpnd.specs.Input.{Gathers}
-use Rattle.evpnd.proofs.input.read_whole.Given as goal
-
-abbrev pub invariant-loop-turn : goal.invariant-loop-turn
-invariant-loop-turn g l = Gathers l.turn (g.R.In.end l.initial.reader) (g.R.In.end l.reader) l.input.items

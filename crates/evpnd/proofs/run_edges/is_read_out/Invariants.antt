@@ -1,5 +1,0 @@
-use Rattle.evpnd.specs.RunEdges.{Drains}
-use Rattle.evpnd.proofs.run_edges.is_read_out.Given as goal
-
-abbrev pub invariant-loop-turn : goal.invariant-loop-turn
-invariant-loop-turn g l = Drains l.turn (g.E.In.end l.initial.reader) (g.E.In.end l.reader)

@@ -1,0 +1,18 @@
+-- What a configuration is used for: a script on its edges, or a run of them.
+use Rattle.std.specs.Prelude.{ℕ, Result}
+use Rattle.ev_config.specs.declared.whole.Config.{Config}
+use Rattle.ev_config.specs.declared.config.ConfigRefusal.{ConfigRefusal}
+use Rattle.ev_report.specs.Ends.{Devices}
+use Rattle.evpnd.specs.Configured.{OfFound}
+use Rattle.ev_script.specs.Simulation.{Simulates}
+use Rattle.ev_run.specs.RunEdges.{RunsConfig}
+
+-- a script is run on the edges of a configuration
+abbrev pub SimulatesEdges : Config → Devices → Devices → ℕ → Type 0
+SimulatesEdges config before after status = Simulates config.edges.items before after status
+
+abbrev pub SimulatesFound : Result Config ConfigRefusal → Devices → Devices → ℕ → Type 0
+SimulatesFound = OfFound SimulatesEdges
+
+abbrev pub RunsFound : Result Config ConfigRefusal → Devices → Devices → ℕ → Type 0
+RunsFound = OfFound RunsConfig
