@@ -8,3 +8,4 @@ pub mod Migrating
 pub mod Owning
 pub mod Gathering
 pub mod Silence
+pub mod Told

@@ -8,3 +8,4 @@ pub mod Migrations
 pub mod MigrationLaws
 pub mod Input
 pub mod Silence
+pub mod Telling

@@ -11,6 +11,7 @@ mod originators;
 mod report;
 mod status;
 mod stream;
+mod telling;
 
 pub use ending::Ending;
 pub use input::{MOST_READS, Unread, read_whole};
@@ -18,4 +19,5 @@ pub use migrate::{migrate_buffered, migrate_run};
 pub use migration_laws::{same_owners, stays_away};
 pub use originators::{ListFault, WrongPart, put_wrong_part, read_originators};
 pub use report::{finish, has_failed, last_status, report_buffered, report_run, status_of};
-pub use status::{BROKEN, DEVICE, DONE, MEMORY};
+pub use status::{BROKEN, DEVICE, DONE, MEMORY, USAGE};
+pub use telling::{migrate_list, report_list, tell, tell_list, usage_status};

@@ -1,10 +1,13 @@
-//! The statuses of what is read, read out and written. (2 is left to words and configurations.)
+//! The statuses of the programs.
 
 /// All was done.
 pub const DONE: u8 = 0;
 
 /// The stream shows a fault, or ended within a record.
 pub const BROKEN: u8 = 1;
+
+/// The words aren't the program's, or what they name has a fault.
+pub const USAGE: u8 = 2;
 
 /// Memory was refused.
 pub const MEMORY: u8 = 3;

@@ -11,31 +11,10 @@ use Rattle.ev_words.specs.Words.{program}
 use Rattle.ev_report.specs.Originators.{Text, list_text}
 use Rattle.ev_report.specs.Ends.{devices, has_failed}
 use Rattle.evpnd.specs.Files.{Shelf}
-use Rattle.evpnd.specs.Checks.{desk, IsTold, TellsUsage, Sums}
+use Rattle.ev_report.specs.Telling.{IsTold, TellsUsage}
+use Rattle.ev_report.proofs.Told.{failed_put, tells_usage}
+use Rattle.evpnd.specs.Checks.{desk, Sums}
 use Rattle.evpnd.specs.Program.{world, TellsFault, RunsWords}
-
-failed_put : (a b : End) (r : Result (Unit {0}) Device) (text : Text) (n : ℕ) → Puts a b text r → (if_ok : Bool) → if_ok ≡ is_ok r → ◌≡◌ {A = ℕ} (cond if_ok n 4) (cond (has_failed a b) 4 n)
-failed_put a b (Ok x) text n h true e =
-    let same : b.failures ≡ a.failures = ap (λ (y : End). y.failures) h in
-    let none : has_failed a b ≡ false = grind (arith, nat_tests) in
-    rw none refl
-failed_put a b (Ok x) text n h false e = cc
-failed_put a b (Err d) text n h true e = cc
-failed_put a b (Err d) text n h false e =
-    let one : has_failed a b ≡ true = grind (arith, nat_tests) in
-    rw one refl
-
-pub told_put : (a b : End) (r : Result (Unit {0}) Device) (text : Text) (status : ℕ) → Puts a b text r → ◌≡◌ {A = ℕ} status (cond (is_ok r) 2 4) → IsTold text a b status
-told_put a b (Ok x) text status h is =
-    record {
-      noted = record { written = λ _. h; failures = inl (ap (λ (y : End). y.failures) h) };
-      status_is = is ∙ failed_put a b (Ok x) text 2 h true refl;
-    }
-told_put a b (Err d) text status h is =
-    record {
-      noted = record { written = λ same. absurd (omega arith); failures = inr h };
-      status_is = is ∙ failed_put a b (Err d) text 2 h false refl;
-    }
 
 -- a text was put on the output
 pub sums_put : (a b : End) (r : Result (Unit {0}) Device) (text : Text) (status : ℕ) → Puts a b text r → ◌≡◌ {A = ℕ} status (cond (is_ok r) 0 4) → Sums a b status
@@ -43,17 +22,6 @@ sums_put a b (Ok x) text status h is =
     (text, record { written = λ _. h; failures = inl (ap (λ (y : End). y.failures) h) }, is ∙ failed_put a b (Ok x) text 0 h true refl)
 sums_put a b (Err d) text status h is =
     (text, record { written = λ same. absurd (omega arith); failures = inr h }, is ∙ failed_put a b (Err d) text 0 h false refl)
-
-pub tells_usage : (input : Source) (out notes notes' : End) (text : Text) (status : ℕ) → IsTold text notes notes' status → TellsUsage text (devices input out notes) (devices input out notes') status
-tells_usage input out notes notes' text status told = record { input = refl; out = refl; told = told }
-
--- a list that is wrong is told
-pub tells_list : (input : Source) (out notes notes' : End) (P : List ℕ → Type 0) (list : Result (List ℕ) (Text × ListFault)) (wrong : Text × ListFault) (status : ℕ) → Err wrong ≡ list
-    → IsTold (list_text wrong) notes notes' status
-    → MatchResult list P (λ w. TellsUsage (list_text w) (devices input out notes) (devices input out notes') status)
-tells_list input out notes notes' P list wrong status is told =
-    subst (λ (l : Result (List ℕ) (Text × ListFault)). MatchResult l P (λ w. TellsUsage (list_text w) (devices input out notes) (devices input out notes') status)) is
-    (tells_usage input out notes notes' (list_text wrong) status told)
 
 among_some : (k : ErrorKind) (ks : Kinds) → IsAmong k ks → ks ≢ []
 among_some k [] among none = among

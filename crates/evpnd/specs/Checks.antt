@@ -7,6 +7,7 @@ use Rattle.ev_config.specs.declared.config.ConfigRefusal.TheVariants as refusal
 use Rattle.evpnd.specs.declared.files.Unread.{Unread}
 use Rattle.evpnd.specs.Files.{Text, Shelf, IsTextOf, unread_text}
 use Rattle.ev_report.specs.Ends.{Devices, devices, has_failed, Holds}
+use Rattle.ev_report.specs.Telling.{IsTold, TellsUsage}
 use Rattle.ev_config.specs.Config.{ConfigOf}
 
 -- the devices and the files
@@ -16,17 +17,6 @@ pub record Desk : Type 0 where
 
 abbrev pub desk : Shelf → Devices → Desk
 desk shelf devices = record { shelf = shelf; devices = devices }
-
--- A text on the words or the configuration was written to the notes, or a call of them failed.
-pub record IsTold (text : Text) (before after : End) (status : ℕ) : Type 0 where
-  pub noted : Holds before after text
-  pub status_is : status ≡ (if has_failed before after then 4 else 2)
-
--- It is told; nothing was read, nothing else written.
-pub record TellsUsage (text : Text) (before after : Devices) (status : ℕ) : Type 0 where
-  pub input : after.input ≡ before.input
-  pub out : after.out ≡ before.out
-  pub told : IsTold text before.notes after.notes status
 
 -- ---- files
 

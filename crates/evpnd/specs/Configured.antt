@@ -7,7 +7,8 @@ use Rattle.ev_config.specs.declared.config.ConfigRefusal.TheVariants as refusal
 use Rattle.ev_report.specs.Ends.{Devices, devices}
 use Rattle.evpnd.specs.Files.{Text, Shelf, IsTextOf}
 use Rattle.ev_config.specs.Config.{ConfigOf}
-use Rattle.evpnd.specs.Checks.{desk, TellsUsage, OfFile}
+use Rattle.evpnd.specs.Checks.{desk, OfFile}
+use Rattle.ev_report.specs.Telling.{TellsUsage}
 
 -- `config KEY`
 abbrev pub config_text : Text → Text

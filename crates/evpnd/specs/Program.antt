@@ -1,5 +1,5 @@
 -- A run of the program, from its words to its status.
-use Rattle.std.specs.Prelude.{◌≡◌, ◌≢◌, ℕ, ◌+◌, ◌⊎◌, true, false, List, [], codes, map, string_bytes, MatchResult}
+use Rattle.std.specs.Prelude.{◌≡◌, ◌≢◌, ℕ, ◌+◌, ◌⊎◌, true, false, List, [], codes, map, string_bytes}
 use Rattle.ether_wire.specs.Ends.{End, Source}
 use Rattle.clap.specs.Words.{fault_of}
 use Rattle.evpnd.specs.declared.program.Line.{Line}
@@ -7,10 +7,11 @@ use Rattle.evpnd.specs.declared.program.Line.TheVariants.{Words, NotText, NoMemo
 use Rattle.ev_words.specs.declared.words.Subcommand.{Subcommand}
 use Rattle.ev_words.specs.declared.words.Subcommand.TheVariants.{Report, Migrate, Check, Simulate, Run}
 use Rattle.ev_words.specs.Words.{program, Spells}
-use Rattle.ev_report.specs.Originators.{Text, originators_of_text, list_text}
+use Rattle.ev_report.specs.Originators.{Text}
+use Rattle.ev_report.specs.Telling.{IsTold, TellsUsage, OfList}
 use Rattle.ev_report.specs.Ends.{Devices, devices}
 use Rattle.evpnd.specs.Files.{Shelf}
-use Rattle.evpnd.specs.Checks.{Desk, desk, IsTold, TellsUsage, OfFile, Checks}
+use Rattle.evpnd.specs.Checks.{Desk, desk, OfFile, Checks}
 use Rattle.ev_report.specs.Runs.{Reports}
 use Rattle.ev_report.specs.Migrations.{Migrates}
 use Rattle.evpnd.specs.Used.{SimulatesFound, RunsFound}
@@ -35,11 +36,6 @@ abbrev pub not_text : Text
 not_text = codes "error: a word isn't UTF-8\n"
 
 -- ---- orders
-
--- what a subcommand does with the originators of a list, or it tells which part of the list is wrong
-abbrev pub OfList : (List ℕ → Devices → Devices → ℕ → Type 0) → Text → Devices → Devices → ℕ → Type 0
-OfList does list before after status =
-    MatchResult (originators_of_text list) (λ originators. does originators before after status) (λ wrong. TellsUsage (list_text wrong) before after status)
 
 -- what each subcommand does with its option's value
 abbrev pub FollowsAs : Subcommand → Text → Desk → Desk → ℕ → Type 0

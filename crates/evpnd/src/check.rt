@@ -6,10 +6,9 @@ ghost use Rattle.evpnd.specs.Files.{HasRoom};
 ghost use Rattle.evpnd.specs.Checks.{desk, OfFile, Sums, TellsLine, Checks, ChecksText};
 
 use crate::files::{FileFault, Files, put_unread};
-use crate::program::tell;
 use ether_wire::{Device, Out};
 use ev_config::{Config, ConfigRefusal, config_of, refusal_line, summary_line};
-use ev_report::{DEVICE, DONE, MEMORY};
+use ev_report::{DEVICE, DONE, MEMORY, tell};
 use std::alloc::Global;
 
 /// The status of what was done, by whether it could be written.

@@ -3,15 +3,14 @@ ghost use Rattle.std.specs.Prelude.{◌≡◌, IfOk};
 ghost use Rattle.ether_wire.specs.Ends.{IsOpen, Puts};
 ghost use Rattle.ev_fabric.specs.Opening.{AreConfigs};
 ghost use Rattle.evpnd.specs.Files.{HasRoom};
-ghost use Rattle.evpnd.specs.Checks.{IsTold};
+ghost use Rattle.ev_report.specs.Telling.{IsTold};
 ghost use Rattle.evpnd.specs.Configured.{config_text, TextGives, FileGives};
 
 use crate::check::unread_status;
 use crate::files::{FileFault, Files, put_unread};
-use crate::program::usage_status;
 use ether_wire::{Device, Out};
 use ev_config::{Config, ConfigRefusal, config_of};
-use ev_report::MEMORY;
+use ev_report::{MEMORY, usage_status};
 use std::alloc::Global;
 
 /// Writes `config KEY`.

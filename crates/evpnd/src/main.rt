@@ -7,7 +7,6 @@ mod files;
 mod program;
 mod run_file;
 mod simulate;
-mod status;
 
 use crate::files::SystemFiles;
 use crate::program::{Line, run};

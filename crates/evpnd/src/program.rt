@@ -3,24 +3,18 @@ ghost use Rattle.std.specs.Prelude.{◌≡◌, ◌≢◌, ◌+◌, ◌<◌, ◌^
 ghost use Rattle.ether_wire.specs.Ends.{IsOpen, Allows};
 ghost use Rattle.clap.specs.Words.{fault_of};
 ghost use Rattle.ev_report.specs.Ends.{devices};
-ghost use Rattle.ev_report.specs.Originators.{originators_of_text, list_text};
 ghost use Rattle.ev_words.specs.Words.{program, parts_of};
 ghost use Rattle.evpnd.specs.Files.{HasRoom};
-ghost use Rattle.evpnd.specs.Checks.{desk, IsTold, TellsUsage};
-ghost use Rattle.ev_report.specs.Runs.{Reports};
-ghost use Rattle.ev_report.specs.Migrations.{Migrates};
-ghost use Rattle.evpnd.specs.Program.{world, TellsFault, not_text, OfList, FollowsAs, Follows, RunsWords, RunsProgram};
+ghost use Rattle.evpnd.specs.Checks.{desk};
+ghost use Rattle.evpnd.specs.Program.{world, TellsFault, not_text, FollowsAs, Follows, RunsWords, RunsProgram};
 
 use crate::check::check;
 use crate::files::Files;
 use crate::run_file::run_file;
 use crate::simulate::simulate;
-use crate::status::USAGE;
 use clap::Error;
-use ether_wire::{Device, In, Out};
-use ev_report::{
-    DEVICE, MEMORY, WrongPart, migrate_buffered, put_wrong_part, read_originators, report_buffered,
-};
+use ether_wire::{In, Out};
+use ev_report::{MEMORY, migrate_list, report_list, tell};
 use ev_words::{Order, Parser, Refusal, Subcommand, order_of};
 use std::alloc::Global;
 use std::net::Net;
@@ -39,33 +33,6 @@ pub(crate) enum Line {
     NoMemory,
 }
 
-/// The status of a usage, by whether it could be told.
-pub(crate) fn usage_status(told: Result<(), Device>) -> u8
-    ensures { result ≡ (if is_ok told then 2 else 4) }
-{
-    match told {
-        Ok(()) => USAGE,
-        Err(Device) => DEVICE,
-    }
-}
-
-/// Tells a text on the words.
-pub(crate) fn tell<N: Out>(text: &[u8], notes: &mut N) -> u8
-    requires { IsOpen (N.end notes.old) }
-    ensures { IsTold text.now (N.end notes.old) (N.end notes.new) result }
-{
-    usage_status(notes.put(text))
-}
-
-/// Tells which part of a list is wrong.
-fn tell_list<N: Out>(wrong: WrongPart<'_>, notes: &mut N) -> u8
-    requires { IsOpen (N.end notes.old) }
-    ensures { IsTold (list_text (wrong.entry.part.now, wrong.entry.fault))
-        (N.end notes.old) (N.end notes.new) result }
-{
-    usage_status(put_wrong_part(notes, wrong))
-}
-
 /// Tells what is wrong with the words, in the words of `clap`.
 fn tell_fault<P: Parser, N: Out>(parser: &mut P, error: &Error, notes: &mut N) -> u8
     requires parser { P.refusals parser.old + 1 < 2 ^ 64 }
@@ -76,46 +43,6 @@ fn tell_fault<P: Parser, N: Out>(parser: &mut P, error: &Error, notes: &mut N) -
     match parser.text_of(error) {
         Ok(text) => tell(text.as_str().as_bytes(), notes),
         Err(_) => MEMORY,
-    }
-}
-
-/// Reports the records of these originators.
-fn report<R: In, W: Out, N: Out>(
-    alloc: Global,
-    list: &str,
-    reader: &mut R,
-    out: W,
-    mut notes: N,
-) -> (u8, W, N)
-    requires reader { Allows (2 ^ 40) (R.end reader.old) }
-    requires out { IsOpen (W.end out) }
-    requires notes { IsOpen (N.end notes) }
-    ensures { OfList Reports list.now (devices (R.end reader.old) (W.end out) (N.end notes))
-        (devices (R.end reader.new) (W.end result.1) (N.end result.2)) result.0 }
-{
-    match read_originators(list.as_bytes()) {
-        Ok(originators) => report_buffered(alloc, originators, reader, out, notes),
-        Err(wrong) => (tell_list(wrong, &mut notes), out, notes),
-    }
-}
-
-/// Migrates the records of these originators.
-fn migrate<R: In, W: Out, N: Out>(
-    alloc: Global,
-    list: &str,
-    reader: &mut R,
-    out: W,
-    mut notes: N,
-) -> (u8, W, N)
-    requires reader { Allows (2 ^ 40) (R.end reader.old) }
-    requires out { IsOpen (W.end out) }
-    requires notes { IsOpen (N.end notes) }
-    ensures { OfList Migrates list.now (devices (R.end reader.old) (W.end out) (N.end notes))
-        (devices (R.end reader.new) (W.end result.1) (N.end result.2)) result.0 }
-{
-    match read_originators(list.as_bytes()) {
-        Ok(originators) => migrate_buffered(alloc, originators, reader, out, notes),
-        Err(wrong) => (tell_list(wrong, &mut notes), out, notes),
     }
 }
 
@@ -139,8 +66,8 @@ fn follow<H: Threads + Wait + Net + Clock + Sync, F: Files, R: In, W: Out, N: Ou
         result.0 }
 {
     match order.subcommand {
-        Subcommand::Report => report(alloc, order.value, reader, out, notes),
-        Subcommand::Migrate => migrate(alloc, order.value, reader, out, notes),
+        Subcommand::Report => report_list(alloc, order.value, reader, out, notes),
+        Subcommand::Migrate => migrate_list(alloc, order.value, reader, out, notes),
         Subcommand::Check => check(alloc, files, order.value, out, notes),
         Subcommand::Simulate => simulate(alloc, files, order.value, reader, out, notes),
         Subcommand::Run => run_file(rt, alloc, files, order.value, reader, out, notes),

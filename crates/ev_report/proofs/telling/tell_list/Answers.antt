@@ -1,6 +1,6 @@
 use Rattle.ev_report.specs.Originators.{list_text}
-use Rattle.evpnd.proofs.Telling.{told_put}
-use Rattle.evpnd.proofs.program.tell_list.Goals as goal
+use Rattle.ev_report.proofs.Told.{told_put}
+use Rattle.ev_report.proofs.telling.tell_list.Goals as goal
 
 pub returns : goal.returns
 returns g c =

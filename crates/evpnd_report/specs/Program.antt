@@ -1,0 +1,29 @@
+-- A run of the program, from its words to its status.
+use Rattle.std.specs.Prelude.{◌≡◌, ℕ, List, [], ◌∷◌, codes, map, string_bytes}
+use Rattle.evpnd_report.specs.declared.program.Line.{Line}
+use Rattle.evpnd_report.specs.declared.program.Line.TheVariants.{Words, NotText, NoMemory}
+use Rattle.ev_report.specs.Originators.{Text}
+use Rattle.ev_report.specs.Ends.{Devices}
+use Rattle.ev_report.specs.Telling.{TellsUsage, OfList}
+use Rattle.ev_report.specs.Runs.{Reports}
+
+-- what is told where the words aren't the program's name and one list
+abbrev pub usage : Text
+usage = codes "usage: evpnd_report LIST\n"
+
+-- what is told where a word isn't UTF-8
+abbrev pub not_text : Text
+not_text = codes "error: a word isn't UTF-8\n"
+
+-- The records are reported with the originators of the list, or it is told what is wrong with the list or with the words.
+abbrev pub ReportsWords : List Text → Devices → Devices → ℕ → Type 0
+ReportsWords [] before after status = TellsUsage usage before after status
+ReportsWords (name ∷ []) before after status = TellsUsage usage before after status
+ReportsWords (name ∷ list ∷ []) before after status = OfList Reports list before after status
+ReportsWords (name ∷ list ∷ word ∷ words) before after status = TellsUsage usage before after status
+
+-- A run, on what the system gives as words.
+abbrev pub ReportsLine : Line → Devices → Devices → ℕ → Type 0
+ReportsLine NoMemory before after status = (after ≡ before) × (status ≡ 3)
+ReportsLine NotText before after status = TellsUsage not_text before after status
+ReportsLine (Words words) before after status = ReportsWords (map string_bytes words.items) before after status

@@ -1,0 +1,35 @@
+//! `evpnd report` alone, as a program that stands on records and tables and nothing else: it is proved
+//! and built in a small part of the time that the whole program takes.
+//!
+//! `evpnd_report LIST < RECORDS`, LIST being the originators with commas.
+#![tactic(auto)]
+
+mod program;
+
+use crate::program::{Line, run};
+use ether_wire::{Reader, Writer};
+use std::io;
+use std::process::ExitCode;
+
+fn main(rt: HostRuntime) -> ExitCode {
+    let line = line_of(&rt);
+    let mut reader = Reader::new(rt.stdin());
+    let (stdout, stderr) = (rt.stdout(), rt.stderr());
+    let out = Writer::new(io::writer(&stdout));
+    let notes = Writer::new(io::writer(&stderr));
+    let (status, _, _) = run(rt.alloc(), &line, &mut reader, out, notes);
+    ExitCode::from(status)
+}
+
+/// What the system gives as words.
+fn line_of(rt: &HostRuntime) -> Line {
+    let words = match std::env::args(rt) {
+        Ok(words) => words,
+        Err(error) if error.kind() == io::ErrorKind::OutOfMemory => return Line::NoMemory,
+        Err(_) => return Line::NotText,
+    };
+    match words.collect::<Vec<String>>(rt.alloc()) {
+        Ok(words) => Line::Words(words),
+        Err(_) => Line::NoMemory,
+    }
+}
