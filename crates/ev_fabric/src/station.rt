@@ -2,7 +2,8 @@
 //! asked of other stations, nor of what else is pending or missing.
 ghost use Rattle.ev_fabric.specs.Fabric.{Fabric as State};
 ghost use Rattle.ev_fabric.specs.Agreed.{AllAgree};
-ghost use Rattle.ev_fabric.specs.Station.{AgreesOnEach, AgreedStation, StationFramesGo, StationMoves, StationArrives, StationLasts, StationReached, StationSettles};
+ghost use Rattle.ev_fabric.specs.Station.{AgreesOnEach, AgreedStation, StationFramesGo, StationMoves};
+ghost use Rattle.ev_fabric.specs.Station.{StationArrives, StationLasts, StationReached, StationSettles};
 
 /// A law, which does nothing: all agree exactly where they agree on each station and on each flood
 /// list.
