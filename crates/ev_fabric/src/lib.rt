@@ -15,8 +15,8 @@ pub use fabric::Fabric;
 pub use later::{adverts_are_anew, rests_run, runs_lead};
 pub use laws::{
     agreed_reports, agreed_tables, announced, every_run, frames_come_out, frames_go,
-    from_port_to_port, learnt, none_ahead, none_back, one_of_all, one_of_two, owner_of_all, said_once, sets_join, starts,
-    tables_join, tunnel_frames_come_out,
+    from_port_to_port, learnt, none_ahead, none_back, one_of_all, one_of_two, owner_of_all,
+    said_once, sets_join, starts, tables_join, tunnel_frames_come_out,
 };
 pub use refusal::Refusal;
 pub use rest::{agrees, bounded, fades, fair, moves, reached, settles};
