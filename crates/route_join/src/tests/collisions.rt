@@ -82,7 +82,7 @@ fn colliding_subjects_are_told_apart(rt: HostRuntime) -> Result<(), Fail> {
         for number in COLLIDING {
             assert_eq!(rt; table.take(&here(number)), Ok(Taken::Known));
             assert_eq!(rt; table.owner(vni(), near(number)), Some(addr(1)));
-            assert_eq!(rt; table.owner(vni(), near(number + 1)), None);
+            assert_eq!(rt; table.owner(vni(), near(number ^ 1)), None);
         }
         assert_eq!(rt; table.updates().count(), 23);
     }
