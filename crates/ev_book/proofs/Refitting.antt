@@ -1,10 +1,11 @@
 -- A pass fits again after its call, and the others still.
-use Rattle.std.proofs.Common.{◌≡◌, ◌≢◌, ℕ, zero, suc, ◌+◌, ◌<◌, Bool, true, false, ◌&&◌, Option, Some, None, Result, List, [], ◌∷◌, length, refl, sym, ap, subst, ◌∙◌, arith}
+use Rattle.std.proofs.Common.{◌≡◌, ◌≢◌, ℕ, zero, suc, ◌+◌, ◌<◌, Bool, true, false, ◌&&◌, ◌||◌, not, Option, Some, None, Result, List, [], ◌∷◌, length, refl, sym, ap, subst, ◌∙◌, arith}
 use Rattle.std.specs.Prelude.{slice_get, slice_set, ◌==◌}
 use Rattle.std.specs.Cmp.{tied_itself}
 use Rattle.std.specs.Ordering.{is_eq}
 use Rattle.std.proofs.lemmas.Bool.{eq-eqb}
 use Rattle.route_wire.specs.Totals.{register_total}
+use Rattle.route_join.proofs.Tables.{not_newer_itself}
 use Rattle.ev_edge.specs.declared.event.Event.{Event}
 use Rattle.ev_edge.specs.declared.reply.Reply.{Reply}
 use Rattle.ev_book.specs.declared.mark.Mark.{Mark}
@@ -20,7 +21,7 @@ both : (x y : Bool) → x ≡ true → y ≡ true → (x && y) ≡ true
 both x y p q = ap (λ b. b && y) p ∙ q
 
 same_itself : (a : Mark) → is_same a a ≡ true
-same_itself a = both _ _ (ap is_eq (tied_itself register_total a.register)) (both _ _ (eq-eqb a.incarnation a.incarnation refl) (eq-eqb a.counter a.counter refl))
+same_itself a = both _ _ (ap is_eq (tied_itself register_total a.register)) (ap (λ newer. not (newer || newer)) (not_newer_itself a.value))
 
 mark_itself : (m : Option Mark) → same_mark m m ≡ true
 mark_itself None = refl

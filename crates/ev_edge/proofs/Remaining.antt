@@ -47,7 +47,7 @@ use Rattle.ev_edge.specs.declared.reply.Reply.{Reply}
 use Rattle.ev_edge.specs.Arrival.{frame_arrival, tunnel_arrival, arrival_on, arrival_at, reserved_arrival, message_in, data_in, is_reserved, holds_bpdu, is_up}
 use Rattle.ev_edge.specs.Bridging.{BridgeGoes, next_second, aged}
 use Rattle.ev_edge.specs.Edge.{Edge, IsGoodEdge, table_of, address_of}
-use Rattle.ev_edge.specs.Learning.{is_spent, move_case, numbered_case, new_case, case_at, case_of, moved, OrNoMemory, Does}
+use Rattle.ev_edge.specs.Learning.{is_spent, move_case, numbered_case, new_case, case_at, case_of, moved, needs_register, needs_memory, OrNoMemory, Does}
 use Rattle.ev_edge.specs.Pinning.{is_static, unpinned_case, pin_case_at, pin_case, refused_pin, DoesPin, after_unpin}
 use Rattle.ev_edge.specs.Steps.{Steps, LearnsIf, FrameSteps, TunnelSteps, Bridges, BridgesAt, Seconds, Takes, TakesOther, TakesOwn, Pins}
 use Rattle.ev_edge.proofs.Keeping.{removals_ports, taken_ports, second_early, aged_ports}
@@ -151,9 +151,9 @@ case_known e s is = go (entry_at e.claims.learned s) refl is
     go (Some x) at q = (subst IsSome (sym at) refl, ap is_pinned at ∙ loose x.pinned q)
     go None at q = absurd (frozen (is_frozen (get e.windows s)) q)
 
-either_good : (e after e' : Edge) (alert told : Option Alert) → IsGoodEdge e → IsGoodEdge after → OrNoMemory e alert after told e' → IsGoodEdge e'
-either_good e after e' alert told h g (inl d) = same_good after e' d.1 g
-either_good e after e' alert told h g (inr d) = same_good e e' d.1 h
+either_good : (needs : Bool) (e after e' : Edge) (alert told : Option Alert) → IsGoodEdge e → IsGoodEdge after → OrNoMemory needs e alert after told e' → IsGoodEdge e'
+either_good needs e after e' alert told h g (inl d) = same_good after e' d.1 g
+either_good needs e after e' alert told h g (inr d) = same_good e e' d.1 h
 
 learnt_good : (e : Edge) (s : Station) (port n : ℕ) → IsGoodEdge e → Keeps (after_advert e.claims s port e.clock n) e.clock → (b : Bool) → IsGoodEdge (record (cond b e (moved e s)) { claims = after_advert e.claims s port e.clock n })
 learnt_good e s port n h k true = good_by _ k h.keeps.ports h.keeps.early
@@ -165,10 +165,10 @@ does_good e s port told e' h behind single Refresh is d =
     let known = case_known e s is in
     claims_good e e' (after_refresh e.claims s port e.clock) h (refresh_keeps e.claims s port e.clock (keeps_of e h) known.0 known.1 behind single) refl d.1
 does_good e s port told e' h behind single (Refuse alert) is d = same_good e e' d.1 h
-does_good e s port told e' h behind single Freeze is d = either_good e (moved e s) e' _ told h (windows_good e _ h) d
+does_good e s port told e' h behind single Freeze is d = same_good (moved e s) e' d.1 (windows_good e _ h)
 does_good e s port told e' h behind single (Learn n) is d =
     let new = case_new e s n is in
-    either_good e _ e' _ told h
+    either_good (needs_memory e s n) e _ e' _ told h
     (learnt_good e s port n h (advert_keeps e.claims s port e.clock n (keeps_of e h) new.none new.room (number_left e.claims new.few) behind single new.next) (eqb n 0)) d
 
 learns_good : (e : Edge) (s : Station) (port : ℕ) (told : Option Alert) (e' : Edge) → IsGoodEdge e → vni_at e.claims.ports port ≡ Some s.vni → (learns group : Bool) → is_group s.mac ≡ group → LearnsIf (learns && not group) e s port told e' → IsGoodEdge e'
@@ -321,7 +321,7 @@ does_pin_good e s port told e' h free Pin is d =
     let fits = pin_fits e s port free in
     let f = pinnable e s port (entry_at e.claims.learned s) refl is in
     let alone = pinned_alone e s port (entry_at e.claims.learned s) is in
-    either_good e (record e { claims = after_pin e.claims s port }) e' _ told h
+    either_good (needs_register e s) e (record e { claims = after_pin e.claims s port }) e' _ told h
     (claims_good e _ (after_pin e.claims s port) h (pin_keeps e.claims s port e.clock (keeps_of e h) f.room (number_left e.claims f.few) fits.0 fits.1 alone) refl refl) d
 
 pins_good : (e : Edge) (s : Station) (port : ℕ) (result : Result Reply Refusal) (e' : Edge) → IsGoodEdge e → (refused : Option EdgeRefusal) → refused_pin e s port ≡ refused → Pins refused e s port result e' → IsGoodEdge e'

@@ -34,7 +34,7 @@ use Rattle.ev_edge.specs.Arrival.{frame_arrival, tunnel_arrival}
 use Rattle.ev_edge.specs.Bridging.{BridgeGoes}
 use Rattle.ev_edge.specs.Config.{settings_of}
 use Rattle.ev_edge.specs.Edge.{Edge, address_of}
-use Rattle.ev_edge.specs.Learning.{Does, OrNoMemory, case_of, moved}
+use Rattle.ev_edge.specs.Learning.{Does, OrNoMemory, case_of, moved, needs_register, needs_memory}
 use Rattle.ev_edge.specs.Opening.{IsOpening}
 use Rattle.ev_edge.specs.Pinning.{DoesPin, pin_case, refused_pin, after_unpin}
 use Rattle.ev_edge.specs.Steps.{Steps, LearnsIf, FrameSteps, TunnelSteps, Bridges, BridgesAt, Seconds, Takes, Pins}
@@ -69,16 +69,16 @@ stays a b is = same_tree a b (ap (λ (x : Edge). x.tree) is)
 bridge_goes : (a b : Edge) (event : tree.Event) (flush : ℕ) (sent : _) → BridgeGoes event a.tree b.tree flush sent → Goes a b
 bridge_goes a b event flush sent goes settings ports h = (event ∷ h.0, (a.tree, _, _, flush, h.1, goes.happens))
 
-either_goes : (a after b : Edge) (alert told : Option Alert) → after.tree ≡ a.tree → OrNoMemory a alert after told b → Goes a b
-either_goes a after b alert told is (inl h) = same_tree a b (ap (λ (x : Edge). x.tree) h.1 ∙ is)
-either_goes a after b alert told is (inr h) = stays a b h.1
+either_goes : (needs : Bool) (a after b : Edge) (alert told : Option Alert) → after.tree ≡ a.tree → OrNoMemory needs a alert after told b → Goes a b
+either_goes needs a after b alert told is (inl h) = same_tree a b (ap (λ (x : Edge). x.tree) h.1 ∙ is)
+either_goes needs a after b alert told is (inr h) = stays a b h.1
 
 does_go : (c : Case) (a : Edge) (s : Station) (port : ℕ) (told : Option Alert) (b : Edge) → Does c a s port told b → Goes a b
 does_go Leave a s port told b h = stays a b h.1
 does_go Refresh a s port told b h = same_tree a b (ap (λ (x : Edge). x.tree) h.1)
 does_go (Refuse alert) a s port told b h = stays a b h.1
-does_go Freeze a s port told b h = either_goes a (moved a s) b _ told refl h
-does_go (Learn n) a s port told b h = either_goes a _ b _ told (elim (n == 0) as (λ x. (cond x a (moved a s)).tree ≡ a.tree) [ true ↦ refl | false ↦ refl ]) h
+does_go Freeze a s port told b h = same_tree a b (ap (λ (x : Edge). x.tree) h.1)
+does_go (Learn n) a s port told b h = either_goes (needs_memory a s n) a _ b _ told (elim (n == 0) as (λ x. (cond x a (moved a s)).tree ≡ a.tree) [ true ↦ refl | false ↦ refl ]) h
 
 learns_go : (x : Bool) (a : Edge) (s : Station) (port : ℕ) (told : Option Alert) (b : Edge) → LearnsIf x a s port told b → Goes a b
 learns_go true a s port told b h = does_go (case_of a s) a s port told b h
@@ -120,7 +120,7 @@ does_pin_go : (c : PinCase) (a : Edge) (s : Station) (port : ℕ) (told : Option
 does_pin_go pins.Keep a s port told b h = stays a b h.1
 does_pin_go pins.Shift a s port told b h = same_tree a b (ap (λ (x : Edge). x.tree) h.1)
 does_pin_go (pins.Deny alert) a s port told b h = stays a b h.1
-does_pin_go pins.Pin a s port told b h = either_goes a _ b _ told refl h
+does_pin_go pins.Pin a s port told b h = either_goes (needs_register a s) a _ b _ told refl h
 
 pins_go : (refused : Option EdgeRefusal) (a : Edge) (s : Station) (port : ℕ) (result : Result Reply edge.Refusal) (b : Edge) → Pins refused a s port result b → Goes a b
 pins_go (Some r) a s port result b h = stays a b h.1
