@@ -26,7 +26,7 @@ import threading
 sys.path.insert(0, os.path.dirname(os.path.realpath(__file__)))
 import edits
 from kit import rt, rtlib
-from sources import bodies
+from sources import bodies, closed
 from tried import tried_tests
 
 # What a check of the largest crate was seen to need, and half as much again. (The kit reckons more, and lets processors idle.)
@@ -109,6 +109,8 @@ def functions_in(folder):
     for file, shape in rtlib.blanked(folder).items():
         path = os.path.relpath(file, folder)
         if path.endswith(".rt") and not re.match(r"src/(.*/)?tests(\.rt|/)", path):
+            inside = re.search(r"#\[cfg\(test\)\]\s*mod \w+\s*\{", shape)
+            shape = shape[: inside.start()] + shape[closed(shape, inside.end() - 1) :] if inside else shape
             found.update(name for name, *_ in bodies(shape))
     return found
 
