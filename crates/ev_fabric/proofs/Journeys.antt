@@ -27,11 +27,13 @@ use Rattle.ev_edge.proofs.Places.{any_is}
 use Rattle.rstp_run.specs.Events.{Passes}
 use Rattle.ev_fabric.specs.Fabric.{Fabric, IsEdge}
 use Rattle.ev_fabric.specs.Sound.{IsSound}
-use Rattle.ev_fabric.specs.Agreed.{AllAgree, Advertises}
+use Rattle.ev_fabric.specs.Agreed.{Advertises}
 use Rattle.ev_fabric.specs.Laws.{IsBehindPort, tunnel_frame_in, IsFrameFor, GoesOut, ComesOut, FromPortToPort}
 use Rattle.ev_fabric.proofs.Places.{contains_at}
 use Rattle.ev_fabric.proofs.Agreements.{learnt}
-use Rattle.ev_fabric.proofs.Sends.{frames_go, tunnel_frames_come_out, tunnel_step}
+use Rattle.ev_fabric.specs.Station.{StationFromPortToPort}
+use Rattle.ev_fabric.proofs.Stations.{agree_on_each}
+use Rattle.ev_fabric.proofs.Sends.{station_frames_go, tunnel_frames_come_out, tunnel_step}
 
 -- what is a frame of a network at a port, is one out of a tunnel
 arrives_inner : (e : Edge) (port : ℕ) (octets : List ℕ) (vni destination source : ℕ) → frame_arrival e port octets ≡ Ok (Data vni destination source) → inner_arrival vni (frame_of octets) ≡ Ok (Data vni destination source)
@@ -77,9 +79,9 @@ arrives_there o from vni destination source octets small listed other served inn
     ∙ ap (λ b. cond b (inner_arrival vni (frame_of octets)) (Err (OfEdge NoSuchVni))) served
     ∙ inner
 
-pub from_port_to_port : FromPortToPort
-from_port_to_port f h agree i j o a b s at_o at_a apart says small event port reply frame steps = (
-  frames_go f h agree i j o a b s at_o at_a apart says event port reply frame steps,
+pub station_from_port_to_port : StationFromPortToPort
+station_from_port_to_port f s h agree i j o a b at_o at_a apart says small event port reply frame steps = (
+  station_frames_go f s h agree i j o a b at_o at_a apart says event port reply frame steps,
   record { entry = x.0; behind = x.1; out = λ arrival result after is step. answers arrival result after is step (subst (λ r. TunnelSteps r o result after) arrives (tunnel_step o arrival result after (address_of a) (datagram_of s.vni frame.octets) is step)) },
 )
   where
@@ -100,3 +102,6 @@ from_port_to_port f h agree i j o a b s at_o at_a apart says small event port re
         let e = tunnel_frames_come_out o after s (h.good i o at_o) says arrival answer (record { from = address_of a; octets = datagram_of s.vni frame.octets; frame = is; source = frame.source; arrives = arrives }) step in
         let same : e.0 ≡ x.0 = (let p = e.1.learnt in let q = x.1.learnt in cc) in
         (answer, refl, subst (λ (y : Entry). GoesOut y.port (Passes o.tree y.port) answer) same e.2)
+
+pub from_port_to_port : FromPortToPort
+from_port_to_port f h agree i j o a b s = station_from_port_to_port f s h ((agree_on_each f agree).stations s) i j o a b

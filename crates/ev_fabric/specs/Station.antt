@@ -1,6 +1,6 @@
 -- One station of a fabric: when all edges agree on it, and what becomes of it when it moves, whatever else is pending,
 -- missing or under way.
-use Rattle.std.specs.Prelude.{◌≡◌, ◌≢◌, ◌⊎◌, ℕ, suc, ◌+◌, ◌≤◌, ◌==◌, ◌&&◌, Bool, true, false, if◌then◌else◌, Option, Some, None, IsSome, is_some, Result, Ok, List, [], ◌∷◌, length, Contains}
+use Rattle.std.specs.Prelude.{◌≡◌, ◌≢◌, ◌⊎◌, ℕ, suc, ◌+◌, ◌^◌, ◌≤◌, ◌<◌, ◌==◌, ◌&&◌, Bool, true, false, if◌then◌else◌, Option, Some, None, IsSome, is_some, Result, Ok, List, [], ◌∷◌, length, Contains}
 use Rattle.std.specs.List.{filter, count_by, sum_by}
 use Rattle.route_wire.specs.declared.update.Ip.{Ip}
 use Rattle.route_wire.specs.declared.update.Key.{Key}
@@ -14,6 +14,7 @@ use Rattle.route_join.specs.Owner.{is_about, advert_in, IsOwner}
 use Rattle.mac_arena.specs.declared.station.Station.{Station}
 use Rattle.mac_arena.specs.declared.station.Entry.{Entry}
 use Rattle.mac_arena.specs.Learning.{entry_at}
+use Rattle.ev_tunnel.specs.Datagram.{datagram_of}
 use Rattle.ev_claims.specs.Voice.{Voice, own, own_advert}
 use Rattle.ev_claims.specs.Claims.{key_of}
 use Rattle.ev_edge.specs.declared.config.EdgeConfig.{EdgeConfig}
@@ -29,7 +30,7 @@ use Rattle.ev_fabric.specs.Fabric.{Fabric, IsEdge, life_of}
 use Rattle.ev_fabric.specs.Steps.{FabricSteps}
 use Rattle.ev_fabric.specs.Sound.{update_of, IsSound}
 use Rattle.ev_fabric.specs.Agreed.{Advertises}
-use Rattle.ev_fabric.specs.Laws.{IsBehindPort, IsFrameFor, GoesTo}
+use Rattle.ev_fabric.specs.Laws.{IsBehindPort, IsFrameFor, GoesTo, ComesOut}
 use Rattle.ev_fabric.specs.RestMove.{IsMoved}
 use Rattle.ev_fabric.specs.Opening.{AreConfigs, IsStart}
 use Rattle.ev_fabric.specs.RestEdge.{comes_back}
@@ -104,6 +105,16 @@ AgreedStation = (f : Fabric) (s : Station) → IsSound f → AgreesOn f s → Is
 abbrev pub StationFramesGo : Type 0
 StationFramesGo = (f : Fabric) (s : Station) → IsSound f → AgreesOn f s → (i j : ℕ) (o a b : Edge) → IsEdge f i o → IsEdge f j a → i ≢ j → Advertises o s
     → (event : Event) (port : ℕ) (reply : Reply) → IsFrameFor a event port s → Steps a event (Ok reply) b → GoesTo (address_of o) reply
+
+-- From port to port, whatever else the fabric does: a frame at a port of edge a, for a station that edge o advertises, is given to
+-- o alone; and the datagram of its network and octets, entered at o, comes out at the station's port. A network's number has
+-- three octets, as each VNI has by its type.
+abbrev pub StationFromPortToPort : Type 0
+StationFromPortToPort =
+    (f : Fabric) (s : Station) → IsSound f → AgreesOn f s → (i j : ℕ) (o a b : Edge) → IsEdge f i o → IsEdge f j a → i ≢ j
+    → Advertises o s → s.vni < 2 ^ 24 → (event : Event) (port : ℕ) (reply : Reply) → (frame : IsFrameFor a event port s)
+    → Steps a event (Ok reply) b
+    → GoesTo (address_of o) reply × ComesOut o (address_of a) (datagram_of s.vni frame.octets) s
 
 -- ---- a move
 

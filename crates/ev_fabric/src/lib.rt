@@ -21,7 +21,7 @@ pub use laws::{
 pub use refusal::Refusal;
 pub use rest::{agrees, bounded, fades, fair, moves, reached, settles};
 pub use station::{
-    agreed_station, agrees_on, station_arrives, station_frames_go, station_lasts, station_moves,
-    station_settles,
+    agreed_station, agrees_on, station_arrives, station_frames_go, station_from_port_to_port,
+    station_lasts, station_moves, station_settles,
 };
 pub use step::{LocalEvent, Step};

@@ -2,7 +2,7 @@
 //! asked of other stations, nor of what else is pending or missing.
 ghost use Rattle.ev_fabric.specs.Fabric.{Fabric as State};
 ghost use Rattle.ev_fabric.specs.Agreed.{AllAgree};
-ghost use Rattle.ev_fabric.specs.Station.{AgreesOnEach, AgreedStation, StationFramesGo, StationMoves};
+ghost use Rattle.ev_fabric.specs.Station.{AgreesOnEach, AgreedStation, StationFramesGo, StationFromPortToPort, StationMoves};
 ghost use Rattle.ev_fabric.specs.Station.{StationArrives, StationLasts, StationReached, StationSettles};
 
 /// A law, which does nothing: all agree exactly where they agree on each station and on each flood
@@ -24,6 +24,13 @@ pub fn agreed_station()
 /// to the advertising edge alone.
 pub fn station_frames_go()
     ensures { StationFramesGo }
+{}
+
+/// A law, which does nothing: the same from end to end. The datagram of the frame's network and
+/// octets, as `wrap` of `ev_tunnel` writes it, entered at the advertising edge as it is, isn't
+/// refused and goes to the port behind which the station is learnt alone, if that passes.
+pub fn station_from_port_to_port()
+    ensures { StationFromPortToPort }
 {}
 
 /// A law, which does nothing: a station on which the edges agree comes to another edge, which
