@@ -78,7 +78,7 @@ class Crate(rt.Crate):
         started = self.out.tell()
         status = self.proof(flags)
         self.out.seek(started)
-        Run.proved[self.name] = {*re.findall(r"^fn (\S+): proved$", self.out.read(), re.M)}
+        Run.proved[self.name] = {*re.findall(r"^fn (\S+): proved\b", self.out.read(), re.M)}
         return status
 
     def proof(self, flags):
