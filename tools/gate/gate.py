@@ -147,7 +147,8 @@ def print_but_count(*words, **named):
     if found:
         Run.counted = int(found[1]), int(found[2])
     else:
-        print(*words, **named)
+        # (the kit's word for a step that went well)
+        print(*(str(it).replace(": its tests are proved", ": its tests passed, unproved") for it in words), **named)
 
 
 def main():
