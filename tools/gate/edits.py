@@ -162,13 +162,13 @@ def tried_together(crate, edits, kept):
 
 
 def try_all(crate, edits, kept):
-    """Tries a crate's edits over what was proved of it. Returns for each whether it was refused, and what to say of it."""
+    """Tries a crate's edits over what was proved of it. Returns for each what the kit calls it, and what to say of it."""
     refused, left = tried_together(crate, edits, kept)
-    tried = {it: (True, f"must-fail {crate.name}/{os.path.basename(it)}: refused, as it must be: {line}") for it, line in refused.items()}
+    tried = {it: (rt.REFUSED, f"must-fail {crate.name}/{os.path.basename(it)}: refused, as it must be: {line}") for it, line in refused.items()}
     for edit in left:
-        well, text = rt.must_fail(crate, edit, ["--jobs", "1"], kept)
+        kind, text = rt.must_fail(crate, edit, ["--jobs", "1"], kept)
         # what was not refused over kept work is tried from nothing, as in the kit
-        tried[edit] = (well, f"{text} (alone)") if well else rt.must_fail(crate, edit, ["--jobs", "1"])
+        tried[edit] = (kind, f"{text} (alone)") if kind in rt.SETTLED else rt.must_fail(crate, edit, ["--jobs", "1"])
     return [tried[it] for it in edits]
 
 
@@ -181,8 +181,9 @@ def main(names):
         with tempfile.TemporaryDirectory(prefix="kept-") as room:
             # an edit's check writes into the kept work, so it gets a copy
             shutil.copytree(f"{crate.folder}/{rtlib.KEPT[1]}", f"{room}/kept")
-            for well, text in try_all(crate, good, f"{room}/kept"):
+            for kind, text in try_all(crate, good, f"{room}/kept"):
                 rt.say(text)
+                well = kind in (rt.REFUSED, rt.AT_LIMIT)
                 passed, failed = passed + well, failed + (not well)
     print(f"{passed} passed, {failed} failed")
     return 1 if failed else 0

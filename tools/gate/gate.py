@@ -3,8 +3,8 @@
 
 usage: tools/gate/gate.py      (at the top of the repository)
 
-`rt ci` proves a crate from nothing three times: alone, with its tests, and in an empty folder before its edits. Here a crate
-is proved once, from nothing, into a folder of this run, which ends with it. Over that folder its must-fail edits are tried,
+`rt ci` proves a crate from nothing three times: alone, with its tests, and before its edits. Here a crate is proved once, from
+nothing, into a folder of this run, which ends with it, and nothing of an earlier run counts. Over that folder its must-fail edits are tried,
 many in one check (edits.py), and its programs are built by both compilers. Its tests are compiled with the kit's checks and
 run, not proved: `rt try` stops at an index out of bounds, an overflow, a failed unwrap, a bad access, and at only some calls
 that break a `requires`. All else is the kit's own code: what it refuses in texts and last lines, the handles, the lanes, the
@@ -86,21 +86,51 @@ class Crate(rt.Crate):
         if not self.is_program:
             shutil.rmtree(os.path.dirname(self.rlib), ignore_errors=True)
             os.makedirs(os.path.dirname(self.rlib))
-            return self.prove(["build", *words, "-o", self.rlib])
-        status, to = self.prove(["check", *words]), f"out/{self.name}"
-        words = [*words, "--toolchain", f"{rt.KIT}/toolchain"]
+            # the crates above load its statements and not its proofs, as under `rt ci`
+            return self.prove(["build", *words, "--statements", "-o", self.rlib])
+        checked, to = f"{Run.folder}/{self.name}.checked", f"out/{self.name}"
+        status = self.prove(["check", *words, "-o", checked])
+        # (the kit builds from what was checked, without these)
+        for flag in ("--logic-built", "--jobs", "--incremental"):
+            at = words.index(flag)
+            words = [*words[:at], *words[at + 2 :]]
+        words = [*words, "--crate-checked", checked, "--toolchain", f"{rt.KIT}/toolchain"]
         return status or self.compile_by("llvm", words, to) or self.compile_by("rattle", words, to)
 
     def has_tests(self):
         return super().has_tests() or os.path.isdir(f"{os.getcwd()}/tests/unproved/{self.name}")
 
 
-def tried_edits(crate, good, flags):
-    """In the place of the kit's must_fail_all."""
+class NothingKept(rt.Kept):
+    """In the place of what earlier runs of `rt ci` kept on this machine: this gate takes nothing from there, and leaves nothing
+    there, since the tests that it calls passed aren't proved."""
+
+    def __init__(self, crates, anew=False):
+        super().__init__(crates, anew=True)
+        self.at = None
+
+    def tell(self):
+        pass
+
+
+def tried_edits(crate, good, given, is_well):
+    """Tries a crate's edits over what its own proof left in the folder of this run."""
     work_for(f"{crate.name}\tedits")
+    if not is_well(given, len(good)):
+        return []
     told = edits.try_all(crate, good, f"{Run.folder}/{crate.name}")
+    # (the kit lets an edit pass that can't be applied or read: here it fails the gate)
+    told = [(rt.UNSURE if kind == rt.BAD else kind, text) for kind, text in told]
     Run.lost += [text for _, text in told if "only names that the edit took away" in text or "only because a proof file" in text]
     return told
+
+
+def add_edits(tasks, crate, good, first, waits, is_well, kept):
+    """In the place of the kit's: one task tries all edits of a crate, once the crate is proved and its tests passed."""
+    key = crate.name, "edits", 0
+    # (an edit's check takes as much memory as the kit says of one over kept work)
+    tasks[key] = [*first, *waits], crate.count(rb"\n") * bool(good), rt.OVER * rt.need(crate), lambda given, jobs: tried_edits(crate, good, given, is_well)
+    return lambda given: given[key], dict
 
 
 def functions_in(folder):
@@ -152,17 +182,17 @@ def print_but_count(*words, **named):
 
 
 def main():
-    guarded, pool = rtlib.guarded, rtlib.ThreadPoolExecutor
+    guarded, pool, needs = rtlib.guarded, rtlib.ThreadPoolExecutor, rt.need
     # the kit starts a crate's checks in threads of their own, which know by this what they work for
     rtlib.ThreadPoolExecutor = lambda number: pool(number, initializer=work_for, initargs=(getattr(Run.on, "label", NOTHING),))
     rt.print = print_but_count
     rtlib.guarded = lambda: noted(guarded())
     rtlib.VERDICT = WithoutWord(rtlib.VERDICT)
-    rt.Crate, rt.must_fail_all, needs = Crate, tried_edits, rt.need
+    rt.Crate, rt.Kept, rt.add_edits = Crate, NothingKept, add_edits
     rt.need = lambda crate: min(needs(crate), MOST_MEMORY)
     with tempfile.TemporaryDirectory(prefix="gate-") as Run.folder:
         open(f"{Run.folder}/ledger", "w").close()
-        status = rt.ci()
+        status = rt.ci(anew=True)
         crates = [] if status == 2 else rtlib.crates_below(os.getcwd())
         lacking = unproved(crates)
         print_costs()

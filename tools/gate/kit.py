@@ -7,7 +7,7 @@ import sys
 
 sys.dont_write_bytecode = True
 # The kit whose rt this was read beside. Before another is named here, read anew what of rt these tools replace.
-KNOWN = "rattle-kit-13b"
+KNOWN = "rattle-kit-13f"
 
 
 def load():
