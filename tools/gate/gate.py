@@ -86,8 +86,7 @@ class Crate(rt.Crate):
         if not self.is_program:
             shutil.rmtree(os.path.dirname(self.rlib), ignore_errors=True)
             os.makedirs(os.path.dirname(self.rlib))
-            # the crates above load its statements and not its proofs, as under `rt ci`
-            return self.prove(["build", *words, "--statements", "-o", self.rlib])
+            return self.prove(["build", *words, "-o", self.rlib])
         checked, to = f"{Run.folder}/{self.name}.checked", f"out/{self.name}"
         status = self.prove(["check", *words, "-o", checked])
         # (the kit builds from what was checked, without these)
