@@ -8,8 +8,8 @@ use Rattle.ev_fabric.specs.Runs.{Runs}
 use Rattle.ev_sites.specs.Sites.{Site, Point, ByEdge, ByTunnel}
 use Rattle.ev_sites.specs.Fabrics.{AreSitesOf, SitesRest}
 
--- After some run from its opening a fabric has edges whose sites are at rest. A frame that comes in at x goes on to y by
--- the edge of x's site, and a frame that comes in there goes on to z through a tunnel.
+-- After some run from its opening a fabric has edges whose sites are at rest. A frame that comes in at x goes on to y
+-- by the edge of x's site, and one that comes in there goes on to z through a tunnel.
 pub record SitesOfAFabric : Type 0 where
   pub configs : List EdgeConfig
   pub opened : Fabric
