@@ -25,3 +25,4 @@ pub mod StationRest
 pub mod StationArrival
 pub mod Goings
 pub mod Journeys
+pub mod Example

@@ -12,3 +12,4 @@ pub mod Rest
 pub mod RestMove
 pub mod Station
 pub mod Later
+pub mod Witnesses

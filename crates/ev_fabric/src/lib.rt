@@ -10,6 +10,7 @@ mod station;
 mod step;
 #[cfg(test)]
 mod tests;
+mod witnesses;
 
 pub use fabric::Fabric;
 pub use later::{adverts_are_anew, rests_run, runs_lead};
@@ -25,3 +26,4 @@ pub use station::{
     station_lasts, station_moves, station_settles,
 };
 pub use step::{LocalEvent, Step};
+pub use witnesses::fabric_opens;

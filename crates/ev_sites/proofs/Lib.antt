@@ -2,3 +2,4 @@ pub mod Back
 pub mod Leaving
 pub mod Through
 pub mod Reaching
+pub mod Example

@@ -1,2 +1,3 @@
 pub mod Sites
 pub mod Fabrics
+pub mod Witnesses

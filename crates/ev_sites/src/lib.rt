@@ -4,8 +4,10 @@
 
 mod fabrics;
 mod laws;
+mod witnesses;
 
 pub use fabrics::{every_run_can_be, no_circle_in_a_fabric};
 pub use laws::{
     never_back_to_its_bridge, no_circle_through_tunnels, one_tunnel_at_most, sites_can_be_at_rest,
 };
+pub use witnesses::fabric_has_sites;

@@ -37,7 +37,7 @@ abbrev pub all_fire : List Firing → Tree → Bool
 all_fire [] s = true
 all_fire (f ∷ earlier) s = all_fire earlier s && guard f.rule (runs earlier s) f.place
 
-run_is : (firings : List Firing) (s : Tree) → all_fire firings s ≡ true → Run firings s (runs firings s)
+pub run_is : (firings : List Firing) (s : Tree) → all_fire firings s ≡ true → Run firings s (runs firings s)
 run_is [] s h = refl
 run_is (f ∷ earlier) s h =
     (runs earlier s, run_is earlier s (left (all_fire earlier s) _ h), (right (all_fire earlier s) _ h, refl))

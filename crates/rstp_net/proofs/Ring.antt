@@ -355,7 +355,7 @@ third_happens : all_happen third_history (start (settings_of 9223374966022471683
 unfolding selected_ports selected_root best_path
 third_happens = refl
 
-off_at_two : (s : Tree) (rules : List Rule) → AreOffAt rules 0 s → AreOffAt rules 1 s → length s.ports ≡ 2 → AreOff rules s
+pub off_at_two : (s : Tree) (rules : List Rule) → AreOffAt rules 0 s → AreOffAt rules 1 s → length s.ports ≡ 2 → AreOff rules s
 off_at_two s rules h k two zero within = h
 off_at_two s rules h k two (suc zero) within = k
 off_at_two s rules h k two (suc (suc p)) within = absurd (omega arith)
@@ -380,7 +380,7 @@ port_at [] p = start_port (settings_of 0) edge_port 1
 port_at (x ∷ xs) zero = x
 port_at (x ∷ xs) (suc p) = port_at xs p
 
-abbrev AreRing : Type 0
+abbrev pub AreRing : Type 0
 AreRing =
     IsRing root_bridge second_bridge third_bridge (port_at root_bridge.ports 0) (port_at root_bridge.ports 1) (port_at second_bridge.ports 0)
     (port_at second_bridge.ports 1) (port_at third_bridge.ports 0) (port_at third_bridge.ports 1)

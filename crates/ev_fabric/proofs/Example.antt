@@ -1,0 +1,218 @@
+-- Two edges of one network as they are opened: the laws' first premise can be met.
+use Rattle.std.proofs.Common.{◌≡◌, ◌≤◌, ◌==◌, ◌&&◌, ◌||◌, ℕ, zero, suc, ◌+◌, true, false, Some, None, List, [], ◌∷◌, refl, sym, ap, subst, ◌∙◌, eqb, arith, lit<, lit≤}
+use Rattle.std.specs.Prelude.{Contains, is_some, is_none, slice_get, slice_index_or, nat_lt}
+use Rattle.std.specs.List.{IsDistinct}
+use Rattle.std.proofs.lemmas.Bool.Decides.{nat_tests}
+use Rattle.std.proofs.lemmas.List.Sorted.{IsPermutation-refl}
+use Rattle.std.specs.FinMap.{empty, get-empty}
+use Rattle.route_wire.specs.declared.update.Key.TheVariants.{Flood}
+use Rattle.route_wire.specs.declared.update.Content.TheVariants.{Advert as Advertised}
+use Rattle.route_wire.specs.Fields.{flood_advert}
+use Rattle.mac_arena.specs.declared.station.Station.{Station}
+use Rattle.mac_arena.specs.declared.station.Entry.{Entry}
+use Rattle.mac_arena.specs.Station.{station_cmp}
+use Rattle.mac_arena.specs.Learning.{Learning, entry_at, nothing_learnt, stations_at, bucket_in}
+use Rattle.mac_arena.specs.ListsName.{ListsName, AreOnce, stands, is_on, ages}
+use Rattle.idx_links.specs.Links.{has}
+use Rattle.rstp_state.specs.declared.start.Settings.{Settings}
+use Rattle.rstp_run.specs.Events.{start}
+use Rattle.ev_claims.specs.Voice.{Voice, after_saying, silent}
+use Rattle.ev_claims.specs.Claims.{Claims}
+use Rattle.ev_claims.specs.Opening as claims
+use Rattle.ev_claims.proofs.Hearing.{silent_voice}
+use Rattle.ev_claims.proofs.Numbers.{said_numbers}
+use Rattle.ev_claims.proofs.Opened.{opened_claims}
+use Rattle.ev_edge.specs.declared.config.PortConfig.{PortConfig}
+use Rattle.ev_edge.specs.declared.config.EdgeConfig.{EdgeConfig}
+use Rattle.ev_edge.specs.Config.{IsConfig, settings_of}
+use Rattle.ev_edge.specs.Edge.{Edge, IsGoodEdge}
+use Rattle.ev_edge.specs.Opening.{IsOpening, start_of}
+use Rattle.ev_edge.proofs.Opened as edge
+use Rattle.ev_fabric.specs.Fabric.{Fabric}
+use Rattle.ev_fabric.specs.Opening.{AreConfigs, IsStart, ListsAll}
+use Rattle.ev_fabric.specs.Witnesses.{FabricOpens}
+use Rattle.ev_fabric.proofs.Opened.{start_sound}
+
+-- ---- what the edges are opened with
+
+-- a port that leads to no bridge
+abbrev pub port_of : PortConfig
+port_of = record { vni = 5001; settings = record { priority = 128; cost = 20000; admin_edge = true; auto_edge = false; point_to_point = true } }
+
+-- The edge of this address has two ports of network 5001, room for one station, and listens to 10.0.0.1 and 10.0.0.2.
+abbrev pub config_of : Settings → ℕ → EdgeConfig
+config_of tree address = record {
+  address = address;
+  incarnation = 0;
+  originators = record { items = 0x0a000001 ∷ 0x0a000002 ∷ [] };
+  vnis = record { items = 5001 ∷ [] };
+  tree = tree;
+  ageing = 300;
+  capacity = 1;
+  buckets = 1;
+  salt = 0;
+  ports = record { items = port_of ∷ port_of ∷ [] };
+}
+
+abbrev addresses : List ℕ
+addresses = 0x0a000001 ∷ 0x0a000002 ∷ []
+
+differ : IsDistinct eqb addresses
+unfolding IsDistinct
+differ = ((refl, tt), (tt, tt))
+
+one_network : IsDistinct eqb (5001 ∷ [])
+unfolding IsDistinct
+one_network = (tt, tt)
+
+served : (v : ℕ) → Contains (5001 ∷ 5001 ∷ []) v → Contains (5001 ∷ []) v
+served v (zero, l, e) = (zero, lit< tt, e)
+served v (suc zero, l, e) = (zero, lit< tt, e)
+served v (suc (suc n), l, e) = absurd (omega (arith, l))
+
+fits : (tree : Settings) (address : ℕ) → 1 ≤ tree.hello → Contains addresses address → IsConfig (config_of tree address)
+fits tree address hello listed = record {
+  originators = record { some = lit< tt; few = lit≤ tt; distinct = differ };
+  listed = listed;
+  distinct = one_network;
+  some_port = lit≤ tt;
+  served = served;
+  some_place = lit≤ tt;
+  places = lit≤ tt;
+  some_bucket = lit≤ tt;
+  buckets = lit≤ tt;
+  hello = hello;
+}
+
+abbrev pub configs_of : Settings → List EdgeConfig
+configs_of tree = config_of tree 0x0a000001 ∷ config_of tree 0x0a000002 ∷ []
+
+-- what holds of two holds of each in their list
+each : (P : EdgeConfig → Type 0) (x y : EdgeConfig) → P x → P y → (c : EdgeConfig) → Contains (x ∷ y ∷ []) c → P c
+each P x y h k c (zero, l, e) = subst P e h
+each P x y h k c (suc zero, l, e) = subst P e k
+each P x y h k c (suc (suc n), l, e) = absurd (omega (arith, l))
+
+pub are_configs : (tree : Settings) → 1 ≤ tree.hello → AreConfigs (configs_of tree)
+are_configs tree hello = record {
+  some = lit< tt;
+  few = lit≤ tt;
+  apart = differ;
+  configs = each IsConfig (config_of tree 0x0a000001) (config_of tree 0x0a000002) (fits tree 0x0a000001 hello (zero, lit< tt, refl)) (fits tree 0x0a000002 hello (suc zero, lit< tt, refl));
+  listed = each (ListsAll addresses) (config_of tree 0x0a000001) (config_of tree 0x0a000002) (λ o h. h) (λ o h. h);
+}
+
+-- ---- the edges
+
+abbrev pub nobody_learnt : Learning
+nobody_learnt = nothing_learnt 1 2 1 0
+
+abbrev pub opened_voice : ℕ → Voice
+opened_voice address = after_saying (silent address 0 addresses) (Flood 5001) (Advertised flood_advert)
+
+abbrev pub opened_claims_of : ℕ → Claims
+opened_claims_of address = record { voice = opened_voice address; learned = nobody_learnt; ports = 5001 ∷ 5001 ∷ []; vnis = 5001 ∷ [] }
+
+abbrev pub edge_of : Settings → ℕ → Edge
+edge_of tree address = record {
+  claims = opened_claims_of address;
+  clock = 0;
+  ageing = 300;
+  tree = start tree (settings_of (port_of ∷ port_of ∷ []));
+  windows = empty;
+}
+
+abbrev pub fabric_of : Settings → Fabric
+fabric_of tree = record { edges = edge_of tree 0x0a000001 ∷ edge_of tree 0x0a000002 ∷ []; configs = configs_of tree; pool = [] }
+
+opens_claims : (tree : Settings) (address : ℕ) → claims.IsOpening (start_of (config_of tree address)) (opened_claims_of address)
+opens_claims tree address = record {
+  vnis = IsPermutation-refl (5001 ∷ []);
+  ascending = λ k d from within. absurd (omega (arith, within));
+  voice = refl;
+  learned = refl;
+  ports = refl;
+}
+
+opens : (tree : Settings) (address : ℕ) → IsOpening (config_of tree address) (edge_of tree address)
+opens tree address = record { claims = opens_claims tree address; clock = refl; ageing = refl; tree = refl; windows = refl }
+
+-- ---- they are good
+
+none : (s : Station) → entry_at nobody_learnt s ≡ None
+none s = get-empty {X = Entry} station_cmp s
+
+no_entry : {A : Type 0} (s : Station) (x : Entry) → entry_at nobody_learnt s ≡ Some x → A
+no_entry s x at = let e : None ≡ Some x = sym (none s) ∙ at in let no : ⊥ = cc in absurd no
+
+no_chain : (b : ℕ) → stations_at nobody_learnt.chains b ≡ []
+no_chain zero = refl
+no_chain (suc b) = refl
+
+no_port : (l : ℕ) → stations_at nobody_learnt.ports l ≡ []
+no_port zero = refl
+no_port (suc zero) = refl
+no_port (suc (suc l)) = refl
+
+no_place : (n : ℕ) (s : Station) → slice_index_or nobody_learnt.places n None ≡ Some s → ⊥
+no_place zero s at = cc
+no_place (suc n) s at = cc
+
+free : (n : ℕ) → has nobody_learnt.free n ≡ (nat_lt n 1 && is_none (slice_index_or nobody_learnt.places n None))
+free zero = refl
+free (suc n) =
+    let other : (0 == suc n) ≡ false = grind (arith, nat_tests) in
+    let past : nat_lt (suc n) 1 ≡ false = grind (arith, nat_tests) in
+    ap (λ b. b || false) other ∙ sym (ap (λ b. b && true) past)
+
+lists_name : ListsName nobody_learnt
+lists_name = record {
+  chains = λ b s. ap (λ xs. stands xs s) (no_chain b) ∙ sym (ap (λ o. is_some o && (bucket_in nobody_learnt s == b)) (none s));
+  chains_once = λ b. subst AreOnce (sym (no_chain b)) tt;
+  ports = λ l s. ap (λ xs. stands xs s) (no_port l) ∙ sym (ap (λ o. is_on o (l + 1)) (none s));
+  ports_once = λ l. subst AreOnce (sym (no_port l)) tt;
+  ageing = λ s. sym (ap ages (none s));
+  ageing_once = tt;
+  rises = tt;
+  pinned_at_zero = λ s x at pinned. no_entry s x at;
+  placed = λ s x at. no_entry s x at;
+  known = λ n s at. absurd (no_place n s at);
+  one_place = λ n m s at_n at_m. absurd (no_place n s at_n);
+  free = free;
+  free_once = (refl, tt);
+}
+
+good : (tree : Settings) (address : ℕ) → Contains addresses address → IsGoodEdge (edge_of tree address)
+good tree address listed = record {
+  claims = record {
+    claims = opened_claims address 0 addresses (5001 ∷ []) (5001 ∷ 5001 ∷ []) 1 1 0 (lit≤ tt) (lit≤ tt) (lit≤ tt);
+    numbers = said_numbers (silent address 0 addresses) (Flood 5001) (Advertised flood_advert) (silent_voice address 0 addresses listed).numbers;
+    lists = lists_name;
+  };
+  keeps = (edge.opened (start_of (config_of tree address)) (opened_claims_of address) tree (settings_of (port_of ∷ port_of ∷ [])) 300 (start tree (settings_of (port_of ∷ port_of ∷ []))) (record { windows = empty; places = [] }) (opens_claims tree address) refl refl served (lit< tt)).keeps;
+}
+
+-- ---- the fabric
+
+pub is_start : (tree : Settings) → IsStart (configs_of tree) (fabric_of tree)
+is_start tree = record {
+  configs = refl;
+  opened = record { count = refl; opened = opened_at; good = good_at };
+  quiet = refl;
+}
+  where
+    opened_at : (i : ℕ) (c : EdgeConfig) (a : Edge) → slice_get (configs_of tree) i ≡ Some c → slice_get (fabric_of tree).edges i ≡ Some a → IsOpening c a
+    opened_at zero c a at_c at_a = let p : config_of tree 0x0a000001 ≡ c = cc in let q : edge_of tree 0x0a000001 ≡ a = cc in subst (λ d. IsOpening d a) p (subst (IsOpening (config_of tree 0x0a000001)) q (opens tree 0x0a000001))
+    opened_at (suc zero) c a at_c at_a = let p : config_of tree 0x0a000002 ≡ c = cc in let q : edge_of tree 0x0a000002 ≡ a = cc in subst (λ d. IsOpening d a) p (subst (IsOpening (config_of tree 0x0a000002)) q (opens tree 0x0a000002))
+    opened_at (suc (suc i)) c a at_c at_a = let e : ⊥ = cc in absurd e
+
+    good_at : (i : ℕ) (a : Edge) → slice_get (fabric_of tree).edges i ≡ Some a → IsGoodEdge a
+    good_at zero a at = let q : edge_of tree 0x0a000001 ≡ a = cc in subst IsGoodEdge q (good tree 0x0a000001 (zero, lit< tt, refl))
+    good_at (suc zero) a at = let q : edge_of tree 0x0a000002 ≡ a = cc in subst IsGoodEdge q (good tree 0x0a000002 (suc zero, lit< tt, refl))
+    good_at (suc (suc i)) a at = let e : ⊥ = cc in absurd e
+
+abbrev usual : Settings
+usual = record { identifier = 0x8000000000000001; hello = 2; max_age = 20; forward_delay = 15; hold = 6 }
+
+pub a_fabric_opens : FabricOpens
+a_fabric_opens = (configs_of usual, fabric_of usual, are_configs usual (lit≤ tt), is_start usual, lit≤ tt, start_sound (configs_of usual) (fabric_of usual) (are_configs usual (lit≤ tt)) (is_start usual))
