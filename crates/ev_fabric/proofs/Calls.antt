@@ -1,11 +1,14 @@
 -- The calls of a fabric: what each part of them says is a step of the fabric, and keeps it sound.
-use Rattle.std.proofs.Common.{◌≡◌, inl, inr, ℕ, zero, suc, ◌-◌, ◌<◌, ◌≤◌, Some, None, Result, Ok, Err, List, refl, sym, ap, subst, arith}
+use Rattle.std.proofs.Common.{◌≡◌, inl, inr, ℕ, zero, suc, ◌-◌, ◌<◌, ◌≤◌, true, Option, Some, None, is_some, Result, Ok, Err, List, [], ◌∷◌, refl, sym, ap, subst, ◌∙◌, arith}
+use Rattle.std.specs.Prelude.{IsSome, slice_get}
 use Rattle.std.specs.Option.{MatchOption}
 use Rattle.route_wire.specs.Fields.{Fields}
 use Rattle.ev_edge.specs.declared.config.EdgeConfig.{EdgeConfig}
 use Rattle.ev_edge.specs.declared.reply.Reply.{Reply}
 use Rattle.ev_edge.specs.declared.refusal.Refusal as edge
 use Rattle.ev_edge.specs.declared.event.Event.TheVariants as events
+use Rattle.route_wire.specs.declared.update.Register.{Register}
+use Rattle.ev_claims.specs.Voice.{Voice, announced, announced_of}
 use Rattle.ev_edge.specs.Edge.{Edge, IsGoodEdge}
 use Rattle.ev_edge.specs.Opening.{IsOpening}
 use Rattle.ev_edge.specs.Steps.{Steps, nothing}
@@ -54,9 +57,6 @@ no_update f e k a h there none = refuses f (Deliver e k) NoSuchUpdate h
     (at_none (IsRefused NoSuchUpdate f (Err NoSuchUpdate) f) (λ w. StepsAt f e a (events.Take w) (Err NoSuchUpdate) f) none (refl, refl)))
 
 -- ---- an announcement
-pub no_room : (f : Fabric) (e : ℕ) (a : Edge) → IsSound f → nth f.edges e ≡ Some a → Does f f (Announce e) (Err NoMemory)
-no_room f e a h there = refuses f (Announce e) NoMemory h (at_some (IsRefused NoSuchEdge f (Err NoMemory) f) (λ b. AnnouncesAt f e b (Err NoMemory) f) a there (refl, refl))
-
 answered : (reply : Reply) (answer : Result Reply edge.Refusal) → Ok reply ≡ of_edge answer → answer ≡ Ok reply
 answered reply (Ok r) is = let same : reply ≡ r = cc in ap (λ (x : Reply). Ok x) (sym same)
 answered reply (Err r) is = absurd cc
@@ -67,6 +67,23 @@ announce_does f ys grown e reply h s pool = record { steps = steps; sound = step
     steps : FabricSteps f (Announce e) (Ok reply) (fabric_of ys f.configs grown)
     steps = at_some (IsRefused NoSuchEdge f (Ok reply) (fabric_of ys f.configs grown)) (λ a. AnnouncesAt f e a (Ok reply) (fabric_of ys f.configs grown)) s.before s.there
         (s.after, subst (λ r. Steps s.before events.Announce r s.after) (answered reply s.answer s.result_is) s.steps, (λ i. fabric_of (s.new_is i) f.configs (pool i)))
+
+first_announced : (v : Voice) (rs : List Register) → IsSome (announced_of v rs) → is_some (slice_get rs 0) ≡ true
+first_announced v [] some = some
+first_announced v (r ∷ rs) some = refl
+
+-- what is announced was waiting
+pub announced_waits : (ys zs : List Edge) (e : ℕ) (a : Edge) (reply : Reply) → nth ys e ≡ Some a → OneSteps ys e events.Announce (Ok reply) zs → IsSome reply.announced
+    → is_some (slice_get a.claims.voice.pending 0) ≡ true
+announced_waits ys zs e a reply there s some =
+    let steps = subst (λ r. Steps s.before events.Announce r s.after) (answered reply s.answer s.result_is) s.steps in
+    let both : Some s.before ≡ Some a = sym s.there ∙ there in
+    let same : s.before ≡ a = cc in
+    let is = told steps.0 ∙ ap (λ (x : Edge). announced x.claims.voice) same in
+    first_announced a.claims.voice a.claims.voice.pending (subst IsSome is some)
+  where
+    told : {o : Option Fields} → ◌≡◌ {A = Result Reply edge.Refusal} (Ok reply) (Ok (record nothing { announced = o })) → reply.announced ≡ o
+    told e = let same = ap (λ (x : Result Reply edge.Refusal). elim x as (λ _. Option Fields) [ Ok r ↦ r.announced | Err r ↦ None ]) e in same
 
 -- ---- a restart
 pub not_higher : (f : Fabric) (e n : ℕ) (a : Edge) → IsSound f → nth f.edges e ≡ Some a → n ≤ life_of a → Does f f (Restart e n) (Err NoHigher)

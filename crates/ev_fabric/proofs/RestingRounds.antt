@@ -248,7 +248,7 @@ announce_one old new i n result granted h few c at_c = go (slice_get old.edges i
         let c_is : h.0 ≡ c = cc in
         let pend : c.claims.voice.pending ≡ drop 1 a.claims.voice.pending = ap (λ (e : Edge). e.claims.voice.pending) (sym c_is ∙ h.1.1) in
         subst (λ l. length l ≤ n) (sym pend) (dropped_one a.claims.voice.pending n (few a is))
-    at a is (Err why) granted h = absurd (granted.0 h.0)
+    at a is (Err why) granted h = absurd (granted.0 h.0.0)
 
     go : (o : Option Edge) → slice_get old.edges i ≡ o → MatchOption o (IsRefused NoSuchEdge old result new) (λ a. AnnouncesAt old (suc i) a result new) → length c.claims.voice.pending ≤ n
     go None is h = absurd (let at' : slice_get old.edges i ≡ Some c = subst (λ (f : Fabric). slice_get f.edges i ≡ Some c) h.1 at_c in let bad : None ≡ Some c = sym is ∙ at' in cc)

@@ -1,5 +1,5 @@
 -- One step of a fabric: of the named edge, and of no other.
-use Rattle.std.specs.Prelude.{◌≡◌, ◌⊎◌, ℕ, ◌-◌, ◌<◌, ◌≤◌, Option, Some, None, Result, Ok, Err, List, [], ◌∷◌, ◌++◌, slice_set}
+use Rattle.std.specs.Prelude.{◌≡◌, ◌≢◌, ◌⊎◌, ℕ, ◌-◌, ◌<◌, ◌≤◌, Option, Some, None, Result, Ok, Err, List, [], ◌∷◌, ◌++◌, slice_set}
 use Rattle.std.specs.Option.{MatchOption}
 use Rattle.route_wire.specs.Fields.{Fields}
 use Rattle.ev_edge.specs.declared.config.EdgeConfig.{EdgeConfig}
@@ -53,12 +53,12 @@ pub record StepsAt (old : Fabric) (e : ℕ) (a : Edge) (event : Event) (result :
   pub result_is : result ≡ of_edge answer
   pub new_is : new ≡ with_edge old e after
 
--- The edge a at place e announces, and what it announces is put at the pool's end. Where there is no memory for that,
--- it is still pending.
+-- The edge a at place e announces, and what it announces is put at the pool's end. Where something is pending, and there is
+-- no memory for that, it is still pending.
 abbrev pub AnnouncesAt : Fabric → ℕ → Edge → Result Reply Refusal → Fabric → Type 0
 AnnouncesAt old e a (Ok reply) new =
     (b : Edge) × Steps a events.Announce (Ok reply) b × (new ≡ record (with_edge old e b) { pool = with_announced old.pool reply.announced })
-AnnouncesAt old e a (Err why) new = (why ≡ NoMemory) × (new ≡ old)
+AnnouncesAt old e a (Err why) new = ((why ≡ NoMemory) × (a.claims.voice.pending ≢ [])) × (new ≡ old)
 
 -- what an edge is opened with in the life n
 abbrev pub in_life : EdgeConfig → ℕ → EdgeConfig

@@ -1,4 +1,4 @@
-ghost use Rattle.std.specs.Prelude.{◌≡◌, ◌<◌, ◌≤◌, IfOk, IsSome, length, vec_len, vec_capacity};
+ghost use Rattle.std.specs.Prelude.{◌≡◌, ◌<◌, ◌≤◌, true, IfOk, IsSome, OnOk, OnErr, length, vec_len, vec_capacity};
 ghost use Rattle.ev_edge.specs.Steps.{nothing};
 ghost use Rattle.ev_fabric.specs.declared.step.Step.TheVariants.{Local, Announce, Deliver, Restart};
 ghost use Rattle.ev_fabric.specs.Fabric.{nth};
@@ -97,9 +97,22 @@ fn step_edge(edges: &mut Vec<Edge>, e: usize, event: &Event<'_>) -> Result<Reply
     }
 }
 
+// Sees to it that the pool has room for one more, where that is wanted.
+fn make_room(pool: &mut Vec<Update>, is_wanted: bool) -> Result<(), AllocError>
+    ensures items { pool.new.items ≡ pool.old.items }
+    ensures room { OnOk result
+        (is_wanted ≡ true → vec_len pool.new < vec_capacity pool.new) }
+    ensures err { OnErr result (is_wanted ≡ true) }
+{
+    if is_wanted {
+        pool.reserve(1)?;
+    }
+    Ok(())
+}
+
 // Puts an announced update at the pool's end, if there is one.
 fn put(pool: &mut Vec<Update>, announced: &Option<Update>)
-    requires { vec_len pool.old < vec_capacity pool.old }
+    requires { IsSome announced.now → vec_len pool.old < vec_capacity pool.old }
     ensures { pool.new.items ≡ with_announced pool.old.items announced.now }
 {
     if let Some(update) = announced {
@@ -131,8 +144,9 @@ impl Fabric {
     /// # Errors
     ///
     /// `NoSuchEdge`, `NoSuchUpdate` and `NoHigher` exactly where their conditions hold, in this
-    /// order. `NoMemory` where memory is refused: then an announcement is still pending, and at a
-    /// restart the old edge stays. `Edge` where the edge refuses the event. Nothing changed then.
+    /// order. `NoMemory` where memory is refused: then an announcement is still pending (where none
+    /// was there is no such answer), and at a restart the old edge stays. `Edge` where the edge
+    /// refuses the event. Nothing changed then.
     pub fn step(&mut self, step: &Step<'_>) -> Result<Reply, Refusal>
         ensures { FabricSteps self.old step.now result self.new }
     {
@@ -184,14 +198,15 @@ impl Fabric {
         step_edge(&mut self.edges, e, &event_of(event))
     }
 
-    // An edge announces: the pool has room first.
+    // An edge announces. Where it has something to announce, the pool has room first.
     fn announce(&mut self, e: usize) -> Result<Reply, Refusal>
         ensures { FabricSteps self.old (Announce e) result self.new }
     {
         if e == 0 || e > self.edges.len() {
             return Err(Refusal::NoSuchEdge);
         }
-        if self.pool.reserve(1).is_err() {
+        let is_wanted = self.edges[e - 1].has_pending();
+        if make_room(&mut self.pool, is_wanted).is_err() {
             return Err(Refusal::NoMemory);
         }
         let reply = step_edge(&mut self.edges, e, &Event::Announce)?;
