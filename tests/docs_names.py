@@ -1,7 +1,11 @@
-"""Finds what the documents name and the repository doesn't have. `docs_names.sh` says what for.
+"""Finds what the documents name and the repository doesn't have, and what is too long. `docs_names.sh` says what for.
 
 A name is a word in `backticks`, outside of blocks, that is written as code writes it: with an underscore, in CamelCase, as a
 path with `::`, as a call `name(`, or as a file. A word counts as there if the sources have it outside of comments.
+
+A sentence has 30 words at most and a cell of a table 25; a span in `backticks` is one word, a link its text. README has fewer
+than 900. LONG has how many are longer still, document by document: no count may rise, and where one has fallen a note says so.
+`--long` shows them.
 """
 
 import os
@@ -19,6 +23,11 @@ LINK = re.compile(r"\[[^]\n]*\]\(([^)\s]+)\)")
 BRACES = re.compile(r"\{([^{}]*)\}")
 CAMEL = re.compile(r"[A-Z][a-z0-9]+([A-Z][a-z0-9]*)*$")
 PATH = re.compile(r"[\w.*/-]+$")
+SHOWN = re.compile(r"!?\[([^]\n]*)\]\([^)\n]*\)")
+END = re.compile(r"(?<=[^\s.])[.!?][\"')*_]*(?=\s|$)")
+ITEM = re.compile(r"^\s*([-*>]|\d+\.)\s+")
+MOST_WORDS = {"sentence": 30, "cell": 25}
+README_WORDS = 900
 
 # Names of others: of Rust's and the kit's libraries, of tools, of formats, of the standards.
 OTHERS = set(
@@ -28,6 +37,20 @@ OTHERS = set(
     RemoteVtep MAC_ADDRESS VNI LIST ORIGINATOR COUNTER SEQUENCE CRATE NAME PROGRAM VIEW FILE
     """.split()
 )
+
+
+LONG = {
+    "docs/DECISIONS.md": 22, "docs/benchmarks.md": 36, "docs/benchmarks_history.md": 4, "docs/crates/bpdu_wire.md": 4,
+    "docs/crates/ether_wire.md": 10, "docs/crates/ev_book.md": 15, "docs/crates/ev_claims.md": 9,
+    "docs/crates/ev_config.md": 3, "docs/crates/ev_edge.md": 14, "docs/crates/ev_fabric.md": 22,
+    "docs/crates/ev_mobility.md": 1, "docs/crates/ev_peers.md": 14, "docs/crates/ev_report.md": 14,
+    "docs/crates/ev_run.md": 3, "docs/crates/ev_script.md": 3, "docs/crates/ev_sites.md": 7, "docs/crates/ev_tunnel.md": 2,
+    "docs/crates/ev_words.md": 4, "docs/crates/evpnd.md": 12, "docs/crates/evpnd_report.md": 1, "docs/crates/idx_links.md": 9,
+    "docs/crates/mac_arena.md": 11, "docs/crates/route_join.md": 28, "docs/crates/route_wire.md": 6,
+    "docs/crates/rstp_net.md": 6, "docs/crates/rstp_roles.md": 1, "docs/crates/rstp_run.md": 9,
+    "docs/crates/rstp_state.md": 6, "docs/crates/vxlan_wire.md": 1, "docs/records.md": 2, "docs/script.md": 1,
+    "docs/spanning_tree_rules.md": 5, "docs/theorems.md": 83,
+}
 
 
 def files_of_git() -> List[str]:
@@ -58,7 +81,7 @@ def texts(path: str) -> Iterator[Tuple[int, str]]:
     in_block = False
     with open(path, encoding="utf-8") as stream:
         for number, line in enumerate(stream, 1):
-            if line.startswith(("```", "~~~")):
+            if line.lstrip().startswith(("```", "~~~")):
                 in_block = not in_block
             elif not in_block and not line.startswith("    "):
                 yield number, line
@@ -125,13 +148,61 @@ def faults_of(path: str, files: List[str], words: Set[str]) -> Tuple[int, List[s
     return looked, faults
 
 
+def paragraphs(path: str) -> Iterator[Tuple[int, str, str]]:
+    """A document's paragraphs, items and cells of tables with their first lines: 'sentence' or 'cell', and the text."""
+    start, joined = 0, ""
+    for number, line in [*texts(path), (0, "")]:
+        text = SHOWN.sub(r"\1", SPAN.sub("code", line)).strip()
+        if joined and (text == "" or text.startswith(("#", "|")) or ITEM.match(line)):
+            yield start, "sentence", joined
+            joined = ""
+        if text.startswith("|"):
+            for cell in text.strip("|").split("|"):
+                yield number, "cell", cell.strip()
+        elif text and not text.startswith("#"):
+            start = start if joined else number
+            joined = f"{joined} {ITEM.sub('', text, count=1)}".strip()
+
+
+def too_long(path: str) -> List[str]:
+    """The sentences and cells of a document that have too many words."""
+    found = []
+    for number, kind, text in paragraphs(path):
+        parts = END.sub(lambda end: end[0] + "\n", text).split("\n") if kind == "sentence" else [text]
+        for part in parts:
+            count = sum(1 for word in part.split() if re.search(r"\w", word))
+            if count > MOST_WORDS[kind]:
+                found.append(f"{path}:{number}: a {kind} of {count} words: {part.strip()}")
+    return found
+
+
+def length_faults(path: str) -> List[str]:
+    """What is too long in a document beyond what LONG allows."""
+    found, allowed = too_long(path), LONG.get(path, 0)
+    faults = []
+    if len(found) > allowed:
+        faults = [*found, f"{path}: {len(found)} are too long, where {allowed} may be"]
+    if len(found) < allowed:
+        print(f"note: {path}: {len(found)} are too long, fewer than the {allowed} in LONG: enter the new count there")
+    if path == "README.md":
+        with open(path, encoding="utf-8") as stream:
+            count = len(stream.read().split())
+        if count >= README_WORDS:
+            faults.append(f"{path}: {count} words, where fewer than {README_WORDS} are meant")
+    return faults
+
+
 def main() -> int:
     """Looks through all documents."""
     files = files_of_git()
     words = words_of_code(files)
     passed, failed, looked = 0, 0, 0
     for path in [name for name in files if name.endswith(".md")]:
+        if "--long" in sys.argv[1:]:
+            print(*too_long(path), sep="\n")
+            continue
         count, faults = faults_of(path, files, words)
+        faults += length_faults(path)
         print(*faults, sep="\n", end="\n" if faults else "")
         looked += count
         passed += not faults

@@ -137,7 +137,7 @@ def run_report(program: str, updates: List[Update]) -> str:
     if done.returncode != 0 or done.stderr:
         note = done.stderr.decode("utf-8", "replace").split("\n")[0]
         raise Unreadable(f"{program} report gave status {done.returncode}: {note}")
-    return done.stdout.decode("ascii")
+    return done.stdout.decode("utf-8", "replace")
 
 
 def parts_of(stations: Dict[Station, List[Update]]) -> Iterator[List[Update]]:

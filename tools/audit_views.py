@@ -6,7 +6,7 @@ import shlex
 import shutil
 import subprocess
 import tempfile
-from typing import Callable, Dict, List, NamedTuple, Optional, Set, TextIO
+from typing import Callable, Dict, List, NamedTuple, Optional, Set, TextIO, Tuple
 
 import audit_frr
 import audit_kernel
@@ -30,9 +30,13 @@ STATION_KEY = bytes(4 + 3 + 6)  # an originator, a VNI and a MAC: how a snapshot
 
 
 class Texts(NamedTuple):
-    """What one router printed: the two that may be large are opened when they are read, the others are whole."""
+    """What one router printed: the two that may be large are opened when they are read, the others are whole.
+
+    `places` has each text's file, or the command that printed it: what can't be read is told by that name.
+    """
 
     name: str
+    places: Dict[str, str]
     routes: Optional[Callable[[], TextIO]]
     best: Optional[Callable[[], TextIO]]
     whole: Dict[str, str]
@@ -72,17 +76,19 @@ def texts_of_directory(path: str) -> Texts:
     if not os.path.isdir(path):
         raise Unreadable(f"{path}: no such directory")
 
+    places = {name: os.path.join(path, f"{name}.json") for name in ("routes", "best", *SHOWN, *KERNEL)}
+
     def opened(name: str) -> Optional[Callable[[], TextIO]]:
-        place = os.path.join(path, f"{name}.json")
+        place = places[name]
         return (lambda: records.open_text(place)) if os.path.exists(place) else None
 
     if opened("routes") is None:
-        raise Unreadable(f"{path}/routes.json: no such file (vtysh -c '{ROUTES}')")
+        raise Unreadable(f"{places['routes']}: no such file (vtysh -c '{ROUTES}')")
     texts = {name: opened(name) for name in (*SHOWN, *KERNEL)}
-    read = {name: whole(text(), f"{path}/{name}.json") for name, text in texts.items() if text is not None}
+    read = {name: whole(text(), places[name]) for name, text in texts.items() if text is not None}
     if "macs" not in read and "fdb" not in read:
         raise Unreadable(f"{path}: neither macs.json nor fdb.json is there, so there is nothing to compare with")
-    return Texts(path, opened("routes"), opened("best"), read)
+    return Texts(path, places, opened("routes"), opened("best"), read)
 
 
 def output_of(words: List[str]) -> TextIO:
@@ -93,11 +99,8 @@ def output_of(words: List[str]) -> TextIO:
         done = subprocess.run(words, stdout=out, stderr=subprocess.PIPE, check=False)
     except OSError as fault:
         raise Unreadable(f"the command {words[0]} can't be run: {fault.strerror}") from None
-    out.seek(0)
     errors = done.stderr.decode("utf-8", "replace").strip()
-    start = out.read(4096) if done.returncode != 0 else out.read(300)
-    out.seek(0)
-    said = f"{errors}\n{start.strip()}"
+    said = f"{errors}\n{start_of(out, 4096 if done.returncode != 0 else 300)}"
     if "is not running" in said:
         raise Unreadable(f"{command}: {next(line for line in said.splitlines() if 'is not running' in line).strip()}")
     if "failed to connect to any daemons" in said:
@@ -109,28 +112,37 @@ def output_of(words: List[str]) -> TextIO:
     return out
 
 
-def best_of_host(shell: List[str]) -> TextIO:
-    """bgpd's tables of all VNIs, by the command that this version has."""
+def start_of(out: TextIO, octets: int) -> str:
+    """How an output begins, even where it is no text; it is read from its start afterwards."""
+    out.seek(0)
+    start = out.buffer.read(octets).decode("utf-8", "replace").strip()
+    out.seek(0)
+    return start
+
+
+def best_of_host(shell: List[str]) -> Tuple[List[str], TextIO]:
+    """The command that this version has for bgpd's tables of all VNIs, and what it prints."""
+    older = [*shell, BEST_BEFORE]
     try:
         out = output_of([*shell, BEST])
     except Unreadable as fault:
         if "Unknown command" not in str(fault):
             raise
-        return output_of([*shell, BEST_BEFORE])
-    if out.read(40).startswith("% Unknown"):
-        return output_of([*shell, BEST_BEFORE])
-    out.seek(0)
-    return out
+        return older, output_of(older)
+    return (older, output_of(older)) if start_of(out, 40).startswith("% Unknown") else ([*shell, BEST], out)
 
 
 def texts_of_host(vtysh: str) -> Texts:
     """The texts that this host prints: each command is run once, for all VNIs, one right behind the other."""
     shell = [*shlex.split(vtysh), "-c"]
     routes = output_of([*shell, ROUTES])
-    best = best_of_host(shell)
-    streams = {name: output_of([*shell, command]) for name, command in SHOWN.items()}
-    streams.update({name: output_of(words) for name, words in KERNEL.items()})
-    return Texts("this host", lambda: routes, lambda: best, {name: whole(text, name) for name, text in streams.items()})
+    best_words, best = best_of_host(shell)
+    words = {**{name: [*shell, command] for name, command in SHOWN.items()}, **KERNEL}
+    streams = {name: output_of(command) for name, command in words.items()}
+    words.update(routes=[*shell, ROUTES], best=best_words)
+    places = {name: shlex.join(command) for name, command in words.items()}
+    read = {name: whole(text, places[name]) for name, text in streams.items()}
+    return Texts("this host", places, lambda: routes, lambda: best, read)
 
 
 def save(texts: Texts, folder: str) -> None:
@@ -158,19 +170,19 @@ def view_of(texts: Texts, arguments: argparse.Namespace) -> View:
     networks = networks_of(texts)
     devices = {vni: network.device for vni, network in networks.items()}
     if "vnis" in texts.whole:
-        devices.update(audit_frr.read_vnis(texts.whole["vnis"], f"{texts.name}: vnis"))
+        devices.update(audit_frr.read_vnis(texts.whole["vnis"], texts.places["vnis"]))
     vnis = arguments.vni or sorted(devices)
     if not vnis:
         why = "zebra knows no VNI" if devices or "vnis" in texts.whole else "name the VNI by --vni"
         raise Unreadable(f"{texts.name}: {why}, so there is nothing to audit")
     with texts.routes() as stream:
-        snapshot = frr_routes.snapshot_of(routes_of(vnis, arguments), stream, f"{texts.name}: routes")
+        snapshot = frr_routes.snapshot_of(routes_of(vnis, arguments), stream, texts.places["routes"])
     best = zebra = None
     if texts.best is not None:
         with texts.best() as stream:
-            best = audit_frr.read_best(stream, f"{texts.name}: best", routes_of(vnis, arguments))
+            best = audit_frr.read_best(stream, texts.places["best"], routes_of(vnis, arguments))
     if "macs" in texts.whole:
-        zebra = audit_frr.read_macs(texts.whole["macs"], f"{texts.name}: macs", vnis)
+        zebra = audit_frr.read_macs(texts.whole["macs"], texts.places["macs"], vnis)
     own = snapshot.own | (best.own if best else set())
     own |= {records.read_address(each.address) for each in networks.values() if each.address.count(".") == 3}
     heard = {key[: len(STATION_KEY)] for key in snapshot.registers}
@@ -183,10 +195,11 @@ def networks_of(texts: Texts) -> Dict[int, Network]:
     """The kernel's networks, where the links are there."""
     if "links" not in texts.whole:
         return {}
-    name = f"{texts.name}: links"
-    parts = ("links", "vlans", "tunnels")
-    links, vlans, tunnels = (audit_kernel.read_list(texts.whole.get(each, ""), name, shlex.join(KERNEL[each])) for each in parts)
-    return audit_kernel.networks_of(links, vlans, tunnels, name)
+    links, vlans, tunnels = (
+        audit_kernel.read_list(texts.whole.get(each, ""), texts.places[each], shlex.join(KERNEL[each]))
+        for each in ("links", "vlans", "tunnels")
+    )
+    return audit_kernel.networks_of(links, vlans, tunnels, texts.places["links"])
 
 
 def kernels_of(
@@ -195,11 +208,11 @@ def kernels_of(
     """What the kernel does with each VNI; a VNI of which that can't be said is a fault of its own."""
     if "fdb" not in texts.whole:
         return {}
-    name = f"{texts.name}: fdb"
+    name = texts.places["fdb"]
     entries = audit_kernel.read_list(texts.whole["fdb"], name, "bridge -j fdb show")
     neighbours = None
     if "neigh" in texts.whole:
-        neighbours = audit_kernel.read_list(texts.whole["neigh"], f"{texts.name}: neigh", "ip -j neigh show")
+        neighbours = audit_kernel.read_list(texts.whole["neigh"], texts.places["neigh"], "ip -j neigh show")
     tables = audit_kernel.Tables(entries, neighbours, name)
     found = {}
     for vni in vnis:

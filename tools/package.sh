@@ -3,8 +3,9 @@
 #
 #     tools/package.sh FOLDER [--evpnd PROGRAM] [--log FILE]
 #
-# FOLDER gets evpnd_VERSION_ARCHITECTURE.deb. PROGRAM is the proved build, crates/evpnd/out/evpnd if none is named; FILE is what
-# `rt check` printed when it was proved, which goes into the package (without it the package says that its log isn't there).
+# FOLDER gets evpnd_VERSION_ARCHITECTURE.deb; the version is the first of CHANGELOG.md, with the day and the commit behind it.
+# PROGRAM is the proved build, crates/evpnd/out/evpnd if none is named; FILE is what `rt check` printed when it was proved,
+# which goes into the package (without it the package says that its log isn't there).
 # In the package: /usr/bin/evpnd, evpnd-audit and evpnd-records, the tools (/usr/share/evpnd), man pages made of the help,
 # the docs, the examples of monitoring, and the SHA-256 sums of the program and of the sources that it was built from.
 # tests/outside/package.sh tries it in a folder with nothing but Debian.
@@ -31,7 +32,9 @@ commit=$(git -C "$top" rev-parse --short=10 HEAD)
 day=$(git -C "$top" log -1 --format=%cd --date=format:%Y%m%d)
 SOURCE_DATE_EPOCH=$(git -C "$top" log -1 --format=%ct)
 export SOURCE_DATE_EPOCH
-version=0.$day.g$commit
+numbered=$(sed -n 's/^## \([0-9][0-9.]*\).*/\1/p' "$top/CHANGELOG.md" | head -n 1)
+[ -n "$numbered" ] || { echo "package: CHANGELOG.md: no version stands there" >&2; exit 2; }
+version=$numbered+$day.g$commit
 architecture=$(dpkg --print-architecture)
 work=$(mktemp -d)
 trap 'rm -rf "$work"' EXIT
@@ -52,7 +55,7 @@ for name in audit records; do
 done
 
 # ---- docs, examples, the proof's log, sums
-install -m 644 "$top/README.md" "$top"/docs/*.md "$doc/"
+install -m 644 "$top/README.md" "$top/CHANGELOG.md" "$top/NOTICE" "$top"/docs/*.md "$doc/"
 install -m 644 "$top"/docs/crates/*.md "$doc/crates/"
 cp -r "$top/examples" "$doc/examples"
 find "$doc/examples" -type f -exec chmod 644 {} +

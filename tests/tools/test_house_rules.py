@@ -1,0 +1,95 @@
+"""Our own rules of CONTRIBUTING.md that a reader of texts can see: heads of files, comments of public items, lengths of lines.
+
+What doesn't keep a rule yet is named or counted here. A count may not rise, and one that falls is to be entered.
+"""
+
+import os
+import re
+import subprocess
+import unittest
+from typing import Dict, Iterator, List, Tuple
+
+TOP = os.path.dirname(os.path.dirname(os.path.dirname(os.path.abspath(__file__))))
+PUBLIC = re.compile(r"\s*pub (?:const fn|fn|struct|enum|trait|type|const|static)\b")
+RT_WIDTH, ANTT_WIDTH, SUBJECT_WIDTH = 100, 120, 72
+SUBJECTS_SINCE = "42c388f"  # subjects are looked at behind this commit, of 24 November 2026
+
+WITHOUT_HEAD = {
+    "crates/ev_edge/src/edge.rt", "crates/ev_fabric/src/fabric.rt", "crates/ev_mobility/src/tests.rt",
+    "crates/ev_mobility/src/tests/alert.rt", "crates/ev_mobility/src/tests/moves.rt", "crates/ev_mobility/src/tests/seq.rt",
+}
+LONG_RT = {  # lines that could be broken; bpdu_wire's is the row of a table, ev_words' are texts of the program
+    "crates/bpdu_wire/src/reading.rt": 1, "crates/ev_report/src/telling.rt": 2, "crates/ev_words/src/words.rt": 5,
+    "crates/evpnd_report/src/main.rt": 1, "crates/evpnd_report/src/program.rt": 1,
+}
+LONG_ANTT = 5863
+
+
+def files(ending: str, part: str = "") -> List[str]:
+    """The files of the crates with an ending, of git and new ones."""
+    words = ["git", "ls-files", "-z", "--cached", "--others", "--exclude-standard", "crates"]
+    names = subprocess.run(words, cwd=TOP, capture_output=True, check=True).stdout.decode().split("\0")
+    return sorted(name for name in names if name.endswith(ending) and part in name and os.path.exists(os.path.join(TOP, name)))
+
+
+def lines_of(name: str) -> List[str]:
+    """A file's lines."""
+    with open(os.path.join(TOP, name), encoding="utf-8") as stream:
+        return stream.read().split("\n")
+
+
+def bare_items(lines: List[str]) -> Iterator[Tuple[int, str]]:
+    """The public items that no `///` stands above; attributes and plain comments may stand between."""
+    is_told = False
+    for number, line in enumerate(lines, 1):
+        text = line.strip()
+        if PUBLIC.match(line) and not is_told:
+            yield number, text
+        is_told = text.startswith("///") or is_told and text.startswith(("#[", "//", ")]", '"'))
+
+
+def can_be_broken(line: str) -> bool:
+    """Whether a long line of .rt could be shorter: `ghost use`, attributes and literals of a line can't be broken."""
+    text = line.strip()
+    return not text.startswith(("ghost use ", "pub ghost use ", "#[")) and '"' not in text
+
+
+class Rules(unittest.TestCase):
+    """Each rule."""
+
+    def test_heads_of_files(self):
+        without = {name for name in files(".rt", "/src/") if not lines_of(name)[0].startswith("//!")}
+        self.assertEqual(without, WITHOUT_HEAD)
+
+    def test_public_items_are_told(self):
+        bare = [f"{name}:{number}: {item}" for name in files(".rt", "/src/") for number, item in bare_items(lines_of(name))]
+        self.assertEqual(bare, [])
+
+    def test_what_is_bare(self):
+        """The rule's own reading."""
+        lines = ["/// Told.", "#[inline]", "// why", "pub fn one()", "", "pub struct Two;", "    /// Told.", "    pub const THREE: u8 = 3;", "pub use four;"]
+        self.assertEqual(list(bare_items(lines)), [(6, "pub struct Two;")])
+
+    def test_lines_of_rt(self):
+        long: Dict[str, int] = {}
+        for name in files(".rt"):
+            count = sum(len(line) > RT_WIDTH and can_be_broken(line) for line in lines_of(name))
+            if count:
+                long[name] = count
+        self.assertEqual(long, LONG_RT)
+
+    def test_lines_of_antt(self):
+        """Their number may not rise; where it has fallen, enter the new one."""
+        self.assertLessEqual(sum(len(line) > ANTT_WIDTH for name in files(".antt") for line in lines_of(name)), LONG_ANTT)
+
+    def test_subjects_of_commits(self):
+        words = ["git", "log", "--no-merges", "--format=%h %s", f"{SUBJECTS_SINCE}..HEAD"]
+        done = subprocess.run(words, cwd=TOP, capture_output=True, encoding="utf-8", check=False)
+        if done.returncode != 0:  # a copy without that commit: the newest alone
+            done = subprocess.run([*words[:-1], "-1"], cwd=TOP, capture_output=True, encoding="utf-8", check=True)
+        subjects = [line.split(" ", 1)[1] for line in done.stdout.splitlines()]
+        self.assertEqual([subject for subject in subjects if len(subject) > SUBJECT_WIDTH], [])
+
+
+if __name__ == "__main__":
+    unittest.main()
