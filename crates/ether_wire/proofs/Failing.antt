@@ -1,6 +1,5 @@
 -- An end's calls, seen with failures of another one beside its own.
-use Rattle.std.proofs.Common.{◌≡◌, ℕ, ◌+◌, ◌-◌, ◌^◌, ◌<◌, List, Result, Ok, Err, refl, ap, arith}
-use Rattle.std.specs.Prelude.{min}
+use Rattle.std.proofs.Common.{◌≡◌, ℕ, ◌+◌, ◌^◌, ◌<◌, List, Result, Ok, Err, refl, ap, arith}
 use Rattle.ether_wire.specs.declared.ends.Device.{Device}
 use Rattle.ether_wire.specs.Ends.{End, Source, IsOpen, Allows, Puts, Gets}
 use Rattle.ether_wire.specs.FailAt.{failures_of, writer_beside, reader_beside}

@@ -65,6 +65,23 @@ impl<W: Out> Buffered<W> {
         self.held.clear();
         result
     }
+
+    #[tactic(auto, using(crate::proofs::Appending::with_text_twice, crate::proofs::Appending::with_text_none))]
+    /// Passes on what it holds, and then holds the octets, or passes on these too where they are
+    /// more than it holds at most.
+    // Apart from `put`, so that the calls that only hold a few octets more are made in place.
+    #[inline(never)]
+    fn put_anew(&mut self, octets: &[u8]) -> Result<(), Device>
+        requires { IsOpen (W.end self.old.inner) }
+        ensures { Puts (buffered_end W.end self.old) (buffered_end W.end self.new)
+            octets.now result }
+    {
+        self.pass_on()?;
+        match self.held.try_extend_from_slice(octets) {
+            Ok(()) => Ok(()),
+            Err(_) => self.inner.put(octets),
+        }
+    }
 }
 
 impl<W: Out> Out for Buffered<W> {
@@ -77,15 +94,12 @@ impl<W: Out> Out for Buffered<W> {
     }
 
     #[tactic(auto, using(crate::proofs::Appending::with_text_twice, crate::proofs::Appending::with_text_none))]
+    #[inline(always)]
     fn put(&mut self, octets: &[u8]) -> Result<(), Device> {
         if self.held.try_extend_from_slice(octets).is_ok() {
             return Ok(());
         }
-        self.pass_on()?;
-        match self.held.try_extend_from_slice(octets) {
-            Ok(()) => Ok(()),
-            Err(_) => self.inner.put(octets),
-        }
+        self.put_anew(octets)
     }
 
     #[tactic(auto, using(crate::proofs::Appending::with_text_none))]

@@ -37,6 +37,11 @@ within r q same =
     let last = ordering_then (nat_cmp r.originator q.originator) (ip_cmp (ip_of r.key) (ip_of q.key)) in
     by_subject r q ∙ ap (λ o. ordering_then o last) (ap (subject_cmp (subject_of r.key)) (sym same) ∙ tied_itself subject_total (subject_of r.key))
 
+pub behind_lower : (r q : Register) → subject_of r.key ≡ subject_of q.key → q.originator < r.originator → register_cmp r q ≡ Greater
+behind_lower r q same lower =
+    within r q same
+    ∙ ap (λ o. ordering_then o (ip_cmp (ip_of r.key) (ip_of q.key))) (sym (nat_cmp_is r.originator q.originator Greater lower))
+
 -- ---- updates in the order of their registers
 next_by : (n m : ℕ) → nat_cmp n m ≡ nat_cmp (suc n) (suc m)
 next_by n m = nat_cmp_is (suc n) (suc m) (nat_cmp n m) (go (nat_cmp n m) (ranked n m (nat_cmp n m) refl))

@@ -22,12 +22,16 @@ fn cmp_ips(one: Option<Ip>, other: Option<Ip>) -> Ordering
     }
 }
 
-/// The order of two registers of one subject. Mostly their originators tell it.
-#[tactic(auto, using(crate::proofs::Within::within))]
+/// The order of two registers of one subject. Mostly their originators tell it, and in a walk that
+/// seeks the first register most are of lower ones: so these are told first.
+#[tactic(auto, using(crate::proofs::Within::within, crate::proofs::Within::behind_lower))]
 fn cmp_within(one: &Register, other: &Register) -> Ordering
     requires { subject_of one.now.key ≡ subject_of other.now.key }
     ensures { result ≡ register_cmp one.now other.now }
 {
+    if other.originator.number() < one.originator.number() {
+        return Ordering::Greater;
+    }
     match one.originator.cmp(&other.originator) {
         Ordering::Equal => cmp_ips(one.key.ip(), other.key.ip()),
         order => order,

@@ -8,14 +8,8 @@ ghost use Rattle.route_join.specs.Lines.{register_lines};
 ghost use Rattle.route_join.specs.Report.{spaced, counter_text, flood_state, mac_state, label2_words, station_text, origin_text, mac_words, flood_line, mac_line, register_line, owner_name, owner_line};
 
 use crate::updates::UpdatesOf;
-use ether_wire::{
-    Addr, Device, Mac, Out, Page, Vni, put_addr, put_decimal, put_hex_group, put_mac,
-};
+use ether_wire::{Addr, Device, Mac, Out, Vni, put_addr, put_decimal, put_hex_group, put_mac};
 use route_wire::{Addr6, Advert, Content, Ip, Key, Register, Update, Value};
-
-/// Room for a line: the longest one has 158 octets. A line that had no room would be
-/// written part by part.
-const LINE: usize = 160;
 
 /// Writes four groups of four hexadecimal digits with colons.
 #[tactic(auto, using(ether_wire::proofs::Appending::with_text_twice), unfolding(route_wire::specs::Text::groups_text))]
@@ -214,8 +208,8 @@ fn put_mac_line<O: Out>(
     out.put(b"\n")
 }
 
-/// Writes the line of a register, part by part.
-fn put_register_line<O: Out>(out: &mut O, update: &Update) -> Result<(), Device>
+/// Writes the line of a register.
+pub(crate) fn put_update<O: Out>(out: &mut O, update: &Update) -> Result<(), Device>
     requires { IsOpen (O.end out.old) }
     ensures { Puts (O.end out.old) (O.end out.new)
         (register_line update.now.register update.now.value) result }
@@ -225,19 +219,6 @@ fn put_register_line<O: Out>(out: &mut O, update: &Update) -> Result<(), Device>
     match key {
         Key::Flood(vni) => put_flood_line(out, vni, originator, &value),
         Key::Mac(vni, mac, ip) => put_mac_line(out, vni, mac, ip, originator, &value),
-    }
-}
-
-/// Writes the line of a register, in one call of the writer.
-pub(crate) fn put_update<O: Out>(out: &mut O, update: &Update) -> Result<(), Device>
-    requires { IsOpen (O.end out.old) }
-    ensures { Puts (O.end out.old) (O.end out.new)
-        (register_line update.now.register update.now.value) result }
-{
-    let mut line = Page::<LINE>::new();
-    match put_register_line(&mut line, update) {
-        Ok(()) => out.put(line.octets()),
-        Err(_) => put_register_line(out, update),
     }
 }
 
@@ -252,25 +233,8 @@ fn put_owner_name<O: Out>(out: &mut O, owner: Option<Addr>) -> Result<(), Device
     }
 }
 
-/// Writes the line of the owner of a MAC address, part by part.
+/// Writes the line of the owner of a MAC address.
 #[tactic(auto, using(ether_wire::proofs::Appending::with_text_twice))]
-fn put_owner_line<O: Out>(
-    out: &mut O,
-    vni: Vni,
-    mac: Mac,
-    owner: &Option<Addr>,
-) -> Result<(), Device>
-    requires { IsOpen (O.end out.old) }
-    ensures { Puts (O.end out.old) (O.end out.new) (owner_line vni mac owner.now) result }
-{
-    out.put(b"owner ")?;
-    put_station(out, vni, mac)?;
-    out.put(b" ")?;
-    put_owner_name(out, *owner)?;
-    out.put(b"\n")
-}
-
-/// Writes the line of the owner of a MAC address, in one call of the writer.
 pub(crate) fn put_owner<O: Out>(
     out: &mut O,
     vni: Vni,
@@ -280,11 +244,11 @@ pub(crate) fn put_owner<O: Out>(
     requires { IsOpen (O.end out.old) }
     ensures { Puts (O.end out.old) (O.end out.new) (owner_line vni mac owner) result }
 {
-    let mut line = Page::<LINE>::new();
-    match put_owner_line(&mut line, vni, mac, &owner) {
-        Ok(()) => out.put(line.octets()),
-        Err(_) => put_owner_line(out, vni, mac, &owner),
-    }
+    out.put(b"owner ")?;
+    put_station(out, vni, mac)?;
+    out.put(b" ")?;
+    put_owner_name(out, owner)?;
+    out.put(b"\n")
 }
 
 /// Writes the lines of updates, one after the other.

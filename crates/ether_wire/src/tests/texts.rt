@@ -133,3 +133,40 @@ fn text_is_parted_at_the_first_such_octet(rt: HostRuntime) {
     assert!(rt; parts(b',', b",", b"", b""));
     assert!(rt; parted(b',', b"10.0.0.1").is_none());
 }
+
+/// Whether a number is put so.
+fn is_put(number: u64, text: &[u8]) -> bool {
+    let mut page: Page<64> = Page::new();
+    put_decimal(&mut page, number).is_ok() && page.octets() == text
+}
+
+// Pairs at each bound where the number of digits, or the way of writing them, changes.
+#[test]
+fn decimals_are_put_without_leading_zeros(rt: HostRuntime) {
+    assert!(rt; is_put(0, b"0"));
+    assert!(rt; is_put(9, b"9") && is_put(10, b"10"));
+    assert!(rt; is_put(99, b"99") && is_put(100, b"100"));
+    assert!(rt; is_put(999, b"999") && is_put(1_000, b"1000"));
+    assert!(rt; is_put(9_999, b"9999") && is_put(10_000, b"10000"));
+    assert!(rt; is_put(10_005, b"10005") && is_put(120_034, b"120034"));
+    assert!(rt; is_put(99_999_999, b"99999999") && is_put(100_000_000, b"100000000"));
+    assert!(rt; is_put(100_000_001, b"100000001"));
+}
+
+#[test]
+fn octets_of_addresses_are_put_without_leading_zeros(rt: HostRuntime) {
+    let mut page: Page<64> = Page::new();
+    assert!(rt; put_addr(&mut page, Addr::new(0x0063_6409)).is_ok());
+    assert_eq!(rt; page.octets(), b"0.99.100.9".as_slice());
+    let mut page: Page<64> = Page::new();
+    assert!(rt; put_addr(&mut page, Addr::new(0xff0a_0063)).is_ok());
+    assert_eq!(rt; page.octets(), b"255.10.0.99".as_slice());
+}
+
+#[test]
+fn each_hexadecimal_digit_is_put(rt: HostRuntime) {
+    let mut page: Page<64> = Page::new();
+    assert!(rt; put_mac(&mut page, Mac::new(0x0123_4567_89ab)).is_ok());
+    assert!(rt; put_hex_group(&mut page, 0xcdef).is_ok());
+    assert_eq!(rt; page.octets(), b"01:23:45:67:89:abcdef".as_slice());
+}

@@ -1,4 +1,4 @@
-use Rattle.std.proofs.Common.{◌≡◌, false, Some, [], ◌∷◌, cond, ap, sym, subst, ◌∙◌}
+use Rattle.std.proofs.Common.{◌≡◌, false, Some, cond, ap, sym, subst, ◌∙◌}
 use Rattle.std.specs.BTreeMap.{insert_entry}
 use Rattle.route_join.specs.declared.subject.Subject.{Subject}
 use Rattle.route_join.specs.Subject.{subject_cmp, subject_eq}

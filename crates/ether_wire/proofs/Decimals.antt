@@ -1,0 +1,35 @@
+-- Decimal texts of few digits, and the last four digits of longer ones.
+use Rattle.std.proofs.Common.{◌≡◌, ℕ, ◌+◌, ◌/◌, ◌%◌, ◌<◌, ◌≤◌, ◌^◌, [], ◌∷◌, ◌++◌, ap, ◌∙◌, arith}
+use Rattle.std.specs.Fmt.{decimal}
+use Rattle.std.proofs.lemmas.Fmt.{decimal_digit, decimal_step}
+use Rattle.itoa.proofs.Decimal.{decimal_four}
+use Rattle.ether_wire.specs.Decimals.{four_digits}
+
+-- digits of parts are those of the whole
+same_digits : (m n : ℕ) → m ≡ n → (48 + m) ∷ [] ≡ (48 + n) ∷ []
+same_digits m n e = ap (λ k. (48 + k) ∷ []) e
+
+pub one_digit : (n : ℕ) → n < 10 → decimal n ≡ (48 + n % 10) ∷ []
+one_digit n small = decimal_digit n small ∙ same_digits n (n % 10) (omega arith)
+
+pub two_digits : (n : ℕ) → 10 ≤ n → n < 100 → decimal n ≡ (48 + n / 10 % 10) ∷ (48 + n % 10) ∷ []
+two_digits n least small = rw (decimal_step n least (omega arith), one_digit (n / 10) (omega arith))
+
+pub three_digits : (n : ℕ) → 100 ≤ n → n < 1000 → decimal n ≡ (48 + n / 100 % 10) ∷ (48 + n / 10 % 10) ∷ (48 + n % 10) ∷ []
+three_digits n least small =
+    let e : n / 10 / 10 ≡ n / 100 = omega arith in
+    rw (decimal_step n (omega arith) (omega arith), two_digits (n / 10) (omega arith) (omega arith), e)
+
+pub as_four_digits : (n : ℕ) → 1000 ≤ n → n < 10000 → decimal n ≡ four_digits n
+as_four_digits n least small =
+    let a : n / 10 / 10 ≡ n / 100 = omega arith in
+    let b : n / 10 / 100 ≡ n / 1000 = omega arith in
+    rw (decimal_step n (omega arith) (omega arith), three_digits (n / 10) (omega arith) (omega arith), a, b)
+
+-- a longer number: its digits but for the last four, and these
+pub four_last : (n : ℕ) → 10000 ≤ n → n < 2 ^ 64 → decimal n ≡ decimal (n / 10000) ++ four_digits (n % 10000)
+four_last n least small =
+    let a : n % 10000 / 100 / 10 ≡ n % 10000 / 1000 % 10 = omega arith in
+    let c : n % 10000 % 100 / 10 ≡ n % 10000 / 10 % 10 = omega arith in
+    let d : n % 10000 % 100 % 10 ≡ n % 10000 % 10 = omega arith in
+    rw (decimal_four n least small, a, c, d)
