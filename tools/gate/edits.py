@@ -30,7 +30,8 @@ LOST = re.compile(r"has no field|is not in scope|has no `|was not admitted")
 
 
 class Edit:
-    """An edit of bodies: its file, and of each function that it changes the path of its source and the end of its name."""
+    """An edit of bodies, and perhaps of what is written of their proofs: its file, and of each function that it changes the
+    path of its source and the end of its name."""
 
     def __init__(self, path, functions):
         self.path, self.functions = path, functions
@@ -57,8 +58,15 @@ def name_of(path, name, before):
     return f"{types[-1]}::{name}" if is_method and types else "::".join([*module, name])
 
 
+def is_proof_of(path, functions):
+    """Whether this is a file of the proof of one of these functions."""
+    folder = os.path.dirname(path)
+    return path.startswith("proofs/") and any(folder.endswith("/" + name.replace("::", "/")) for _, name in functions)
+
+
 def applied(edit, folder, texts):
-    """Applies an edit of bodies over the texts so far. Returns the new texts and the edit, or None if it is no such edit."""
+    """Applies an edit of bodies over the texts so far. Behind a body it may change the proof of that function, too. Returns the
+    new texts and the edit, or None if it is no such edit."""
     texts, functions, path, old = dict(texts), set(), None, None
     with open(edit, encoding="utf-8") as it:
         lines = it.read().split("\n")
@@ -70,15 +78,18 @@ def applied(edit, folder, texts):
         elif word == "old":
             old = rest
         elif word == "new":
-            if not path or not old or not path.startswith("src/"):
+            if not path or not old or not (path.startswith("src/") or is_proof_of(path, functions)):
                 return None
             if path not in texts:
                 with open(f"{folder}/{path}", encoding="utf-8") as it:
                     texts[path] = it.read()
-            found = function_at(path, texts[path], old) if texts[path].count(old) == 1 else None
-            if not found:
+            if texts[path].count(old) != 1:
                 return None
-            functions.add((path, found))
+            if path.startswith("src/"):
+                found = function_at(path, texts[path], old)
+                if not found:
+                    return None
+                functions.add((path, found))
             texts[path] = texts[path].replace(old, rest)
             old = None
     return (texts, Edit(edit, functions)) if functions else None

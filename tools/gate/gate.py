@@ -86,15 +86,10 @@ class Crate(rt.Crate):
         if not self.is_program:
             shutil.rmtree(os.path.dirname(self.rlib), ignore_errors=True)
             os.makedirs(os.path.dirname(self.rlib))
-            # the crates above load its statements and not its proofs, as under `rt ci`
-            return self.prove(["build", *words, "--statements", "-o", self.rlib])
-        checked, to = f"{Run.folder}/{self.name}.checked", f"out/{self.name}"
-        status = self.prove(["check", *words, "-o", checked])
-        # (the kit builds from what was checked, without these)
-        for flag in ("--logic-built", "--jobs", "--incremental"):
-            at = words.index(flag)
-            words = [*words[:at], *words[at + 2 :]]
-        words = [*words, "--crate-checked", checked, "--toolchain", f"{rt.KIT}/toolchain"]
+            return self.prove(["build", *words, "-o", self.rlib])
+        status, to = self.prove(["check", *words]), f"out/{self.name}"
+        # (each compiler's build checks once more, over what this check has kept)
+        words = [*words, "--toolchain", f"{rt.KIT}/toolchain"]
         return status or self.compile_by("llvm", words, to) or self.compile_by("rattle", words, to)
 
     def has_tests(self):

@@ -1,6 +1,6 @@
 //! What an edge says and has learnt, and each change of it: a station is advertised
 //! exactly while it is learnt.
-ghost use Rattle.std.specs.Prelude.{◌≡◌, ◌≢◌, ◌⊎◌, ◌+◌, ◌<◌, ◌≤◌, ◌^◌, ◌↔◌, ℕ, [], true, false, IfOk, IfSome, IfNone, IsSome, length, slice_get, IsOk, OnOk, OnErr, Err, Some, None, Contains};
+ghost use Rattle.std.specs.Prelude.{◌≡◌, ◌≢◌, ◌⊎◌, ◌+◌, ◌<◌, ◌≤◌, ◌^◌, ◌↔◌, ℕ, [], true, false, IfOk, IfSome, IfNone, IsSome, is_some, length, slice_get, IsOk, OnOk, OnErr, Err, Some, None, Contains};
 ghost use Rattle.ether_wire.specs.Names.{is_group};
 ghost use Rattle.route_join.specs.Table.{AreOriginators, value_at, is_listed};
 ghost use Rattle.route_join.specs.Taken.{taken_of};
@@ -357,6 +357,13 @@ impl Claims {
             self.flush_port(port);
             after = port;
         }
+    }
+
+    /// Whether an own register waits to be announced.
+    pub fn has_pending(&self) -> bool
+        ensures { result ≡ is_some (slice_get self.now.voice.pending 0) }
+    {
+        self.voice.has_pending()
     }
 
     /// The present update of the own register that waits longest to be announced; it waits no more.

@@ -1,5 +1,5 @@
 //! What an edge says itself: its own registers, their numbers, and what is still to be announced.
-ghost use Rattle.std.specs.Prelude.{◌≡◌, ◌≢◌, ◌⊎◌, ◌+◌, ◌<◌, ◌^◌, ◌↔◌, [], IfOk, IfSome, IfNone, IsSome, IsOk, IsErr, true, false, OnOk, OnErr, Ok, Err, None, Contains, nat_le, length};
+ghost use Rattle.std.specs.Prelude.{◌≡◌, ◌≢◌, ◌⊎◌, ◌+◌, ◌<◌, ◌^◌, ◌↔◌, [], IfOk, IfSome, IfNone, IsSome, IsOk, IsErr, true, false, OnOk, OnErr, Ok, Err, None, Contains, nat_le, length, is_some, slice_get};
 ghost use Rattle.route_join.specs.Table.{AreOriginators, value_at, is_listed};
 ghost use Rattle.route_wire.specs.Fields.{is_individual, FitsKey, flood_advert};
 ghost use Rattle.route_join.specs.Owner.{owner};
@@ -307,6 +307,13 @@ impl Voice {
             Ok(()) => Ok(Taken::Newer),
             Err(_) => Err(OwnError::NoMemory),
         }
+    }
+
+    /// Whether a register waits to be announced.
+    pub fn has_pending(&self) -> bool
+        ensures { result ≡ is_some (slice_get self.now.pending 0) }
+    {
+        self.pending.first().is_some()
     }
 
     /// The present update of the register that waits longest, which waits no more.

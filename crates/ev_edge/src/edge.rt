@@ -1,4 +1,4 @@
-ghost use Rattle.std.specs.Prelude.{◌≡◌, IfOk, IfSome, IfNone};
+ghost use Rattle.std.specs.Prelude.{◌≡◌, IfOk, IfSome, IfNone, is_some, slice_get};
 ghost use Rattle.ether_wire.specs.Ends.{IsOpen, Puts};
 ghost use Rattle.route_join.specs.Report.{report_of};
 ghost use Rattle.ev_claims.specs.Voice.{IsOwnAt, IsNoOwnAt};
@@ -196,5 +196,12 @@ impl Edge {
         ensures none { IfNone result (IsNoOwnAt self.now.claims.voice counter) }
     {
         self.claims.own_at(counter)
+    }
+
+    /// Whether an own register waits to be announced.
+    pub fn has_pending(&self) -> bool
+        ensures { result ≡ is_some (slice_get self.now.claims.voice.pending 0) }
+    {
+        self.claims.has_pending()
     }
 }

@@ -1,5 +1,5 @@
 //! Families of lists over the same nodes: a place for each node in each family.
-ghost use Rattle.std.specs.Prelude.{◌≡◌, ℕ, ◌+◌, ◌<◌, ◌∷◌, ◌++◌, [], length, map, replicate, slice_get, slice_set, slice_index_or, IfOk, IfSome, IfNone, Some, true, OnOk, OnErr};
+ghost use Rattle.std.specs.Prelude.{◌≡◌, ℕ, ◌+◌, ◌<◌, ◌∷◌, ◌++◌, [], length, map, replicate, slice_get, slice_set, slice_index_or, IfOk, IfSome, IfNone, IsOk, Some, true, OnOk, OnErr};
 ghost use Rattle.idx_links.specs.Links.{has, without, Apart, list_at, IsFree, IsLinked};
 ghost use Rattle.idx_links.specs.Families.{Families, lists_of, families_of, AreNodes, IsFamily, AreStarts};
 
@@ -55,11 +55,16 @@ impl<const K: usize> Family<K> {
     }
 
     /// Adds nodes, which are on no list. Where memory is refused, or the lists and the nodes of all
-    /// families are too many for numbers of 32 bits, all stays as it was.
+    /// families are too many for numbers of 32 bits, all stays as it was. To add none is never
+    /// refused.
     pub fn grow(&mut self, more: usize) -> Result<(), AllocError>
+        ensures none { more ≡ 0 → IsOk result }
         ensures ok { OnOk result (self.new ≡ record self.old { nodes = self.old.nodes + more }) }
         ensures err { OnErr result (self.new ≡ self.old) }
     {
+        if more == 0 {
+            return Ok(());
+        }
         let Some(nodes) = self.nodes.checked_add(more) else {
             return Err(AllocError)
         };
