@@ -270,7 +270,7 @@ def while_moving(edge: Edge, tally: Tally, audits: int, again: str) -> None:
     mover = threading.Thread(target=keep_moving, args=(edge, macs, ended))
     mover.start()
     try:
-        once = sum(audited(edge, "--brief")[0] != 0 for _ in range(6))
+        once = sum(audited(edge)[0] != 0 for _ in range(6))
         alarms = 0
         for turn in range(audits):
             status, text = audited(edge, "--brief", "--again", again)
