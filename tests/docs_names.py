@@ -48,7 +48,7 @@ LONG = {
     "docs/crates/ev_words.md": 3, "docs/crates/evpnd.md": 9, "docs/crates/evpnd_report.md": 1, "docs/crates/idx_links.md": 4,
     "docs/crates/mac_arena.md": 10, "docs/crates/route_join.md": 28, "docs/crates/route_wire.md": 1,
     "docs/crates/rstp_net.md": 2, "docs/crates/rstp_run.md": 6, "docs/crates/rstp_state.md": 4,
-    "docs/crates/vxlan_wire.md": 1, "docs/spanning_tree_rules.md": 5, "docs/theorems.md": 83,
+    "docs/crates/vxlan_wire.md": 1, "docs/spanning_tree_rules.md": 5, "docs/theorems.md": 82,
 }
 
 
