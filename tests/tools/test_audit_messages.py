@@ -39,10 +39,10 @@ runpy.run_path(sys.argv[0], run_name="__main__")
 """
 
 
-def written(folder: str, name: str, content, is_program: bool = False) -> str:
-    """A file of a folder: text or octets."""
+def written(folder: str, name: str, content, is_program: bool = False, mode: str = "w") -> str:
+    """A file of a folder: text or octets, in the place of what is there or behind it."""
     path = os.path.join(folder, name)
-    with open(path, "wb") as out:
+    with open(path, mode + "b") as out:
         out.write(content if isinstance(content, bytes) else content.encode())
     os.chmod(path, 0o755 if is_program else 0o644)
     return path

@@ -1,10 +1,11 @@
 #!/usr/bin/env python3
 """Leaves with access ports and real frames, beside FRR of one or several versions. As root, with iproute2:
 
-    leaves.py [--keep FOLDER] [--tools FOLDER] [--moves AUDITS] [ROOT ..]
+    leaves.py [--keep FOLDER] [--tools FOLDER [--no-empty]] [--moves AUDITS] [ROOT ..]
 
 A ROOT is a folder with a Debian that has frr (debootstrap, then apt-get install frr in it by chroot); with none,
-this host's FRR. Each case is what an operator has met; with --tools another commit's tools are asked the same.
+this host's FRR. Each case is what an operator has met; with --tools another commit's tools are asked the same (they find
+evpnd on the path), and --no-empty leaves out the VNI without MACs, at which the tools of 04daf64 end before all else.
 --moves plays 20 moves a second of 5,000 MACs while so many audits are made. Not part of the gate.
 """
 
@@ -269,7 +270,7 @@ def while_moving(edge: Edge, tally: Tally, audits: int, again: str) -> None:
     mover = threading.Thread(target=keep_moving, args=(edge, macs, ended))
     mover.start()
     try:
-        once = sum(audited(edge, "--brief")[0] != 0 for _ in range(6))
+        once = sum(audited(edge)[0] != 0 for _ in range(6))
         alarms = 0
         for turn in range(audits):
             status, text = audited(edge, "--brief", "--again", again)
@@ -291,6 +292,7 @@ def main() -> int:
     words = argparse.ArgumentParser(description=__doc__, formatter_class=argparse.RawDescriptionHelpFormatter)
     words.add_argument("--keep", metavar="FOLDER")
     words.add_argument("--tools", metavar="FOLDER")
+    words.add_argument("--no-empty", action="store_true")
     words.add_argument("--moves", type=int, default=0, metavar="AUDITS")
     words.add_argument("--again", default="2", metavar="SECONDS")
     words.add_argument("--only", metavar="CASE")
@@ -302,10 +304,11 @@ def main() -> int:
     cases = [case for case in CASES if arguments.only in (None, case[0])]
     if arguments.moves:
         cases = [("moves", lambda edge, tally: while_moving(edge, tally, arguments.moves, arguments.again))]
+    vnis = VNIS[: 1 if arguments.moves else 2 if arguments.no_empty else 3]
     for root in arguments.roots or [""]:
         for name, case in cases:
             try:
-                with Edge(name, root, VNIS[:1] if arguments.moves else VNIS, access=True) as edge:
+                with Edge(name, root, vnis, access=True) as edge:
                     print(f"-- {name}, FRR {edge.version()}", flush=True)
                     case(edge, tally)
             except (Trouble, subprocess.SubprocessError, OSError) as trouble:

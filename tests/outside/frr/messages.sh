@@ -1,6 +1,7 @@
 #!/usr/bin/env bash
 # What the audit says where it can't look: bgpd down, zebra down, no daemon, not root (beside running FRR, and with what its
-# vtysh answered), and a binary file where text is meant. As root, with frr and iproute2:
+# vtysh answered), and a binary file where text is meant; and how often it runs each command, and its two looks, on a host of
+# stubs. As root, with frr and iproute2:
 #
 #     tests/outside/frr/messages.sh [TOOLS [ROOT ..]]
 #
@@ -20,9 +21,10 @@ python3 "$here/messages.py" --tools "$TOOLS" "$@" | tee "$said"
 [[ $(tail -n 1 "$said") =~ ^([0-9]+)\ passed,\ ([0-9]+)\ failed$ ]] || exit 2
 passed=${BASH_REMATCH[1]}
 failed=${BASH_REMATCH[2]}
-for name in OfFrr BinaryFiles; do
-  for test in $(sed -n "/^class $name/,/^class /s/^    def \(test_[a-z_]*\).*/\1/p" "$here/../../tools/test_audit_messages.py"); do
-    if (cd "$here/../../tools" && python3 -m unittest "test_audit_messages.$name.$test") > "$said" 2>&1; then
+cd "$here/../../tools" || exit 2
+for name in test_audit_messages.OfFrr test_audit_messages.BinaryFiles test_audit_host.OnAHost; do
+  for test in $(sed -n "/^class ${name#*.}/,/^class /s/^    def \(test_[a-z_]*\).*/\1/p" "${name%.*}.py"); do
+    if python3 -m unittest "$name.$test" > "$said" 2>&1; then
       passed=$((passed + 1)); echo "ok: $name.$test"
     else
       failed=$((failed + 1)); echo "FAILED: $name.$test"; grep '^AssertionError' "$said"
