@@ -1,5 +1,5 @@
--- The updates of a table: no more than those whose table it is, and each of them among these.
-use Rattle.std.proofs.Common.{◌≡◌, ℕ, zero, suc, ◌<◌, ◌≤◌, Bool, true, false, ◌||◌, Option, Some, None, is_some, List, [], ◌∷◌, length, map, get_or, refl, ap, ◌∙◌, arith}
+-- The updates of a table: no more than those whose table it is, each of them among these, and no fewer for more updates.
+use Rattle.std.proofs.Common.{◌≡◌, ℕ, zero, suc, ◌<◌, ◌≤◌, Bool, true, false, ◌||◌, Option, Some, None, is_some, List, [], ◌∷◌, ◌++◌, length, map, get_or, Contains, refl, ap, ◌∙◌, arith}
 use Rattle.std.specs.List.{AllByRecursion, list_any}
 use Rattle.std.specs.List.Sorted.{IsStrictlySortedBy}
 use Rattle.std.specs.Set.{is_member}
@@ -10,6 +10,7 @@ use Rattle.std.specs.FinMap.Entries.{find, below_all, is_sorted, is_some-find}
 use Rattle.std.proofs.lemmas.Bool.{false≢true}
 use Rattle.std.proofs.lemmas.Cmp.{eq_by_cmp_equiv}
 use Rattle.std.proofs.lemmas.List.{length-map}
+use Rattle.std.proofs.lemmas.List.Elements.{Contains-append_left}
 use Rattle.std.proofs.lemmas.Map.Keys.{IsDistinct-from_sorted}
 use Rattle.std.proofs.lemmas.Map.Made.{length-le_from_is_member}
 use Rattle.route_wire.specs.declared.update.Register.{Register}
@@ -22,7 +23,7 @@ use Rattle.route_join.specs.Updates.{all_updates, update_from}
 use Rattle.route_join.proofs.Orders.{less, both, from_T}
 use Rattle.route_join.proofs.Tables.{itself_register, not_newer_itself}
 use Rattle.route_join.proofs.Abouts.{all_updates_are}
-use Rattle.ev_book.specs.Journal.{Compacts}
+use Rattle.ev_book.specs.Journal.{Compacts, register_count}
 
 abbrev keys : List (Register × Value) → List Register
 keys es = map (λ (e : Register × Value). e.0) es
@@ -54,9 +55,9 @@ member_at (x ∷ us) u zero l e =
     ∙ ap (λ b. b || list_any (eq_by_cmp register_cmp u.register) (registers_in us)) (itself_register u.register)
 member_at (x ∷ us) u (suc k) l e = or_right (eq_by_cmp register_cmp u.register x.register) _ (member_at us u k (omega (arith, l)) e)
 
--- a table has no more registers than there are updates
-pub no_more : (us : List Fields) (t : Table) → IsTableOf us t → length (all_updates t) ≤ length us
-no_more us t h =
+-- a table has no more registers than there are updates, if each of its registers has one
+few : (us : List Fields) (t : Table) → ((q : Register) (v : Value) → value_at t q ≡ Some v → (w : Value) × Contains us (record { register = q; value = w })) → register_count t ≤ length us
+few us t h =
     let es = entries t.registers in
     let sorted : is_sorted register_cmp es ≡ true = from_T _ (entries_sorted t.registers) in
     let few : length (keys es) ≤ length (registers_in us) = length-le_from_is_member (eq_by_cmp_equiv register_total) (keys es) (registers_in us) (IsDistinct-from_sorted register_cmp (keys es) (sorted_keys es sorted)) (λ q m. there q (is_some-find register_cmp q es ∙ m)) in
@@ -67,10 +68,21 @@ no_more us t h =
   where
     at : (q : Register) (o : Option Value) → value_at t q ≡ o → is_some o ≡ true → is_member (eq_by_cmp register_cmp) (registers_in us) q ≡ true
     at q None e s = absurd (false≢true s)
-    at q (Some v) e s = (let c = h.from q v e in member_at us (record { register = q; value = v }) c.0 c.1 c.2)
+    at q (Some v) e s = (let c = h q v e in member_at us (record { register = q; value = c.0 }) c.1.0 c.1.1 c.1.2)
 
     there : (q : Register) → is_some (find register_cmp q (entries t.registers)) ≡ true → is_member (eq_by_cmp register_cmp) (registers_in us) q ≡ true
     there q s = at q (find register_cmp q (entries t.registers)) (get-entries t.registers q) s
+
+-- the table of updates has no more registers than there are
+pub no_more : (us : List Fields) (t : Table) → IsTableOf us t → register_count t ≤ length us
+no_more us t h = few us t (λ q v e. (v, h.from q v e))
+
+-- and that of more updates has no fewer
+pub no_fewer : (us more : List Fields) (s t : Table) → IsTableOf us s → IsTableOf (us ++ more) t → register_count s ≤ register_count t
+no_fewer us more s t a b =
+    few (all_updates t) s (λ q v e.
+    let n = b.newest (record { register = q; value = v }) (Contains-append_left us more _ (a.from q v e)) in
+    (n.0, (all_updates_are t).all q n.0 n.1))
 
 pub compacted : (us : List Fields) (t : Table) → IsTableOf us t → Compacts us (all_updates t)
 compacted us t h =

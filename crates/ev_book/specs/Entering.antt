@@ -6,14 +6,14 @@ use Rattle.ev_edge.specs.declared.event.Event.TheVariants as events
 use Rattle.ev_edge.specs.declared.reply.Reply.{Reply}
 use Rattle.ev_edge.specs.declared.refusal.Refusal as edges
 use Rattle.ev_edge.specs.Steps.{Steps}
-use Rattle.ev_edge.specs.Edge.{Edge}
+use Rattle.ev_edge.specs.Edge.{Edge, table_of}
 use Rattle.ev_edge.specs.Changes.{accepted}
 use Rattle.ev_book.specs.declared.mark.Mark.{Mark}
 use Rattle.ev_book.specs.declared.refusal.BookRefusal.{BookRefusal}
 use Rattle.ev_book.specs.declared.refusal.BookRefusal.TheVariants.{PassStrange, PassSpent, NoRoom, Edge as OfEdge}
 use Rattle.ev_book.specs.Mark.{mark_of}
 use Rattle.ev_book.specs.Book.{BookState, PassState, fits, kept_of}
-use Rattle.ev_book.specs.Journal.{AreOwnSince}
+use Rattle.ev_book.specs.Journal.{AreOwnSince, IsKept, IsFull}
 
 -- ---- answers
 
@@ -56,17 +56,24 @@ called p m = record { number = p.number; count = p.count + 1; mark = m }
 
 -- One step of the edge. The journal grows by the update that the event took, whether it was news or not, and then by the
 -- own updates of the event.
-pub record Writes (e : Edge) (us : List Fields) (event : Event) (result : Result Reply edges.Refusal) (e' : Edge) (us' : List Fields) : Type 0 where
+pub record Grows (e : Edge) (us : List Fields) (event : Event) (result : Result Reply edges.Refusal) (e' : Edge) (us' : List Fields) : Type 0 where
   pub steps : Steps e event result e'
   pub own : List Fields
   pub are_own : AreOwnSince e'.claims.voice e.claims.voice.counter own
   pub journal : us' ≡ us ++ (accepted event result ++ own)
 
--- the room for it in the journal was refused, or it is written
+-- The same behind what is left of the journal: all of it, or what the table has of it; not more than two updates for each
+-- register, and 64.
+pub record Writes (e : Edge) (us : List Fields) (event : Event) (result : Result Reply edges.Refusal) (e' : Edge) (us' : List Fields) : Type 0 where
+  pub left : List Fields
+  pub kept : IsKept (table_of e) us left
+  pub grows : Grows e left event result e' us'
+
+-- It is written; or there was no room for it, though the journal is as short as its table allows.
 abbrev pub WritesOrNot : Edge → List Fields → Event → Result Reply BookRefusal → Edge → List Fields → Type 0
 WritesOrNot e journal event (Ok reply) e' journal' = Writes e journal event (Ok reply) e' journal'
 WritesOrNot e journal event (Err (OfEdge r)) e' journal' = Writes e journal event (Err r) e' journal'
-WritesOrNot e journal event (Err NoRoom) e' journal' = (e' ≡ e) × (journal' ≡ journal)
+WritesOrNot e journal event (Err NoRoom) e' journal' = (e' ≡ e) × IsFull (table_of e) journal journal'
 WritesOrNot e journal event (Err PassStrange) e' journal' = ⊥
 WritesOrNot e journal event (Err PassSpent) e' journal' = ⊥
 

@@ -1,8 +1,9 @@
 -- The journal of an edge: what is added to it, and its octets.
-use Rattle.std.specs.Prelude.{◌≡◌, ℕ, ◌+◌, ◌++◌, Some, List, slice_get, length, map, Contains, false, Result, Ok}
+use Rattle.std.specs.Prelude.{◌≡◌, ◌⊎◌, ℕ, ◌+◌, ◌*◌, ◌≤◌, ◌++◌, Some, List, slice_get, length, map, Contains, false, Result, Ok}
 use Rattle.std.specs.List.{concat}
 use Rattle.route_wire.specs.Order.{is_newer}
-use Rattle.route_join.specs.Table.{IsOrdered}
+use Rattle.route_join.specs.Table.{Table, IsOrdered}
+use Rattle.route_join.specs.Updates.{all_updates}
 use Rattle.route_wire.specs.Fields.{Fields}
 use Rattle.route_wire.specs.Spelling.{spelling_of}
 use Rattle.ev_claims.specs.Voice.{Voice, IsOwnAt}
@@ -34,3 +35,23 @@ pub record Compacts (old new : List Fields) : Type 0 where
   pub ordered : IsOrdered new
   pub from : (u : Fields) → Contains new u → Contains old u
   pub newest : (u : Fields) → Contains old u → (v : Fields) × Contains new v × (v.register ≡ u.register) × (is_newer u.value v.value ≡ false)
+
+-- ---- before an event is written
+
+-- how many registers a table has: one update of each
+abbrev pub register_count : Table → ℕ
+register_count t = length (all_updates t)
+
+-- the journal is as it was, or compacted: the table's updates in the order of a report
+abbrev pub IsLeft : Table → List Fields → List Fields → Type 0
+IsLeft t old new = (new ≡ old) ⊎ (new ≡ all_updates t)
+
+-- What is left has at most two updates for each register, and 64 more.
+pub record IsKept (t : Table) (old new : List Fields) : Type 0 where
+  pub left : IsLeft t old new
+  pub short : length new ≤ 2 * register_count t + 64
+
+-- What is left has no more updates than registers, so nothing could be let go of.
+pub record IsFull (t : Table) (old new : List Fields) : Type 0 where
+  pub left : IsLeft t old new
+  pub least : length new ≡ register_count t

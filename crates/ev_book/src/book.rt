@@ -15,7 +15,7 @@ ghost use Rattle.ev_book.specs.Opening.{IsOpened, opened_passes};
 ghost use Rattle.ev_book.specs.Closing.{counts_of, sum_of, AreNumbered, TellsEach};
 ghost use Rattle.ev_book.specs.Laws.{Replays, ReportsAs, listening};
 
-use crate::journal::{append_own, compact, put_records, step, touched};
+use crate::journal::{Journal, append_own, put_records, step, touched};
 use crate::mark::{Mark, mark_of, same_mark};
 use crate::pass::{Kept, Pass, Totals, merged, own_counts, unused};
 use crate::refusal::BookRefusal;
@@ -37,33 +37,40 @@ const SPENT: u64 = 1 << 55;
 #[derive(Drop)]
 pub struct Book<L: Ledger> {
     edge: Edge,
-    journal: Vec<Update>,
+    journal: Journal,
     kept: Vec<Kept>,
     sum: Sum<L>,
 }
 
 impl<L: Ledger> Model for Book<L> {
+    ghost use Rattle.std.specs.Prelude.{◌≤◌};
     ghost use Rattle.std.specs.Coded.{codes};
     ghost use Rattle.std.specs.FinMap.{code};
+    ghost use Rattle.ev_edge.specs.Edge.{table_of};
     ghost use Rattle.ev_book.specs.Book.{BookState, book_of, IsGoodBook};
+    ghost use Rattle.ev_book.specs.Journal.{register_count};
 
     ghost Value = { BookState };
 
     ghost coded = { Prim.hlevel (codes, code) };
 
-    ghost view = { λ b. book_of b.edge b.journal.items b.kept.items };
+    ghost view = { λ b. book_of b.edge b.journal.updates.items b.kept.items };
 
-    ghost invariant = { λ b. IsGoodBook (book_of b.edge b.journal.items b.kept.items) b.sum.total };
+    ghost invariant = { λ b.
+        IsGoodBook (book_of b.edge b.journal.updates.items b.kept.items) b.sum.total
+        × (b.journal.least ≤ register_count (table_of b.edge)) };
 }
 
 // The own updates of an edge that has just opened.
-fn first_journal(alloc: Global, edge: &Edge) -> Result<Vec<Update>, AllocError>
+fn first_journal(alloc: Global, edge: &Edge) -> Result<Journal, AllocError>
     requires { HasOwnSince edge.now.claims.voice 0 }
-    ensures { IfOk result (λ journal. AppendsOwn edge.now.claims.voice 0 [] journal.items) }
+    ensures own { IfOk result
+        (λ journal. AppendsOwn edge.now.claims.voice 0 [] journal.updates.items) }
+    ensures least { IfOk result (λ journal. journal.least ≡ 0) }
 {
-    let mut journal = Vec::with_capacity(alloc, edge.counter() as usize)?;
-    append_own(&mut journal, edge, 0);
-    Ok(journal)
+    let mut updates = Vec::with_capacity(alloc, edge.counter() as usize)?;
+    append_own(&mut updates, edge, 0);
+    Ok(Journal { updates, least: 0 })
 }
 
 // So many passes, each with a part of the share.
@@ -171,13 +178,15 @@ impl<L: Ledger> Book<L> {
     }
 
     /// Enters an event: one call more for the pass, and one step of the edge. The journal grows by
-    /// the update that the event took and by the own updates that it made.
+    /// the update that the event took and by the own updates that it made; before that it is
+    /// compacted where it has grown to twice as many as the table has registers, and 64 more.
     ///
     /// # Errors
     ///
     /// `PassStrange` exactly where the pass isn't what the book keeps of it, else `PassSpent`
-    /// exactly at 2^55 calls: nothing changed then. `NoRoom` where the journal's room is refused,
-    /// and `Edge` as the edge refuses: then the call is counted, and nothing else changed.
+    /// exactly at 2^55 calls: nothing changed then. `NoRoom` where the journal's room is refused
+    /// though it has no more updates than the table registers, and `Edge` as the edge refuses: then
+    /// the call is counted, the journal may be compacted, and nothing else changed.
     pub fn enter(&mut self, pass: &mut Pass<L>, event: &Event<'_>) -> Result<Reply, BookRefusal>
         ensures calls { CallsBook self.old pass.old event.now result self.new pass.new }
         ensures number { pass.new.number ≡ pass.old.number }
@@ -251,7 +260,7 @@ impl<L: Ledger> Book<L> {
         ensures journal { self.new.journal ≡ all_updates (table_of self.old.edge) }
         ensures compacts { Compacts self.old.journal self.new.journal }
     {
-        compact(&mut self.journal, self.edge.table());
+        self.journal.compact(self.edge.table());
     }
 
     /// Writes the journal's updates in their order, each as its record. It takes no memory. What it
@@ -269,7 +278,7 @@ impl<L: Ledger> Book<L> {
             (report_of (table_of self.now.edge))) }
     {
         self.always_replays();
-        put_records(self.journal.as_slice(), out)
+        put_records(self.journal.updates.as_slice(), out)
     }
 
     /// Ends the book, with all its passes: its edge, and how many calls of each pass were counted.

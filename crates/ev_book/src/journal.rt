@@ -1,5 +1,7 @@
 //! The journal of an edge: the updates that it took, and its own, in the order in which they came.
-ghost use Rattle.std.specs.Prelude.{◌≡◌, ◌+◌, ◌<◌, ◌≤◌, ◌++◌, [], OnOk, IfSome, vec_len, vec_capacity};
+//! It is compacted where it has grown to twice as many as the edge's table has registers.
+ghost use Rattle.std.specs.Prelude.{◌≡◌, ◌+◌, ◌*◌, ◌<◌, ◌≤◌, ◌++◌, [], OnOk, OnErr, IfSome, vec_len, vec_capacity};
+ghost use Rattle.std.specs.Bool.{OnFalse};
 ghost use Rattle.route_wire.specs.Record.{Answers};
 ghost use Rattle.ether_wire.specs.Ends.{IsOpen, Puts};
 ghost use Rattle.route_join.specs.Table.{IsTableOf};
@@ -11,14 +13,28 @@ ghost use Rattle.ev_edge.specs.Changes.{accepted};
 ghost use Rattle.ev_claims.specs.Claims.{entries};
 ghost use Rattle.ev_book.specs.declared.mark.Mark.{Mark as Marked};
 ghost use Rattle.ev_book.specs.Mark.{Holds, mark_of};
-ghost use Rattle.ev_book.specs.Journal.{HasOwnSince, AppendsOwn, Compacts, records_of, all_ok};
-ghost use Rattle.ev_book.specs.Entering.{Writes, WritesOrNot, answered, touched, touched_by};
+ghost use Rattle.ev_book.specs.Journal.{HasOwnSince, AppendsOwn, Compacts, register_count, IsLeft, IsKept, IsFull, records_of, all_ok};
+ghost use Rattle.ev_book.specs.Entering.{Grows, WritesOrNot, answered, touched, touched_by};
 
 use crate::refusal::BookRefusal;
 use ether_wire::{Device, Out};
 use ev_edge::{Edge, Event, Refusal, Reply};
 use route_join::Table;
 use route_wire::{Update, write};
+use std::alloc::AllocError;
+
+/// How many updates a journal may have beside twice as many as its table has registers: so that of
+/// an edge with few registers it isn't compacted at every few calls.
+const SPARE: usize = 64;
+
+/// The updates that an edge took and said.
+#[derive(Drop)]
+pub(crate) struct Journal {
+    /// The updates, in the order in which they came since it was compacted.
+    pub(crate) updates: Vec<Update>,
+    /// How many there were when it was compacted last: as many as its table had registers then.
+    pub(crate) least: usize,
+}
 
 /// Appends the own updates with the numbers after this one, for which there is room.
 pub(crate) fn append_own(journal: &mut Vec<Update>, edge: &Edge, before: u64)
@@ -63,9 +79,10 @@ fn step_within(
 ) -> Result<(), Refusal>
     requires table { IsTableOf journal.old.items (table_of edge.old) }
     requires room { vec_len journal.old + entries edge.old.claims + 2 ≤ vec_capacity journal.old }
-    ensures writes { Writes edge.old journal.old.items event.now
+    ensures grows { Grows edge.old journal.old.items event.now
         (stepped result reply.new) edge.new journal.new.items }
     ensures table { IsTableOf journal.new.items (table_of edge.new) }
+    ensures registers { register_count (table_of edge.old) ≤ register_count (table_of edge.new) }
     ensures marks { (m : Marked) → Holds (table_of edge.old) m → Holds (table_of edge.new) m }
     ensures mark { IfSome (touched_by event.now (stepped result reply.new))
         (λ u. Holds (table_of edge.new) (mark_of u)) }
@@ -79,26 +96,27 @@ fn step_within(
 }
 
 /// One event of the edge, whose reply is written where another one stood, with what it took and
-/// said behind the journal.
+/// said behind what is left of the journal.
 pub(crate) fn step(
     edge: &mut Edge,
-    journal: &mut Vec<Update>,
+    journal: &mut Journal,
     event: &Event<'_>,
     reply: &mut Reply,
 ) -> Result<(), BookRefusal>
-    requires { IsTableOf journal.old.items (table_of edge.old) }
-    ensures writes { WritesOrNot edge.old journal.old.items event.now
-        (answered result reply.new) edge.new journal.new.items }
-    ensures table { IsTableOf journal.new.items (table_of edge.new) }
+    requires table { IsTableOf journal.old.updates.items (table_of edge.old) }
+    requires least { journal.old.least ≤ register_count (table_of edge.old) }
+    ensures writes { WritesOrNot edge.old journal.old.updates.items event.now
+        (answered result reply.new) edge.new journal.new.updates.items }
+    ensures table { IsTableOf journal.new.updates.items (table_of edge.new) }
+    ensures least { journal.new.least ≤ register_count (table_of edge.new) }
     ensures marks { (m : Marked) → Holds (table_of edge.old) m → Holds (table_of edge.new) m }
     ensures mark { IfSome (touched_by event.now (answered result reply.new))
         (λ u. Holds (table_of edge.new) (mark_of u)) }
 {
-    edge.always_good();
-    if journal.reserve(edge.entries() + 2).is_err() {
+    if journal.make_room(edge).is_err() {
         return Err(BookRefusal::NoRoom);
     }
-    match step_within(edge, journal, event, reply) {
+    match step_within(edge, &mut journal.updates, event, reply) {
         Ok(()) => Ok(()),
         Err(refusal) => Err(BookRefusal::Edge(refusal)),
     }
@@ -115,16 +133,90 @@ pub(crate) fn touched(event: &Event<'_>, reply: &Reply) -> Option<Update>
     }
 }
 
-/// Leaves the table's updates in the journal, each of which it has.
-pub(crate) fn compact(journal: &mut Vec<Update>, table: &Table)
-    requires { IsTableOf journal.old.items table.now }
-    ensures updates { journal.new.items ≡ all_updates table.now }
-    ensures compacts { Compacts journal.old.items journal.new.items }
-    ensures table { IsTableOf journal.new.items table.now }
+/// Leaves the table's updates, each of which is there.
+fn leave_newest(updates: &mut Vec<Update>, table: &Table)
+    requires { IsTableOf updates.old.items table.now }
+    ensures updates { updates.new.items ≡ all_updates table.now }
+    ensures compacts { Compacts updates.old.items updates.new.items }
+    ensures table { IsTableOf updates.new.items table.now }
 {
-    journal.clear();
+    updates.clear();
     for update in table.updates() {
-        journal.push_reserved(update);
+        updates.push_reserved(update);
+    }
+}
+
+impl Journal {
+    /// Leaves one update of each register, the newest, in the order of a report.
+    pub(crate) fn compact(&mut self, table: &Table)
+        requires { IsTableOf self.old.updates.items table.now }
+        ensures updates { self.new.updates.items ≡ all_updates table.now }
+        ensures compacts { Compacts self.old.updates.items self.new.updates.items }
+        ensures table { IsTableOf self.new.updates.items table.now }
+        ensures least { self.new.least ≡ register_count table.now }
+    {
+        leave_newest(&mut self.updates, table);
+        self.least = self.updates.len();
+    }
+
+    // Whether as many updates as there were when it was compacted last came since, and some more.
+    fn is_due(&self) -> bool
+        requires { self.now.least ≤ vec_len self.now.updates }
+        ensures { OnFalse result (vec_len self.now.updates ≤ 2 * self.now.least + 64) }
+    {
+        let came = self.updates.len() - self.least;
+        came > SPARE && came - SPARE > self.least
+    }
+
+    // Compacts it where it is due. What it lets go of then is more than half of it.
+    fn keep_short(&mut self, table: &Table)
+        requires table { IsTableOf self.old.updates.items table.now }
+        requires least { self.old.least ≤ register_count table.now }
+        ensures kept { IsKept table.now self.old.updates.items self.new.updates.items }
+        ensures table { IsTableOf self.new.updates.items table.now }
+        ensures least { self.new.least ≤ register_count table.now }
+    {
+        if self.is_due() {
+            self.compact(table);
+        }
+    }
+
+    // Compacts it where any update came since it was compacted last.
+    fn empty_out(&mut self, table: &Table)
+        requires table { IsTableOf self.old.updates.items table.now }
+        requires least { self.old.least ≤ register_count table.now }
+        ensures left { IsLeft table.now self.old.updates.items self.new.updates.items }
+        ensures full { vec_len self.new.updates ≡ register_count table.now }
+        ensures table { IsTableOf self.new.updates.items table.now }
+        ensures least { self.new.least ≤ register_count table.now }
+    {
+        if self.updates.len() > self.least {
+            self.compact(table);
+        }
+    }
+
+    // Makes room for what an event of the edge can append. Where memory for it is refused, the
+    // journal is compacted first, which may make room.
+    fn make_room(&mut self, edge: &Edge) -> Result<(), AllocError>
+        requires table { IsTableOf self.old.updates.items (table_of edge.now) }
+        requires least { self.old.least ≤ register_count (table_of edge.now) }
+        ensures kept { OnOk result (IsKept (table_of edge.now)
+            self.old.updates.items self.new.updates.items) }
+        ensures full { OnErr result (IsFull (table_of edge.now)
+            self.old.updates.items self.new.updates.items) }
+        ensures table { IsTableOf self.new.updates.items (table_of edge.now) }
+        ensures least { self.new.least ≤ register_count (table_of edge.now) }
+        ensures room { OnOk result (vec_len self.new.updates + entries edge.now.claims + 2
+            ≤ vec_capacity self.new.updates) }
+    {
+        edge.always_good();
+        let most = edge.entries() + 2;
+        self.keep_short(edge.table());
+        if self.updates.reserve(most).is_ok() {
+            return Ok(());
+        }
+        self.empty_out(edge.table());
+        self.updates.reserve(most)
     }
 }
 

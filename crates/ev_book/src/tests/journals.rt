@@ -3,7 +3,7 @@ ghost use Rattle.std.specs.Prelude.{◌≡◌};
 
 use super::{addr, config, hears, host, journal, report, said, take, vni};
 use crate::{Book, Pass};
-use ether_wire::Page;
+use ether_wire::{Out, Page, Vni};
 use route_join::Taken;
 use route_wire::{Content, Key, Update, Whole, read_one, whole_of};
 use std::alloc::{AllocError, Global};
@@ -38,6 +38,10 @@ const SECOND: [u8; 68] = [
 
 const REPORT: &[u8] =
     b"flood 5001 10.0.0.2 1 up\nmac 5001 02:00:00:00:00:0a 10.0.0.1 2 dynamic 3\nowner 5001 02:00:00:00:00:0a 10.0.0.1\n";
+
+/// The host in two networks after a thousand updates.
+const REFRESHED: &[u8] =
+    b"flood 5001 10.0.0.2 1 up\nmac 5001 02:00:00:00:00:0a 10.0.0.1 999 dynamic 0\nowner 5001 02:00:00:00:00:0a 10.0.0.1\nmac 5002 02:00:00:00:00:0a 10.0.0.1 1000 dynamic 0\nowner 5002 02:00:00:00:00:0a 10.0.0.1\n";
 
 // Whether the octets are the flood list and then the first, the second and again the first record.
 fn are_four(octets: &[u8]) -> bool {
@@ -90,6 +94,43 @@ fn works<L: Ledger>(alloc: Global, blank: Blank) -> Result<bool, AllocError>
 #[test]
 fn compact_leaves_two_of_four_records(rt: HostRuntime) -> Result<(), Fail> {
     assert!(rt; works::<Brand>(rt.alloc(), Blank::new(1))?);
+    Ok(())
+}
+
+// How many octets the journal's records are, if they are no more than 8,192.
+fn journal_octets<L: Ledger>(book: &Book<L>) -> Option<usize> {
+    let mut page = Page::<8192>::new();
+    if page.failures() == 0 && book.write_journal(&mut page).is_ok() {
+        return Some(page.octets().len());
+    }
+    None
+}
+
+// Whether two registers take a thousand updates, and the journal has never more than two of each of
+// three registers, 64, and that of the call.
+fn stays_short<L: Ledger>(alloc: Global, blank: Blank) -> Result<bool, AllocError>
+    requires name { blank.name ≡ L.name }
+    requires parts { (blank.parts ≡ L.parts) × (blank.parts ≡ 1) }
+{
+    let most = FLOOD.len() + (2 * 3 + 64 + 1 - 1) * FIRST.len();
+    let (mut book, mut passes) = Book::<L>::open(alloc, blank, config(0), 1)?;
+    let Some(mut pass) = passes.pop() else {
+        return Ok(false);
+    };
+    for n in 0..1000u32 {
+        let update = said(1, Vni::new(5001 + n % 2), u64::from(n) + 1, 0);
+        let is_newer = take(&mut book, &mut pass, update) == Some(Taken::Newer);
+        let is_short = journal_octets(&book).is_some_and(|octets| octets <= most);
+        if !is_newer || !is_short {
+            return Ok(false);
+        }
+    }
+    Ok(report(&book).octets() == REFRESHED)
+}
+
+#[test]
+fn journal_stays_short_while_few_stations_are_refreshed(rt: HostRuntime) -> Result<(), Fail> {
+    assert!(rt; stays_short::<Brand>(rt.alloc(), Blank::new(1))?);
     Ok(())
 }
 

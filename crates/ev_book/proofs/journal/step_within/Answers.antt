@@ -10,6 +10,7 @@ use Rattle.ev_edge.specs.Steps.{answered}
 use Rattle.ev_edge.specs.Changes.{Changes, accepted}
 use Rattle.ev_edge.proofs.Changing.{steps_change}
 use Rattle.ev_book.specs.Journal.{AreOwnSince}
+use Rattle.ev_book.proofs.Compacting.{no_fewer}
 use Rattle.ev_book.proofs.Reaching.{still_holds}
 use Rattle.ev_book.proofs.Stepping.{own_in, are_own, still_table, touched_by_there}
 use Rattle.ev_book.proofs.journal.step_within.Goals as goal
@@ -44,8 +45,8 @@ written c =
 grown : (c : goal.After-append_own) → IsTableOf (c.args.journal.now.items ++ (accepted c.args.event.now (answered c.step_into-answer.result c.step_into-answer.new.reply) ++ own_in (changes c))) (table_of c.step_into-answer.new.self)
 grown c = still_table c.args.journal.now.items (changes c) c.requires.table
 
-pub returns-clause-writes : goal.returns-clause-writes
-returns-clause-writes c = record {
+pub returns-clause-grows : goal.returns-clause-grows
+returns-clause-grows c = record {
   steps = c.step_into-answer.ensures;
   own = own_in (changes c);
   are_own = are_own (changes c);
@@ -54,6 +55,9 @@ returns-clause-writes c = record {
 
 pub returns-clause-table : goal.returns-clause-table
 returns-clause-table c = subst (λ us. IsTableOf us (table_of c.step_into-answer.new.self)) (sym (written c)) (grown c)
+
+pub returns-clause-registers : goal.returns-clause-registers
+returns-clause-registers c = no_fewer c.args.journal.now.items (accepted c.args.event.now (answered c.step_into-answer.result c.step_into-answer.new.reply) ++ own_in (changes c)) (table_of c.args.edge.now) (table_of c.step_into-answer.new.self) c.requires.table (grown c)
 
 pub returns-clause-marks : goal.returns-clause-marks
 returns-clause-marks c = still_holds c.args.journal.now.items (accepted c.args.event.now (answered c.step_into-answer.result c.step_into-answer.new.reply) ++ own_in (changes c)) (table_of c.args.edge.now) (table_of c.step_into-answer.new.self) c.requires.table (grown c)

@@ -1,4 +1,4 @@
-use Rattle.std.proofs.Common.{◌≡◌, ℕ, List, replicate, sym, subst}
+use Rattle.std.proofs.Common.{◌≡◌, ℕ, List, replicate, sym, subst, arith}
 use Rattle.route_wire.specs.Fields.{Fields}
 use Rattle.route_join.specs.Table.{IsTableOf}
 use Rattle.ev_claims.specs.Opening.{Opens}
@@ -23,18 +23,20 @@ invariant_of-book g c =
     let s = start_of c.args.config in
     let edge = c.in_ok-edge.edge in
     let opens : Opens s edge.claims = opening_changes c.args.config edge c.requires.config c.in_ok-edge.ensures in
-    let journal : c.in_ok-journal.journal.items ≡ first_own s edge.claims = c.in_ok-journal.ensures (first_own s edge.claims) (first_are_own s edge.claims opens) in
-    let table : IsTableOf c.in_ok-journal.journal.items (table_of edge) = subst (λ (us : List Fields). IsTableOf us (table_of edge)) (sym journal) (first_table s edge.claims opens) in
-    let good = opened_good edge c.in_ok-journal.journal.items c.args.passes table in
-    subst (λ (kept : List Kept). IsGoodBook (book_of edge c.in_ok-journal.journal.items kept) c.open-sum.result.0.total) (sym c.in_ok-kept.ensures)
-    (subst (λ (total : ℕ). IsGoodBook (book_of edge c.in_ok-journal.journal.items (replicate c.args.passes unused)) total) (sym c.open-sum.ensures.total) good)
+    let journal : c.in_ok-journal.journal.updates.items ≡ first_own s edge.claims = c.in_ok-journal.ensures.own (first_own s edge.claims) (first_are_own s edge.claims opens) in
+    let table : IsTableOf c.in_ok-journal.journal.updates.items (table_of edge) = subst (λ (us : List Fields). IsTableOf us (table_of edge)) (sym journal) (first_table s edge.claims opens) in
+    let good = opened_good edge c.in_ok-journal.journal.updates.items c.args.passes table in (
+      subst (λ (kept : List Kept). IsGoodBook (book_of edge c.in_ok-journal.journal.updates.items kept) c.open-sum.result.0.total) (sym c.in_ok-kept.ensures)
+          (subst (λ (total : ℕ). IsGoodBook (book_of edge c.in_ok-journal.journal.updates.items (replicate c.args.passes unused)) total) (sym c.open-sum.ensures.total) good),
+      (let none = c.in_ok-journal.ensures.least in omega (arith, none)),
+    )
 
 pub returns-clause-book : goal.returns-clause-book
 returns-clause-book g c =
     let s = start_of c.args.config in
     let edge = c.in_ok-edge.edge in
     let opens : Opens s edge.claims = opening_changes c.args.config edge c.requires.config c.in_ok-edge.ensures in
-    let journal : c.in_ok-journal.journal.items ≡ first_own s edge.claims = c.in_ok-journal.ensures (first_own s edge.claims) (first_are_own s edge.claims opens) in
+    let journal : c.in_ok-journal.journal.updates.items ≡ first_own s edge.claims = c.in_ok-journal.ensures.own (first_own s edge.claims) (first_are_own s edge.claims opens) in
     record {
       edge = c.in_ok-edge.ensures;
       journal = subst (AreOwnSince edge.claims.voice 0) (sym journal) (first_are_own s edge.claims opens);

@@ -1,10 +1,10 @@
 use Rattle.std.proofs.Common.{◌≡◌, ◌+◌, ◌≤◌, ◌++◌, length, vec_len, vec_capacity}
 use Rattle.route_join.specs.Updates.{all_updates}
-use Rattle.ev_book.proofs.journal.compact.Given as goal
+use Rattle.ev_book.proofs.journal.leave_newest.Given as goal
 
 -- what is left stands behind what was put back
 abbrev pub invariant-loop-update : goal.invariant-loop-update
 invariant-loop-update l = record {
-  all : l.journal.items ++ l.update-iterator ≡ all_updates l.table;
-  room : vec_len l.journal + length l.update-iterator ≤ vec_capacity l.journal;
+  all : l.updates.items ++ l.update-iterator ≡ all_updates l.table;
+  room : vec_len l.updates + length l.update-iterator ≤ vec_capacity l.updates;
 }
