@@ -11,7 +11,7 @@ use Rattle.route_join.specs.Table.{Table, IsTableOf}
 use Rattle.ev_report.specs.declared.ending.Ending.{Ending}
 use Rattle.ev_report.specs.declared.stream.Intake.{Intake}
 use Rattle.ev_report.specs.Notes.{refusals_from, end_note, notes_of, has_stopped, is_broken, has_starved, status_of}
-use Rattle.ev_report.specs.Ends.{devices, has_failed, fault_in, Holds, Tells, Finishes}
+use Rattle.ev_report.specs.Ends.{Devices, devices, has_failed, fault_in, Gave, Holds, Tells, Finishes, Passes}
 use Rattle.ev_report.specs.Runs.{taken_of, Output, Renders}
 use Rattle.ev_report.specs.Progressing.{state, new_intake, TakesInput}
 use Rattle.ev_report.proofs.Taking.{tells_more, table_of_all}
@@ -124,27 +124,55 @@ last_status true true true s k x y status last h l f g = l ∙ h
 last_status true false q s k x y status last h l f g = l
 last_status true true false s k x y status last h l f g = l
 
-pub buffered_renders : (newest : ℕ) (output : Output) (originators : List ℕ) (reader reader' : Source) (out held out' notes kept notes' : End) (p q : Bool) (status last : ℕ)
-    → Renders newest output originators (devices reader out notes) (devices reader' held kept) status → Finishes out.failures held out' p → Finishes notes.failures kept notes' q
-    → last ≡ cond (p && q) status 4 → Renders newest output originators (devices reader out notes) (devices reader' out' notes') last
-buffered_renders newest output originators reader reader' out held out' notes kept notes' p q status last r f g l =
-    let text = output r.ending r.outcomes r.table in
-    let lines = notes_of r.outcomes r.ending r.rest in
-    let starved = has_starved r.outcomes in
-    let broken = is_broken r.ending r.rest in
-    record {
-      input = r.input;
-      ending = r.ending;
-      outcomes = r.outcomes;
-      rest = r.rest;
-      table = r.table;
-      gave = r.gave;
-      shows = r.shows;
-      taken = r.taken;
-      written = finish_holds out held out' p text r.written f;
-      noted = finish_holds notes kept notes' q lines r.noted g;
-      status_is = last_status (has_stopped r.ending) p q starved broken (has_failed out held) (has_failed notes kept) status last r.status_is l
-          (finish_unfailed out held out' p f) (finish_unfailed notes kept notes' q g)
-          ∙ ap (λ x. status_of (has_stopped r.ending || (x || not q)) starved broken) (sym (finish_failed out held out' p text r.written f))
-          ∙ ap (λ x. status_of (has_stopped r.ending || (has_failed out out' || x)) starved broken) (sym (finish_failed notes kept notes' q lines r.noted g));
-    }
+module _ (before held after : Devices) (status last : ℕ) (p : Passes before.out.failures before.notes.failures held after status last) where
+  -- what was written before is written at the end, or a call has failed
+  pub passed_out : (text : List ℕ) → Holds before.out held.out text → Holds before.out after.out text
+  passed_out text h = finish_holds before.out held.out after.out p.is_written text h p.out
+
+  pub passed_notes : (text : List ℕ) → Holds before.notes held.notes text → Holds before.notes after.notes text
+  passed_notes text h = finish_holds before.notes held.notes after.notes p.is_noted text h p.notes
+
+  -- the status, of what else may have failed
+  pub passed_status : (e starved broken : Bool) → has_failed before.out after.out ≡ not p.is_written → has_failed before.notes after.notes ≡ not p.is_noted
+      → status ≡ status_of (e || (has_failed before.out held.out || has_failed before.notes held.notes)) starved broken
+      → last ≡ status_of (e || (has_failed before.out after.out || has_failed before.notes after.notes)) starved broken
+  passed_status e starved broken a b is =
+      last_status e p.is_written p.is_noted starved broken (has_failed before.out held.out) (has_failed before.notes held.notes) status last is p.status_is
+      (finish_unfailed before.out held.out after.out p.is_written p.out) (finish_unfailed before.notes held.notes after.notes p.is_noted p.notes)
+      ∙ ap (λ x. status_of (e || (x || not p.is_noted)) starved broken) (sym a)
+      ∙ ap (λ x. status_of (e || (has_failed before.out after.out || x)) starved broken) (sym b)
+
+  pub failed_out : (text : List ℕ) → Holds before.out held.out text → has_failed before.out after.out ≡ not p.is_written
+  failed_out text h = finish_failed before.out held.out after.out p.is_written text h p.out
+
+  pub failed_notes : (text : List ℕ) → Holds before.notes held.notes text → has_failed before.notes after.notes ≡ not p.is_noted
+  failed_notes text h = finish_failed before.notes held.notes after.notes p.is_noted text h p.notes
+
+  pub passed_renders : (newest : ℕ) (output : Output) (originators : List ℕ) → Renders newest output originators before held status
+      → Renders newest output originators before after last
+  passed_renders newest output originators r =
+      let text = output r.ending r.outcomes r.table in
+      let lines = notes_of r.outcomes r.ending r.rest in
+      record {
+        input = r.input;
+        ending = r.ending;
+        outcomes = r.outcomes;
+        rest = r.rest;
+        table = r.table;
+        gave = subst (λ (s : Source). Gave newest before.input s r.input r.ending) (sym p.input) r.gave;
+        shows = r.shows;
+        taken = r.taken;
+        written = passed_out text r.written;
+        noted = passed_notes lines r.noted;
+        status_is = passed_status (has_stopped r.ending) (has_starved r.outcomes) (is_broken r.ending r.rest) (failed_out text r.written) (failed_notes lines r.noted) r.status_is;
+      }
+
+-- what is done with devices that hold octets for others is done with the others, in the end
+module _ (does : Devices → Devices → ℕ → Type 0)
+    (lasts : (before held after : Devices) (status last : ℕ) → Passes before.out.failures before.notes.failures held after status last → does before held status → does before after last) where
+  pub buffered : (before opened held after : Devices) (status last m n : ℕ) → before ≡ opened → m ≡ before.out.failures → n ≡ before.notes.failures → does opened held status
+      → Passes m n held after status last → does before after last
+  buffered before opened held after status last m n opens out notes done p =
+      lasts before held after status last
+      (subst (λ x. Passes x before.notes.failures held after status last) out (subst (λ y. Passes m y held after status last) notes p))
+      (subst (λ d. does d held status) (sym opens) done)

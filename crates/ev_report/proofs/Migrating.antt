@@ -21,6 +21,10 @@ use Rattle.route_join.specs.Updates.{all_updates, AreAllUpdates}
 use Rattle.route_join.proofs.Orders.{less, both}
 use Rattle.route_join.proofs.Tables.{same_register}
 use Rattle.route_join.proofs.Abouts.{all_updates_are}
+use Rattle.ev_report.specs.Ends.{Devices, Passes}
+use Rattle.ev_report.specs.Runs.{taken_of}
+use Rattle.ev_report.specs.Migrations.{migration, Migrates}
+use Rattle.ev_report.proofs.Finishing.{passed_renders}
 use Rattle.ev_report.specs.Migrated.{is_same_subject, is_same_old, old_cmp, is_newer_old, IsNewest, withdrawn_for, migrated_at, AreMigrated, newer_old, newest_along, behind, entering, migrated_along, migrated_all, migrated_of}
 
 -- ---- old registers
@@ -540,3 +544,10 @@ module _ (us : List Fields) (t : Table) (h : IsTableOf us t) where
 
       each : Each all all' all''
       each = each_walked (all_updates t) own_are.ordered
+
+-- a migration that octets were held for
+pub passed_migrates : (originators : List ℕ) (before held after : Devices) (status last : ℕ) → Passes before.out.failures before.notes.failures held after status last
+    → Migrates originators before held status → Migrates originators before after last
+passed_migrates originators before held after status last p m =
+    let run = passed_renders before held after status last p 2 migration originators m.run in
+    record { run = run; migrated = migration_is (taken_of run.outcomes) run.table run.taken.table_of }

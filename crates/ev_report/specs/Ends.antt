@@ -1,8 +1,8 @@
 -- What became of the program's devices: a reader and two writers.
-use Rattle.std.specs.Prelude.{◌≡◌, ◌≢◌, ℕ, ◌+◌, ◌^◌, ◌≤◌, ◌<◌, Bool, true, false, ◌⊎◌, nat_lt, List, [], ◌∷◌, ◌++◌, length, Option, Some, None}
+use Rattle.std.specs.Prelude.{◌≡◌, ◌≢◌, ℕ, ◌+◌, ◌^◌, ◌≤◌, ◌<◌, Bool, true, false, ◌⊎◌, ◌&&◌, if◌then◌else◌, nat_lt, List, [], ◌∷◌, ◌++◌, length, Option, Some, None}
 use Rattle.std.specs.List.{concat}
 use Rattle.std.specs.Io.KnownBytes.{prepend_known, IsAtEnd}
-use Rattle.ether_wire.specs.Ends.{End, Source, with_text}
+use Rattle.ether_wire.specs.Ends.{End, Source, Allows, IsOpen, with_text}
 use Rattle.route_wire.specs.declared.stream.Whole.{Whole}
 use Rattle.route_wire.specs.declared.stream.Whole.TheVariants.{Rest, Fault, Length}
 use Rattle.route_wire.specs.Fields.{Fields}
@@ -20,6 +20,12 @@ pub record Devices : Type 0 where
 
 abbrev pub devices : Source → End → End → Devices
 devices input out notes = record { input = input; out = out; notes = notes }
+
+-- the reader may be read 2^40 times, and each of them may fail once more
+pub record AreOpen (d : Devices) : Type 0 where
+  pub input : Allows (2 ^ 40) d.input
+  pub out : IsOpen d.out
+  pub notes : IsOpen d.notes
 
 -- ---- reading
 
@@ -94,3 +100,13 @@ pub record Tells (old new : End) (before after : Bool) (text : List ℕ) : Type 
 pub record Finishes (failures : ℕ) (held end : End) (is_told : Bool) : Type 0 where
   pub passed : is_told ≡ true → (end ≡ held) × (held.failures ≡ failures)
   pub failed : is_told ≡ false → ((held.failures ≢ failures) × (end.failures ≡ held.failures)) ⊎ ((held.failures ≡ failures) × (end.failures ≡ failures + 1))
+
+-- Devices were given all that was held for them, or a call of a writer has failed since they had these many failures: then
+-- the status is 4.
+pub record Passes (out_failures notes_failures : ℕ) (held after : Devices) (status last : ℕ) : Type 0 where
+  pub is_written : Bool
+  pub is_noted : Bool
+  pub input : after.input ≡ held.input
+  pub out : Finishes out_failures held.out after.out is_written
+  pub notes : Finishes notes_failures held.notes after.notes is_noted
+  pub status_is : last ≡ (if is_written && is_noted then status else 4)

@@ -2,6 +2,7 @@
 //! whole input and the statuses that other programs share with them.
 #![tactic(auto)]
 
+mod devices;
 mod ending;
 mod input;
 mod migrate;
@@ -13,11 +14,12 @@ mod status;
 mod stream;
 mod telling;
 
+pub use devices::{Buffers, Devices};
 pub use ending::Ending;
 pub use input::{MOST_READS, Unread, read_whole};
 pub use migrate::{migrate_buffered, migrate_run};
 pub use migration_laws::{same_owners, stays_away};
 pub use originators::{ListFault, WrongPart, put_wrong_part, read_originators};
-pub use report::{finish, has_failed, last_status, report_buffered, report_run, status_of};
+pub use report::{has_failed, report_buffered, report_run, status_of};
 pub use status::{BROKEN, DEVICE, DONE, MEMORY, USAGE};
-pub use telling::{migrate_list, report_list, tell, tell_list, usage_status};
+pub use telling::{migrate_list, report_list, tell, tell_list, tell_words, usage_status};

@@ -5,15 +5,16 @@ ghost use Rattle.ether_wire.specs.Ends.{IsOpen, Allows, Puts};
 ghost use Rattle.route_wire.specs.Order.{ip_version, ip_number, ip_cmp, ip_of, rank_of, sequence_of, label2_of};
 ghost use Rattle.route_join.specs.Table.{AreOriginators};
 ghost use Rattle.ev_report.specs.Migrated.{is_same_subject, is_same_old, old_cmp, newer_old, migrated_at, newest_along, behind, migrated_of, records_of};
-ghost use Rattle.ev_report.specs.Ends.{devices};
+ghost use Rattle.ev_report.specs.Ends.{AreOpen, devices};
 ghost use Rattle.ev_report.specs.Notes.{has_stopped};
 ghost use Rattle.ev_report.specs.Migrations.{Migrates};
 
+use crate::devices::{Buffers, Devices};
 use crate::ending::Ending;
-use crate::report::{finish, has_failed, last_status, status_of};
+use crate::report::{has_failed, status_of};
 use crate::stream::Intake;
 use arrayvec::ArrayVec;
-use ether_wire::{Addr, Buffered, Device, In, Out, Vni};
+use ether_wire::{Addr, Device, In, Out, Vni};
 use route_join::{Table, Updates};
 use route_wire::{Content, Feed, Ip, Key, Register, Update, Value, write};
 use std::alloc::Global;
@@ -252,27 +253,25 @@ pub fn migrate_run<R: In, W: Out, N: Out>(
     status_of(has_failed, is_starved, is_broken)
 }
 
-/// `migrate_run` with few and large writes: it takes the writers, and gives them back once
-/// they have all that was to be written, or a call of theirs has failed. A failure at the end
+/// `migrate_run` with few and large writes: it takes the devices, and gives them back once the
+/// writers have all that was to be written, or a call of theirs has failed. A failure at the end
 /// counts as any other.
 pub fn migrate_buffered<R: In, W: Out, N: Out>(
     alloc: Global,
     originators: ArrayVec<Addr, 64>,
-    reader: &mut R,
-    out: W,
-    notes: N,
-) -> (u8, W, N)
+    devices: Devices<R, W, N>,
+) -> (u8, Devices<R, W, N>)
     requires originators { AreOriginators originators.items }
-    requires reader { Allows (2 ^ 40) (R.end reader.old) }
-    requires out { IsOpen (W.end out) }
-    requires notes { IsOpen (N.end notes) }
-    ensures { Migrates originators.items (devices (R.end reader.old) (W.end out) (N.end notes))
-        (devices (R.end reader.new) (W.end result.1) (N.end result.2)) result.0 }
+    requires devices { AreOpen devices }
+    ensures { Migrates originators.items devices result.1 result.0 }
 {
-    let (out_failures, notes_failures) = (out.failures(), notes.failures());
-    let (mut out, mut notes) = (Buffered::new(out), Buffered::new(notes));
-    let status = migrate_run(alloc, originators, reader, &mut out, &mut notes);
-    let (out, is_written) = finish(out, out_failures);
-    let (notes, is_told) = finish(notes, notes_failures);
-    (last_status(is_written, is_told, status), out, notes)
+    let mut all = Buffers::new(devices);
+    let status = migrate_run(
+        alloc,
+        originators,
+        &mut all.reader,
+        &mut all.out,
+        &mut all.notes,
+    );
+    all.finish(status)
 }

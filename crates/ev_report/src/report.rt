@@ -1,17 +1,17 @@
 //! The report of a stream of update records.
-ghost use Rattle.std.specs.Prelude.{◌≡◌, ◌+◌, ◌<◌, ◌^◌, ◌&&◌, ◌||◌, not, if◌then◌else◌};
-ghost use Rattle.ether_wire.specs.Buffered.{buffered_end};
+ghost use Rattle.std.specs.Prelude.{◌≡◌, ◌^◌, ◌||◌, not};
 ghost use Rattle.ether_wire.specs.Ends.{IsOpen, Allows};
 ghost use Rattle.route_join.specs.Table.{AreOriginators};
 ghost use Rattle.ev_report.specs.Notes.{has_stopped, status_of};
-ghost use Rattle.ev_report.specs.Ends.{devices, Finishes};
+ghost use Rattle.ev_report.specs.Ends.{AreOpen, devices};
 ghost use Rattle.ev_report.specs.Runs.{Reports};
 
+use crate::devices::{Buffers, Devices};
 use crate::ending::Ending;
 use crate::status::{BROKEN, DEVICE, DONE, MEMORY};
 use crate::stream::Intake;
 use arrayvec::ArrayVec;
-use ether_wire::{Addr, Buffered, In, Out};
+use ether_wire::{Addr, In, Out};
 use route_wire::Feed;
 use std::alloc::Global;
 
@@ -68,51 +68,25 @@ pub fn report_run<R: In, W: Out, N: Out>(
     status_of(has_failed, intake.is_starved(), is_broken)
 }
 
-/// The status so far, unless a writer has failed since.
-pub fn last_status(is_reported: bool, is_told: bool, status: u8) -> u8
-    ensures { result ≡ (if is_reported && is_told then status else 4) }
-{
-    if is_reported && is_told {
-        status
-    } else {
-        DEVICE
-    }
-}
-
-/// Gives a writer what is still held for it, and gives it back: whether no call of it has failed
-/// since it had this many failures. After a failed call it makes none.
-pub fn finish<W: Out>(out: Buffered<W>, failures: u64) -> (W, bool)
-    requires { failures + 1 < 2 ^ 64 }
-    ensures { Finishes failures (buffered_end W.end out) (W.end result.0) result.1 }
-{
-    if out.failures() != failures {
-        return (out.abandon(), false);
-    }
-    let (out, result) = out.finish();
-    (out, result.is_ok())
-}
-
-/// `report_run` with few and large writes: it takes the writers, and gives them back once they have
-/// all that was to be written, or a call of theirs has failed. A failure at the end counts as any
-/// other.
+/// `report_run` with few and large writes: it takes the devices, and gives them back once the
+/// writers have all that was to be written, or a call of theirs has failed. A failure at the end
+/// counts as any other.
 pub fn report_buffered<R: In, W: Out, N: Out>(
     alloc: Global,
     originators: ArrayVec<Addr, 64>,
-    reader: &mut R,
-    out: W,
-    notes: N,
-) -> (u8, W, N)
+    devices: Devices<R, W, N>,
+) -> (u8, Devices<R, W, N>)
     requires originators { AreOriginators originators.items }
-    requires reader { Allows (2 ^ 40) (R.end reader.old) }
-    requires out { IsOpen (W.end out) }
-    requires notes { IsOpen (N.end notes) }
-    ensures { Reports originators.items (devices (R.end reader.old) (W.end out) (N.end notes))
-        (devices (R.end reader.new) (W.end result.1) (N.end result.2)) result.0 }
+    requires devices { AreOpen devices }
+    ensures { Reports originators.items devices result.1 result.0 }
 {
-    let (out_failures, notes_failures) = (out.failures(), notes.failures());
-    let (mut out, mut notes) = (Buffered::new(out), Buffered::new(notes));
-    let status = report_run(alloc, originators, reader, &mut out, &mut notes);
-    let (out, is_reported) = finish(out, out_failures);
-    let (notes, is_told) = finish(notes, notes_failures);
-    (last_status(is_reported, is_told, status), out, notes)
+    let mut all = Buffers::new(devices);
+    let status = report_run(
+        alloc,
+        originators,
+        &mut all.reader,
+        &mut all.out,
+        &mut all.notes,
+    );
+    all.finish(status)
 }

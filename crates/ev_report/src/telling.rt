@@ -1,12 +1,13 @@
 //! What is told of a program's words: a usage, a wrong list; and what is done with a list.
-ghost use Rattle.std.specs.Prelude.{◌≡◌, ◌^◌, is_ok, if◌then◌else◌};
-ghost use Rattle.ether_wire.specs.Ends.{IsOpen, Allows};
-ghost use Rattle.ev_report.specs.Ends.{devices};
+ghost use Rattle.std.specs.Prelude.{◌≡◌, is_ok, if◌then◌else◌};
+ghost use Rattle.ether_wire.specs.Ends.{IsOpen};
+ghost use Rattle.ev_report.specs.Ends.{AreOpen};
 ghost use Rattle.ev_report.specs.Originators.{originators_of_text, list_text};
 ghost use Rattle.ev_report.specs.Runs.{Reports};
 ghost use Rattle.ev_report.specs.Migrations.{Migrates};
 ghost use Rattle.ev_report.specs.Telling.{IsTold, TellsUsage, OfList};
 
+use crate::devices::Devices;
 use crate::migrate::migrate_buffered;
 use crate::originators::{WrongPart, put_wrong_part, read_originators};
 use crate::report::report_buffered;
@@ -41,24 +42,44 @@ pub fn tell_list<N: Out>(wrong: WrongPart<'_>, notes: &mut N) -> u8
     usage_status(put_wrong_part(notes, wrong))
 }
 
+/// Tells a text on the words, and gives the devices back.
+pub fn tell_words<R: In, W: Out, N: Out>(
+    text: &[u8],
+    devices: Devices<R, W, N>,
+) -> (u8, Devices<R, W, N>)
+    requires { AreOpen devices }
+    ensures { TellsUsage text.now devices result.1 result.0 }
+{
+    let mut devices = devices;
+    (tell(text, &mut devices.notes), devices)
+}
+
+/// Tells which part of a list is wrong, of devices that are given back.
+fn wrong_list<R: In, W: Out, N: Out>(
+    wrong: WrongPart<'_>,
+    devices: Devices<R, W, N>,
+) -> (u8, Devices<R, W, N>)
+    requires { AreOpen devices }
+    ensures { TellsUsage (list_text (wrong.entry.part.now, wrong.entry.fault))
+        devices result.1 result.0 }
+{
+    let mut devices = devices;
+    (tell_list(wrong, &mut devices.notes), devices)
+}
+
 /// Reports the records of the originators that a list names, or tells which part of the list is wrong
 /// (status 2, or 4 where that failed).
 pub fn report_list<R: In, W: Out, N: Out>(
     alloc: Global,
     list: &str,
-    reader: &mut R,
-    out: W,
-    mut notes: N,
-) -> (u8, W, N)
-    requires reader { Allows (2 ^ 40) (R.end reader.old) }
-    requires out { IsOpen (W.end out) }
-    requires notes { IsOpen (N.end notes) }
-    ensures { OfList Reports list.now (devices (R.end reader.old) (W.end out) (N.end notes))
-        (devices (R.end reader.new) (W.end result.1) (N.end result.2)) result.0 }
+    devices: Devices<R, W, N>,
+) -> (u8, Devices<R, W, N>)
+    requires { AreOpen devices }
+    ensures { OfList Reports list.now devices result.1 result.0 }
 {
     match read_originators(list.as_bytes()) {
-        Ok(originators) => report_buffered(alloc, originators, reader, out, notes),
-        Err(wrong) => (tell_list(wrong, &mut notes), out, notes),
+        Ok(originators) => report_buffered(alloc, originators, devices),
+        Err(wrong) => wrong_list(wrong, devices),
     }
 }
 
@@ -67,18 +88,13 @@ pub fn report_list<R: In, W: Out, N: Out>(
 pub fn migrate_list<R: In, W: Out, N: Out>(
     alloc: Global,
     list: &str,
-    reader: &mut R,
-    out: W,
-    mut notes: N,
-) -> (u8, W, N)
-    requires reader { Allows (2 ^ 40) (R.end reader.old) }
-    requires out { IsOpen (W.end out) }
-    requires notes { IsOpen (N.end notes) }
-    ensures { OfList Migrates list.now (devices (R.end reader.old) (W.end out) (N.end notes))
-        (devices (R.end reader.new) (W.end result.1) (N.end result.2)) result.0 }
+    devices: Devices<R, W, N>,
+) -> (u8, Devices<R, W, N>)
+    requires { AreOpen devices }
+    ensures { OfList Migrates list.now devices result.1 result.0 }
 {
     match read_originators(list.as_bytes()) {
-        Ok(originators) => migrate_buffered(alloc, originators, reader, out, notes),
-        Err(wrong) => (tell_list(wrong, &mut notes), out, notes),
+        Ok(originators) => migrate_buffered(alloc, originators, devices),
+        Err(wrong) => wrong_list(wrong, devices),
     }
 }

@@ -1,5 +1,5 @@
 -- A run of edges: the input that is read out, and what is told at the end.
-use Rattle.std.proofs.Common.{◌≡◌, inl, inr, ℕ, ◌+◌, ◌-◌, ◌<◌, ◌^◌, min, Bool, true, false, cond, not, ◌&&◌, ◌||◌, nat_lt, List, [], ◌∷◌, ◌++◌, take, length, get_or, append-nil, append_assoc, Result, Ok, Err, is_ok, refl, sym, ap, subst, ◌∙◌, arith}
+use Rattle.std.proofs.Common.{◌≡◌, inl, inr, ℕ, ◌+◌, ◌-◌, ◌<◌, ◌^◌, min, Bool, false, not, ◌||◌, nat_lt, List, [], ◌∷◌, ◌++◌, take, length, get_or, append-nil, append_assoc, Result, Ok, Err, is_ok, refl, sym, ap, subst, ◌∙◌, arith}
 use Rattle.std.proofs.lemmas.List.{take_more, length-take-le}
 use Rattle.std.proofs.lemmas.List.Sums.{sum_by_push}
 use Rattle.std.specs.List.{sum_by, list_any}
@@ -11,15 +11,15 @@ use Rattle.ev_edge.specs.declared.config.EdgeConfig.{EdgeConfig}
 use Rattle.ev_edge.specs.Config.{IsConfig}
 use Rattle.ev_config.specs.declared.endpoint.Endpoint.{Endpoint}
 use Rattle.ev_run.specs.declared.sockets.Hindrance.{Hindrance}
-use Rattle.ev_report.specs.Ends.{devices, has_failed, Finishes}
+use Rattle.ev_report.specs.Ends.{Devices, devices, has_failed, Passes}
 use Rattle.ev_report.specs.declared.input.Unread.TheVariants.{Device}
 use Rattle.ev_report.specs.Input.{ReadsWhole, Gathers}
 use Rattle.ev_report.specs.Notes.{status_of}
-use Rattle.ev_run.specs.RunEdges.{EachConfig, unbound_text, Ended, ended_text, reports_from, lost_text, sends_failed, link_failed, was_starved, all_lost, Drains, IsReadOut, TellsEnded, IsUnbound, TellsUnbound, RunsEdges}
-use Rattle.ev_report.proofs.Finishing.{put_holds, put_failed, finish_holds, finish_failed, finish_unfailed, last_status}
+use Rattle.ev_run.specs.RunEdges.{EachConfig, unbound_text, Ended, ended_text, reports_from, lost_text, sends_failed, link_failed, was_starved, all_lost, Drains, IsReadOut, ReadsOut, TellsEnded, IsUnbound, TellsUnbound, RunsEdges}
+use Rattle.ev_report.proofs.Finishing.{put_holds, put_failed, passed_out, passed_notes, passed_status, failed_out, failed_notes}
 use Rattle.ev_report.proofs.Gathering.{gathers_more, whole_ended, whole_failed, whole_unended}
 use Rattle.ev_report.proofs.Reading.{gives_none}
-use Rattle.ev_report.proofs.Silence.{finished_refused, holds_none, refused_memory}
+use Rattle.ev_report.proofs.Silence.{passed_refused, passed_four, holds_none, refused_memory}
 
 -- ---- the input
 
@@ -119,36 +119,34 @@ runs_refused many input input' out out' notes notes' a b = rw (a, b) (inr (inr (
 
 -- ---- writers that are given more at once
 
-four : (b : Bool) (status last : ℕ) → last ≡ cond b status 4 → status ≡ 4 → last ≡ 4
-four true status last h e = h ∙ e
-four false status last h e = h
-
-module _ (input input' : Source) (out held out' notes kept notes' : End) (p q : Bool) (status last : ℕ)
-    (f : Finishes out.failures held out' p) (g : Finishes notes.failures kept notes' q) (l : last ≡ cond (p && q) status 4) where
-  finished_ended : (ended : List Ended) (is_read : Bool) → TellsEnded ended is_read out held notes kept status → TellsEnded ended is_read out out' notes notes' last
-  finished_ended ended is_read t =
-      let e = (not is_read || list_any link_failed ended) || nat_lt 0 (all_lost ended) in
-      let starved = list_any was_starved ended in
+module _ (many : ℕ) (before held after : Devices) (status last : ℕ) (p : Passes before.out.failures before.notes.failures held after status last) where
+  passed_ended : (ended : List Ended) (is_read : Bool) → TellsEnded ended is_read before.out held.out before.notes held.notes status
+      → TellsEnded ended is_read before.out after.out before.notes after.notes last
+  passed_ended ended is_read t =
       let text = reports_from 1 ended in
       let lost = lost_text (all_lost ended) in
       record {
-        written = finish_holds out held out' p text t.written f;
-        noted = finish_holds notes kept notes' q lost t.noted g;
-        status_is = last_status e p q starved false (has_failed out held) (has_failed notes kept) status last t.status_is l
-            (finish_unfailed out held out' p f) (finish_unfailed notes kept notes' q g)
-            ∙ ap (λ x. status_of (e || (x || not q)) starved false) (sym (finish_failed out held out' p text t.written f))
-            ∙ ap (λ x. status_of (e || (has_failed out out' || x)) starved false) (sym (finish_failed notes kept notes' q lost t.noted g));
+        written = passed_out before held after status last p text t.written;
+        noted = passed_notes before held after status last p lost t.noted;
+        status_is = passed_status before held after status last p ((not is_read || list_any link_failed ended) || nat_lt 0 (all_lost ended))
+            (list_any was_starved ended) false (failed_out before held after status last p text t.written) (failed_notes before held after status last p lost t.noted) t.status_is;
       }
 
-  finished_unbound : IsUnbound notes kept status → IsUnbound notes notes' last
-  finished_unbound u = record {
+  passed_unbound : IsUnbound before.notes held.notes status → IsUnbound before.notes after.notes last
+  passed_unbound u = record {
     text = u.text;
     is_text = u.is_text;
-    noted = finish_holds notes kept notes' q u.text u.noted g;
-    status_is = four (p && q) status last l u.status_is;
+    noted = passed_notes before held after status last p u.text u.noted;
+    status_is = passed_four before held after status last p u.status_is;
   }
 
-  pub buffered_runs : (many : ℕ) → RunsEdges many (devices input out notes) (devices input' held kept) status → RunsEdges many (devices input out notes) (devices input' out' notes') last
-  buffered_runs many (inl r) = inl (record { is_read = r.is_read; read = r.read; ended = r.ended; all = r.all; told = finished_ended r.ended r.is_read r.told })
-  buffered_runs many (inr (inl h)) = inr (inl (h.0, finish_holds out held out' p [] h.1 f, finished_unbound h.2))
-  buffered_runs many (inr (inr h)) = inr (inr (finished_refused out held out' notes kept notes' p q status last f g l h))
+  pub passed_runs : RunsEdges many before held status → RunsEdges many before after last
+  passed_runs (inl r) = inl (record {
+    is_read = r.is_read;
+    read = subst (λ (s : Source). ReadsOut before.input s r.is_read) (sym p.input) r.read;
+    ended = r.ended;
+    all = r.all;
+    told = passed_ended r.ended r.is_read r.told;
+  })
+  passed_runs (inr (inl h)) = inr (inl (p.input ∙ h.0, passed_out before held after status last p [] h.1, passed_unbound h.2))
+  passed_runs (inr (inr h)) = inr (inr (passed_refused before held after status last p h))

@@ -5,16 +5,16 @@ ghost use Rattle.std.specs.List.{list_any};
 ghost use Rattle.ether_wire.specs.Ends.{IsOpen, Allows};
 ghost use Rattle.ev_fabric.specs.Opening.{AreConfigs};
 ghost use Rattle.ev_edge.specs.Config.{IsConfig};
-ghost use Rattle.ev_report.specs.Ends.{devices};
+ghost use Rattle.ev_report.specs.Ends.{AreOpen, devices};
 ghost use Rattle.ev_run.specs.RunEdges.{EachConfig, ReadsOut, sends_failed, link_failed, was_starved, all_lost, TellsEnded, Ran, TellsUnbound, RunsEdges};
 
 use crate::sockets::{PortSocket, Sockets, Unbound, bind_all, put_unbound, wake_all};
 use crate::telling::{put_lost, put_reports};
-use ether_wire::{Buffered, Device, In, Out};
+use ether_wire::{Device, In, Out};
 use ev_config::Config;
 use ev_edge::EdgeConfig;
 use ev_peers::{Destination, EdgeLinks, Link, OpenGate, Outcome, Setup, UdpOut, Wire, run_all};
-use ev_report::{DEVICE, MEMORY, MOST_READS, finish, last_status, status_of};
+use ev_report::{Buffers, DEVICE, Devices, MEMORY, MOST_READS, status_of};
 use std::alloc::{AllocError, Global};
 use std::net::Net;
 use std::sync::Wait;
@@ -286,27 +286,25 @@ pub fn run_edges<R: Threads + Wait + Net + Clock + Sync, E: In, W: Out, N: Out>(
     }
 }
 
-/// `run_edges` with few and large writes: it takes the writers, and gives them back.
+/// `run_edges` with few and large writes: it takes the devices, and gives them back.
 pub fn run_buffered<H: Threads + Wait + Net + Clock + Sync, R: In, W: Out, N: Out>(
     rt: &H,
     alloc: Global,
     config: Config,
-    reader: &mut R,
-    out: W,
-    notes: N,
-) -> (u8, W, N)
+    devices: Devices<R, W, N>,
+) -> (u8, Devices<R, W, N>)
     requires config { AreConfigs config.edges.items }
-    requires reader { Allows (2 ^ 40) (R.end reader.old) }
-    requires out { IsOpen (W.end out) }
-    requires notes { IsOpen (N.end notes) }
-    ensures { RunsEdges (length config.edges.items)
-        (devices (R.end reader.old) (W.end out) (N.end notes))
-        (devices (R.end reader.new) (W.end result.1) (N.end result.2)) result.0 }
+    requires devices { AreOpen devices }
+    ensures { RunsEdges (length config.edges.items) devices result.1 result.0 }
 {
-    let (out_failures, notes_failures) = (out.failures(), notes.failures());
-    let (mut out, mut notes) = (Buffered::new(out), Buffered::new(notes));
-    let status = run_edges(rt, alloc, config, reader, &mut out, &mut notes);
-    let (out, is_written) = finish(out, out_failures);
-    let (notes, is_noted) = finish(notes, notes_failures);
-    (last_status(is_written, is_noted, status), out, notes)
+    let mut all = Buffers::new(devices);
+    let status = run_edges(
+        rt,
+        alloc,
+        config,
+        &mut all.reader,
+        &mut all.out,
+        &mut all.notes,
+    );
+    all.finish(status)
 }

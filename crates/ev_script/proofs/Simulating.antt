@@ -1,5 +1,5 @@
 -- A simulation's status and notes at its end.
-use Rattle.std.proofs.Common.{◌≡◌, ◌≢◌, ◌⊎◌, inl, inr, ℕ, ◌+◌, Bool, true, false, cond, not, ◌&&◌, ◌||◌, List, [], length, Option, Some, None, is_some, Result, Ok, Err, is_ok, refl, sym, ap, subst, ◌∙◌, arith}
+use Rattle.std.proofs.Common.{◌≡◌, ◌≢◌, ◌⊎◌, inl, inr, ℕ, ◌+◌, Bool, true, false, not, ◌||◌, List, [], length, Option, Some, None, is_some, Result, Ok, Err, is_ok, refl, sym, ap, subst, ◌∙◌, arith}
 use Rattle.std.proofs.lemmas.Bool.Decides.{nat_tests}
 use Rattle.ether_wire.specs.declared.ends.Device as device
 use Rattle.ether_wire.specs.Ends.{End, Source, Puts}
@@ -8,13 +8,14 @@ use Rattle.ev_fabric.specs.Fabric.{Fabric}
 use Rattle.ev_report.specs.declared.input.Unread.{Unread}
 use Rattle.ev_report.specs.declared.input.Unread.TheVariants.{Device, NoMemory}
 use Rattle.ev_script.specs.declared.simulate.player.Player.{Player}
-use Rattle.ev_report.specs.Ends.{devices, has_failed, Holds, Finishes}
+use Rattle.ev_report.specs.Ends.{Devices, has_failed, Holds, Finishes, Passes}
+use Rattle.ev_report.specs.Input.{ReadsWhole}
 use Rattle.ev_report.specs.Notes.{status_of}
-use Rattle.ev_report.proofs.Silence.{status_as, is_silent, refused_memory, status_last, finished_silent, finished_refused}
+use Rattle.ev_report.proofs.Silence.{status_as, is_silent, refused_memory, passed_silent, passed_refused, passed_four}
 use Rattle.ev_script.specs.Simulation.{Goes, joined, has_starved, bad_line, note_of, note_of_line, CountsFailure, PlaysOn, PlaysRead, unread_status, Simulates}
 use Rattle.ev_script.specs.Printing.{Minds}
 use Rattle.ev_script.specs.Playing.{PlaysTo}
-use Rattle.ev_report.proofs.Finishing.{put_holds, put_failed, finish_holds, finish_failed}
+use Rattle.ev_report.proofs.Finishing.{put_holds, put_failed, passed_notes, passed_status, failed_notes}
 use Rattle.ev_script.proofs.Minding.{minds_failed, minds_counts}
 
 -- ---- a run on a fabric
@@ -95,34 +96,37 @@ pub finish_told : (a b c : End) (q : Bool) → CountsFailure a b → Finishes a.
 finish_told a b c true counts f = let same = finish_kept a b c true counts f refl in grind (arith, nat_tests)
 finish_told a b c false counts f = let one = finish_late a b c false counts f refl in grind (arith, nat_tests)
 
-module _ (input input' : Source) (out held out' notes kept notes' : End) (p q : Bool) (status last : ℕ)
-    (f : Finishes out.failures held out' p) (g : Finishes notes.failures kept notes' q) (l : last ≡ cond (p && q) status 4) where
-  finished_plays : (start : Fabric) (script : List ℕ) → PlaysOn start script out held notes kept status → PlaysOn start script out out' notes notes' last
-  finished_plays start script r = record {
-    lines = r.lines;
-    rest = r.rest;
-    is_bad = r.is_bad;
-    follows = r.follows;
-    ends = r.ends;
-    made = r.made;
-    asked = r.asked;
-    final = r.final;
-    goes = r.goes;
-    written = finish_counts out held out' p r.written f;
-    noted = finish_holds notes kept notes' q (note_of r.is_bad (length r.lines + 1)) r.noted g;
-    status_is = status_last out held out' notes kept notes' p q status last f g l (has_starved (joined r.made)) r.is_bad r.status_is (finish_told out held out' p r.written f)
-        (finish_failed notes kept notes' q (note_of r.is_bad (length r.lines + 1)) r.noted g);
+module _ (configs : List EdgeConfig) (before held after : Devices) (status last : ℕ) (p : Passes before.out.failures before.notes.failures held after status last) where
+  passed_plays : (start : Fabric) (script : List ℕ) → PlaysOn start script before.out held.out before.notes held.notes status
+      → PlaysOn start script before.out after.out before.notes after.notes last
+  passed_plays start script r =
+      let note = note_of r.is_bad (length r.lines + 1) in
+      record {
+        lines = r.lines;
+        rest = r.rest;
+        is_bad = r.is_bad;
+        follows = r.follows;
+        ends = r.ends;
+        made = r.made;
+        asked = r.asked;
+        final = r.final;
+        goes = r.goes;
+        written = finish_counts before.out held.out after.out p.is_written r.written p.out;
+        noted = passed_notes before held after status last p note r.noted;
+        status_is = passed_status before held after status last p false (has_starved (joined r.made)) r.is_bad
+            (finish_told before.out held.out after.out p.is_written r.written p.out) (failed_notes before held after status last p note r.noted) r.status_is;
+      }
+
+  passed_read : (script : Result (List ℕ) Unread) → PlaysRead configs script before.out held.out before.notes held.notes status
+      → PlaysRead configs script before.out after.out before.notes after.notes last
+  passed_read (Ok script) (inl h) = inl (h.0, h.1, passed_plays h.0 script h.2)
+  passed_read (Ok script) (inr h) = inr (passed_refused before held after status last p h)
+  passed_read (Err Device) h = (passed_silent before held after status last p h.0, passed_four before held after status last p h.1)
+  passed_read (Err NoMemory) h = passed_refused before held after status last p h
+
+  pub passed_simulates : Simulates configs before held status → Simulates configs before after last
+  passed_simulates s = record {
+    script = s.script;
+    read = subst (λ (r : Source). ReadsWhole before.input r s.script) (sym p.input) s.read;
+    plays = passed_read s.script s.plays;
   }
-
-  four : (b : Bool) → last ≡ cond b status 4 → status ≡ 4 → last ≡ 4
-  four true h e = h ∙ e
-  four false h e = h
-
-  finished : (configs : List EdgeConfig) (script : Result (List ℕ) Unread) → PlaysRead configs script out held notes kept status → PlaysRead configs script out out' notes notes' last
-  finished configs (Ok script) (inl h) = inl (h.0, h.1, finished_plays h.0 script h.2)
-  finished configs (Ok script) (inr h) = inr (finished_refused out held out' notes kept notes' p q status last f g l h)
-  finished configs (Err Device) h = (finished_silent out held out' notes kept notes' p q status last f g l h.0, four (p && q) l h.1)
-  finished configs (Err NoMemory) h = finished_refused out held out' notes kept notes' p q status last f g l h
-
-  pub buffered_simulates : (configs : List EdgeConfig) → Simulates configs (devices input out notes) (devices input' held kept) status → Simulates configs (devices input out notes) (devices input' out' notes') last
-  buffered_simulates configs s = record { script = s.script; read = s.read; plays = finished configs s.script s.plays }

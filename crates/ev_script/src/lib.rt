@@ -4,4 +4,4 @@
 mod script;
 mod simulate;
 
-pub use simulate::simulate_run;
+pub use simulate::{simulate_buffered, simulate_run};

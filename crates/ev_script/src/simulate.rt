@@ -2,18 +2,18 @@
 ghost use Rattle.std.specs.Prelude.{◌≡◌, ◌^◌, Ok};
 ghost use Rattle.ether_wire.specs.Ends.{IsOpen, Allows, Puts};
 ghost use Rattle.ev_fabric.specs.Opening.{AreConfigs};
-ghost use Rattle.ev_report.specs.Ends.{devices};
+ghost use Rattle.ev_report.specs.Ends.{AreOpen, devices};
 ghost use Rattle.ev_script.specs.Simulation.{note_of_line, PlaysOn, PlaysRead, unread_status, Simulates};
 
 mod player;
 mod telling;
 
 use crate::simulate::player::Player;
-use ether_wire::{Buffered, Device, In, Out, put_decimal};
+use ether_wire::{Device, In, Out, put_decimal};
 use ev_edge::EdgeConfig;
 use ev_fabric::Fabric;
 use ev_report::{
-    DEVICE, Ending, MEMORY, Unread, finish, has_failed, last_status, read_whole, status_of,
+    Buffers, DEVICE, Devices, Ending, MEMORY, Unread, has_failed, read_whole, status_of,
 };
 use std::alloc::Global;
 
@@ -75,8 +75,18 @@ fn unread_status(unread: Unread) -> u8
     }
 }
 
-/// Reads a script, and runs it on a fabric of edges that are opened with these configurations.
-fn read_and_play<R: In, W: Out, N: Out>(
+/// Reads a whole script, and then runs its lines, one after the other, on a fabric of edges that
+/// are opened with these configurations. Each command's lines come on `out`. The first line
+/// outside the grammar ends the run: `notes` gets `line N bad`; what stood before it has been
+/// run, and its lines stay.
+///
+/// Where the script can't be read to its end, or there is no memory for it or for the edges,
+/// nothing is run. Where a call of `out` fails, no further one is made, and the script is run on.
+///
+/// The status is the greatest that applies: 4 where a read or a write failed, or 2^40 reads didn't
+/// reach the end, 3 where memory was refused to the script, to the edges or to a step, 1 where a
+/// line is outside the grammar, else 0.
+pub fn simulate_run<R: In, W: Out, N: Out>(
     alloc: Global,
     configs: Vec<EdgeConfig>,
     reader: &mut R,
@@ -96,35 +106,23 @@ fn read_and_play<R: In, W: Out, N: Out>(
     }
 }
 
-/// Reads a whole script, and then runs its lines, one after the other, on a fabric of edges that
-/// are opened with these configurations. Each command's lines come on `out`. The first line
-/// outside the grammar ends the run: `notes` gets `line N bad`; what stood before it has been
-/// run, and its lines stay.
-///
-/// Where the script can't be read to its end, or there is no memory for it or for the edges,
-/// nothing is run. Where a call of `out` fails, no further one is made, and the script is run on.
-///
-/// The status is the greatest that applies: 4 where a read or a write failed, or 2^40 reads didn't
-/// reach the end, 3 where memory was refused to the script, to the edges or to a step, 1 where a
-/// line is outside the grammar, else 0.
-pub fn simulate_run<R: In, W: Out, N: Out>(
+/// `simulate_run` with few and large writes: it takes the devices, and gives them back.
+pub fn simulate_buffered<R: In, W: Out, N: Out>(
     alloc: Global,
     configs: Vec<EdgeConfig>,
-    reader: &mut R,
-    out: W,
-    notes: N,
-) -> (u8, W, N)
+    devices: Devices<R, W, N>,
+) -> (u8, Devices<R, W, N>)
     requires configs { AreConfigs configs.items }
-    requires reader { Allows (2 ^ 40) (R.end reader.old) }
-    requires out { IsOpen (W.end out) }
-    requires notes { IsOpen (N.end notes) }
-    ensures { Simulates configs.items (devices (R.end reader.old) (W.end out) (N.end notes))
-        (devices (R.end reader.new) (W.end result.1) (N.end result.2)) result.0 }
+    requires devices { AreOpen devices }
+    ensures { Simulates configs.items devices result.1 result.0 }
 {
-    let (out_failures, notes_failures) = (out.failures(), notes.failures());
-    let (mut out, mut notes) = (Buffered::new(out), Buffered::new(notes));
-    let status = read_and_play(alloc, configs, reader, &mut out, &mut notes);
-    let (out, is_written) = finish(out, out_failures);
-    let (notes, is_noted) = finish(notes, notes_failures);
-    (last_status(is_written, is_noted, status), out, notes)
+    let mut all = Buffers::new(devices);
+    let status = simulate_run(
+        alloc,
+        configs,
+        &mut all.reader,
+        &mut all.out,
+        &mut all.notes,
+    );
+    all.finish(status)
 }

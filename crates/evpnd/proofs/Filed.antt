@@ -1,5 +1,5 @@
 -- What is done with what a file gives for a configuration.
-use Rattle.std.proofs.Common.{◌≡◌, ℕ, ◌+◌, inl, inr, Bool, Result, Ok, Err, refl, ap, subst, arith}
+use Rattle.std.proofs.Common.{◌≡◌, ℕ, ◌+◌, inl, inr, Bool, Result, Ok, Err, refl, ap, subst, ◌∙◌, arith}
 use Rattle.ether_wire.specs.declared.ends.Device.{Device}
 use Rattle.ether_wire.specs.Ends.{End, Source, Puts}
 use Rattle.ev_config.specs.declared.whole.Config.{Config}
@@ -64,12 +64,13 @@ of_never uses for_run path b a status (inr (inr r)) =
     }))
 
 -- the configuration is used
-pub of_used : (uses : UsesConfig) (for_run : Bool) (path : Text) (s s' : Shelf) (input input' : Source) (out out' notes mid notes' : End) (config : Config) (status : ℕ)
-    → FileGives for_run path s s' notes mid (Ok config) → uses config (devices input out mid) (devices input' out' notes') status
-    → OfFile for_run (OfFound uses) path (desk s (devices input out notes)) (desk s' (devices input' out' notes')) status
-of_used uses for_run path s s' input input' out out' notes mid notes' config status gives used =
-    of_read for_run (OfFound uses) path gives.2.0 s s' (devices input out notes) (devices input' out' notes') status (gives.0, gives.2.1)
-    (Ok config, gives.2.2, subst (λ (e : End). uses config (devices input out e) (devices input' out' notes') status) gives.1 used)
+pub of_used : (uses : UsesConfig) (for_run : Bool) (path : Text) (s s' : Shelf) (before mid after : Devices) (config : Config) (status : ℕ)
+    → FileGives for_run path s s' before.notes mid.notes (Ok config) → mid ≡ record before { notes = mid.notes } → uses config mid after status
+    → OfFile for_run (OfFound uses) path (desk s before) (desk s' after) status
+of_used uses for_run path s s' before mid after config status gives kept used =
+    let same : mid ≡ before = kept ∙ ap (λ (e : End). record before { notes = e }) gives.1 in
+    of_read for_run (OfFound uses) path gives.2.0 s s' before after status (gives.0, gives.2.1)
+    (Ok config, gives.2.2, subst (λ (d : Devices). uses config d after status) same used)
 
 -- the text of the file gives a configuration or none
 pub file_gives : (for_run : Bool) (path text : Text) (s s' : Shelf) (notes notes' : End) (result : Result Config ℕ) → (s' ≡ s) × IsTextOf s path text

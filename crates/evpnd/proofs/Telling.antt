@@ -9,10 +9,10 @@ use Rattle.clap.specs.declared.error.kind.ErrorKind.{ErrorKind}
 use Rattle.ev_report.specs.declared.originators.ListFault.{ListFault}
 use Rattle.ev_words.specs.Words.{program}
 use Rattle.ev_report.specs.Originators.{Text, list_text}
-use Rattle.ev_report.specs.Ends.{devices, has_failed}
+use Rattle.ev_report.specs.Ends.{Devices, has_failed}
 use Rattle.evpnd.specs.Files.{Shelf}
 use Rattle.ev_report.specs.Telling.{IsTold, TellsUsage}
-use Rattle.ev_report.proofs.Told.{failed_put, tells_usage}
+use Rattle.ev_report.proofs.Told.{failed_put}
 use Rattle.evpnd.specs.Checks.{desk, Sums}
 use Rattle.evpnd.specs.Program.{world, TellsFault, RunsWords}
 
@@ -28,19 +28,19 @@ among_some k [] among none = among
 among_some k (x ∷ xs) among none = cc
 
 -- words with a fault
-pub runs_refused : (words : List Text) (k : ErrorKind) (before middle after : ℕ) (shelf : Shelf) (input : Source) (out notes notes' : End) (status : ℕ) → IsAmong k (fault_of program words) → middle ≡ before
-    → TellsFault middle after notes notes' status → RunsWords words (world before shelf input out notes) (world after shelf input out notes') status
-runs_refused words k before middle after shelf input out notes notes' status among same (inl starved) =
+pub runs_refused : (words : List Text) (k : ErrorKind) (before middle after : ℕ) (shelf : Shelf) (d d' : Devices) (status : ℕ) → IsAmong k (fault_of program words) → middle ≡ before
+    → d' ≡ record d { notes = d'.notes } → TellsFault middle after d.notes d'.notes status → RunsWords words (world before shelf d) (world after shelf d') status
+runs_refused words k before middle after shelf d d' status among same kept (inl starved) =
     inl (record {
       refused = starved.0 ∙ ap (λ (n : ℕ). n + 1) same;
-      desk_kept = ap (λ (e : End). desk shelf (devices input out e)) starved.1;
+      desk_kept = ap (λ (x : Devices). desk shelf x) (kept ∙ ap (λ (e : End). record d { notes = e }) starved.1);
       status_is = starved.2;
     })
-runs_refused words k before middle after shelf input out notes notes' status among same (inr told) =
+runs_refused words k before middle after shelf d d' status among same kept (inr told) =
     inr (inl (record {
       faulty = among_some k (fault_of program words) among;
       refusals_kept = told.0 ∙ same;
       shelf_kept = refl;
       text = told.1.0;
-      told = tells_usage input out notes notes' told.1.0 status told.1.1;
+      told = record { input = ap (λ (x : Devices). x.input) kept; out = ap (λ (x : Devices). x.out) kept; told = told.1.1 };
     }))

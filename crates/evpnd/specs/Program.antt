@@ -1,6 +1,6 @@
 -- A run of the program, from its words to its status.
 use Rattle.std.specs.Prelude.{◌≡◌, ◌≢◌, ℕ, ◌+◌, ◌⊎◌, true, false, List, [], codes, map, string_bytes}
-use Rattle.ether_wire.specs.Ends.{End, Source}
+use Rattle.ether_wire.specs.Ends.{End}
 use Rattle.clap.specs.Words.{fault_of}
 use Rattle.evpnd.specs.declared.program.Line.{Line}
 use Rattle.evpnd.specs.declared.program.Line.TheVariants.{Words, NotText, NoMemory}
@@ -9,7 +9,7 @@ use Rattle.ev_words.specs.declared.words.Subcommand.TheVariants.{Report, Migrate
 use Rattle.ev_words.specs.Words.{program, Spells}
 use Rattle.ev_report.specs.Originators.{Text}
 use Rattle.ev_report.specs.Telling.{IsTold, TellsUsage, OfList}
-use Rattle.ev_report.specs.Ends.{Devices, devices}
+use Rattle.ev_report.specs.Ends.{Devices}
 use Rattle.evpnd.specs.Files.{Shelf}
 use Rattle.evpnd.specs.Checks.{Desk, desk, OfFile, Checks}
 use Rattle.ev_report.specs.Runs.{Reports}
@@ -21,8 +21,8 @@ pub record World : Type 0 where
   pub refusals : ℕ
   pub desk : Desk
 
-abbrev pub world : ℕ → Shelf → Source → End → End → World
-world refusals shelf input out notes = record { refusals = refusals; desk = desk shelf (devices input out notes) }
+abbrev pub world : ℕ → Shelf → Devices → World
+world refusals shelf devices = record { refusals = refusals; desk = desk shelf devices }
 
 -- ---- usage
 

@@ -11,6 +11,7 @@ mod simulate;
 use crate::files::SystemFiles;
 use crate::program::{Line, run};
 use ether_wire::{Reader, Writer};
+use ev_report::Devices;
 use ev_words::ClapParser;
 use std::io;
 use std::process::ExitCode;
@@ -19,20 +20,13 @@ fn main(rt: HostRuntime) -> ExitCode {
     let line = line_of(&rt);
     let mut parser = ClapParser::new(rt.alloc());
     let mut files = SystemFiles::new(&rt);
-    let mut reader = Reader::new(rt.stdin());
     let (stdout, stderr) = (rt.stdout(), rt.stderr());
-    let out = Writer::new(io::writer(&stdout));
-    let notes = Writer::new(io::writer(&stderr));
-    let (status, _, _) = run(
-        &rt,
-        rt.alloc(),
-        &mut parser,
-        &line,
-        &mut files,
-        &mut reader,
-        out,
-        notes,
-    );
+    let devices = Devices {
+        reader: Reader::new(rt.stdin()),
+        out: Writer::new(io::writer(&stdout)),
+        notes: Writer::new(io::writer(&stderr)),
+    };
+    let (status, _) = run(&rt, rt.alloc(), &mut parser, &line, &mut files, devices);
     ExitCode::from(status)
 }
 

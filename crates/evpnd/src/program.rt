@@ -1,11 +1,11 @@
 //! A run of the program: from its words, over its devices, to its status.
 ghost use Rattle.std.specs.Prelude.{◌≡◌, ◌≢◌, ◌+◌, ◌<◌, ◌^◌, map, string_bytes, [], is_ok, if◌then◌else◌, false};
-ghost use Rattle.ether_wire.specs.Ends.{IsOpen, Allows};
+ghost use Rattle.ether_wire.specs.Ends.{IsOpen};
 ghost use Rattle.clap.specs.Words.{fault_of};
-ghost use Rattle.ev_report.specs.Ends.{devices};
+ghost use Rattle.ev_report.specs.Ends.{AreOpen};
 ghost use Rattle.ev_words.specs.Words.{program, parts_of};
 ghost use Rattle.evpnd.specs.Files.{HasRoom};
-ghost use Rattle.evpnd.specs.Checks.{desk};
+ghost use Rattle.evpnd.specs.Checks.{desk, OfFile, Checks};
 ghost use Rattle.evpnd.specs.Program.{world, TellsFault, not_text, FollowsAs, Follows, RunsWords, RunsProgram};
 
 use crate::check::check;
@@ -14,7 +14,7 @@ use crate::run_file::run_file;
 use crate::simulate::simulate;
 use clap::Error;
 use ether_wire::{In, Out};
-use ev_report::{MEMORY, migrate_list, report_list, tell};
+use ev_report::{Devices, MEMORY, migrate_list, report_list, tell, tell_words};
 use ev_words::{Order, Parser, Refusal, Subcommand, order_of};
 use std::alloc::Global;
 use std::net::Net;
@@ -46,31 +46,42 @@ fn tell_fault<P: Parser, N: Out>(parser: &mut P, error: &Error, notes: &mut N) -
     }
 }
 
+/// Checks the configuration in the file at a path, whatever is on the input.
+fn check_on<F: Files, R: In, W: Out, N: Out>(
+    alloc: Global,
+    files: &mut F,
+    path: &str,
+    devices: Devices<R, W, N>,
+) -> (u8, Devices<R, W, N>)
+    requires files { HasRoom (F.shelf files.old) }
+    requires devices { AreOpen devices }
+    ensures { OfFile false Checks path.now (desk (F.shelf files.old) devices)
+        (desk (F.shelf files.new) result.1) result.0 }
+{
+    let Devices { reader, out, notes } = devices;
+    let (status, out, notes) = check(alloc, files, path, out, notes);
+    (status, Devices { reader, out, notes })
+}
+
 /// Does what the words say.
 fn follow<H: Threads + Wait + Net + Clock + Sync, F: Files, R: In, W: Out, N: Out>(
     rt: &H,
     alloc: Global,
     order: Order<'_>,
     files: &mut F,
-    reader: &mut R,
-    out: W,
-    notes: N,
-) -> (u8, W, N)
+    devices: Devices<R, W, N>,
+) -> (u8, Devices<R, W, N>)
     requires files { HasRoom (F.shelf files.old) }
-    requires reader { Allows (2 ^ 40) (R.end reader.old) }
-    requires out { IsOpen (W.end out) }
-    requires notes { IsOpen (N.end notes) }
-    ensures { Follows (parts_of order.entry)
-        (desk (F.shelf files.old) (devices (R.end reader.old) (W.end out) (N.end notes)))
-        (desk (F.shelf files.new) (devices (R.end reader.new) (W.end result.1) (N.end result.2)))
-        result.0 }
+    requires devices { AreOpen devices }
+    ensures { Follows (parts_of order.entry) (desk (F.shelf files.old) devices)
+        (desk (F.shelf files.new) result.1) result.0 }
 {
     match order.subcommand {
-        Subcommand::Report => report_list(alloc, order.value, reader, out, notes),
-        Subcommand::Migrate => migrate_list(alloc, order.value, reader, out, notes),
-        Subcommand::Check => check(alloc, files, order.value, out, notes),
-        Subcommand::Simulate => simulate(alloc, files, order.value, reader, out, notes),
-        Subcommand::Run => run_file(rt, alloc, files, order.value, reader, out, notes),
+        Subcommand::Report => report_list(alloc, order.value, devices),
+        Subcommand::Migrate => migrate_list(alloc, order.value, devices),
+        Subcommand::Check => check_on(alloc, files, order.value, devices),
+        Subcommand::Simulate => simulate(alloc, files, order.value, devices),
+        Subcommand::Run => run_file(rt, alloc, files, order.value, devices),
     }
 }
 
@@ -81,30 +92,25 @@ fn run_words<H: Threads + Wait + Net + Clock + Sync, P: Parser, F: Files, R: In,
     parser: &mut P,
     words: &[String],
     files: &mut F,
-    reader: &mut R,
-    out: W,
-    mut notes: N,
-) -> (u8, W, N)
+    devices: Devices<R, W, N>,
+) -> (u8, Devices<R, W, N>)
     requires parser { P.refusals parser.old + 1 < 2 ^ 64 }
     requires files { HasRoom (F.shelf files.old) }
-    requires reader { Allows (2 ^ 40) (R.end reader.old) }
-    requires out { IsOpen (W.end out) }
-    requires notes { IsOpen (N.end notes) }
+    requires devices { AreOpen devices }
     ensures { RunsWords (map string_bytes words.now)
-        (world (P.refusals parser.old) (F.shelf files.old) (R.end reader.old) (W.end out)
-        (N.end notes))
-        (world (P.refusals parser.new) (F.shelf files.new) (R.end reader.new) (W.end result.1)
-        (N.end result.2)) result.0 }
+        (world (P.refusals parser.old) (F.shelf files.old) devices)
+        (world (P.refusals parser.new) (F.shelf files.new) result.1) result.0 }
 {
+    let mut devices = devices;
     match order_of(parser, words) {
-        Ok(order) => follow(rt, alloc, order, files, reader, out, notes),
-        Err(Refusal::Usage(error)) => (tell_fault(parser, &error, &mut notes), out, notes),
-        Err(Refusal::NoMemory) => (MEMORY, out, notes),
+        Ok(order) => follow(rt, alloc, order, files, devices),
+        Err(Refusal::Usage(error)) => { (tell_fault(parser, &error, &mut devices.notes), devices) }
+        Err(Refusal::NoMemory) => (MEMORY, devices),
     }
 }
 
-/// A run of the program: it follows the order that the words are, or tells on `notes` what is wrong
-/// with them. It takes the writers, and gives them back.
+/// A run of the program: it follows the order that the words are, or tells on the notes what is
+/// wrong with them. It takes the devices, and gives them back.
 ///
 /// The status is the greatest that applies: 4 where a device failed, 3 where memory was refused, 2
 /// where the words aren't the program's or ask for help, or a configuration is faulty, 1 where the
@@ -122,33 +128,17 @@ pub(crate) fn run<
     parser: &mut P,
     line: &Line,
     files: &mut F,
-    reader: &mut R,
-    out: W,
-    mut notes: N,
-) -> (u8, W, N)
+    devices: Devices<R, W, N>,
+) -> (u8, Devices<R, W, N>)
     requires parser { P.refusals parser.old + 1 < 2 ^ 64 }
     requires files { HasRoom (F.shelf files.old) }
-    requires reader { Allows (2 ^ 40) (R.end reader.old) }
-    requires out { IsOpen (W.end out) }
-    requires notes { IsOpen (N.end notes) }
-    ensures { RunsProgram line.now
-        (world (P.refusals parser.old) (F.shelf files.old) (R.end reader.old) (W.end out)
-        (N.end notes))
-        (world (P.refusals parser.new) (F.shelf files.new) (R.end reader.new) (W.end result.1)
-        (N.end result.2)) result.0 }
+    requires devices { AreOpen devices }
+    ensures { RunsProgram line.now (world (P.refusals parser.old) (F.shelf files.old) devices)
+        (world (P.refusals parser.new) (F.shelf files.new) result.1) result.0 }
 {
     match line {
-        Line::Words(words) => run_words(
-            rt,
-            alloc,
-            parser,
-            words.as_slice(),
-            files,
-            reader,
-            out,
-            notes,
-        ),
-        Line::NotText => (tell(b"error: a word isn't UTF-8\n", &mut notes), out, notes),
-        Line::NoMemory => (MEMORY, out, notes),
+        Line::Words(words) => run_words(rt, alloc, parser, words.as_slice(), files, devices),
+        Line::NotText => tell_words(b"error: a word isn't UTF-8\n", devices),
+        Line::NoMemory => (MEMORY, devices),
     }
 }

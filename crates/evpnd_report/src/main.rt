@@ -8,16 +8,19 @@ mod program;
 
 use crate::program::{Line, run};
 use ether_wire::{Reader, Writer};
+use ev_report::Devices;
 use std::io;
 use std::process::ExitCode;
 
 fn main(rt: HostRuntime) -> ExitCode {
     let line = line_of(&rt);
-    let mut reader = Reader::new(rt.stdin());
     let (stdout, stderr) = (rt.stdout(), rt.stderr());
-    let out = Writer::new(io::writer(&stdout));
-    let notes = Writer::new(io::writer(&stderr));
-    let (status, _, _) = run(rt.alloc(), &line, &mut reader, out, notes);
+    let devices = Devices {
+        reader: Reader::new(rt.stdin()),
+        out: Writer::new(io::writer(&stdout)),
+        notes: Writer::new(io::writer(&stderr)),
+    };
+    let (status, _) = run(rt.alloc(), &line, devices);
     ExitCode::from(status)
 }
 

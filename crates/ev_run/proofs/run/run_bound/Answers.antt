@@ -1,4 +1,4 @@
-use Rattle.std.proofs.Common.{rules, ℕ, List, sym, subst, ◌∙◌}
+use Rattle.std.proofs.Common.{rules, List, sym, subst, ◌∙◌}
 use Rattle.ether_wire.specs.Ends.{Source}
 use Rattle.ev_run.specs.RunEdges.{ReadsOut, Ended, TellsEnded}
 use Rattle.ev_run.proofs.run.run_bound.Goals as goal

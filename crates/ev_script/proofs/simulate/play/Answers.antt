@@ -1,4 +1,4 @@
-use Rattle.std.proofs.Common.{Bool, not, ◌||◌, is_ok, is_some, ap, subst, ◌∙◌}
+use Rattle.std.proofs.Common.{Bool, not, ◌||◌, is_ok, ap, subst, ◌∙◌}
 use Rattle.ev_report.specs.Notes.{status_of}
 use Rattle.ev_script.specs.Printing.{Minds}
 use Rattle.ev_script.proofs.Simulating.{plays_on}

@@ -1,26 +1,19 @@
-use Rattle.std.proofs.Common.{ℕ, subst}
-use Rattle.ether_wire.specs.Ends.{End}
-use Rattle.ether_wire.specs.Buffered.{buffered_end}
-use Rattle.ev_report.specs.Ends.{devices, Finishes}
-use Rattle.ev_script.specs.Simulation.{Simulates}
-use Rattle.ev_script.proofs.Simulating.{buffered_simulates}
+use Rattle.std.proofs.Common.{List, ℕ, Ok, Err, subst}
+use Rattle.ev_script.specs.Simulation.{PlaysRead}
+use Rattle.ev_script.proofs.Simulating.{plays_unread}
 use Rattle.ev_script.proofs.simulate.simulate_run.Goals as goal
 
-pub returns : goal.returns
-returns g c =
-    let run = c.read_and_play-status in
-    let configs = c.args.configs.items in
-    let reader = g.R.In.end c.args.reader.now in
-    let reader' = g.R.In.end run.new.reader in
-    let out : End = g.W.Out.end c.args.out in
-    let held : End = buffered_end g.W.Out.end run.new.out in
-    let out' : End = g.W.Out.end c.finish-out.result.0 in
-    let notes : End = g.N.Out.end c.args.notes in
-    let kept : End = buffered_end g.N.Out.end run.new.notes in
-    let notes' : End = g.N.Out.end c.finish-notes.result.0 in
-    let first = subst (λ (a : End). Simulates configs (devices reader a (buffered_end g.N.Out.end c.new-notes.result)) (devices reader' held kept) run.result) c.new-out.ensures run.ensures in
-    let both = subst (λ (a : End). Simulates configs (devices reader out a) (devices reader' held kept) run.result) c.new-notes.ensures first in
-    buffered_simulates reader reader' out held out' notes kept notes' c.finish-out.result.1 c.finish-notes.result.1 run.result c.last_status.result
-    (subst (λ (n : ℕ). Finishes n held out' c.finish-out.result.1) c.failures-out_failures.ensures c.finish-out.ensures)
-    (subst (λ (n : ℕ). Finishes n kept notes' c.finish-notes.result.1) c.failures-notes_failures.ensures c.finish-notes.ensures)
-    c.last_status.ensures configs both
+pub returns-in-Ok : goal.returns-in-Ok
+returns-in-Ok g c = record {
+  script = Ok c.in-Ok.script.items;
+  read = c.in-Ok.ensures;
+  plays = subst (λ (s : List ℕ). PlaysRead c.args.configs.items (Ok s) (g.W.Out.end c.args.out.now) (g.W.Out.end c.open_and_play.new.out) (g.N.Out.end c.args.notes.now) (g.N.Out.end c.open_and_play.new.notes) c.open_and_play.result)
+      c.as_slice.ensures.value c.open_and_play.ensures;
+}
+
+pub returns-in-Err : goal.returns-in-Err
+returns-in-Err g c = record {
+  script = Err c.in-Err.unread;
+  read = c.in-Err.ensures;
+  plays = plays_unread c.args.configs.items c.in-Err.unread (g.W.Out.end c.args.out.now) (g.N.Out.end c.args.notes.now) c.unread_status.result c.unread_status.ensures;
+}

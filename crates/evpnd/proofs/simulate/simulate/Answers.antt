@@ -1,18 +1,30 @@
-use Rattle.std.proofs.Common.{false}
-use Rattle.evpnd.specs.Used.{SimulatesEdges}
-use Rattle.evpnd.specs.Checks.{desk}
-use Rattle.ev_report.specs.Ends.{devices}
+use Rattle.std.proofs.Common.{false, refl, subst}
+use Rattle.ev_report.specs.Ends.{Devices, devices}
+use Rattle.evpnd.specs.Used.{SimulatesEdges, SimulatesFound}
+use Rattle.evpnd.specs.Checks.{desk, OfFile}
 use Rattle.evpnd.proofs.Filed.{of_never, of_used}
 use Rattle.evpnd.proofs.simulate.simulate.Goals as goal
 
 pub returns-in-Ok : goal.returns-in-Ok
 returns-in-Ok g c =
-    of_used SimulatesEdges false c.args.path.now (g.F.Files.shelf c.args.files.now) (g.F.Files.shelf c.configured.new.files) (g.R.In.end c.args.reader.now) (g.R.In.end c.simulate_run.new.reader)
-    (g.W.Out.end c.args.out) (g.W.Out.end c.simulate_run.result.1) (g.N.Out.end c.args.notes) (g.N.Out.end c.configured.new.notes) (g.N.Out.end c.simulate_run.result.2)
-    c.in-Ok.config c.simulate_run.result.0 c.in-Ok.ensures.value c.simulate_run.ensures
+    let before = devices (g.R.In.end c.devices.inside.reader) (g.W.Out.end c.devices.inside.out)
+        (g.N.Out.end c.devices.inside.notes) in
+    let s = g.F.Files.shelf c.args.files.now in
+    let s' = g.F.Files.shelf c.configured.new.files in
+    subst (λ (d : Devices). OfFile false SimulatesFound c.args.path.now (desk s d) (desk s' c.simulate_buffered.result.1) c.simulate_buffered.result.0)
+    c.devices.view_is
+    (of_used SimulatesEdges false c.args.path.now s s' before
+    (devices (g.R.In.end c.devices.inside.reader) (g.W.Out.end c.devices.inside.out) (g.N.Out.end c.configured.new.notes))
+    c.simulate_buffered.result.1 c.in-Ok.config c.simulate_buffered.result.0 c.in-Ok.ensures.value refl c.simulate_buffered.ensures)
 
 pub returns-in-Err : goal.returns-in-Err
 returns-in-Err g c =
-    of_never SimulatesEdges false c.args.path.now (desk (g.F.Files.shelf c.args.files.now) (devices (g.R.In.end c.args.reader.now) (g.W.Out.end c.args.out) (g.N.Out.end c.args.notes)))
-    (desk (g.F.Files.shelf c.configured.new.files) (devices (g.R.In.end c.args.reader.now) (g.W.Out.end c.args.out) (g.N.Out.end c.configured.new.notes)))
-    c.in-Err.status (c.in-Err.ensures.value (g.R.In.end c.args.reader.now) (g.W.Out.end c.args.out))
+    let before = devices (g.R.In.end c.devices.inside.reader) (g.W.Out.end c.devices.inside.out)
+        (g.N.Out.end c.devices.inside.notes) in
+    let s = g.F.Files.shelf c.args.files.now in
+    let s' = g.F.Files.shelf c.configured.new.files in
+    subst (λ (d : Devices). OfFile false SimulatesFound c.args.path.now (desk s d) (desk s' (devices (g.R.In.end c.devices.inside.reader) (g.W.Out.end c.devices.inside.out) (g.N.Out.end c.configured.new.notes))) c.in-Err.status)
+    c.devices.view_is
+    (of_never SimulatesEdges false c.args.path.now (desk s before)
+    (desk s' (devices (g.R.In.end c.devices.inside.reader) (g.W.Out.end c.devices.inside.out) (g.N.Out.end c.configured.new.notes)))
+    c.in-Err.status (c.in-Err.ensures.value (g.R.In.end c.devices.inside.reader) (g.W.Out.end c.devices.inside.out)))
