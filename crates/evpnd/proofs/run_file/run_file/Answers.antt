@@ -9,7 +9,7 @@ use Rattle.evpnd.proofs.run_file.run_file.Goals as goal
 pub returns-in-Ok : goal.returns-in-Ok
 returns-in-Ok g c =
     let before = devices (g.R.In.end c.devices.inside.reader) (g.W.Out.end c.devices.inside.out)
-        (g.N.Out.end c.devices.inside.notes) in
+    (g.N.Out.end c.devices.inside.notes) in
     let s = g.F.Files.shelf c.args.files.now in
     let s' = g.F.Files.shelf c.configured.new.files in
     subst (λ (d : Devices). OfFile true RunsFound c.args.path.now (desk s d) (desk s' c.run_buffered.result.1) c.run_buffered.result.0)
@@ -21,7 +21,7 @@ returns-in-Ok g c =
 pub returns-in-Err : goal.returns-in-Err
 returns-in-Err g c =
     let before = devices (g.R.In.end c.devices.inside.reader) (g.W.Out.end c.devices.inside.out)
-        (g.N.Out.end c.devices.inside.notes) in
+    (g.N.Out.end c.devices.inside.notes) in
     let s = g.F.Files.shelf c.args.files.now in
     let s' = g.F.Files.shelf c.configured.new.files in
     subst (λ (d : Devices). OfFile true RunsFound c.args.path.now (desk s d) (desk s' (devices (g.R.In.end c.devices.inside.reader) (g.W.Out.end c.devices.inside.out) (g.N.Out.end c.configured.new.notes))) c.in-Err.status)
