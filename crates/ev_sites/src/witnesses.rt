@@ -1,5 +1,5 @@
-//! Sites that meet the premises of the laws, as a function that does nothing: the contract says that
-//! there are such.
+//! Sites that meet the premises of the laws, as a function that does nothing: the contract says
+//! that there are such.
 
 ghost use Rattle.ev_sites.specs.Witnesses.{SitesOfAFabric};
 
