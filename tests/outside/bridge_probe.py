@@ -1,17 +1,28 @@
 #!/usr/bin/env python3
-"""Sends numbered broadcasts from a device, or counts how often each of them comes to one.
+"""Sends numbered broadcasts from a device, counts how often each of them comes to one, or both at once.
 
 usage: tests/outside/bridge_probe.py send DEVICE COUNT
        tests/outside/bridge_probe.py count DEVICE SECONDS
+       tests/outside/bridge_probe.py talk DEVICE BEGIN SECONDS MAC..
 
 `count` prints `ready` when it has begun. It ends once nothing has come for so many seconds, or after ten times as many, and
 prints how many came, and how many of them were new.
+
+`talk` sends fifty a second, from BEGIN (seconds since 1970) on, for so many seconds. It tells of each other sender that it is named:
+how many of its frames are lost, how many came once more than they should, for how long at most none came, and how long before
+the end the last one was sent.
 """
 import socket
 import sys
 import time
 
 ETHERTYPE = 0x88B5  # for experiments of one's own (IEEE 802)
+RATE = 50
+
+
+def broadcast(source, number):
+    """A frame with this number."""
+    return b"\xff" * 6 + source + ETHERTYPE.to_bytes(2, "big") + number.to_bytes(4, "big") + bytes(42)
 
 
 def send(device, count):
@@ -20,7 +31,7 @@ def send(device, count):
     link.bind((device, 0))
     source = link.getsockname()[4]
     for number in range(int(count)):
-        link.send(b"\xff" * 6 + source + ETHERTYPE.to_bytes(2, "big") + number.to_bytes(4, "big") + bytes(42))
+        link.send(broadcast(source, number))
         time.sleep(0.01)
 
 
@@ -45,5 +56,54 @@ def count(device, seconds):
     print(came, len(new))
 
 
+class Heard:
+    """What came of one sender, who began and ended at these times."""
+
+    def __init__(self, begin, end):
+        self.came, self.new, self.end = 0, set(), end
+        self.last, self.silence = begin, 0.0
+
+    def take(self, number):
+        """Counts a frame that came."""
+        self.came += 1
+        if number not in self.new:
+            now = min(time.time(), self.end)
+            self.new.add(number)
+            self.silence, self.last = max(self.silence, now - self.last), max(now, self.last)
+
+    def told(self, sent):
+        """The line's figures, of so many frames that were sent."""
+        silence = max(self.silence, self.end - self.last)
+        newest = max(self.new, default=0) / RATE
+        return f"{sent - len(self.new)} {self.came - len(self.new)} {silence:.1f} {sent / RATE - newest:.1f}"
+
+
+def talk(device, begin, seconds, *others):
+    """Sends while it counts what the others send."""
+    link = socket.socket(socket.AF_PACKET, socket.SOCK_RAW, socket.htons(ETHERTYPE))
+    link.bind((device, ETHERTYPE))
+    source = link.getsockname()[4]
+    begin, all_of_them = float(begin), int(float(seconds) * RATE)
+    end = begin + float(seconds)
+    heard = {bytes.fromhex(mac.replace(":", "")): Heard(begin, end) for mac in others}
+    sent = 0
+    # what is under way at the end has two seconds more
+    while (now := time.time()) < end + 2:
+        due = begin + sent / RATE if sent < all_of_them else end + 2
+        if due <= now:
+            link.send(broadcast(source, sent))
+            sent += 1
+            continue
+        link.settimeout(due - now)
+        try:
+            frame, place = link.recvfrom(65535)
+        except socket.timeout:
+            continue
+        if place[2] != socket.PACKET_OUTGOING and frame[6:12] in heard:
+            heard[frame[6:12]].take(int.from_bytes(frame[14:18], "big"))
+    for mac, it in heard.items():
+        print(mac.hex(":"), it.told(all_of_them))
+
+
 if __name__ == "__main__":
-    {"send": send, "count": count}[sys.argv[1]](*sys.argv[2:])
+    {"send": send, "count": count, "talk": talk}[sys.argv[1]](*sys.argv[2:])

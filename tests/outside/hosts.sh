@@ -34,15 +34,6 @@ local = "127.0.0.2:20002"
 remote = "127.0.0.1:30003"
 TOML
 
-# host NAME ADDRESS MAC: a host with its device; sets `it`
-host() {
-  space "$1"
-  ip -n "$it" tuntap add dev eth mode tap
-  ip netns exec "$it" sysctl -qw net.ipv6.conf.eth.disable_ipv6=1
-  ip -n "$it" link set eth address "$3" mtu 1450 up
-  ip -n "$it" address add "$2/24" dev eth
-}
-
 # received FILE: how many of the pings in the file were answered
 received() { grep -c 'bytes from' "$1"; }
 

@@ -32,25 +32,28 @@ TOML
   done >> "$work/edges.toml"
 }
 
-# host NAME: a host at the edge's third port; sets `host`
-host() {
-  space "$1"
+# above NAME: a host at the edge's third port; sets `host`
+above() {
+  host "$1" 192.168.78.2 02:00:00:00:00:02
   host=$it
-  tap "$host" eth
-  ip -n "$host" address add 192.168.78.2/24 dev eth
   plug "$host" eth 127.0.0.1:30003 127.0.0.1:20003
 }
 
-# leaf NAME: a host with a cable to the bridge in the namespace `switch`; sets `leaf`
-leaf() {
-  space "$1"
+# below NAME: two devices for cables to the edge in the namespace `switch`, and a host whose cable ends there; sets `leaf`
+below() {
+  tap "$switch" p1
+  tap "$switch" p2
+  leaf "$1" 192.168.78.1 02:00:00:00:00:01 "$switch" leg
   leaf=$it
-  ip -n "$switch" link add leg type veth peer name eth netns "$leaf"
-  ip netns exec "$switch" sysctl -qw net.ipv6.conf.leg.disable_ipv6=1
-  ip netns exec "$leaf" sysctl -qw net.ipv6.conf.eth.disable_ipv6=1
-  ip -n "$leaf" address add 192.168.78.1/24 dev eth
-  ip -n "$leaf" link set eth up
-  ip -n "$switch" link set leg up
+}
+
+# linux_below NAME PRIORITY: Linux's bridge with these three as its ports; sets `switch` and `leaf`
+linux_below() {
+  linux "$1" "$2"
+  switch=$it
+  below "$1-leaf"
+  local device
+  for device in p1 p2 leg; do ip -n "$switch" link set "$device" master br0; done
 }
 
 # state DEVICE: how Linux's bridge has a port
@@ -110,27 +113,12 @@ unwired() {
   rm "$work/input"
 }
 
-# linux NAME PRIORITY: Linux's bridge of this priority
-linux() {
-  space "$1"
-  switch=$it
-  ip -n "$switch" link add br0 type bridge stp_state 1 priority "$2" hello_time 100 max_age 600 forward_delay 400
-  tap "$switch" p1
-  tap "$switch" p2
-  ip -n "$switch" link set p1 master br0
-  ip -n "$switch" link set p2 master br0
-  ip netns exec "$switch" sysctl -qw net.ipv6.conf.br0.disable_ipv6=1
-  leaf "$1-leaf"
-  ip -n "$switch" link set leg master br0
-  ip -n "$switch" link set br0 up
-}
-
 echo "-- Linux's bridge below the edge: it blocks one of its ports"
 edges 4096
 start
-linux below 61440
+linux_below below 61440
 wired
-host host1
+above host1
 waits 30
 sleep 2
 echo "p1 $(state p1), p2 $(state p2)"
@@ -149,9 +137,9 @@ unwired
 echo "-- Linux's bridge above the edge: the edge blocks one of its ports"
 edges 61440
 start
-linux above 4096
+linux_below above 4096
 wired
-host host2
+above host2
 waits 30
 sleep 2
 echo "p1 $(state p1), p2 $(state p2)"
@@ -167,50 +155,29 @@ whole
 unwired
 
 if command -v ovs-vswitchd > "$work/found"; then
-  # ovs: Open vSwitch's bridge of this priority, in this run's namespace and folder
-  ovs() {
-    space ovs
-    switch=$it
-    export OVS_RUNDIR=$work/ovs OVS_LOGDIR=$work/ovs OVS_DBDIR=$work/ovs
-    mkdir "$work/ovs"
-    ovsdb-tool create "$work/ovs/conf.db" /usr/share/openvswitch/vswitch.ovsschema
-    ip netns exec "$switch" ovsdb-server "$work/ovs/conf.db" --remote="punix:$work/ovs/db.sock" 2> "$work/ovs/server" 7>&- &
-    pids+=($!)
-    sleep 1
-    ovs-vsctl --db="unix:$work/ovs/db.sock" --no-wait init
-    ip netns exec "$switch" ovs-vswitchd "unix:$work/ovs/db.sock" --unixctl="$work/ovs/ctl" 2> "$work/ovs/switch" 7>&- &
-    pids+=($!)
-    tap "$switch" p1
-    tap "$switch" p2
-    leaf ovs-leaf
-    ovs-vsctl --db="unix:$work/ovs/db.sock" -t 20 add-br ovs0 -- set bridge ovs0 datapath_type=netdev rstp_enable=true \
-      other_config:rstp-priority="$1" other_config:rstp-max-age=6 other_config:rstp-forward-delay=4 \
-      -- add-port ovs0 p1 -- add-port ovs0 p2 -- add-port ovs0 leg
-    ip netns exec "$switch" sysctl -qw net.ipv6.conf.ovs0.disable_ipv6=1
-    ip -n "$switch" link set ovs0 up
-  }
-  shows() { ovs-appctl -t "$work/ovs/ctl" rstp/show ovs0; }
-
   echo "-- Open vSwitch's bridge below the edge"
   edges 4096
   start
-  ovs 61440
+  ovs ovs
+  switch=$it
+  below ovs-leaf
+  ovs_bridge "$switch" ovs0 61440 p1 p2 leg
   wired
-  host host3
+  above host3
   waits 30
   sleep 2
-  shows | sed -n '/Interface/,$p'
+  ovs_shows ovs0
   tell "one of its ports is the root port and forwards, the other an alternate one and discards" \
-    [ "$(shows | grep -cE '^ *p[12] +Root +Forwarding') $(shows | grep -cE '^ *p[12] +Alternate +Discarding')" = "1 1" ]
+    [ "$(ovs_shows ovs0 | grep -cE '^ *p[12] +Root +Forwarding') $(ovs_shows ovs0 | grep -cE '^ *p[12] +Alternate +Discarding')" = "1 1" ]
   whole
-  passing=$(shows | grep -oE '^ *p[12] +Root' | grep -oE 'p[12]')
+  passing=$(ovs_shows ovs0 | grep -oE '^ *p[12] +Root' | grep -oE 'p[12]')
   echo "-- the passing link, $passing, is cut"
   unplug "$switch" "$passing"
   waits 30 > "$work/waited"; answer=$?
   cat "$work/waited"
   tell "the other link takes over" [ "$answer" = 0 ]
   sleep 2
-  shows | sed -n '/Interface/,$p'
+  ovs_shows ovs0
   whole
   unwired
 else

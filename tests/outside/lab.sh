@@ -1,8 +1,9 @@
-# Sourced by the scripts here that need Linux, root and network namespaces: namespaces, hosts, relays and a running evpnd.
-# Namespaces, folders and processes are this run's alone, and go with it. EVPND names the program; by default it is the one
-# that `rt run` leaves.
+# Sourced by the scripts here that need Linux, root and network namespaces: namespaces, hosts, bridges, relays and a running evpnd.
+# Namespaces, folders, processes and the loopback device with its ports are this run's alone, and go with it. EVPND names the
+# program; by default it is the one that `rt run` leaves.
 outside=$(cd "$(dirname "${BASH_SOURCE[0]}")" && pwd)
 evpnd=${EVPND:-$outside/../../crates/evpnd/out/evpnd}
+words=("$@")
 work=$(mktemp -d)
 spaces=()
 pids=()
@@ -18,12 +19,14 @@ clean() {
 trap clean EXIT
 trap 'exit 1' INT TERM HUP
 
-# needs COMMAND..: ends the run where one of them isn't there
+# needs COMMAND..: ends the run where one of them isn't there; else it goes on in a network namespace without a name
 needs() {
   local it
   for it in "$@"; do command -v "$it" > "$work/found" || { echo "this needs $it"; exit 2; }; done
   [ "$(id -u)" = 0 ] || { echo "this needs root"; exit 2; }
   [ -x "$evpnd" ] || { echo "this needs the built program: EVPND, or rt run in crates/evpnd"; exit 2; }
+  [ -n "${APART-}" ] || { rm -rf "$work"; APART=yes exec unshare --net bash "$0" "${words[@]}"; }
+  ip link set lo up
 }
 
 # space NAME: a network namespace of this run, with its loopback up; sets `it` to its full name
@@ -34,12 +37,70 @@ space() {
   ip -n "$it" link set lo up
 }
 
-# tap NETNS DEVICE: a tap device that outlives its relays, without IPv6, so that nothing speaks unasked
+# unasked NETNS DEVICE: without IPv6 at the device nothing speaks unasked
+unasked() { ip netns exec "$1" sysctl -qw "net.ipv6.conf.$2.disable_ipv6=1"; }
+
+# tap NETNS DEVICE: a tap device that outlives its relays
 tap() {
   ip -n "$1" tuntap add dev "$2" mode tap
-  ip netns exec "$1" sysctl -qw "net.ipv6.conf.$2.disable_ipv6=1"
+  unasked "$1" "$2"
   ip -n "$1" link set "$2" mtu 1450 up
 }
+
+# host NAME ADDRESS MAC: a namespace with a tap device, for a cable to an edge; sets `it`
+host() {
+  space "$1"
+  tap "$it" eth
+  ip -n "$it" link set eth address "$3"
+  ip -n "$it" address add "$2/24" dev eth
+}
+
+# leaf NAME ADDRESS MAC NETNS DEVICE: a namespace with a cable to a new device, for a bridge, in another one; sets `it`
+leaf() {
+  space "$1"
+  ip -n "$4" link add "$5" type veth peer name eth netns "$it"
+  unasked "$4" "$5"
+  unasked "$it" eth
+  ip -n "$it" link set eth address "$3" up
+  ip -n "$it" address add "$2/24" dev eth
+  ip -n "$4" link set "$5" up
+}
+
+# linux NAME PRIORITY: a namespace with Linux's bridge br0 of this priority, with the quickest timers; sets `it`
+linux() {
+  space "$1"
+  ip -n "$it" link add br0 type bridge stp_state 1 priority "$2" hello_time 100 max_age 600 forward_delay 400
+  unasked "$it" br0
+  ip -n "$it" link set br0 up
+}
+
+# ovs NAME: a namespace with Open vSwitch, of this run's own, for bridges by `ovs_bridge`; sets `it`
+ovs() {
+  space "$1"
+  export OVS_RUNDIR=$work/ovs OVS_LOGDIR=$work/ovs OVS_DBDIR=$work/ovs
+  mkdir "$work/ovs"
+  ovsdb-tool create "$work/ovs/conf.db" /usr/share/openvswitch/vswitch.ovsschema
+  ip netns exec "$it" ovsdb-server "$work/ovs/conf.db" --remote="punix:$work/ovs/db.sock" 2> "$work/ovs/server" 7>&- &
+  pids+=($!)
+  sleep 1
+  ovs-vsctl --db="unix:$work/ovs/db.sock" --no-wait init
+  ip netns exec "$it" ovs-vswitchd "unix:$work/ovs/db.sock" --unixctl="$work/ovs/ctl" 2> "$work/ovs/switch" 7>&- &
+  pids+=($!)
+}
+
+# ovs_bridge NETNS NAME PRIORITY DEVICE..: a bridge with RSTP and these devices as its ports
+ovs_bridge() {
+  local netns=$1 name=$2 priority=$3 device words=()
+  shift 3
+  for device in "$@"; do words+=(-- add-port "$name" "$device"); done
+  ovs-vsctl --db="unix:$work/ovs/db.sock" -t 20 add-br "$name" -- set bridge "$name" datapath_type=netdev rstp_enable=true \
+    other_config:rstp-priority="$priority" other_config:rstp-max-age=6 other_config:rstp-forward-delay=4 "${words[@]}"
+  unasked "$netns" "$name"
+  ip -n "$netns" link set "$name" up
+}
+
+# ovs_shows NAME: what the bridge says of its spanning tree
+ovs_shows() { ovs-appctl -t "$work/ovs/ctl" rstp/show "$1" | sed -n '/Interface/,$p'; }
 
 # plug NETNS DEVICE HERE THERE: a cable from the device to an edge's port
 plug() {

@@ -17,7 +17,9 @@ for signal in TERM INT; do
   # bash lets no background job of a script have SIGINT: python3 gives it back
   python3 -c 'import os, signal, sys; signal.signal(signal.SIGINT, signal.SIG_DFL); os.execv(sys.argv[1], sys.argv[1:])' \
     examples/run/evpnd-run examples/run/two_edges.toml < /dev/null > "$work/report" 2> "$work/notes" &
-  sleep 1.5
+  # the edges have begun, and signals are caught, when their tunnels are there (port 4789): ten seconds at the most
+  for _ in $(seq 100); do grep -q '0200007F:12B5' /proc/net/udp && break; sleep 0.1; done
+  sleep 0.5
   kill -s "$signal" $!
   wait $!
   tell "SIG$signal: the status is 0" $? 0

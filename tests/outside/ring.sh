@@ -1,0 +1,198 @@
+#!/usr/bin/env bash
+# Needs Linux, root, /dev/net/tun, iproute2, ping (iputils) and python3, and for its second ring openvswitch-switch (Debian's); takes
+# some five minutes, and little of a processor. It is no part of the gate.
+#
+# Two rings, each cut and healed at two places in turn. In each there are four hosts. Each sends fifty broadcasts a second, and
+# counts what comes from the other three:
+#
+# - of two edges and two Linux bridges with their spanning tree (802.1D): edge 1, bridge 1, edge 2, bridge 2. The edges serve two
+#   networks, so that there is no tunnel between them: a site at two edges of one network isn't supported. A host stands at each.
+#   Linux has no RSTP of its own: that wants mstpd, which Debian 12 hasn't;
+# - of three bridges, one edge and two of Open vSwitch, with RSTP. A host stands at each, and the fourth one at a second edge,
+#   behind the tunnel.
+#
+# No frame may come twice, at any time. None may be lost while nothing is cut or healed. When a cable is cut or healed, none may
+# come for as long as the spanning tree needs, at most: with 802.1D until the root's last message is too old, 6 seconds, and twice
+# the forward delay, 8 seconds; with RSTP three hellos of 2 seconds. A busy machine has 2 seconds more. After that all come again.
+set -u
+. "$(dirname "$0")/lab.sh"
+needs ip ping python3 sysctl
+
+# the hosts' names and namespaces; the host with number N has the address 192.168.80.N and the MAC 02:00:00:00:00:0N
+names=()
+hosts=()
+
+# edge NUMBER NETWORK PRIORITY PORTS: an edge with so many ports, of which the last one is a host's, and quick timers
+edge() {
+  cat << TOML
+[[edge]]
+address = "127.0.0.$1"
+bridge = "02:aa:00:00:00:0$1"
+vnis = [$2]
+priority = $3
+hello = 1
+max_age = 6
+forward_delay = 4
+TOML
+  local port
+  for port in $(seq "$4"); do
+    printf '[[edge.port]]\nvni = %s\nlocal = "127.0.0.%s:2000%s"\nremote = "127.0.0.%s:3000%s"\n' "$2" "$1" "$port" "$1" "$port"
+  done
+  echo 'admin_edge = true'
+}
+
+# cable EDGE PORT NETNS DEVICE: from an edge's port to a device
+cable() { plug "$3" "$4" "127.0.0.$1:3000$2" "127.0.0.$1:2000$2"; }
+
+# at_edge NAME EDGE PORT: the next host, at an edge's port
+at_edge() {
+  local number=${#hosts[@]}
+  host "$ring-$number" "192.168.80.$number" "02:00:00:00:00:0$number"
+  cable "$2" "$3" "$it" eth
+  names+=("$1")
+  hosts+=("$it")
+}
+
+# at_bridge NAME NETNS DEVICE: the next host, whose cable ends at a new device there
+at_bridge() {
+  local number=${#hosts[@]}
+  leaf "$ring-$number" "192.168.80.$number" "02:00:00:00:00:0$number" "$2" "$3"
+  names+=("$1")
+  hosts+=("$it")
+}
+
+# settled: waits until the first host's pings are answered by all, 40 seconds at most
+settled() {
+  local begun=$SECONDS number
+  for number in 1 2 3; do
+    until ip netns exec "${hosts[0]}" ping -c 1 -W 1 "192.168.80.$number" > "$work/pings"; do
+      [ $((SECONDS - begun)) -lt 40 ] || break
+    done
+  done
+  tell "pings are answered by all after $((SECONDS - begun)) seconds" [ $((SECONDS - begun)) -lt 40 ]
+}
+
+# talk SECONDS [ACTION..]: all hosts speak for so long; two seconds after they have begun something is done
+talk() {
+  local seconds=$1 begin=$(($(date +%s) + 3)) number other others talking=()
+  shift
+  for number in "${!hosts[@]}"; do
+    others=()
+    for other in "${!hosts[@]}"; do [ "$other" = "$number" ] || others+=("02:00:00:00:00:0$other"); done
+    ip netns exec "${hosts[number]}" python3 "$outside/bridge_probe.py" talk eth "$begin" "$seconds" "${others[@]}" \
+      > "$work/heard-$number" 7>&- &
+    talking+=($!)
+  done
+  sleep $((begin + 2 - $(date +%s)))
+  [ $# = 0 ] || "$@"
+  wait "${talking[@]}"
+  for number in "${!hosts[@]}"; do
+    while read -r other figures; do echo "$figures ${names[${other: -1}]} to ${names[number]}"; done < "$work/heard-$number"
+  done > "$work/heard"
+}
+
+# looks WHAT SILENCE LOST: no frame was doubled, no more than so many were lost, none came for so many seconds at most, and the end
+# of what was sent came, from each host to each other
+looks() {
+  local lost doubled silence late pairs
+  read -r lost doubled silence late pairs < <(awk '{ lost += $1; doubled += $2; if ($3 > silence) silence = $3; if ($4 > late) late = $4 }
+    END { print lost + 0, doubled + 0, silence * 10, late * 10, NR }' "$work/heard")
+  sort -k 3,3nr "$work/heard" | head -n 1 | {
+    read -r _ _ longest _ pair
+    echo "-- $1: $lost lost, $doubled doubled; none came for $longest seconds at most, $pair"
+  }
+  tell "$1: no frame comes twice" [ "$doubled" = 0 ]
+  tell "$1: at most $3 are lost" [ "$lost" -le "$3" ]
+  tell "$1: they pass again within $2 seconds, from each host to each other" \
+    [ "$pairs $((silence <= $2 * 10)) $((late <= 10))" = "12 1 1" ]
+}
+
+# cuts NAME SECONDS EDGE PORT NETNS DEVICE: a cable is pulled and put back
+cuts() {
+  local name=$1 seconds=$2 none_for=$(($2 * 50 * 12))
+  shift 2
+  talk $((seconds + 4)) unplug "$3" "$4"
+  looks "$name is cut" "$seconds" "$none_for"
+  talk $((seconds + 4)) cable "$@"
+  looks "$name is healed" "$seconds" "$none_for"
+  talk 5
+  looks "after that" 1 0
+}
+
+# over: the edges end, and the next ring has hosts of its own
+over() {
+  local number
+  for number in "${!relays[@]}"; do
+    # shellcheck disable=SC2086
+    unplug ${relays[$number]}
+  done
+  stop
+  tell "its status is 0, and nothing was lost" [ "$status $(cat "$work/notes")" = "0 " ]
+  rm "$work/input"
+  names=()
+  hosts=()
+}
+
+echo "-- a ring of two edges and two Linux bridges"
+ring=linux
+{ edge 1 5001 4096 3; edge 2 5002 61440 3; } > "$work/edges.toml"
+start
+bridges=()
+for number in 1 2; do
+  linux "bridge$number" $((number * 16384))
+  bridges+=("$it")
+  for device in edge1 edge2; do
+    tap "$it" $device
+    ip -n "$it" link set $device master br0
+  done
+done
+for number in 1 2; do
+  cable 1 $number "${bridges[number - 1]}" edge1
+  cable 2 $number "${bridges[number - 1]}" edge2
+done
+at_edge "the host at edge 1" 1 3
+at_edge "the host at edge 2" 2 3
+for number in 1 2; do
+  at_bridge "the host at bridge $number" "${bridges[number - 1]}" leg
+  ip -n "${bridges[number - 1]}" link set leg master br0
+done
+settled
+sleep 5
+talk 8
+looks "at rest" 1 0
+cuts "the cable from edge 1 to bridge 1" 16 1 1 "${bridges[0]}" edge1
+cuts "the cable from bridge 1 to edge 2" 16 2 1 "${bridges[0]}" edge2
+over
+
+if command -v ovs-vswitchd > "$work/found"; then
+  echo "-- a ring of an edge and two bridges of Open vSwitch, with a second edge behind the tunnel"
+  ring=ovs
+  { edge 1 5001 4096 3; edge 2 5001 4096 1; } > "$work/edges.toml"
+  start
+  ovs ovs
+  switch=$it
+  for device in up1 up2; do tap "$switch" $device; done
+  ip -n "$switch" link add between1 type veth peer name between2
+  for device in between1 between2; do
+    unasked "$switch" $device
+    ip -n "$switch" link set $device up
+  done
+  at_edge "the host at edge 1" 1 3
+  at_edge "the host at edge 2" 2 1
+  for number in 1 2; do
+    at_bridge "the host at bridge $number" "$switch" leg$number
+    ovs_bridge "$switch" ovs$number $((number * 16384)) up$number between$number leg$number
+  done
+  for number in 1 2; do cable 1 $number "$switch" up$number; done
+  settled
+  sleep 5
+  for number in 1 2; do ovs_shows ovs$number; done
+  talk 8
+  looks "at rest" 1 0
+  cuts "the cable from edge 1 to bridge 1" 6 1 1 "$switch" up1
+  cuts "the cable from edge 1 to bridge 2" 6 1 2 "$switch" up2
+  over
+else
+  echo "-- Open vSwitch isn't installed (openvswitch-switch): left out"
+fi
+end
