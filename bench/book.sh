@@ -1,22 +1,28 @@
 #!/usr/bin/env bash
 # Runs what is too long for the gate: a million calls of eight threads on one book, whose counts have to be exact and whose
 # journal has to replay to the same report before and after it is compacted; and compacts journals of 10,000 and of 100,000
-# updates, telling what each took.
-#   bench/book.sh
-# Needs the kit. It is no crate of this repository and proves nothing: its tests run in a copy of ev_book, beside those there.
+# updates, telling what each took. Then what memory a book takes, each in a process of its own: UPDATES updates of 1,000
+# registers have to fit in what 4,000 registers take, and 20 rounds of 20,000 stations in what two took.
+#   bench/book.sh [UPDATES]        (default: 10,000,000)
+# Needs the kit. It is no crate of this repository and proves nothing: its tests are built beside those of ev_book, without the
+# checks that `rt try` makes, whose allocator keeps what was freed.
 set -eu
 cd "$(dirname "$0")/.."
+updates=${1-10000000}
 work=$(mktemp -d)
 trap 'rm -rf "$work"' EXIT
-mkdir -p "$work/crates"
-for crate in $(sed -n 's/^ev_edge: //p' crates.txt) ev_edge ev_book; do
-  [ -d "crates/$crate" ] || continue
-  mkdir "$work/crates/$crate"
-  cp -r "crates/$crate/"{src,specs,proofs} "$work/crates/$crate/"
-  grep -E "^$crate( [^:]*)?:" crates.txt >> "$work/crates.txt"
-done
-cp HANDLES "$work/" 2> /dev/null || true
-cp bench/book/long.rt.txt "$work/crates/ev_book/src/tests/long.rt"
-sed -i 's/^mod journals;$/mod journals;\nmod long;/' "$work/crates/ev_book/src/tests.rt"
-git init -q "$work"
-(cd "$work/crates/ev_book" && rt try --test --seconds 1200)
+sed "s/^const UPDATES: u64 = .*;/const UPDATES: u64 = $updates;/" bench/book/long.rt.txt > "$work/long.rt"
+tools/try --tests ev_book "$work/long.rt" "$work/long"
+
+run() {
+  echo "-- $1"
+  "$work/long" "tests::long::$1" | tee "$work/said"
+}
+run eight_threads_make_a_million_calls
+run compacting_grows_with_the_journal
+run many_updates_of_1000_registers
+many=$(sed -n 's/ KiB for .*//p' "$work/said")
+run one_update_of_4000_registers
+few=$(sed -n 's/ KiB for .*//p' "$work/said")
+run rounds_of_20000_stations_take_no_more_memory
+[ "$many" -le "$few" ] || { echo "$updates updates of 1,000 registers took $many KiB, not at most $few"; exit 1; }

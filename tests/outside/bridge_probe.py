@@ -3,15 +3,16 @@
 
 usage: tests/outside/bridge_probe.py send DEVICE COUNT
        tests/outside/bridge_probe.py count DEVICE SECONDS
-       tests/outside/bridge_probe.py talk DEVICE BEGIN SECONDS MAC..
+       tests/outside/bridge_probe.py talk DEVICE FILE SECONDS MAC..
 
-`count` prints `ready` when it has begun. It ends once nothing has come for so many seconds, or after ten times as many, and
+`count` and `talk` print `ready` when they have begun to listen. `count` ends once nothing has come for so many seconds, or after ten times as many, and
 prints how many came, and how many of them were new.
 
-`talk` sends fifty a second, from BEGIN (seconds since 1970) on, for so many seconds. It tells of each other sender that it is named:
-how many of its frames are lost, how many came once more than they should, for how long at most none came, and how long before
-the end the last one was sent.
+`talk` sends fifty a second for so many seconds, from the time on that FILE holds once it is there (seconds since 1970). It tells of
+each other sender that it is named: how many of its frames are lost, how many came once more than they should, for how long at
+most none came, and how long before the end the last one was sent that came.
 """
+import os
 import socket
 import sys
 import time
@@ -78,13 +79,19 @@ class Heard:
         return f"{sent - len(self.new)} {self.came - len(self.new)} {silence:.1f} {sent / RATE - newest:.1f}"
 
 
-def talk(device, begin, seconds, *others):
+def talk(device, file, seconds, *others):
     """Sends while it counts what the others send."""
     link = socket.socket(socket.AF_PACKET, socket.SOCK_RAW, socket.htons(ETHERTYPE))
     link.bind((device, ETHERTYPE))
     source = link.getsockname()[4]
-    begin, all_of_them = float(begin), int(float(seconds) * RATE)
-    end = begin + float(seconds)
+    print("ready", flush=True)
+    while not os.path.exists(file):
+        if not os.path.isdir(os.path.dirname(file)):
+            sys.exit("the run has ended")
+        time.sleep(0.05)
+    with open(file, encoding="ascii") as it:
+        begin = float(it.read())
+    end, all_of_them = begin + float(seconds), int(float(seconds) * RATE)
     heard = {bytes.fromhex(mac.replace(":", "")): Heard(begin, end) for mac in others}
     sent = 0
     # what is under way at the end has two seconds more

@@ -110,7 +110,6 @@ unwired() {
   stop
   tell "its status is 0" [ "$status" = 0 ]
   tell "nothing was lost" [ ! -s "$work/notes" ]
-  rm "$work/input"
 }
 
 echo "-- Linux's bridge below the edge: it blocks one of its ports"

@@ -145,6 +145,7 @@ stop() {
   wait "$running" || status=$?
   local it
   for it in "${!pids[@]}"; do [ "${pids[$it]}" = "$running" ] && unset "pids[$it]"; done
+  rm "$work/input"
   echo "evpnd ended with status $status and said:"
   cat "$work/report" "$work/notes"
 }

@@ -74,37 +74,42 @@ settled() {
 
 # talk SECONDS [ACTION..]: all hosts speak for so long; two seconds after they have begun something is done
 talk() {
-  local seconds=$1 begin=$(($(date +%s) + 3)) number other others talking=()
+  local seconds=$1 number other others talking=()
   shift
+  rm -f "$work/begin" "$work"/heard-*
   for number in "${!hosts[@]}"; do
     others=()
     for other in "${!hosts[@]}"; do [ "$other" = "$number" ] || others+=("02:00:00:00:00:0$other"); done
-    ip netns exec "${hosts[number]}" python3 "$outside/bridge_probe.py" talk eth "$begin" "$seconds" "${others[@]}" \
+    ip netns exec "${hosts[number]}" python3 "$outside/bridge_probe.py" talk eth "$work/begin" "$seconds" "${others[@]}" \
       > "$work/heard-$number" 7>&- &
     talking+=($!)
   done
-  sleep $((begin + 2 - $(date +%s)))
+  until [ "$(cat "$work"/heard-* 2> "$work/ignored" | grep -c ready)" = 4 ]; do sleep 0.1; done
+  echo $(($(date +%s) + 1)) > "$work/beginning"
+  mv "$work/beginning" "$work/begin"
+  sleep 3
   [ $# = 0 ] || "$@"
   wait "${talking[@]}"
   for number in "${!hosts[@]}"; do
-    while read -r other figures; do echo "$figures ${names[${other: -1}]} to ${names[number]}"; done < "$work/heard-$number"
+    grep -v ready "$work/heard-$number" | while read -r other figures; do
+      echo "$figures ${names[${other: -1}]} to ${names[number]}"
+    done
   done > "$work/heard"
 }
 
 # looks WHAT SILENCE LOST: no frame was doubled, no more than so many were lost, none came for so many seconds at most, and the end
 # of what was sent came, from each host to each other
 looks() {
-  local lost doubled silence late pairs
-  read -r lost doubled silence late pairs < <(awk '{ lost += $1; doubled += $2; if ($3 > silence) silence = $3; if ($4 > late) late = $4 }
-    END { print lost + 0, doubled + 0, silence * 10, late * 10, NR }' "$work/heard")
-  sort -k 3,3nr "$work/heard" | head -n 1 | {
-    read -r _ _ longest _ pair
-    echo "-- $1: $lost lost, $doubled doubled; none came for $longest seconds at most, $pair"
-  }
+  local before=$differs lost doubled silence pair
+  read -r lost doubled silence pair < <(awk '
+    { lost += $1; doubled += $2; if ($3 >= silence) { silence = $3; pair = substr($0, index($0, "the host")) } }
+    END { print lost + 0, doubled + 0, silence + 0, pair }' "$work/heard")
+  echo "-- $1: $lost lost, $doubled doubled; none came for $silence seconds at most, $pair"
   tell "$1: no frame comes twice" [ "$doubled" = 0 ]
   tell "$1: at most $3 are lost" [ "$lost" -le "$3" ]
   tell "$1: they pass again within $2 seconds, from each host to each other" \
-    [ "$pairs $((silence <= $2 * 10)) $((late <= 10))" = "12 1 1" ]
+    [ "$(awk -v most="$2" '$3 <= most && $4 <= 1' "$work/heard" | wc -l)" = 12 ]
+  [ "$differs" = "$before" ] || sed 's/^/lost, doubled, silence, end: /' "$work/heard"
 }
 
 # cuts NAME SECONDS EDGE PORT NETNS DEVICE: a cable is pulled and put back
@@ -128,7 +133,6 @@ over() {
   done
   stop
   tell "its status is 0, and nothing was lost" [ "$status $(cat "$work/notes")" = "0 " ]
-  rm "$work/input"
   names=()
   hosts=()
 }

@@ -1,0 +1,125 @@
+#!/usr/bin/env bash
+# Needs Linux, root, iproute2 (ip, ss), util-linux (prlimit) and python3; takes a minute, in ten seconds of which it keeps two
+# processors busy. It is no part of the gate.
+#
+# What a run was attacked with, and what it should do then. `open` stands before what is known not to be so yet: whoever mends it puts
+# `tell` in its place. As long as anything differs, known or not, the status is 1. Two attacks have scripts of their own: storm.sh
+# (a storm of broadcasts), rounds.sh (stations that come back again and again).
+set -u
+. "$(dirname "$0")/lab.sh"
+needs ip ss prlimit python3
+known=0
+
+# open WHAT CONDITION..: `tell` of what is known not to be so
+open() {
+  local before=$differs
+  tell "$@"
+  if [ "$differs" != "$before" ]; then
+    known=$((known + 1))
+  else
+    echo "DIFFERS: that is so now, and its word is still 'open'"
+    differs=$((differs + 1))
+  fi
+}
+
+# edge NUMBER PORTS: an edge with so many ports, at each of which it says BPDUs
+edge() {
+  cat << TOML
+[[edge]]
+address = "127.0.0.$1"
+bridge = "02:aa:00:00:00:0$1"
+vnis = [5001]
+hello = 1
+max_age = 6
+forward_delay = 4
+TOML
+  local port
+  for port in $(seq "$2"); do
+    printf '[[edge.port]]\nvni = 5001\nadmin_edge = true\nlocal = "127.0.0.%s:%s"\nremote = "127.0.0.%s:%s"\n' \
+      "$1" $((20000 + port)) "$1" $((30000 + port))
+  done
+}
+
+probe() { python3 "$outside/port_probe.py" "$@" 7>&-; }
+
+# hears WHAT SAYING HEARING SECONDS: what is said at the first of two ports of edge 1 comes out at the second one, within this time
+hears() { probe hears "127.0.0.1:$((30000 + $1))" "127.0.0.1:$((20000 + $1))" "127.0.0.1:$((30000 + $2))" "$3"; }
+
+# notes LINES PATTERN: so many lines on standard error, one of which is like this
+notes() { [ "$(wc -l < "$work/notes")" = "$1" ] && grep -qE "$2" "$work/notes"; }
+
+edge 1 2 > "$work/edges.toml"
+run() { timeout 5 "$evpnd" run --config "$work/edges.toml"; }
+
+echo "-- descriptors that are closed when it begins"
+run <&- > "$work/report" 2> "$work/notes"
+status=$?
+open "run <&- ends with status 4" [ "$status" = 4 ]
+open "run <&- says so" notes 1 'descriptor 0|standard input'
+run < /dev/null >&- 2> "$work/notes"
+status=$?
+tell "run >&- ends with status 4" [ "$status" = 4 ]
+open "run >&- says so" notes 1 'descriptor 1|standard output'
+run < /dev/null > "$work/report" 2>&-
+status=$?
+open "run 2>&- ends with status 4" [ "$status" = 4 ]
+
+echo "-- a read or a write that fails"
+run < / > "$work/report" 2> "$work/notes"
+status=$?
+tell "a folder as standard input: status 4" [ "$status" = 4 ]
+open "a folder as standard input: a line" notes 1 'standard input'
+run < /dev/null > /dev/full 2> "$work/notes"
+status=$?
+tell "a full device as standard output: status 4" [ "$status" = 4 ]
+open "a full device as standard output: a line" notes 1 'standard output'
+
+echo "-- a station that moves between two edges until it is frozen"
+{ edge 1 1; edge 2 1; } > "$work/edges.toml"
+start
+probe moves 127.0.0.1:30001 127.0.0.1:20001 127.0.0.2:30001 127.0.0.2:20001 12 0.3
+sleep 0.7
+open "a frozen station is told within a second" grep -qx 'edge [12]: duplicate 5001 02:00:00:00:00:0a on port 1' "$work/notes"
+stop > "$work/stopped"
+tell "its status is 0" [ "$status" = 0 ]
+
+echo "-- a socket that fails once"
+edge 1 3 > "$work/edges.toml"
+start
+tell "port 2 hears port 1" hears 1 2 5
+ss -K -u -a src 127.0.0.1:20001 > "$work/ss"
+sleep 0.5
+open "that is told" notes 1 '^edge 1 port 1: receiving failed'
+open "port 1 is taken again, within two seconds" hears 1 2 2
+tell "port 3 hears port 2 meanwhile" hears 2 3 2
+stop > "$work/stopped"
+tell "its status is 4" [ "$status" = 4 ]
+
+echo "-- memory that is refused while broadcasts flood a port, and is there again"
+edge 1 16 > "$work/edges.toml"
+start
+tell "port 2 hears port 1" hears 1 2 5
+prlimit --pid "$running" --data="$(($(awk '/^VmData/ { print $2 }' "/proc/$running/status") * 1024)):unlimited"
+probe flood 127.0.0.1:30001 127.0.0.1:20001 3 1400 > "$work/sent"
+prlimit --pid "$running" --data=unlimited
+echo "$(cat "$work/sent") frames of 1,400 octets to 15 ports; now it has $(awk '/^VmRSS/ { print $2 }' "/proc/$running/status") KiB"
+open "port 1 is taken again, within five seconds" hears 1 2 5
+tell "port 3 hears port 2" hears 2 3 5
+stop > "$work/stopped"
+
+echo "-- a flood from port to port"
+edge 1 2 > "$work/edges.toml"
+start
+probe bpdus 127.0.0.1:30002 7 > "$work/longest" &
+listening=$!
+sleep 1
+probe flood 127.0.0.1:30001 127.0.0.1:20001 5 > "$work/sent"
+wait "$listening"
+lost=$(awk '$2 ~ /:4E21$/ { print $NF }' /proc/net/udp)
+echo "$(cat "$work/sent") frames, of which the system lost $lost at the port; $(cat "$work/longest") ms between two BPDUs at most"
+tell "a BPDU comes each second, and half a second late at most" [ "$(cat "$work/longest")" -le 1500 ]
+stop > "$work/stopped"
+open "what the system lost at a port is told" grep -qE "port 1.*\\b$lost\\b" "$work/notes"
+
+echo "$known are known to be open"
+end
