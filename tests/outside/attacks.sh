@@ -1,13 +1,13 @@
 #!/usr/bin/env bash
-# Needs Linux, root, iproute2 (ip, ss), util-linux (prlimit) and python3; takes a minute, in ten seconds of which it keeps two
-# processors busy. It is no part of the gate.
+# Needs Linux, root, /dev/net/tun, iproute2 (ip, ss, tc), util-linux (prlimit) and python3; takes two minutes, in some of which it
+# keeps two processors busy. It is no part of the gate.
 #
 # What a run was attacked with, and what it should do then. `open` stands before what is known not to be so yet: whoever mends it puts
 # `tell` in its place. As long as anything differs, known or not, the status is 1. Two attacks have scripts of their own: storm.sh
 # (a storm of broadcasts), rounds.sh (stations that come back again and again).
 set -u
 . "$(dirname "$0")/lab.sh"
-needs ip ss prlimit python3
+needs ip ss tc prlimit python3 sysctl
 known=0
 
 # open WHAT CONDITION..: `tell` of what is known not to be so
@@ -22,7 +22,7 @@ open() {
   fi
 }
 
-# edge NUMBER PORTS: an edge with so many ports, at each of which it says BPDUs
+# edge NUMBER PORTS: an edge with so many ports, which says a BPDU a second at each
 edge() {
   cat << TOML
 [[edge]]
@@ -42,7 +42,7 @@ TOML
 
 probe() { python3 "$outside/port_probe.py" "$@" 7>&-; }
 
-# hears WHAT SAYING HEARING SECONDS: what is said at the first of two ports of edge 1 comes out at the second one, within this time
+# hears SAYING HEARING SECONDS: what is said at the first one of two ports of edge 1 comes out at the second one, within this time
 hears() { probe hears "127.0.0.1:$((30000 + $1))" "127.0.0.1:$((20000 + $1))" "127.0.0.1:$((30000 + $2))" "$3"; }
 
 # notes LINES PATTERN: so many lines on standard error, one of which is like this
@@ -95,6 +95,32 @@ tell "port 3 hears port 2 meanwhile" hears 2 3 2
 stop > "$work/stopped"
 tell "its status is 4" [ "$status" = 4 ]
 
+echo "-- a socket that fails once, of the port at which an edge blocks a ring"
+edge 1 3 | grep -v '^admin_edge' > "$work/edges.toml"
+start
+linux ring 4096
+bridge=$it
+for device in p1 p2; do
+  tap "$bridge" $device
+  ip -n "$bridge" link set $device master br0
+done
+leaf leaf 192.168.78.1 02:00:00:00:00:01 "$bridge" leg
+leaf=$it
+ip -n "$bridge" link set leg master br0
+host host 192.168.78.2 02:00:00:00:00:02
+host=$it
+for number in 1 2; do plug "$bridge" p$number "127.0.0.1:3000$number" "127.0.0.1:2000$number"; done
+plug "$host" eth 127.0.0.1:30003 127.0.0.1:20003
+sleep 15
+tell "broadcasts come once" once "$leaf" "$host" 10
+ss -K -u -a src 127.0.0.1:20002 > "$work/ss"
+# so long as the root's last message lives, and twice the forward delay
+sleep 15
+open "they come once when it has failed" once "$leaf" "$host" 10
+for device in p1 p2; do unplug "$bridge" $device; done
+unplug "$host" eth
+stop > "$work/stopped"
+
 echo "-- memory that is refused while broadcasts flood a port, and is there again"
 edge 1 16 > "$work/edges.toml"
 start
@@ -107,17 +133,26 @@ open "port 1 is taken again, within five seconds" hears 1 2 5
 tell "port 3 hears port 2" hears 2 3 5
 stop > "$work/stopped"
 
-echo "-- a flood from port to port"
-edge 1 2 > "$work/edges.toml"
+echo "-- a flood from port to port, over a slow cable: a megabit a second, some 1,400 of the frames"
+space slow
+ip link add cable type veth peer name cable netns "$it"
+ip address add 10.78.0.1/24 dev cable
+ip -n "$it" address add 10.78.0.2/24 dev cable
+ip link set cable up
+ip -n "$it" link set cable up
+tc qdisc add dev cable root tbf rate 1mbit burst 1540 limit 1000000
+edge 1 2 | sed 's/127\.0\.0\.1:20002/10.78.0.1:20002/; s/127\.0\.0\.1:30002/10.78.0.2:30002/' > "$work/edges.toml"
 start
-probe bpdus 127.0.0.1:30002 7 > "$work/longest" &
+ip netns exec "$it" python3 "$outside/port_probe.py" bpdus 10.78.0.2:30002 7 > "$work/longest" 7>&- &
 listening=$!
 sleep 1
 probe flood 127.0.0.1:30001 127.0.0.1:20001 5 > "$work/sent"
 wait "$listening"
 lost=$(awk '$2 ~ /:4E21$/ { print $NF }' /proc/net/udp)
 echo "$(cat "$work/sent") frames, of which the system lost $lost at the port; $(cat "$work/longest") ms between two BPDUs at most"
-tell "a BPDU comes each second, and half a second late at most" [ "$(cat "$work/longest")" -le 1500 ]
+open "a BPDU comes each second, and half a second late at most" [ "$(cat "$work/longest")" -le 1500 ]
+# what waits for the cable may go now
+tc qdisc del dev cable root
 stop > "$work/stopped"
 open "what the system lost at a port is told" grep -qE "port 1.*\\b$lost\\b" "$work/notes"
 

@@ -71,26 +71,14 @@ waits() {
   echo "answered after $((SECONDS - begun)) seconds"
 }
 
-# once FROM TO: a hundred broadcasts come exactly once
-once() {
-  : > "$work/count"
-  ip netns exec "$2" python3 "$outside/bridge_probe.py" count eth 3 > "$work/count" &
-  local counting=$! wait
-  for wait in $(seq 100); do grep -q ready "$work/count" && break; sleep 0.1; done
-  ip netns exec "$1" python3 "$outside/bridge_probe.py" send eth 100
-  wait "$counting"
-  echo "of 100 broadcasts came, and were new: $(tail -n 1 "$work/count")"
-  [ "$(tail -n 1 "$work/count")" = "100 100" ]
-}
-
 # whole: pings are answered, and broadcasts come once
 whole() {
   answered 10
   tell "ten pings are answered" [ "$(received)" = 10 ]
-  once "$host" "$leaf" > "$work/once" || touch "$work/twice"
+  once "$host" "$leaf" 100 > "$work/once" || touch "$work/twice"
   cat "$work/once"
   tell "broadcasts of the edge's host come once" [ ! -e "$work/twice" ]
-  once "$leaf" "$host" > "$work/once" || touch "$work/twice"
+  once "$leaf" "$host" 100 > "$work/once" || touch "$work/twice"
   cat "$work/once"
   tell "broadcasts of the bridge's host come once" [ ! -e "$work/twice" ]
   rm -f "$work/twice"

@@ -127,6 +127,18 @@ unplug() {
   done
 }
 
+# once FROM TO COUNT: so many broadcasts from a host's device come to another's exactly once
+once() {
+  : > "$work/count"
+  ip netns exec "$2" python3 "$outside/bridge_probe.py" count eth 3 > "$work/count" 7>&- &
+  local counting=$!
+  for _ in $(seq 100); do grep -q ready "$work/count" && break; sleep 0.1; done
+  ip netns exec "$1" python3 "$outside/bridge_probe.py" send eth "$3"
+  wait "$counting"
+  echo "of $3 broadcasts came, and were new: $(tail -n 1 "$work/count")"
+  [ "$(tail -n 1 "$work/count")" = "$3 $3" ]
+}
+
 # start [COMMAND..]: evpnd on $work/edges.toml, behind these words, until `stop`
 start() {
   mkfifo "$work/input"

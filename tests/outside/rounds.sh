@@ -5,7 +5,7 @@
 #
 # Stations that stay, at one of two edges which forget after ten seconds. In each round each station speaks once, and then none does
 # until all are forgotten: so each is said and withdrawn once a round, at both edges. After each round the memory of the process is
-# looked at (VmRSS). After the last one it may be a fiftieth above what it was after the second, for what the system's allocator
+# looked at (VmRSS). After the last one it may be a twentieth above what it was after the second, for what the system's allocator
 # leaves here and there. An edge that keeps each update grows by some 6 MB a round.
 set -u
 . "$(dirname "$0")/lab.sh"
@@ -47,5 +47,5 @@ said=$(awk '$1 == "mac" && $5 > most { most = $5 } END { print most + 0 }' "$wor
 known=$(grep -c '^mac ' "$work/report")
 echo "$known registers, $said things said; $((2 * stations)) and $((2 * stations * rounds + 1)) where each frame came"
 tell "nearly all stations were heard in nearly all rounds" [ "$said" -gt $((2 * stations * rounds / 10 * 9)) ]
-tell "after the last round ${after[-1]} KiB are at most a fiftieth above ${after[1]}" [ "${after[-1]}" -le $((after[1] + after[1] / 50)) ]
+tell "after the last round ${after[-1]} KiB are at most a twentieth above ${after[1]}" [ "${after[-1]}" -le $((after[1] + after[1] / 20)) ]
 end
