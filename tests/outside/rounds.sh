@@ -6,7 +6,7 @@
 # Stations that stay, at one of two edges which forget after ten seconds. In each round each station speaks once, and then none does
 # until all are forgotten: so each is said and withdrawn once a round, at both edges. After each round the memory of the process is
 # looked at (VmRSS). After the last one it may be a twentieth above what it was after the second, for what the system's allocator
-# leaves here and there. An edge that keeps each update grows by some 6 MB a round.
+# leaves here and there. An edge that kept each update was seen to grow by 6 MB a round.
 set -u
 . "$(dirname "$0")/lab.sh"
 needs ip python3
