@@ -47,7 +47,7 @@ LONG = {
     "docs/crates/evpnd_report.md": 1, "docs/crates/idx_links.md": 5, "docs/crates/mac_arena.md": 9,
     "docs/crates/route_join.md": 28, "docs/crates/route_wire.md": 1, "docs/crates/rstp_net.md": 2,
     "docs/crates/rstp_run.md": 6, "docs/crates/rstp_state.md": 4, "docs/crates/vxlan_wire.md": 1,
-    "docs/spanning_tree_rules.md": 5, "docs/theorems.md": 78,
+    "docs/spanning_tree_rules.md": 5,
 }
 
 
