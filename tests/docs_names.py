@@ -40,12 +40,7 @@ OTHERS = set(
 
 
 LONG = {
-    "docs/DECISIONS.md": 2, "docs/benchmarks.md": 18, "docs/benchmarks_history.md": 4, "docs/crates/bpdu_wire.md": 1,
-    "docs/crates/ether_wire.md": 10, "docs/crates/ev_config.md": 3, "docs/crates/ev_mobility.md": 1,
-    "docs/crates/ev_run.md": 1, "docs/crates/ev_tunnel.md": 1, "docs/crates/evpnd_report.md": 1,
-    "docs/crates/idx_links.md": 5, "docs/crates/mac_arena.md": 9, "docs/crates/route_wire.md": 1,
-    "docs/crates/rstp_net.md": 2, "docs/crates/rstp_run.md": 6, "docs/crates/rstp_state.md": 4,
-    "docs/crates/vxlan_wire.md": 1, "docs/spanning_tree_rules.md": 5,
+    "docs/DECISIONS.md": 1, "docs/benchmarks.md": 18, "docs/benchmarks_history.md": 4,
 }
 
 
