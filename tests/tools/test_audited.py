@@ -47,6 +47,10 @@ pub trait Area {
 /// A square.
 pub struct Square { side: u32, kept: Kept }
 
+/// What counts.
+pub const MOST: u8 = 3;
+const LEAST: u8 = 1;
+
 impl Model for Square {
     ghost use Rattle.low.specs.Shape.{seen, IsSound, coded_by};
     ghost Value = { ℕ };
@@ -120,10 +124,11 @@ kept_fact n = n
 use Rattle.std.specs.Prelude.{ℕ, ◌+◌}
 use Rattle.low.specs.declared.shape.Side.{Side}
 use Rattle.low.specs.declared.shape.Side.TheVariants as sides
+use Rattle.low.specs.declared.shape.TheConstants.{LEAST}
 
 -- twice as much: not hidden
 abbrev pub double : ℕ → ℕ
-double half = half ⊕ by_side sides.Left (λ hidden. hidden)
+double half = half ⊕ by_side sides.Left (λ hidden. LEAST)
 
 infixl 10 ◌⊕◌
 abbrev pub ◌⊕◌ : ℕ → ℕ → ℕ
@@ -278,7 +283,7 @@ class Example(unittest.TestCase):
         """With the comment above, not with a heading; `unfolding` is a line of its definition."""
         lines = {it.path[-1]: (it.first, it.last) for it in self.reading.definitions("low", "read")}
         found = [lines[name] for name in ("double", "by_side", "Extent", "told")]
-        self.assertEqual(found, [(6, 8), (16, 22), (27, 29), (31, 33)])
+        self.assertEqual(found, [(7, 9), (17, 23), (28, 30), (32, 34)])
 
     def test_how_many_lines(self):
         self.assertEqual(self.reading.lines("high", "read"), 6)  # three of `Way`, three of `up`
@@ -286,7 +291,8 @@ class Example(unittest.TestCase):
 
     def test_types(self):
         names = [item.name for _, item in self.reading.types("low")]
-        self.assertEqual(names, ["Inner", "Area", "Side"])  # `Inner` by a field of `Side`; a model hides the fields of `Square`
+        # `Inner` by a field of `Side`; `LEAST` by `double`; a model hides the fields of `Square`
+        self.assertEqual(names, ["Inner", "Area", "LEAST", "Side"])
 
     def test_files(self):
         files = [os.path.basename(it.file) for it in self.reading.files_in_order("low")]

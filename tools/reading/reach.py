@@ -14,8 +14,8 @@ import rust
 from antt import Definition, Module, Path
 from rust import CAPITAL, Clause, Item, Source
 
-TYPES = ("struct", "enum", "trait", "type")
-ITEMS = (*TYPES, "fn", "const", "static")
+NAMED = ("struct", "enum", "trait", "type", "const", "static")  # items that definitions may name
+ITEMS = (*NAMED, "fn")
 Found = Tuple[Source, Item]
 
 
@@ -103,15 +103,15 @@ def meant(project: Project, source: Source, name: Path, seen: Tuple[Tuple[Path, 
 
 
 def place(found: Optional[Found]) -> Optional[Path]:
-    """Where a type of Rust stands, as a path."""
-    if found is None or found[1].kind not in TYPES:
+    """Where a type or constant of Rust stands, as a path."""
+    if found is None or found[1].kind not in NAMED:
         return None
     return (found[0].path[0], "src", *found[0].path[1:], found[1].name)
 
 
 def declared(project: Project, path: Path) -> Optional[Path]:
-    """The type of Rust that a name in `specs.declared` belongs to."""
-    at, rest = (path[0],), path[3:]
+    """The type or constant of Rust that a name in `specs.declared` belongs to."""
+    at, rest = (path[0],), tuple(part for part in path[3:] if part != "TheConstants")
     while rest and (*at, rest[0]) in project.sources:
         at, rest = (*at, rest[0]), rest[1:]
     return place(locate(project, at, rest[:1]))
@@ -157,7 +157,7 @@ class Follower:
                 yield to
 
     def said_by_head(self, source: Source, text: str) -> Iterator[Path]:
-        """The types of Rust that a text of Rust names."""
+        """The types and constants of Rust that a text of Rust names."""
         for name in CAPITAL.findall(text):
             to = place(meant(self.project, source, tuple(name.split("::"))))
             if to:
@@ -324,7 +324,7 @@ class Reading:
         return sum(it.lines for part in parts for it in self.definitions(crate, part))
 
     def types(self, crate: str) -> List[Found]:
-        """The types of Rust that contracts and definitions name, in the order of the files."""
+        """The types and constants of Rust that contracts and definitions name, in the order of the files."""
         paths = [path for path in self.public if path[:2] == (crate, "src")]
         found = [locate(self.project, (crate, *path[2:-1]), path[-1:]) for path in paths]
         return sorted(filter(None, found), key=lambda it: (it[0].file, it[1].line))
