@@ -166,30 +166,36 @@ def split(text: str) -> Iterator[str]:
     yield text[start:]
 
 
-def function(text: str, head: "re.Match[str]", is_public: bool, line: int, at_all: Clause) -> Tuple[Item, int]:
+def function(text: str, head: "re.Match[str]", is_public: bool, line: int, empty: Clause) -> Tuple[Item, int]:
     """A function with its clauses, and those of closures in its body among the proofs."""
-    item = Item("fn", head["name"], is_public, line, "")
-    at = last = head.end()
-    names: Set[str] = {"self", "result"}
+    told, found, at = parted(text, head.end())
+    item = Item("fn", head["name"], is_public, line, told)
+    names = {"self", "result", *PARAMETER.findall(told)}
+    item.clauses = [Clause(it, empty.scope, empty.module, names) for it in found]
+    if text[at] == ";":
+        return item, at + 1
+    stop = closed(text, at)
+    item.proofs = [Clause(it, empty.scope, empty.module) for it in clauses_within(text[at + 1:stop - 1])]
+    return item, stop
+
+
+def parted(text: str, at: int) -> Tuple[str, List[str], int]:
+    """A function's head behind its name, without its clauses; these; and where its body begins, or the `;` in its place."""
+    heads: List[str] = []
     found: List[str] = []
+    last = at
     while text[at] != ";":
-        if text[at] == "{":
-            stop = closed(text, at)
-            if not CLAUSE.search(text[last:at]):
-                item.proofs = [Clause(it, at_all.scope, at_all.module) for it in clauses_within(text[at + 1:stop - 1])]
-                at = stop - 1
-                break
-            found.append(text[at + 1:stop - 1])
-            item.head += CLAUSE.sub("", text[last:at])
-            at = last = stop
-        else:
+        if text[at] != "{":
             at = closed(text, at) if text[at] in "([" else at + 1
-    item.head += text[last:at] if text[at] == ";" else ""
-    if not found:
-        item.head = text[head.end():text.index("{", head.end()) if text[at] == "}" else at]
-    names |= set(PARAMETER.findall(item.head))
-    item.clauses = [Clause(it, at_all.scope, at_all.module, names) for it in found]
-    return item, at + 1
+            continue
+        label = CLAUSE.search(text[last:at])
+        if not label:
+            break
+        stop = closed(text, at)
+        heads.append(text[last:last + label.start()])
+        found.append(text[at + 1:stop - 1])
+        at = last = stop
+    return "".join([*heads, text[last:at]]), found, at
 
 
 def clauses_within(text: str) -> Iterator[str]:
