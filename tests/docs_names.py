@@ -4,8 +4,7 @@ A name is a word in `backticks`, outside of blocks, that is written as code writ
 path with `::`, as a call `name(`, or as a file. A word counts as there if the sources have it outside of comments.
 
 A sentence has 30 words at most and a cell of a table 25; a span in `backticks` is one word, a link its text. README has fewer
-than 900. LONG has how many are longer still, document by document: no count may rise, and where one has fallen a note says so.
-`--long` shows them.
+than 900.
 """
 
 import os
@@ -37,19 +36,6 @@ OTHERS = set(
     RemoteVtep MAC_ADDRESS VNI LIST ORIGINATOR COUNTER SEQUENCE CRATE NAME PROGRAM VIEW FILE
     """.split()
 )
-
-
-LONG = {
-    "docs/DECISIONS.md": 2, "docs/benchmarks.md": 18, "docs/benchmarks_history.md": 4, "docs/crates/bpdu_wire.md": 1,
-    "docs/crates/ether_wire.md": 10, "docs/crates/ev_book.md": 16, "docs/crates/ev_claims.md": 9,
-    "docs/crates/ev_config.md": 3, "docs/crates/ev_edge.md": 14, "docs/crates/ev_fabric.md": 21,
-    "docs/crates/ev_mobility.md": 1, "docs/crates/ev_peers.md": 11, "docs/crates/ev_report.md": 12,
-    "docs/crates/ev_run.md": 1, "docs/crates/ev_script.md": 2, "docs/crates/ev_sites.md": 5, "docs/crates/ev_tunnel.md": 1,
-    "docs/crates/ev_words.md": 3, "docs/crates/evpnd.md": 9, "docs/crates/evpnd_report.md": 1, "docs/crates/idx_links.md": 5,
-    "docs/crates/mac_arena.md": 9, "docs/crates/route_join.md": 28, "docs/crates/route_wire.md": 1,
-    "docs/crates/rstp_net.md": 2, "docs/crates/rstp_run.md": 6, "docs/crates/rstp_state.md": 4,
-    "docs/crates/vxlan_wire.md": 1, "docs/spanning_tree_rules.md": 5, "docs/theorems.md": 83,
-}
 
 
 def files_of_git() -> List[str]:
@@ -147,42 +133,41 @@ def faults_of(path: str, files: List[str], words: Set[str]) -> Tuple[int, List[s
     return looked, faults
 
 
-def paragraphs(path: str) -> Iterator[Tuple[int, str, str]]:
-    """A document's paragraphs, items and cells of tables with their first lines: 'sentence' or 'cell', and the text."""
-    start, joined = 0, ""
+def paragraphs(path: str) -> Iterator[Tuple[List[int], str, str]]:
+    """A document's paragraphs, items and cells of tables: the numbers of their lines, 'sentence' or 'cell', and the lines."""
+    numbers: List[int] = []
+    lines: List[str] = []
     for number, line in [*texts(path), (0, "")]:
         text = SHOWN.sub(r"\1", SPAN.sub("code", line)).strip()
-        if joined and (text == "" or text.startswith(("#", "|")) or ITEM.match(line)):
-            yield start, "sentence", joined
-            joined = ""
+        if lines and (text == "" or text.startswith(("#", "|")) or ITEM.match(line)):
+            yield numbers, "sentence", "\n".join(lines)
+            numbers, lines = [], []
         if text.startswith("|"):
             for cell in text.strip("|").split("|"):
-                yield number, "cell", cell.strip()
+                yield [number], "cell", cell
         elif text and not text.startswith("#"):
-            start = start if joined else number
-            joined = f"{joined} {ITEM.sub('', text, count=1)}".strip()
+            numbers.append(number)
+            lines.append(ITEM.sub("", text, count=1))
 
 
-def too_long(path: str) -> List[str]:
-    """The sentences and cells of a document that have too many words."""
-    found = []
-    for number, kind, text in paragraphs(path):
-        parts = END.sub(lambda end: end[0] + "\n", text).split("\n") if kind == "sentence" else [text]
-        for part in parts:
-            count = sum(1 for word in part.split() if re.search(r"\w", word))
-            if count > MOST_WORDS[kind]:
-                found.append(f"{path}:{number}: a {kind} of {count} words: {part.strip()}")
-    return found
+def sentences(text: str) -> Iterator[Tuple[int, str]]:
+    """The sentences of a text, each with the number of its line in it, from 0."""
+    start = 0
+    for end in [*(match.end() for match in END.finditer(text)), len(text)]:
+        sentence = text[start:end].lstrip()
+        yield text.count("\n", 0, end - len(sentence)), sentence
+        start = end
 
 
 def length_faults(path: str) -> List[str]:
-    """What is too long in a document beyond what LONG allows."""
-    found, allowed = too_long(path), LONG.get(path, 0)
+    """The sentences and cells of a document that have too many words, and whether README has."""
     faults = []
-    if len(found) > allowed:
-        faults = [*found, f"{path}: {len(found)} are too long, where {allowed} may be"]
-    if len(found) < allowed:
-        print(f"note: {path}: {len(found)} are too long, fewer than the {allowed} in LONG: enter the new count there")
+    for numbers, kind, text in paragraphs(path):
+        for place, part in sentences(text) if kind == "sentence" else [(0, text)]:
+            count = sum(1 for word in part.split() if re.search(r"\w", word))
+            if count > MOST_WORDS[kind]:
+                words = " ".join(part.split())
+                faults.append(f"{path}:{numbers[place]}: a {kind} of {count} words, where {MOST_WORDS[kind]} are meant: {words}")
     if path == "README.md":
         with open(path, encoding="utf-8") as stream:
             count = len(stream.read().split())
@@ -197,9 +182,6 @@ def main() -> int:
     words = words_of_code(files)
     passed, failed, looked = 0, 0, 0
     for path in [name for name in files if name.endswith(".md")]:
-        if "--long" in sys.argv[1:]:
-            print(*too_long(path), sep="\n")
-            continue
         count, faults = faults_of(path, files, words)
         faults += length_faults(path)
         print(*faults, sep="\n", end="\n" if faults else "")

@@ -1,5 +1,5 @@
 #!/usr/bin/env python3
-"""Says where a running fabric forwards a MAC to another edge than the owner by RFC 7432, 15.1 and 15.2.
+"""Says where a running fabric forwards a MAC to another edge than the owner by RFC 7432, 15 and 15.2.
 
     evpnd_audit.py [--vni N[,N]]           on the host itself: runs vtysh, bridge and ip, each once for all VNIs
     evpnd_audit.py [--vni N] VIEW ..       of directories, one a router, that hold what they printed:

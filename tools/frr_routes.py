@@ -302,7 +302,7 @@ class Snapshot:
         self.own: set = set()
 
     def take(self, path: Path) -> None:
-        """Takes a path; of two of one originator and key the better stays (RFC 7432, 15.1 and 15.2)."""
+        """Takes a path; of two of one originator and key the better stays (RFC 7432, 15 and 15.2)."""
         key = path.vtep + path.vni.to_bytes(3, "big") + (path.mac or b"") + path.ip
         value = path.advert, path.seconds
         value = self.values.setdefault(value, value)

@@ -4,12 +4,15 @@ import importlib.machinery
 import importlib.util
 import os
 import sys
+import tempfile
 import unittest
+import unittest.mock
 
 from test_records import TOP
 
 sys.path.insert(0, os.path.join(TOP, "tools", "gate"))
 import edits
+import gate
 import sources
 
 LOADER = importlib.machinery.SourceFileLoader("check_of_a_change", os.path.join(TOP, "tools", "check"))
@@ -77,6 +80,31 @@ class Sources(unittest.TestCase):
         self.assertEqual(len(shape), len(SOURCE))
         found = [(name, SOURCE[start:end].split("\n")[1].strip()) for name, _, start, end in sources.bodies(shape)]
         self.assertEqual(found, [("area", 'let text = "fn no() { }";'), ("twice", "u64::from(number) * 2")])
+
+
+class Unproved(unittest.TestCase):
+    """Which functions of the sources no check has called proved."""
+
+    def lacking(self, proved):
+        """Returns what the gate lacks of a crate with SOURCE and a test, where these functions were proved."""
+        with tempfile.TemporaryDirectory() as room:
+            os.makedirs(f"{room}/src/tests")
+            for path, text in {"src/lib.rt": SOURCE, "src/tests/shapes.rt": "#[test]\nfn tested() {\n}\n"}.items():
+                with open(f"{room}/{path}", "w", encoding="utf-8") as it:
+                    it.write(text)
+            crate = Crate()
+            crate.folder = room
+            with unittest.mock.patch.dict(gate.Run.proved, {"low": proved}, clear=True):
+                return gate.unproved([crate])
+
+    def test_all_proved_lacks_nothing(self):
+        self.assertEqual(self.lacking({"low::SquareShape::area", "low::twice"}), [])
+
+    def test_function_left_out_is_missed(self):
+        self.assertEqual(self.lacking({"low::SquareShape::area"}), ["low: twice"])
+
+    def test_crate_left_out_is_missed(self):
+        self.assertEqual(self.lacking(set()), ["low: area", "low: twice"])
 
 
 class Changes(unittest.TestCase):

@@ -96,7 +96,7 @@ class Edits(Folder):
 
 
 class Documents(Folder):
-    """tests/docs_names.py: names and links that lead nowhere."""
+    """tests/docs_names.py: names and links that lead nowhere, and what is too long."""
 
     def faults(self, text: str) -> list:
         """What a document with this text is told."""
@@ -124,6 +124,19 @@ class Documents(Folder):
         self.write("crates/low/src/lib.rt", "// give_all\nfn take_all() {}\n")
         words = docs_names.words_of_code(["crates/low/src/lib.rt"])
         self.assertTrue("take_all" in words and "give_all" not in words)
+
+    def test_what_is_too_long(self):
+        long, fits = " ".join(["word"] * 31), " ".join(["word"] * 30)
+        cases = {
+            f"{fits}. {fits}.\n": [], f"{fits[5:]} `a b c`.\n": [], f"- {fits}\n- {fits}\n": [],
+            f"{long}.\n": [f"docs/page.md:1: a sentence of 31 words, where 30 are meant: {long}."],
+            f"Short. Also\nshort.\n{long}.\n": [f"docs/page.md:3: a sentence of 31 words, where 30 are meant: {long}."],
+            f"| {fits[25:]} | {fits[20:]} |\n": [f"docs/page.md:1: a cell of 26 words, where 25 are meant: {fits[20:]}"],
+        }
+        for text, faults in cases.items():
+            with self.subTest(text=text):
+                self.write("docs/page.md", text)
+                self.assertEqual(docs_names.length_faults("docs/page.md"), faults)
 
 
 class Drawing(unittest.TestCase):
