@@ -1,5 +1,5 @@
--- The two edges agree, the first one advertises the guest, and a frame for the guest that comes at the second one comes out
--- at the first.
+-- The two edges agree, the first one advertises the guest, and a frame for the guest that comes at the second one comes
+-- out at the first.
 use Rattle.std.proofs.Common.{◌≡◌, ◌≢◌, ℕ, zero, suc, true, false, not, ◌&&◌, Some, None, List, [], ◌∷◌, ◌++◌, refl, sym, ap, subst, ◌∙◌, arith, lit<, lit≤}
 use Rattle.std.specs.Prelude.{Ok, Contains, slice_get}
 use Rattle.std.specs.FinMap.{empty, get-insert}
@@ -129,7 +129,7 @@ agrees = all_agree first_agreed second_agreed 2 1 guest_learnt nobody_learnt emp
 abbrev pub letter : List ℕ
 letter = 2 ∷ 0 ∷ 0 ∷ 0 ∷ 0 ∷ 1 ∷ 1 ∷ 0 ∷ 0 ∷ 0 ∷ 0 ∷ 1 ∷ 8 ∷ 0 ∷ []
 
-letter_arrives : frame_arrival second_edge 1 letter ≡ Ok (Data 5001 guest.mac nobody)
+pub letter_arrives : frame_arrival second_edge 1 letter ≡ Ok (Data 5001 guest.mac nobody)
 unfolding frame_of selected_ports selected_root best_path
 letter_arrives = refl
 

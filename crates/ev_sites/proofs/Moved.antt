@@ -1,4 +1,5 @@
--- The guest moves: it is heard at the second edge, which announces it, the first one withdraws it, and the two agree again.
+-- The guest moves: it is heard at the second edge, which announces it, the first one withdraws it, and the two agree
+-- again.
 use Rattle.std.proofs.Common.{◌≡◌, ℕ, true, false, not, ◌&&◌, Some, None, List, [], ◌∷◌, ◌++◌, refl, sym, ap, subst, ◌∙◌}
 use Rattle.std.specs.Prelude.{Ok, IsSome}
 use Rattle.std.specs.FinMap.{empty, get, insert, get-empty}
@@ -11,6 +12,7 @@ use Rattle.mac_arena.specs.Learning.{Learning, entry_at, after_removal as gone}
 use Rattle.rstp_run.specs.Events.{RunsHappen}
 use Rattle.rstp_run.specs.Settled.{SettledByLists}
 use Rattle.ev_tunnel.specs.declared.decision.Source.TheVariants.{Port}
+use Rattle.ev_mobility.specs.declared.window.Window.{Window}
 use Rattle.ev_mobility.specs.Window.{after_move}
 use Rattle.ev_edge.specs.declared.reply.Reply.{Reply}
 use Rattle.ev_edge.specs.Edge.{Edge}
@@ -34,7 +36,7 @@ use Rattle.ev_sites.proofs.Agreed.{hello, hello_arrives, guest_learnt, guest_ent
 
 -- the guest has moved once
 abbrev one_move : Windows
-one_move = insert empty guest (after_move (get empty guest) 0)
+one_move = insert empty guest (after_move (get {X = Window} {R = station_cmp} empty guest) 0)
 
 abbrev pub second_with : List Said → List Register → Edge
 second_with said pending = risen_edge (voice_with there said 2 pending) guest_learnt one_move

@@ -29,8 +29,8 @@ pub record HasRun (f : Fabric) : Type 0 where
   pub start : IsStart configs opened
   pub run : Runs opened steps f
 
--- The sites of a fabric's edges are at rest. A frame that comes in at x goes on to y by the edge of x's site, and one that
--- comes in there goes on to z through a tunnel.
+-- The sites of a fabric's edges are at rest. A frame that comes in at x goes on to y by the edge of x's site, and one
+-- that comes in there goes on to z through a tunnel.
 pub record SitesOfAFabric : Type 0 where
   pub fabric : Fabric
   pub has_run : HasRun fabric
@@ -43,9 +43,9 @@ pub record SitesOfAFabric : Type 0 where
   pub by_edge : ByEdge sites x y
   pub by_tunnel : ByTunnel sites x z
 
--- All edges of a fabric agree, and its edge `out` advertises a station. A frame for the station comes at a port of another
--- edge, `in`, and is given to `out` alone. Its datagram, entered there as one from `in`, is given to the port behind which
--- the station is, which passes, and to nothing else.
+-- All edges of a fabric agree, and one of them, `edge_out`, advertises a station. A frame for it comes at a port of
+-- another, `edge_in`, and is given to `edge_out` alone. Its datagram, entered there as one from `edge_in`, is given to the
+-- port behind which the station is, which passes, and to nothing else.
 pub record FrameOfAFabric : Type 0 where
   pub fabric : Fabric
   pub has_run : HasRun fabric
@@ -77,8 +77,8 @@ pub record FrameOfAFabric : Type 0 where
   pub passes : Passes edge_out.tree entry.port
   pub given : GoesOut entry.port (Passes edge_out.tree entry.port) answer
 
--- All edges of a fabric agree, and the one at place i advertises a station, which comes to the edge at place j. After some
--- announcements and deliveries, and nothing else, all agree again, and the edge at place j advertises the station.
+-- All edges of a fabric agree, and the one at place i advertises a station, which comes to the edge at place j. After
+-- some announcements and deliveries, and nothing else, all agree again, and the edge at place j advertises the station.
 pub record MoveOfAFabric : Type 0 where
   pub old : Fabric
   pub has_run : HasRun old
