@@ -1,12 +1,10 @@
 -- The two edges agree, the first one advertises the guest, and a frame for the guest that comes at the second one comes
 -- out at the first.
-use Rattle.std.proofs.Common.{◌≡◌, ◌≢◌, ℕ, zero, suc, true, false, not, ◌&&◌, Some, None, List, [], ◌∷◌, ◌++◌, refl, sym, ap, subst, ◌∙◌, arith, lit<, lit≤}
+use Rattle.std.proofs.Common.{◌≡◌, ℕ, zero, suc, false, Some, None, List, [], ◌∷◌, ◌++◌, refl, sym, ap, subst, ◌∙◌, arith, lit<, lit≤}
 use Rattle.std.specs.Prelude.{Ok, Contains, slice_get}
 use Rattle.std.specs.FinMap.{empty, get-insert}
-use Rattle.ether_wire.specs.Names.{is_group}
 use Rattle.ether_wire.specs.Frame.{frame_of}
 use Rattle.vxlan_wire.specs.Vxlan.{instance_of}
-use Rattle.route_wire.specs.declared.update.Advert.{Advert}
 use Rattle.route_wire.specs.declared.update.Register.{Register}
 use Rattle.route_wire.specs.declared.update.Value.{Value}
 use Rattle.route_wire.specs.Fields.{Fields}
@@ -28,12 +26,12 @@ use Rattle.ev_edge.specs.declared.arrival.Arrival.TheVariants.{Data}
 use Rattle.ev_edge.specs.declared.event.Event.TheVariants as events
 use Rattle.ev_edge.specs.declared.reply.Reply.{Reply}
 use Rattle.ev_edge.specs.Arrival.{frame_arrival, tunnel_arrival}
-use Rattle.ev_edge.specs.Edge.{Edge, table_of, address_of}
+use Rattle.ev_edge.specs.Edge.{Edge, table_of}
 use Rattle.ev_edge.specs.Steps.{FrameSteps, TunnelSteps, Steps}
 use Rattle.ev_fabric.specs.declared.step.LocalEvent.TheVariants.{Frame}
 use Rattle.ev_fabric.specs.declared.step.Step.{Step}
 use Rattle.ev_fabric.specs.declared.step.Step.TheVariants.{Local, Announce, Deliver}
-use Rattle.ev_fabric.specs.Fabric.{Fabric, IsEdge}
+use Rattle.ev_fabric.specs.Fabric.{Fabric}
 use Rattle.ev_fabric.specs.Agreed.{AllAgree, Advertises}
 use Rattle.ev_fabric.specs.Laws.{Starts, EveryRun, IsFrameFor, GoesTo, ComesOut, GoesOut, FromPortToPort}
 use Rattle.ev_fabric.specs.Sound.{IsSound}
@@ -41,7 +39,7 @@ use Rattle.ev_fabric.specs.Steps.{FabricSteps}
 use Rattle.ev_fabric.specs.Runs.{Runs}
 use Rattle.ev_fabric.proofs.Example.{fabric_of, configs_of, nobody_learnt, are_configs, is_start}
 use Rattle.ev_sites.specs.Witnesses.{HasRun}
-use Rattle.ev_sites.proofs.Tables.{Said, looked_up, found, HasAll, arrived}
+use Rattle.ev_sites.proofs.Tables.{Said, found, HasAll, arrived}
 use Rattle.ev_sites.proofs.Guest.{guest, here, there, flood_register, guest_register, said_first, said_guest, voice_with, claims_with, keeps, hears, first_said, first_agreed, second_heard, second_agreed}
 use Rattle.ev_sites.proofs.Risen.{everyone, nobody, Windows, root_settings, fabric_with, risen_edge, risen, steps_up, runs_on, comes_up, decided, sending, decides, sends, passes_one}
 use Rattle.ev_sites.proofs.Telling.{lent, update, announcing, taking, first_steps, first_announces, first_takes, second_announces, second_takes, learns}

@@ -1,8 +1,7 @@
 -- Two edges whose ports are up, whose bridges are the roots of two rings at rest.
-use Rattle.std.proofs.Common.{◌≡◌, ℕ, zero, suc, Bool, true, false, not, ◌&&◌, Some, None, List, [], ◌∷◌, ◌++◌, refl, sym, ap, subst, ◌∙◌, arith, lit≤, lit<}
+use Rattle.std.proofs.Common.{◌≡◌, ℕ, zero, suc, true, List, [], ◌∷◌, ◌++◌, refl, sym, ap, subst, arith, lit≤, lit<}
 use Rattle.std.specs.Prelude.{Ok, Contains}
 use Rattle.std.specs.FinMap.{empty}
-use Rattle.ether_wire.specs.Names.{is_group}
 use Rattle.ether_wire.specs.Frame.{frame_of}
 use Rattle.ether_wire.specs.Ports.{has_port, with_port, without_port, common_ports}
 use Rattle.vxlan_wire.specs.Vxlan.{instance_of}

@@ -1,12 +1,11 @@
 -- A station of network 5001, what two edges say of it, and what each makes of what the other says.
-use Rattle.std.proofs.Common.{◌≡◌, ◌+◌, ◌&&◌, ℕ, Bool, true, false, not, cond, Some, None, List, [], ◌∷◌, inl, refl, sym, ap, subst, ◌∙◌}
-use Rattle.std.specs.Prelude.{IsSome, is_some}
-use Rattle.std.specs.FinMap.{FinMap, get, get-empty, get-insert, len-empty}
-use Rattle.route_wire.specs.declared.update.Key.TheVariants.{Flood, Mac}
+use Rattle.std.proofs.Common.{◌≡◌, ◌+◌, ◌&&◌, ℕ, Bool, true, false, not, cond, List, [], ◌∷◌, ap, ◌∙◌}
+use Rattle.std.specs.Prelude.{is_some}
+use Rattle.route_wire.specs.declared.update.Key.TheVariants.{Flood}
 use Rattle.route_wire.specs.declared.update.Register.{Register}
 use Rattle.route_wire.specs.declared.update.Value.{Value}
 use Rattle.route_wire.specs.declared.update.Content.TheVariants.{Advert as Advertised, Withdrawn}
-use Rattle.route_wire.specs.Fields.{Fields, flood_advert}
+use Rattle.route_wire.specs.Fields.{flood_advert}
 use Rattle.route_join.specs.Table.{Table, is_news}
 use Rattle.route_join.specs.Owner.{advert_of, owner, owner_among}
 use Rattle.mac_arena.specs.declared.station.Station.{Station}
@@ -62,30 +61,30 @@ beaten address said counter pending =
 heard : (address other : ℕ) (said : List Said) (counter : ℕ) (pending : List Register) (learned : Learning) (v : Value)
     → is_news (looked_up said (guest_register other)) v ≡ true → (b : Bool) → loses address ((guest_register other, v) ∷ said) ≡ b
     → after_take (claims_with (voice_with address said counter pending) learned) (record { register = guest_register other; value = v })
-        ≡ cond b (after_removal (claims_with (voice_with address ((guest_register other, v) ∷ said) counter pending) learned) guest) (claims_with (voice_with address ((guest_register other, v) ∷ said) counter pending) learned)
+    ≡ cond b (after_removal (claims_with (voice_with address ((guest_register other, v) ∷ said) counter pending) learned) guest) (claims_with (voice_with address ((guest_register other, v) ∷ said) counter pending) learned)
 heard address other said counter pending learned v news b is =
     ap (λ (t : Table). after_losing_at (claims_with (record { address = address; incarnation = 0; table = t; counter = counter; pending = pending }) learned) guest) (taken said (guest_register other) v news)
     ∙ ap (λ c. cond c (after_removal (claims_with (voice_with address ((guest_register other, v) ∷ said) counter pending) learned) guest) (claims_with (voice_with address ((guest_register other, v) ∷ said) counter pending) learned))
-        (beaten address ((guest_register other, v) ∷ said) counter pending ∙ is)
+    (beaten address ((guest_register other, v) ∷ said) counter pending ∙ is)
 
 pub keeps : (address other : ℕ) (said : List Said) (counter : ℕ) (pending : List Register) (learned : Learning) (v : Value)
     → is_news (looked_up said (guest_register other)) v ≡ true → loses address ((guest_register other, v) ∷ said) ≡ false
     → after_take (claims_with (voice_with address said counter pending) learned) (record { register = guest_register other; value = v })
-        ≡ claims_with (voice_with address ((guest_register other, v) ∷ said) counter pending) learned
+    ≡ claims_with (voice_with address ((guest_register other, v) ∷ said) counter pending) learned
 keeps address other said counter pending learned v news kept = heard address other said counter pending learned v news false kept
 
 -- what it loses it withdraws
 pub withdraws : (address other : ℕ) (said : List Said) (counter : ℕ) (pending : List Register) (learned : Learning) (v : Value)
     → is_news (looked_up said (guest_register other)) v ≡ true → loses address ((guest_register other, v) ∷ said) ≡ true
     → after_take (claims_with (voice_with address said counter pending) learned) (record { register = guest_register other; value = v })
-        ≡ claims_with (voice_with address ((guest_register address, record { incarnation = 0; counter = counter + 1; content = Withdrawn }) ∷ (guest_register other, v) ∷ said) (counter + 1) (marked pending (guest_register address))) (gone learned guest)
+    ≡ claims_with (voice_with address ((guest_register address, record { incarnation = 0; counter = counter + 1; content = Withdrawn }) ∷ (guest_register other, v) ∷ said) (counter + 1) (marked pending (guest_register address))) (gone learned guest)
 withdraws address other said counter pending learned v news lost = heard address other said counter pending learned v news true lost
 
 -- a flood list is taken as it is
 pub hears : (address other : ℕ) (said : List Said) (counter : ℕ) (pending : List Register) (learned : Learning)
     → is_news (looked_up said (flood_register other)) said_first ≡ true
     → after_take (claims_with (voice_with address said counter pending) learned) (record { register = flood_register other; value = said_first })
-        ≡ claims_with (voice_with address ((flood_register other, said_first) ∷ said) counter pending) learned
+    ≡ claims_with (voice_with address ((flood_register other, said_first) ∷ said) counter pending) learned
 hears address other said counter pending learned news =
     ap (λ (t : Table). claims_with (record { address = address; incarnation = 0; table = t; counter = counter; pending = pending }) learned) (taken said (flood_register other) said_first news)
 

@@ -1,6 +1,6 @@
 -- The guest moves: it is heard at the second edge, which announces it, the first one withdraws it, and the two agree
 -- again.
-use Rattle.std.proofs.Common.{◌≡◌, ℕ, true, false, not, ◌&&◌, Some, None, List, [], ◌∷◌, ◌++◌, refl, sym, ap, subst, ◌∙◌}
+use Rattle.std.proofs.Common.{false, None, List, [], ◌∷◌, ◌++◌, refl, sym, ap, subst}
 use Rattle.std.specs.Prelude.{Ok, IsSome}
 use Rattle.std.specs.FinMap.{empty, get, insert, get-empty}
 use Rattle.route_wire.specs.declared.update.Register.{Register}
@@ -8,7 +8,7 @@ use Rattle.route_wire.specs.Fields.{Fields}
 use Rattle.route_join.specs.Owner.{advert_of}
 use Rattle.mac_arena.specs.declared.station.Entry.{Entry}
 use Rattle.mac_arena.specs.Station.{station_cmp}
-use Rattle.mac_arena.specs.Learning.{Learning, entry_at, after_removal as gone}
+use Rattle.mac_arena.specs.Learning.{after_removal as gone}
 use Rattle.rstp_run.specs.Events.{RunsHappen}
 use Rattle.rstp_run.specs.Settled.{SettledByLists}
 use Rattle.ev_tunnel.specs.declared.decision.Source.TheVariants.{Port}

@@ -1,18 +1,18 @@
 -- Steps of the two edges' fabric: what one of them announces, what the other takes, and the guest that is learnt.
-use Rattle.std.proofs.Common.{◌≡◌, ◌==◌, ℕ, Bool, true, false, cond, Some, None, List, [], ◌∷◌, ◌++◌, inl, refl, sym, ap, subst, ◌∙◌}
-use Rattle.std.specs.Prelude.{Ok, Result}
+use Rattle.std.proofs.Common.{◌≡◌, ◌==◌, ℕ, true, false, cond, Some, None, List, [], ◌∷◌, ◌++◌, inl, refl, sym, ap, subst, ◌∙◌}
+use Rattle.std.specs.Prelude.{Ok}
 use Rattle.std.specs.Borrow.{Bor}
-use Rattle.std.specs.FinMap.{empty, get, get-empty, len-empty}
+use Rattle.std.specs.FinMap.{empty, get-empty, len-empty}
 use Rattle.std.specs.Option.{option_map, MatchOption}
 use Rattle.route_wire.specs.declared.update.Register.{Register}
 use Rattle.route_wire.specs.declared.update.Value.{Value}
 use Rattle.route_wire.specs.Fields.{Fields}
-use Rattle.route_join.specs.Table.{is_listed, update_at}
+use Rattle.route_join.specs.Table.{is_listed}
 use Rattle.route_join.specs.Taken.{taken_of}
 use Rattle.mac_arena.specs.declared.station.Entry.{Entry}
 use Rattle.mac_arena.specs.Station.{station_cmp}
 use Rattle.mac_arena.specs.Learning.{Learning, is_full}
-use Rattle.ev_mobility.specs.declared.alert.Alert.TheVariants.{CounterSpent, TableFull}
+use Rattle.ev_mobility.specs.declared.alert.Alert.TheVariants.{TableFull}
 use Rattle.ev_mobility.specs.declared.seq.Seq.TheVariants.{Next}
 use Rattle.ev_mobility.specs.declared.window.Window.{Window}
 use Rattle.ev_claims.specs.Claims.{Claims, after_take, loses_pinned}
@@ -29,7 +29,7 @@ use Rattle.ev_fabric.specs.Fabric.{nth}
 use Rattle.ev_fabric.specs.Local.{event_of}
 use Rattle.ev_fabric.specs.Steps.{IsRefused, StepsAt, FabricSteps}
 use Rattle.ev_fabric.proofs.Example.{nobody_learnt}
-use Rattle.ev_sites.proofs.Tables.{Said, table_with, looked_up, found, in_order, next_among, next_number}
+use Rattle.ev_sites.proofs.Tables.{Said, looked_up, found, in_order, next_among, next_number}
 use Rattle.ev_sites.proofs.Guest.{guest, here, there, voice_with}
 use Rattle.ev_sites.proofs.Risen.{Windows, fabric_with, risen_edge}
 
