@@ -2,4 +2,10 @@ pub mod Back
 pub mod Leaving
 pub mod Through
 pub mod Reaching
+pub mod Tables
+pub mod Guest
+pub mod Risen
+pub mod Telling
 pub mod Example
+pub mod Agreed
+pub mod Moved

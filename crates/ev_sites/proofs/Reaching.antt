@@ -1,5 +1,5 @@
 -- The bridges of a fabric's edges came from their starts by events.
-use Rattle.std.proofs.Common.{◌≡◌, ◌≢◌, inl, inr, ℕ, zero, suc, ◌-◌, ◌<◌, ◌≤◌, ◌^◌, Bool, true, false, cond, not, ◌&&◌, Option, Some, None, Result, Ok, Err, List, [], ◌∷◌, length, refl, sym, ap, subst, ◌∙◌, arith}
+use Rattle.std.proofs.Common.{◌≡◌, inl, inr, ℕ, zero, suc, ◌-◌, ◌<◌, ◌^◌, Bool, true, false, cond, not, ◌&&◌, Option, Some, None, Result, Ok, Err, List, [], ◌∷◌, length, refl, sym, ap, subst, ◌∙◌, arith}
 use Rattle.std.specs.Prelude.{slice_get, slice_set, ◌==◌}
 use Rattle.std.specs.Option.{MatchOption}
 use Rattle.std.proofs.lemmas.Bool.{cases_eq}
@@ -44,14 +44,14 @@ use Rattle.ev_fabric.specs.declared.step.Step.{Step}
 use Rattle.ev_fabric.specs.declared.step.Step.TheVariants.{Local, Announce, Deliver, Restart}
 use Rattle.ev_fabric.specs.Fabric.{Fabric, IsEdge, nth}
 use Rattle.ev_fabric.specs.Local.{event_of}
-use Rattle.ev_fabric.specs.Opening.{AreConfigs, IsStart}
+use Rattle.ev_fabric.specs.Opening.{IsStart}
 use Rattle.ev_fabric.specs.Runs.{Runs}
 use Rattle.ev_fabric.specs.Sound.{IsSound}
 use Rattle.ev_fabric.specs.Steps.{IsRefused, StepsAt, AnnouncesAt, in_life, OpensAnew, RestartsAt, FabricSteps}
 use Rattle.ev_fabric.proofs.Places.{set_cases}
 use Rattle.ev_fabric.proofs.Opened.{start_sound}
 use Rattle.ev_fabric.proofs.Fabrics.{runs_sound}
-use Rattle.ev_sites.specs.Sites.{Site, IsSiteAt, AreAtRest, IsEdgeOf, NoCircleThroughTunnels}
+use Rattle.ev_sites.specs.Sites.{Site, IsSiteAt, AreAtRest, NoCircleThroughTunnels}
 use Rattle.ev_sites.specs.Fabrics.{BridgesCanBe, EveryRunCanBe, AreSitesOf, SitesRest, NoCircleInAFabric}
 
 -- ---- one edge

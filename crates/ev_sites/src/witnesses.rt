@@ -1,8 +1,9 @@
-//! Sites that meet the premises of the laws, as a function that does nothing: the contract says
-//! that there are such.
+//! Fabrics that meet the premises of laws, here and in `ev_fabric`, as functions that do nothing:
+//! the contract says that there are such.
 
-ghost use Rattle.ev_sites.specs.Witnesses.{SitesOfAFabric};
+ghost use Rattle.ev_sites.specs.Witnesses.{FrameOfAFabric, MoveOfAFabric, SitesOfAFabric};
 
+use ev_fabric::{agrees_on, every_run, from_port_to_port, starts};
 use rstp_run::laws::{runs_happen, settled_by_lists};
 
 /// A witness of `no_circle_in_a_fabric`, and so of `no_circle_through_tunnels` and
@@ -13,4 +14,28 @@ pub fn fabric_has_sites()
 {
     settled_by_lists();
     runs_happen();
+}
+
+/// A witness of `from_port_to_port` of `ev_fabric`, and so of its laws on where all agree: two
+/// edges, after a run from their opening, and a station at one of them. A frame for it that comes
+/// at a port of the other one is given to the station's port, and to nothing else.
+pub fn fabric_carries_a_frame()
+    ensures { FrameOfAFabric }
+{
+    settled_by_lists();
+    runs_happen();
+    starts();
+    every_run();
+    from_port_to_port();
+}
+
+/// A witness of `station_moves` and `moves` of `ev_fabric`: from there the station comes to the
+/// other edge, which learns it; two announcements and two deliveries later all agree again, and the
+/// other edge advertises it.
+pub fn fabric_moves_a_station()
+    ensures { MoveOfAFabric }
+{
+    settled_by_lists();
+    runs_happen();
+    agrees_on();
 }

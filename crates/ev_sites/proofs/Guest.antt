@@ -1,0 +1,120 @@
+-- A station of network 5001, what two edges say of it, and what each makes of what the other says.
+use Rattle.std.proofs.Common.{◌≡◌, ◌+◌, ◌&&◌, ℕ, Bool, true, false, not, cond, List, [], ◌∷◌, ap, ◌∙◌}
+use Rattle.std.specs.Prelude.{is_some}
+use Rattle.route_wire.specs.declared.update.Key.TheVariants.{Flood}
+use Rattle.route_wire.specs.declared.update.Register.{Register}
+use Rattle.route_wire.specs.declared.update.Value.{Value}
+use Rattle.route_wire.specs.declared.update.Content.TheVariants.{Advert as Advertised, Withdrawn}
+use Rattle.route_wire.specs.Fields.{flood_advert}
+use Rattle.route_join.specs.Table.{Table, is_news}
+use Rattle.route_join.specs.Owner.{advert_of, owner, owner_among}
+use Rattle.mac_arena.specs.declared.station.Station.{Station}
+use Rattle.mac_arena.specs.Learning.{Learning, after_removal as gone}
+use Rattle.ev_claims.specs.Pending.{marked}
+use Rattle.ev_claims.specs.Voice.{Voice, is_at, is_beaten}
+use Rattle.ev_claims.specs.Claims.{Claims, key_of, moving, after_removal, after_losing_at, after_take}
+use Rattle.ev_sites.proofs.Tables.{Said, table_with, looked_up, found, taken, in_order, owned}
+
+-- ---- what is said
+
+abbrev pub guest : Station
+guest = record { vni = 5001; mac = 0x020000000001 }
+
+abbrev pub flood_register : ℕ → Register
+flood_register address = record { originator = address; key = Flood 5001 }
+
+abbrev pub guest_register : ℕ → Register
+guest_register address = record { originator = address; key = key_of guest }
+
+-- the first value that an edge says
+abbrev pub said_first : Value
+said_first = record { incarnation = 0; counter = 1; content = Advertised flood_advert }
+
+-- the second one, of a station that it has learnt
+abbrev pub said_guest : ℕ → Value
+said_guest sequence = record { incarnation = 0; counter = 2; content = moving sequence }
+
+-- the third one, of a station that it has lost
+abbrev pub said_gone : Value
+said_gone = record { incarnation = 0; counter = 3; content = Withdrawn }
+
+-- ---- an edge of two ports that has taken these updates, the newest first
+
+abbrev pub voice_with : ℕ → List Said → ℕ → List Register → Voice
+voice_with address said counter pending = record { address = address; incarnation = 0; table = table_with said; counter = counter; pending = pending }
+
+abbrev pub claims_with : Voice → Learning → Claims
+claims_with voice learned = record { voice = voice; learned = learned; ports = 5001 ∷ 5001 ∷ []; vnis = 5001 ∷ [] }
+
+-- ---- what another edge says of the guest
+
+-- it has an advert of its own, and another's is better
+abbrev pub loses : ℕ → List Said → Bool
+loses address said = is_some (advert_of (looked_up said (guest_register address))) && not (is_at (owner_among 5001 guest.mac (in_order said)) address)
+
+beaten : (address : ℕ) (said : List Said) (counter : ℕ) (pending : List Register) → is_beaten (voice_with address said counter pending) 5001 guest.mac ≡ loses address said
+beaten address said counter pending =
+    ap (λ o. is_some (advert_of o) && not (is_at (owner (table_with said) 5001 guest.mac) address)) (found said (guest_register address))
+    ∙ ap (λ o. is_some (advert_of (looked_up said (guest_register address))) && not (is_at o address)) (owned said 5001 guest.mac)
+
+-- what the edge claims once it has taken the update, whether it loses the guest or not
+heard : (address other : ℕ) (said : List Said) (counter : ℕ) (pending : List Register) (learned : Learning) (v : Value)
+    → is_news (looked_up said (guest_register other)) v ≡ true → (b : Bool) → loses address ((guest_register other, v) ∷ said) ≡ b
+    → after_take (claims_with (voice_with address said counter pending) learned) (record { register = guest_register other; value = v })
+    ≡ cond b (after_removal (claims_with (voice_with address ((guest_register other, v) ∷ said) counter pending) learned) guest) (claims_with (voice_with address ((guest_register other, v) ∷ said) counter pending) learned)
+heard address other said counter pending learned v news b is =
+    ap (λ (t : Table). after_losing_at (claims_with (record { address = address; incarnation = 0; table = t; counter = counter; pending = pending }) learned) guest) (taken said (guest_register other) v news)
+    ∙ ap (λ c. cond c (after_removal (claims_with (voice_with address ((guest_register other, v) ∷ said) counter pending) learned) guest) (claims_with (voice_with address ((guest_register other, v) ∷ said) counter pending) learned))
+    (beaten address ((guest_register other, v) ∷ said) counter pending ∙ is)
+
+pub keeps : (address other : ℕ) (said : List Said) (counter : ℕ) (pending : List Register) (learned : Learning) (v : Value)
+    → is_news (looked_up said (guest_register other)) v ≡ true → loses address ((guest_register other, v) ∷ said) ≡ false
+    → after_take (claims_with (voice_with address said counter pending) learned) (record { register = guest_register other; value = v })
+    ≡ claims_with (voice_with address ((guest_register other, v) ∷ said) counter pending) learned
+keeps address other said counter pending learned v news kept = heard address other said counter pending learned v news false kept
+
+-- what it loses it withdraws
+pub withdraws : (address other : ℕ) (said : List Said) (counter : ℕ) (pending : List Register) (learned : Learning) (v : Value)
+    → is_news (looked_up said (guest_register other)) v ≡ true → loses address ((guest_register other, v) ∷ said) ≡ true
+    → after_take (claims_with (voice_with address said counter pending) learned) (record { register = guest_register other; value = v })
+    ≡ claims_with (voice_with address ((guest_register address, record { incarnation = 0; counter = counter + 1; content = Withdrawn }) ∷ (guest_register other, v) ∷ said) (counter + 1) (marked pending (guest_register address))) (gone learned guest)
+withdraws address other said counter pending learned v news lost = heard address other said counter pending learned v news true lost
+
+-- a flood list is taken as it is
+pub hears : (address other : ℕ) (said : List Said) (counter : ℕ) (pending : List Register) (learned : Learning)
+    → is_news (looked_up said (flood_register other)) said_first ≡ true
+    → after_take (claims_with (voice_with address said counter pending) learned) (record { register = flood_register other; value = said_first })
+    ≡ claims_with (voice_with address ((flood_register other, said_first) ∷ said) counter pending) learned
+hears address other said counter pending learned news =
+    ap (λ (t : Table). claims_with (record { address = address; incarnation = 0; table = t; counter = counter; pending = pending }) learned) (taken said (flood_register other) said_first news)
+
+-- ---- the two edges' tables
+
+abbrev pub here : ℕ
+here = 0x0a000001
+
+abbrev pub there : ℕ
+there = 0x0a000002
+
+-- the guest is learnt at the first edge, and all is heard
+abbrev pub first_said : List Said
+first_said = (guest_register here, said_guest 0) ∷ (flood_register here, said_first) ∷ []
+
+abbrev pub first_agreed : List Said
+first_agreed = (flood_register there, said_first) ∷ first_said
+
+abbrev pub second_heard : List Said
+second_heard = (flood_register here, said_first) ∷ (flood_register there, said_first) ∷ []
+
+abbrev pub second_agreed : List Said
+second_agreed = (guest_register here, said_guest 0) ∷ second_heard
+
+-- then at the second one
+abbrev pub second_said : List Said
+second_said = (guest_register there, said_guest 1) ∷ second_agreed
+
+abbrev pub first_moved : List Said
+first_moved = (guest_register here, said_gone) ∷ (guest_register there, said_guest 1) ∷ first_agreed
+
+abbrev pub second_moved : List Said
+second_moved = (guest_register here, said_gone) ∷ second_said
