@@ -6,7 +6,7 @@
 #   bench/book.sh [UPDATES]        (default: 10,000,000)
 # Needs the kit. It is no crate of this repository and proves nothing: its tests are built beside those of ev_book, without the
 # checks that `rt try` makes, whose allocator keeps what was freed.
-set -eu
+set -euo pipefail
 cd "$(dirname "$0")/.."
 updates=${1-10000000}
 work=$(mktemp -d)
