@@ -78,6 +78,7 @@ flood_there = update (flood_register there) said_first
 abbrev guest_here : Fields
 guest_here = update (guest_register here) (said_guest 0)
 
+-- before and after its announcement
 abbrev second_opened : Edge
 second_opened = second_with ((flood_register there, said_first) ∷ []) (flood_register there ∷ [])
 

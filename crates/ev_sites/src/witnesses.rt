@@ -16,9 +16,10 @@ pub fn fabric_has_sites()
     runs_happen();
 }
 
-/// A witness of `from_port_to_port` of `ev_fabric`, and so of its laws on where all agree: two
-/// edges, after a run from their opening, and a station at one of them. A frame for it that comes
-/// at a port of the other one is given to the station's port, and to nothing else.
+/// A witness of `from_port_to_port` of `ev_fabric`: two edges that agree after a run from their
+/// opening, and a station at one of them. A frame for it at a port of the other edge is given to
+/// the station's edge alone; and its datagram, entered there, to the station's port alone, which
+/// passes.
 pub fn fabric_carries_a_frame()
     ensures { FrameOfAFabric }
 {
