@@ -1,6 +1,7 @@
 -- The two edges agree, the first one advertises the guest, and a frame for the guest that comes at the second one comes
 -- out at the first.
-use Rattle.std.proofs.Common.{◌≡◌, ℕ, zero, suc, false, Some, None, List, [], ◌∷◌, ◌++◌, refl, sym, ap, subst, ◌∙◌, arith, lit<, lit≤}
+use Rattle.std.proofs.Common.{◌≡◌, ℕ, zero, suc, false, Some, None, List, [], ◌∷◌, ◌++◌, refl, sym, ap, subst, ◌∙◌}
+use Rattle.std.proofs.Common.{arith, lit<, lit≤}
 use Rattle.std.specs.Prelude.{Ok, Contains, slice_get}
 use Rattle.std.specs.FinMap.{empty, get-insert}
 use Rattle.ether_wire.specs.Frame.{frame_of}
@@ -40,9 +41,13 @@ use Rattle.ev_fabric.specs.Runs.{Runs}
 use Rattle.ev_fabric.proofs.Example.{fabric_of, configs_of, nobody_learnt, are_configs, is_start}
 use Rattle.ev_sites.specs.Witnesses.{HasRun}
 use Rattle.ev_sites.proofs.Tables.{Said, found, HasAll, arrived}
-use Rattle.ev_sites.proofs.Guest.{guest, here, there, flood_register, guest_register, said_first, said_guest, voice_with, claims_with, keeps, hears, first_said, first_agreed, second_heard, second_agreed}
-use Rattle.ev_sites.proofs.Risen.{everyone, nobody, Windows, root_settings, fabric_with, risen_edge, risen, steps_up, runs_on, comes_up, decided, sending, decides, sends, passes_one}
-use Rattle.ev_sites.proofs.Telling.{lent, update, announcing, taking, first_steps, first_announces, first_takes, second_announces, second_takes, learns}
+use Rattle.ev_sites.proofs.Guest.{guest, here, there, flood_register, guest_register, said_first, said_guest}
+use Rattle.ev_sites.proofs.Guest.{voice_with, claims_with, keeps, hears, first_said, first_agreed, second_heard}
+use Rattle.ev_sites.proofs.Guest.{second_agreed}
+use Rattle.ev_sites.proofs.Risen.{everyone, nobody, Windows, root_settings, fabric_with, risen_edge, risen, steps_up}
+use Rattle.ev_sites.proofs.Risen.{runs_on, comes_up, decided, sending, decides, sends, passes_one}
+use Rattle.ev_sites.proofs.Telling.{lent, update, announcing, taking, first_steps, first_announces, first_takes}
+use Rattle.ev_sites.proofs.Telling.{second_announces, second_takes, learns}
 
 -- ---- the guest is heard at the first edge
 
@@ -50,7 +55,8 @@ use Rattle.ev_sites.proofs.Telling.{lent, update, announcing, taking, first_step
 abbrev pub hello : List ℕ
 hello = 255 ∷ 255 ∷ 255 ∷ 255 ∷ 255 ∷ 255 ∷ 2 ∷ 0 ∷ 0 ∷ 0 ∷ 0 ∷ 1 ∷ 8 ∷ 0 ∷ []
 
-pub hello_arrives : (v : Voice) (l : Learning) (w : Windows) → frame_arrival (risen_edge v l w) 1 hello ≡ Ok (Data 5001 everyone guest.mac)
+pub hello_arrives : (v : Voice) (l : Learning) (w : Windows)
+    → frame_arrival (risen_edge v l w) 1 hello ≡ Ok (Data 5001 everyone guest.mac)
 unfolding frame_of selected_ports selected_root best_path
 hello_arrives v l w = refl
 
@@ -98,24 +104,36 @@ abbrev pub agreed : Fabric
 agreed = fabric_with first_edge second_edge agreed_pool
 
 abbrev more_steps : List Step
-more_steps = Local 1 (Frame 1 (lent hello)) ∷ Announce 1 ∷ Announce 1 ∷ Announce 2 ∷ Deliver 2 1 ∷ Deliver 2 2 ∷ Deliver 1 3 ∷ []
+more_steps =
+    Local 1 (Frame 1 (lent hello)) ∷ Announce 1 ∷ Announce 1 ∷ Announce 2 ∷ Deliver 2 1 ∷ Deliver 2 2 ∷ Deliver 1 3 ∷ []
 
 -- ---- all agree
 
 -- the edge at each place has nothing pending, and each update of the pool or a newer one
-pub all_agree : (v w : List Said) (n m : ℕ) (l k : Learning) (x y : Windows) (pool : List Fields) → HasAll v pool → HasAll w pool
+pub all_agree : (v w : List Said) (n m : ℕ) (l k : Learning) (x y : Windows) (pool : List Fields) → HasAll v pool
+    → HasAll w pool
     → AllAgree (fabric_with (risen_edge (voice_with here v n []) l x) (risen_edge (voice_with there w m []) k y) pool)
 all_agree v w n m l k x y pool at_v at_w = record { quiet = quiet; arrived = arrives }
   where
-    quiet : (i : ℕ) (a : Edge) → slice_get (risen_edge (voice_with here v n []) l x ∷ risen_edge (voice_with there w m []) k y ∷ []) i ≡ Some a → a.claims.voice.pending ≡ []
-    quiet zero a at = let is : risen_edge (voice_with here v n []) l x ≡ a = cc in subst (λ (e : Edge). e.claims.voice.pending ≡ []) is refl
-    quiet (suc zero) a at = let is : risen_edge (voice_with there w m []) k y ≡ a = cc in subst (λ (e : Edge). e.claims.voice.pending ≡ []) is refl
+    quiet : (i : ℕ) (a : Edge)
+        → slice_get (risen_edge (voice_with here v n []) l x ∷ risen_edge (voice_with there w m []) k y ∷ []) i ≡ Some a
+        → a.claims.voice.pending ≡ []
+    quiet zero a at = let is : risen_edge (voice_with here v n []) l x ≡ a = cc in
+        subst (λ (e : Edge). e.claims.voice.pending ≡ []) is refl
+    quiet (suc zero) a at = let is : risen_edge (voice_with there w m []) k y ≡ a = cc in
+        subst (λ (e : Edge). e.claims.voice.pending ≡ []) is refl
     quiet (suc (suc i)) a at = let no : ⊥ = cc in absurd no
 
-    arrives : (i : ℕ) (a : Edge) → slice_get (risen_edge (voice_with here v n []) l x ∷ risen_edge (voice_with there w m []) k y ∷ []) i ≡ Some a
-        → (u : Fields) → Contains pool u → (z : Value) × (value_at (table_of a) u.register ≡ Some z) × (is_newer u.value z ≡ false)
-    arrives zero a at u inside = let is : risen_edge (voice_with here v n []) l x ≡ a = cc in subst (λ (e : Edge). (z : Value) × (value_at (table_of e) u.register ≡ Some z) × (is_newer u.value z ≡ false)) is (arrived v pool at_v u inside)
-    arrives (suc zero) a at u inside = let is : risen_edge (voice_with there w m []) k y ≡ a = cc in subst (λ (e : Edge). (z : Value) × (value_at (table_of e) u.register ≡ Some z) × (is_newer u.value z ≡ false)) is (arrived w pool at_w u inside)
+    arrives : (i : ℕ) (a : Edge)
+        → slice_get (risen_edge (voice_with here v n []) l x ∷ risen_edge (voice_with there w m []) k y ∷ []) i ≡ Some a
+        → (u : Fields) → Contains pool u
+            → (z : Value) × (value_at (table_of a) u.register ≡ Some z) × (is_newer u.value z ≡ false)
+    arrives zero a at u inside = let is : risen_edge (voice_with here v n []) l x ≡ a = cc in
+        subst (λ (e : Edge). (z : Value) × (value_at (table_of e) u.register ≡ Some z) × (is_newer u.value z ≡ false))
+        is (arrived v pool at_v u inside)
+    arrives (suc zero) a at u inside = let is : risen_edge (voice_with there w m []) k y ≡ a = cc in
+        subst (λ (e : Edge). (z : Value) × (value_at (table_of e) u.register ≡ Some z) × (is_newer u.value z ≡ false))
+        is (arrived w pool at_w u inside)
     arrives (suc (suc i)) a at u inside = let no : ⊥ = cc in absurd no
 
 pub agrees : AllAgree agreed
@@ -137,7 +155,9 @@ unfolding frame_of instance_of
 letter_enters = refl
 
 pub advertised : Advertises first_edge guest
-advertised = (None, record { is_static = false; sequence = 0; label2 = None }, ap advert_of (found first_agreed (guest_register here)))
+advertised =
+    (None, record { is_static = false; sequence = 0; label2 = None }, ap advert_of
+    (found first_agreed (guest_register here)))
 
 abbrev pub given : Reply
 given = sending (decided second_edge guest.mac (Port 1))
@@ -154,29 +174,35 @@ module _ (lists : SettledByLists) (happens : RunsHappen) where
     (
       fabric_with (first_with first_said 2 (guest_register here ∷ [])) second_opened (flood_here ∷ []),
       Ok (announcing flood_here),
-      first_announces second_opened [] first_said 2 (flood_register here) (guest_register here ∷ []) guest_learnt empty said_first refl,
+      first_announces second_opened [] first_said 2 (flood_register here) (guest_register here ∷ []) guest_learnt empty
+          said_first refl,
       (
         fabric_with (first_with first_said 2 []) second_opened (flood_here ∷ guest_here ∷ []),
         Ok (announcing guest_here),
-        first_announces second_opened (flood_here ∷ []) first_said 2 (guest_register here) [] guest_learnt empty (said_guest 0) refl,
+        first_announces second_opened (flood_here ∷ []) first_said 2 (guest_register here) [] guest_learnt empty
+            (said_guest 0) refl,
         (
           fabric_with (first_with first_said 2 []) second_quiet agreed_pool,
           Ok (announcing flood_there),
-          second_announces (first_with first_said 2 []) (flood_here ∷ guest_here ∷ []) ((flood_register there, said_first) ∷ []) 1 (flood_register there) [] nobody_learnt empty said_first refl,
+          second_announces (first_with first_said 2 []) (flood_here ∷ guest_here ∷ [])
+              ((flood_register there, said_first) ∷ []) 1 (flood_register there) [] nobody_learnt empty said_first refl,
           (
             fabric_with (first_with first_said 2 []) (second_with second_heard []) agreed_pool,
             Ok (taking second_quiet flood_here),
-            second_takes (first_with first_said 2 []) second_quiet agreed_pool 1 flood_here (claims_with (voice_with there second_heard 1 []) nobody_learnt) refl refl refl
+            second_takes (first_with first_said 2 []) second_quiet agreed_pool 1 flood_here
+                (claims_with (voice_with there second_heard 1 []) nobody_learnt) refl refl refl
                 (hears there here ((flood_register there, said_first) ∷ []) 1 [] nobody_learnt refl),
             (
               fabric_with (first_with first_said 2 []) second_edge agreed_pool,
               Ok (taking (second_with second_heard []) guest_here),
-              second_takes (first_with first_said 2 []) (second_with second_heard []) agreed_pool 2 guest_here (claims_with (voice_with there second_agreed 1 []) nobody_learnt) refl refl refl
+              second_takes (first_with first_said 2 []) (second_with second_heard []) agreed_pool 2 guest_here
+                  (claims_with (voice_with there second_agreed 1 []) nobody_learnt) refl refl refl
                   (keeps there here second_heard 1 [] nobody_learnt (said_guest 0) refl refl),
               (
                 agreed,
                 Ok (taking (first_with first_said 2 []) flood_there),
-                first_takes (first_with first_said 2 []) second_edge agreed_pool 3 flood_there (claims_with (voice_with here first_agreed 2 []) guest_learnt) refl refl refl
+                first_takes (first_with first_said 2 []) second_edge agreed_pool 3 flood_there
+                    (claims_with (voice_with here first_agreed 2 []) guest_learnt) refl refl refl
                     (hears here there first_said 2 [] guest_learnt refl),
                 refl,
               ),
@@ -187,12 +213,22 @@ module _ (lists : SettledByLists) (happens : RunsHappen) where
     ),
   )
     where
-      heard : FabricSteps risen (Local 1 (Frame 1 (lent hello))) (Ok (sending (decided (first_with first_said 2 (flood_register here ∷ guest_register here ∷ [])) everyone (Port 1))))
+      heard : FabricSteps risen (Local 1 (Frame 1 (lent hello)))
+          (Ok (sending (decided (first_with first_said 2 (flood_register here ∷ guest_register here ∷ [])) everyone
+          (Port 1))))
           (fabric_with (first_with first_said 2 (flood_register here ∷ guest_register here ∷ [])) second_opened [])
-      heard = first_steps _ second_opened (first_with first_said 2 (flood_register here ∷ guest_register here ∷ [])) [] (Frame 1 (lent hello)) _
-          (subst (λ r. FrameSteps r (risen_edge (voice_with here ((flood_register here, said_first) ∷ []) 1 (flood_register here ∷ [])) nobody_learnt empty) 1 (Ok (sending (decided (first_with first_said 2 (flood_register here ∷ guest_register here ∷ [])) everyone (Port 1)))) (first_with first_said 2 (flood_register here ∷ guest_register here ∷ [])))
-          (sym (hello_arrives (voice_with here ((flood_register here, said_first) ∷ []) 1 (flood_register here ∷ [])) nobody_learnt empty))
-          (sends lists happens _ _ _ _ _ _ everyone guest.mac (learns here ((flood_register here, said_first) ∷ []) (flood_register here ∷ []) 0 refl refl)))
+      heard =
+          first_steps _ second_opened (first_with first_said 2 (flood_register here ∷ guest_register here ∷ [])) []
+          (Frame 1 (lent hello)) _
+          (subst (λ r. FrameSteps r
+              (risen_edge (voice_with here ((flood_register here, said_first) ∷ []) 1 (flood_register here ∷ []))
+              nobody_learnt empty) 1
+              (Ok (sending (decided (first_with first_said 2 (flood_register here ∷ guest_register here ∷ [])) everyone
+              (Port 1)))) (first_with first_said 2 (flood_register here ∷ guest_register here ∷ [])))
+          (sym (hello_arrives (voice_with here ((flood_register here, said_first) ∷ []) 1 (flood_register here ∷ []))
+              nobody_learnt empty))
+          (sends lists happens _ _ _ _ _ _ everyone guest.mac
+              (learns here ((flood_register here, said_first) ∷ []) (flood_register here ∷ []) 0 refl refl)))
 
   pub agreed_run : HasRun agreed
   agreed_run = record {
@@ -217,19 +253,29 @@ module _ (lists : SettledByLists) (happens : RunsHappen) where
   }
 
   pub goes : Steps second_edge (events.Frame 1 (lent letter)) (Ok given) second_edge
-  goes = subst (λ r. FrameSteps r second_edge 1 (Ok given) second_edge) (sym letter_arrives) (sends lists happens _ _ _ _ _ _ guest.mac nobody (refl, refl))
+  goes =
+      subst (λ r. FrameSteps r second_edge 1 (Ok given) second_edge) (sym letter_arrives)
+      (sends lists happens _ _ _ _ _ _ guest.mac nobody (refl, refl))
 
   pub comes : Steps first_edge (events.TunnelFrame there (lent (datagram_of 5001 letter))) (Ok answered) first_edge
-  comes = subst (λ r. TunnelSteps r first_edge (Ok answered) first_edge) (sym letter_enters) (decides lists happens _ _ _ guest.mac Tunnel, refl, refl)
+  comes =
+      subst (λ r. TunnelSteps r first_edge (Ok answered) first_edge) (sym letter_enters)
+      (decides lists happens _ _ _ guest.mac Tunnel, refl, refl)
 
   -- what the law says of them
-  pub carried : Starts → EveryRun → FromPortToPort → GoesTo here given × ComesOut first_edge there (datagram_of 5001 letter) guest
-  carried starts every_run law = law agreed sound agrees 0 1 first_edge second_edge second_edge guest refl refl (λ e. omega (arith, e)) advertised (lit< tt) (events.Frame 1 (lent letter)) 1 given is_frame goes
+  pub carried : Starts → EveryRun → FromPortToPort
+      → GoesTo here given × ComesOut first_edge there (datagram_of 5001 letter) guest
+  carried starts every_run law =
+      law agreed sound agrees 0 1 first_edge second_edge second_edge guest refl refl (λ e. omega (arith, e)) advertised
+      (lit< tt) (events.Frame 1 (lent letter)) 1 given is_frame goes
     where
       sound : IsSound agreed
-      sound = every_run agreed_run.steps agreed_run.opened agreed agreed_run.run (starts agreed_run.configs agreed_run.opened agreed_run.fit agreed_run.start)
+      sound =
+          every_run agreed_run.steps agreed_run.opened agreed agreed_run.run
+          (starts agreed_run.configs agreed_run.opened agreed_run.fit agreed_run.start)
 
-  pub given_out : (x : ComesOut first_edge there (datagram_of 5001 letter) guest) → GoesOut x.entry.port (Passes first_edge.tree x.entry.port) answered
+  pub given_out : (x : ComesOut first_edge there (datagram_of 5001 letter) guest)
+      → GoesOut x.entry.port (Passes first_edge.tree x.entry.port) answered
   given_out x =
       let out = x.out (events.TunnelFrame there (lent (datagram_of 5001 letter))) (Ok answered) first_edge refl comes in
       let is : answered ≡ out.0 = cc in

@@ -10,7 +10,8 @@ use Rattle.rstp_state.specs.Selection.{selected_ports, selected_root, best_path}
 use Rattle.rstp_run.specs.Events.{RunsHappen}
 use Rattle.rstp_run.specs.Settled.{SettledByLists}
 use Rattle.rstp_net.specs.Network.{Spot, Network, IsBridgeAt, IsNetwork, IsAtRest, PassesAt}
-use Rattle.rstp_net.proofs.Ring.{root_bridge, second_bridge, third_bridge, ring_of, AreRing, a_ring, network, at_rest, over_first}
+use Rattle.rstp_net.proofs.Ring.{root_bridge, second_bridge, third_bridge, ring_of, AreRing, a_ring, network, at_rest}
+use Rattle.rstp_net.proofs.Ring.{over_first}
 use Rattle.ev_tunnel.specs.declared.decision.Decision.{Decision}
 use Rattle.ev_tunnel.specs.declared.decision.Source.TheVariants.{Port, Tunnel}
 use Rattle.ev_tunnel.specs.Decision.{open_ports, others_of, remote_for}
@@ -30,7 +31,8 @@ use Rattle.ev_sites.specs.Fabrics.{AreSitesOf, SitesRest}
 use Rattle.ev_sites.specs.Witnesses.{SitesOfAFabric}
 use Rattle.ev_sites.proofs.Tables.{Said, floods}
 use Rattle.ev_sites.proofs.Guest.{here, there, flood_register, said_first, voice_with, claims_with, hears}
-use Rattle.ev_sites.proofs.Risen.{everyone, nobody, both_ports, root_settings, fabric_with, opened_with, risen_edge, risen, steps_up, runs_on, comes_up, decided, sending, decides, sends}
+use Rattle.ev_sites.proofs.Risen.{everyone, nobody, both_ports, root_settings, fabric_with, opened_with, risen_edge}
+use Rattle.ev_sites.proofs.Risen.{risen, steps_up, runs_on, comes_up, decided, sending, decides, sends}
 use Rattle.ev_sites.proofs.Telling.{update, announcing, taking, second_announces, first_takes}
 
 -- ---- a frame for everyone
@@ -76,11 +78,13 @@ more : Runs risen more_steps last_fabric
 more = (
   fabric_with first second_told (flood_of_second ∷ []),
   Ok (announcing flood_of_second),
-  second_announces first [] ((flood_register there, said_first) ∷ []) 1 (flood_register there) [] nobody_learnt empty said_first refl,
+  second_announces first [] ((flood_register there, said_first) ∷ []) 1 (flood_register there) [] nobody_learnt empty
+      said_first refl,
   (
     last_fabric,
     Ok (taking first flood_of_second),
-    first_takes first second_told (flood_of_second ∷ []) 1 flood_of_second (claims_with (voice_with here heard_both 1 (flood_register here ∷ [])) nobody_learnt) refl refl refl
+    first_takes first second_told (flood_of_second ∷ []) 1 flood_of_second
+        (claims_with (voice_with here heard_both 1 (flood_register here ∷ [])) nobody_learnt) refl refl refl
         (hears here there ((flood_register here, said_first) ∷ []) 1 (flood_register here ∷ []) nobody_learnt refl),
     refl,
   ),
@@ -114,15 +118,22 @@ module _ (lists : SettledByLists) (happens : RunsHappen) where
 
   they_rest : SitesRest both_sites
   they_rest = record {
-    others = λ i s at b t other there. ring_is.reached b t (subst (λ (n : Network). IsBridgeAt n b t) (site_is i s at) there);
+    others =
+        λ i s at b t other there. ring_is.reached b t
+        (subst (λ (n : Network). IsBridgeAt n b t) (site_is i s at) there);
     few = λ i s at b t other there. ring_is.few b t (subst (λ (n : Network). IsBridgeAt n b t) (site_is i s at) there);
-    distinct = λ i s at b d t u at_b at_d same. ring_is.distinct b d t u (subst (λ (n : Network). IsBridgeAt n b t) (site_is i s at) at_b) (subst (λ (n : Network). IsBridgeAt n d u) (site_is i s at) at_d) same;
+    distinct =
+        λ i s at b d t u at_b at_d same. ring_is.distinct b d t u
+        (subst (λ (n : Network). IsBridgeAt n b t) (site_is i s at) at_b)
+        (subst (λ (n : Network). IsBridgeAt n d u) (site_is i s at) at_d) same;
     rest = λ i s at. subst IsAtRest (sym (site_is i s at)) ring_rests;
   }
 
   are_sites : AreSitesOf last_fabric both_sites
-  are_sites zero s at = let same : site_of here ≡ s = cc in (first_told, refl, subst (λ (t : Site). IsEdgeOf t first_told) same (record { bridge = refl; address = refl }))
-  are_sites (suc zero) s at = let same : site_of there ≡ s = cc in (second_told, refl, subst (λ (t : Site). IsEdgeOf t second_told) same (record { bridge = refl; address = refl }))
+  are_sites zero s at = let same : site_of here ≡ s = cc in
+      (first_told, refl, subst (λ (t : Site). IsEdgeOf t first_told) same (record { bridge = refl; address = refl }))
+  are_sites (suc zero) s at = let same : site_of there ≡ s = cc in
+      (second_told, refl, subst (λ (t : Site). IsEdgeOf t second_told) same (record { bridge = refl; address = refl }))
   are_sites (suc (suc i)) s at = let e : ⊥ = cc in absurd e
 
   -- ---- a frame
@@ -139,7 +150,9 @@ module _ (lists : SettledByLists) (happens : RunsHappen) where
     result = Ok (sending (decided first_told everyone (Port 1)));
     after = first_told;
     edge = record { bridge = refl; address = refl };
-    step = subst (λ r. FrameSteps r first_told 1 (Ok (sending (decided first_told everyone (Port 1)))) first_told) (sym arrives) (sends lists happens _ _ _ _ _ _ everyone nobody (refl, refl));
+    step =
+        subst (λ r. FrameSteps r first_told 1 (Ok (sending (decided first_told everyone (Port 1)))) first_told)
+        (sym arrives) (sends lists happens _ _ _ _ _ _ everyone nobody (refl, refl));
     decision = refl;
   }
 
@@ -154,14 +167,17 @@ module _ (lists : SettledByLists) (happens : RunsHappen) where
     result = Ok (sending (decided second_told everyone Tunnel));
     after = second_told;
     edge = record { bridge = refl; address = refl };
-    step = subst (λ r. TunnelSteps r second_told (Ok (sending (decided second_told everyone Tunnel))) second_told) (sym datagram_arrives) (decides lists happens _ _ _ everyone Tunnel, refl, refl);
+    step =
+        subst (λ r. TunnelSteps r second_told (Ok (sending (decided second_told everyone Tunnel))) second_told)
+        (sym datagram_arrives) (decides lists happens _ _ _ everyone Tunnel, refl, refl);
     decision = refl;
   }
 
   arrives_third : PassesAt ring (record { bridge = 2; place = 0 })
   arrives_third = (over_first root_bridge second_bridge third_bridge _ _ _ _ _ _ is_ring).arrives
 
-  leaves : (address : ℕ) (d : Decision) → has_port d.local 2 ≡ true → Leaves (site_of address) d (record { bridge = 2; place = 0 })
+  leaves : (address : ℕ) (d : Decision) → has_port d.local 2 ≡ true
+      → Leaves (site_of address) d (record { bridge = 2; place = 0 })
   leaves address d among = record {
     out = record { bridge = 0; place = 1 };
     bridge = refl;
@@ -174,7 +190,9 @@ module _ (lists : SettledByLists) (happens : RunsHappen) where
   abbrev point : ℕ → ℕ → Point
   point site bridge = record { site = site; spot = record { bridge = bridge; place = 0 } }
 
-  goes_there : Contains (remote_for (table_of first_told) 5001 everyone (port_of first_told 5001 everyone) (address_of first_told) (Port 1)) there
+  goes_there : Contains
+      (remote_for (table_of first_told) 5001 everyone (port_of first_told 5001 everyone) (address_of first_told)
+      (Port 1)) there
   goes_there = subst (λ l. Contains (others_of here l) there) (sym (floods heard_both 5001)) (zero, lit< tt, refl)
 
   pub sites_of_a_fabric : SitesOfAFabric
@@ -194,7 +212,9 @@ module _ (lists : SettledByLists) (happens : RunsHappen) where
     z = point 1 2;
     are_sites = are_sites;
     rest = they_rest;
-    by_edge = record { site = site_of here; at = refl; same = refl; decision = decided first_told everyone (Port 1); decides = decides_here; leaves = leaves here (decided first_told everyone (Port 1)) leaves_by_two };
+    by_edge =
+        record { site = site_of here; at = refl; same = refl; decision = decided first_told everyone (Port 1);
+        decides = decides_here; leaves = leaves here (decided first_told everyone (Port 1)) leaves_by_two };
     by_tunnel = record {
       near = site_of here;
       far = site_of there;

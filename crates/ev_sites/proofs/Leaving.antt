@@ -1,5 +1,7 @@
 -- By which ports a frame leaves an edge's bridge, by the edge's step alone.
-use Rattle.std.proofs.Common.{◌≡◌, ◌≢◌, inl, inr, ℕ, ◌-◌, ◌<◌, ◌≤◌, ◌^◌, Bool, true, false, not, cond, eqb, ◌&&◌, Option, Some, None, Result, Ok, Err, List, length, slice_get, refl, sym, ap, subst, ◌∙◌, arith}
+use Rattle.std.proofs.Common.{◌≡◌, ◌≢◌, inl, inr, ℕ, ◌-◌, ◌<◌, ◌≤◌, ◌^◌, Bool, true, false, not, cond, eqb, ◌&&◌}
+use Rattle.std.proofs.Common.{Option, Some, None, Result, Ok, Err, List, length, slice_get, refl, sym, ap, subst, ◌∙◌}
+use Rattle.std.proofs.Common.{arith}
 use Rattle.std.specs.Option.{option_map_or}
 use Rattle.std.proofs.lemmas.Bool.{eq-eqb, true≢false}
 use Rattle.std.proofs.lemmas.Option.{slice_get_within}
@@ -44,51 +46,72 @@ right false b h = absurd (true≢false (sym h))
 
 -- ---- a decision's ports
 
-alone_passes : (port : ℕ) (from : Source) (members passing q : ℕ) → has_port (port_alone port from (record { members = members; passing = passing })) q ≡ true → has_port passing port ≡ true
+alone_passes : (port : ℕ) (from : Source) (members passing q : ℕ)
+    → has_port (port_alone port from (record { members = members; passing = passing })) q ≡ true
+    → has_port passing port ≡ true
 alone_passes port from members passing q there = go (has_port passing port) there
   where
-    go : (b : Bool) → has_port (cond (b && not (is_from from port)) (with_port no_ports port) no_ports) q ≡ true → b ≡ true
+    go : (b : Bool) → has_port (cond (b && not (is_from from port)) (with_port no_ports port) no_ports) q ≡ true
+        → b ≡ true
     go true there = refl
     go false there = none_there q there
 
 -- each of them passes
-passes_in : (destination : ℕ) (entry owner : Option ℕ) (own : ℕ) (from : Source) (members passing q : ℕ) → passing < 2 ^ 64 → IsPort q
-    → has_port (local_of (place_of destination entry owner own) from (record { members = members; passing = passing })) q ≡ true → has_port passing q ≡ true
+passes_in : (destination : ℕ) (entry owner : Option ℕ) (own : ℕ) (from : Source) (members passing q : ℕ)
+    → passing < 2 ^ 64 → IsPort q
+    → has_port (local_of (place_of destination entry owner own) from (record { members = members; passing = passing }))
+        q ≡ true → has_port passing q ≡ true
 passes_in destination None owner own from members passing q small port there =
-    (local_passes (place_of destination None owner own) from (record { members = members; passing = passing }) small (member_is destination None owner own members (λ p at. absurd (let no : ⊥ = cc in no))) q port there).1
+    (local_passes (place_of destination None owner own) from (record { members = members; passing = passing }) small
+        (member_is destination None owner own members (λ p at. absurd (let no : ⊥ = cc in no))) q port there).1
 passes_in destination (Some p) owner own from members passing q small port there = go (is_group destination) there
   where
-    go : (b : Bool) → has_port (local_of (cond b (owned_place None own) (learnt_place (Some p) owner own)) from (record { members = members; passing = passing })) q ≡ true → has_port passing q ≡ true
-    go true there = (local_passes (owned_place None own) from (record { members = members; passing = passing }) small tt q port there).1
+    go : (b : Bool) → has_port
+        (local_of (cond b (owned_place None own) (learnt_place (Some p) owner own)) from
+        (record { members = members; passing = passing })) q ≡ true → has_port passing q ≡ true
+    go true there =
+        (local_passes (owned_place None own) from (record { members = members; passing = passing }) small tt q port
+        there).1
     go false there =
-        let same : Some p ≡ Some q = at_port (Some p) None (learnt_place (Some p) owner own) from (record { members = members; passing = passing }) q small refl (λ e. let no : ⊥ = cc in no) there in
+        let same : Some p ≡ Some q =
+            at_port (Some p) None (learnt_place (Some p) owner own) from
+            (record { members = members; passing = passing }) q small refl (λ e. let no : ⊥ = cc in no) there in
         let one : p ≡ q = cc in
         ap (has_port passing) (sym one) ∙ alone_passes p from members passing q there
 
-decided : (e : Edge) (vni destination : ℕ) (from : Source) (d : Decision) → IsDecision e vni destination from d → (q : ℕ) → IsPort q → has_port d.local q ≡ true → Passes e.tree q
+decided : (e : Edge) (vni destination : ℕ) (from : Source) (d : Decision) → IsDecision e vni destination from d
+    → (q : ℕ) → IsPort q → has_port d.local q ≡ true → Passes e.tree q
 decided e vni destination from d i q port there =
-    ((i.are_passing q).0 (passes_in destination (port_of e vni destination) (owner (table_of e) vni destination) (address_of e) from i.members i.passing q i.passing_fit port
+    ((i.are_passing q).0
+        (passes_in destination (port_of e vni destination) (owner (table_of e) vni destination) (address_of e) from
+        i.members i.passing q i.passing_fit port
     (ap (λ n. has_port n q) (sym i.local) ∙ there))).1
 
 -- a port that passes is one of the bridge
 is_there : (s : Tree) (p : ℕ) → Passes s p → p - 1 < length s.ports
 is_there s p passes = go (slice_get s.ports (p - 1)) refl passes.1
   where
-    go : (o : Option PortState) → slice_get s.ports (p - 1) ≡ o → option_map_or (λ port. port.enabled && port.forwarding) o false ≡ true → p - 1 < length s.ports
+    go : (o : Option PortState) → slice_get s.ports (p - 1) ≡ o
+        → option_map_or (λ port. port.enabled && port.forwarding) o false ≡ true → p - 1 < length s.ports
     go None is h = absurd (true≢false (sym h))
     go (Some port) is h = slice_get_within s.ports (p - 1) port is
 
 -- none of them is the frame's own
-not_own : (e : Edge) (vni destination port : ℕ) (d : Decision) → 1 ≤ port → Passes e.tree port → IsDecision e vni destination (Port port) d → has_port d.local port ≡ false
+not_own : (e : Edge) (vni destination port : ℕ) (d : Decision) → 1 ≤ port → Passes e.tree port
+    → IsDecision e vni destination (Port port) d → has_port d.local port ≡ false
 not_own e vni destination port d some passes i =
     let within = is_there e.tree port passes in
-    let in_set : has_port i.passing port ≡ true = (i.are_passing port).1 ((some, omega (arith, within, some)), passes) in
+    let in_set : has_port i.passing port ≡ true =
+        (i.are_passing port).1 ((some, omega (arith, within, some)), passes) in
     ap (λ n. has_port n port) i.local
-    ∙ never_back (place_of destination (port_of e vni destination) (owner (table_of e) vni destination) (address_of e)) port (record { members = i.members; passing = i.passing }) i.members_fit i.passing_fit (is_port i.passing port i.passing_fit in_set)
+    ∙ never_back (place_of destination (port_of e vni destination) (owner (table_of e) vni destination) (address_of e))
+        port (record { members = i.members; passing = i.passing }) i.members_fit i.passing_fit
+        (is_port i.passing port i.passing_fit in_set)
 
 -- ---- frames from an access port
 
-learn_stays : (e : Edge) (s : Station) (port : ℕ) (told : Option Alert) (e' : Edge) (c : Case) → Does c e s port told e' → e'.tree ≡ e.tree
+learn_stays : (e : Edge) (s : Station) (port : ℕ) (told : Option Alert) (e' : Edge) (c : Case) → Does c e s port told e'
+    → e'.tree ≡ e.tree
 learn_stays e s port told e' Leave h = ap (λ (x : Edge). x.tree) h.1
 learn_stays e s port told e' Refresh h = ap (λ (x : Edge). x.tree) h.1
 learn_stays e s port told e' (Refuse alert) h = ap (λ (x : Edge). x.tree) h.1
@@ -102,7 +125,8 @@ learn_stays e s port told e' (Learn n) h = elim h as (λ _. e'.tree ≡ e.tree) 
     go true = refl
     go false = refl
 
-learnt_stays : (e : Edge) (s : Station) (port : ℕ) (told : Option Alert) (e' : Edge) (b : Bool) → LearnsIf b e s port told e' → e'.tree ≡ e.tree
+learnt_stays : (e : Edge) (s : Station) (port : ℕ) (told : Option Alert) (e' : Edge) (b : Bool)
+    → LearnsIf b e s port told e' → e'.tree ≡ e.tree
 learnt_stays e s port told e' true h = learn_stays e s port told e' (case_of e s) h
 learnt_stays e s port told e' false h = ap (λ (x : Edge). x.tree) h.1
 
@@ -112,15 +136,19 @@ pub record Sent (e : Edge) (port q : ℕ) : Type 0 where
   pub leaves : Passes e.tree q
   pub other : q ≢ port
 
-none_decided : {P : Type 0} (result : Result Reply Refusal) (d : Decision) → decision_in result ≡ None → decision_in result ≡ Some d → P
+none_decided : {P : Type 0} (result : Result Reply Refusal) (d : Decision) → decision_in result ≡ None
+    → decision_in result ≡ Some d → P
 none_decided result d none is = absurd (let no : ⊥ = cc in no)
 
-bridged : (event : tree.Event) (e : Edge) (result : Result Reply Refusal) (e' : Edge) → Bridges event e result e' → decision_in result ≡ None
+bridged : (event : tree.Event) (e : Edge) (result : Result Reply Refusal) (e' : Edge) → Bridges event e result e'
+    → decision_in result ≡ None
 bridged event e (Ok reply) e' h = ap (λ (r : Reply). r.decision) h.reply_is
 bridged event e (Err r) e' h = absurd h
 
 module _ (e : Edge) (port : ℕ) (e' : Edge) (some : 1 ≤ port) where
-  sent : (vni destination : ℕ) (d : Decision) → e'.tree ≡ e.tree → (b : Bool) → (b ≡ true → Passes e.tree port) → SendsIf b e' vni destination (Port port) (Some d) → (q : ℕ) → IsPort q → has_port d.local q ≡ true → Sent e port q
+  sent : (vni destination : ℕ) (d : Decision) → e'.tree ≡ e.tree → (b : Bool) → (b ≡ true → Passes e.tree port)
+      → SendsIf b e' vni destination (Port port) (Some d) → (q : ℕ) → IsPort q → has_port d.local q ≡ true
+      → Sent e port q
   sent vni destination d stays false passes h q port_q there = none_there q (ap (λ n. has_port n q) (sym h.0) ∙ there)
   sent vni destination d stays true passes h q port_q there =
       let own = passes refl in
@@ -131,20 +159,29 @@ module _ (e : Edge) (port : ℕ) (e' : Edge) (some : 1 ≤ port) where
         other = λ same. true≢false (sym there ∙ ap (has_port d.local) same ∙ back);
       }
 
-  data_sent : (vni destination source : ℕ) (reply : Reply) (d : Decision) → DataSteps e port vni destination source reply e' → reply.decision ≡ Some d → (q : ℕ) → IsPort q → has_port d.local q ≡ true → Sent e port q
+  data_sent : (vni destination source : ℕ) (reply : Reply) (d : Decision)
+      → DataSteps e port vni destination source reply e' → reply.decision ≡ Some d → (q : ℕ) → IsPort q
+      → has_port d.local q ≡ true → Sent e port q
   data_sent vni destination source reply d h is q port_q there =
-      sent vni destination d (learnt_stays e (record { vni = vni; mac = source }) port reply.alert e' _ h.learning.learning) h.passes h.are_passed.0 (subst (SendsIf h.passes e' vni destination (Port port)) is h.sending) q port_q there
+      sent vni destination d
+          (learnt_stays e (record { vni = vni; mac = source }) port reply.alert e' _ h.learning.learning) h.passes
+          h.are_passed.0 (subst (SendsIf h.passes e' vni destination (Port port)) is h.sending) q port_q there
 
-  pub frame_sent : (arrival : Result Arrival Refusal) (result : Result Reply Refusal) (d : Decision) → FrameSteps arrival e port result e' → decision_in result ≡ Some d → (q : ℕ) → IsPort q → has_port d.local q ≡ true → Sent e port q
+  pub frame_sent : (arrival : Result Arrival Refusal) (result : Result Reply Refusal) (d : Decision)
+      → FrameSteps arrival e port result e' → decision_in result ≡ Some d → (q : ℕ) → IsPort q
+      → has_port d.local q ≡ true → Sent e port q
   frame_sent (Err r) result d h is q port_q there = none_decided result d (ap decision_in h.0) is
   frame_sent (Ok Dropped) result d h is q port_q there = none_decided result d (ap decision_in h.0) is
   frame_sent (Ok (Message b)) result d h is q port_q there = none_decided result d (bridged _ e result e' h) is
-  frame_sent (Ok (Data vni destination source)) (Ok reply) d h is q port_q there = data_sent vni destination source reply d h is q port_q there
+  frame_sent (Ok (Data vni destination source)) (Ok reply) d h is q port_q there =
+      data_sent vni destination source reply d h is q port_q there
   frame_sent (Ok (Data vni destination source)) (Err r) d h is q port_q there = absurd h
 
 -- ---- frames from a tunnel
 
-pub tunnel_passes : (e : Edge) (arrival : Result Arrival Refusal) (result : Result Reply Refusal) (e' : Edge) (d : Decision) → TunnelSteps arrival e result e' → decision_in result ≡ Some d → (q : ℕ) → IsPort q → has_port d.local q ≡ true → Passes e.tree q
+pub tunnel_passes : (e : Edge) (arrival : Result Arrival Refusal) (result : Result Reply Refusal) (e' : Edge)
+    (d : Decision) → TunnelSteps arrival e result e' → decision_in result ≡ Some d → (q : ℕ) → IsPort q
+    → has_port d.local q ≡ true → Passes e.tree q
 tunnel_passes e (Err r) result e' d h is q port_q there = none_decided result d (ap decision_in h.0) is
 tunnel_passes e (Ok Dropped) result e' d h is q port_q there = none_decided result d (ap decision_in h.0) is
 tunnel_passes e (Ok (Message b)) result e' d h is q port_q there = absurd h
@@ -158,9 +195,12 @@ right_of a true h = absurd (true≢false (sym (right a false h)))
 right_of a false h = refl
 
 -- an edge takes no datagram from itself
-pub tunnel_other : (e : Edge) (from : ℕ) (octets : List ℕ) (result : Result Reply Refusal) (e' : Edge) (d : Decision) → TunnelSteps (tunnel_arrival e from octets) e result e' → decision_in result ≡ Some d → from ≢ address_of e
+pub tunnel_other : (e : Edge) (from : ℕ) (octets : List ℕ) (result : Result Reply Refusal) (e' : Edge) (d : Decision)
+    → TunnelSteps (tunnel_arrival e from octets) e result e' → decision_in result ≡ Some d → from ≢ address_of e
 tunnel_other e from octets result e' d h is same = go (is_other e from) refl h
   where
-    go : (b : Bool) → is_other e from ≡ b → TunnelSteps (cond b (datagram_arrival e (instance_of octets)) (Err (OfEdge UnknownOriginator))) e result e' → ⊥
+    go : (b : Bool) → is_other e from ≡ b
+        → TunnelSteps (cond b (datagram_arrival e (instance_of octets)) (Err (OfEdge UnknownOriginator))) e result e'
+        → ⊥
     go true other h = true≢false (sym (eq-eqb from (address_of e) same) ∙ right_of _ (eqb from (address_of e)) other)
     go false other h = none_decided result d (ap decision_in h.0) is

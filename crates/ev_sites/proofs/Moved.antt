@@ -27,10 +27,14 @@ use Rattle.ev_fabric.specs.Rest.{Rests}
 use Rattle.ev_fabric.specs.Station.{AgreesOn, StationComes, RunsBeside}
 use Rattle.ev_fabric.proofs.Example.{nobody_learnt}
 use Rattle.ev_sites.proofs.Tables.{Said, found}
-use Rattle.ev_sites.proofs.Guest.{guest, here, there, guest_register, said_first, said_guest, said_gone, voice_with, claims_with, keeps, withdraws, first_agreed, second_agreed, second_said, first_moved, second_moved}
+use Rattle.ev_sites.proofs.Guest.{guest, here, there, guest_register, said_first, said_guest, said_gone, voice_with}
+use Rattle.ev_sites.proofs.Guest.{claims_with, keeps, withdraws, first_agreed, second_agreed, second_said, first_moved}
+use Rattle.ev_sites.proofs.Guest.{second_moved}
 use Rattle.ev_sites.proofs.Risen.{everyone, Windows, fabric_with, risen_edge, decided, sending, sends}
-use Rattle.ev_sites.proofs.Telling.{lent, update, announcing, taking, second_steps, first_announces, first_takes, second_announces, second_takes, learns}
-use Rattle.ev_sites.proofs.Agreed.{hello, hello_arrives, guest_learnt, guest_entry, first_edge, second_edge, agreed_pool, agreed, advertised, all_agree}
+use Rattle.ev_sites.proofs.Telling.{lent, update, announcing, taking, second_steps, first_announces, first_takes}
+use Rattle.ev_sites.proofs.Telling.{second_announces, second_takes, learns}
+use Rattle.ev_sites.proofs.Agreed.{hello, hello_arrives, guest_learnt, guest_entry, first_edge, second_edge}
+use Rattle.ev_sites.proofs.Agreed.{agreed_pool, agreed, advertised, all_agree}
 
 -- ---- the edges on the way
 
@@ -60,7 +64,8 @@ abbrev heard : Fabric
 heard = fabric_with first_edge (second_with second_said []) (agreed_pool ++ guest_there ∷ [])
 
 abbrev left : Fabric
-left = fabric_with (first_with (guest_register here ∷ [])) (second_with second_said []) (agreed_pool ++ guest_there ∷ [])
+left =
+    fabric_with (first_with (guest_register here ∷ [])) (second_with second_said []) (agreed_pool ++ guest_there ∷ [])
 
 abbrev withdrawn : Fabric
 withdrawn = fabric_with (first_with []) (second_with second_said []) moved_pool
@@ -74,42 +79,67 @@ move_steps = Announce 2 ∷ Deliver 1 4 ∷ Announce 1 ∷ Deliver 2 5 ∷ []
 -- ---- the steps
 
 tells : FabricSteps come (Announce 2) (Ok (announcing guest_there)) heard
-tells = second_announces first_edge agreed_pool second_said 2 (guest_register there) [] guest_learnt one_move (said_guest 1) refl
+tells =
+    second_announces first_edge agreed_pool second_said 2 (guest_register there) [] guest_learnt one_move (said_guest 1)
+    refl
 
 loses : FabricSteps heard (Deliver 1 4) (Ok (taking first_edge guest_there)) left
-loses = first_takes first_edge (second_with second_said []) (agreed_pool ++ guest_there ∷ []) 4 guest_there (claims_with (voice_with here first_moved 3 (guest_register here ∷ [])) (gone guest_learnt guest)) refl refl refl
+loses =
+    first_takes first_edge (second_with second_said []) (agreed_pool ++ guest_there ∷ []) 4 guest_there
+    (claims_with (voice_with here first_moved 3 (guest_register here ∷ [])) (gone guest_learnt guest)) refl refl refl
     (withdraws here there first_agreed 2 [] guest_learnt (said_guest 1) refl refl)
 
 tells_it : FabricSteps left (Announce 1) (Ok (announcing guest_gone)) withdrawn
-tells_it = first_announces (second_with second_said []) (agreed_pool ++ guest_there ∷ []) first_moved 3 (guest_register here) [] (gone guest_learnt guest) empty said_gone refl
+tells_it =
+    first_announces (second_with second_said []) (agreed_pool ++ guest_there ∷ []) first_moved 3 (guest_register here)
+    [] (gone guest_learnt guest) empty said_gone refl
 
 hears_it : FabricSteps withdrawn (Deliver 2 5) (Ok (taking (second_with second_said []) guest_gone)) moved
-hears_it = second_takes (first_with []) (second_with second_said []) moved_pool 5 guest_gone (claims_with (voice_with there second_moved 2 []) guest_learnt) refl refl refl
+hears_it =
+    second_takes (first_with []) (second_with second_said []) moved_pool 5 guest_gone
+    (claims_with (voice_with there second_moved 2 []) guest_learnt) refl refl refl
     (keeps there here second_said 2 [] guest_learnt said_gone refl refl)
 
 pub rests : Rests come move_steps moved
-rests = (heard, Ok (announcing guest_there), tt, tt, tells, (left, Ok (taking first_edge guest_there), tt, tt, loses, (withdrawn, Ok (announcing guest_gone), tt, tt, tells_it, (moved, Ok (taking (second_with second_said []) guest_gone), tt, tt, hears_it, refl))))
+rests =
+    (heard, Ok (announcing guest_there), tt, tt, tells,
+    (left, Ok (taking first_edge guest_there), tt, tt, loses,
+    (withdrawn, Ok (announcing guest_gone), tt, tt, tells_it,
+    (moved, Ok (taking (second_with second_said []) guest_gone), tt, tt, hears_it, refl))))
 
 pub beside : RunsBeside 0 1 guest come move_steps moved
-beside = (heard, Ok (announcing guest_there), tells, tt, (left, Ok (taking first_edge guest_there), loses, tt, (withdrawn, Ok (announcing guest_gone), tells_it, tt, (moved, Ok (taking (second_with second_said []) guest_gone), hears_it, tt, refl))))
+beside =
+    (heard, Ok (announcing guest_there), tells, tt,
+    (left, Ok (taking first_edge guest_there), loses, tt,
+    (withdrawn, Ok (announcing guest_gone), tells_it, tt,
+    (moved, Ok (taking (second_with second_said []) guest_gone), hears_it, tt, refl))))
 
 -- ---- all agree again
 
 pub agree_again : AllAgree moved
 agree_again = all_agree first_moved second_moved 3 2 (gone guest_learnt guest) guest_learnt empty one_move moved_pool
-    ((said_first, refl, refl), ((said_gone, refl, refl), ((said_first, refl, refl), ((said_guest 1, refl, refl), ((said_gone, refl, refl), tt)))))
-    ((said_first, refl, refl), ((said_gone, refl, refl), ((said_first, refl, refl), ((said_guest 1, refl, refl), ((said_gone, refl, refl), tt)))))
+    ((said_first, refl, refl),
+        ((said_gone, refl, refl),
+        ((said_first, refl, refl), ((said_guest 1, refl, refl), ((said_gone, refl, refl), tt)))))
+    ((said_first, refl, refl),
+        ((said_gone, refl, refl),
+        ((said_first, refl, refl), ((said_guest 1, refl, refl), ((said_gone, refl, refl), tt)))))
 
 pub advertised_there : Advertises (second_with second_moved []) guest
-advertised_there = (None, record { is_static = false; sequence = 1; label2 = None }, ap advert_of (found second_moved (guest_register there)))
+advertised_there =
+    (None, record { is_static = false; sequence = 1; label2 = None }, ap advert_of
+    (found second_moved (guest_register there)))
 
 module _ (lists : SettledByLists) (happens : RunsHappen) where
   abbrev sent : Reply
   sent = sending (decided (second_with second_said (guest_register there ∷ [])) everyone (Port 1))
 
   hears : FabricSteps agreed (Local 2 (Frame 1 (lent hello))) (Ok sent) come
-  hears = second_steps first_edge second_edge (second_with second_said (guest_register there ∷ [])) agreed_pool (Frame 1 (lent hello)) sent
-      (subst (λ r. FrameSteps r second_edge 1 (Ok sent) (second_with second_said (guest_register there ∷ []))) (sym (hello_arrives (voice_with there second_agreed 1 []) nobody_learnt empty))
+  hears =
+      second_steps first_edge second_edge (second_with second_said (guest_register there ∷ [])) agreed_pool
+      (Frame 1 (lent hello)) sent
+      (subst (λ r. FrameSteps r second_edge 1 (Ok sent) (second_with second_said (guest_register there ∷ [])))
+          (sym (hello_arrives (voice_with there second_agreed 1 []) nobody_learnt empty))
       (sends lists happens _ _ _ _ _ _ everyone guest.mac (learns there second_agreed [] 1 refl refl)))
 
   pub comes : AgreesOn agreed guest → StationComes agreed 0 1 guest come

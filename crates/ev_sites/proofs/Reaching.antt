@@ -1,5 +1,6 @@
 -- The bridges of a fabric's edges came from their starts by events.
-use Rattle.std.proofs.Common.{◌≡◌, inl, inr, ℕ, zero, suc, ◌-◌, ◌<◌, ◌^◌, Bool, true, false, cond, not, ◌&&◌, Option, Some, None, Result, Ok, Err, List, [], ◌∷◌, length, refl, sym, ap, subst, ◌∙◌, arith}
+use Rattle.std.proofs.Common.{◌≡◌, inl, inr, ℕ, zero, suc, ◌-◌, ◌<◌, ◌^◌, Bool, true, false, cond, not, ◌&&◌, Option}
+use Rattle.std.proofs.Common.{Some, None, Result, Ok, Err, List, [], ◌∷◌, length, refl, sym, ap, subst, ◌∙◌, arith}
 use Rattle.std.specs.Prelude.{slice_get, slice_set, ◌==◌}
 use Rattle.std.specs.Option.{MatchOption}
 use Rattle.std.proofs.lemmas.Bool.{cases_eq}
@@ -66,29 +67,37 @@ same_tree a b is settings ports h = subst (CanBe settings ports) (sym is) h
 stays : (a b : Edge) → b ≡ a → Goes a b
 stays a b is = same_tree a b (ap (λ (x : Edge). x.tree) is)
 
-bridge_goes : (a b : Edge) (event : tree.Event) (flush : ℕ) (sent : _) → BridgeGoes event a.tree b.tree flush sent → Goes a b
+bridge_goes : (a b : Edge) (event : tree.Event) (flush : ℕ) (sent : _) → BridgeGoes event a.tree b.tree flush sent
+    → Goes a b
 bridge_goes a b event flush sent goes settings ports h = (event ∷ h.0, (a.tree, _, _, flush, h.1, goes.happens))
 
-either_goes : (needs : Bool) (a after b : Edge) (alert told : Option Alert) → after.tree ≡ a.tree → OrNoMemory needs a alert after told b → Goes a b
+either_goes : (needs : Bool) (a after b : Edge) (alert told : Option Alert) → after.tree ≡ a.tree
+    → OrNoMemory needs a alert after told b → Goes a b
 either_goes needs a after b alert told is (inl h) = same_tree a b (ap (λ (x : Edge). x.tree) h.1 ∙ is)
 either_goes needs a after b alert told is (inr h) = stays a b h.1
 
-does_go : (c : Case) (a : Edge) (s : Station) (port : ℕ) (told : Option Alert) (b : Edge) → Does c a s port told b → Goes a b
+does_go : (c : Case) (a : Edge) (s : Station) (port : ℕ) (told : Option Alert) (b : Edge) → Does c a s port told b
+    → Goes a b
 does_go Leave a s port told b h = stays a b h.1
 does_go Refresh a s port told b h = same_tree a b (ap (λ (x : Edge). x.tree) h.1)
 does_go (Refuse alert) a s port told b h = stays a b h.1
 does_go Freeze a s port told b h = same_tree a b (ap (λ (x : Edge). x.tree) h.1)
-does_go (Learn n) a s port told b h = either_goes (needs_memory a s n) a _ b _ told (elim (n == 0) as (λ x. (cond x a (moved a s)).tree ≡ a.tree) [ true ↦ refl | false ↦ refl ]) h
+does_go (Learn n) a s port told b h =
+    either_goes (needs_memory a s n) a _ b _ told
+    (elim (n == 0) as (λ x. (cond x a (moved a s)).tree ≡ a.tree) [ true ↦ refl | false ↦ refl ]) h
 
-learns_go : (x : Bool) (a : Edge) (s : Station) (port : ℕ) (told : Option Alert) (b : Edge) → LearnsIf x a s port told b → Goes a b
+learns_go : (x : Bool) (a : Edge) (s : Station) (port : ℕ) (told : Option Alert) (b : Edge) → LearnsIf x a s port told b
+    → Goes a b
 learns_go true a s port told b h = does_go (case_of a s) a s port told b h
 learns_go false a s port told b h = stays a b h.1
 
-bridges_go : (event : tree.Event) (a : Edge) (result : Result Reply edge.Refusal) (b : Edge) → Bridges event a result b → Goes a b
+bridges_go : (event : tree.Event) (a : Edge) (result : Result Reply edge.Refusal) (b : Edge) → Bridges event a result b
+    → Goes a b
 bridges_go event a (Ok reply) b h = bridge_goes a b event h.flush reply.bpdus.items h.goes
 bridges_go event a (Err r) b h = absurd h
 
-bridges_at_go : (vni : Option ℕ) (event : tree.Event) (a : Edge) (result : Result Reply edge.Refusal) (b : Edge) → BridgesAt vni event a result b → Goes a b
+bridges_at_go : (vni : Option ℕ) (event : tree.Event) (a : Edge) (result : Result Reply edge.Refusal) (b : Edge)
+    → BridgesAt vni event a result b → Goes a b
 bridges_at_go None event a result b h = stays a b h.1
 bridges_at_go (Some vni) event a result b h = bridges_go event a result b h
 
@@ -96,41 +105,51 @@ seconds_go : (a : Edge) (result : Result Reply edge.Refusal) (b : Edge) → Seco
 seconds_go a (Ok reply) b h = bridge_goes a b tree_events.Second h.flush reply.bpdus.items h.goes
 seconds_go a (Err r) b h = absurd h
 
-frame_goes : (arrival : Result Arrival edge.Refusal) (a : Edge) (port : ℕ) (result : Result Reply edge.Refusal) (b : Edge) → FrameSteps arrival a port result b → Goes a b
+frame_goes : (arrival : Result Arrival edge.Refusal) (a : Edge) (port : ℕ) (result : Result Reply edge.Refusal)
+    (b : Edge) → FrameSteps arrival a port result b → Goes a b
 frame_goes (Err r) a port result b h = stays a b h.1
 frame_goes (Ok Dropped) a port result b h = stays a b h.1
 frame_goes (Ok (Message m)) a port result b h = bridges_go (tree_events.Bpdu port m) a result b h
-frame_goes (Ok (Data vni destination source)) a port (Ok reply) b h = learns_go (h.learning.learns && not (is_group source)) a (record { vni = vni; mac = source }) port reply.alert b h.learning.learning
+frame_goes (Ok (Data vni destination source)) a port (Ok reply) b h =
+    learns_go (h.learning.learns && not (is_group source)) a (record { vni = vni; mac = source }) port reply.alert b
+    h.learning.learning
 frame_goes (Ok (Data vni destination source)) a port (Err r) b h = absurd h
 
-tunnel_goes : (arrival : Result Arrival edge.Refusal) (a : Edge) (result : Result Reply edge.Refusal) (b : Edge) → TunnelSteps arrival a result b → Goes a b
+tunnel_goes : (arrival : Result Arrival edge.Refusal) (a : Edge) (result : Result Reply edge.Refusal) (b : Edge)
+    → TunnelSteps arrival a result b → Goes a b
 tunnel_goes (Err r) a result b h = stays a b h.1
 tunnel_goes (Ok Dropped) a result b h = stays a b h.1
 tunnel_goes (Ok (Message m)) a result b h = absurd h
 tunnel_goes (Ok (Data vni destination source)) a (Ok reply) b h = stays a b h.2
 tunnel_goes (Ok (Data vni destination source)) a (Err r) b h = absurd h
 
-takes_go : (x : Bool) (a : Edge) (u : Fields) (result : Result Reply edge.Refusal) (b : Edge) → Takes x a u result b → Goes a b
+takes_go : (x : Bool) (a : Edge) (u : Fields) (result : Result Reply edge.Refusal) (b : Edge) → Takes x a u result b
+    → Goes a b
 takes_go true a u (Ok reply) b h = same_tree a b (ap (λ (x : Edge). x.tree) h.3)
 takes_go true a u (Err r) b h = stays a b h.1
 takes_go false a u (Ok reply) b h = same_tree a b (ap (λ (x : Edge). x.tree) h.2)
 takes_go false a u (Err r) b h = stays a b h.1
 
-does_pin_go : (c : PinCase) (a : Edge) (s : Station) (port : ℕ) (told : Option Alert) (b : Edge) → DoesPin c a s port told b → Goes a b
+does_pin_go : (c : PinCase) (a : Edge) (s : Station) (port : ℕ) (told : Option Alert) (b : Edge)
+    → DoesPin c a s port told b → Goes a b
 does_pin_go pins.Keep a s port told b h = stays a b h.1
 does_pin_go pins.Shift a s port told b h = same_tree a b (ap (λ (x : Edge). x.tree) h.1)
 does_pin_go (pins.Deny alert) a s port told b h = stays a b h.1
 does_pin_go pins.Pin a s port told b h = either_goes (needs_register a s) a _ b _ told refl h
 
-pins_go : (refused : Option EdgeRefusal) (a : Edge) (s : Station) (port : ℕ) (result : Result Reply edge.Refusal) (b : Edge) → Pins refused a s port result b → Goes a b
+pins_go : (refused : Option EdgeRefusal) (a : Edge) (s : Station) (port : ℕ) (result : Result Reply edge.Refusal)
+    (b : Edge) → Pins refused a s port result b → Goes a b
 pins_go (Some r) a s port result b h = stays a b h.1
 pins_go None a s port (Ok reply) b h = does_pin_go (pin_case a s port) a s port reply.alert b h.0
 pins_go None a s port (Err r) b h = absurd h
 
 unpin_tree : (a : Edge) (s : Station) → (after_unpin a s).tree ≡ a.tree
-unpin_tree a s = elim (is_pinned (entry_at a.claims.learned s)) as (λ x. (cond x (record a { claims = after_removal a.claims s }) a).tree ≡ a.tree) [ true ↦ refl | false ↦ refl ]
+unpin_tree a s =
+    elim (is_pinned (entry_at a.claims.learned s)) as (λ x.
+    (cond x (record a { claims = after_removal a.claims s }) a).tree ≡ a.tree) [ true ↦ refl | false ↦ refl ]
 
-steps_go : (a : Edge) (event : Event) (result : Result Reply edge.Refusal) (b : Edge) → Steps a event result b → Goes a b
+steps_go : (a : Edge) (event : Event) (result : Result Reply edge.Refusal) (b : Edge) → Steps a event result b
+    → Goes a b
 steps_go a (events.Frame port octets) result b h = frame_goes (frame_arrival a port octets.now) a port result b h
 steps_go a (events.TunnelFrame from octets) result b h = tunnel_goes (tunnel_arrival a from octets.now) a result b h
 steps_go a (events.Take u) result b h = takes_go (u.register.originator == address_of a) a u result b h
@@ -149,9 +168,13 @@ opening_can_be : (c : EdgeConfig) (a : Edge) → IsOpening c a → CanBe c.tree 
 opening_can_be c a h = ([], h.tree)
 
 -- one edge becomes another one, which was opened as the one before
-one_goes : (old new : Fabric) (i : ℕ) (a b : Edge) → IsEdge old i a → new.edges ≡ slice_set old.edges i b → new.configs ≡ old.configs → Goes a b → BridgesCanBe old → BridgesCanBe new
-one_goes old new i a b at edges configs goes h j c x at_c at_x = elim (set_cases old.edges i b j x (subst (λ l. slice_get l j ≡ Some x) edges at_x)) as (λ _. CanBe c.tree (settings_of c.ports.items) x.tree) [
-  | inl p ↦ subst (λ (y : Edge). CanBe c.tree (settings_of c.ports.items) y.tree) (sym p.1) (goes c.tree (settings_of c.ports.items) (h i c a (subst (λ n. slice_get old.configs n ≡ Some c) p.0 was) at))
+one_goes : (old new : Fabric) (i : ℕ) (a b : Edge) → IsEdge old i a → new.edges ≡ slice_set old.edges i b
+    → new.configs ≡ old.configs → Goes a b → BridgesCanBe old → BridgesCanBe new
+one_goes old new i a b at edges configs goes h j c x at_c at_x =
+    elim (set_cases old.edges i b j x (subst (λ l. slice_get l j ≡ Some x) edges at_x)) as (λ _. CanBe c.tree
+    (settings_of c.ports.items) x.tree) [
+  | inl p ↦ subst (λ (y : Edge). CanBe c.tree (settings_of c.ports.items) y.tree) (sym p.1)
+      (goes c.tree (settings_of c.ports.items) (h i c a (subst (λ n. slice_get old.configs n ≡ Some c) p.0 was) at))
   | inr p ↦ h j c x was p.1
 ]
   where
@@ -164,24 +187,35 @@ back i = omega arith
 unchanged : (old new : Fabric) → new ≡ old → BridgesCanBe old → BridgesCanBe new
 unchanged old new is h = subst BridgesCanBe (sym is) h
 
-steps_at : (old new : Fabric) (i : ℕ) (a : Edge) (event : Event) (result : Result Reply Refusal) → IsEdge old i a → StepsAt old (suc i) a event result new → BridgesCanBe old → BridgesCanBe new
+steps_at : (old new : Fabric) (i : ℕ) (a : Edge) (event : Event) (result : Result Reply Refusal) → IsEdge old i a
+    → StepsAt old (suc i) a event result new → BridgesCanBe old → BridgesCanBe new
 steps_at old new i a event result at s h =
-    one_goes old new i a s.after at (ap (λ (f : Fabric). f.edges) s.new_is ∙ ap (λ n. slice_set old.edges n s.after) (back i)) (ap (λ (f : Fabric). f.configs) s.new_is) (steps_go a event s.answer s.after s.steps) h
+    one_goes old new i a s.after at
+        (ap (λ (f : Fabric). f.edges) s.new_is ∙ ap (λ n. slice_set old.edges n s.after) (back i))
+        (ap (λ (f : Fabric). f.configs) s.new_is) (steps_go a event s.answer s.after s.steps) h
 
-announces_at : (old new : Fabric) (i : ℕ) (a : Edge) (result : Result Reply Refusal) → IsEdge old i a → AnnouncesAt old (suc i) a result new → BridgesCanBe old → BridgesCanBe new
+announces_at : (old new : Fabric) (i : ℕ) (a : Edge) (result : Result Reply Refusal) → IsEdge old i a
+    → AnnouncesAt old (suc i) a result new → BridgesCanBe old → BridgesCanBe new
 announces_at old new i a (Err why) at s h = unchanged old new s.1 h
 announces_at old new i a (Ok reply) at s h =
-    one_goes old new i a s.0 at (ap (λ (f : Fabric). f.edges) s.2 ∙ ap (λ n. slice_set old.edges n s.0) (back i)) (ap (λ (f : Fabric). f.configs) s.2) (steps_go a events.Announce (Ok reply) s.0 s.1) h
+    one_goes old new i a s.0 at (ap (λ (f : Fabric). f.edges) s.2 ∙ ap (λ n. slice_set old.edges n s.0) (back i))
+        (ap (λ (f : Fabric). f.configs) s.2) (steps_go a events.Announce (Ok reply) s.0 s.1) h
 
-reopened : (old new : Fabric) (i : ℕ) (a : Edge) (n : ℕ) (reply : Reply) → OpensAnew old (suc i) a n reply new → BridgesCanBe old → BridgesCanBe new
-reopened old new i a n reply s h j c x at_c at_x = elim (set_cases old.edges i s.after j x (subst (λ l. slice_get l j ≡ Some x) edges at_x)) as (λ _. CanBe c.tree (settings_of c.ports.items) x.tree) [
-  | inl p ↦ elim (set_cases old.configs i (in_life s.config n) j c (subst (λ l. slice_get l j ≡ Some c) configs at_c)) as (λ _. CanBe c.tree (settings_of c.ports.items) x.tree) [
+reopened : (old new : Fabric) (i : ℕ) (a : Edge) (n : ℕ) (reply : Reply) → OpensAnew old (suc i) a n reply new
+    → BridgesCanBe old → BridgesCanBe new
+reopened old new i a n reply s h j c x at_c at_x =
+    elim (set_cases old.edges i s.after j x (subst (λ l. slice_get l j ≡ Some x) edges at_x)) as (λ _. CanBe c.tree
+    (settings_of c.ports.items) x.tree) [
+  | inl p ↦ elim (set_cases old.configs i (in_life s.config n) j c
+      (subst (λ l. slice_get l j ≡ Some c) configs at_c)) as (λ _. CanBe c.tree (settings_of c.ports.items) x.tree) [
     | inl q ↦
         subst (λ (d : EdgeConfig). CanBe d.tree (settings_of d.ports.items) x.tree) (sym q.1)
-        (subst (λ (y : Edge). CanBe s.config.tree (settings_of s.config.ports.items) y.tree) (sym p.1) (opening_can_be (in_life s.config n) s.after s.opened))
+        (subst (λ (y : Edge). CanBe s.config.tree (settings_of s.config.ports.items) y.tree) (sym p.1)
+            (opening_can_be (in_life s.config n) s.after s.opened))
     | inr q ↦ absurd (q.0 p.0)
   ]
-  | inr p ↦ elim (set_cases old.configs i (in_life s.config n) j c (subst (λ l. slice_get l j ≡ Some c) configs at_c)) as (λ _. CanBe c.tree (settings_of c.ports.items) x.tree) [
+  | inr p ↦ elim (set_cases old.configs i (in_life s.config n) j c
+      (subst (λ l. slice_get l j ≡ Some c) configs at_c)) as (λ _. CanBe c.tree (settings_of c.ports.items) x.tree) [
     | inl q ↦ absurd (p.0 q.0)
     | inr q ↦ h j c x q.1 p.1
   ]
@@ -193,40 +227,50 @@ reopened old new i a n reply s h j c x at_c at_x = elim (set_cases old.edges i s
     configs : new.configs ≡ slice_set old.configs i (in_life s.config n)
     configs = ap (λ (f : Fabric). f.configs) s.new_is ∙ ap (λ m. slice_set old.configs m (in_life s.config n)) (back i)
 
-restarts_at : (old new : Fabric) (i : ℕ) (a : Edge) (n : ℕ) (result : Result Reply Refusal) → RestartsAt old (suc i) a n result new → BridgesCanBe old → BridgesCanBe new
+restarts_at : (old new : Fabric) (i : ℕ) (a : Edge) (n : ℕ) (result : Result Reply Refusal)
+    → RestartsAt old (suc i) a n result new → BridgesCanBe old → BridgesCanBe new
 restarts_at old new i a n (Err why) s h = unchanged old new s.1 h
 restarts_at old new i a n (Ok reply) s h = reopened old new i a n reply s h
 
-delivers_at : (old new : Fabric) (i : ℕ) (a : Edge) (result : Result Reply Refusal) (o : Option Fields) → IsEdge old i a → MatchOption o (IsRefused NoSuchUpdate old result new) (λ u. StepsAt old (suc i) a (events.Take u) result new) → BridgesCanBe old → BridgesCanBe new
+delivers_at : (old new : Fabric) (i : ℕ) (a : Edge) (result : Result Reply Refusal) (o : Option Fields) → IsEdge old i a
+    → MatchOption o (IsRefused NoSuchUpdate old result new) (λ u. StepsAt old (suc i) a (events.Take u) result new)
+    → BridgesCanBe old → BridgesCanBe new
 delivers_at old new i a result None at s h = unchanged old new s.1 h
 delivers_at old new i a result (Some u) at s h = steps_at old new i a (events.Take u) result at s h
 
 no_edge : (a : Edge) → ◌≡◌ {A = Option Edge} None (Some a) → ⊥
 no_edge a q = cc
 
-step_can_be : (old new : Fabric) (step : Step) (result : Result Reply Refusal) → FabricSteps old step result new → BridgesCanBe old → BridgesCanBe new
+step_can_be : (old new : Fabric) (step : Step) (result : Result Reply Refusal) → FabricSteps old step result new
+    → BridgesCanBe old → BridgesCanBe new
 step_can_be old new (Local e event) result s h = go e (nth old.edges e) refl s
   where
-    go : (e : ℕ) (o : Option Edge) → nth old.edges e ≡ o → MatchOption o (IsRefused NoSuchEdge old result new) (λ a. StepsAt old e a (event_of event) result new) → BridgesCanBe new
+    go : (e : ℕ) (o : Option Edge) → nth old.edges e ≡ o
+        → MatchOption o (IsRefused NoSuchEdge old result new) (λ a. StepsAt old e a (event_of event) result new)
+        → BridgesCanBe new
     go e None is s = unchanged old new s.1 h
     go zero (Some a) is s = absurd (no_edge a is)
     go (suc i) (Some a) is s = steps_at old new i a (event_of event) result is s h
 step_can_be old new (Announce e) result s h = go e (nth old.edges e) refl s
   where
-    go : (e : ℕ) (o : Option Edge) → nth old.edges e ≡ o → MatchOption o (IsRefused NoSuchEdge old result new) (λ a. AnnouncesAt old e a result new) → BridgesCanBe new
+    go : (e : ℕ) (o : Option Edge) → nth old.edges e ≡ o
+        → MatchOption o (IsRefused NoSuchEdge old result new) (λ a. AnnouncesAt old e a result new) → BridgesCanBe new
     go e None is s = unchanged old new s.1 h
     go zero (Some a) is s = absurd (no_edge a is)
     go (suc i) (Some a) is s = announces_at old new i a result is s h
 step_can_be old new (Deliver e k) result s h = go e (nth old.edges e) refl s
   where
     go : (e : ℕ) (o : Option Edge) → nth old.edges e ≡ o
-        → MatchOption o (IsRefused NoSuchEdge old result new) (λ a. MatchOption (nth old.pool k) (IsRefused NoSuchUpdate old result new) (λ u. StepsAt old e a (events.Take u) result new)) → BridgesCanBe new
+        → MatchOption o (IsRefused NoSuchEdge old result new)
+            (λ a. MatchOption (nth old.pool k) (IsRefused NoSuchUpdate old result new)
+            (λ u. StepsAt old e a (events.Take u) result new)) → BridgesCanBe new
     go e None is s = unchanged old new s.1 h
     go zero (Some a) is s = absurd (no_edge a is)
     go (suc i) (Some a) is s = delivers_at old new i a result (nth old.pool k) is s h
 step_can_be old new (Restart e n) result s h = go e (nth old.edges e) refl s
   where
-    go : (e : ℕ) (o : Option Edge) → nth old.edges e ≡ o → MatchOption o (IsRefused NoSuchEdge old result new) (λ a. RestartsAt old e a n result new) → BridgesCanBe new
+    go : (e : ℕ) (o : Option Edge) → nth old.edges e ≡ o
+        → MatchOption o (IsRefused NoSuchEdge old result new) (λ a. RestartsAt old e a n result new) → BridgesCanBe new
     go e None is s = unchanged old new s.1 h
     go zero (Some a) is s = absurd (no_edge a is)
     go (suc i) (Some a) is s = restarts_at old new i a n result s h
@@ -236,7 +280,8 @@ runs_can_be [] old new s h = unchanged old new s h
 runs_can_be (step ∷ steps) old new s h = runs_can_be steps s.0 new s.3 (step_can_be old s.0 step s.1 s.2 h)
 
 start_can_be : (cs : List EdgeConfig) (f : Fabric) → IsStart cs f → BridgesCanBe f
-start_can_be cs f h i c a at_c at_a = opening_can_be c a (h.opened.opened i c a (subst (λ l. slice_get l i ≡ Some c) h.configs at_c) at_a)
+start_can_be cs f h i c a at_c at_a =
+    opening_can_be c a (h.opened.opened i c a (subst (λ l. slice_get l i ≡ Some c) h.configs at_c) at_a)
 
 pub every_run_can_be : EveryRunCanBe
 every_run_can_be cs old new steps start runs = runs_can_be steps old new runs (start_can_be cs old start)
@@ -260,7 +305,8 @@ reached f h can i a at =
     let c = there_at f.configs i (length f.edges) (below f.edges i a at) h.count in
     (c.0.tree, settings_of c.0.ports.items, can i c.0 a c.1 at)
 
-module _ (f : Fabric) (sites : List Site) (h : IsSound f) (can : BridgesCanBe f) (of : AreSitesOf f sites) (rest : SitesRest sites) (i : ℕ) (s : Site) (at : IsSiteAt sites i s) where
+module _ (f : Fabric) (sites : List Site) (h : IsSound f) (can : BridgesCanBe f) (of : AreSitesOf f sites)
+    (rest : SitesRest sites) (i : ℕ) (s : Site) (at : IsSiteAt sites i s) where
   -- the edge's own bridge
   mine : (b : ℕ) (t : Tree) → b ≡ s.attached → IsBridgeAt s.net b t → t ≡ (of i s at).0.tree
   mine b t same is = one_bridge (subst (λ n. IsBridgeAt s.net n t) same is) (of i s at).2.bridge
@@ -289,9 +335,12 @@ module _ (f : Fabric) (sites : List Site) (h : IsSound f) (can : BridgesCanBe f)
     distinct = rest.distinct i s at;
   }
 
-sites_at_rest : (f : Fabric) (sites : List Site) → IsSound f → BridgesCanBe f → AreSitesOf f sites → SitesRest sites → AreAtRest sites
-sites_at_rest f sites h can of rest = record { networks = λ i s at. network f sites h can of rest i s at; rest = rest.rest }
+sites_at_rest : (f : Fabric) (sites : List Site) → IsSound f → BridgesCanBe f → AreSitesOf f sites → SitesRest sites
+    → AreAtRest sites
+sites_at_rest f sites h can of rest =
+    record { networks = λ i s at. network f sites h can of rest i s at; rest = rest.rest }
 
 pub no_circle_in_a_fabric : NoCircleThroughTunnels → NoCircleInAFabric
 no_circle_in_a_fabric no_circle cs old new steps fit start runs sites of rest x points goes =
-    no_circle sites (sites_at_rest new sites (runs_sound steps old new runs (start_sound cs old fit start)) (every_run_can_be cs old new steps start runs) of rest) x points goes
+    no_circle sites (sites_at_rest new sites (runs_sound steps old new runs (start_sound cs old fit start))
+        (every_run_can_be cs old new steps start runs) of rest) x points goes

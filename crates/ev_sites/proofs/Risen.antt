@@ -1,5 +1,6 @@
 -- Two edges of one network whose ports have come up: their bridges are roots that are settled, and both ports pass.
-use Rattle.std.proofs.Common.{◌≡◌, ◌≤◌, ◌<◌, ◌^◌, ◌==◌, ◌||◌, ◌⊎◌, ◌↔◌, ℕ, zero, suc, true, false, not, ◌&&◌, Some, None, List, [], ◌∷◌, ◌++◌, length, inl, inr, refl, sym, ap, subst, ◌∙◌, arith, lit≤, lit<}
+use Rattle.std.proofs.Common.{◌≡◌, ◌≤◌, ◌<◌, ◌^◌, ◌==◌, ◌||◌, ◌⊎◌, ◌↔◌, ℕ, zero, suc, true, false, not, ◌&&◌, Some}
+use Rattle.std.proofs.Common.{None, List, [], ◌∷◌, ◌++◌, length, inl, inr, refl, sym, ap, subst, ◌∙◌, arith, lit≤, lit<}
 use Rattle.std.specs.Prelude.{Ok, IsTrue}
 use Rattle.std.specs.FinMap.{FinMap, empty}
 use Rattle.std.proofs.lemmas.Bool.Decides.{nat_tests}
@@ -60,7 +61,9 @@ both_ports = with_port (with_port no_ports 1) 2
 has_both : (p : ℕ) → has_port both_ports p ≡ ((2 == p) || ((1 == p) || false))
 has_both p =
     has_port-with (with_port no_ports 1) 2 (record { least = lit≤ tt; most = lit≤ tt }) p
-    ∙ ap (λ b. (2 == p) || b) (has_port-with no_ports 1 (record { least = lit≤ tt; most = lit≤ tt }) p ∙ ap (λ b. (1 == p) || b) (has_port-none p))
+    ∙ ap (λ b. (2 == p) || b)
+        (has_port-with no_ports 1 (record { least = lit≤ tt; most = lit≤ tt }) p
+        ∙ ap (λ b. (1 == p) || b) (has_port-none p))
 
 past_two : (p : ℕ) → ((2 == suc (suc (suc p))) || ((1 == suc (suc (suc p))) || false)) ≡ false
 past_two p =
@@ -78,7 +81,8 @@ of_both : (p : ℕ) → has_port both_ports p ≡ true → (p ≡ 1) ⊎ (p ≡ 
 of_both zero h = let e : false ≡ true = sym (has_both zero) ∙ h in let no : ⊥ = cc in absurd no
 of_both (suc zero) h = inl refl
 of_both (suc (suc zero)) h = inr refl
-of_both (suc (suc (suc p))) h = let e : false ≡ true = sym (has_both (suc (suc (suc p))) ∙ past_two p) ∙ h in let no : ⊥ = cc in absurd no
+of_both (suc (suc (suc p))) h = let e : false ≡ true = sym (has_both (suc (suc (suc p))) ∙ past_two p) ∙ h in
+    let no : ⊥ = cc in absurd no
 
 in_both : (p : ℕ) → 1 ≤ p → p ≤ 2 → has_port both_ports p ≡ true
 in_both zero some low = absurd (omega (arith, some))
@@ -123,7 +127,8 @@ no_flush c = ap (λ ports. after_removals c (flushed_at c.learned ports)) (none_
 abbrev told : Tree → Reply
 told tree = record nothing { bpdus = record { items = sent_from 1 tree.ports } }
 
-goes_up : (e : Edge) (event : Event) (tree : Tree) → BridgeGoes event e.tree tree 0 (sent_from 1 tree.ports) → BridgeSteps event e (told tree) (record e { tree = tree })
+goes_up : (e : Edge) (event : Event) (tree : Tree) → BridgeGoes event e.tree tree 0 (sent_from 1 tree.ports)
+    → BridgeSteps event e (told tree) (record e { tree = tree })
 goes_up e event tree goes = record {
   flush = 0;
   goes = goes;
@@ -144,7 +149,10 @@ fabric_with a b pool = record { edges = a ∷ b ∷ []; configs = configs_of roo
 
 -- it has said its flood list, and hasn't announced it
 abbrev pub opened_with : ℕ → Tree → Edge
-opened_with address tree = edge_with (claims_with (voice_with address ((flood_register address, said_first) ∷ []) 1 (flood_register address ∷ [])) nobody_learnt) tree empty
+opened_with address tree =
+    edge_with (claims_with
+    (voice_with address ((flood_register address, said_first) ∷ []) 1 (flood_register address ∷ [])) nobody_learnt) tree
+    empty
 
 -- both ports have come up
 abbrev pub risen_edge : Voice → Learning → Windows → Edge
@@ -163,7 +171,8 @@ steps_up = Local 1 (PortUp 1) ∷ Local 1 (PortUp 2) ∷ Local 2 (PortUp 1) ∷ 
 
 abbrev pub decided : Edge → ℕ → Source → Decision
 decided e destination from = record {
-  local = local_for (table_of e) 5001 destination (port_of e 5001 destination) (address_of e) from both_ports both_ports;
+  local =
+      local_for (table_of e) 5001 destination (port_of e 5001 destination) (address_of e) from both_ports both_ports;
   remote = record { items = remote_for (table_of e) 5001 destination (port_of e 5001 destination) (address_of e) from };
 }
 
@@ -173,35 +182,54 @@ sending d = record nothing { decision = Some d }
 -- ---- runs
 
 -- one run after another
-pub runs_on : (steps more : List Step) (old mid new : Fabric) → Runs old steps mid → Runs mid more new → Runs old (steps ++ more) new
+pub runs_on : (steps more : List Step) (old mid new : Fabric) → Runs old steps mid → Runs mid more new
+    → Runs old (steps ++ more) new
 runs_on [] more old mid new h k = subst (λ f. Runs f more new) h k
 runs_on (step ∷ steps) more old mid new h k = (h.0, h.1, h.2, runs_on steps more h.0 mid new h.3 k)
 
 module _ (lists : SettledByLists) (happens : RunsHappen) where
   half_goes : BridgeGoes (tree_events.PortUp 1) down half 0 (sent_from 1 half.ports)
   half_goes =
-      let (settled, does) = happens (tree_events.PortUp 1) 192 down half (coming_up 0) (run_is (coming_up 0) (direct (tree_events.PortUp 1) down) half_fires) (lit≤ tt) (inr (half_settled lists)) in
+      let (settled, does) =
+          happens (tree_events.PortUp 1) 192 down half (coming_up 0)
+          (run_is (coming_up 0) (direct (tree_events.PortUp 1) down) half_fires) (lit≤ tt) (inr (half_settled lists)) in
       record { settled = settled; happens = does; slots = refl }
 
   root_goes : BridgeGoes (tree_events.PortUp 2) half root_bridge 0 (sent_from 1 root_bridge.ports)
   root_goes =
-      let (settled, does) = happens (tree_events.PortUp 2) 192 half root_bridge (coming_up 1) (run_is (coming_up 1) (direct (tree_events.PortUp 2) half) both_fire) (lit≤ tt) (inr (root_settled lists)) in
-      record { settled = settled; happens = subst (λ n. Happens (tree_events.PortUp 2) n half root_bridge settled 0) (sym half_limit) does; slots = refl }
+      let (settled, does) =
+          happens (tree_events.PortUp 2) 192 half root_bridge (coming_up 1)
+          (run_is (coming_up 1) (direct (tree_events.PortUp 2) half) both_fire) (lit≤ tt) (inr (root_settled lists)) in
+      record { settled = settled; happens = subst (λ n. Happens (tree_events.PortUp 2) n half root_bridge settled 0)
+          (sym half_limit) does; slots = refl }
 
   pub comes_up : Runs (fabric_of root_settings) steps_up risen
-  comes_up = (fabric_up half down, Ok (told half), first_half, (fabric_up root_bridge down, Ok (told root_bridge), first_whole, (fabric_up root_bridge half, Ok (told half), second_half, (risen, Ok (told root_bridge), second_whole, refl))))
+  comes_up =
+      (fabric_up half down, Ok (told half), first_half,
+      (fabric_up root_bridge down, Ok (told root_bridge), first_whole,
+      (fabric_up root_bridge half, Ok (told half), second_half, (risen, Ok (told root_bridge), second_whole, refl))))
     where
       first_half : FabricSteps (fabric_of root_settings) (Local 1 (PortUp 1)) (Ok (told half)) (fabric_up half down)
-      first_half = record { after = opened_with here half; answer = Ok (told half); steps = goes_up (opened_with here down) (tree_events.PortUp 1) half half_goes; result_is = refl; new_is = refl }
+      first_half =
+          record { after = opened_with here half; answer = Ok (told half); steps = goes_up (opened_with here down)
+          (tree_events.PortUp 1) half half_goes; result_is = refl; new_is = refl }
 
-      first_whole : FabricSteps (fabric_up half down) (Local 1 (PortUp 2)) (Ok (told root_bridge)) (fabric_up root_bridge down)
-      first_whole = record { after = opened_with here root_bridge; answer = Ok (told root_bridge); steps = goes_up (opened_with here half) (tree_events.PortUp 2) root_bridge root_goes; result_is = refl; new_is = refl }
+      first_whole : FabricSteps (fabric_up half down) (Local 1 (PortUp 2)) (Ok (told root_bridge))
+          (fabric_up root_bridge down)
+      first_whole =
+          record { after = opened_with here root_bridge; answer = Ok (told root_bridge); steps = goes_up
+          (opened_with here half) (tree_events.PortUp 2) root_bridge root_goes; result_is = refl; new_is = refl }
 
-      second_half : FabricSteps (fabric_up root_bridge down) (Local 2 (PortUp 1)) (Ok (told half)) (fabric_up root_bridge half)
-      second_half = record { after = opened_with there half; answer = Ok (told half); steps = goes_up (opened_with there down) (tree_events.PortUp 1) half half_goes; result_is = refl; new_is = refl }
+      second_half : FabricSteps (fabric_up root_bridge down) (Local 2 (PortUp 1)) (Ok (told half))
+          (fabric_up root_bridge half)
+      second_half =
+          record { after = opened_with there half; answer = Ok (told half); steps = goes_up (opened_with there down)
+          (tree_events.PortUp 1) half half_goes; result_is = refl; new_is = refl }
 
       second_whole : FabricSteps (fabric_up root_bridge half) (Local 2 (PortUp 2)) (Ok (told root_bridge)) risen
-      second_whole = record { after = opened_with there root_bridge; answer = Ok (told root_bridge); steps = goes_up (opened_with there half) (tree_events.PortUp 2) root_bridge root_goes; result_is = refl; new_is = refl }
+      second_whole =
+          record { after = opened_with there root_bridge; answer = Ok (told root_bridge); steps = goes_up
+          (opened_with there half) (tree_events.PortUp 2) root_bridge root_goes; result_is = refl; new_is = refl }
 
   -- ---- its ports
 
@@ -222,17 +250,24 @@ module _ (lists : SettledByLists) (happens : RunsHappen) where
   two_there = refl
 
   both_pass : ArePassing root_bridge both_ports
-  both_pass p = (λ h. elim (of_both p h) [ inl one ↦ (at_one p one) | inr two ↦ (at_two p two) ], λ h. in_both p h.0.0 (let most = h.0.1 in omega (arith, most, two_there)))
+  both_pass p =
+      (λ h. elim (of_both p h) [ inl one ↦ (at_one p one) | inr two ↦ (at_two p two) ], λ h. in_both p h.0.0
+      (let most = h.0.1 in omega (arith, most, two_there)))
     where
       at_one : (p : ℕ) → p ≡ 1 → IsPort p (length root_bridge.ports) × Passes root_bridge p
-      at_one p one = subst (λ q. IsPort q (length root_bridge.ports) × Passes root_bridge q) (sym one) (((lit≤ tt), omega (arith, two_there)), passes_one)
+      at_one p one =
+          subst (λ q. IsPort q (length root_bridge.ports) × Passes root_bridge q) (sym one)
+          (((lit≤ tt), omega (arith, two_there)), passes_one)
 
       at_two : (p : ℕ) → p ≡ 2 → IsPort p (length root_bridge.ports) × Passes root_bridge p
-      at_two p two = subst (λ q. IsPort q (length root_bridge.ports) × Passes root_bridge q) (sym two) (((lit≤ tt), omega (arith, two_there)), passes_two)
+      at_two p two =
+          subst (λ q. IsPort q (length root_bridge.ports) × Passes root_bridge q) (sym two)
+          (((lit≤ tt), omega (arith, two_there)), passes_two)
 
   -- ---- frames
 
-  pub decides : (v : Voice) (l : Learning) (w : Windows) (destination : ℕ) (from : Source) → IsDecision (risen_edge v l w) 5001 destination from (decided (risen_edge v l w) destination from)
+  pub decides : (v : Voice) (l : Learning) (w : Windows) (destination : ℕ) (from : Source)
+      → IsDecision (risen_edge v l w) 5001 destination from (decided (risen_edge v l w) destination from)
   decides v l w destination from = record {
     members = both_ports;
     members_fit = both_fit;
@@ -246,8 +281,10 @@ module _ (lists : SettledByLists) (happens : RunsHappen) where
 
   -- a frame that comes at port 1
   pub sends : (v v' : Voice) (l l' : Learning) (w w' : Windows) (destination source : ℕ)
-      → LearnsIf (true && not (is_group source)) (risen_edge v l w) (record { vni = 5001; mac = source }) 1 None (risen_edge v' l' w')
-      → DataSteps (risen_edge v l w) 1 5001 destination source (sending (decided (risen_edge v' l' w') destination (Port 1))) (risen_edge v' l' w')
+      → LearnsIf (true && not (is_group source)) (risen_edge v l w) (record { vni = 5001; mac = source }) 1 None
+          (risen_edge v' l' w')
+      → DataSteps (risen_edge v l w) 1 5001 destination source
+          (sending (decided (risen_edge v' l' w') destination (Port 1))) (risen_edge v' l' w')
   sends v v' l l' w w' destination source learning = record {
     learning = record { learns = true; are_learnt = learns_one; learning = learning };
     passes = true;

@@ -1,5 +1,6 @@
 -- A table by the list of what it took, the newest first: what it holds is computed from that list.
-use Rattle.std.proofs.Common.{◌≡◌, ℕ, zero, suc, true, false, cond, Some, None, Option, List, [], ◌∷◌, length, refl, sym, ap, subst, ◌∙◌, arith}
+use Rattle.std.proofs.Common.{◌≡◌, ℕ, zero, suc, true, false, cond, Some, None, Option, List, [], ◌∷◌, length, refl}
+use Rattle.std.proofs.Common.{sym, ap, subst, ◌∙◌, arith}
 use Rattle.std.specs.Prelude.{Contains, map}
 use Rattle.std.specs.Ordering.{eq_by_cmp}
 use Rattle.std.specs.FinMap.{empty, insert, entries, put, get-empty, get-insert, entries-insert, len-entries, len-empty}
@@ -35,10 +36,13 @@ looked_up (e ∷ es) r = cond (eq_by_cmp register_cmp r e.0) (Some e.1) (looked_
 
 pub found : (es : List Said) (r : Register) → value_at (table_with es) r ≡ looked_up es r
 found [] r = get-empty {X = Value} register_cmp r
-found (e ∷ es) r = get-insert register_total (registers_of es) e.0 e.1 r ∙ ap (λ o. cond (eq_by_cmp register_cmp r e.0) (Some e.1) o) (found es r)
+found (e ∷ es) r =
+    get-insert register_total (registers_of es) e.0 e.1 r
+    ∙ ap (λ o. cond (eq_by_cmp register_cmp r e.0) (Some e.1) o) (found es r)
 
 -- an update that is news is taken
-pub taken : (es : List Said) (r : Register) (v : Value) → is_news (looked_up es r) v ≡ true → with_update (table_with es) (record { register = r; value = v }) ≡ table_with ((r, v) ∷ es)
+pub taken : (es : List Said) (r : Register) (v : Value) → is_news (looked_up es r) v ≡ true
+    → with_update (table_with es) (record { register = r; value = v }) ≡ table_with ((r, v) ∷ es)
 taken es r v news =
     ap (λ o. cond (is_news o v) (with_value (table_with es) r v) (table_with es)) (found es r)
     ∙ ap (λ b. cond b (with_value (table_with es) r v) (table_with es)) news
@@ -54,8 +58,11 @@ no_length [] e = refl
 no_length (x ∷ xs) e = absurd (omega arith)
 
 all_said : (es : List Said) → entries (registers_of es) ≡ in_order es
-all_said [] = no_length (entries (empty {X = Value} {R = register_cmp})) (sym (len-entries (empty {X = Value} {R = register_cmp})) ∙ len-empty register_cmp Value)
-all_said (e ∷ es) = entries-insert register_total (registers_of es) e.0 e.1 ∙ ap (λ l. put register_cmp e.0 e.1 l) (all_said es)
+all_said [] =
+    no_length (entries (empty {X = Value} {R = register_cmp}))
+    (sym (len-entries (empty {X = Value} {R = register_cmp})) ∙ len-empty register_cmp Value)
+all_said (e ∷ es) =
+    entries-insert register_total (registers_of es) e.0 e.1 ∙ ap (λ l. put register_cmp e.0 e.1 l) (all_said es)
 
 pub floods : (es : List Said) (vni : ℕ) → flood_of (table_with es) vni ≡ flooding vni (in_order es)
 floods es vni = ap (λ l. flooding vni l) (all_said es)
@@ -66,7 +73,8 @@ owned es vni mac = ap (λ l. owner_among vni mac l) (all_said es)
 abbrev pub next_among : ℕ → ℕ → ℕ → List Said → Seq
 next_among own vni mac es = seq_of (heard_all own (map update_from (about vni mac es)) nothing_heard)
 
-pub next_number : (es : List Said) (own vni mac : ℕ) → seq_for (table_with es) own vni mac ≡ next_among own vni mac (in_order es)
+pub next_number : (es : List Said) (own vni mac : ℕ)
+    → seq_for (table_with es) own vni mac ≡ next_among own vni mac (in_order es)
 next_number es own vni mac = ap (λ l. next_among own vni mac l) (all_said es)
 
 -- ---- updates that it has
@@ -84,5 +92,6 @@ has_each es [] h u (n, less, is) = absurd (omega (arith, less))
 has_each es (w ∷ us) h u (zero, less, is) = subst (Has es) is h.0
 has_each es (w ∷ us) h u (suc n, less, is) = has_each es us h.1 u (n, omega (arith, less), is)
 
-pub arrived : (es : List Said) (us : List Fields) → HasAll es us → (u : Fields) → Contains us u → (v : Value) × (value_at (table_with es) u.register ≡ Some v) × (is_newer u.value v ≡ false)
+pub arrived : (es : List Said) (us : List Fields) → HasAll es us → (u : Fields) → Contains us u
+    → (v : Value) × (value_at (table_with es) u.register ≡ Some v) × (is_newer u.value v ≡ false)
 arrived es us h u inside = let x = has_each es us h u inside in (x.0, found es u.register ∙ x.1, x.2)

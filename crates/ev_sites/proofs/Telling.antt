@@ -1,5 +1,6 @@
 -- Steps of the two edges' fabric: what one of them announces, what the other takes, and the guest that is learnt.
-use Rattle.std.proofs.Common.{◌≡◌, ◌==◌, ℕ, true, false, cond, Some, None, List, [], ◌∷◌, ◌++◌, inl, refl, sym, ap, subst, ◌∙◌}
+use Rattle.std.proofs.Common.{◌≡◌, ◌==◌, ℕ, true, false, cond, Some, None, List, [], ◌∷◌, ◌++◌, inl, refl, sym, ap}
+use Rattle.std.proofs.Common.{subst, ◌∙◌}
 use Rattle.std.specs.Prelude.{Ok}
 use Rattle.std.specs.Borrow.{Bor}
 use Rattle.std.specs.FinMap.{empty, get-empty, len-empty}
@@ -20,7 +21,8 @@ use Rattle.ev_edge.specs.declared.event.Event.TheVariants as events
 use Rattle.ev_edge.specs.declared.learning.Case.TheVariants.{Refuse, Learn}
 use Rattle.ev_edge.specs.declared.reply.Reply.{Reply}
 use Rattle.ev_edge.specs.Edge.{Edge, table_of, address_of}
-use Rattle.ev_edge.specs.Learning.{Does, Learning as Learns, case_of, case_at, new_case, numbered_case, move_case, learnt}
+use Rattle.ev_edge.specs.Learning.{Does, Learning as Learns, case_of, case_at, new_case, numbered_case, move_case}
+use Rattle.ev_edge.specs.Learning.{learnt}
 use Rattle.ev_edge.specs.Steps.{Steps, Takes, lost_alert, nothing}
 use Rattle.ev_fabric.specs.declared.refusal.Refusal.TheVariants.{NoSuchUpdate}
 use Rattle.ev_fabric.specs.declared.step.LocalEvent.{LocalEvent}
@@ -39,11 +41,17 @@ lent octets = record { ref_ptr = (0, 0); now = octets }
 
 -- ---- from outside
 
-pub first_steps : (a b c : Edge) (pool : List Fields) (event : LocalEvent) (reply : Reply) → Steps a (event_of event) (Ok reply) c → FabricSteps (fabric_with a b pool) (Local 1 event) (Ok reply) (fabric_with c b pool)
-first_steps a b c pool event reply steps = record { after = c; answer = Ok reply; steps = steps; result_is = refl; new_is = refl }
+pub first_steps : (a b c : Edge) (pool : List Fields) (event : LocalEvent) (reply : Reply)
+    → Steps a (event_of event) (Ok reply) c
+    → FabricSteps (fabric_with a b pool) (Local 1 event) (Ok reply) (fabric_with c b pool)
+first_steps a b c pool event reply steps =
+    record { after = c; answer = Ok reply; steps = steps; result_is = refl; new_is = refl }
 
-pub second_steps : (a b c : Edge) (pool : List Fields) (event : LocalEvent) (reply : Reply) → Steps b (event_of event) (Ok reply) c → FabricSteps (fabric_with a b pool) (Local 2 event) (Ok reply) (fabric_with a c pool)
-second_steps a b c pool event reply steps = record { after = c; answer = Ok reply; steps = steps; result_is = refl; new_is = refl }
+pub second_steps : (a b c : Edge) (pool : List Fields) (event : LocalEvent) (reply : Reply)
+    → Steps b (event_of event) (Ok reply) c
+    → FabricSteps (fabric_with a b pool) (Local 2 event) (Ok reply) (fabric_with a c pool)
+second_steps a b c pool event reply steps =
+    record { after = c; answer = Ok reply; steps = steps; result_is = refl; new_is = refl }
 
 -- ---- announcing
 
@@ -54,18 +62,29 @@ abbrev pub announcing : Fields → Reply
 announcing u = record nothing { announced = Some u }
 
 -- it announces the register that waits longest
-announces : (address : ℕ) (said : List Said) (counter : ℕ) (r : Register) (rs : List Register) (l : Learning) (w : Windows) (v : Value) → looked_up said r ≡ Some v
-    → Steps (risen_edge (voice_with address said counter (r ∷ rs)) l w) events.Announce (Ok (announcing (update r v))) (risen_edge (voice_with address said counter rs) l w)
+announces : (address : ℕ) (said : List Said) (counter : ℕ) (r : Register) (rs : List Register) (l : Learning)
+    (w : Windows) (v : Value) → looked_up said r ≡ Some v
+    → Steps (risen_edge (voice_with address said counter (r ∷ rs)) l w) events.Announce (Ok (announcing (update r v)))
+        (risen_edge (voice_with address said counter rs) l w)
 announces address said counter r rs l w v is =
-    (ap (λ o. Ok (record nothing { announced = option_map (λ (x : Value). update r x) o })) (sym (found said r ∙ is)), refl)
+    (ap (λ o. Ok (record nothing { announced = option_map (λ (x : Value). update r x) o })) (sym (found said r ∙ is)),
+        refl)
 
-pub first_announces : (b : Edge) (pool : List Fields) (said : List Said) (counter : ℕ) (r : Register) (rs : List Register) (l : Learning) (w : Windows) (v : Value) → looked_up said r ≡ Some v
-    → FabricSteps (fabric_with (risen_edge (voice_with here said counter (r ∷ rs)) l w) b pool) (Announce 1) (Ok (announcing (update r v))) (fabric_with (risen_edge (voice_with here said counter rs) l w) b (pool ++ update r v ∷ []))
-first_announces b pool said counter r rs l w v is = (risen_edge (voice_with here said counter rs) l w, announces here said counter r rs l w v is, refl)
+pub first_announces : (b : Edge) (pool : List Fields) (said : List Said) (counter : ℕ) (r : Register)
+    (rs : List Register) (l : Learning) (w : Windows) (v : Value) → looked_up said r ≡ Some v
+    → FabricSteps (fabric_with (risen_edge (voice_with here said counter (r ∷ rs)) l w) b pool) (Announce 1)
+        (Ok (announcing (update r v)))
+        (fabric_with (risen_edge (voice_with here said counter rs) l w) b (pool ++ update r v ∷ []))
+first_announces b pool said counter r rs l w v is =
+    (risen_edge (voice_with here said counter rs) l w, announces here said counter r rs l w v is, refl)
 
-pub second_announces : (a : Edge) (pool : List Fields) (said : List Said) (counter : ℕ) (r : Register) (rs : List Register) (l : Learning) (w : Windows) (v : Value) → looked_up said r ≡ Some v
-    → FabricSteps (fabric_with a (risen_edge (voice_with there said counter (r ∷ rs)) l w) pool) (Announce 2) (Ok (announcing (update r v))) (fabric_with a (risen_edge (voice_with there said counter rs) l w) (pool ++ update r v ∷ []))
-second_announces a pool said counter r rs l w v is = (risen_edge (voice_with there said counter rs) l w, announces there said counter r rs l w v is, refl)
+pub second_announces : (a : Edge) (pool : List Fields) (said : List Said) (counter : ℕ) (r : Register)
+    (rs : List Register) (l : Learning) (w : Windows) (v : Value) → looked_up said r ≡ Some v
+    → FabricSteps (fabric_with a (risen_edge (voice_with there said counter (r ∷ rs)) l w) pool) (Announce 2)
+        (Ok (announcing (update r v)))
+        (fabric_with a (risen_edge (voice_with there said counter rs) l w) (pool ++ update r v ∷ []))
+second_announces a pool said counter r rs l w v is =
+    (risen_edge (voice_with there said counter rs) l w, announces there said counter r rs l w v is, refl)
 
 -- ---- taking
 
@@ -73,21 +92,36 @@ abbrev pub taking : Edge → Fields → Reply
 taking a u = record nothing { taken = Some (taken_of (table_of a) u); alert = lost_alert (loses_pinned a.claims u) }
 
 -- another's update
-takes : (a : Edge) (u : Fields) (c : Claims) → (u.register.originator == address_of a) ≡ false → is_listed (table_of a) u.register.originator ≡ true → after_take a.claims u ≡ c
+takes : (a : Edge) (u : Fields) (c : Claims) → (u.register.originator == address_of a) ≡ false
+    → is_listed (table_of a) u.register.originator ≡ true → after_take a.claims u ≡ c
     → Steps a (events.Take u) (Ok (taking a u)) (record a { claims = c })
-takes a u c other listed is = subst (λ b. Takes b a u (Ok (taking a u)) (record a { claims = c })) (sym other) (listed, refl, ap (λ d. record a { claims = d }) (sym is))
+takes a u c other listed is =
+    subst (λ b. Takes b a u (Ok (taking a u)) (record a { claims = c })) (sym other)
+    (listed, refl, ap (λ d. record a { claims = d }) (sym is))
 
-pub first_takes : (a b : Edge) (pool : List Fields) (k : ℕ) (u : Fields) (c : Claims) → nth pool k ≡ Some u → (u.register.originator == address_of a) ≡ false → is_listed (table_of a) u.register.originator ≡ true → after_take a.claims u ≡ c
+pub first_takes : (a b : Edge) (pool : List Fields) (k : ℕ) (u : Fields) (c : Claims) → nth pool k ≡ Some u
+    → (u.register.originator == address_of a) ≡ false → is_listed (table_of a) u.register.originator ≡ true
+    → after_take a.claims u ≡ c
     → FabricSteps (fabric_with a b pool) (Deliver 1 k) (Ok (taking a u)) (fabric_with (record a { claims = c }) b pool)
 first_takes a b pool k u c at other listed is =
-    subst (λ o. MatchOption o (IsRefused NoSuchUpdate (fabric_with a b pool) (Ok (taking a u)) (fabric_with (record a { claims = c }) b pool)) (λ w. StepsAt (fabric_with a b pool) 1 a (events.Take w) (Ok (taking a u)) (fabric_with (record a { claims = c }) b pool))) (sym at)
-    (record { after = record a { claims = c }; answer = Ok (taking a u); steps = takes a u c other listed is; result_is = refl; new_is = refl })
+    subst (λ o. MatchOption o
+        (IsRefused NoSuchUpdate (fabric_with a b pool) (Ok (taking a u)) (fabric_with (record a { claims = c }) b pool))
+        (λ w. StepsAt (fabric_with a b pool) 1 a (events.Take w) (Ok (taking a u))
+        (fabric_with (record a { claims = c }) b pool))) (sym at)
+    (record { after = record a { claims = c }; answer = Ok (taking a u); steps = takes a u c other listed is;
+        result_is = refl; new_is = refl })
 
-pub second_takes : (a b : Edge) (pool : List Fields) (k : ℕ) (u : Fields) (c : Claims) → nth pool k ≡ Some u → (u.register.originator == address_of b) ≡ false → is_listed (table_of b) u.register.originator ≡ true → after_take b.claims u ≡ c
+pub second_takes : (a b : Edge) (pool : List Fields) (k : ℕ) (u : Fields) (c : Claims) → nth pool k ≡ Some u
+    → (u.register.originator == address_of b) ≡ false → is_listed (table_of b) u.register.originator ≡ true
+    → after_take b.claims u ≡ c
     → FabricSteps (fabric_with a b pool) (Deliver 2 k) (Ok (taking b u)) (fabric_with a (record b { claims = c }) pool)
 second_takes a b pool k u c at other listed is =
-    subst (λ o. MatchOption o (IsRefused NoSuchUpdate (fabric_with a b pool) (Ok (taking b u)) (fabric_with a (record b { claims = c }) pool)) (λ w. StepsAt (fabric_with a b pool) 2 b (events.Take w) (Ok (taking b u)) (fabric_with a (record b { claims = c }) pool))) (sym at)
-    (record { after = record b { claims = c }; answer = Ok (taking b u); steps = takes b u c other listed is; result_is = refl; new_is = refl })
+    subst (λ o. MatchOption o
+        (IsRefused NoSuchUpdate (fabric_with a b pool) (Ok (taking b u)) (fabric_with a (record b { claims = c }) pool))
+        (λ w. StepsAt (fabric_with a b pool) 2 b (events.Take w) (Ok (taking b u))
+        (fabric_with a (record b { claims = c }) pool))) (sym at)
+    (record { after = record b { claims = c }; answer = Ok (taking b u); steps = takes b u c other listed is;
+        result_is = refl; new_is = refl })
 
 -- ---- learning
 
@@ -100,14 +134,18 @@ abbrev pub newcomer : ℕ → List Said → List Register → Edge
 newcomer address said pending = risen_edge (voice_with address said 1 pending) nobody_learnt empty
 
 -- it learns the guest with the number that is above all others'
-pub learns : (address : ℕ) (said : List Said) (pending : List Register) (n : ℕ) → next_among address 5001 guest.mac (in_order said) ≡ Next n → move_case None 0 n ≡ Learn n
+pub learns : (address : ℕ) (said : List Said) (pending : List Register) (n : ℕ)
+    → next_among address 5001 guest.mac (in_order said) ≡ Next n → move_case None 0 n ≡ Learn n
     → Learns (newcomer address said pending) guest 1 None (learnt (newcomer address said pending) guest 1 n)
-learns address said pending n next case = subst (λ c. Does c (newcomer address said pending) guest 1 None (learnt (newcomer address said pending) guest 1 n)) (sym is) (inl (refl, refl))
+learns address said pending n next case =
+    subst (λ c. Does c (newcomer address said pending) guest 1 None (learnt (newcomer address said pending) guest 1 n))
+    (sym is) (inl (refl, refl))
   where
     is : case_of (newcomer address said pending) guest ≡ Learn n
     is =
         ap (λ o. case_at (newcomer address said pending) guest o) (get-empty {X = Entry} station_cmp guest)
         ∙ ap (λ o. new_case (newcomer address said pending) guest o) (get-empty {X = Window} station_cmp guest)
-        ∙ ap (λ q. numbered_case (newcomer address said pending) None q) (next_number said address 5001 guest.mac ∙ next)
+        ∙ ap (λ q. numbered_case (newcomer address said pending) None q)
+            (next_number said address 5001 guest.mac ∙ next)
         ∙ ap (λ b. cond b (Refuse TableFull) (move_case None 0 n)) room
         ∙ case

@@ -16,11 +16,15 @@ use Rattle.ev_sites.specs.Sites.{Site, IsSiteAt, Point, IsEdgeOf, Goes}
 
 -- each edge's bridge is one that the settings which it was opened with may come to
 abbrev pub BridgesCanBe : Fabric → Type 0
-BridgesCanBe f = (i : ℕ) (c : EdgeConfig) (a : Edge) → slice_get f.configs i ≡ Some c → IsEdge f i a → CanBe c.tree (settings_of c.ports.items) a.tree
+BridgesCanBe f =
+    (i : ℕ) (c : EdgeConfig) (a : Edge) → slice_get f.configs i ≡ Some c → IsEdge f i a
+    → CanBe c.tree (settings_of c.ports.items) a.tree
 
 -- whatever comes to a fabric after its opening
 abbrev pub EveryRunCanBe : Type 0
-EveryRunCanBe = (cs : List EdgeConfig) (old new : Fabric) (steps : List Step) → IsStart cs old → Runs old steps new → BridgesCanBe new
+EveryRunCanBe =
+    (cs : List EdgeConfig) (old new : Fabric) (steps : List Step) → IsStart cs old → Runs old steps new
+    → BridgesCanBe new
 
 -- the site at each place is that of the fabric's edge at this place
 abbrev pub AreSitesOf : Fabric → List Site → Type 0
@@ -29,9 +33,12 @@ AreSitesOf f sites = (i : ℕ) (s : Site) → IsSiteAt sites i s → (a : Edge) 
 -- What the fabric doesn't give: the sites' other bridges came from their start by events, and their ports' numbers fit;
 -- no two bridges of a site have one identifier; and each site's network is at rest.
 pub record SitesRest (sites : List Site) : Type 0 where
-  pub others : (i : ℕ) (s : Site) → IsSiteAt sites i s → (b : ℕ) (t : Tree) → b ≢ s.attached → IsBridgeAt s.net b t → IsReached t
-  pub few : (i : ℕ) (s : Site) → IsSiteAt sites i s → (b : ℕ) (t : Tree) → b ≢ s.attached → IsBridgeAt s.net b t → length t.ports < 2 ^ 12
-  pub distinct : (i : ℕ) (s : Site) → IsSiteAt sites i s → (b d : ℕ) (t u : Tree) → IsBridgeAt s.net b t → IsBridgeAt s.net d u → t.settings.identifier ≡ u.settings.identifier → b ≡ d
+  pub others : (i : ℕ) (s : Site) → IsSiteAt sites i s → (b : ℕ) (t : Tree) → b ≢ s.attached → IsBridgeAt s.net b t
+      → IsReached t
+  pub few : (i : ℕ) (s : Site) → IsSiteAt sites i s → (b : ℕ) (t : Tree) → b ≢ s.attached → IsBridgeAt s.net b t
+      → length t.ports < 2 ^ 12
+  pub distinct : (i : ℕ) (s : Site) → IsSiteAt sites i s → (b d : ℕ) (t u : Tree) → IsBridgeAt s.net b t
+      → IsBridgeAt s.net d u → t.settings.identifier ≡ u.settings.identifier → b ≡ d
   pub rest : (i : ℕ) (s : Site) → IsSiteAt sites i s → IsAtRest s.net
 
 -- where the sites of a fabric's edges are at rest, whatever came before, no frame comes in where it came in before

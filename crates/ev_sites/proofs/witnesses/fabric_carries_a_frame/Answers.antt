@@ -3,7 +3,8 @@ use Rattle.ev_tunnel.specs.Datagram.{datagram_of}
 use Rattle.ev_edge.specs.declared.event.Event.TheVariants as events
 use Rattle.ev_sites.proofs.Guest.{guest, there}
 use Rattle.ev_sites.proofs.Telling.{lent}
-use Rattle.ev_sites.proofs.Agreed.{agreed, agreed_run, agrees, first_edge, second_edge, advertised, letter, is_frame, given, goes, answered, comes, carried, given_out, port_passes}
+use Rattle.ev_sites.proofs.Agreed.{agreed, agreed_run, agrees, first_edge, second_edge, advertised, letter, is_frame}
+use Rattle.ev_sites.proofs.Agreed.{given, goes, answered, comes, carried, given_out, port_passes}
 use Rattle.ev_sites.proofs.witnesses.fabric_carries_a_frame.Goals as goal
 
 pub returns : goal.returns

@@ -1,7 +1,8 @@
 use Rattle.std.proofs.Common.{[], refl}
 use Rattle.ev_sites.proofs.Guest.{guest, second_moved}
 use Rattle.ev_sites.proofs.Agreed.{agreed, agreed_run, agrees}
-use Rattle.ev_sites.proofs.Moved.{second_with, come, moved, move_steps, rests, beside, agree_again, advertised_there, comes}
+use Rattle.ev_sites.proofs.Moved.{second_with, come, moved, move_steps, rests, beside, agree_again, advertised_there}
+use Rattle.ev_sites.proofs.Moved.{comes}
 use Rattle.ev_sites.proofs.witnesses.fabric_moves_a_station.Goals as goal
 
 pub returns : goal.returns
@@ -13,7 +14,8 @@ returns c = record {
   i = 0;
   j = 1;
   mid = come;
-  comes = comes c.settled_by_lists.ensures c.runs_happen.ensures ((c.agrees_on.ensures.each agreed agrees).stations guest);
+  comes =
+      comes c.settled_by_lists.ensures c.runs_happen.ensures ((c.agrees_on.ensures.each agreed agrees).stations guest);
   steps = move_steps;
   new = moved;
   rests = rests;
