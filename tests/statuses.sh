@@ -89,7 +89,7 @@ tell "an address too many" tells "'10.0.0.64' is one more than the 64 that there
 
 # ---- 2: help
 run --help
-tell "help" tells "report" "Usage: ${evpnd##*/}" "Example:" "0 done"
+tell "help" tells "report" "version" "Usage: ${evpnd##*/}" "Example:" "0 done"
 run report --help
 tell "help on report" tells "--originators <LIST>" "standard input" "standard output" "Standard error" "  0  " "  1  " "  2  " "  3  " "  4  " "Example:"
 run help report
@@ -388,6 +388,19 @@ tell "a fault that can't be told" [ "$status" = 4 ]
 status=0
 "$evpnd" simulate --config "$work/none" < "$work/in" > "$work/out" 2> /dev/full || status=$?
 tell "an unread file that can't be told" [ "$status" = 4 ]
+
+# ---- the version, which stands in CHANGELOG.md too
+sed -n 's/^## \([0-9][^,]*\).*/evpnd \1/p' "$tests/../CHANGELOG.md" | head -n 1 > "$work/version"
+run version
+tell "the version" gives 0 "$work/version" ""
+for words in "version --help" "version 1" "version --config $conf" "--version"; do
+  # shellcheck disable=SC2086
+  run $words
+  tell "words: $words" is_usage
+done
+status=0
+"$evpnd" version < "$work/in" > /dev/full 2> "$work/notes" || status=$?
+tell "a version that can't be written" [ "$status" = 4 ]
 
 # ---- a run: loopback addresses of this run's own. Where both edges are to hear each other, its input doesn't end at once
 host=127.$((64 + RANDOM % 64)).$((RANDOM % 254 + 1))

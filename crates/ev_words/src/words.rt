@@ -1,8 +1,8 @@
 //! The program's words.
-ghost use Rattle.std.specs.Prelude.{◌≡◌, ◌≢◌, ◌+◌, ◌<◌, ◌^◌, map, string_bytes, IfOk, OnOk, OnErr, ℕ, option_map, false};
-ghost use Rattle.clap.specs.Words.{app_of, kind_of, rule_of, subcommand_rows_of, with_subcommand};
+ghost use Rattle.std.specs.Prelude.{◌≡◌, ◌≢◌, ◌+◌, ◌<◌, ◌^◌, map, string_bytes, IfOk, OnOk, OnErr, ℕ, Option, option_map, false};
+ghost use Rattle.clap.specs.Words.{app_of, found_of, kind_of, rows_of, rule_of, subcommand_rows_of, with_subcommand};
 ghost use Rattle.clap.specs.declared.builder.command.Command.TheViews.{out-Command};
-ghost use Rattle.ev_words.specs.Words.{name_of, option_of, named, order_in, parts_of, IsAnswer, Parses, Orders, parser_refusals, program, order_app, option_rule};
+ghost use Rattle.ev_words.specs.Words.{name_of, option_name, needs_of, named, needed_in, order_in, parts_of, IsAnswer, Parses, Orders, parser_refusals, program, order_app, option_rule, with_needed};
 
 use clap::error::ErrorKind;
 use clap::{Arg, ArgAction, ArgMatches, Command, Error};
@@ -21,13 +21,24 @@ pub enum Subcommand {
     Simulate,
     /// `evpnd run --config FILE`
     Run,
+    /// `evpnd version`
+    Version,
+}
+
+/// What a subcommand can be given.
+#[derive(Clone, Copy, Debug, PartialEq, Eq)]
+pub(crate) enum Given {
+    /// `--originators LIST`
+    Originators,
+    /// `--config FILE`
+    Config,
 }
 
 /// What the program is to do.
 #[derive(Clone, Copy, Debug, Drop)]
 pub struct Order<'a> {
     pub subcommand: Subcommand,
-    /// The value of the subcommand's option.
+    /// The value of the option that the subcommand has to be given; nothing where there is none.
     pub value: &'a str,
 }
 
@@ -51,36 +62,18 @@ impl Subcommand {
             Subcommand::Check => "check",
             Subcommand::Simulate => "simulate",
             Subcommand::Run => "run",
+            Subcommand::Version => "version",
         }
     }
 
-    /// The option that it has to be given.
-    fn option<'a>(self) -> &'a str
-        ensures { result.now ≡ option_of self }
+    /// The option that it has to be given, if there is one.
+    fn needs(self) -> Option<Given>
+        ensures { result ≡ needs_of self }
     {
         match self {
-            Subcommand::Report | Subcommand::Migrate => "originators",
-            Subcommand::Check | Subcommand::Simulate | Subcommand::Run => "config",
-        }
-    }
-
-    /// What help calls the option's value.
-    fn value_name<'a>(self) -> &'a str {
-        match self {
-            Subcommand::Report | Subcommand::Migrate => "LIST",
-            Subcommand::Check | Subcommand::Simulate | Subcommand::Run => "FILE",
-        }
-    }
-
-    /// What the option's value is.
-    fn value_help<'a>(self) -> &'a str {
-        match self {
-            Subcommand::Report | Subcommand::Migrate => {
-                "1 to 64 different IPv4 addresses with commas between them"
-            }
-            Subcommand::Check | Subcommand::Simulate | Subcommand::Run => {
-                "The path of a configuration, a TOML document"
-            }
+            Subcommand::Report | Subcommand::Migrate => Some(Given::Originators),
+            Subcommand::Check | Subcommand::Simulate | Subcommand::Run => Some(Given::Config),
+            Subcommand::Version => None,
         }
     }
 
@@ -92,6 +85,7 @@ impl Subcommand {
             Subcommand::Check => "Tell whether a configuration is right, or where it is wrong",
             Subcommand::Simulate => "Run a script of events on the edges of a configuration",
             Subcommand::Run => "Carry frames: run the edges of a configuration over UDP sockets",
+            Subcommand::Version => "Print the version",
         }
     }
 
@@ -181,6 +175,46 @@ Status, the greatest that applies:
 Example:
   evpnd run --config fabric.toml"
             }
+            Subcommand::Version => {
+                "\
+Standard output has `evpnd` and the version. Nothing is read.
+
+Status, the greatest that applies:
+  0  it was written
+  2  the words are wrong, or ask for help
+  4  writing failed
+
+Example:
+  evpnd version"
+            }
+        }
+    }
+}
+
+impl Given {
+    /// The option's name.
+    fn name<'a>(self) -> &'a str
+        ensures { result.now ≡ option_name self }
+    {
+        match self {
+            Given::Originators => "originators",
+            Given::Config => "config",
+        }
+    }
+
+    /// What help calls its value.
+    fn value_name<'a>(self) -> &'a str {
+        match self {
+            Given::Originators => "LIST",
+            Given::Config => "FILE",
+        }
+    }
+
+    /// What its value is.
+    fn value_help<'a>(self) -> &'a str {
+        match self {
+            Given::Originators => "1 to 64 different IPv4 addresses with commas between them",
+            Given::Config => "The path of a configuration, a TOML document",
         }
     }
 }
@@ -204,20 +238,39 @@ fn named(name: &str) -> Option<Subcommand>
     if name == Subcommand::Run.name() {
         return Some(Subcommand::Run);
     }
+    if name == Subcommand::Version.name() {
+        return Some(Subcommand::Version);
+    }
     None
 }
 
-/// A subcommand's option, which has to be there.
-fn option_arg<'a>(alloc: Global, subcommand: Subcommand) -> Arg<'a>
-    ensures rule { rule_of result ≡ option_rule (option_of subcommand) }
+/// An option, which has to be there.
+fn option_arg<'a>(alloc: Global, option: Given) -> Arg<'a>
+    ensures rule { rule_of result ≡ option_rule (option_name option) }
     ensures local { result.global ≡ false }
 {
-    Arg::new(alloc, subcommand.option())
-        .long(subcommand.option())
+    Arg::new(alloc, option.name())
+        .long(option.name())
         .action(ArgAction::Set)
-        .value_name(subcommand.value_name())
-        .help(subcommand.value_help())
+        .value_name(option.value_name())
+        .help(option.value_help())
         .required(true)
+}
+
+/// A command with an option that it needs, if there is one.
+fn with_needed<'a>(
+    alloc: Global,
+    command: Command<'a>,
+    option: Option<Given>,
+) -> Result<Command<'a>, AllocError>
+    requires { (out-Command command).has_globals ≡ false }
+    ensures app { IfOk result (λ c. app_of c ≡ with_needed option (app_of command.entry)) }
+    ensures local { IfOk result (λ c. (out-Command c).has_globals ≡ false) }
+{
+    match option {
+        None => Ok(command),
+        Some(option) => command.arg(option_arg(alloc, option)),
+    }
 }
 
 /// A subcommand with its option.
@@ -228,11 +281,11 @@ fn order_command<'a>(alloc: Global, subcommand: Subcommand) -> Result<Command<'a
     let command = Command::new(alloc, subcommand.name())
         .about(subcommand.about())
         .after_help(subcommand.help());
-    command.arg(option_arg(alloc, subcommand))
+    with_needed(alloc, command, subcommand.needs())
 }
 
 /// What the program does, and what help tells of all subcommands.
-const ABOUT: &str = "What a stream of EVPN route updates defines, proved from octet to octet";
+const ABOUT: &str = "EVPN edge bridges: what route updates define, proved from octet to octet";
 
 const HELP: &str = "\
 Each subcommand's --help says what it reads and prints, and its statuses: 0 done, 1 broken input,
@@ -262,7 +315,8 @@ fn program<'a>(alloc: Global) -> Result<Command<'a>, AllocError>
     let second = with_order(alloc, first, Subcommand::Migrate)?;
     let third = with_order(alloc, second, Subcommand::Check)?;
     let fourth = with_order(alloc, third, Subcommand::Simulate)?;
-    let command = with_order(alloc, fourth, Subcommand::Run)?;
+    let fifth = with_order(alloc, fourth, Subcommand::Run)?;
+    let command = with_order(alloc, fifth, Subcommand::Version)?;
     Ok(command.subcommand_required(true))
 }
 
@@ -361,12 +415,23 @@ fn refusal_of(error: Error) -> Refusal
     }
 }
 
+/// The value of the option that has to be there, or nothing where there is none.
+fn needed_in<'a>(option: Option<Given>, matches: &ArgMatches<'a>) -> Option<&'a str>
+    ensures { option_map (λ s. s.now) result
+        ≡ needed_in option (rows_of (found_of matches.now)) }
+{
+    match option {
+        None => Some(""),
+        Some(option) => matches.get_str(option.name()),
+    }
+}
+
 /// The order at the subcommand that was used.
 fn order_in<'a>(matches: &ArgMatches<'a>) -> Option<Order<'a>>
     ensures { option_map parts_of result ≡ order_in (subcommand_rows_of matches.now) }
 {
     let (name, inner) = matches.subcommand()?;
     let subcommand = named(name)?;
-    let value = inner.get_str(subcommand.option())?;
+    let value = needed_in(subcommand.needs(), inner)?;
     Some(Order { subcommand, value })
 }

@@ -7,7 +7,7 @@ use Rattle.ev_config.specs.declared.config.ConfigRefusal.TheVariants as refusal
 use Rattle.evpnd.specs.declared.files.Unread.{Unread}
 use Rattle.evpnd.specs.Files.{Text, Shelf, IsTextOf, unread_text}
 use Rattle.ev_report.specs.Ends.{Devices, devices, has_failed, Holds}
-use Rattle.ev_report.specs.Telling.{IsTold, TellsUsage}
+use Rattle.ev_report.specs.Telling.{IsTold}
 use Rattle.ev_config.specs.Config.{ConfigOf}
 
 -- the devices and the files

@@ -3,3 +3,4 @@ pub mod Checks
 pub mod Configured
 pub mod Program
 pub mod Used
+pub mod Version

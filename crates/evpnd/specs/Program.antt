@@ -5,8 +5,8 @@ use Rattle.clap.specs.Words.{fault_of}
 use Rattle.evpnd.specs.declared.program.Line.{Line}
 use Rattle.evpnd.specs.declared.program.Line.TheVariants.{Words, NotText, NoMemory}
 use Rattle.ev_words.specs.declared.words.Subcommand.{Subcommand}
-use Rattle.ev_words.specs.declared.words.Subcommand.TheVariants.{Report, Migrate, Check, Simulate, Run}
-use Rattle.ev_words.specs.Words.{program, Spells}
+use Rattle.ev_words.specs.declared.words.Subcommand.TheVariants.{Report, Migrate, Check, Simulate, Run, Version}
+use Rattle.ev_words.specs.Words.{Parts, program, Spells}
 use Rattle.ev_report.specs.Originators.{Text}
 use Rattle.ev_report.specs.Telling.{IsTold, TellsUsage, OfList}
 use Rattle.ev_report.specs.Ends.{Devices}
@@ -15,6 +15,7 @@ use Rattle.evpnd.specs.Checks.{Desk, desk, OfFile, Checks}
 use Rattle.ev_report.specs.Runs.{Reports}
 use Rattle.ev_report.specs.Migrations.{Migrates}
 use Rattle.evpnd.specs.Used.{SimulatesFound, RunsFound}
+use Rattle.evpnd.specs.Version.{TellsVersion}
 
 -- the devices and the files, and how often what reads the words was refused memory
 pub record World : Type 0 where
@@ -44,8 +45,10 @@ FollowsAs Migrate list before after status = (after.shelf ≡ before.shelf) × O
 FollowsAs Check path before after status = OfFile false Checks path before after status
 FollowsAs Simulate path before after status = OfFile false SimulatesFound path before after status
 FollowsAs Run path before after status = OfFile true RunsFound path before after status
+FollowsAs Version nothing before after status =
+    (after.shelf ≡ before.shelf) × TellsVersion before.devices after.devices status
 
-abbrev pub Follows : Subcommand × Text → Desk → Desk → ℕ → Type 0
+abbrev pub Follows : Parts → Desk → Desk → ℕ → Type 0
 Follows order before after status = FollowsAs order.0 order.1 before after status
 
 -- ---- words
@@ -66,7 +69,7 @@ pub record IsRefused (words : List Text) (before after : World) (status : ℕ) :
 
 -- the words are an order, and it is followed
 pub record IsFollowed (words : List Text) (before after : World) (status : ℕ) : Type 0 where
-  pub order : Subcommand × Text
+  pub order : Parts
   pub spells : Spells words order
   pub refusals_kept : after.refusals ≡ before.refusals
   pub follows : Follows order before.desk after.desk status

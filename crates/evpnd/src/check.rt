@@ -12,7 +12,7 @@ use ev_report::{DEVICE, DONE, MEMORY, tell};
 use std::alloc::Global;
 
 /// The status of what was done, by whether it could be written.
-fn done_status(written: Result<(), Device>) -> u8
+pub(crate) fn done_status(written: Result<(), Device>) -> u8
     ensures { result ≡ (if is_ok written then 0 else 4) }
 {
     match written {

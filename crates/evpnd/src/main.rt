@@ -7,6 +7,7 @@ mod files;
 mod program;
 mod run_file;
 mod simulate;
+mod version;
 
 use crate::files::SystemFiles;
 use crate::program::{Line, run};

@@ -12,6 +12,7 @@ use crate::check::check;
 use crate::files::Files;
 use crate::run_file::run_file;
 use crate::simulate::simulate;
+use crate::version::version;
 use clap::Error;
 use ether_wire::{In, Out};
 use ev_report::{Devices, MEMORY, migrate_list, report_list, tell, tell_words};
@@ -82,6 +83,7 @@ fn follow<H: Threads + Wait + Net + Clock + Sync, F: Files, R: In, W: Out, N: Ou
         Subcommand::Check => check_on(alloc, files, order.value, devices),
         Subcommand::Simulate => simulate(alloc, files, order.value, devices),
         Subcommand::Run => run_file(rt, alloc, files, order.value, devices),
+        Subcommand::Version => version(devices),
     }
 }
 
