@@ -2,7 +2,7 @@
 ghost use Rattle.std.specs.Prelude.{◌≡◌, ◌≢◌, ◌+◌, ◌<◌, ◌^◌, map, string_bytes, IfOk, OnOk, OnErr, ℕ, Option, option_map, false};
 ghost use Rattle.clap.specs.Words.{app_of, found_of, kind_of, rows_of, rule_of, subcommand_rows_of, with_subcommand};
 ghost use Rattle.clap.specs.declared.builder.command.Command.TheViews.{out-Command};
-ghost use Rattle.ev_words.specs.Words.{name_of, option_name, needs_of, named, needed_in, order_in, parts_of, IsAnswer, Parses, Orders, parser_refusals, program, order_app, option_rule, with_needed};
+ghost use Rattle.ev_words.specs.Words.{name_of, option_name, needs_of, takes_of, named, needed_in, given_in, order_in, parts_of, IsAnswer, Parses, Orders, parser_refusals, program, order_app, option_rule, with_option};
 
 use clap::error::ErrorKind;
 use clap::{Arg, ArgAction, ArgMatches, Command, Error};
@@ -15,10 +15,12 @@ pub enum Subcommand {
     Report,
     /// `evpnd migrate --originators LIST`
     Migrate,
-    /// `evpnd check --config FILE`
+    /// `evpnd check --config FILE`, or `evpnd check --config FILE --script FILE`
     Check,
     /// `evpnd simulate --config FILE`
     Simulate,
+    /// `evpnd play --config FILE`
+    Play,
     /// `evpnd run --config FILE`
     Run,
     /// `evpnd version`
@@ -32,6 +34,8 @@ pub(crate) enum Given {
     Originators,
     /// `--config FILE`
     Config,
+    /// `--script FILE`
+    Script,
 }
 
 /// What the program is to do.
@@ -40,6 +44,8 @@ pub struct Order<'a> {
     pub subcommand: Subcommand,
     /// The value of the option that the subcommand has to be given; nothing where there is none.
     pub value: &'a str,
+    /// The value of the one that it may be given besides, where it was.
+    pub more: Option<&'a str>,
 }
 
 /// Why the words are no order.
@@ -61,6 +67,7 @@ impl Subcommand {
             Subcommand::Migrate => "migrate",
             Subcommand::Check => "check",
             Subcommand::Simulate => "simulate",
+            Subcommand::Play => "play",
             Subcommand::Run => "run",
             Subcommand::Version => "version",
         }
@@ -72,8 +79,20 @@ impl Subcommand {
     {
         match self {
             Subcommand::Report | Subcommand::Migrate => Some(Given::Originators),
-            Subcommand::Check | Subcommand::Simulate | Subcommand::Run => Some(Given::Config),
+            Subcommand::Check | Subcommand::Simulate | Subcommand::Play | Subcommand::Run => {
+                Some(Given::Config)
+            }
             Subcommand::Version => None,
+        }
+    }
+
+    /// The option that it may be given besides, if there is one.
+    fn takes(self) -> Option<Given>
+        ensures { result ≡ takes_of self }
+    {
+        match self {
+            Subcommand::Check => Some(Given::Script),
+            _ => None,
         }
     }
 
@@ -84,6 +103,7 @@ impl Subcommand {
             Subcommand::Migrate => "Write records of versions 1 and 2 anew in version 3",
             Subcommand::Check => "Tell whether a configuration is right, or where it is wrong",
             Subcommand::Simulate => "Run a script of events on the edges of a configuration",
+            Subcommand::Play => "Simulate, and print each command before what becomes of it",
             Subcommand::Run => "Carry frames: run the edges of a configuration over UDP sockets",
             Subcommand::Version => "Print the version",
         }
@@ -132,14 +152,20 @@ Reads the configuration in FILE, as docs/configuration.md describes it; standard
 If it is right, standard output has how many edges, ports and VNIs it has. Else standard error has
 where its first fault is, what stands there and what is allowed.
 
+Where it is right and --script names a script, that is read too, and nothing of it is run. Standard
+error has a line for each of its lines that `simulate` would refuse: FILE:LINE: and why. If there is
+none, standard output has how many lines it has.
+
 Status, the greatest that applies:
-  0  the configuration is right
-  2  it has a fault; or the words are wrong, or ask for help
+  0  the configuration is right, and so is the script
+  1  a line of the script is no command
+  2  the configuration has a fault; or the words are wrong, or ask for help
   3  memory was refused
-  4  FILE can't be read, or writing failed
+  4  a FILE can't be read, or writing failed
 
 Example:
-  evpnd check --config fabric.toml"
+  evpnd check --config fabric.toml
+  evpnd check --config fabric.toml --script story"
             }
             Subcommand::Simulate => {
                 "\
@@ -156,6 +182,22 @@ Status, the greatest that applies:
 
 Example:
   evpnd simulate --config fabric.toml < script"
+            }
+            Subcommand::Play => {
+                "\
+Does what `simulate` does, for people: standard output has each command's line, behind `> `, before
+what becomes of it. Empty lines are skipped, and those that begin with `#`. Standard error has the
+number of the first other line that is no command, which ends the run.
+
+Status, the greatest that applies:
+  0  all lines were run
+  1  a line is no command
+  2  the configuration has a fault; or the words are wrong, or ask for help
+  3  memory was refused
+  4  FILE can't be read, or reading or writing failed
+
+Example:
+  evpnd play --config fabric.toml < script"
             }
             Subcommand::Run => {
                 "\
@@ -199,6 +241,7 @@ impl Given {
         match self {
             Given::Originators => "originators",
             Given::Config => "config",
+            Given::Script => "script",
         }
     }
 
@@ -206,7 +249,7 @@ impl Given {
     fn value_name<'a>(self) -> &'a str {
         match self {
             Given::Originators => "LIST",
-            Given::Config => "FILE",
+            Given::Config | Given::Script => "FILE",
         }
     }
 
@@ -215,6 +258,7 @@ impl Given {
         match self {
             Given::Originators => "1 to 64 different IPv4 addresses with commas between them",
             Given::Config => "The path of a configuration, a TOML document",
+            Given::Script => "The path of a script, whose lines are checked too",
         }
     }
 }
@@ -235,6 +279,9 @@ fn named(name: &str) -> Option<Subcommand>
     if name == Subcommand::Simulate.name() {
         return Some(Subcommand::Simulate);
     }
+    if name == Subcommand::Play.name() {
+        return Some(Subcommand::Play);
+    }
     if name == Subcommand::Run.name() {
         return Some(Subcommand::Run);
     }
@@ -244,9 +291,9 @@ fn named(name: &str) -> Option<Subcommand>
     None
 }
 
-/// An option, which has to be there.
-fn option_arg<'a>(alloc: Global, option: Given) -> Arg<'a>
-    ensures rule { rule_of result ≡ option_rule (option_name option) }
+/// An option, which has to be there or may be.
+fn option_arg<'a>(alloc: Global, option: Given, is_required: bool) -> Arg<'a>
+    ensures rule { rule_of result ≡ option_rule is_required (option_name option) }
     ensures local { result.global ≡ false }
 {
     Arg::new(alloc, option.name())
@@ -254,26 +301,28 @@ fn option_arg<'a>(alloc: Global, option: Given) -> Arg<'a>
         .action(ArgAction::Set)
         .value_name(option.value_name())
         .help(option.value_help())
-        .required(true)
+        .required(is_required)
 }
 
-/// A command with an option that it needs, if there is one.
-fn with_needed<'a>(
+/// A command with an option more, if there is one.
+fn with_option<'a>(
     alloc: Global,
     command: Command<'a>,
     option: Option<Given>,
+    is_required: bool,
 ) -> Result<Command<'a>, AllocError>
     requires { (out-Command command).has_globals ≡ false }
-    ensures app { IfOk result (λ c. app_of c ≡ with_needed option (app_of command.entry)) }
+    ensures app { IfOk result
+        (λ c. app_of c ≡ with_option is_required option (app_of command.entry)) }
     ensures local { IfOk result (λ c. (out-Command c).has_globals ≡ false) }
 {
     match option {
         None => Ok(command),
-        Some(option) => command.arg(option_arg(alloc, option)),
+        Some(option) => command.arg(option_arg(alloc, option, is_required)),
     }
 }
 
-/// A subcommand with its option.
+/// A subcommand with its options.
 fn order_command<'a>(alloc: Global, subcommand: Subcommand) -> Result<Command<'a>, AllocError>
     ensures app { IfOk result (λ c. app_of c ≡ order_app subcommand) }
     ensures local { IfOk result (λ c. (out-Command c).has_globals ≡ false) }
@@ -281,7 +330,8 @@ fn order_command<'a>(alloc: Global, subcommand: Subcommand) -> Result<Command<'a
     let command = Command::new(alloc, subcommand.name())
         .about(subcommand.about())
         .after_help(subcommand.help());
-    with_needed(alloc, command, subcommand.needs())
+    let needing = with_option(alloc, command, subcommand.needs(), true)?;
+    with_option(alloc, needing, subcommand.takes(), false)
 }
 
 /// What the program does, and what help tells of all subcommands.
@@ -315,8 +365,9 @@ fn program<'a>(alloc: Global) -> Result<Command<'a>, AllocError>
     let second = with_order(alloc, first, Subcommand::Migrate)?;
     let third = with_order(alloc, second, Subcommand::Check)?;
     let fourth = with_order(alloc, third, Subcommand::Simulate)?;
-    let fifth = with_order(alloc, fourth, Subcommand::Run)?;
-    let command = with_order(alloc, fifth, Subcommand::Version)?;
+    let fifth = with_order(alloc, fourth, Subcommand::Play)?;
+    let sixth = with_order(alloc, fifth, Subcommand::Run)?;
+    let command = with_order(alloc, sixth, Subcommand::Version)?;
     Ok(command.subcommand_required(true))
 }
 
@@ -426,6 +477,17 @@ fn needed_in<'a>(option: Option<Given>, matches: &ArgMatches<'a>) -> Option<&'a 
     }
 }
 
+/// The value of the option that may be there.
+fn given_in<'a>(option: Option<Given>, matches: &ArgMatches<'a>) -> Option<&'a str>
+    ensures { option_map (λ s. s.now) result
+        ≡ given_in option (rows_of (found_of matches.now)) }
+{
+    match option {
+        None => None,
+        Some(option) => matches.get_str(option.name()),
+    }
+}
+
 /// The order at the subcommand that was used.
 fn order_in<'a>(matches: &ArgMatches<'a>) -> Option<Order<'a>>
     ensures { option_map parts_of result ≡ order_in (subcommand_rows_of matches.now) }
@@ -433,5 +495,10 @@ fn order_in<'a>(matches: &ArgMatches<'a>) -> Option<Order<'a>>
     let (name, inner) = matches.subcommand()?;
     let subcommand = named(name)?;
     let value = needed_in(subcommand.needs(), inner)?;
-    Some(Order { subcommand, value })
+    let more = given_in(subcommand.takes(), inner);
+    Some(Order {
+        subcommand,
+        value,
+        more,
+    })
 }

@@ -1,3 +1,4 @@
 pub mod Filed
 pub mod Telling
 pub mod Versions
+pub mod Scripted

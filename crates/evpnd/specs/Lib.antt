@@ -4,3 +4,4 @@ pub mod Configured
 pub mod Program
 pub mod Used
 pub mod Version
+pub mod Scripts

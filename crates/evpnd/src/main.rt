@@ -2,6 +2,7 @@
 #![tactic(auto)]
 
 mod check;
+mod check_script;
 mod configured;
 mod files;
 mod program;
