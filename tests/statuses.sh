@@ -89,7 +89,7 @@ tell "an address too many" tells "'10.0.0.64' is one more than the 64 that there
 
 # ---- 2: help
 run --help
-tell "help" tells "report" "Usage: ${evpnd##*/}" "Example:" "0 done"
+tell "help" tells "report" "version" "Usage: ${evpnd##*/}" "Example:" "0 done"
 run report --help
 tell "help on report" tells "--originators <LIST>" "standard input" "standard output" "Standard error" "  0  " "  1  " "  2  " "  3  " "  4  " "Example:"
 run help report
@@ -388,6 +388,112 @@ tell "a fault that can't be told" [ "$status" = 4 ]
 status=0
 "$evpnd" simulate --config "$work/none" < "$work/in" > "$work/out" 2> /dev/full || status=$?
 tell "an unread file that can't be told" [ "$status" = 4 ]
+
+# ---- the version, which stands in CHANGELOG.md too
+sed -n 's/^## \([0-9][^,]*\).*/evpnd \1/p' "$tests/../CHANGELOG.md" | head -n 1 > "$work/version"
+run version
+tell "the version" gives 0 "$work/version" ""
+for words in "version --help" "version 1" "version --config $conf" "--version"; do
+  # shellcheck disable=SC2086
+  run $words
+  tell "words: $words" is_usage
+done
+status=0
+"$evpnd" version < "$work/in" > /dev/full 2> "$work/notes" || status=$?
+tell "a version that can't be written" [ "$status" = 4 ]
+
+# ---- play: commands are shown, empty lines and remarks are skipped
+edge "$named" "vni = 5001" > "$conf"
+printf '# a remark\n\n1 announce\n1 announce\n#1 up 1\n1 report' > "$work/in"
+printf '> 1 announce\n1 pool 1\n> 1 announce\n1 none\n> 1 report\nflood 5001 10.0.0.1 1 up\n' > "$work/played"
+run play --config "$conf"
+tell "a script that is played" gives 0 "$work/played" ""
+run simulate --config "$conf"
+tell "a remark that is simulated" gives 1 "$work/empty" "line 1 bad"
+for line in "1 rise" " # no remark" " "; do
+  printf '# a remark\n\n%s\n1 announce\n' "$line" > "$work/in"
+  run play --config "$conf"
+  tell "a bad line that is played: $line" gives 1 "$work/empty" "line 3 bad"
+done
+examples=$tests/../examples
+cp "$examples/sites.script" "$work/in"
+run simulate --config "$examples/sites.toml"
+mv "$work/out" "$work/simulated"
+run play --config "$examples/sites.toml"
+grep '^> ' "$work/out" | cut -c 3- > "$work/shown"
+tell "each command is shown" cmp -s "$work/shown" "$work/in"
+sed -i '/^> /d' "$work/out"
+tell "what is played answers as what is simulated" gives 0 "$work/simulated" ""
+cp "$work/empty" "$work/in"
+run play --config "$work/none"
+tell "play: a configuration that isn't there" [ "$status $(cat "$work/notes")" = "4 error: --config: '$work/none' isn't there" ]
+edge "$named" "vni = 5002" > "$conf"
+run play --config "$conf"
+tell "play: a faulty configuration" says "config vni"
+run play --help
+tell "help on play" tells "--config <FILE>" "  0  " "  1  " "  4  " "Example:"
+
+# ---- check --script: each bad line is told, with its place and why
+script=$work/story
+edge "$named" "vni = 5001" > "$conf"
+summary="ok: 1 edge, 1 port, 1 VNI"
+
+# looked NAME STATUS OUT NOTES: the script in $script is looked at, and this is written and told
+looked() {
+  run check --config "$conf" --script "$script"
+  tell "$1" [ "$status"$'\n'"$(cat "$work/out")"$'\n'"$(cat "$work/notes")" = "$2"$'\n'"$3"$'\n'"$4" ]
+}
+
+# bad LINE WHY: a script whose second line is this one
+bad() {
+  printf '1 announce\n%s\n1 report\n' "$1" > "$script"
+  looked "a bad line: ${1:0:40}" 1 "$summary" "$script:2: $2"
+}
+
+printf '1 announce\n1 report\n' > "$script"
+looked "a good script" 0 "$summary"$'\n'"ok: 2 lines" ""
+printf '1 report' > "$script"
+looked "a script of one line" 0 "$summary"$'\n'"ok: 1 line" ""
+cp "$work/empty" "$script"
+looked "an empty script" 0 "$summary"$'\n'"ok: 0 lines" ""
+printf '1 up 1\n1 down 1\n1 mcheck 1\n1 second 1\n1 frame 1 00\n1 tunnel 10.0.0.2 00\n1 pin 1 02:00:00:00:00:0a 1
+1 unpin 1 02:00:00:00:00:0a\n1 thaw 1 02:00:00:00:00:0a\n1 announce\n1 deliver 1\n1 port 1\n1 report\n1 restart 1\n' > "$script"
+looked "a script of all commands" 0 "$summary"$'\n'"ok: 14 lines" ""
+for line in "" "#" "# 1 up 1"; do
+  bad "$line" "an empty line or a remark, which only evpnd play skips"
+done
+for line in up "up 1 1" "01 up 1" " 1 up 1" "1"; do
+  bad "$line" "expected the number of an edge, a space and a command"
+done
+for line in "1 rise" "1 " "1  up 1" "1 UP 1"; do
+  bad "$line" "expected up, down, mcheck, second, frame, tunnel, pin, unpin, thaw, announce, deliver, port, report or restart behind the edge"
+done
+for form in "up P" "down P" "mcheck P" "frame P HEX" "tunnel ADDR HEX" "pin VNI MAC P" "unpin VNI MAC" "thaw VNI MAC" \
+  "deliver K" "port P"; do
+  bad "1 ${form%% *}" "expected E $form"
+  bad "1 ${form%% *} x" "expected E $form"
+done
+bad "1 announce 1" "expected E announce"
+bad "1 report " "expected E report"
+bad "1 second 0" "expected E second N, N from 1 to 100000"
+bad "1 restart 4294967296" "expected E restart N, N from 0 to 4294967295"
+bad "1 frame 1 $(printf '%020000d' 0)" "longer than 20000 octets"
+printf 'a\n1 report\n\n1 b' > "$script"
+looked "each bad line" 1 "$summary" "$script:1: expected the number of an edge, a space and a command
+$script:3: an empty line or a remark, which only evpnd play skips
+$script:4: expected up, down, mcheck, second, frame, tunnel, pin, unpin, thaw, announce, deliver, port, report or restart behind the edge"
+printf '\xff\n' > "$script"
+looked "a script that isn't UTF-8" 4 "$summary" "error: --script: '$script' isn't UTF-8"
+rm "$script"
+looked "a script that isn't there" 4 "$summary" "error: --script: '$script' isn't there"
+printf '1 rise\n' > "$script"
+status=0
+"$evpnd" check --config "$conf" --script "$script" < "$work/in" > "$work/out" 2> /dev/full || status=$?
+tell "a bad line that can't be told" [ "$status" = 4 ]
+edge "$named" "vni = 5002" > "$conf"
+looked "a script behind a faulty configuration" 2 "" "edge 1, port 1: vni is 5002, allowed is one of the edge's vnis"
+run check --script "$script"
+tell "a script without its configuration" tells "--config <FILE>"
 
 # ---- a run: loopback addresses of this run's own. Where both edges are to hear each other, its input doesn't end at once
 host=127.$((64 + RANDOM % 64)).$((RANDOM % 254 + 1))

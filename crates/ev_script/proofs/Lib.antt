@@ -1,3 +1,4 @@
+pub mod Looking
 pub mod Minding
 pub mod Pairs
 pub mod Playings

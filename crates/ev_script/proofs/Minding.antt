@@ -1,8 +1,8 @@
 -- Whether a call of a writer has failed.
-use Rattle.std.proofs.Common.{◌≡◌, ◌+◌, inl, inr, Bool, true, false, not, refl, ap, ◌∙◌, arith}
+use Rattle.std.proofs.Common.{◌≡◌, ◌+◌, ℕ, List, inl, inr, Bool, true, false, not, refl, ap, ◌∙◌, arith}
 use Rattle.std.proofs.lemmas.Bool.Decides.{nat_tests}
 use Rattle.ether_wire.specs.Ends.{End, IsOpen}
-use Rattle.ev_report.specs.Ends.{has_failed}
+use Rattle.ev_report.specs.Ends.{has_failed, Tells}
 use Rattle.ev_script.specs.Simulation.{CountsFailure}
 use Rattle.ev_script.specs.Printing.{Minds}
 
@@ -40,3 +40,8 @@ minds_failed a b false h = let one = h.failed refl refl in grind (arith, nat_tes
 pub minds_counts : (a b : End) (q : Bool) → Minds a b true q → CountsFailure a b
 minds_counts a b true h = inl (h.written refl)
 minds_counts a b false h = inr (h.failed refl refl)
+
+-- a text that was told
+pub tells_minds : (a b : End) (p q : Bool) (text : List ℕ) → Tells a b p q text → Minds a b p q
+tells_minds a b p q text h =
+    record { kept = h.kept; written = λ t. ap (λ (e : End). e.failures) (h.written t); failed = h.failed }

@@ -1,5 +1,5 @@
 -- Steps that are made one after the other, and the lines that ask for them.
-use Rattle.std.proofs.Common.{◌≡◌, ℕ, ◌+◌, ◌<◌, Bool, ◌||◌, List, [], ◌∷◌, ◌++◌, length, length-append, append_assoc, Result, Some, refl, sym, ap, subst, ◌∙◌, arith}
+use Rattle.std.proofs.Common.{◌≡◌, ℕ, ◌+◌, ◌<◌, Bool, ◌||◌, List, [], ◌∷◌, ◌++◌, length, length-append, append_assoc, Option, Some, None, option_map, Result, true, false, refl, sym, ap, subst, ◌∙◌, arith}
 use Rattle.std.proofs.lemmas.List.{append-nil}
 use Rattle.std.proofs.lemmas.List.Elements.{All-nil, All-push}
 use Rattle.ev_edge.specs.declared.reply.Reply.{Reply}
@@ -10,9 +10,10 @@ use Rattle.ev_fabric.specs.declared.step.LocalEvent.TheVariants as events
 use Rattle.ev_fabric.specs.Fabric.{Fabric}
 use Rattle.ev_fabric.specs.Steps.{FabricSteps}
 use Rattle.ev_script.specs.declared.simulate.player.Player.{Player}
-use Rattle.ev_script.specs.Script.{Command, second, line_of, cut_line, Follows}
-use Rattle.ev_script.specs.Simulation.{Made, IsOne, Asked, AskedAll, joined, Goes, is_starved, has_starved}
-use Rattle.ev_script.specs.Playing.{Makes, MakesOne, Performs, Played}
+use Rattle.ev_script.specs.declared.script.mode.Mode.{Mode}
+use Rattle.ev_script.specs.Script.{Command, Item, second, skips, line_of, item_of, cut_line, Follows}
+use Rattle.ev_script.specs.Simulation.{Made, IsOne, AskedItem, AskedAll, joined, Goes, is_starved, has_starved}
+use Rattle.ev_script.specs.Playing.{Makes, MakesOne, Performs, PlaysLine, Played, PlaysTo}
 use Rattle.ev_report.proofs.Taking.{or_assoc, or_false}
 
 -- ---- steps
@@ -70,28 +71,74 @@ joined_more : (made : List (List Made)) (m : List Made) → joined (made ++ m �
 joined_more [] m = append-nil m
 joined_more (x ∷ made) m = ap (λ y. x ++ y) (joined_more made m) ∙ sym (append_assoc x (joined made) m)
 
-asked_more : (lines : List (ℕ × Command)) (made : List (List Made)) (line : ℕ × Command) (m : List Made) → AskedAll lines made → Asked line.0 line.1 m → AskedAll (lines ++ line ∷ []) (made ++ m ∷ [])
+asked_more : (lines : List Item) (made : List (List Made)) (line : Item) (m : List Made) → AskedAll lines made
+    → AskedItem line m → AskedAll (lines ++ line ∷ []) (made ++ m ∷ [])
 asked_more [] [] line m h k = (k, tt)
 asked_more [] (x ∷ made) line m h k = absurd h
 asked_more (l ∷ lines) [] line m h k = absurd h
 asked_more (l ∷ lines) (x ∷ made) line m h k = (h.0, asked_more lines made line m h.1 k)
 
-follows_more : (s : List ℕ) (cs : List (ℕ × Command)) (rest : List ℕ) (c : ℕ × Command) (line after : List ℕ) → Follows s cs rest → 0 < length rest → (line, after) ≡ cut_line rest → line_of line ≡ Some c → Follows s (cs ++ c ∷ []) after
-follows_more s [] rest c line after h some cut good =
-    let P : List ℕ → Type 0 = λ t. Follows t (c ∷ []) after in
-    subst P (sym h) (some, ap line_of (sym (ap (λ (p : List ℕ × List ℕ). p.0) cut)) ∙ good, sym (ap (λ (p : List ℕ × List ℕ). p.1) cut))
-follows_more s (d ∷ ds) rest c line after h some cut good = (h.0, h.1, follows_more (cut_line s).1 ds rest c line after h.2 some cut good)
+pub follows_more : {X : Type 0} (reads : List ℕ → Option X) (s : List ℕ) (xs : List X) (rest : List ℕ) (x : X)
+    (line after : List ℕ) → Follows reads s xs rest → 0 < length rest
+    → (line, after) ≡ cut_line rest → reads line ≡ Some x → Follows reads s (xs ++ x ∷ []) after
+follows_more reads s [] rest x line after h some cut good =
+    let P : List ℕ → Type 0 = λ t. Follows reads t (x ∷ []) after in
+    subst P (sym h)
+    (some, ap reads (sym (ap (λ (p : List ℕ × List ℕ). p.0) cut)) ∙ good, sym (ap (λ (p : List ℕ × List ℕ). p.1) cut))
+follows_more reads s (y ∷ ys) rest x line after h some cut good =
+    (h.0, h.1, follows_more reads (cut_line s).1 ys rest x line after h.2 some cut good)
 
-pub played_none : (script : List ℕ) (p : Player) → Played script script p p 0
-played_none script p = record { lines = []; follows = refl; count = refl; made = []; asked = tt; makes = makes_none p p refl refl }
+pub played_none : (mode : Mode) (script : List ℕ) (p : Player) → Played mode script script p p 0
+played_none mode script p =
+    record { lines = []; follows = refl; count = refl; made = []; asked = tt; makes = makes_none p p refl refl }
 
-pub played_more : (script rest line after : List ℕ) (p q r : Player) (n e : ℕ) (command : Command) → Played script rest p q n → 0 < length rest → (line, after) ≡ cut_line rest
-    → line_of line ≡ Some (e, command) → Performs e command q r → Played script after p r (n + 1)
-played_more script rest line after p q r n e command h some cut good k = record {
-  lines = h.lines ++ (e, command) ∷ [];
-  follows = follows_more script h.lines rest (e, command) line after h.follows some cut good;
-  count = let l = length-append h.lines ((e, command) ∷ []) in let c = h.count in omega arith;
-  made = h.made ++ k.0 ∷ [];
-  asked = asked_more h.lines h.made (e, command) k.0 h.asked k.1;
-  makes = subst (λ (m : List Made). Makes m p r) (sym (joined_more h.made k.0)) (makes_both p q r (joined h.made) k.0 h.makes k.2);
-}
+pub played_more : (mode : Mode) (script rest line after : List ℕ) (p q r : Player) (n : ℕ)
+    → Played mode script rest p q n → 0 < length rest → (line, after) ≡ cut_line rest
+    → PlaysLine mode line q r true → Played mode script after p r (n + 1)
+played_more mode script rest line after p q r n h some cut k =
+    let made = k.2.0 in
+    record {
+      lines = h.lines ++ k.0 ∷ [];
+      follows = follows_more (item_of mode) script h.lines rest k.0 line after h.follows some cut k.1;
+      count = let l = length-append h.lines (k.0 ∷ []) in let c = h.count in omega arith;
+      made = h.made ++ made ∷ [];
+      asked = asked_more h.lines h.made k.0 made h.asked k.2.1;
+      makes = subst (λ (m : List Made). Makes m p r) (sym (joined_more h.made made))
+          (makes_both p q r (joined h.made) made h.makes k.2.2);
+    }
+
+-- the line behind them is a bad one
+pub played_bad : (mode : Mode) (script rest line after : List ℕ) (p q r : Player) (n number : ℕ)
+    → Played mode script rest p q n → 0 < length rest → (line, after) ≡ cut_line rest → PlaysLine mode line q r false
+    → number ≡ n + 1 → PlaysTo mode script p r (Some number)
+played_bad mode script rest line after p q r n number h some cut k is =
+    let bad = ap (item_of mode) (sym (ap (λ (p : List ℕ × List ℕ). p.0) cut)) ∙ k.0 in
+    (n, rest, is, (some, bad), subst (λ (x : Player). Played mode script rest p x n) (sym k.1) h)
+
+-- ---- a line
+
+item_skipped : (mode : Mode) (line : List ℕ) → skips mode line ≡ true → item_of mode line ≡ Some None
+item_skipped mode line e = rw e refl
+
+item_read : (mode : Mode) (line : List ℕ) (found : Option (ℕ × Command)) → skips mode line ≡ false
+    → line_of line ≡ found → item_of mode line ≡ option_map (λ c. Some c) found
+item_read mode line found e is = rw (e, is) refl
+
+-- it asks for nothing
+pub line_skipped : (mode : Mode) (line : List ℕ) (p : Player) → skips mode line ≡ true → PlaysLine mode line p p true
+line_skipped mode line p e = (None, item_skipped mode line e, ([], refl, makes_none p p refl refl))
+
+-- it is a bad one
+pub line_bad : (mode : Mode) (line : List ℕ) (p : Player) → skips mode line ≡ false → line_of line ≡ None
+    → PlaysLine mode line p p false
+line_bad mode line p e is = (item_read mode line None e is, refl)
+
+-- its command was shown, and then done
+pub line_done : (mode : Mode) (line : List ℕ) (p q r : Player) (edge : ℕ) (command : Command) → skips mode line ≡ false
+    → line_of line ≡ Some (edge, command)
+    → Makes [] p q → Performs edge command q r → PlaysLine mode line p r true
+line_done mode line p q r edge command e is shown done = (
+  Some (edge, command),
+  item_read mode line (Some (edge, command)) e is,
+  (done.0, done.1, makes_both p q r [] done.0 shown done.2),
+)

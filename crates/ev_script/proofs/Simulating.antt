@@ -7,6 +7,7 @@ use Rattle.ev_edge.specs.declared.config.EdgeConfig.{EdgeConfig}
 use Rattle.ev_fabric.specs.Fabric.{Fabric}
 use Rattle.ev_report.specs.declared.input.Unread.{Unread}
 use Rattle.ev_report.specs.declared.input.Unread.TheVariants.{Device, NoMemory}
+use Rattle.ev_script.specs.declared.script.mode.Mode.{Mode}
 use Rattle.ev_script.specs.declared.simulate.player.Player.{Player}
 use Rattle.ev_report.specs.Ends.{Devices, has_failed, Holds, Finishes, Passes}
 use Rattle.ev_report.specs.Input.{ReadsWhole}
@@ -20,7 +21,8 @@ use Rattle.ev_script.proofs.Minding.{minds_failed, minds_counts}
 
 -- ---- a run on a fabric
 
-module _ (start : Fabric) (script : List ℕ) (p final : Player) (out out' notes notes' : End) (r : Result (Unit {0}) device.Device) (status : ℕ)
+module _ (mode : Mode) (start : Fabric) (script : List ℕ) (p final : Player) (out out' notes notes' : End)
+    (r : Result (Unit {0}) device.Device) (status : ℕ)
     (from : p.fabric ≡ start) (fed : p.is_starved ≡ false) (told : Minds out out' true final.is_told) where
   status_played : (bad : Option ℕ) (starved : Bool) → Puts notes notes' (note_of_line bad) r → final.is_starved ≡ (p.is_starved || starved)
       → status ≡ status_of (not final.is_told || not (is_ok r)) final.is_starved (is_some bad) → status ≡ status_of (has_failed out out' || has_failed notes notes') starved (is_some bad)
@@ -28,8 +30,9 @@ module _ (start : Fabric) (script : List ℕ) (p final : Player) (out out' notes
       is ∙ status_as (not final.is_told) (not (is_ok r)) (has_failed out out') (has_failed notes notes') final.is_starved starved (is_some bad)
       (sym (minds_failed out out' final.is_told told)) (sym (put_failed notes notes' r (note_of_line bad) put)) (s ∙ ap (λ b. b || starved) fed)
 
-  pub plays_on : (bad : Option ℕ) → PlaysTo script p final bad → Puts notes notes' (note_of_line bad) r
-      → status ≡ status_of (not final.is_told || not (is_ok r)) final.is_starved (is_some bad) → PlaysOn start script out out' notes notes' status
+  pub plays_on : (bad : Option ℕ) → PlaysTo mode script p final bad → Puts notes notes' (note_of_line bad) r
+      → status ≡ status_of (not final.is_told || not (is_ok r)) final.is_starved (is_some bad)
+      → PlaysOn mode start script out out' notes notes' status
   plays_on None h put is =
       let played = h.1 in
       record {
@@ -66,9 +69,10 @@ module _ (start : Fabric) (script : List ℕ) (p final : Player) (out out' notes
 
 -- ---- nothing is run
 
-pub plays_unread : (configs : List EdgeConfig) (unread : Unread) (out notes : End) (status : ℕ) → status ≡ unread_status unread → PlaysRead configs (Err unread) out out notes notes status
-plays_unread configs Device out notes status is = (is_silent out notes, is)
-plays_unread configs NoMemory out notes status is = refused_memory out notes status is
+pub plays_unread : (mode : Mode) (configs : List EdgeConfig) (unread : Unread) (out notes : End) (status : ℕ)
+    → status ≡ unread_status unread → PlaysRead mode configs (Err unread) out out notes notes status
+plays_unread mode configs Device out notes status is = (is_silent out notes, is)
+plays_unread mode configs NoMemory out notes status is = refused_memory out notes status is
 
 -- ---- writers that are given more at once
 
@@ -96,9 +100,11 @@ pub finish_told : (a b c : End) (q : Bool) → CountsFailure a b → Finishes a.
 finish_told a b c true counts f = let same = finish_kept a b c true counts f refl in grind (arith, nat_tests)
 finish_told a b c false counts f = let one = finish_late a b c false counts f refl in grind (arith, nat_tests)
 
-module _ (configs : List EdgeConfig) (before held after : Devices) (status last : ℕ) (p : Passes before.out.failures before.notes.failures held after status last) where
-  passed_plays : (start : Fabric) (script : List ℕ) → PlaysOn start script before.out held.out before.notes held.notes status
-      → PlaysOn start script before.out after.out before.notes after.notes last
+module _ (mode : Mode) (configs : List EdgeConfig) (before held after : Devices) (status last : ℕ)
+    (p : Passes before.out.failures before.notes.failures held after status last) where
+  passed_plays : (start : Fabric) (script : List ℕ)
+      → PlaysOn mode start script before.out held.out before.notes held.notes status
+      → PlaysOn mode start script before.out after.out before.notes after.notes last
   passed_plays start script r =
       let note = note_of r.is_bad (length r.lines + 1) in
       record {
@@ -117,14 +123,15 @@ module _ (configs : List EdgeConfig) (before held after : Devices) (status last 
             (finish_told before.out held.out after.out p.is_written r.written p.out) (failed_notes before held after status last p note r.noted) r.status_is;
       }
 
-  passed_read : (script : Result (List ℕ) Unread) → PlaysRead configs script before.out held.out before.notes held.notes status
-      → PlaysRead configs script before.out after.out before.notes after.notes last
+  passed_read : (script : Result (List ℕ) Unread)
+      → PlaysRead mode configs script before.out held.out before.notes held.notes status
+      → PlaysRead mode configs script before.out after.out before.notes after.notes last
   passed_read (Ok script) (inl h) = inl (h.0, h.1, passed_plays h.0 script h.2)
   passed_read (Ok script) (inr h) = inr (passed_refused before held after status last p h)
   passed_read (Err Device) h = (passed_silent before held after status last p h.0, passed_four before held after status last p h.1)
   passed_read (Err NoMemory) h = passed_refused before held after status last p h
 
-  pub passed_simulates : Simulates configs before held status → Simulates configs before after last
+  pub passed_simulates : Simulates mode configs before held status → Simulates mode configs before after last
   passed_simulates s = record {
     script = s.script;
     read = subst (λ (r : Source). ReadsWhole before.input r s.script) (sym p.input) s.read;

@@ -2,3 +2,5 @@ pub mod Script
 pub mod Simulation
 pub mod Playing
 pub mod Printing
+pub mod Faults
+pub mod Shown

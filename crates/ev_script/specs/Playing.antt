@@ -1,11 +1,12 @@
 -- How far a simulation has come.
-use Rattle.std.specs.Prelude.{◌≡◌, ℕ, ◌+◌, true, ◌||◌, List, [], ◌∷◌, length, Option, Some, None, Result}
+use Rattle.std.specs.Prelude.{◌≡◌, ℕ, ◌+◌, Bool, true, false, ◌||◌, List, [], ◌∷◌, length, Option, Some, None, Result}
 use Rattle.ev_edge.specs.declared.reply.Reply.{Reply}
 use Rattle.ev_fabric.specs.declared.refusal.Refusal.{Refusal}
 use Rattle.ev_fabric.specs.declared.step.Step.{Step}
 use Rattle.ev_script.specs.declared.simulate.player.Player.{Player}
-use Rattle.ev_script.specs.Script.{Command, Follows, Ends}
-use Rattle.ev_script.specs.Simulation.{Made, Asked, AskedAll, Goes, has_starved, joined}
+use Rattle.ev_script.specs.declared.script.mode.Mode.{Mode}
+use Rattle.ev_script.specs.Script.{Command, Item, item_of, Follows, Ends}
+use Rattle.ev_script.specs.Simulation.{Made, Asked, AskedItem, AskedAll, Goes, has_starved, joined}
 
 -- These steps were made.
 pub record Makes (made : List Made) (old new : Player) : Type 0 where
@@ -20,16 +21,26 @@ MakesOne step old new = (answer : Result Reply Refusal) × Makes ((step, answer)
 abbrev pub Performs : ℕ → Command → Player → Player → Type 0
 Performs e command old new = (made : List Made) × Asked e command made × Makes made old new
 
+-- the steps that a line asks for were made
+abbrev pub PerformsItem : Item → Player → Player → Type 0
+PerformsItem item old new = (made : List Made) × AskedItem item made × Makes made old new
+
+-- What a line asks for was done; or it is a bad one, and nothing was done.
+abbrev pub PlaysLine : Mode → List ℕ → Player → Player → Bool → Type 0
+PlaysLine mode line old new true = (item : Item) × (item_of mode line ≡ Some item) × PerformsItem item old new
+PlaysLine mode line old new false = (item_of mode line ≡ None) × (new ≡ old)
+
 -- The steps of the lines in front of the rest were made.
-pub record Played (script rest : List ℕ) (old new : Player) (n : ℕ) : Type 0 where
-  pub lines : List (ℕ × Command)
-  pub follows : Follows script lines rest
+pub record Played (mode : Mode) (script rest : List ℕ) (old new : Player) (n : ℕ) : Type 0 where
+  pub lines : List Item
+  pub follows : Follows (item_of mode) script lines rest
   pub count : length lines ≡ n
   pub made : List (List Made)
   pub asked : AskedAll lines made
   pub makes : Makes (joined made) old new
 
 -- Up to the end of the script, or up to the line of this number, which is the first bad one.
-abbrev pub PlaysTo : List ℕ → Player → Player → Option ℕ → Type 0
-PlaysTo script old new None = (n : ℕ) × Played script [] old new n
-PlaysTo script old new (Some number) = (n : ℕ) × (rest : List ℕ) × (number ≡ n + 1) × Ends true rest × Played script rest old new n
+abbrev pub PlaysTo : Mode → List ℕ → Player → Player → Option ℕ → Type 0
+PlaysTo mode script old new None = (n : ℕ) × Played mode script [] old new n
+PlaysTo mode script old new (Some number) =
+    (n : ℕ) × (rest : List ℕ) × (number ≡ n + 1) × Ends (item_of mode) true rest × Played mode script rest old new n

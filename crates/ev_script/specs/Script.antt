@@ -1,11 +1,13 @@
 -- A script: one command a line.
-use Rattle.std.specs.Prelude.{◌≡◌, ℕ, ◌+◌, ◌*◌, ◌%◌, ◌^◌, ◌-◌, Bool, true, false, ◌&&◌, ◌==◌, ◌<◌, nat_lt, nat_le, if◌then◌else◌, List, [], ◌∷◌, length, codes, Option, Some, None, is_some, option_map, option_and_then}
+use Rattle.std.specs.Prelude.{◌≡◌, ℕ, ◌+◌, ◌*◌, slice_get, ◌%◌, ◌^◌, ◌-◌, Bool, true, false, ◌&&◌, ◌==◌, ◌<◌, nat_lt, nat_le, if◌then◌else◌, List, [], ◌∷◌, length, codes, Option, Some, None, is_some, option_map, option_and_then}
 use Rattle.std.specs.List.{list_all}
 use Rattle.std.specs.Str.{bytes_eq}
 use Rattle.ether_wire.specs.Spelling.{◌>>=◌, parted, decimal_of_text, hex_value, vni_of_text, mac_of_text, addr_of_text}
 use Rattle.mac_arena.specs.declared.station.Station.{Station}
 use Rattle.ev_script.specs.declared.script.command.Verb.{Verb}
 use Rattle.ev_script.specs.declared.script.command.Verb.TheVariants.{Up, Down, Mcheck, Second, Frame, Tunnel, Pin, Unpin, Thaw, Announce, Deliver, Port, Report, Restart}
+use Rattle.ev_script.specs.declared.script.mode.Mode.{Mode}
+use Rattle.ev_script.specs.declared.script.mode.Mode.TheVariants.{Simulate, Play}
 use Rattle.ev_script.specs.declared.script.command.Command as read
 use Rattle.ev_script.specs.declared.script.command.Command.TheVariants as found
 
@@ -176,12 +178,36 @@ cut_from s (Some p) = p
 abbrev pub cut_line : List ℕ → List ℕ × List ℕ
 cut_line s = cut_from s (parted 10 s)
 
--- the text begins with the lines of these commands, and goes on with the rest
-abbrev pub Follows : List ℕ → List (ℕ × Command) → List ℕ → Type 0
-Follows s [] rest = s ≡ rest
-Follows s (c ∷ cs) rest = (0 < length s) × (line_of (cut_line s).0 ≡ Some c) × Follows (cut_line s).1 cs rest
+-- the text begins with lines that are read as these, and goes on with the rest
+abbrev pub Follows : {X : Type 0} → (List ℕ → Option X) → List ℕ → List X → List ℕ → Type 0
+Follows reads s [] rest = s ≡ rest
+Follows reads s (x ∷ xs) rest = (0 < length s) × (reads (cut_line s).0 ≡ Some x) × Follows reads (cut_line s).1 xs rest
 
--- what is left is nothing, or, where it is bad, begins with a line outside the grammar
-abbrev pub Ends : Bool → List ℕ → Type 0
-Ends false rest = rest ≡ []
-Ends true rest = (0 < length rest) × (line_of (cut_line rest).0 ≡ None)
+-- what is left is nothing, or, where it is bad, begins with a line that isn't read
+abbrev pub Ends : {X : Type 0} → (List ℕ → Option X) → Bool → List ℕ → Type 0
+Ends reads false rest = rest ≡ []
+Ends reads true rest = (0 < length rest) × (reads (cut_line rest).0 ≡ None)
+
+-- ---- lines for people
+
+-- nothing, or a number sign (35)
+abbrev pub begins_remark : Option ℕ → Bool
+begins_remark None = true
+begins_remark (Some octet) = octet == 35
+
+-- the line is empty, or begins with a number sign
+abbrev pub is_remark : List ℕ → Bool
+is_remark line = begins_remark (slice_get line 0)
+
+-- the line is skipped: where a script is played, one that is empty or a remark
+abbrev pub skips : Mode → List ℕ → Bool
+skips Simulate line = false
+skips Play line = is_remark line
+
+-- what a line asks for, if it asks for anything
+abbrev pub Item : Type 0
+Item = Option (ℕ × Command)
+
+-- how a line is read: as nothing where it is skipped, else as its command, or not at all
+abbrev pub item_of : Mode → List ℕ → Option Item
+item_of mode line = if skips mode line then Some None else option_map (λ c. Some c) (line_of line)

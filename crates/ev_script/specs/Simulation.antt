@@ -19,7 +19,8 @@ use Rattle.ev_report.specs.Ends.{Devices, has_failed, Holds}
 use Rattle.ev_report.specs.Notes.{status_of}
 use Rattle.ev_report.specs.Input.{ReadsWhole}
 use Rattle.ev_report.specs.Silence.{IsSilent, IsRefusedMemory}
-use Rattle.ev_script.specs.Script.{Command, up, down, mcheck, second, frame, tunnel, pin, unpin, thaw, announce, deliver, port, report, restart, Follows, Ends}
+use Rattle.ev_script.specs.declared.script.mode.Mode.{Mode}
+use Rattle.ev_script.specs.Script.{Command, Item, item_of, up, down, mcheck, second, frame, tunnel, pin, unpin, thaw, announce, deliver, port, report, restart, Follows, Ends}
 
 -- ---- steps
 
@@ -52,12 +53,17 @@ Asked e (port p) made = made ≡ []
 Asked e report made = made ≡ []
 Asked e (restart n) made = IsOne (steps.Restart e n) made
 
+-- the steps that a line asks for
+abbrev pub AskedItem : Item → List Made → Type 0
+AskedItem None made = made ≡ []
+AskedItem (Some line) made = Asked line.0 line.1 made
+
 -- the steps of line after line
-abbrev pub AskedAll : List (ℕ × Command) → List (List Made) → Type 0
+abbrev pub AskedAll : List Item → List (List Made) → Type 0
 AskedAll [] [] = Unit {0}
 AskedAll [] (made ∷ more) = ⊥
 AskedAll (line ∷ lines) [] = ⊥
-AskedAll (line ∷ lines) (made ∷ more) = Asked line.0 line.1 made × AskedAll lines more
+AskedAll (line ∷ lines) (made ∷ more) = AskedItem line made × AskedAll lines more
 
 abbrev pub joined : List (List Made) → List Made
 joined [] = []
@@ -96,13 +102,14 @@ abbrev pub CountsFailure : End → End → Type 0
 CountsFailure old new = (new.failures ≡ old.failures) ⊎ (new.failures ≡ old.failures + 1)
 
 -- The script's lines up to its end or its first bad one were run on the fabric: it went exactly the steps that they ask
--- for, in their order.
-pub record PlaysOn (start : Fabric) (script : List ℕ) (out out' notes notes' : End) (status : ℕ) : Type 0 where
-  pub lines : List (ℕ × Command)
+-- for, in their order. Which lines are bad, and which ask for nothing, is the mode's.
+pub record PlaysOn (mode : Mode) (start : Fabric) (script : List ℕ) (out out' notes notes' : End)
+    (status : ℕ) : Type 0 where
+  pub lines : List Item
   pub rest : List ℕ
   pub is_bad : Bool
-  pub follows : Follows script lines rest
-  pub ends : Ends is_bad rest
+  pub follows : Follows (item_of mode) script lines rest
+  pub ends : Ends (item_of mode) is_bad rest
   pub made : List (List Made)
   pub asked : AskedAll lines made
   pub final : Fabric
@@ -112,15 +119,17 @@ pub record PlaysOn (start : Fabric) (script : List ℕ) (out out' notes notes' :
   pub status_is : status ≡ status_of (has_failed out out' || has_failed notes notes') (has_starved (joined made)) is_bad
 
 -- on a fabric of edges that are opened so
-abbrev pub Plays : List EdgeConfig → List ℕ → End → End → End → End → ℕ → Type 0
-Plays configs script out out' notes notes' status = (start : Fabric) × IsStart configs start × PlaysOn start script out out' notes notes' status
+abbrev pub Plays : Mode → List EdgeConfig → List ℕ → End → End → End → End → ℕ → Type 0
+Plays mode configs script out out' notes notes' status =
+    (start : Fabric) × IsStart configs start × PlaysOn mode start script out out' notes notes' status
 
 -- What became of a script that was read or not. Where memory was refused to the script or to the edges, or the script
 -- wasn't read to its end, nothing was run.
-abbrev pub PlaysRead : List EdgeConfig → Result (List ℕ) Unread → End → End → End → End → ℕ → Type 0
-PlaysRead configs (Ok script) out out' notes notes' status = Plays configs script out out' notes notes' status ⊎ IsRefusedMemory out out' notes notes' status
-PlaysRead configs (Err Device) out out' notes notes' status = IsSilent out out' notes notes' × (status ≡ 4)
-PlaysRead configs (Err NoMemory) out out' notes notes' status = IsRefusedMemory out out' notes notes' status
+abbrev pub PlaysRead : Mode → List EdgeConfig → Result (List ℕ) Unread → End → End → End → End → ℕ → Type 0
+PlaysRead mode configs (Ok script) out out' notes notes' status =
+    Plays mode configs script out out' notes notes' status ⊎ IsRefusedMemory out out' notes notes' status
+PlaysRead mode configs (Err Device) out out' notes notes' status = IsSilent out out' notes notes' × (status ≡ 4)
+PlaysRead mode configs (Err NoMemory) out out' notes notes' status = IsRefusedMemory out out' notes notes' status
 
 -- the status of a script that wasn't read to its end
 abbrev pub unread_status : Unread → ℕ
@@ -128,7 +137,7 @@ unread_status Device = 4
 unread_status NoMemory = 3
 
 -- The script was read whole, and then run.
-pub record Simulates (configs : List EdgeConfig) (before after : Devices) (status : ℕ) : Type 0 where
+pub record Simulates (mode : Mode) (configs : List EdgeConfig) (before after : Devices) (status : ℕ) : Type 0 where
   pub script : Result (List ℕ) Unread
   pub read : ReadsWhole before.input after.input script
-  pub plays : PlaysRead configs script before.out after.out before.notes after.notes status
+  pub plays : PlaysRead mode configs script before.out after.out before.notes after.notes status

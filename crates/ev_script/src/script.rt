@@ -2,9 +2,15 @@
 
 mod command;
 mod digits;
+mod fault;
 mod hex;
+mod lines;
+mod mode;
 mod parse;
 
 pub(crate) use command::Command;
+pub(crate) use fault::{LineFault, is_good, why_of};
 pub(crate) use hex::Hex;
+pub(crate) use lines::cut_line;
+pub use mode::Mode;
 pub(crate) use parse::parse;

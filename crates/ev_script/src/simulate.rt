@@ -6,8 +6,10 @@ ghost use Rattle.ev_report.specs.Ends.{AreOpen, devices};
 ghost use Rattle.ev_script.specs.Simulation.{note_of_line, PlaysOn, PlaysRead, unread_status, Simulates};
 
 mod player;
+mod showing;
 mod telling;
 
+use crate::script::Mode;
 use crate::simulate::player::Player;
 use ether_wire::{Device, In, Out, put_decimal};
 use ev_edge::EdgeConfig;
@@ -32,14 +34,14 @@ fn put_bad_line<N: Out>(line: Option<u64>, notes: &mut N) -> Result<(), Device>
 }
 
 /// Runs a script on a fabric.
-fn play<W: Out, N: Out>(fabric: Fabric, script: &[u8], out: &mut W, notes: &mut N) -> u8
+fn play<W: Out, N: Out>(mode: Mode, fabric: Fabric, script: &[u8], out: &mut W, notes: &mut N) -> u8
     requires out { IsOpen (W.end out.old) }
     requires notes { IsOpen (N.end notes.old) }
-    ensures { PlaysOn fabric script.now (W.end out.old) (W.end out.new)
+    ensures { PlaysOn mode fabric script.now (W.end out.old) (W.end out.new)
         (N.end notes.old) (N.end notes.new) result }
 {
     let mut player = Player::new(fabric);
-    let bad = player.play(script, out);
+    let bad = player.play(mode, script, out);
     let is_noted = put_bad_line(bad, notes).is_ok();
     let has_failed = has_failed(Ending::Ended, player.is_told(), is_noted);
     status_of(has_failed, player.is_starved(), bad.is_some())
@@ -48,6 +50,7 @@ fn play<W: Out, N: Out>(fabric: Fabric, script: &[u8], out: &mut W, notes: &mut 
 /// Runs a script on a fabric of edges that are opened with these configurations.
 fn open_and_play<W: Out, N: Out>(
     alloc: Global,
+    mode: Mode,
     configs: Vec<EdgeConfig>,
     script: &[u8],
     out: &mut W,
@@ -56,11 +59,11 @@ fn open_and_play<W: Out, N: Out>(
     requires configs { AreConfigs configs.items }
     requires out { IsOpen (W.end out.old) }
     requires notes { IsOpen (N.end notes.old) }
-    ensures { PlaysRead configs.items (Ok script.now) (W.end out.old) (W.end out.new)
+    ensures { PlaysRead mode configs.items (Ok script.now) (W.end out.old) (W.end out.new)
         (N.end notes.old) (N.end notes.new) result }
 {
     match Fabric::new(alloc, configs) {
-        Ok(fabric) => play(fabric, script, out, notes),
+        Ok(fabric) => play(mode, fabric, script, out, notes),
         Err(_) => MEMORY,
     }
 }
@@ -78,7 +81,8 @@ fn unread_status(unread: Unread) -> u8
 /// Reads a whole script, and then runs its lines, one after the other, on a fabric of edges that
 /// are opened with these configurations. Each command's lines come on `out`. The first line
 /// outside the grammar ends the run: `notes` gets `line N bad`; what stood before it has been
-/// run, and its lines stay.
+/// run, and its lines stay. Where it is played (`Mode::Play`), empty lines and remarks are skipped,
+/// and each command's line is printed before what becomes of it.
 ///
 /// Where the script can't be read to its end, or there is no memory for it or for the edges,
 /// nothing is run. Where a call of `out` fails, no further one is made, and the script is run on.
@@ -88,6 +92,7 @@ fn unread_status(unread: Unread) -> u8
 /// line is outside the grammar, else 0.
 pub fn simulate_run<R: In, W: Out, N: Out>(
     alloc: Global,
+    mode: Mode,
     configs: Vec<EdgeConfig>,
     reader: &mut R,
     out: &mut W,
@@ -97,11 +102,12 @@ pub fn simulate_run<R: In, W: Out, N: Out>(
     requires reader { Allows (2 ^ 40) (R.end reader.old) }
     requires out { IsOpen (W.end out.old) }
     requires notes { IsOpen (N.end notes.old) }
-    ensures { Simulates configs.items (devices (R.end reader.old) (W.end out.old) (N.end notes.old))
+    ensures { Simulates mode configs.items
+        (devices (R.end reader.old) (W.end out.old) (N.end notes.old))
         (devices (R.end reader.new) (W.end out.new) (N.end notes.new)) result }
 {
     match read_whole(alloc, reader) {
-        Ok(script) => open_and_play(alloc, configs, script.as_slice(), out, notes),
+        Ok(script) => open_and_play(alloc, mode, configs, script.as_slice(), out, notes),
         Err(unread) => unread_status(unread),
     }
 }
@@ -109,16 +115,18 @@ pub fn simulate_run<R: In, W: Out, N: Out>(
 /// `simulate_run` with few and large writes: it takes the devices, and gives them back.
 pub fn simulate_buffered<R: In, W: Out, N: Out>(
     alloc: Global,
+    mode: Mode,
     configs: Vec<EdgeConfig>,
     devices: Devices<R, W, N>,
 ) -> (u8, Devices<R, W, N>)
     requires configs { AreConfigs configs.items }
     requires devices { AreOpen devices }
-    ensures { Simulates configs.items devices result.1 result.0 }
+    ensures { Simulates mode configs.items devices result.1 result.0 }
 {
     let mut all = Buffers::new(devices);
     let status = simulate_run(
         alloc,
+        mode,
         configs,
         &mut all.reader,
         &mut all.out,

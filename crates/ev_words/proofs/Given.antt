@@ -4,11 +4,12 @@ use Rattle.std.specs.Prelude.{encode_utf8, slice_get, find, fold, unwrap_or, opt
 use Rattle.std.specs.List.{list_all}
 use Rattle.std.specs.Option.{option_map_or}
 use Rattle.std.specs.Str.{bytes_eq, chars}
+use Rattle.std.proofs.lemmas.List.{append-nil}
 use Rattle.std.proofs.lemmas.Slice.Eq.{bytes_eq-Decides}
 use Rattle.clap.specs.Facts.{explicit_source, unwrap_or_range}
 use Rattle.clap.specs.Lexer.{long_of, short_of}
 use Rattle.clap.specs.Walk.{Held, Names, Outcome, Row, Rule, Step, Text, Waiting, Walk, action_of, after_flag, after_step, answers_to, arg_by_id, arg_by_index, arg_by_long, arg_by_short, at_row, attached_value, bundle_met, bundle_step, default_rows, done, finished, first_of, flag_met, has_row, idle, is_pending, long_met, long_or_other, more_values, most_values, next, nothing_held, option, option_met, option_word, plain, plain_word, positional, reacted, reading_by, refused, rows_after, settled, settled_rows, short_met, short_or_plain, stop_after, subcommand, subcommand_met, subcommand_or_other, takes_several, takes_values, to_positional, trailing, used, used_as, used_by_id, value, waits, walk, walk_from, walked, walked_from, with_default, with_values, without, word_met}
-use Rattle.clap.specs.Simple.{Shape, argument_words, built, built_leaf, entered, help_shape, inherited, label_of, marked_built, names_of, rows_at, subcommand_of, with_leaf_noted}
+use Rattle.clap.specs.Simple.{App, Shape, new_app, argument_words, built, built_leaf, entered, help_shape, inherited, label_of, marked_built, names_of, rows_at, subcommand_of, with_leaf_noted}
 use Rattle.clap.specs.Takes.{is_given}
 use Rattle.clap.specs.Kinds.{Kinds, check_kinds, or_else, range_kinds}
 use Rattle.clap.specs.Faults.{bundle_fault, bundle_step_fault, check_fault, entered_fault, fault_of, flag_word_fault, flags_fault, level_fault, long_fault, option_fault, other_fault, positional_fault, react_fault, settle_fault, short_fault, step_fault, stray_fault, turn_fault, use_fault, walk_fault, word_fault}
@@ -18,8 +19,17 @@ use Rattle.clap.specs.declared.error.kind.ErrorKind.TheVariants as kind
 use Rattle.clap.specs.declared.parser.matches.ValueSource.TheVariants.{CommandLine, DefaultValue}
 use Rattle.clap.proofs.WalkLemmas.{both}
 use Rattle.ev_words.specs.declared.words.Subcommand.{Subcommand}
-use Rattle.ev_words.specs.declared.words.Subcommand.TheVariants.{Report, Migrate, Check, Simulate, Run}
-use Rattle.ev_words.specs.Words.{subcommands, name_of, option_of, order_app, program, named, order_in}
+use Rattle.ev_words.specs.declared.words.Subcommand.TheVariants.{Report, Migrate, Check, Simulate, Play, Run, Version}
+use Rattle.ev_words.specs.declared.words.Given.{Given}
+use Rattle.ev_words.specs.declared.words.Given.TheVariants.{Originators, Config}
+use Rattle.ev_words.specs.Words.{Parts, subcommands, name_of, option_name, needs_of, takes_of, with_option, order_app, program, named, needed_in, given_in, order_in}
+
+-- ---- options
+
+-- a command with no option more
+pub none_more : (is_required : Bool) (a : App) → with_option is_required None a ≡ a
+none_more is_required a =
+    ap (λ (rules : List Rule). record a { top = record a.top { rules = rules } }) (append-nil a.top.rules)
 
 -- ---- tests
 
@@ -364,18 +374,54 @@ leaf x = built_leaf (inherited above (order_app x).top)
 abbrev help_leaf : Shape
 help_leaf = built_leaf (inherited (record above { disable_help_subcommand = false }) help_shape)
 
--- a subcommand whose level passes has its option's value
-option_given : (x : Subcommand) (words : List Text) → level_fault (leaf x) [] nothing_held words false [] ≡ [] → is_some (first_of (option_of x) (rows_after (leaf x).rules [] words)) ≡ true
-option_given x words f =
-    let p = level_passes (leaf x) [] words false [] f in
-    let fine = walk_fine (leaf x) refl [] words (walk_from nothing_held) p.0 (refl, refl) in
-    let rows = rows_after (leaf x).rules [] words in
-    let full : AreFull rows = defaults_full (leaf x).rules _ (settled_full (leaf x) refl (walk (leaf x).rules [] nothing_held words).held p.2 fine.0) in
-    given_first (option_of x) rows (go (is_given (option_of x) rows) (is_given (codes "help") rows) p.3) full
+-- a subcommand of this name, with an option that has to be given and perhaps one that may be
+abbrev leaf_of : Text → Given → Option Given → Shape
+leaf_of name needs takes =
+    built_leaf (inherited above (with_option false takes (with_option true (Some needs) (new_app name))).top)
+
+-- where its level passes, the one that has to be given has a value
+one_given : (name : Text) (needs : Given) (takes : Option Given) (words : List Text)
+    → level_fault (leaf_of name needs takes) [] nothing_held words false [] ≡ []
+    → is_some (first_of (option_name needs) (rows_after (leaf_of name needs takes).rules [] words)) ≡ true
+one_given name needs None words f =
+    let s = leaf_of name needs None in
+    let p = level_passes s [] words false [] f in
+    let fine = walk_fine s refl [] words (walk_from nothing_held) p.0 (refl, refl) in
+    let rows = rows_after s.rules [] words in
+    let full : AreFull rows =
+    defaults_full s.rules _ (settled_full s refl (walk s.rules [] nothing_held words).held p.2 fine.0) in
+    given_first (option_name needs) rows
+    (go (is_given (option_name needs) rows) (is_given (codes "help") rows) p.3) full
   where
     go : (a b : Bool) → check_kinds false false (not a || ((false && not b) || false)) ≡ [] → a ≡ true
     go true b f = refl
     go false b f = cc
+one_given name needs (Some takes) words f =
+    let s = leaf_of name needs (Some takes) in
+    let p = level_passes s [] words false [] f in
+    let fine = walk_fine s refl [] words (walk_from nothing_held) p.0 (refl, refl) in
+    let rows = rows_after s.rules [] words in
+    let full : AreFull rows =
+    defaults_full s.rules _ (settled_full s refl (walk s.rules [] nothing_held words).held p.2 fine.0) in
+    given_first (option_name needs) rows
+    (go (is_given (option_name needs) rows) (is_given (option_name takes) rows) (is_given (codes "help") rows) p.3)
+    full
+  where
+    go : (a c b : Bool) → check_kinds false false (not a || ((false && not c) || ((false && not b) || false))) ≡ []
+        → a ≡ true
+    go true c b f = refl
+    go false c b f = cc
+
+-- a subcommand whose level passes has the value of the option that it has to be given
+option_given : (x : Subcommand) (words : List Text) → level_fault (leaf x) [] nothing_held words false [] ≡ []
+    → is_some (needed_in (needs_of x) (rows_after (leaf x).rules [] words)) ≡ true
+option_given Report words f = one_given (codes "report") Originators None words f
+option_given Migrate words f = one_given (codes "migrate") Originators None words f
+option_given Check words f = one_given (codes "check") Config (takes_of Check) words f
+option_given Simulate words f = one_given (codes "simulate") Config None words f
+option_given Play words f = one_given (codes "play") Config None words f
+option_given Run words f = one_given (codes "run") Config None words f
+option_given Version words f = refl
 
 -- each subcommand's name names it
 names_it : (x : Subcommand) → named (name_of x) ≡ Some x
@@ -383,22 +429,23 @@ names_it Report = refl
 names_it Migrate = refl
 names_it Check = refl
 names_it Simulate = refl
+names_it Play = refl
 names_it Run = refl
+names_it Version = refl
 
 -- an order's parts
-abbrev pub Parts : Type 0
-Parts = Subcommand × Text
-
-abbrev pub the_parts : Subcommand → Text → Parts
-the_parts s text = (s, text)
+abbrev pub the_parts : Subcommand → Option Text → Text → Parts
+the_parts s more text = (s, text, more)
 
 abbrev pub found_as : Text → List Row → Option (Text × List Row)
 found_as name rows = Some (name, rows)
 
-order_is_there : (x : Subcommand) (rows : List Row) → is_some (first_of (option_of x) rows) ≡ true → is_some (order_in (found_as (name_of x) rows)) ≡ true
-order_is_there x rows has = rw (names_it x) (go (first_of (option_of x) rows) has)
+order_is_there : (x : Subcommand) (rows : List Row) → is_some (needed_in (needs_of x) rows) ≡ true
+    → is_some (order_in (found_as (name_of x) rows)) ≡ true
+order_is_there x rows has = rw (names_it x) (go (needed_in (needs_of x) rows) has)
   where
-    go : (o : Option Text) → is_some o ≡ true → is_some {T = Parts} (option_and_then (λ (text : Text). Some (x, text)) o) ≡ true
+    go : (o : Option Text) → is_some o ≡ true
+        → is_some {T = Parts} (option_and_then (λ (text : Text). Some (x, text, given_in (takes_of x) rows)) o) ≡ true
     go None h = absurd (true≢false (sym h))
     go (Some text) h = refl
 
@@ -453,16 +500,23 @@ pub not_none : (words : List Text) (found : Option (Text × List Row)) → fault
 not_none words found f same none =
     let some = order_given words f in
     let is : None ≡ order_in (subcommand_of program words) = none ∙ ap order_in same in
-    true≢false (sym some ∙ ap (λ (o : Option (Subcommand × Text)). is_some o) (sym is))
+    true≢false (sym some ∙ ap (λ (o : Option Parts). is_some o) (sym is))
 
 -- ---- the order at the subcommand that was used
 
-pub order_found : (all : Option (Text × List Row)) (name : Text) (rows : List Row) (s : Subcommand) (o : Option Text) → all ≡ found_as name rows → Some s ≡ named name
-    → o ≡ first_of (option_of s) rows → option_map (λ (text : Text). the_parts s text) o ≡ order_in all
-order_found all name rows s o is found text =
-    go o ∙ ap (λ (t : Option Text). option_and_then (λ (text : Text). Some (the_parts s text)) t) text
-    ∙ ap (option_and_then (λ (x : Subcommand). option_and_then (λ (text : Text). Some (the_parts x text)) (first_of (option_of x) rows))) found ∙ ap order_in (sym is)
+pub order_found : (all : Option (Text × List Row)) (name : Text) (rows : List Row) (s : Subcommand)
+    (o more : Option Text) → all ≡ found_as name rows → Some s ≡ named name → o ≡ needed_in (needs_of s) rows
+    → more ≡ given_in (takes_of s) rows → option_map (the_parts s more) o ≡ order_in all
+order_found all name rows s o more is found text besides =
+    go o more ∙ ap (λ (m : Option Text). option_and_then (λ (text : Text). Some (the_parts s m text)) o) besides
+    ∙ ap (λ (t : Option Text).
+    option_and_then (λ (text : Text). Some (the_parts s (given_in (takes_of s) rows) text)) t) text
+    ∙ ap (option_and_then (λ (x : Subcommand).
+    option_and_then (λ (text : Text). Some (the_parts x (given_in (takes_of x) rows) text))
+    (needed_in (needs_of x) rows))) found
+    ∙ ap order_in (sym is)
   where
-    go : (o : Option Text) → option_map (λ (text : Text). the_parts s text) o ≡ option_and_then (λ (text : Text). Some (the_parts s text)) o
-    go None = refl
-    go (Some text) = refl
+    go : (o more : Option Text) → option_map (the_parts s more) o
+        ≡ option_and_then (λ (text : Text). Some (the_parts s more text)) o
+    go None more = refl
+    go (Some text) more = refl

@@ -1,53 +1,84 @@
 -- The program's words, as `clap` reads them.
-use Rattle.std.specs.Prelude.{◌≡◌, ◌≢◌, ℕ, ◌+◌, ◌⊎◌, true, List, [], ◌∷◌, codes, find, Option, Some, Result, Ok, Err, OnOk, IfErr}
+use Rattle.std.specs.Prelude.{◌≡◌, ◌≢◌, ℕ, ◌+◌, ◌⊎◌, Bool, true, false, List, [], ◌∷◌, ◌++◌, codes, find, Option, Some, None, option_map, Result, Ok, Err, OnOk, IfErr}
 use Rattle.std.specs.Str.{bytes_eq}
 use Rattle.ether_wire.specs.Spelling.{◌>>=◌}
-use Rattle.clap.specs.Words.{App, Row, Rule, Text, first_of, new_app, new_rule, subcommand_of, subcommand_rows_of, with_rule, with_subcommand, fault_of, IsAmong, kind_of}
+use Rattle.clap.specs.Words.{App, Row, Rule, Text, first_of, new_app, new_rule, subcommand_of, subcommand_rows_of, with_subcommand, fault_of, IsAmong, kind_of}
 use Rattle.clap.specs.declared.builder.ArgAction.TheVariants.{Set}
 use Rattle.clap.specs.declared.error.Error.{Error}
 use Rattle.clap.specs.declared.error.kind.ErrorKind.TheVariants.{OutOfMemory}
 use Rattle.clap.specs.declared.parser.matches.ArgMatches.{ArgMatches}
 use Rattle.ev_words.specs.declared.words.Subcommand.{Subcommand}
-use Rattle.ev_words.specs.declared.words.Subcommand.TheVariants.{Report, Migrate, Check, Simulate, Run}
+use Rattle.ev_words.specs.declared.words.Subcommand.TheVariants.{Report, Migrate, Check, Simulate, Play, Run, Version}
+use Rattle.ev_words.specs.declared.words.Given.{Given}
+use Rattle.ev_words.specs.declared.words.Given.TheVariants.{Originators, Config, Script}
 use Rattle.ev_words.specs.declared.words.Order.{Order}
 use Rattle.ev_words.specs.declared.words.ClapParser.{ClapParser}
 use Rattle.ev_words.specs.declared.words.Refusal.{Refusal}
 use Rattle.ev_words.specs.declared.words.Refusal.TheVariants.{Usage, NoMemory}
 
--- ---- the subcommands, each with its one option
+-- ---- the subcommands, each with its options
 
 abbrev pub subcommands : List Subcommand
-subcommands = Report ∷ Migrate ∷ Check ∷ Simulate ∷ Run ∷ []
+subcommands = Report ∷ Migrate ∷ Check ∷ Simulate ∷ Play ∷ Run ∷ Version ∷ []
 
 abbrev pub name_of : Subcommand → Text
 name_of Report = codes "report"
 name_of Migrate = codes "migrate"
 name_of Check = codes "check"
 name_of Simulate = codes "simulate"
+name_of Play = codes "play"
 name_of Run = codes "run"
+name_of Version = codes "version"
 
-abbrev pub option_of : Subcommand → Text
-option_of Report = codes "originators"
-option_of Migrate = codes "originators"
-option_of Check = codes "config"
-option_of Simulate = codes "config"
-option_of Run = codes "config"
+abbrev pub option_name : Given → Text
+option_name Originators = codes "originators"
+option_name Config = codes "config"
+option_name Script = codes "script"
+
+-- the option that it has to be given
+abbrev pub needs_of : Subcommand → Option Given
+needs_of Report = Some Originators
+needs_of Migrate = Some Originators
+needs_of Check = Some Config
+needs_of Simulate = Some Config
+needs_of Play = Some Config
+needs_of Run = Some Config
+needs_of Version = None
+
+-- the option that it may be given besides
+abbrev pub takes_of : Subcommand → Option Given
+takes_of Report = None
+takes_of Migrate = None
+takes_of Check = Some Script
+takes_of Simulate = None
+takes_of Play = None
+takes_of Run = None
+takes_of Version = None
 
 -- ---- the command
 
--- `--NAME VALUE`, which has to be there
-abbrev pub option_rule : Text → Rule
-option_rule name = record (new_rule name) { long = Some name; action = Some Set; value_names = 1; required = true }
+-- `--NAME VALUE`, which has to be there or may be
+abbrev pub option_rule : Bool → Text → Rule
+option_rule is_required name =
+    record (new_rule name) { long = Some name; action = Some Set; value_names = 1; required = is_required }
+
+abbrev pub option_rules : Bool → Option Given → List Rule
+option_rules is_required None = []
+option_rules is_required (Some option) = option_rule is_required (option_name option) ∷ []
+
+abbrev pub with_option : Bool → Option Given → App → App
+with_option is_required option a =
+    record a { top = record a.top { rules = a.top.rules ++ option_rules is_required option } }
 
 -- a subcommand
 abbrev pub order_app : Subcommand → App
-order_app s = with_rule (new_app (name_of s)) (option_rule (option_of s))
+order_app s = with_option false (takes_of s) (with_option true (needs_of s) (new_app (name_of s)))
 
 abbrev pub with_subcommands : App → List Subcommand → App
 with_subcommands a [] = a
 with_subcommands a (s ∷ ss) = with_subcommands (with_subcommand a (order_app s).top) ss
 
--- `evpnd SUBCOMMAND --OPTION VALUE`
+-- `evpnd SUBCOMMAND --OPTION VALUE ..`
 abbrev pub program : App
 program =
     let all = with_subcommands (new_app (codes "evpnd")) subcommands in
@@ -58,19 +89,33 @@ program =
 abbrev pub named : Text → Option Subcommand
 named name = find (λ s. bytes_eq name (name_of s)) subcommands
 
--- the subcommand of this name, with its option's text among the matches
-abbrev pub order_in : Option (Text × List Row) → Option (Subcommand × Text)
+-- the text of an option that has to be there, among the matches; none is nothing
+abbrev pub needed_in : Option Given → List Row → Option Text
+needed_in None rows = Some []
+needed_in (Some option) rows = first_of (option_name option) rows
+
+-- the text of an option that may be there
+abbrev pub given_in : Option Given → List Row → Option Text
+given_in None rows = None
+given_in (Some option) rows = first_of (option_name option) rows
+
+-- a subcommand, the text of what it has to be given, and of what it may be given
+abbrev pub Parts : Type 0
+Parts = Subcommand × Text × Option Text
+
+-- the subcommand of this name, with its options' texts among the matches
+abbrev pub order_in : Option (Text × List Row) → Option Parts
 order_in found = do
   f ← found
   s ← named f.0
-  text ← first_of (option_of s) f.1
-  Some (s, text)
+  text ← needed_in (needs_of s) f.1
+  Some (s, text, given_in (takes_of s) f.1)
 
-abbrev pub parts_of : Order → Subcommand × Text
-parts_of order = (order.subcommand, order.value.now)
+abbrev pub parts_of : Order → Parts
+parts_of order = (order.subcommand, order.value.now, option_map (λ text. text.now) order.more)
 
 -- the words have no fault, and are this order
-abbrev pub Spells : List Text → Subcommand × Text → Type 0
+abbrev pub Spells : List Text → Parts → Type 0
 Spells words order = (fault_of program words ≡ []) × (order_in (subcommand_of program words) ≡ Some order)
 
 -- ---- reading

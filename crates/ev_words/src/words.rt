@@ -1,8 +1,8 @@
 //! The program's words.
-ghost use Rattle.std.specs.Prelude.{◌≡◌, ◌≢◌, ◌+◌, ◌<◌, ◌^◌, map, string_bytes, IfOk, OnOk, OnErr, ℕ, option_map, false};
-ghost use Rattle.clap.specs.Words.{app_of, kind_of, rule_of, subcommand_rows_of, with_subcommand};
+ghost use Rattle.std.specs.Prelude.{◌≡◌, ◌≢◌, ◌+◌, ◌<◌, ◌^◌, map, string_bytes, IfOk, OnOk, OnErr, ℕ, Option, option_map, false};
+ghost use Rattle.clap.specs.Words.{app_of, found_of, kind_of, rows_of, rule_of, subcommand_rows_of, with_subcommand};
 ghost use Rattle.clap.specs.declared.builder.command.Command.TheViews.{out-Command};
-ghost use Rattle.ev_words.specs.Words.{name_of, option_of, named, order_in, parts_of, IsAnswer, Parses, Orders, parser_refusals, program, order_app, option_rule};
+ghost use Rattle.ev_words.specs.Words.{name_of, option_name, needs_of, takes_of, named, needed_in, given_in, order_in, parts_of, IsAnswer, Parses, Orders, parser_refusals, program, order_app, option_rule, with_option};
 
 use clap::error::ErrorKind;
 use clap::{Arg, ArgAction, ArgMatches, Command, Error};
@@ -15,20 +15,37 @@ pub enum Subcommand {
     Report,
     /// `evpnd migrate --originators LIST`
     Migrate,
-    /// `evpnd check --config FILE`
+    /// `evpnd check --config FILE`, or `evpnd check --config FILE --script FILE`
     Check,
     /// `evpnd simulate --config FILE`
     Simulate,
+    /// `evpnd play --config FILE`
+    Play,
     /// `evpnd run --config FILE`
     Run,
+    /// `evpnd version`
+    Version,
+}
+
+/// What a subcommand can be given.
+#[derive(Clone, Copy, Debug, PartialEq, Eq)]
+pub(crate) enum Given {
+    /// `--originators LIST`
+    Originators,
+    /// `--config FILE`
+    Config,
+    /// `--script FILE`
+    Script,
 }
 
 /// What the program is to do.
 #[derive(Clone, Copy, Debug, Drop)]
 pub struct Order<'a> {
     pub subcommand: Subcommand,
-    /// The value of the subcommand's option.
+    /// The value of the option that the subcommand has to be given; nothing where there is none.
     pub value: &'a str,
+    /// The value of the one that it may be given besides, where it was.
+    pub more: Option<&'a str>,
 }
 
 /// Why the words are no order.
@@ -50,37 +67,32 @@ impl Subcommand {
             Subcommand::Migrate => "migrate",
             Subcommand::Check => "check",
             Subcommand::Simulate => "simulate",
+            Subcommand::Play => "play",
             Subcommand::Run => "run",
+            Subcommand::Version => "version",
         }
     }
 
-    /// The option that it has to be given.
-    fn option<'a>(self) -> &'a str
-        ensures { result.now ≡ option_of self }
+    /// The option that it has to be given, if there is one.
+    fn needs(self) -> Option<Given>
+        ensures { result ≡ needs_of self }
     {
         match self {
-            Subcommand::Report | Subcommand::Migrate => "originators",
-            Subcommand::Check | Subcommand::Simulate | Subcommand::Run => "config",
+            Subcommand::Report | Subcommand::Migrate => Some(Given::Originators),
+            Subcommand::Check | Subcommand::Simulate | Subcommand::Play | Subcommand::Run => {
+                Some(Given::Config)
+            }
+            Subcommand::Version => None,
         }
     }
 
-    /// What help calls the option's value.
-    fn value_name<'a>(self) -> &'a str {
+    /// The option that it may be given besides, if there is one.
+    fn takes(self) -> Option<Given>
+        ensures { result ≡ takes_of self }
+    {
         match self {
-            Subcommand::Report | Subcommand::Migrate => "LIST",
-            Subcommand::Check | Subcommand::Simulate | Subcommand::Run => "FILE",
-        }
-    }
-
-    /// What the option's value is.
-    fn value_help<'a>(self) -> &'a str {
-        match self {
-            Subcommand::Report | Subcommand::Migrate => {
-                "1 to 64 different IPv4 addresses with commas between them"
-            }
-            Subcommand::Check | Subcommand::Simulate | Subcommand::Run => {
-                "The path of a configuration, a TOML document"
-            }
+            Subcommand::Check => Some(Given::Script),
+            _ => None,
         }
     }
 
@@ -91,7 +103,9 @@ impl Subcommand {
             Subcommand::Migrate => "Write records of versions 1 and 2 anew in version 3",
             Subcommand::Check => "Tell whether a configuration is right, or where it is wrong",
             Subcommand::Simulate => "Run a script of events on the edges of a configuration",
+            Subcommand::Play => "Simulate, and print each command before what becomes of it",
             Subcommand::Run => "Carry frames: run the edges of a configuration over UDP sockets",
+            Subcommand::Version => "Print the version",
         }
     }
 
@@ -138,14 +152,20 @@ Reads the configuration in FILE, as docs/configuration.md describes it; standard
 If it is right, standard output has how many edges, ports and VNIs it has. Else standard error has
 where its first fault is, what stands there and what is allowed.
 
+Where it is right and --script names a script, that is read too, and nothing of it is run. Standard
+error has a line for each of its lines that `simulate` would refuse: FILE:LINE: and why. If there is
+none, standard output has how many lines it has.
+
 Status, the greatest that applies:
-  0  the configuration is right
-  2  it has a fault; or the words are wrong, or ask for help
+  0  the configuration is right, and so is the script
+  1  a line of the script is no command
+  2  the configuration has a fault; or the words are wrong, or ask for help
   3  memory was refused
-  4  FILE can't be read, or writing failed
+  4  a FILE can't be read, or writing failed
 
 Example:
-  evpnd check --config fabric.toml"
+  evpnd check --config fabric.toml
+  evpnd check --config fabric.toml --script story"
             }
             Subcommand::Simulate => {
                 "\
@@ -162,6 +182,22 @@ Status, the greatest that applies:
 
 Example:
   evpnd simulate --config fabric.toml < script"
+            }
+            Subcommand::Play => {
+                "\
+Does what `simulate` does, for people: standard output has each command's line, behind `> `, before
+what becomes of it. Empty lines are skipped, and those that begin with `#`. Standard error has the
+number of the first other line that is no command, which ends the run.
+
+Status, the greatest that applies:
+  0  all lines were run
+  1  a line is no command
+  2  the configuration has a fault; or the words are wrong, or ask for help
+  3  memory was refused
+  4  FILE can't be read, or reading or writing failed
+
+Example:
+  evpnd play --config fabric.toml < script"
             }
             Subcommand::Run => {
                 "\
@@ -181,6 +217,48 @@ Status, the greatest that applies:
 Example:
   evpnd run --config fabric.toml"
             }
+            Subcommand::Version => {
+                "\
+Standard output has `evpnd` and the version. Nothing is read.
+
+Status, the greatest that applies:
+  0  it was written
+  2  the words are wrong, or ask for help
+  4  writing failed
+
+Example:
+  evpnd version"
+            }
+        }
+    }
+}
+
+impl Given {
+    /// The option's name.
+    fn name<'a>(self) -> &'a str
+        ensures { result.now ≡ option_name self }
+    {
+        match self {
+            Given::Originators => "originators",
+            Given::Config => "config",
+            Given::Script => "script",
+        }
+    }
+
+    /// What help calls its value.
+    fn value_name<'a>(self) -> &'a str {
+        match self {
+            Given::Originators => "LIST",
+            Given::Config | Given::Script => "FILE",
+        }
+    }
+
+    /// What its value is.
+    fn value_help<'a>(self) -> &'a str {
+        match self {
+            Given::Originators => "1 to 64 different IPv4 addresses with commas between them",
+            Given::Config => "The path of a configuration, a TOML document",
+            Given::Script => "The path of a script, whose lines are checked too",
         }
     }
 }
@@ -201,26 +279,50 @@ fn named(name: &str) -> Option<Subcommand>
     if name == Subcommand::Simulate.name() {
         return Some(Subcommand::Simulate);
     }
+    if name == Subcommand::Play.name() {
+        return Some(Subcommand::Play);
+    }
     if name == Subcommand::Run.name() {
         return Some(Subcommand::Run);
+    }
+    if name == Subcommand::Version.name() {
+        return Some(Subcommand::Version);
     }
     None
 }
 
-/// A subcommand's option, which has to be there.
-fn option_arg<'a>(alloc: Global, subcommand: Subcommand) -> Arg<'a>
-    ensures rule { rule_of result ≡ option_rule (option_of subcommand) }
+/// An option, which has to be there or may be.
+fn option_arg<'a>(alloc: Global, option: Given, is_required: bool) -> Arg<'a>
+    ensures rule { rule_of result ≡ option_rule is_required (option_name option) }
     ensures local { result.global ≡ false }
 {
-    Arg::new(alloc, subcommand.option())
-        .long(subcommand.option())
+    Arg::new(alloc, option.name())
+        .long(option.name())
         .action(ArgAction::Set)
-        .value_name(subcommand.value_name())
-        .help(subcommand.value_help())
-        .required(true)
+        .value_name(option.value_name())
+        .help(option.value_help())
+        .required(is_required)
 }
 
-/// A subcommand with its option.
+/// A command with an option more, if there is one.
+fn with_option<'a>(
+    alloc: Global,
+    command: Command<'a>,
+    option: Option<Given>,
+    is_required: bool,
+) -> Result<Command<'a>, AllocError>
+    requires { (out-Command command).has_globals ≡ false }
+    ensures app { IfOk result
+        (λ c. app_of c ≡ with_option is_required option (app_of command.entry)) }
+    ensures local { IfOk result (λ c. (out-Command c).has_globals ≡ false) }
+{
+    match option {
+        None => Ok(command),
+        Some(option) => command.arg(option_arg(alloc, option, is_required)),
+    }
+}
+
+/// A subcommand with its options.
 fn order_command<'a>(alloc: Global, subcommand: Subcommand) -> Result<Command<'a>, AllocError>
     ensures app { IfOk result (λ c. app_of c ≡ order_app subcommand) }
     ensures local { IfOk result (λ c. (out-Command c).has_globals ≡ false) }
@@ -228,11 +330,12 @@ fn order_command<'a>(alloc: Global, subcommand: Subcommand) -> Result<Command<'a
     let command = Command::new(alloc, subcommand.name())
         .about(subcommand.about())
         .after_help(subcommand.help());
-    command.arg(option_arg(alloc, subcommand))
+    let needing = with_option(alloc, command, subcommand.needs(), true)?;
+    with_option(alloc, needing, subcommand.takes(), false)
 }
 
 /// What the program does, and what help tells of all subcommands.
-const ABOUT: &str = "What a stream of EVPN route updates defines, proved from octet to octet";
+const ABOUT: &str = "EVPN edge bridges: what route updates define, proved from octet to octet";
 
 const HELP: &str = "\
 Each subcommand's --help says what it reads and prints, and its statuses: 0 done, 1 broken input,
@@ -262,7 +365,9 @@ fn program<'a>(alloc: Global) -> Result<Command<'a>, AllocError>
     let second = with_order(alloc, first, Subcommand::Migrate)?;
     let third = with_order(alloc, second, Subcommand::Check)?;
     let fourth = with_order(alloc, third, Subcommand::Simulate)?;
-    let command = with_order(alloc, fourth, Subcommand::Run)?;
+    let fifth = with_order(alloc, fourth, Subcommand::Play)?;
+    let sixth = with_order(alloc, fifth, Subcommand::Run)?;
+    let command = with_order(alloc, sixth, Subcommand::Version)?;
     Ok(command.subcommand_required(true))
 }
 
@@ -361,12 +466,39 @@ fn refusal_of(error: Error) -> Refusal
     }
 }
 
+/// The value of the option that has to be there, or nothing where there is none.
+fn needed_in<'a>(option: Option<Given>, matches: &ArgMatches<'a>) -> Option<&'a str>
+    ensures { option_map (λ s. s.now) result
+        ≡ needed_in option (rows_of (found_of matches.now)) }
+{
+    match option {
+        None => Some(""),
+        Some(option) => matches.get_str(option.name()),
+    }
+}
+
+/// The value of the option that may be there.
+fn given_in<'a>(option: Option<Given>, matches: &ArgMatches<'a>) -> Option<&'a str>
+    ensures { option_map (λ s. s.now) result
+        ≡ given_in option (rows_of (found_of matches.now)) }
+{
+    match option {
+        None => None,
+        Some(option) => matches.get_str(option.name()),
+    }
+}
+
 /// The order at the subcommand that was used.
 fn order_in<'a>(matches: &ArgMatches<'a>) -> Option<Order<'a>>
     ensures { option_map parts_of result ≡ order_in (subcommand_rows_of matches.now) }
 {
     let (name, inner) = matches.subcommand()?;
     let subcommand = named(name)?;
-    let value = inner.get_str(subcommand.option())?;
-    Some(Order { subcommand, value })
+    let value = needed_in(subcommand.needs(), inner)?;
+    let more = given_in(subcommand.takes(), inner);
+    Some(Order {
+        subcommand,
+        value,
+        more,
+    })
 }

@@ -6,6 +6,7 @@ use Rattle.ev_config.specs.declared.whole.Config.{Config}
 use Rattle.ev_config.specs.declared.config.ConfigRefusal.{ConfigRefusal}
 use Rattle.ev_config.specs.declared.config.ConfigRefusal.TheVariants as refusal
 use Rattle.evpnd.specs.declared.files.Unread.{Unread}
+use Rattle.evpnd.specs.declared.files.Named.TheVariants as named
 use Rattle.evpnd.specs.Files.{Text, Shelf, IsTextOf, unread_text}
 use Rattle.ev_report.specs.Ends.{Devices, devices, Holds}
 use Rattle.ev_config.specs.Config.{ConfigOf}
@@ -27,10 +28,11 @@ of_refused for_run uses path s s' d status more is = inl (record { refused = mor
 
 -- the file has no text
 pub of_unread : (for_run : Bool) (uses : Uses) (path : Text) (s s' : Shelf) (input : Source) (out a b : End) (r : Result (Unit {0}) Device) (why : Unread) (status : ℕ)
-    → s' ≡ record s { failures = s.failures + 1 } → Puts a b (unread_text path why) r → status ≡ 4
+    → s' ≡ record s { failures = s.failures + 1 } → Puts a b (unread_text named.Config path why) r → status ≡ 4
     → OfFile for_run uses path (desk s (devices input out a)) (desk s' (devices input out b)) status
 of_unread for_run uses path s s' input out a b r why status more put is =
-    inr (inl (record { failed = more; why = why; input = refl; out = refl; noted = holds_put a b r (unread_text path why) put; status_is = is }))
+    let noted = holds_put a b r (unread_text named.Config path why) put in
+    inr (inl (record { failed = more; why = why; input = refl; out = refl; noted = noted; status_is = is }))
 
 -- the file has this text
 pub of_read : (for_run : Bool) (uses : Uses) (path text : Text) (s s' : Shelf) (d d' : Devices) (status : ℕ) → (s' ≡ s) × IsTextOf s path text

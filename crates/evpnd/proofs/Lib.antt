@@ -1,2 +1,4 @@
 pub mod Filed
 pub mod Telling
+pub mod Versions
+pub mod Scripted

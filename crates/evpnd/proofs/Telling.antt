@@ -1,17 +1,14 @@
 -- What is told of the words.
-use Rattle.std.proofs.Common.{◌≡◌, ◌≢◌, inl, inr, ℕ, ◌+◌, Bool, true, false, cond, List, [], ◌∷◌, Result, Ok, Err, MatchResult, is_ok, refl, ap, subst, ◌∙◌, arith}
-use Rattle.std.proofs.lemmas.Bool.Decides.{nat_tests}
+use Rattle.std.proofs.Common.{◌≡◌, ◌≢◌, inl, inr, ℕ, ◌+◌, true, false, cond, List, [], ◌∷◌, Result, Ok, Err, is_ok, refl, ap, ◌∙◌, arith}
 use Rattle.ether_wire.specs.declared.ends.Device.{Device}
-use Rattle.ether_wire.specs.Ends.{End, Source, Puts}
+use Rattle.ether_wire.specs.Ends.{End, Puts}
 use Rattle.clap.specs.Words.{IsAmong, fault_of}
 use Rattle.clap.specs.Kinds.{Kinds}
 use Rattle.clap.specs.declared.error.kind.ErrorKind.{ErrorKind}
-use Rattle.ev_report.specs.declared.originators.ListFault.{ListFault}
 use Rattle.ev_words.specs.Words.{program}
-use Rattle.ev_report.specs.Originators.{Text, list_text}
-use Rattle.ev_report.specs.Ends.{Devices, has_failed}
+use Rattle.ev_report.specs.Originators.{Text}
+use Rattle.ev_report.specs.Ends.{Devices}
 use Rattle.evpnd.specs.Files.{Shelf}
-use Rattle.ev_report.specs.Telling.{IsTold, TellsUsage}
 use Rattle.ev_report.proofs.Told.{failed_put}
 use Rattle.evpnd.specs.Checks.{desk, Sums}
 use Rattle.evpnd.specs.Program.{world, TellsFault, RunsWords}

@@ -5,9 +5,11 @@ use Rattle.ev_config.specs.declared.whole.Config.{Config}
 use Rattle.ev_config.specs.declared.config.ConfigRefusal.{ConfigRefusal}
 use Rattle.ev_config.specs.declared.config.ConfigRefusal.TheVariants as refusal
 use Rattle.evpnd.specs.declared.files.Unread.{Unread}
+use Rattle.evpnd.specs.declared.files.Named.{Named}
+use Rattle.evpnd.specs.declared.files.Named.TheVariants as named
 use Rattle.evpnd.specs.Files.{Text, Shelf, IsTextOf, unread_text}
 use Rattle.ev_report.specs.Ends.{Devices, devices, has_failed, Holds}
-use Rattle.ev_report.specs.Telling.{IsTold, TellsUsage}
+use Rattle.ev_report.specs.Telling.{IsTold}
 use Rattle.ev_config.specs.Config.{ConfigOf}
 
 -- the devices and the files
@@ -26,13 +28,13 @@ pub record IsRefusedText (before after : Desk) (status : ℕ) : Type 0 where
   pub devices_kept : after.devices ≡ before.devices
   pub status_is : status ≡ 3
 
--- once more a file had no text, which is told; nothing was read, nothing else written
-pub record IsUnread (path : Text) (before after : Desk) (status : ℕ) : Type 0 where
+-- once more the file of an option had no text, which is told; nothing was read, nothing else written
+pub record IsUnread (option : Named) (path : Text) (before after : Desk) (status : ℕ) : Type 0 where
   pub failed : after.shelf ≡ record before.shelf { failures = before.shelf.failures + 1 }
   pub why : Unread
   pub input : after.devices.input ≡ before.devices.input
   pub out : after.devices.out ≡ before.devices.out
-  pub noted : Holds before.devices.notes after.devices.notes (unread_text path why)
+  pub noted : Holds before.devices.notes after.devices.notes (unread_text option path why)
   pub status_is : status ≡ 4
 
 -- the file has this text, and what it gives for a configuration is used so
@@ -46,7 +48,8 @@ pub record IsRead (for_run : Bool) (uses : Result Config ConfigRefusal → Devic
 
 -- what is done with what a file gives for a configuration
 abbrev pub OfFile : Bool → (Result Config ConfigRefusal → Devices → Devices → ℕ → Type 0) → Text → Desk → Desk → ℕ → Type 0
-OfFile for_run uses path before after status = IsRefusedText before after status ⊎ (IsUnread path before after status ⊎ IsRead for_run uses path before after status)
+OfFile for_run uses path before after status = IsRefusedText before after status
+    ⊎ (IsUnread named.Config path before after status ⊎ IsRead for_run uses path before after status)
 
 -- ---- a check
 

@@ -1,8 +1,10 @@
 -- Files: what they hold, and what became of asking for a text.
-use Rattle.std.specs.Prelude.{◌≡◌, ℕ, ◌+◌, ◌<◌, ◌^◌, List, ◌++◌, codes, string_bytes, String, Option, Some, None, IfSome, Result, Ok, Err}
+use Rattle.std.specs.Prelude.{◌≡◌, ℕ, ◌+◌, ◌<◌, ◌^◌, List, ◌++◌, codes, string_bytes, String, Option, Some, IfSome, Result, Ok, Err}
 use Rattle.std.specs.declared.alloc.Global.{Global}
 use Rattle.evpnd.specs.declared.files.Unread.{Unread}
 use Rattle.evpnd.specs.declared.files.Unread.TheVariants.{Missing, Denied, Directory, NotText, Broken}
+use Rattle.evpnd.specs.declared.files.Named.{Named}
+use Rattle.evpnd.specs.declared.files.Named.TheVariants.{Config, Script}
 use Rattle.evpnd.specs.declared.files.FileFault.{FileFault}
 use Rattle.evpnd.specs.declared.files.FileFault.TheVariants as fault
 
@@ -42,5 +44,9 @@ reason_of Directory = codes "' is a directory\n"
 reason_of NotText = codes "' isn't UTF-8\n"
 reason_of Broken = codes "' couldn't be read\n"
 
-abbrev pub unread_text : Text → Unread → Text
-unread_text path why = codes "error: --config: '" ++ path ++ reason_of why
+abbrev pub lead_of : Named → Text
+lead_of Config = codes "error: --config: '"
+lead_of Script = codes "error: --script: '"
+
+abbrev pub unread_text : Named → Text → Unread → Text
+unread_text named path why = lead_of named ++ path ++ reason_of why

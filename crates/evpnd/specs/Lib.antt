@@ -3,3 +3,5 @@ pub mod Checks
 pub mod Configured
 pub mod Program
 pub mod Used
+pub mod Version
+pub mod Scripts

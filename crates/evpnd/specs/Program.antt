@@ -1,17 +1,20 @@
 -- A run of the program, from its words to its status.
-use Rattle.std.specs.Prelude.{◌≡◌, ◌≢◌, ℕ, ◌+◌, ◌⊎◌, true, false, List, [], codes, map, string_bytes}
+use Rattle.std.specs.Prelude.{◌≡◌, ◌≢◌, ℕ, ◌+◌, ◌⊎◌, true, false, List, [], codes, map, string_bytes, Option}
 use Rattle.ether_wire.specs.Ends.{End}
 use Rattle.clap.specs.Words.{fault_of}
 use Rattle.evpnd.specs.declared.program.Line.{Line}
 use Rattle.evpnd.specs.declared.program.Line.TheVariants.{Words, NotText, NoMemory}
 use Rattle.ev_words.specs.declared.words.Subcommand.{Subcommand}
-use Rattle.ev_words.specs.declared.words.Subcommand.TheVariants.{Report, Migrate, Check, Simulate, Run}
-use Rattle.ev_words.specs.Words.{program, Spells}
+use Rattle.ev_words.specs.declared.words.Subcommand.TheVariants.{Report, Migrate, Check, Simulate, Play, Run, Version}
+use Rattle.ev_words.specs.Words.{Parts, program, Spells}
+use Rattle.ev_script.specs.declared.script.mode.Mode.TheVariants as mode
 use Rattle.ev_report.specs.Originators.{Text}
 use Rattle.ev_report.specs.Telling.{IsTold, TellsUsage, OfList}
 use Rattle.ev_report.specs.Ends.{Devices}
 use Rattle.evpnd.specs.Files.{Shelf}
-use Rattle.evpnd.specs.Checks.{Desk, desk, OfFile, Checks}
+use Rattle.evpnd.specs.Checks.{Desk, desk, OfFile}
+use Rattle.evpnd.specs.Scripts.{ChecksAll}
+use Rattle.evpnd.specs.Version.{TellsVersion}
 use Rattle.ev_report.specs.Runs.{Reports}
 use Rattle.ev_report.specs.Migrations.{Migrates}
 use Rattle.evpnd.specs.Used.{SimulatesFound, RunsFound}
@@ -37,16 +40,21 @@ not_text = codes "error: a word isn't UTF-8\n"
 
 -- ---- orders
 
--- what each subcommand does with its option's value
-abbrev pub FollowsAs : Subcommand → Text → Desk → Desk → ℕ → Type 0
-FollowsAs Report list before after status = (after.shelf ≡ before.shelf) × OfList Reports list before.devices after.devices status
-FollowsAs Migrate list before after status = (after.shelf ≡ before.shelf) × OfList Migrates list before.devices after.devices status
-FollowsAs Check path before after status = OfFile false Checks path before after status
-FollowsAs Simulate path before after status = OfFile false SimulatesFound path before after status
-FollowsAs Run path before after status = OfFile true RunsFound path before after status
+-- what each subcommand does with the value of the option that it needs, and with that of one more
+abbrev pub FollowsAs : Subcommand → Text → Option Text → Desk → Desk → ℕ → Type 0
+FollowsAs Report list more before after status = (after.shelf ≡ before.shelf)
+    × OfList Reports list before.devices after.devices status
+FollowsAs Migrate list more before after status = (after.shelf ≡ before.shelf)
+    × OfList Migrates list before.devices after.devices status
+FollowsAs Check path more before after status = ChecksAll path more before after status
+FollowsAs Simulate path more before after status = OfFile false (SimulatesFound mode.Simulate) path before after status
+FollowsAs Play path more before after status = OfFile false (SimulatesFound mode.Play) path before after status
+FollowsAs Run path more before after status = OfFile true RunsFound path before after status
+FollowsAs Version nothing more before after status = (after.shelf ≡ before.shelf)
+    × TellsVersion before.devices after.devices status
 
-abbrev pub Follows : Subcommand × Text → Desk → Desk → ℕ → Type 0
-Follows order before after status = FollowsAs order.0 order.1 before after status
+abbrev pub Follows : Parts → Desk → Desk → ℕ → Type 0
+Follows order before after status = FollowsAs order.0 order.1 order.2 before after status
 
 -- ---- words
 
@@ -66,7 +74,7 @@ pub record IsRefused (words : List Text) (before after : World) (status : ℕ) :
 
 -- the words are an order, and it is followed
 pub record IsFollowed (words : List Text) (before after : World) (status : ℕ) : Type 0 where
-  pub order : Subcommand × Text
+  pub order : Parts
   pub spells : Spells words order
   pub refusals_kept : after.refusals ≡ before.refusals
   pub follows : Follows order before.desk after.desk status

@@ -4,15 +4,16 @@ use Rattle.ev_config.specs.declared.whole.Config.{Config}
 use Rattle.ev_config.specs.declared.config.ConfigRefusal.{ConfigRefusal}
 use Rattle.ev_report.specs.Ends.{Devices}
 use Rattle.evpnd.specs.Configured.{OfFound}
+use Rattle.ev_script.specs.declared.script.mode.Mode.{Mode}
 use Rattle.ev_script.specs.Simulation.{Simulates}
 use Rattle.ev_run.specs.RunEdges.{RunsConfig}
 
 -- a script is run on the edges of a configuration
-abbrev pub SimulatesEdges : Config → Devices → Devices → ℕ → Type 0
-SimulatesEdges config before after status = Simulates config.edges.items before after status
+abbrev pub SimulatesEdges : Mode → Config → Devices → Devices → ℕ → Type 0
+SimulatesEdges mode config before after status = Simulates mode config.edges.items before after status
 
-abbrev pub SimulatesFound : Result Config ConfigRefusal → Devices → Devices → ℕ → Type 0
-SimulatesFound = OfFound SimulatesEdges
+abbrev pub SimulatesFound : Mode → Result Config ConfigRefusal → Devices → Devices → ℕ → Type 0
+SimulatesFound mode = OfFound (SimulatesEdges mode)
 
 abbrev pub RunsFound : Result Config ConfigRefusal → Devices → Devices → ℕ → Type 0
 RunsFound = OfFound RunsConfig

@@ -1,18 +1,20 @@
 //! `evpnd check`: whether a configuration is right.
-ghost use Rattle.std.specs.Prelude.{◌≡◌, is_ok, if◌then◌else◌, false};
+ghost use Rattle.std.specs.Prelude.{◌≡◌, is_ok, if◌then◌else◌, false, option_map};
 ghost use Rattle.ether_wire.specs.Ends.{Source, IsOpen};
 ghost use Rattle.ev_report.specs.Ends.{devices};
 ghost use Rattle.evpnd.specs.Files.{HasRoom};
 ghost use Rattle.evpnd.specs.Checks.{desk, OfFile, Sums, TellsLine, Checks, ChecksText};
+ghost use Rattle.evpnd.specs.Scripts.{ChecksAll};
 
-use crate::files::{FileFault, Files, put_unread};
+use crate::check_script::check_behind;
+use crate::files::{FileFault, Files, Named, put_unread};
 use ether_wire::{Device, Out};
 use ev_config::{Config, ConfigRefusal, config_of, refusal_line, summary_line};
 use ev_report::{DEVICE, DONE, MEMORY, tell};
 use std::alloc::Global;
 
 /// The status of what was done, by whether it could be written.
-fn done_status(written: Result<(), Device>) -> u8
+pub(crate) fn done_status(written: Result<(), Device>) -> u8
     ensures { result ≡ (if is_ok written then 0 else 4) }
 {
     match written {
@@ -66,7 +68,7 @@ pub(crate) fn unread_status(told: Result<(), Device>) -> u8
 }
 
 /// Checks the configuration in the file at a path.
-pub(crate) fn check<F: Files, W: Out, N: Out>(
+fn check<F: Files, W: Out, N: Out>(
     alloc: Global,
     files: &mut F,
     path: &str,
@@ -84,8 +86,32 @@ pub(crate) fn check<F: Files, W: Out, N: Out>(
         Ok(text) => check_text(alloc, text.as_str(), out, notes),
         Err(FileFault::NoMemory) => (MEMORY, out, notes),
         Err(FileFault::Unread(why)) => {
-            let status = unread_status(put_unread(&mut notes, path.as_bytes(), why));
-            (status, out, notes)
+            let told = put_unread(&mut notes, Named::Config, path.as_bytes(), why);
+            (unread_status(told), out, notes)
         }
+    }
+}
+
+/// Checks the configuration in the file at a path, and where it is right the script in another, if
+/// there is one.
+pub(crate) fn check_all<F: Files, W: Out, N: Out>(
+    alloc: Global,
+    files: &mut F,
+    path: &str,
+    script: Option<&str>,
+    out: W,
+    notes: N,
+) -> (u8, W, N)
+    requires files { HasRoom (F.shelf files.old) }
+    requires out { IsOpen (W.end out) }
+    requires notes { IsOpen (N.end notes) }
+    ensures { (input : Source) → ChecksAll path.now (option_map (λ s. s.now) script.entry)
+        (desk (F.shelf files.old) (devices input (W.end out) (N.end notes)))
+        (desk (F.shelf files.new) (devices input (W.end result.1) (N.end result.2))) result.0 }
+{
+    let (status, out, notes) = check(alloc, files, path, out, notes);
+    match script {
+        None => (status, out, notes),
+        Some(script) => check_behind(status, files, script, out, notes),
     }
 }

@@ -7,7 +7,7 @@ ghost use Rattle.ev_report.specs.Telling.{IsTold};
 ghost use Rattle.evpnd.specs.Configured.{config_text, TextGives, FileGives};
 
 use crate::check::unread_status;
-use crate::files::{FileFault, Files, put_unread};
+use crate::files::{FileFault, Files, Named, put_unread};
 use ether_wire::{Device, Out};
 use ev_config::{Config, ConfigRefusal, config_of};
 use ev_report::{MEMORY, usage_status};
@@ -74,7 +74,8 @@ pub(crate) fn configured<F: Files, N: Out>(
         Ok(text) => configured_by(alloc, text.as_str(), for_run, notes),
         Err(FileFault::NoMemory) => Err(MEMORY),
         Err(FileFault::Unread(why)) => {
-            Err(unread_status(put_unread(notes, path.as_bytes(), why)))
+            let told = put_unread(notes, Named::Config, path.as_bytes(), why);
+            Err(unread_status(told))
         }
     }
 }

@@ -1,7 +1,7 @@
 //! Where the texts of files come from.
 ghost use Rattle.std.specs.Prelude.{◌≡◌, ◌≢◌, None};
 ghost use Rattle.ether_wire.specs.Ends.{IsOpen, Puts};
-ghost use Rattle.evpnd.specs.Files.{Shelf, shelf_of, HasRoom, GivesText, reason_of, unread_text};
+ghost use Rattle.evpnd.specs.Files.{Shelf, shelf_of, HasRoom, GivesText, reason_of, lead_of, unread_text};
 
 use ether_wire::{Device, Out};
 use std::{fs, io};
@@ -19,6 +19,15 @@ pub(crate) enum Unread {
     NotText,
     /// Anything else.
     Broken,
+}
+
+/// Which option names a file.
+#[derive(Clone, Copy)]
+pub(crate) enum Named {
+    /// `--config`
+    Config,
+    /// `--script`
+    Script,
 }
 
 /// Why there is no text of a file.
@@ -114,13 +123,30 @@ impl Unread {
     }
 }
 
+impl Named {
+    /// The words before the path.
+    fn lead(self) -> &'static [u8]
+        ensures { result.now ≡ lead_of self }
+    {
+        match self {
+            Named::Config => b"error: --config: '",
+            Named::Script => b"error: --script: '",
+        }
+    }
+}
+
 /// Writes which file can't be read, and why.
 #[tactic(auto, using(ether_wire::proofs::Appending::with_text_twice))]
-pub(crate) fn put_unread<N: Out>(notes: &mut N, path: &[u8], why: Unread) -> Result<(), Device>
+pub(crate) fn put_unread<N: Out>(
+    notes: &mut N,
+    named: Named,
+    path: &[u8],
+    why: Unread,
+) -> Result<(), Device>
     requires { IsOpen (N.end notes.old) }
-    ensures { Puts (N.end notes.old) (N.end notes.new) (unread_text path.now why) result }
+    ensures { Puts (N.end notes.old) (N.end notes.new) (unread_text named path.now why) result }
 {
-    notes.put(b"error: --config: '")?;
+    notes.put(named.lead())?;
     notes.put(path)?;
     notes.put(why.reason())
 }

@@ -2,11 +2,13 @@
 #![tactic(auto)]
 
 mod check;
+mod check_script;
 mod configured;
 mod files;
 mod program;
 mod run_file;
 mod simulate;
+mod version;
 
 use crate::files::SystemFiles;
 use crate::program::{Line, run};

@@ -1,20 +1,23 @@
 //! A run of the program: from its words, over its devices, to its status.
-ghost use Rattle.std.specs.Prelude.{◌≡◌, ◌≢◌, ◌+◌, ◌<◌, ◌^◌, map, string_bytes, [], is_ok, if◌then◌else◌, false};
+ghost use Rattle.std.specs.Prelude.{◌≡◌, ◌≢◌, ◌+◌, ◌<◌, ◌^◌, map, string_bytes, [], is_ok, if◌then◌else◌, option_map};
 ghost use Rattle.ether_wire.specs.Ends.{IsOpen};
 ghost use Rattle.clap.specs.Words.{fault_of};
 ghost use Rattle.ev_report.specs.Ends.{AreOpen};
 ghost use Rattle.ev_words.specs.Words.{program, parts_of};
 ghost use Rattle.evpnd.specs.Files.{HasRoom};
-ghost use Rattle.evpnd.specs.Checks.{desk, OfFile, Checks};
+ghost use Rattle.evpnd.specs.Checks.{desk};
+ghost use Rattle.evpnd.specs.Scripts.{ChecksAll};
 ghost use Rattle.evpnd.specs.Program.{world, TellsFault, not_text, FollowsAs, Follows, RunsWords, RunsProgram};
 
-use crate::check::check;
+use crate::check::check_all;
 use crate::files::Files;
 use crate::run_file::run_file;
 use crate::simulate::simulate;
+use crate::version::version;
 use clap::Error;
 use ether_wire::{In, Out};
 use ev_report::{Devices, MEMORY, migrate_list, report_list, tell, tell_words};
+use ev_script::Mode;
 use ev_words::{Order, Parser, Refusal, Subcommand, order_of};
 use std::alloc::Global;
 use std::net::Net;
@@ -46,20 +49,21 @@ fn tell_fault<P: Parser, N: Out>(parser: &mut P, error: &Error, notes: &mut N) -
     }
 }
 
-/// Checks the configuration in the file at a path, whatever is on the input.
+/// Checks the configuration in the file at a path, and a script, whatever is on the input.
 fn check_on<F: Files, R: In, W: Out, N: Out>(
     alloc: Global,
     files: &mut F,
     path: &str,
+    script: Option<&str>,
     devices: Devices<R, W, N>,
 ) -> (u8, Devices<R, W, N>)
     requires files { HasRoom (F.shelf files.old) }
     requires devices { AreOpen devices }
-    ensures { OfFile false Checks path.now (desk (F.shelf files.old) devices)
-        (desk (F.shelf files.new) result.1) result.0 }
+    ensures { ChecksAll path.now (option_map (λ s. s.now) script.entry)
+        (desk (F.shelf files.old) devices) (desk (F.shelf files.new) result.1) result.0 }
 {
     let Devices { reader, out, notes } = devices;
-    let (status, out, notes) = check(alloc, files, path, out, notes);
+    let (status, out, notes) = check_all(alloc, files, path, script, out, notes);
     (status, Devices { reader, out, notes })
 }
 
@@ -79,9 +83,11 @@ fn follow<H: Threads + Wait + Net + Clock + Sync, F: Files, R: In, W: Out, N: Ou
     match order.subcommand {
         Subcommand::Report => report_list(alloc, order.value, devices),
         Subcommand::Migrate => migrate_list(alloc, order.value, devices),
-        Subcommand::Check => check_on(alloc, files, order.value, devices),
-        Subcommand::Simulate => simulate(alloc, files, order.value, devices),
+        Subcommand::Check => check_on(alloc, files, order.value, order.more, devices),
+        Subcommand::Simulate => simulate(alloc, Mode::Simulate, files, order.value, devices),
+        Subcommand::Play => simulate(alloc, Mode::Play, files, order.value, devices),
         Subcommand::Run => run_file(rt, alloc, files, order.value, devices),
+        Subcommand::Version => version(devices),
     }
 }
 

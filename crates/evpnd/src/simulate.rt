@@ -1,4 +1,4 @@
-//! `evpnd simulate`: a script on the edges of a configuration.
+//! `evpnd simulate` and `evpnd play`: a script on the edges of a configuration.
 ghost use Rattle.std.specs.Prelude.{false};
 ghost use Rattle.ev_report.specs.Ends.{AreOpen};
 ghost use Rattle.evpnd.specs.Files.{HasRoom};
@@ -9,24 +9,25 @@ use crate::configured::configured;
 use crate::files::Files;
 use ether_wire::{In, Out};
 use ev_report::Devices;
-use ev_script::simulate_buffered;
+use ev_script::{Mode, simulate_buffered};
 use std::alloc::Global;
 
 /// Runs a script on the edges that the file at a path configures.
 pub(crate) fn simulate<F: Files, R: In, W: Out, N: Out>(
     alloc: Global,
+    mode: Mode,
     files: &mut F,
     path: &str,
     devices: Devices<R, W, N>,
 ) -> (u8, Devices<R, W, N>)
     requires files { HasRoom (F.shelf files.old) }
     requires devices { AreOpen devices }
-    ensures { OfFile false SimulatesFound path.now (desk (F.shelf files.old) devices)
+    ensures { OfFile false (SimulatesFound mode) path.now (desk (F.shelf files.old) devices)
         (desk (F.shelf files.new) result.1) result.0 }
 {
     let mut devices = devices;
     match configured(alloc, files, path, false, &mut devices.notes) {
-        Ok(config) => simulate_buffered(alloc, config.edges, devices),
+        Ok(config) => simulate_buffered(alloc, mode, config.edges, devices),
         Err(status) => (status, devices),
     }
 }

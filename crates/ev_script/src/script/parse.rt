@@ -8,7 +8,7 @@ use ether_wire::{Addr, Mac, Vni, parted, read_decimal};
 use mac_arena::Station;
 
 /// The octets that a line may have, without its line feed.
-const MOST_OCTETS: usize = 20_000;
+pub(crate) const MOST_OCTETS: usize = 20_000;
 
 /// The greatest number of 18 digits.
 const MOST_NUMBER: u64 = 999_999_999_999_999_999;
@@ -20,7 +20,7 @@ const MOST_SECONDS: u64 = 100_000;
 const LAST_LIFE: u64 = 0xffff_ffff;
 
 /// A decimal number of 1 to 18 digits, without leading zeros.
-fn number(word: &[u8]) -> Option<u64>
+pub(crate) fn number(word: &[u8]) -> Option<u64>
     ensures { result ≡ number word.now }
 {
     read_decimal(word, MOST_NUMBER)
@@ -81,7 +81,7 @@ fn later_verb(word: &[u8]) -> Option<Verb>
 }
 
 /// The verb of this name.
-fn verb_of(word: &[u8]) -> Option<Verb>
+pub(crate) fn verb_of(word: &[u8]) -> Option<Verb>
     ensures { result ≡ verb_in verbs word.now }
 {
     if word == b"up".as_slice() {

@@ -1,15 +1,17 @@
 //! A fabric that is played, command by command.
 ghost use Rattle.std.specs.Prelude.{◌≡◌, ◌+◌, ◌<◌, ◌^◌, [], ◌∷◌, length, true, false, ℕ, Option, Some, None};
 ghost use Rattle.ether_wire.specs.Ends.{IsOpen};
+ghost use Rattle.ev_report.specs.Ends.{Tells};
 ghost use Rattle.ev_script.specs.Printing.{PutsSome, Minds};
-ghost use Rattle.ev_script.specs.Script.{cut_line};
+ghost use Rattle.ev_script.specs.Shown.{shown_text};
 ghost use Rattle.ev_script.specs.Simulation.{port_number, is_starved};
 
-use crate::script::{Command, Hex, parse};
+use crate::script::{Command, Hex, Mode, cut_line, parse};
+use crate::simulate::showing::put_shown;
 use crate::simulate::telling::{
     put_bpdus, put_number, put_port, put_refusal, put_reply, put_report, put_words,
 };
-use ether_wire::{Addr, Device, Out, parted};
+use ether_wire::{Addr, Device, Out};
 use ev_edge::{Edge, EdgeRefusal, Reply};
 use ev_fabric::{Fabric, LocalEvent, Refusal, Step};
 
@@ -136,22 +138,11 @@ fn put_report_of<W: Out>(fabric: &Fabric, edge: u64, out: &mut W) -> Result<(), 
     }
 }
 
-/// The first line, and what follows its line feed.
-fn cut_line(text: &[u8]) -> (&[u8], &[u8])
-    ensures value { (result.0.now, result.1.now) ≡ cut_line text.now }
-    ensures shorter { 0 < length text.now → length result.1.now < length text.now }
-{
-    match parted(b'\n', text) {
-        Some((line, rest)) => (line, rest),
-        None => text.split_at(text.len()),
-    }
-}
-
 impl Player {
     ghost use Rattle.ev_fabric.specs.declared.step.Step.TheVariants.{Local, Announce};
     ghost use Rattle.ev_fabric.specs.declared.step.LocalEvent.TheVariants.{Second};
     ghost use Rattle.ev_script.specs.Script.{command_of, octets_of, second, frame, tunnel};
-    ghost use Rattle.ev_script.specs.Playing.{Makes, MakesOne, Performs, PlaysTo};
+    ghost use Rattle.ev_script.specs.Playing.{Makes, MakesOne, Performs, PlaysLine, PlaysTo};
 
     /// A fabric of which nothing was asked yet.
     pub(crate) fn new(fabric: Fabric) -> Player
@@ -319,10 +310,39 @@ impl Player {
         }
     }
 
-    /// Runs the lines of a script up to its end or its first bad line: the latter's number.
-    pub(crate) fn play<W: Out>(&mut self, script: &[u8], out: &mut W) -> Option<u64>
+    /// Prints a command's line, where that is wanted.
+    fn show<W: Out>(&mut self, mode: Mode, line: &[u8], out: &mut W)
         requires { self.old.is_told ≡ true → IsOpen (W.end out.old) }
-        ensures played { PlaysTo script.now self.old self.new result }
+        ensures made { Makes [] self.old self.new }
+        ensures told { Tells (W.end out.old) (W.end out.new) self.old.is_told self.new.is_told
+            (shown_text mode line.now) }
+    {
+        self.is_told = self.is_told && put_shown(out, mode, line).is_ok();
+    }
+
+    /// Does what a line asks for: whether it isn't a bad one.
+    fn line<W: Out>(&mut self, mode: Mode, line: &[u8], out: &mut W) -> bool
+        requires { self.old.is_told ≡ true → IsOpen (W.end out.old) }
+        ensures played { PlaysLine mode line.now self.old self.new result }
+        ensures told { Minds (W.end out.old) (W.end out.new) self.old.is_told self.new.is_told }
+    {
+        if mode.skips(line) {
+            return true;
+        }
+        match parse(line) {
+            None => false,
+            Some((edge, command)) => {
+                self.show(mode, line, out);
+                self.perform(edge, &command, out);
+                true
+            }
+        }
+    }
+
+    /// Runs the lines of a script up to its end or its first bad line: the latter's number.
+    pub(crate) fn play<W: Out>(&mut self, mode: Mode, script: &[u8], out: &mut W) -> Option<u64>
+        requires { self.old.is_told ≡ true → IsOpen (W.end out.old) }
+        ensures played { PlaysTo mode script.now self.old self.new result }
         ensures told { Minds (W.end out.old) (W.end out.new) self.old.is_told self.new.is_told }
     {
         let mut rest = script;
@@ -330,9 +350,8 @@ impl Player {
         'lines: while !rest.is_empty() {
             let (line, after) = cut_line(rest);
             number += 1;
-            match parse(line) {
-                Some((edge, command)) => self.perform(edge, &command, out),
-                None => return Some(number),
+            if !self.line(mode, line, out) {
+                return Some(number);
             }
             rest = after;
         }

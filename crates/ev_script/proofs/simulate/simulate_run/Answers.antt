@@ -7,7 +7,9 @@ pub returns-in-Ok : goal.returns-in-Ok
 returns-in-Ok g c = record {
   script = Ok c.in-Ok.script.items;
   read = c.in-Ok.ensures;
-  plays = subst (λ (s : List ℕ). PlaysRead c.args.configs.items (Ok s) (g.W.Out.end c.args.out.now) (g.W.Out.end c.open_and_play.new.out) (g.N.Out.end c.args.notes.now) (g.N.Out.end c.open_and_play.new.notes) c.open_and_play.result)
+  plays = subst (λ (s : List ℕ). PlaysRead c.args.mode c.args.configs.items (Ok s) (g.W.Out.end c.args.out.now)
+      (g.W.Out.end c.open_and_play.new.out) (g.N.Out.end c.args.notes.now) (g.N.Out.end c.open_and_play.new.notes)
+      c.open_and_play.result)
       c.as_slice.ensures.value c.open_and_play.ensures;
 }
 
@@ -15,5 +17,6 @@ pub returns-in-Err : goal.returns-in-Err
 returns-in-Err g c = record {
   script = Err c.in-Err.unread;
   read = c.in-Err.ensures;
-  plays = plays_unread c.args.configs.items c.in-Err.unread (g.W.Out.end c.args.out.now) (g.N.Out.end c.args.notes.now) c.unread_status.result c.unread_status.ensures;
+  plays = plays_unread c.args.mode c.args.configs.items c.in-Err.unread (g.W.Out.end c.args.out.now)
+      (g.N.Out.end c.args.notes.now) c.unread_status.result c.unread_status.ensures;
 }

@@ -1,8 +1,7 @@
 use Rattle.std.proofs.Common.{rules, sym, ap, List, Option, Some, None, option_map, ◌≡◌, ◌∙◌, refl}
-use Rattle.clap.specs.Words.{Row, Text, rows_of, found_of, first_of, subcommand_rows_of}
-use Rattle.clap.proofs.WalkLemmas.{first_value-rows}
+use Rattle.clap.specs.Words.{Row, Text, rows_of, found_of, subcommand_rows_of}
 use Rattle.ev_words.specs.declared.words.Order.{Order}
-use Rattle.ev_words.specs.Words.{option_of, parts_of}
+use Rattle.ev_words.specs.Words.{needs_of, takes_of, needed_in, given_in, parts_of}
 use Rattle.ev_words.proofs.Given.{found_as, order_found}
 use Rattle.ev_words.proofs.words.order_in.Goals as goal
 
@@ -20,20 +19,27 @@ found_at n w (Some p) a b =
 pub returns-in_err-value : goal.returns-in_err-value
 returns-in_err-value c =
     let all = subcommand_rows_of c.args.matches.now in
-    let inner = found_of c.in_ok-name.inner.now in
+    let rows = rows_of (found_of c.in_ok-name.inner.now) in
+    let s = c.in_ok-subcommand.subcommand in
     let name : Some c.in_ok-name.name.now ≡ option_map (λ (p : Text × List Row). p.0) all = c.in_ok-name.ensures.name ∙ sym (after _ _ _) in
-    let is : all ≡ found_as c.in_ok-name.name.now (rows_of inner) = found_at _ _ _ name c.in_ok-name.ensures.rows in
+    let is : all ≡ found_as c.in_ok-name.name.now rows = found_at _ _ _ name c.in_ok-name.ensures.rows in
     let none : c.from_residual-in_err-value.result ≡ None = search rules in
-    let text : None ≡ first_of (option_of c.in_ok-subcommand.subcommand) (rows_of inner) =
-    c.in_err-value.ensures ∙ first_value-rows inner c.option.result.now ∙ ap (λ (id : Text). first_of id (rows_of inner)) c.option.ensures in
-    ap (λ (o : Option Order). option_map parts_of o) none ∙ order_found all c.in_ok-name.name.now (rows_of inner) c.in_ok-subcommand.subcommand None is c.in_ok-subcommand.ensures text
+    let text : None ≡ needed_in (needs_of s) rows = c.in_err-value.ensures
+    ∙ ap (λ o. needed_in o rows) c.needs.ensures in
+    ap (λ (o : Option Order). option_map parts_of o) none
+    ∙ order_found all c.in_ok-name.name.now rows s None (given_in (takes_of s) rows) is c.in_ok-subcommand.ensures
+    text refl
 
 pub returns : goal.returns
 returns c =
     let all = subcommand_rows_of c.args.matches.now in
-    let inner = found_of c.in_ok-name.inner.now in
+    let rows = rows_of (found_of c.in_ok-name.inner.now) in
+    let s = c.in_ok-subcommand.subcommand in
     let name : Some c.in_ok-name.name.now ≡ option_map (λ (p : Text × List Row). p.0) all = c.in_ok-name.ensures.name ∙ sym (after _ _ _) in
-    let is : all ≡ found_as c.in_ok-name.name.now (rows_of inner) = found_at _ _ _ name c.in_ok-name.ensures.rows in
-    let text : Some c.in_ok-value.value.now ≡ first_of (option_of c.in_ok-subcommand.subcommand) (rows_of inner) =
-    c.in_ok-value.ensures ∙ first_value-rows inner c.option.result.now ∙ ap (λ (id : Text). first_of id (rows_of inner)) c.option.ensures in
-    order_found all c.in_ok-name.name.now (rows_of inner) c.in_ok-subcommand.subcommand (Some c.in_ok-value.value.now) is c.in_ok-subcommand.ensures text
+    let is : all ≡ found_as c.in_ok-name.name.now rows = found_at _ _ _ name c.in_ok-name.ensures.rows in
+    let text : Some c.in_ok-value.value.now ≡ needed_in (needs_of s) rows = c.in_ok-value.ensures
+    ∙ ap (λ o. needed_in o rows) c.needs.ensures in
+    let more : option_map (λ text. text.now) c.given_in-more.result ≡ given_in (takes_of s) rows =
+    c.given_in-more.ensures ∙ ap (λ o. given_in o rows) c.takes.ensures in
+    order_found all c.in_ok-name.name.now rows s (Some c.in_ok-value.value.now) _ is c.in_ok-subcommand.ensures text
+    more

@@ -23,7 +23,7 @@ returns-in-Err-NoMemory g c input =
 pub returns-in-Err-Unread : goal.returns-in-Err-Unread
 returns-in-Err-Unread g c input =
     let e = g.N.Out.end c.args.notes in
-    let n = g.N.Out.end c.put_unread.new.notes in
-    let put = rw c.as_bytes.ensures.value at c.put_unread.ensures in
+    let n = g.N.Out.end c.put_unread-told.new.notes in
+    let put = rw c.as_bytes.ensures.value at c.put_unread-told.ensures in
     of_unread false Checks c.args.path.now (g.F.Files.shelf c.args.files.now) (g.F.Files.shelf c.text_of.new.self) input (g.W.Out.end c.args.out)
-    e n c.put_unread.result _ c.unread_status-status.result (rw c.in-Err-Unread.field-0-is at c.in-Err-Unread.ensures) put c.unread_status-status.ensures
+    e n c.put_unread-told.result _ c.unread_status.result (rw c.in-Err-Unread.field-0-is at c.in-Err-Unread.ensures) put c.unread_status.ensures

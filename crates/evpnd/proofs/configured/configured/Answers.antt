@@ -16,6 +16,6 @@ returns-in-Err-NoMemory-clause-value g c = λ input out.
 
 pub returns-in-Err-Unread-clause-value : goal.returns-in-Err-Unread-clause-value
 returns-in-Err-Unread-clause-value g c = λ input out.
-    let put = rw c.as_bytes.ensures.value at c.put_unread.ensures in
+    let put = rw c.as_bytes.ensures.value at c.put_unread-told.ensures in
     of_unread c.args.for_run (OfFound Never) c.args.path.now (g.F.Files.shelf c.args.files.now) (g.F.Files.shelf c.text_of.new.self) input out
-    (g.N.Out.end c.args.notes.now) (g.N.Out.end c.put_unread.new.notes) c.put_unread.result _ c.unread_status.result (rw c.in-Err-Unread.field-0-is at c.in-Err-Unread.ensures) put c.unread_status.ensures
+    (g.N.Out.end c.args.notes.now) (g.N.Out.end c.put_unread-told.new.notes) c.put_unread-told.result _ c.unread_status.result (rw c.in-Err-Unread.field-0-is at c.in-Err-Unread.ensures) put c.unread_status.ensures

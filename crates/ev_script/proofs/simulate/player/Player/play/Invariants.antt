@@ -5,7 +5,7 @@ use Rattle.ev_script.proofs.simulate.player.Player.play.Given as goal
 
 abbrev pub invariant-lines : goal.invariant-lines
 invariant-lines g l = record {
-  played : Played l.script l.rest l.initial.self l.self l.number;
+  played : Played l.mode l.script l.rest l.initial.self l.self l.number;
   told : Minds (g.W.Out.end l.initial.out) (g.W.Out.end l.out) l.initial.self.is_told l.self.is_told;
   few : l.number + length l.rest ≤ length l.script;
 }

@@ -1,0 +1,22 @@
+//! A command's line, as it is printed where a script is played.
+ghost use Rattle.ether_wire.specs.Ends.{IsOpen, Puts};
+ghost use Rattle.ev_script.specs.Shown.{shown_text};
+
+use crate::script::Mode;
+use ether_wire::{Device, Out};
+
+/// Writes a command's line, where it is played: `> LINE`.
+#[tactic(auto, using(ether_wire::proofs::Appending::with_text_twice, ether_wire::proofs::Appending::with_text_none))]
+pub(crate) fn put_shown<W: Out>(out: &mut W, mode: Mode, line: &[u8]) -> Result<(), Device>
+    requires { IsOpen (W.end out.old) }
+    ensures { Puts (W.end out.old) (W.end out.new) (shown_text mode line.now) result }
+{
+    match mode {
+        Mode::Simulate => Ok(()),
+        Mode::Play => {
+            out.put(b"> ")?;
+            out.put(line)?;
+            out.put(b"\n")
+        }
+    }
+}

@@ -1,0 +1,131 @@
+-- A script that is looked at, behind a configuration that is checked.
+use Rattle.std.proofs.Common.{◌≡◌, ◌⊎◌, inl, inr, ℕ, ◌+◌, Bool, true, false, cond, not, ◌||◌, ◌==◌, length, Result, Ok, Err, is_ok, refl, sym, ap, subst, ◌∙◌, arith}
+use Rattle.std.proofs.lemmas.Bool.Decides.{nat_tests}
+use Rattle.ether_wire.specs.declared.ends.Device.{Device}
+use Rattle.ether_wire.specs.Ends.{End, Source, IsOpen, Puts}
+use Rattle.ev_config.specs.declared.whole.Config.{Config}
+use Rattle.ev_config.specs.declared.config.ConfigRefusal.{ConfigRefusal}
+use Rattle.ev_config.specs.declared.config.ConfigRefusal.TheVariants as refusal
+use Rattle.ev_report.specs.Ends.{Devices, devices, has_failed, Holds, Tells}
+use Rattle.ev_report.specs.Notes.{status_of}
+use Rattle.ev_report.proofs.Finishing.{put_holds, put_failed}
+use Rattle.ev_report.proofs.Silence.{status_as}
+use Rattle.ev_script.specs.declared.checking.Found.{Found}
+use Rattle.ev_script.specs.Faults.{faults_text, ChecksLines}
+use Rattle.evpnd.specs.declared.files.Unread.{Unread}
+use Rattle.evpnd.specs.declared.files.Named.TheVariants.{Script}
+use Rattle.evpnd.specs.Files.{Text, Shelf, HasRoom, IsTextOf, unread_text}
+use Rattle.evpnd.specs.Checks.{Desk, desk, OfFile, Checks}
+use Rattle.evpnd.specs.Scripts.{lines_text, Looks, OfScript, Behind}
+use Rattle.evpnd.proofs.Filed.{holds_put}
+
+-- notes that may have failed
+noted : (a b : End) (q : Bool) (t : Text) → Tells a b true q t → Holds a b t × (has_failed a b ≡ not q)
+noted a b true t h =
+    let same : b.failures ≡ a.failures = ap (λ (e : End). e.failures) (h.written refl) in
+    (record { written = λ _. h.written refl; failures = inl same }, grind (arith, nat_tests))
+noted a b false t h =
+    let one = h.failed refl refl in
+    (record { written = λ e. absurd (omega arith); failures = inr one }, grind (arith, nat_tests))
+
+-- the lines of a script were looked at, and counted on the output
+pub looks : (name script : Text) (out out' notes notes' : End) (found : Found) (r : Result (Unit {0}) Device)
+    (status : ℕ) → ChecksLines name script notes notes' found → Puts out out' (lines_text found.are_good found.count) r
+    → status ≡ status_of (not (is_ok r) || not found.are_told) false (not found.are_good)
+    → Looks name script out out' notes notes' status
+looks name script out out' notes notes' found r status h put is =
+    let told = noted notes notes' found.are_told (faults_text name 1 h.lines) h.told in
+    record {
+      lines = h.lines;
+      follows = h.follows;
+      noted = told.0;
+      written = subst (λ (b : Bool). Holds out out' (lines_text b (length h.lines))) h.good
+          (subst (λ (n : ℕ). Holds out out' (lines_text found.are_good n)) h.count
+          (put_holds out out' r (lines_text found.are_good found.count) put));
+      status_is = is
+          ∙ status_as (not (is_ok r)) (not found.are_told) (has_failed out out') (has_failed notes notes') false false
+          (not found.are_good)
+          (sym (put_failed out out' r (lines_text found.are_good found.count) put)) (sym told.1) refl
+          ∙ ap (λ b. status_of (has_failed out out' || has_failed notes notes') false (not b)) h.good;
+    }
+
+-- the file of the script has this text, or none, or there was no memory for it
+pub script_refused : (path : Text) (s s' : Shelf) (d : Devices) (status : ℕ)
+    → s' ≡ record s { refusals = s.refusals + 1 } → status ≡ 3
+    → OfScript path (desk s d) (desk s' d) status
+script_refused path s s' d status more is = inl (record { refused = more; devices_kept = refl; status_is = is })
+
+pub script_unread : (path : Text) (s s' : Shelf) (input : Source) (out a b : End) (r : Result (Unit {0}) Device)
+    (why : Unread) (status : ℕ)
+    → s' ≡ record s { failures = s.failures + 1 } → Puts a b (unread_text Script path why) r → status ≡ 4
+    → OfScript path (desk s (devices input out a)) (desk s' (devices input out b)) status
+script_unread path s s' input out a b r why status more put is =
+    let noted = holds_put a b r (unread_text Script path why) put in
+    inr (inl (record { failed = more; why = why; input = refl; out = refl; noted = noted; status_is = is }))
+
+pub script_looked : (path text : Text) (s s' : Shelf) (input : Source) (out out' notes notes' : End) (status : ℕ)
+    → (s' ≡ s) × IsTextOf s path text
+    → Looks path text out out' notes notes' status
+    → OfScript path (desk s (devices input out notes)) (desk s' (devices input out' notes')) status
+script_looked path text s s' input out out' notes notes' status gives h =
+    inr (inr (record { shelf_kept = gives.0; text = text; read = gives.1; input = refl; looks = h }))
+
+-- ---- behind a configuration that is right
+
+-- one call more may fail
+open_kept : (a b : End) (text : Text) (status : ℕ) → Holds a b text → ◌≡◌ {A = ℕ} status (cond (has_failed a b) 4 0)
+    → status ≡ 0 → IsOpen a → IsOpen b
+open_kept a b text status h is done room = go h.failures
+  where
+    go : (b.failures ≡ a.failures) ⊎ (b.failures ≡ a.failures + 1) → IsOpen b
+    go (inl same) = omega (arith, same, room)
+    go (inr one) =
+        let failed : has_failed a b ≡ true = grind (arith, nat_tests) in
+        let four : ◌≡◌ {A = ℕ} status 4 = is ∙ ap (λ (x : Bool). cond x 4 0) failed in
+        absurd (omega (arith, four, done))
+
+two_or_four : (x : Bool) (status : ℕ) → ◌≡◌ {A = ℕ} status (cond x 4 2) → status ≡ 0 → ⊥
+two_or_four true status is done = absurd (omega (arith, is, done))
+two_or_four false status is done = absurd (omega (arith, is, done))
+
+-- what a script that is looked at then needs
+pub record IsReady (s : Shelf) (out notes : End) : Type 0 where
+  pub has_room : HasRoom s
+  pub out_open : IsOpen out
+  pub notes_open : IsOpen notes
+
+checked_ready : (found : Result Config ConfigRefusal) (s : Shelf) (input : Source) (out out' notes notes' : End)
+    (status : ℕ) → Checks found (devices input out notes) (devices input out' notes') status
+    → status ≡ 0 → HasRoom s → IsOpen out → IsOpen notes → IsReady s out' notes'
+checked_ready (Ok config) s input out out' notes notes' status h done room o n =
+    let kept = subst (λ (e : End). IsOpen e) (sym h.1) n in
+    record { has_room = room; out_open = open_kept out out' h.2.0 status h.2.1 h.2.2 done o; notes_open = kept }
+checked_ready (Err (refusal.Key key)) s input out out' notes notes' status h done room o n =
+    absurd (two_or_four (has_failed notes notes') status h.2.1.status_is done)
+checked_ready (Err refusal.Text) s input out out' notes notes' status h done room o n =
+    absurd (two_or_four (has_failed notes notes') status h.2.1.status_is done)
+checked_ready (Err refusal.NoMemory) s input out out' notes notes' status h done room o n =
+    let three = h.1 in absurd (omega (arith, three, done))
+
+pub ready : (path : Text) (s s' : Shelf) (input : Source) (out out' notes notes' : End) (status : ℕ)
+    → OfFile false Checks path (desk s (devices input out notes)) (desk s' (devices input out' notes')) status
+    → HasRoom s → IsOpen out → IsOpen notes → status ≡ 0 → IsReady s' out' notes'
+ready path s s' input out out' notes notes' status (inl h) room o n done =
+    let three = h.status_is in absurd (omega (arith, three, done))
+ready path s s' input out out' notes notes' status (inr (inl h)) room o n done =
+    let four = h.status_is in absurd (omega (arith, four, done))
+ready path s s' input out out' notes notes' status (inr (inr r)) room o n done =
+    checked_ready r.found s' input out out' notes notes' status r.used done
+    (subst (λ (x : Shelf). HasRoom x) (sym r.shelf_kept) room) o n
+
+pub is_zero : (n : ℕ) → (n == 0) ≡ true → n ≡ 0
+is_zero n e = grind (arith, nat_tests)
+
+-- the check wasn't done
+pub behind_failed : (first : ℕ) (path : Text) (d : Desk) → (first == 0) ≡ false → Behind first path d d first
+behind_failed first path d e = rw e (refl, refl)
+
+-- it was
+pub behind_done : (first : ℕ) (path : Text) (before after : Desk) (status : ℕ) → (first == 0) ≡ true
+    → OfScript path before after status → Behind first path before after status
+behind_done first path before after status e h = rw e h

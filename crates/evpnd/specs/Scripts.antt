@@ -1,0 +1,51 @@
+-- What becomes of a script that is looked at, and not run.
+use Rattle.std.specs.Prelude.{◌≡◌, ℕ, ◌⊎◌, Bool, false, not, ◌||◌, ◌==◌, if◌then◌else◌, List, [], ◌++◌, length, codes, decimal, Option, Some, None, MatchBool}
+use Rattle.std.specs.List.{list_all}
+use Rattle.ether_wire.specs.Ends.{End}
+use Rattle.ev_report.specs.Ends.{has_failed, Holds}
+use Rattle.ev_report.specs.Notes.{status_of}
+use Rattle.ev_script.specs.Script.{Follows}
+use Rattle.ev_script.specs.Faults.{is_good, faults_text}
+use Rattle.evpnd.specs.declared.files.Named.TheVariants.{Script}
+use Rattle.evpnd.specs.Files.{Text, IsTextOf}
+use Rattle.evpnd.specs.Checks.{Desk, IsRefusedText, IsUnread, OfFile, Checks}
+
+abbrev pub lines_word : ℕ → Text
+lines_word count = if count == 1 then codes " line\n" else codes " lines\n"
+
+-- `ok: N lines`, where each is a command
+abbrev pub lines_text : Bool → ℕ → Text
+lines_text are_good count = if are_good then codes "ok: " ++ decimal count ++ lines_word count else []
+
+-- A script of this name was cut into its lines. Each that is no command is told with its place and why (1); or how many
+-- there are is written (0).
+pub record Looks (name script : Text) (out out' notes notes' : End) (status : ℕ) : Type 0 where
+  pub lines : List Text
+  pub follows : Follows (λ line. Some line) script lines []
+  pub noted : Holds notes notes' (faults_text name 1 lines)
+  pub written : Holds out out' (lines_text (list_all is_good lines) (length lines))
+  pub status_is : status
+      ≡ status_of (has_failed out out' || has_failed notes notes') false (not (list_all is_good lines))
+
+-- the file has this text, which was looked at; nothing was read
+pub record IsLooked (path : Text) (before after : Desk) (status : ℕ) : Type 0 where
+  pub shelf_kept : after.shelf ≡ before.shelf
+  pub text : Text
+  pub read : IsTextOf before.shelf path text
+  pub input : after.devices.input ≡ before.devices.input
+  pub looks : Looks path text before.devices.out after.devices.out before.devices.notes after.devices.notes status
+
+abbrev pub OfScript : Text → Desk → Desk → ℕ → Type 0
+OfScript path before after status =
+    IsRefusedText before after status ⊎ (IsUnread Script path before after status ⊎ IsLooked path before after status)
+
+-- the script is looked at where the status so far is 0
+abbrev pub Behind : ℕ → Text → Desk → Desk → ℕ → Type 0
+Behind first path before after status =
+    MatchBool (first == 0) (OfScript path before after status) ((after ≡ before) × (status ≡ first))
+
+-- A configuration is checked, and where it is right the script too, if one was given.
+abbrev pub ChecksAll : Text → Option Text → Desk → Desk → ℕ → Type 0
+ChecksAll path None before after status = OfFile false Checks path before after status
+ChecksAll path (Some script) before after status =
+    (mid : Desk) × (first : ℕ) × OfFile false Checks path before mid first × Behind first script mid after status

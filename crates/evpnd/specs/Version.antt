@@ -1,0 +1,14 @@
+-- What `evpnd version` leaves.
+use Rattle.std.specs.Prelude.{◌≡◌, ℕ, codes, if◌then◌else◌}
+use Rattle.ev_report.specs.Ends.{Devices, has_failed, Holds}
+use Rattle.evpnd.specs.Files.{Text}
+
+abbrev pub version_text : Text
+version_text = codes "evpnd 0.1.0\n"
+
+-- It is written on the output, or a call of that failed; nothing was read, nothing noted.
+pub record TellsVersion (before after : Devices) (status : ℕ) : Type 0 where
+  pub input : after.input ≡ before.input
+  pub written : Holds before.out after.out version_text
+  pub notes : after.notes ≡ before.notes
+  pub status_is : status ≡ (if has_failed before.out after.out then 4 else 0)

@@ -1,0 +1,100 @@
+//! `evpnd check --script`: whether each line of a script is a command.
+ghost use Rattle.std.specs.Prelude.{◌≡◌, ◌==◌};
+ghost use Rattle.ether_wire.specs.Ends.{Source, IsOpen, Puts};
+ghost use Rattle.ev_report.specs.Ends.{devices};
+ghost use Rattle.evpnd.specs.Files.{HasRoom};
+ghost use Rattle.evpnd.specs.Checks.{desk};
+ghost use Rattle.evpnd.specs.Scripts.{lines_word, lines_text, Looks, OfScript, Behind};
+
+use crate::check::unread_status;
+use crate::files::{FileFault, Files, Named, put_unread};
+use ether_wire::{Device, Out, put_decimal};
+use ev_report::{DONE, Ending, MEMORY, has_failed, status_of};
+use ev_script::check_lines;
+
+/// The word behind the number of lines, and a line feed.
+fn lines_word(count: u64) -> &'static [u8]
+    ensures { result.now ≡ lines_word count }
+{
+    if count == 1 { b" line\n" } else { b" lines\n" }
+}
+
+/// Writes how many lines there are, where each is a command.
+#[tactic(auto, using(ether_wire::proofs::Appending::with_text_twice, ether_wire::proofs::Appending::with_text_none))]
+fn put_lines<W: Out>(are_good: bool, count: u64, out: &mut W) -> Result<(), Device>
+    requires { IsOpen (W.end out.old) }
+    ensures { Puts (W.end out.old) (W.end out.new) (lines_text are_good count) result }
+{
+    if !are_good {
+        return Ok(());
+    }
+    out.put(b"ok: ")?;
+    put_decimal(out, count)?;
+    out.put(lines_word(count))
+}
+
+/// Looks at the lines of a script of this name.
+fn look<W: Out, N: Out>(name: &str, text: &str, out: &mut W, notes: &mut N) -> u8
+    requires out { IsOpen (W.end out.old) }
+    requires notes { IsOpen (N.end notes.old) }
+    ensures { Looks name.now text.now (W.end out.old) (W.end out.new)
+        (N.end notes.old) (N.end notes.new) result }
+{
+    let found = check_lines(name.as_bytes(), text.as_bytes(), notes);
+    let is_written = put_lines(found.are_good, found.count, out).is_ok();
+    let has_failed = has_failed(Ending::Ended, is_written, found.are_told);
+    status_of(has_failed, false, !found.are_good)
+}
+
+/// Looks at the script in the file at a path: each line that is no command is told, or how many
+/// lines there are.
+fn check_script<F: Files, W: Out, N: Out>(
+    files: &mut F,
+    path: &str,
+    mut out: W,
+    mut notes: N,
+) -> (u8, W, N)
+    requires files { HasRoom (F.shelf files.old) }
+    requires out { IsOpen (W.end out) }
+    requires notes { IsOpen (N.end notes) }
+    ensures { (input : Source) → OfScript path.now
+        (desk (F.shelf files.old) (devices input (W.end out) (N.end notes)))
+        (desk (F.shelf files.new) (devices input (W.end result.1) (N.end result.2))) result.0 }
+{
+    match files.text_of(path) {
+        Ok(text) => (look(path, text.as_str(), &mut out, &mut notes), out, notes),
+        Err(FileFault::NoMemory) => (MEMORY, out, notes),
+        Err(FileFault::Unread(why)) => {
+            let told = put_unread(&mut notes, Named::Script, path.as_bytes(), why);
+            (unread_status(told), out, notes)
+        }
+    }
+}
+
+/// Whether all was done so far.
+fn is_done(status: u8) -> bool
+    ensures { result ≡ (status == 0) }
+{
+    status == DONE
+}
+
+/// Looks at a script behind a check of this status, where all was done.
+pub(crate) fn check_behind<F: Files, W: Out, N: Out>(
+    status: u8,
+    files: &mut F,
+    path: &str,
+    out: W,
+    notes: N,
+) -> (u8, W, N)
+    requires files { status ≡ 0 → HasRoom (F.shelf files.old) }
+    requires out { status ≡ 0 → IsOpen (W.end out) }
+    requires notes { status ≡ 0 → IsOpen (N.end notes) }
+    ensures { (input : Source) → Behind status path.now
+        (desk (F.shelf files.old) (devices input (W.end out) (N.end notes)))
+        (desk (F.shelf files.new) (devices input (W.end result.1) (N.end result.2))) result.0 }
+{
+    if !is_done(status) {
+        return (status, out, notes);
+    }
+    check_script(files, path, out, notes)
+}
