@@ -1,3 +1,4 @@
 pub mod Behind
 pub mod PassingOn
 pub mod Coming
+pub mod Lines

@@ -1,12 +1,11 @@
 -- What a worker has announced and passed on, call by call.
-use Rattle.std.proofs.Common.{◌≡◌, ℕ, List, [], ◌∷◌, Option, Some, None, Result, Ok, Err, OnOk, refl, ap, sym, subst, ◌∙◌, reverse}
+use Rattle.std.proofs.Common.{◌≡◌, ℕ, List, [], ◌∷◌, Option, Some, None, Result, refl, ap, sym, subst, ◌∙◌, reverse}
 use Rattle.std.proofs.lemmas.List.{reverse-append}
 use Rattle.route_wire.specs.Fields.{Fields}
 use Rattle.ev_edge.specs.declared.event.Event.{Event}
 use Rattle.ev_edge.specs.declared.reply.Reply.{Reply}
 use Rattle.ev_book.specs.declared.refusal.BookRefusal.{BookRefusal}
 use Rattle.ev_book.specs.Book.{PassState}
-use Rattle.ev_peers.specs.declared.outlet.NoMemory.{NoMemory}
 use Rattle.ev_peers.specs.Giving.{Parcel, behind}
 use Rattle.ev_peers.specs.Passing.{Entered, Asked, AskedEach, Announces, PassesOn, given_by}
 use Rattle.ev_peers.proofs.Behind.{behind_none, behind_twice}
@@ -33,9 +32,8 @@ pub ends : (p : PassState) (old : Option (List Fields)) (p1 p2 : PassState) (new
 ends p old p1 p2 new s a = record { middle = p1; got = s.got; asked = s.asked; last = a; given = s.given }
 
 -- an event's call, what was given for it, and the announcements behind it
-pub passed_on : (bridge vni : ℕ) (frame : List ℕ) (p : PassState) (event : Event) (answer : Result Reply BookRefusal) (middle p' : PassState) (given mid given' : Option (List Parcel)) (records mid_records records' : Option (List Fields)) (r : Result (Unit {0}) NoMemory) → Entered p event answer middle → mid ≡ behind given (given_by bridge vni frame answer) → mid_records ≡ records → given' ≡ mid → OnOk r (Announces middle mid_records p' records') → OnOk r (PassesOn bridge vni frame p event given records p' given' records')
-passed_on bridge vni frame p event answer middle p' given mid given' records mid_records records' (Err e) entered parcels same kept announces = tt
-passed_on bridge vni frame p event answer middle p' given mid given' records mid_records records' (Ok done) entered parcels same kept announces = record {
+pub passed_on : (bridge vni : ℕ) (frame : List ℕ) (p : PassState) (event : Event) (answer : Result Reply BookRefusal) (middle p' : PassState) (given mid given' : Option (List Parcel)) (records mid_records records' : Option (List Fields)) → Entered p event answer middle → mid ≡ behind given (given_by bridge vni frame answer) → mid_records ≡ records → given' ≡ mid → Announces middle mid_records p' records' → PassesOn bridge vni frame p event given records p' given' records'
+passed_on bridge vni frame p event answer middle p' given mid given' records mid_records records' entered parcels same kept announces = record {
   answer = answer;
   middle = middle;
   entered = entered;

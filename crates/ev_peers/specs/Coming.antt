@@ -17,11 +17,6 @@ pub record DoesOne {A S : Type 0} (Does : S → A → S → Type 0) (came : Opti
   pub told : came' ≡ behind came (Some thing ∷ [])
   pub done : Does s thing s'
 
--- One thing more came.
-pub record LeavesOne {A : Type 0} (came came' : Option (List (Option A))) : Type 0 where
-  pub thing : A
-  pub told : came' ≡ behind came (Some thing ∷ [])
-
 -- This was done with each thing that came meanwhile, in their order, and nothing else.
 pub record DoesAll {A S : Type 0} (Does : S → A → S → Type 0) (came : Option (List (Option A))) (s : S) (came' : Option (List (Option A))) (s' : S) : Type 0 where
   pub things : List A
@@ -33,10 +28,3 @@ pub record DoesAllToTheEnd {A S : Type 0} (Does : S → A → S → Type 0) (cam
   pub before : Option (List (Option A))
   pub all : DoesAll Does came s before s'
   pub end : came' ≡ behind before (None ∷ [])
-
--- So it was with all but the last one, at which memory was refused.
-pub record DoesAllButOne {A S : Type 0} (Does : S → A → S → Type 0) (came : Option (List (Option A))) (s : S) (came' : Option (List (Option A))) : Type 0 where
-  pub before : Option (List (Option A))
-  pub middle : S
-  pub all : DoesAll Does came s before middle
-  pub last : LeavesOne before came'

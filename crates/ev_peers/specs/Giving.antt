@@ -1,5 +1,5 @@
 -- What an answer of a book gives to the links of its edge.
-use Rattle.std.specs.Prelude.{ℕ, List, [], ◌++◌, map, Option, Some, None}
+use Rattle.std.specs.Prelude.{ℕ, Bool, false, true, List, [], ◌++◌, map, Option, Some, None}
 use Rattle.ether_wire.specs.BpduFrame.{bpdu_frame_of}
 use Rattle.ether_wire.specs.Ports.{ports_of}
 use Rattle.bpdu_wire.specs.declared.bpdu.Bpdu.{Bpdu}
@@ -10,13 +10,19 @@ use Rattle.ev_edge.specs.declared.reply.Reply.{Reply}
 use Rattle.ev_peers.specs.declared.outlet.Target.{Target}
 use Rattle.ev_peers.specs.declared.outlet.Target.TheVariants.{Port, Edge}
 
--- octets, and the link that gets them
+-- octets, the link that gets them, and whether they go before its frames
 pub record Parcel : Type 0 where
   pub to : Target
   pub octets : List ℕ
+  pub is_first : Bool
 
+-- a frame for a link
 abbrev pub parcel : Target → List ℕ → Parcel
-parcel to octets = record { to = to; octets = octets }
+parcel to octets = record { to = to; octets = octets; is_first = false }
+
+-- a BPDU's frame for a port's link
+abbrev pub first_parcel : ℕ → List ℕ → Parcel
+first_parcel port octets = record { to = Port port; octets = octets; is_first = true }
 
 -- what an outlet tells as given, and these behind it; one that tells nothing goes on so
 abbrev pub behind : {A : Type 0} → Option (List A) → List A → Option (List A)
@@ -25,9 +31,9 @@ behind (Some given) more = Some (given ++ more)
 
 -- ---- one reply
 
--- a BPDU goes out at its port, as the frame that carries it
+-- a BPDU goes out at its port, before frames, as the frame that carries it
 abbrev pub bpdu_parcel : ℕ → ℕ × Bpdu → Parcel
-bpdu_parcel bridge sent = parcel (Port sent.0) (bpdu_frame_of bridge (octets_of sent.1))
+bpdu_parcel bridge sent = first_parcel sent.0 (bpdu_frame_of bridge (octets_of sent.1))
 
 -- each of these ports gets the frame as it is
 abbrev pub to_ports : List ℕ → List ℕ → List Parcel

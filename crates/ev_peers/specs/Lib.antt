@@ -1,5 +1,6 @@
 pub mod Giving
 pub mod Links
+pub mod Line
 pub mod Crew
 pub mod Passing
 pub mod Coming

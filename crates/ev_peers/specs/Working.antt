@@ -13,7 +13,7 @@ use Rattle.ev_peers.specs.declared.workers.Source.TheVariants.{Port, Tunnel, Clo
 use Rattle.ev_peers.specs.Giving.{Parcel, behind}
 use Rattle.ev_peers.specs.Links.{Arrival}
 use Rattle.ev_peers.specs.Passing.{PassesOn}
-use Rattle.ev_peers.specs.Coming.{DoesOne, LeavesOne, DoesAll, DoesAllToTheEnd, DoesAllButOne}
+use Rattle.ev_peers.specs.Coming.{DoesOne, DoesAll, DoesAllToTheEnd}
 
 -- ---- what a datagram is
 
@@ -76,35 +76,34 @@ Takes bridge s u s' = Does bridge (0, []) s (Some (events.Take u)) s'
 
 -- ---- a worker
 
--- one turn of a worker: what came over its link was handled; if it ends there, nothing more came, or a call failed, or
--- memory was refused
+-- one turn of a worker: what came over its link was handled; if it ends there, nothing more came, or a call failed.
+-- Refused memory ends none
 abbrev pub Turns : Option Ended → ℕ → Source → Option (List (Option Arrival)) → Standing → Option (List (Option Arrival)) → Standing → Type 0
 Turns None bridge source came s came' s' = DoesOne (Handles bridge source) came s came' s'
 Turns (Some End) bridge source came s came' s' = (came' ≡ behind came (None ∷ [])) × (s' ≡ s)
 Turns (Some Failed) bridge source came s came' s' = (came' ≡ behind came []) × (s' ≡ s)
-Turns (Some NoMemory) bridge source came s came' s' = LeavesOne came came'
+Turns (Some NoMemory) bridge source came s came' s' = ⊥
 
 -- how often a link can fail
 abbrev pub most_failures : ℕ
 most_failures = 2 ^ 64 - 1
 
 -- it handled all that came over its link: to the link's end, unless the link had failed as often as it can, or up to a
--- failure, or to where memory was refused
+-- failure
 abbrev pub Ends : Ended → ℕ → Source → ℕ → Option (List (Option Arrival)) → Standing → Option (List (Option Arrival)) → Standing → Type 0
 Ends End bridge source failed came s came' s' =
     DoesAllToTheEnd (Handles bridge source) came s came' s'
     ⊎ (DoesAll (Handles bridge source) came s came' s' × (failed ≡ most_failures))
 Ends Failed bridge source failed came s came' s' = DoesAll (Handles bridge source) came s came' s'
-Ends NoMemory bridge source failed came s came' s' = DoesAllButOne (Handles bridge source) came s came'
+Ends NoMemory bridge source failed came s came' s' = ⊥
 
--- a port's worker brings its port up first, if memory isn't refused for that
+-- a port's worker brings its port up first
 abbrev pub PortEnds : Ended → ℕ → ℕ → ℕ → ℕ → Option (List (Option Arrival)) → Standing → Option (List (Option Arrival)) → Standing → Type 0
 PortEnds ended bridge port vni failed came s came' s' =
-    ((ended ≡ NoMemory) × (came' ≡ came))
-    ⊎ ((up : Standing) × Does bridge (vni, []) s (Some (events.PortUp port)) up × Ends ended bridge (Port port vni) failed came up came' s')
+    (up : Standing) × Does bridge (vni, []) s (Some (events.PortUp port)) up × Ends ended bridge (Port port vni) failed came up came' s'
 
--- a worker of other edges' updates took all that came, to the end or to where memory was refused; it has no link
+-- a worker of other edges' updates took all that came, to the end; it has no link
 abbrev pub PeerEnds : Ended → ℕ → Option (List (Option Fields)) → Standing → Option (List (Option Fields)) → Standing → Type 0
 PeerEnds End bridge came s came' s' = DoesAllToTheEnd (Takes bridge) came s came' s'
 PeerEnds Failed bridge came s came' s' = ⊥
-PeerEnds NoMemory bridge came s came' s' = DoesAllButOne (Takes bridge) came s came'
+PeerEnds NoMemory bridge came s came' s' = ⊥

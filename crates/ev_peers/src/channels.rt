@@ -1,8 +1,7 @@
-//! What goes over channels between workers, and links over channels.
-ghost use Rattle.std.specs.Prelude.{◌≡◌, ◌≤◌, length};
+//! What goes over channels between edges, and links over channels.
+ghost use Rattle.std.specs.Prelude.{◌≡◌, ◌≤◌, length, IfOk};
 
 use crate::links::{LinkIn, LinkOut};
-use crate::outlet::copy;
 use crossbeam_channel::{Receiver, SendError, Sender};
 use ether_wire::{Addr, Device};
 use route_wire::Update;
@@ -19,15 +18,6 @@ pub enum Message {
     Stop,
 }
 
-/// What the workers of an edge send to the one that owns a link.
-#[derive(Debug, Drop)]
-pub enum Output {
-    /// These octets, to this address.
-    Frame(Addr, Vec<u8>),
-    /// Nothing more comes.
-    Stop,
-}
-
 /// A datagram over a channel.
 #[derive(Debug, Drop)]
 pub struct Datagram {
@@ -39,27 +29,10 @@ pub struct Datagram {
     pub octets: Vec<u8>,
 }
 
-/// A channel between edges, or to a link, with room for one message: so that `last` can be sent
-/// over it whatever memory is refused, once what was sent before it is received.
-///
-/// # Errors
-///
-/// Where memory is refused.
-pub(crate) fn roomy<T: Drop, R: Wait>(
-    rt: &R,
-    alloc: Global,
-    last: T,
-) -> Result<(Sender<T>, Receiver<T>), AllocError> {
-    let (sender, receiver) = crossbeam_channel::unbounded(alloc)?;
-    if sender.send(rt, last).is_err() {
-        return Err(AllocError);
-    }
-    let _ = receiver.recv(rt);
-    Ok((sender, receiver))
-}
-
-/// A channel over which other edges send their records to one. Clauses see nothing of the ends of a
-/// channel, so none says that what is sent over one of these is received over the other.
+/// A channel over which other edges send their records to one, with room for one message: so that
+/// one can be sent over it whatever memory is refused, once what was sent before it is received.
+/// Clauses see nothing of the ends of a channel, so none says that what is sent over one of these
+/// is received over the other.
 ///
 /// # Errors
 ///
@@ -68,12 +41,17 @@ pub fn peer_channel<R: Wait>(
     rt: &R,
     alloc: Global,
 ) -> Result<(Sender<Message>, Receiver<Message>), AllocError> {
-    roomy(rt, alloc, Message::Stop)
+    let (sender, receiver) = crossbeam_channel::unbounded(alloc)?;
+    if sender.send(rt, Message::Stop).is_err() {
+        return Err(AllocError);
+    }
+    let _ = receiver.recv(rt);
+    Ok((sender, receiver))
 }
 
-/// Sends the last message, once there is room for it or nobody receives any more.
-pub(crate) fn send_last<T: Drop, R: Wait>(rt: &R, channel: &Sender<T>, last: T) {
-    let mut message = last;
+/// Sends a message, once there is memory for it or nobody receives any more.
+pub(crate) fn send_surely<R: Wait>(rt: &R, channel: &Sender<Message>, message: Message) {
+    let mut message = message;
     for _ in rt.forever() {
         match channel.send(rt, message) {
             Err(SendError::OutOfMemory(back)) => message = back,
@@ -134,6 +112,15 @@ impl<R: Wait> LinkIn for ChannelIn<'_, R> {
             Err(_) => Ok(None),
         }
     }
+}
+
+/// A copy of octets.
+fn copy(alloc: Global, octets: &[u8]) -> Result<Vec<u8>, AllocError>
+    ensures { IfOk result (λ copy. copy.items ≡ octets.now) }
+{
+    let mut copy = Vec::with_capacity(alloc, octets.len())?;
+    copy.extend_from_slice(octets)?;
+    Ok(copy)
 }
 
 /// Sends datagrams over a channel to one other end, whatever address they are for.

@@ -3,11 +3,12 @@ ghost use Rattle.std.specs.Prelude.{◌≡◌, ◌+◌, ◌≤◌, length, vec_l
 ghost use Rattle.ev_edge.specs.Config.{IsConfig};
 ghost use Rattle.ev_peers.specs.Crew.{HasRoom, IsReady};
 
-use crate::channels::{Message, Output, roomy, send_last};
+use crate::channels::{Message, send_surely};
 use crate::gate::Gate;
-use crate::inbox::{PacketBox, UpdateBox};
+use crate::inbox::{LineBox, UpdateBox};
 use crate::links::{LinkIn, LinkOut};
 use crate::outlet::Senders;
+use crate::shared_line::SharedLine;
 use crate::site::{Ended, Site};
 use crate::workers::{clock_worker, out_worker, peer_worker, port_worker, tunnel_worker};
 use crossbeam_channel::{Receiver, Sender};
@@ -62,6 +63,9 @@ pub struct Outcome {
     pub totals: Totals,
     /// What its workers ended with.
     pub faults: Faults,
+    /// How many frames found no room: on the line of the tunnel, and behind it on those of the
+    /// ports, port 1 first.
+    pub dropped: Vec<u64>,
 }
 
 /// What the workers of an edge ended with.
@@ -71,7 +75,7 @@ pub struct Faults {
     pub lost: u64,
     /// Whether the link of a worker failed.
     pub device: bool,
-    /// Whether a worker, or the book for an event, was refused memory, or a worker its thread.
+    /// Whether the book was refused memory for an event, or a worker its thread.
     pub memory: bool,
 }
 
@@ -94,20 +98,12 @@ enum Task<I: Drop> {
     Peer(Receiver<Message>),
 }
 
-/// A link, and what is to be sent over it.
-#[derive(Drop)]
-struct Sending<O: Drop> {
-    link: O,
-    frames: Receiver<Output>,
-}
-
 /// What the threads of an edge share.
 #[derive(Drop)]
 struct Shared {
-    /// To what is sent over the ports' links, port 1 first.
-    ports: Vec<Sender<Output>>,
-    /// To what is sent over the tunnel's link.
-    tunnel: Sender<Output>,
+    /// What is sent over the tunnel's link, and behind it what is over those of the ports, port 1
+    /// first.
+    lines: Vec<SharedLine>,
     /// Whether there was no thread, for each task.
     no_entering: Vec<AtomicBool>,
     /// Whether there was no thread, for each that sends.
@@ -128,8 +124,8 @@ struct Crew<L: Ledger, I: Drop, O: Drop> {
     /// What is entered from links: of the clock, the tunnel, and the ports from
     /// the last to the first.
     tasks: Vec<Task<I>>,
-    /// What is sent over links.
-    sendings: Vec<Sending<O>>,
+    /// The links that are sent over: that of the tunnel, and those of the ports, port 1 first.
+    outputs: Vec<O>,
     /// Room for the threads that enter.
     entering: Vec<JoinHandle<Entered<L>>>,
     /// Room for the threads that send.
@@ -234,9 +230,7 @@ fn enter_alone<'x, L: Ledger, I: LinkIn + Drop, G: Gate, R: Wait>(
     } = site;
     let Senders {
         rt: _,
-        alloc,
-        ports,
-        tunnel,
+        lines,
         others,
     } = outlet;
     let site = Site {
@@ -247,31 +241,47 @@ fn enter_alone<'x, L: Ledger, I: LinkIn + Drop, G: Gate, R: Wait>(
         bridge,
         starved,
     };
-    let outlet = Senders {
-        rt,
-        alloc,
-        ports,
-        tunnel,
-        others,
-    };
+    let outlet = Senders { rt, lines, others };
     enter_task(&site, &outlet, pass, task, is_refused)
 }
 
 /// A worker that sends over its link, unless there was no thread for it.
 fn send_all<O: LinkOut + Drop, R: Wait>(
     rt: &R,
-    sending: Sending<O>,
+    link: O,
+    line: &SharedLine,
     is_refused: &AtomicBool,
 ) -> Sent {
-    let Sending { mut link, frames } = sending;
+    let mut link = link;
     if is_refused.load(Ordering::SeqCst) {
         return (0, Ended::NoMemory);
     }
-    let mut packets = PacketBox {
-        rt,
-        channel: &frames,
-    };
+    let mut packets = LineBox { rt, line };
     (out_worker(rt, &mut link, &mut packets), Ended::End)
+}
+
+/// So many lines on which nothing waits.
+fn empty_lines(alloc: Global, count: usize) -> Result<Vec<SharedLine>, AllocError>
+    ensures { IfOk result (λ lines. vec_len lines ≡ count) }
+{
+    let mut lines = Vec::with_capacity(alloc, count)?;
+    for place in 0..count {
+        let _ = place;
+        lines.push_reserved(SharedLine::new(alloc)?);
+    }
+    Ok(lines)
+}
+
+/// How many frames found no room, by line.
+fn all_dropped<R: Wait>(rt: &R, lines: &[SharedLine], dropped: Vec<u64>) -> Vec<u64>
+    requires { (vec_len dropped ≡ 0) × (length lines.now ≤ vec_capacity dropped) }
+    ensures { vec_len result ≡ length lines.now }
+{
+    let mut dropped = dropped;
+    for line in lines {
+        dropped.push_reserved(line.dropped(rt));
+    }
+    dropped
 }
 
 /// So many words that say no.
@@ -300,8 +310,7 @@ fn vni_of(config: &EdgeConfig, port: usize) -> Vni {
 }
 
 /// What the threads of an edge with these links and ports need.
-fn planned<L: Ledger, I: Drop, O: Drop, R: Wait>(
-    rt: &R,
+fn planned<L: Ledger, I: Drop, O: Drop>(
     alloc: Global,
     links: EdgeLinks<I, O>,
     peers: Peers,
@@ -310,9 +319,10 @@ fn planned<L: Ledger, I: Drop, O: Drop, R: Wait>(
     requires { vec_len links.ports ≤ 253 }
     ensures tasks { IfOk result (λ r. vec_len r.0.tasks ≡ vec_len links.ports + 2) }
     ensures no_entering { IfOk result (λ r. vec_len r.1.no_entering ≡ vec_len links.ports + 2) }
-    ensures sendings { IfOk result (λ r. vec_len r.0.sendings ≡ vec_len links.ports + 1) }
+    ensures outputs { IfOk result (λ r. vec_len r.0.outputs ≡ vec_len links.ports + 1) }
     ensures no_sending { IfOk result (λ r. vec_len r.1.no_sending ≡ vec_len links.ports + 1) }
-    ensures room { IfOk result (λ r. HasRoom (vec_len r.0.tasks) (vec_len r.0.sendings)
+    ensures lines { IfOk result (λ r. vec_len r.1.lines ≡ vec_len links.ports + 1) }
+    ensures room { IfOk result (λ r. HasRoom (vec_len r.0.tasks) (vec_len r.0.outputs)
         (vec_len r.0.entering) (vec_capacity r.0.entering) (vec_len r.0.sending)
         (vec_capacity r.0.sending) (vec_len r.0.passes) (vec_capacity r.0.passes)) }
 {
@@ -322,39 +332,28 @@ fn planned<L: Ledger, I: Drop, O: Drop, R: Wait>(
         clock,
     } = links;
     let count = port_links.len();
-    let mut tasks = Vec::with_capacity(alloc, count + 2)?;
-    let mut sendings = Vec::with_capacity(alloc, count + 1)?;
-    let mut ports = Vec::with_capacity(alloc, count)?;
-    tasks.push_reserved(Task::Clock(clock));
-    let (tunnel, frames) = roomy(rt, alloc, Output::Stop)?;
     let Link {
-        input,
-        output: link,
+        input: tunnel_input,
+        output: tunnel_output,
     } = tunnel_link;
-    tasks.push_reserved(Task::Tunnel(input));
-    sendings.push_reserved(Sending { link, frames });
-    while let Some(
-        Link {
-            input,
-            output: link,
-        },
-    ) = port_links.pop()
-    {
+    let mut tasks = Vec::with_capacity(alloc, count + 2)?;
+    let mut outputs = Vec::with_capacity(alloc, count + 1)?;
+    tasks.push_reserved(Task::Clock(clock));
+    tasks.push_reserved(Task::Tunnel(tunnel_input));
+    while let Some(Link { input, output }) = port_links.pop() {
         let port = port_links.len() + 1;
-        let (channel, frames) = roomy(rt, alloc, Output::Stop)?;
         tasks.push_reserved(Task::Port(port as u8, vni_of(config, port), input));
-        sendings.push_reserved(Sending { link, frames });
-        ports.push_reserved(channel);
+        outputs.push_reserved(output);
     }
-    ports.as_mut_slice().reverse();
+    outputs.push_reserved(tunnel_output);
+    outputs.as_mut_slice().reverse();
     let Peers {
         records,
         own,
         others,
     } = peers;
     let shared = Shared {
-        ports,
-        tunnel,
+        lines: empty_lines(alloc, count + 1)?,
         no_entering: no_words(alloc, count + 2)?,
         no_sending: no_words(alloc, count + 1)?,
         no_peer: AtomicBool::new(false),
@@ -364,7 +363,7 @@ fn planned<L: Ledger, I: Drop, O: Drop, R: Wait>(
     };
     let crew = Crew {
         tasks,
-        sendings,
+        outputs,
         entering: Vec::with_capacity(alloc, count + 2)?,
         sending: Vec::with_capacity(alloc, count + 1)?,
         passes: Vec::with_capacity(alloc, count + 3)?,
@@ -377,19 +376,22 @@ fn planned<L: Ledger, I: Drop, O: Drop, R: Wait>(
 fn start_sending<'s, 'x: 's, O: LinkOut + Drop + Send + 'x, R: Wait + Sync + 'x>(
     scope: &Scope<'s, &'x ()>,
     rt: &'x R,
+    lines: &'x [SharedLine],
     refused: &'x [AtomicBool],
-    sendings: Vec<Sending<O>>,
+    outputs: Vec<O>,
     running: Vec<JoinHandle<Sent>>,
 ) -> (Vec<JoinHandle<Sent>>, Faults)
-    requires words { vec_len sendings ≤ length refused.now }
-    requires room { vec_len running + vec_len sendings ≤ vec_capacity running }
+    requires lines { vec_len outputs ≤ length lines.now }
+    requires words { vec_len outputs ≤ length refused.now }
+    requires room { vec_len running + vec_len outputs ≤ vec_capacity running }
 {
-    let mut sendings = sendings;
+    let mut outputs = outputs;
     let mut running = running;
     let mut faults = Faults::none();
-    while let Some(sending) = sendings.pop() {
-        let is_refused = &refused[sendings.len()];
-        match scope.spawn(move || send_all(rt, sending, is_refused)) {
+    while let Some(link) = outputs.pop() {
+        let line = &lines[outputs.len()];
+        let is_refused = &refused[outputs.len()];
+        match scope.spawn(move || send_all(rt, link, line, is_refused)) {
             Ok(handle) => running.push_reserved(handle),
             Err(no_thread) => {
                 is_refused.store(true, Ordering::SeqCst);
@@ -480,10 +482,9 @@ fn join_sending<R: Threads>(rt: &R, running: Vec<JoinHandle<Sent>>) -> Faults {
 
 /// Tells those that send over links to stop.
 fn stop_sending<R: Wait>(outlet: &Senders<'_, R>) {
-    for port in outlet.ports {
-        send_last(outlet.rt, port, Output::Stop);
+    for line in outlet.lines {
+        line.end(outlet.rt);
     }
-    send_last(outlet.rt, outlet.tunnel, Output::Stop);
 }
 
 /// Starts the thread that enters what other edges send, or gives its pass back.
@@ -533,10 +534,11 @@ impl<'x, L: Ledger, I: Drop, O: Drop> Model for Launch<'x, L, I, O> {
 
     ghost view = { λ l. vec_len l.fresh };
 
-    ghost invariant = { λ l. IsReady (vec_len l.crew.tasks) (vec_len l.crew.sendings)
+    ghost invariant = { λ l. IsReady (vec_len l.crew.tasks) (vec_len l.crew.outputs)
         (vec_len l.crew.entering) (vec_capacity l.crew.entering) (vec_len l.crew.sending)
         (vec_capacity l.crew.sending) (vec_len l.crew.passes) (vec_capacity l.crew.passes)
-        (vec_len l.shared.now.no_entering) (vec_len l.shared.now.no_sending) (vec_len l.fresh) };
+        (vec_len l.shared.now.no_entering) (vec_len l.shared.now.no_sending)
+        (vec_len l.shared.now.lines) (vec_len l.fresh) };
 }
 
 /// Starts the workers of an edge, each on a thread, waits until they have ended, and gives all
@@ -567,21 +569,22 @@ fn run_within<
     } = launch;
     let Crew {
         tasks,
-        sendings,
+        outputs,
         entering,
         sending,
         passes,
         records,
     } = crew;
+    let lines = shared.lines.as_slice();
     let words = shared.no_sending.as_slice();
-    let (sending, no_sent) = start_sending(scope, rt, words, sendings, sending);
+    let (sending, no_sent) = start_sending(scope, rt, lines, words, outputs, sending);
     let task = Task::Peer(records);
     let peer = start_peer::<L, I, G, R>(scope, site, shared, outlet, peer, task);
     let (entering, passes, begun) = start_entering(
         scope, site, shared, outlet, tasks, fresh, entering, passes,
     );
     let (mut passes, entered) = join_entering(rt, entering, passes);
-    send_last(rt, &shared.own, Message::Stop);
+    send_surely(rt, &shared.own, Message::Stop);
     let (pass, ended) = match peer {
         Ok(handle) => handle.join(rt),
         Err(entered) => entered,
@@ -605,7 +608,6 @@ fn run_workers<
     R: Threads + Wait + Sync + 'x,
 >(
     rt: &'x R,
-    alloc: Global,
     gate: &'x G,
     edge: usize,
     bridge: Mac,
@@ -615,10 +617,10 @@ fn run_workers<
     fresh: Vec<Pass<L>>,
     peer: Pass<L>,
 ) -> (Vec<Pass<L>>, Faults)
-    requires { IsReady (vec_len crew.tasks) (vec_len crew.sendings) (vec_len crew.entering)
+    requires { IsReady (vec_len crew.tasks) (vec_len crew.outputs) (vec_len crew.entering)
         (vec_capacity crew.entering) (vec_len crew.sending) (vec_capacity crew.sending)
         (vec_len crew.passes) (vec_capacity crew.passes) (vec_len shared.now.no_entering)
-        (vec_len shared.now.no_sending) (vec_len fresh) }
+        (vec_len shared.now.no_sending) (vec_len shared.now.lines) (vec_len fresh) }
     ensures { vec_len result.0 ≡ vec_len fresh + 1 }
 {
     let launch = Launch {
@@ -643,9 +645,7 @@ fn run_workers<
             };
             let outlet = Senders {
                 rt,
-                alloc,
-                ports: shared.ports.as_slice(),
-                tunnel: &shared.tunnel,
+                lines: shared.lines.as_slice(),
                 others: shared.others.as_slice(),
             };
             run_within(scope, rt, &site, &outlet, launch)
@@ -686,24 +686,25 @@ pub fn edge_worker<
     requires most { vec_len links.ports ≤ 253 }
     requires config { IsConfig config }
     ensures totals { IfOk result (λ o. length o.totals ≡ vec_len links.ports + 3) }
+    ensures dropped { IfOk result (λ o. vec_len o.dropped ≡ vec_len links.ports + 1) }
 {
     let count = links.ports.len() + 3;
     let bridge = bridge_of(&config);
-    let (crew, shared) = planned(rt, alloc, links, peers, &config)?;
+    let dropped = Vec::with_capacity(alloc, links.ports.len() + 1)?;
+    let (crew, shared) = planned(alloc, links, peers, &config)?;
     let (book, mut fresh) = Book::<L>::open(alloc, blank, config, count)?;
     let Some(peer) = fresh.pop() else {
         unreachable!()
     };
     fresh.as_mut_slice().reverse();
     let book = Mutex::new(book);
-    let (passes, faults) = run_workers(
-        rt, alloc, gate, number, bridge, &book, &shared, crew, fresh, peer,
-    );
+    let (passes, faults) = run_workers(rt, gate, number, bridge, &book, &shared, crew, fresh, peer);
     let (edge, totals) = book.into_inner().close(passes);
     let starved = shared.starved.load(Ordering::SeqCst);
     Ok(Outcome {
         edge,
         totals,
         faults: faults.with_starved(starved),
+        dropped: all_dropped(rt, shared.lines.as_slice(), dropped),
     })
 }

@@ -1,53 +1,50 @@
 //! What a reply gives to the links of its edge.
-ghost use Rattle.std.specs.Prelude.{◌≡◌, ◌≤◌, Some, OnOk, map, length};
+ghost use Rattle.std.specs.Prelude.{◌≡◌, ◌≤◌, Some, map, length};
 ghost use Rattle.ether_wire.specs.Ports.{ports_of};
 ghost use Rattle.ev_peers.specs.Giving.{behind, bpdu_parcel, to_ports, to_edges, decided, parcels_of};
 
-use crate::outlet::{NoMemory, Outlet, Target};
+use crate::outlet::{Outlet, Target};
 use bpdu_wire::{Bpdu, write};
 use ether_wire::{Addr, Mac, Vni, next_port, write_bpdu_frame};
 use ev_edge::Reply;
 use ev_tunnel::{Decision, wrap};
 
-/// Gives each BPDU to its port, in a frame from this bridge.
-fn give_bpdus<O: Outlet>(outlet: &mut O, bridge: Mac, bpdus: &[(u8, Bpdu)]) -> Result<(), NoMemory>
-    ensures frames { OnOk result (O.parcels outlet.new
-        ≡ behind (O.parcels outlet.old) (map (bpdu_parcel bridge) bpdus.now)) }
+/// Gives each BPDU to its port, before frames, in a frame from this bridge.
+fn give_bpdus<O: Outlet>(outlet: &mut O, bridge: Mac, bpdus: &[(u8, Bpdu)])
+    ensures frames { O.parcels outlet.new
+        ≡ behind (O.parcels outlet.old) (map (bpdu_parcel bridge) bpdus.now) }
     ensures records { O.records outlet.new ≡ O.records outlet.old }
 {
     let mut frame = [0u8; 60];
     for sent in bpdus {
         let (port, bpdu) = sent;
         write_bpdu_frame(&mut frame, bridge, write(bpdu).as_slice());
-        outlet.frame(Target::Port(*port), &frame)?;
+        outlet.bpdu(*port, &frame);
     }
-    Ok(())
 }
 
 /// Gives a frame to each port of a set, ascending.
-fn give_ports<O: Outlet>(outlet: &mut O, ports: u64, frame: &[u8]) -> Result<(), NoMemory>
-    ensures frames { OnOk result (O.parcels outlet.new
-        ≡ behind (O.parcels outlet.old) (to_ports frame.now (ports_of ports))) }
+fn give_ports<O: Outlet>(outlet: &mut O, ports: u64, frame: &[u8])
+    ensures frames { O.parcels outlet.new
+        ≡ behind (O.parcels outlet.old) (to_ports frame.now (ports_of ports)) }
     ensures records { O.records outlet.new ≡ O.records outlet.old }
 {
     let mut port = 0;
     while let Some(next) = next_port(ports, port) {
-        outlet.frame(Target::Port(next), frame)?;
+        outlet.frame(Target::Port(next), frame);
         port = next;
     }
-    Ok(())
 }
 
 /// Gives a datagram to each of these edges.
-fn give_edges<O: Outlet>(outlet: &mut O, edges: &[Addr], datagram: &[u8]) -> Result<(), NoMemory>
-    ensures frames { OnOk result
-        (O.parcels outlet.new ≡ behind (O.parcels outlet.old) (to_edges datagram.now edges.now)) }
+fn give_edges<O: Outlet>(outlet: &mut O, edges: &[Addr], datagram: &[u8])
+    ensures frames { O.parcels outlet.new
+        ≡ behind (O.parcels outlet.old) (to_edges datagram.now edges.now) }
     ensures records { O.records outlet.new ≡ O.records outlet.old }
 {
     for edge in edges {
-        outlet.frame(Target::Edge(*edge), datagram)?;
+        outlet.frame(Target::Edge(*edge), datagram);
     }
-    Ok(())
 }
 
 /// Gives a frame where it was decided to go: to the ports as it is, to the edges in a datagram.
@@ -57,28 +54,24 @@ fn give_decided<O: Outlet>(
     vni: Vni,
     frame: &[u8],
     decision: &Decision,
-) -> Result<(), NoMemory>
+)
     requires { length frame.now ≤ 9018 }
-    ensures frames { OnOk result (O.parcels outlet.new
-        ≡ behind (O.parcels outlet.old) (decided vni frame.now (Some decision.now))) }
+    ensures frames { O.parcels outlet.new
+        ≡ behind (O.parcels outlet.old) (decided vni frame.now (Some decision.now)) }
     ensures records { O.records outlet.new ≡ O.records outlet.old }
 {
-    give_ports(outlet, decision.local, frame)?;
+    give_ports(outlet, decision.local, frame);
     let edges = decision.remote.as_slice();
     if edges.is_empty() {
-        return Ok(());
+        return;
     }
     let size = wrap(scratch, vni, frame);
-    give_edges(outlet, edges, &scratch[..size])
+    give_edges(outlet, edges, &scratch[..size]);
 }
 
 /// Gives what a reply gives out to the links of its edge: each BPDU to its port, in a frame from
 /// this bridge; then the frame of network `vni`, of at most 9,018 octets, where it was decided to
 /// go, to the ports as it is and to the edges in a datagram.
-///
-/// # Errors
-///
-/// Where memory for one of them is refused. It and those after it are lost then.
 pub fn give_out<O: Outlet>(
     outlet: &mut O,
     scratch: &mut [u8; 9026],
@@ -86,15 +79,14 @@ pub fn give_out<O: Outlet>(
     vni: Vni,
     frame: &[u8],
     reply: &Reply,
-) -> Result<(), NoMemory>
+)
     requires { length frame.now ≤ 9018 }
-    ensures frames { OnOk result (O.parcels outlet.new
-        ≡ behind (O.parcels outlet.old) (parcels_of bridge vni frame.now reply.now)) }
+    ensures frames { O.parcels outlet.new
+        ≡ behind (O.parcels outlet.old) (parcels_of bridge vni frame.now reply.now) }
     ensures records { O.records outlet.new ≡ O.records outlet.old }
 {
-    give_bpdus(outlet, bridge, reply.bpdus.as_slice())?;
-    match &reply.decision {
-        Some(decision) => give_decided(outlet, scratch, vni, frame, decision),
-        None => Ok(()),
+    give_bpdus(outlet, bridge, reply.bpdus.as_slice());
+    if let Some(decision) = &reply.decision {
+        give_decided(outlet, scratch, vni, frame, decision);
     }
 }

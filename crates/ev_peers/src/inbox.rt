@@ -1,10 +1,12 @@
 //! Where what other workers send to one of them comes from.
-ghost use Rattle.std.specs.Prelude.{◌≡◌, ◌∷◌, [], Option, List, option_map};
+ghost use Rattle.std.specs.Prelude.{◌≡◌, ◌≤◌, ◌∷◌, [], Option, List, length, IfSome};
 ghost use Rattle.route_wire.specs.Fields.{Fields};
 ghost use Rattle.ev_peers.specs.Giving.{behind};
-ghost use Rattle.ev_peers.specs.Links.{Packet, packet};
+ghost use Rattle.ev_peers.specs.Links.{Packet};
+ghost use Rattle.ev_peers.specs.Line.{handed};
 
-use crate::channels::{Message, Output};
+use crate::channels::Message;
+use crate::shared_line::SharedLine;
 use crossbeam_channel::Receiver;
 use ether_wire::Addr;
 use route_wire::Update;
@@ -25,10 +27,12 @@ pub trait PacketsIn {
     /// What came, in its order, where it tells it: each datagram, and none for the end.
     ghost came: { Self → Option (List (Option Packet)) };
 
-    /// Waits for the next datagram: the address that it is for, and its octets. None at the end.
-    fn next(&mut self) -> Option<(Addr, Vec<u8>)>
-        ensures { came self.new
-            ≡ behind (came self.old) (option_map (λ p. packet p.0 p.1.items) result ∷ []) };
+    /// Waits for the next datagram, of at most 9,026 octets, and puts it at the front of the
+    /// buffer: the address that it is for, and how many octets it has. None at the end.
+    fn next(&mut self, buffer: &mut [u8]) -> Option<(Addr, usize)>
+        requires { 9026 ≤ length buffer.old }
+        ensures fits { IfSome result (λ r. r.1 ≤ length buffer.new) }
+        ensures came { came self.new ≡ behind (came self.old) (handed result buffer.new ∷ []) };
 }
 
 /// The update of a message, if it isn't the last one.
@@ -36,14 +40,6 @@ fn record_of(message: Message) -> Option<Update> {
     match message {
         Message::Record(update) => Some(update),
         Message::Stop => None,
-    }
-}
-
-/// What a message has for a link, if it isn't the last one.
-fn datagram_of(output: Output) -> Option<(Addr, Vec<u8>)> {
-    match output {
-        Output::Frame(to, octets) => Some((to, octets)),
-        Output::Stop => None,
     }
 }
 
@@ -68,23 +64,19 @@ impl<R: Wait> UpdatesIn for UpdateBox<'_, R> {
     }
 }
 
-/// The datagrams that come over a channel. Clauses see nothing of its ends, so it
-/// doesn't tell which came.
+/// What waits on a line. Clauses see nothing of what is under a lock, so it doesn't tell what came.
 #[derive(Drop)]
-pub(crate) struct PacketBox<'x, R> {
+pub(crate) struct LineBox<'x, R> {
     pub(crate) rt: &'x R,
-    pub(crate) channel: &'x Receiver<Output>,
+    pub(crate) line: &'x SharedLine,
 }
 
-impl<R: Wait> PacketsIn for PacketBox<'_, R> {
+impl<R: Wait> PacketsIn for LineBox<'_, R> {
     ghost use Rattle.std.specs.Prelude.{None};
 
     ghost came = { λ b. None };
 
-    fn next(&mut self) -> Option<(Addr, Vec<u8>)> {
-        let Ok(output) = self.channel.recv(self.rt) else {
-            return None;
-        };
-        datagram_of(output)
+    fn next(&mut self, buffer: &mut [u8]) -> Option<(Addr, usize)> {
+        self.line.next(self.rt, buffer)
     }
 }

@@ -1,12 +1,12 @@
 //! An edge as its workers share it: its book under a lock, and what tells of each call of it.
-ghost use Rattle.std.specs.Prelude.{◌≡◌, ◌≤◌, OnOk, length};
+ghost use Rattle.std.specs.Prelude.{◌≡◌, ◌≤◌, length};
 ghost use Rattle.ev_book.specs.Entering.{answered};
 ghost use Rattle.ev_peers.specs.Giving.{behind};
 ghost use Rattle.ev_peers.specs.Passing.{Entered, Asked, Announces, PassesOn, announced_by, given_by};
 
 use crate::gate::{Gate, Point};
 use crate::giving::give_out;
-use crate::outlet::{NoMemory, Outlet};
+use crate::outlet::Outlet;
 use ether_wire::{Mac, Vni};
 use ev_book::{Book, BookRefusal, Pass};
 use ev_edge::{EdgeRefusal, Event, Refusal, Reply};
@@ -23,7 +23,7 @@ pub enum Ended {
     End,
     /// Its link failed.
     Device,
-    /// It was refused memory or a thread.
+    /// It was refused its thread.
     NoMemory,
 }
 
@@ -109,21 +109,16 @@ impl<L: Ledger, G: Gate, R: Wait> Site<'_, L, G, R> {
 
     /// Asks for the edge's announcements until there is none or one is refused, and gives
     /// each to the other edges.
-    fn announce<O: Outlet>(
-        &self,
-        pass: &mut Pass<L>,
-        outlet: &mut O,
-        reply: &mut Reply,
-    ) -> Result<(), NoMemory>
-        ensures announces { OnOk result
-            (Announces pass.old (O.records outlet.old) pass.new (O.records outlet.new)) }
+    fn announce<O: Outlet>(&self, pass: &mut Pass<L>, outlet: &mut O, reply: &mut Reply)
+        ensures announces { Announces pass.old (O.records outlet.old) pass.new
+            (O.records outlet.new) }
         ensures parcels { O.parcels outlet.new ≡ O.parcels outlet.old }
     {
         for _ in self.rt.forever() {
             let Some(update) = self.ask(pass, reply) else {
-                return Ok(());
+                return;
             };
-            outlet.record(update)?;
+            outlet.record(update);
         }
         unreachable!()
     }
@@ -139,15 +134,14 @@ impl<L: Ledger, G: Gate, R: Wait> Site<'_, L, G, R> {
         event: &Event<'_>,
         vni: Vni,
         frame: &[u8],
-    ) -> Result<(), NoMemory>
+    )
         requires { length frame.now ≤ 9018 }
-        ensures { OnOk result
-            (PassesOn self.now.bridge vni frame.now pass.old event.now (O.parcels outlet.old)
-            (O.records outlet.old) pass.new (O.parcels outlet.new) (O.records outlet.new)) }
+        ensures { PassesOn self.now.bridge vni frame.now pass.old event.now (O.parcels outlet.old)
+            (O.records outlet.old) pass.new (O.parcels outlet.new) (O.records outlet.new) }
     {
         let answer = self.enter(pass, event, &mut scratch.reply);
-        give_answer(outlet, scratch, self.bridge, vni, frame, &answer)?;
-        self.announce(pass, outlet, &mut scratch.reply)
+        give_answer(outlet, scratch, self.bridge, vni, frame, &answer);
+        self.announce(pass, outlet, &mut scratch.reply);
     }
 }
 
@@ -203,21 +197,14 @@ fn give_answer<O: Outlet>(
     vni: Vni,
     frame: &[u8],
     answer: &Result<(), BookRefusal>,
-) -> Result<(), NoMemory>
+)
     requires { length frame.now ≤ 9018 }
-    ensures parcels { OnOk result (O.parcels outlet.new ≡ behind (O.parcels outlet.old)
-        (given_by bridge vni frame.now (answered answer.now scratch.old.reply))) }
+    ensures parcels { O.parcels outlet.new ≡ behind (O.parcels outlet.old)
+        (given_by bridge vni frame.now (answered answer.now scratch.old.reply)) }
     ensures records { O.records outlet.new ≡ O.records outlet.old }
 {
-    match answer {
-        Ok(()) => give_out(
-            outlet,
-            &mut scratch.datagram,
-            bridge,
-            vni,
-            frame,
-            &scratch.reply,
-        ),
-        Err(_) => Ok(()),
+    if answer.is_ok() {
+        let Scratch { reply, datagram } = scratch;
+        give_out(outlet, datagram, bridge, vni, frame, reply);
     }
 }

@@ -1,5 +1,5 @@
 //! The workers of an edge: each takes what comes over one link or channel, one thing at a time.
-ghost use Rattle.std.specs.Prelude.{◌≡◌, ◌+◌, ◌^◌, ◌<◌, ◌≤◌, OnOk, length};
+ghost use Rattle.std.specs.Prelude.{◌≡◌, ◌+◌, ◌^◌, ◌<◌, ◌≤◌, length, take};
 ghost use Rattle.ev_peers.specs.Links.{failures_told, failures_in, arrival, packet};
 ghost use Rattle.ev_peers.specs.declared.workers.Source.TheVariants.{Tunnel, Clock};
 ghost use Rattle.ev_peers.specs.Working.{IsEventOf, fitting, unwrapped, carried, standing, Handles, Turns, Ends, PortEnds, PeerEnds};
@@ -8,8 +8,9 @@ ghost use Rattle.ev_peers.specs.Sending.{gone, Sends, OutEnds};
 
 use crate::gate::Gate;
 use crate::inbox::{PacketsIn, UpdatesIn};
+use crate::line::LONGEST;
 use crate::links::{LinkIn, LinkOut};
-use crate::outlet::{NoMemory, Outlet};
+use crate::outlet::Outlet;
 use crate::site::{Ended, Scratch, Site};
 use ether_wire::{Addr, Vni};
 use ev_book::Pass;
@@ -87,16 +88,16 @@ fn enter_datagram<L: Ledger, O: Outlet, G: Gate, R: Wait>(
     source: &Source,
     from: Addr,
     octets: &[u8],
-) -> Result<(), NoMemory>
-    ensures { OnOk result (Handles site.now.bridge source.now
+)
+    ensures { Handles site.now.bridge source.now
         (standing pass.old (O.parcels outlet.old) (O.records outlet.old)) (arrival from octets.now)
-        (standing pass.new (O.parcels outlet.new) (O.records outlet.new))) }
+        (standing pass.new (O.parcels outlet.new) (O.records outlet.new)) }
 {
     let Some(event) = event_of(source, from, octets) else {
-        return Ok(());
+        return;
     };
     let (vni, frame) = carried(source, octets);
-    site.act(pass, outlet, scratch, &event, vni, frame)
+    site.act(pass, outlet, scratch, &event, vni, frame);
 }
 
 /// Waits for the next datagram of a link and enters it, and answers why the
@@ -119,10 +120,8 @@ fn turn<L: Ledger, I: LinkIn, O: Outlet, G: Gate, R: Wait>(
     match link.recv(buffer) {
         Ok(Some((from, size))) => {
             let (octets, _) = buffer.split_at(size);
-            match enter_datagram(site, pass, outlet, scratch, source, from, octets) {
-                Ok(()) => None,
-                Err(_) => Some(Ended::NoMemory),
-            }
+            enter_datagram(site, pass, outlet, scratch, source, from, octets);
+            None
         }
         Ok(None) => Some(Ended::End),
         Err(_) => Some(Ended::Device),
@@ -174,10 +173,7 @@ pub fn port_worker<L: Ledger, I: LinkIn, O: Outlet, G: Gate, R: Wait>(
         (standing pass.new (O.parcels outlet.new) (O.records outlet.new)) }
 {
     let mut scratch = Scratch::new();
-    let up = site.act(pass, outlet, &mut scratch, &Event::PortUp(port), vni, &[]);
-    if up.is_err() {
-        return Ended::NoMemory;
-    }
+    site.act(pass, outlet, &mut scratch, &Event::PortUp(port), vni, &[]);
     link_worker(site, pass, outlet, link, &Source::Port(port, vni))
 }
 
@@ -232,11 +228,17 @@ pub fn peer_worker<L: Ledger, I: UpdatesIn, O: Outlet, G: Gate, R: Wait>(
             return Ended::End;
         };
         let event = Event::Take(update);
-        let Ok(()) = site.act(pass, outlet, &mut scratch, &event, Vni::new(0), &[]) else {
-            return Ended::NoMemory;
-        };
+        site.act(pass, outlet, &mut scratch, &event, Vni::new(0), &[]);
     }
     unreachable!()
+}
+
+/// The first octets of a buffer.
+fn front(buffer: &[u8], size: usize) -> &[u8]
+    requires { size ≤ length buffer.now }
+    ensures { result.now ≡ take size buffer.now }
+{
+    &buffer[..size]
 }
 
 /// Sends a datagram, and answers how many were lost in a failed call.
@@ -252,22 +254,23 @@ fn send_one<O: LinkOut>(link: &mut O, to: Addr, octets: &[u8]) -> u64
     }
 }
 
-/// Sends the datagrams that workers give for a link, until there are no more, and answers how many
-/// of them were lost in a failed call.
+/// Sends what waits on the line of a link, until nothing more comes, and answers how much of it was
+/// lost in a failed call.
 pub fn out_worker<I: PacketsIn, O: LinkOut, R: Wait>(rt: &R, link: &mut O, packets: &mut I) -> u64
     ensures lost { O.failed link.new ≡ O.failed link.old + result }
     ensures sends { OutEnds (I.came packets.old) (gone (O.sent link.old) (O.failed link.old))
         (I.came packets.new) (gone (O.sent link.new) (O.failed link.new)) }
 {
     let mut lost = 0;
+    let mut buffer = [0u8; LONGEST];
     for _ in rt.forever() {
         if link.failures() == u64::MAX {
             return lost;
         }
-        let Some(packet) = packets.next() else {
+        let Some(packet) = packets.next(&mut buffer) else {
             return lost;
         };
-        lost += send_one(link, packet.0, packet.1.as_slice());
+        lost += send_one(link, packet.0, front(&buffer, packet.1));
     }
     unreachable!()
 }

@@ -15,7 +15,7 @@ use Rattle.ev_report.specs.Ends.{Devices, devices, has_failed, Passes}
 use Rattle.ev_report.specs.declared.input.Unread.TheVariants.{Device}
 use Rattle.ev_report.specs.Input.{ReadsWhole, Gathers}
 use Rattle.ev_report.specs.Notes.{status_of}
-use Rattle.ev_run.specs.RunEdges.{EachConfig, unbound_text, Ended, ended_text, reports_from, lost_text, sends_failed, link_failed, was_starved, all_lost, Drains, IsReadOut, ReadsOut, TellsEnded, IsUnbound, TellsUnbound, RunsEdges}
+use Rattle.ev_run.specs.RunEdges.{EachConfig, unbound_text, Ended, texts_from, reports_from, noted_text, sends_failed, link_failed, was_starved, all_lost, Drains, IsReadOut, ReadsOut, TellsEnded, IsUnbound, TellsUnbound, RunsEdges}
 use Rattle.ev_report.proofs.Finishing.{put_holds, put_failed, passed_out, passed_notes, passed_status, failed_out, failed_notes}
 use Rattle.ev_report.proofs.Gathering.{gathers_more, whole_ended, whole_failed, whole_unended}
 use Rattle.ev_report.proofs.Reading.{gives_none}
@@ -55,22 +55,22 @@ module _ (all left : List EdgeConfig) (config : EdgeConfig) (same : all ≡ left
 
 -- ---- what is told
 
-reports_both : (number : ℕ) (xs ys : List Ended) → reports_from number (xs ++ ys) ≡ reports_from number xs ++ reports_from (number + length xs) ys
-reports_both number [] ys = ap (λ n. reports_from n ys) (grind arith)
-reports_both number (x ∷ xs) ys =
-    ap (λ text. ended_text number x ++ text) (reports_both (number + 1) xs ys ∙ ap (λ n. reports_from (number + 1) xs ++ reports_from n ys) (grind arith))
-    ∙ sym (append_assoc (ended_text number x) (reports_from (number + 1) xs) (reports_from (number + length (x ∷ xs)) ys))
+texts_both : {A : Type 0} (text : ℕ → A → List ℕ) (number : ℕ) (xs ys : List A) → texts_from text number (xs ++ ys) ≡ texts_from text number xs ++ texts_from text (number + length xs) ys
+texts_both text number [] ys = ap (λ n. texts_from text n ys) (grind arith)
+texts_both text number (x ∷ xs) ys =
+    ap (λ more. text number x ++ more) (texts_both text (number + 1) xs ys ∙ ap (λ n. texts_from text (number + 1) xs ++ texts_from text n ys) (grind arith))
+    ∙ sym (append_assoc (text number x) (texts_from text (number + 1) xs) (texts_from text (number + length (x ∷ xs)) ys))
 
--- one edge more
-pub reports_more : (ended : List Ended) (place : ℕ) (d : Ended) → place < length ended
-    → reports_from 1 (take (place + 1) ended) ≡ reports_from 1 (take place ended) ++ ended_text (place + 1) (get_or ended place d)
-reports_more ended place d within =
-    let before = take place ended in
-    let one = get_or ended place d in
-    let count : 1 + length before ≡ place + 1 = ap (λ n. 1 + n) (length-take-le place ended (omega arith)) ∙ grind arith in
-    ap (reports_from 1) (take_more ended place d within) ∙ reports_both 1 before (one ∷ [])
-    ∙ ap (λ n. reports_from 1 before ++ reports_from n (one ∷ [])) count
-    ∙ ap (λ text. reports_from 1 before ++ text) (append-nil (ended_text (place + 1) one))
+-- one more
+pub texts_more : {A : Type 0} (text : ℕ → A → List ℕ) (number : ℕ) (all : List A) (place : ℕ) (d : A) → place < length all
+    → texts_from text number (take (place + 1) all) ≡ texts_from text number (take place all) ++ text (number + place) (get_or all place d)
+texts_more text number all place d within =
+    let before = take place all in
+    let one = get_or all place d in
+    let count : number + length before ≡ number + place = ap (λ n. number + n) (length-take-le place all (omega arith)) in
+    ap (texts_from text number) (take_more all place d within) ∙ texts_both text number before (one ∷ [])
+    ∙ ap (λ n. texts_from text number before ++ texts_from text n (one ∷ [])) count
+    ∙ ap (λ t. texts_from text number before ++ t) (append-nil (text (number + place) one))
 
 min_twice : (a b m : ℕ) → min (min a m + b) m ≡ min (a + b) m
 min_twice a b m = grind arith
@@ -86,7 +86,7 @@ lost_more ended place d within =
     ∙ sym (min_twice (sum_by sends_failed before) (sends_failed one) (2 ^ 64 - 1))
 
 module _ (ended : List Ended) (is_read : Bool) (out out' notes notes' : End) (r s : Result (Unit {0}) device.Device) where
-  pub tells_ended : (status : ℕ) → Puts out out' (reports_from 1 ended) r → Puts notes notes' (lost_text (all_lost ended)) s
+  pub tells_ended : (status : ℕ) → Puts out out' (reports_from 1 ended) r → Puts notes notes' (noted_text ended (all_lost ended)) s
       → status ≡ status_of (((not is_read || list_any link_failed ended) || nat_lt 0 (all_lost ended)) || (not (is_ok r) || not (is_ok s))) (list_any was_starved ended) false
       → TellsEnded ended is_read out out' notes notes' status
   tells_ended status told put is =
@@ -94,9 +94,9 @@ module _ (ended : List Ended) (is_read : Bool) (out out' notes notes' : End) (r 
       let starved = list_any was_starved ended in
       record {
         written = put_holds out out' r (reports_from 1 ended) told;
-        noted = put_holds notes notes' s (lost_text (all_lost ended)) put;
+        noted = put_holds notes notes' s (noted_text ended (all_lost ended)) put;
         status_is = is ∙ ap (λ x. status_of (e || (x || not (is_ok s))) starved false) (sym (put_failed out out' r (reports_from 1 ended) told))
-            ∙ ap (λ x. status_of (e || (has_failed out out' || x)) starved false) (sym (put_failed notes notes' s (lost_text (all_lost ended)) put));
+            ∙ ap (λ x. status_of (e || (has_failed out out' || x)) starved false) (sym (put_failed notes notes' s (noted_text ended (all_lost ended)) put));
       }
 
 -- an address is told
@@ -124,7 +124,7 @@ module _ (many : ℕ) (before held after : Devices) (status last : ℕ) (p : Pas
       → TellsEnded ended is_read before.out after.out before.notes after.notes last
   passed_ended ended is_read t =
       let text = reports_from 1 ended in
-      let lost = lost_text (all_lost ended) in
+      let lost = noted_text ended (all_lost ended) in
       record {
         written = passed_out before held after status last p text t.written;
         noted = passed_notes before held after status last p lost t.noted;

@@ -1,5 +1,5 @@
 -- What a run of edges over sockets leaves.
-use Rattle.std.specs.Prelude.{◌≡◌, ℕ, ◌+◌, ◌-◌, ◌^◌, min, ◌⊎◌, ◌||◌, Bool, true, false, not, nat_lt, if◌then◌else◌, List, [], ◌∷◌, ◌++◌, length, Contains, codes, Result, Ok, Err}
+use Rattle.std.specs.Prelude.{◌≡◌, ℕ, ◌+◌, ◌-◌, ◌^◌, min, ◌⊎◌, ◌||◌, Bool, true, false, not, ◌==◌, nat_lt, if◌then◌else◌, List, [], ◌∷◌, ◌++◌, length, Contains, codes, Result, Ok, Err}
 use Rattle.std.specs.Fmt.{decimal}
 use Rattle.std.specs.List.{sum_by, list_any}
 use Rattle.std.specs.declared.alloc.AllocError.{AllocError}
@@ -75,10 +75,29 @@ abbrev pub ended_text : ℕ → Ended → Text
 ended_text number (Ok outcome) = edge_text number outcome.edge
 ended_text number (Err refused) = []
 
+-- what is written of each of these, with its number, the first of which is this one
+abbrev pub texts_from : {A : Type 0} → (ℕ → A → Text) → ℕ → List A → Text
+texts_from text number [] = []
+texts_from text number (one ∷ more) = text number one ++ texts_from text (number + 1) more
+
 -- the texts of all edges, the first of which has this number
 abbrev pub reports_from : ℕ → List Ended → Text
-reports_from number [] = []
-reports_from number (one ∷ more) = ended_text number one ++ reports_from (number + 1) more
+reports_from = texts_from ended_text
+
+-- the link of a line: that of the tunnel, or that of the port with this number
+abbrev pub link_text : ℕ → Text
+link_text place = if place == 0 then codes "tunnel" else codes "port " ++ decimal place
+
+-- `edge E port P: N frames dropped: no room`, where there are any
+abbrev pub dropped_text : ℕ → ℕ → ℕ → Text
+dropped_text number place dropped =
+    if nat_lt 0 dropped then (codes "edge " ++ decimal number ++ codes " ") ++ link_text place ++ (codes ": " ++ decimal dropped ++ codes " frames dropped: no room\n")
+    else []
+
+-- so of each line of an edge that ran
+abbrev pub drops_text : ℕ → Ended → Text
+drops_text number (Ok outcome) = texts_from (dropped_text number) 0 outcome.dropped.items
+drops_text number (Err refused) = []
 
 -- `lost N`, where sends failed
 abbrev pub lost_text : ℕ → Text
@@ -103,11 +122,15 @@ was_starved (Err refused) = true
 abbrev pub all_lost : List Ended → ℕ
 all_lost ended = min (sum_by sends_failed ended) (2 ^ 64 - 1)
 
--- The reports of the edges that ran are written, and `lost N` is noted where sends failed. The status is 4 where a device
--- failed, 3 where memory or a thread was refused, else 0.
+-- what is noted: which links had no room for frames, and `lost N`
+abbrev pub noted_text : List Ended → ℕ → Text
+noted_text ended lost = texts_from drops_text 1 ended ++ lost_text lost
+
+-- The reports of the edges that ran are written. What their lines had no room for is noted, and `lost N` where sends failed. The
+-- status is 4 where a device failed, 3 where memory or a thread was refused, else 0.
 pub record TellsEnded (ended : List Ended) (is_read : Bool) (out out' notes notes' : End) (status : ℕ) : Type 0 where
   pub written : Holds out out' (reports_from 1 ended)
-  pub noted : Holds notes notes' (lost_text (all_lost ended))
+  pub noted : Holds notes notes' (noted_text ended (all_lost ended))
   pub status_is : status ≡ status_of (((not is_read || list_any link_failed ended) || nat_lt 0 (all_lost ended)) || (has_failed out out' || has_failed notes notes')) (list_any was_starved ended) false
 
 -- ---- a run

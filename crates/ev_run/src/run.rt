@@ -9,7 +9,7 @@ ghost use Rattle.ev_report.specs.Ends.{AreOpen, devices};
 ghost use Rattle.ev_run.specs.RunEdges.{EachConfig, ReadsOut, sends_failed, link_failed, was_starved, all_lost, TellsEnded, Ran, TellsUnbound, RunsEdges};
 
 use crate::sockets::{PortSocket, Sockets, Unbound, bind_all, put_unbound, wake_all};
-use crate::telling::{put_lost, put_reports};
+use crate::telling::{put_notes, put_reports};
 use ether_wire::{Device, In, Out};
 use ev_config::Config;
 use ev_edge::EdgeConfig;
@@ -184,7 +184,7 @@ fn tell_ended<W: Out, N: Out>(
 {
     let sum = sum_of(ended);
     let is_told = put_reports(out, ended).is_ok();
-    let is_noted = put_lost(notes, sum.lost).is_ok();
+    let is_noted = put_notes(notes, ended, sum.lost).is_ok();
     let has_failed = has_failed(sum, is_read, is_told, is_noted);
     status_of(has_failed, sum.is_starved, false)
 }
@@ -253,8 +253,8 @@ fn tell_unbound<N: Out>(unbound: Unbound, notes: &mut N) -> u8
 }
 
 /// Runs the edges of a configuration, each on a thread with its workers, until the reader ends;
-/// then writes `edge E` and the report of each edge, and on `notes` `lost N` where N sends failed.
-/// What is read is ignored.
+/// then writes `edge E` and the report of each edge, and on `notes` a line for each link that had
+/// no room for frames, and `lost N` where N sends failed. What is read is ignored.
 ///
 /// The status is the greatest that applies: 4 where a device failed, be it a reader, a writer, a
 /// link or a socket that can't be bound; 3 where memory or a thread was refused; else 0. Where a

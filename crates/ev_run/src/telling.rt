@@ -1,6 +1,8 @@
 //! What a run writes when it has ended.
+ghost use Rattle.std.specs.Prelude.{◌++◌, codes};
+ghost use Rattle.std.specs.Fmt.{decimal};
 ghost use Rattle.ether_wire.specs.Ends.{IsOpen, Puts};
-ghost use Rattle.ev_run.specs.RunEdges.{edge_text, ended_text, reports_from, lost_text};
+ghost use Rattle.ev_run.specs.RunEdges.{edge_text, ended_text, texts_from, reports_from, link_text, dropped_text, drops_text, lost_text, noted_text};
 
 use ether_wire::{Device, Out, put_decimal};
 use ev_edge::Edge;
@@ -53,9 +55,117 @@ pub(crate) fn put_reports<W: Out>(
     Ok(())
 }
 
+/// Writes which link a line is for: that of the tunnel, or that of the port with this number.
+#[tactic(auto, using(ether_wire::proofs::Appending::with_text_twice))]
+fn put_link<N: Out>(notes: &mut N, place: u64) -> Result<(), Device>
+    requires { IsOpen (N.end notes.old) }
+    ensures { Puts (N.end notes.old) (N.end notes.new) (link_text place) result }
+{
+    if place == 0 {
+        return notes.put(b"tunnel");
+    }
+    notes.put(b"port ")?;
+    put_decimal(notes, place)
+}
+
+/// Writes `edge E `.
+#[tactic(auto, using(ether_wire::proofs::Appending::with_text_twice))]
+fn put_edge<N: Out>(notes: &mut N, number: u64) -> Result<(), Device>
+    requires { IsOpen (N.end notes.old) }
+    ensures { Puts (N.end notes.old) (N.end notes.new)
+        (codes "edge " ++ decimal number ++ codes " ") result }
+{
+    notes.put(b"edge ")?;
+    put_decimal(notes, number)?;
+    notes.put(b" ")
+}
+
+/// Writes `: N frames dropped: no room`.
+#[tactic(auto, using(ether_wire::proofs::Appending::with_text_twice))]
+fn put_count<N: Out>(notes: &mut N, dropped: u64) -> Result<(), Device>
+    requires { IsOpen (N.end notes.old) }
+    ensures { Puts (N.end notes.old) (N.end notes.new)
+        (codes ": " ++ decimal dropped ++ codes " frames dropped: no room\n") result }
+{
+    notes.put(b": ")?;
+    put_decimal(notes, dropped)?;
+    notes.put(b" frames dropped: no room\n")
+}
+
+/// Writes how many frames a line had no room for, where there were any.
+#[tactic(auto, using(ether_wire::proofs::Appending::with_text_twice, ether_wire::proofs::Appending::with_text_none))]
+fn put_dropped<N: Out>(notes: &mut N, number: u64, place: u64, dropped: u64) -> Result<(), Device>
+    requires { IsOpen (N.end notes.old) }
+    ensures { Puts (N.end notes.old) (N.end notes.new) (dropped_text number place dropped) result }
+{
+    if dropped == 0 {
+        return Ok(());
+    }
+    put_edge(notes, number)?;
+    put_link(notes, place)?;
+    put_count(notes, dropped)
+}
+
+/// Writes so of each line of an edge.
+fn put_lines<N: Out>(notes: &mut N, number: u64, dropped: &[u64]) -> Result<(), Device>
+    requires { IsOpen (N.end notes.old) }
+    ensures { Puts (N.end notes.old) (N.end notes.new)
+        (texts_from (dropped_text number) 0 dropped.now) result }
+{
+    for (place, count) in dropped.iter().enumerate() {
+        put_dropped(notes, number, place as u64, *count)?;
+    }
+    Ok(())
+}
+
+/// Writes so of each line of an edge, if it ran.
+#[tactic(auto, using(ether_wire::proofs::Appending::with_text_none))]
+fn put_drops<N: Out>(
+    notes: &mut N,
+    number: u64,
+    ended: &Result<Outcome, AllocError>,
+) -> Result<(), Device>
+    requires { IsOpen (N.end notes.old) }
+    ensures { Puts (N.end notes.old) (N.end notes.new) (drops_text number ended.now) result }
+{
+    match ended {
+        Ok(outcome) => put_lines(notes, number, outcome.dropped.as_slice()),
+        Err(_) => Ok(()),
+    }
+}
+
+/// Writes so of each line of the edges that ran.
+fn put_all_drops<N: Out>(notes: &mut N, ended: &[Result<Outcome, AllocError>]) -> Result<(), Device>
+    requires { IsOpen (N.end notes.old) }
+    ensures { Puts (N.end notes.old) (N.end notes.new) (texts_from drops_text 1 ended.now) result }
+{
+    for (place, one) in ended.iter().enumerate() {
+        put_drops(notes, place as u64 + 1, one)?;
+    }
+    Ok(())
+}
+
+/// Writes which links had no room for frames, and `lost N` where N sends failed.
+///
+/// # Errors
+///
+/// `Device` exactly where a call of the writer failed; then no further call is made.
+#[tactic(auto, using(ether_wire::proofs::Appending::with_text_twice))]
+pub(crate) fn put_notes<N: Out>(
+    notes: &mut N,
+    ended: &[Result<Outcome, AllocError>],
+    lost: u64,
+) -> Result<(), Device>
+    requires { IsOpen (N.end notes.old) }
+    ensures { Puts (N.end notes.old) (N.end notes.new) (noted_text ended.now lost) result }
+{
+    put_all_drops(notes, ended)?;
+    put_lost(notes, lost)
+}
+
 /// Writes `lost N`, where sends failed.
 #[tactic(auto, using(ether_wire::proofs::Appending::with_text_twice, ether_wire::proofs::Appending::with_text_none))]
-pub(crate) fn put_lost<N: Out>(notes: &mut N, lost: u64) -> Result<(), Device>
+fn put_lost<N: Out>(notes: &mut N, lost: u64) -> Result<(), Device>
     requires { IsOpen (N.end notes.old) }
     ensures { Puts (N.end notes.old) (N.end notes.new) (lost_text lost) result }
 {

@@ -5,11 +5,9 @@ abbrev pub invariant-loop-input : goal.invariant-loop-input
 invariant-loop-input g l = record {
   left : vec_len l.port_links ≤ l.count;
   tasks : vec_len l.tasks + vec_len l.port_links ≡ l.count + 2;
-  sendings : vec_len l.sendings + vec_len l.port_links ≡ l.count + 1;
-  ports : vec_len l.ports + vec_len l.port_links ≡ l.count;
+  outputs : vec_len l.outputs + vec_len l.port_links ≡ l.count;
   tasks_room : l.count + 2 ≤ vec_capacity l.tasks;
-  sendings_room : l.count + 1 ≤ vec_capacity l.sendings;
-  ports_room : l.count ≤ vec_capacity l.ports;
+  outputs_room : l.count + 1 ≤ vec_capacity l.outputs;
 }
 
 abbrev pub decreases-loop-input : goal.decreases-loop-input
