@@ -116,7 +116,7 @@ tell "broadcasts come once" once "$leaf" "$host" 10
 ss -K -u -a src 127.0.0.1:20002 > "$work/ss"
 # so long as the root's last message lives, and twice the forward delay
 sleep 15
-open "they come once when it has failed" once "$leaf" "$host" 10
+tell "they come once when it has failed" once "$leaf" "$host" 10
 for device in p1 p2; do unplug "$bridge" $device; done
 unplug "$host" eth
 stop > "$work/stopped"
@@ -129,7 +129,7 @@ prlimit --pid "$running" --data="$(($(awk '/^VmData/ { print $2 }' "/proc/$runni
 probe flood 127.0.0.1:30001 127.0.0.1:20001 3 1400 > "$work/sent"
 prlimit --pid "$running" --data=unlimited
 echo "$(cat "$work/sent") frames of 1,400 octets to 15 ports; now it has $(awk '/^VmRSS/ { print $2 }' "/proc/$running/status") KiB"
-open "port 1 is taken again, within five seconds" hears 1 2 5
+tell "port 1 is taken again, within five seconds" hears 1 2 5
 tell "port 3 hears port 2" hears 2 3 5
 stop > "$work/stopped"
 
@@ -150,7 +150,7 @@ probe flood 127.0.0.1:30001 127.0.0.1:20001 5 > "$work/sent"
 wait "$listening"
 lost=$(awk '$2 ~ /:4E21$/ { print $NF }' /proc/net/udp)
 echo "$(cat "$work/sent") frames, of which the system lost $lost at the port; $(cat "$work/longest") ms between two BPDUs at most"
-open "a BPDU comes each second, and half a second late at most" [ "$(cat "$work/longest")" -le 1500 ]
+tell "a BPDU comes each second, and half a second late at most" [ "$(cat "$work/longest")" -le 1500 ]
 # what waits for the cable may go now
 tc qdisc del dev cable root
 stop > "$work/stopped"

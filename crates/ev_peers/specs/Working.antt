@@ -97,10 +97,20 @@ Ends End bridge source failed came s came' s' =
 Ends Failed bridge source failed came s came' s' = DoesAll (Handles bridge source) came s came' s'
 Ends NoMemory bridge source failed came s came' s' = ⊥
 
--- a port's worker brings its port up first
-abbrev pub PortEnds : Ended → ℕ → ℕ → ℕ → ℕ → Option (List (Option Arrival)) → Standing → Option (List (Option Arrival)) → Standing → Type 0
-PortEnds ended bridge port vni failed came s came' s' =
-    (up : Standing) × Does bridge (vni, []) s (Some (events.PortUp port)) up × Ends ended bridge (Port port vni) failed came up came' s'
+-- a port whose link failed is taken down; one whose link ended stays as it is
+abbrev pub Leaves : Ended → ℕ → ℕ → ℕ → Standing → Standing → Type 0
+Leaves End bridge port vni s s' = s' ≡ s
+Leaves Failed bridge port vni s s' = Does bridge (vni, []) s (Some (events.PortDown port)) s'
+Leaves NoMemory bridge port vni s s' = s' ≡ s
+
+-- A port's worker brings its port up, handles what comes over its link, and leaves the port.
+pub record PortEnds (ended : Ended) (bridge port vni failed : ℕ) (came : Option (List (Option Arrival))) (s : Standing)
+    (came' : Option (List (Option Arrival))) (s' : Standing) : Type 0 where
+  pub up : Standing
+  pub comes_up : Does bridge (vni, []) s (Some (events.PortUp port)) up
+  pub last : Standing
+  pub ends : Ends ended bridge (Port port vni) failed came up came' last
+  pub leaves : Leaves ended bridge port vni last s'
 
 -- a worker of other edges' updates took all that came, to the end; it has no link
 abbrev pub PeerEnds : Ended → ℕ → Option (List (Option Fields)) → Standing → Option (List (Option Fields)) → Standing → Type 0

@@ -2,7 +2,7 @@
 ghost use Rattle.std.specs.Prelude.{◌≡◌, ◌+◌, ◌^◌, ◌<◌, ◌≤◌, length, take};
 ghost use Rattle.ev_peers.specs.Links.{failures_told, failures_in, arrival, packet};
 ghost use Rattle.ev_peers.specs.declared.workers.Source.TheVariants.{Tunnel, Clock};
-ghost use Rattle.ev_peers.specs.Working.{IsEventOf, fitting, unwrapped, carried, standing, Handles, Turns, Ends, PortEnds, PeerEnds};
+ghost use Rattle.ev_peers.specs.Working.{IsEventOf, fitting, unwrapped, carried, standing, Handles, Turns, Ends, Leaves, PortEnds, PeerEnds};
 ghost use Rattle.vxlan_wire.specs.Vxlan.{instance_of};
 ghost use Rattle.ev_peers.specs.Sending.{gone, Sends, OutEnds};
 
@@ -156,9 +156,32 @@ fn link_worker<L: Ledger, I: LinkIn, O: Outlet, G: Gate, R: Wait>(
     unreachable!()
 }
 
+/// Takes an access port down whose link failed: a bridge that hears nothing there any more would
+/// take itself for the only one, and open a ring. One that ended stays as it is.
+fn leave_port<L: Ledger, O: Outlet, G: Gate, R: Wait>(
+    site: &Site<'_, L, G, R>,
+    pass: &mut Pass<L>,
+    outlet: &mut O,
+    ended: &Ended,
+    port: u8,
+    vni: Vni,
+)
+    ensures { Leaves ended.now site.now.bridge port vni
+        (standing pass.old (O.parcels outlet.old) (O.records outlet.old))
+        (standing pass.new (O.parcels outlet.new) (O.records outlet.new)) }
+{
+    match ended {
+        Ended::Device => {
+            let mut scratch = Scratch::new();
+            site.act(pass, outlet, &mut scratch, &Event::PortDown(port), vni, &[]);
+        }
+        Ended::End | Ended::NoMemory => {}
+    }
+}
+
 /// Brings an access port up, and enters the frames that come at it. An empty datagram is no frame.
 ///
-/// It ends with `Device` exactly where a call of the link failed.
+/// It ends with `Device` exactly where a call of the link failed, and has taken the port down then.
 pub fn port_worker<L: Ledger, I: LinkIn, O: Outlet, G: Gate, R: Wait>(
     site: &Site<'_, L, G, R>,
     pass: &mut Pass<L>,
@@ -174,7 +197,9 @@ pub fn port_worker<L: Ledger, I: LinkIn, O: Outlet, G: Gate, R: Wait>(
 {
     let mut scratch = Scratch::new();
     site.act(pass, outlet, &mut scratch, &Event::PortUp(port), vni, &[]);
-    link_worker(site, pass, outlet, link, &Source::Port(port, vni))
+    let ended = link_worker(site, pass, outlet, link, &Source::Port(port, vni));
+    leave_port(site, pass, outlet, &ended, port, vni);
+    ended
 }
 
 /// Enters the datagrams that other edges send. An empty one is none.
