@@ -127,7 +127,7 @@ all_agree v w n m l k x y pool at_v at_w = record { quiet = quiet; arrived = arr
     arrives : (i : ℕ) (a : Edge)
         → slice_get (risen_edge (voice_with here v n []) l x ∷ risen_edge (voice_with there w m []) k y ∷ []) i ≡ Some a
         → (u : Fields) → Contains pool u
-            → (z : Value) × (value_at (table_of a) u.register ≡ Some z) × (is_newer u.value z ≡ false)
+        → (z : Value) × (value_at (table_of a) u.register ≡ Some z) × (is_newer u.value z ≡ false)
     arrives zero a at u inside = let is : risen_edge (voice_with here v n []) l x ≡ a = cc in
         subst (λ (e : Edge). (z : Value) × (value_at (table_of e) u.register ≡ Some z) × (is_newer u.value z ≡ false))
         is (arrived v pool at_v u inside)
@@ -155,9 +155,12 @@ unfolding frame_of instance_of
 letter_enters = refl
 
 pub advertised : Advertises first_edge guest
-advertised =
-    (None, record { is_static = false; sequence = 0; label2 = None }, ap advert_of
-    (found first_agreed (guest_register here)))
+advertised = (
+  None,
+  record { is_static = false; sequence = 0; label2 = None },
+  ap advert_of
+      (found first_agreed (guest_register here)),
+)
 
 abbrev pub given : Reply
 given = sending (decided second_edge guest.mac (Port 1))
@@ -221,14 +224,14 @@ module _ (lists : SettledByLists) (happens : RunsHappen) where
           first_steps _ second_opened (first_with first_said 2 (flood_register here ∷ guest_register here ∷ [])) []
           (Frame 1 (lent hello)) _
           (subst (λ r. FrameSteps r
-              (risen_edge (voice_with here ((flood_register here, said_first) ∷ []) 1 (flood_register here ∷ []))
-              nobody_learnt empty) 1
-              (Ok (sending (decided (first_with first_said 2 (flood_register here ∷ guest_register here ∷ [])) everyone
-              (Port 1)))) (first_with first_said 2 (flood_register here ∷ guest_register here ∷ [])))
+          (risen_edge (voice_with here ((flood_register here, said_first) ∷ []) 1 (flood_register here ∷ []))
+          nobody_learnt empty) 1
+          (Ok (sending (decided (first_with first_said 2 (flood_register here ∷ guest_register here ∷ [])) everyone
+          (Port 1)))) (first_with first_said 2 (flood_register here ∷ guest_register here ∷ [])))
           (sym (hello_arrives (voice_with here ((flood_register here, said_first) ∷ []) 1 (flood_register here ∷ []))
-              nobody_learnt empty))
+          nobody_learnt empty))
           (sends lists happens _ _ _ _ _ _ everyone guest.mac
-              (learns here ((flood_register here, said_first) ∷ []) (flood_register here ∷ []) 0 refl refl)))
+          (learns here ((flood_register here, said_first) ∷ []) (flood_register here ∷ []) 0 refl refl)))
 
   pub agreed_run : HasRun agreed
   agreed_run = record {

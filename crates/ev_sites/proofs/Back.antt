@@ -49,8 +49,14 @@ ends_by net z [] x w way =
     record { before = x; first = []; way = refl; hop = subst (λ v. Crosses net x v) way.1 way.0; long = refl }
 ends_by net z (v ∷ later) x w way =
     let rest = ends_by net v later z w way.1 in
-    record { before = rest.before; first = z
-        ∷ rest.first; way = (way.0, rest.way); hop = rest.hop; long = ap suc rest.long }
+    record {
+      before = rest.before;
+      first = z
+          ∷ rest.first;
+      way = (way.0, rest.way);
+      hop = rest.hop;
+      long = ap suc rest.long;
+    }
 
 -- where a way ends frames pass
 pub passes_at_end : (net : Network) (ports : List Spot) (x w : Spot) → PassesAt net x → Travels net ports x w
@@ -82,9 +88,9 @@ module _ (law : NoCircle) (net : Network) (is : IsNetwork net) (rest : IsAtRest 
   inner n none [] y u w few way hop was = hop.other (was ∙ way)
   inner n none (v ∷ between) y u w few way hop was =
       let ahead : Left net way.0.out v =
-          record { leaves = way.0.leaves; arrives = way.0.arrives; segment = way.0.segment; apart = way.0.apart } in
+      record { leaves = way.0.leaves; arrives = way.0.arrives; segment = way.0.segment; apart = way.0.apart } in
       none between way.0.out v u (omega (arith, few)) ahead way.1
-          (sym hop.bridge ∙ ap (λ (x : Spot). x.bridge) was ∙ sym way.0.bridge)
+      (sym hop.bridge ∙ ap (λ (x : Spot). x.bridge) was ∙ sym way.0.bridge)
 
   -- back by o itself: the last crossing was over the same segment
   by_its_port : (n : ℕ) → NoneBelow n → (ports : List Spot) (o y w : Spot) → length ports ≤ n → Left net o y → o ≡ w
@@ -99,8 +105,16 @@ module _ (law : NoCircle) (net : Network) (is : IsNetwork net) (rest : IsAtRest 
       -- from a third port of the segment: it would have come to y, too
       go (inr third) =
           let hop : Crosses net ends.before y =
-              record { out = ends.hop.out; bridge = ends.hop.bridge; other = ends.hop.other; segment = joined;
-              apart = third; enters = ends.hop.enters; leaves = ends.hop.leaves; arrives = left.arrives } in
+          record {
+            out = ends.hop.out;
+            bridge = ends.hop.bridge;
+            other = ends.hop.other;
+            segment = joined;
+            apart = third;
+            enters = ends.hop.enters;
+            leaves = ends.hop.leaves;
+            arrives = left.arrives;
+          } in
           no_way y (longer net ends.first y ends.before y ends.way hop)
 
   back : (n : ℕ) → NoneBelow n
@@ -109,17 +123,33 @@ module _ (law : NoCircle) (net : Network) (is : IsNetwork net) (rest : IsAtRest 
   back (suc n) [] o y w few left way same =
       let at_y : o.bridge ≡ y.bridge = sym same ∙ ap (λ (z : Spot). z.bridge) (sym way) in
       let hop : Crosses net y y =
-          record { out = o; bridge = at_y; other = left.apart; segment = left.segment; apart = left.apart;
-          enters = left.arrives; leaves = left.leaves; arrives = left.arrives } in
+      record {
+        out = o;
+        bridge = at_y;
+        other = left.apart;
+        segment = left.segment;
+        apart = left.apart;
+        enters = left.arrives;
+        leaves = left.leaves;
+        arrives = left.arrives;
+      } in
       no_way y (longer net [] y y y refl hop)
   back (suc n) (z ∷ later) o y w few left way same =
       elim (same_spot o w) [
         -- back by another port: out by o again
         | inr other ↦ (
             let hop : Crosses net w y =
-                record { out = o; bridge = sym same; other = other; segment = left.segment; apart = left.apart;
-                enters =
-                passes_at_end net (z ∷ later) y w left.arrives way; leaves = left.leaves; arrives = left.arrives } in
+            record {
+              out = o;
+              bridge = sym same;
+              other = other;
+              segment = left.segment;
+              apart = left.apart;
+              enters =
+                  passes_at_end net (z ∷ later) y w left.arrives way;
+              leaves = left.leaves;
+              arrives = left.arrives;
+            } in
             no_way y (longer net (z ∷ later) y w y way hop))
         | inl one ↦ by_its_port n (back n) (z ∷ later) o y w (omega (arith, few)) left one (ends_by net z later y w way)
       ]
@@ -128,4 +158,4 @@ module _ (law : NoCircle) (net : Network) (is : IsNetwork net) (rest : IsAtRest 
       → o ≢ y → Travels net ports y w → w.bridge ≢ o.bridge
   never_back o y w ports leaves arrives segment apart way same =
       back (suc (length ports)) ports o y w (omega arith)
-          (record { leaves = leaves; arrives = arrives; segment = segment; apart = apart }) way same
+      (record { leaves = leaves; arrives = arrives; segment = segment; apart = apart }) way same

@@ -213,8 +213,14 @@ module _ (lists : SettledByLists) (happens : RunsHappen) where
     are_sites = are_sites;
     rest = they_rest;
     by_edge =
-        record { site = site_of here; at = refl; same = refl; decision = decided first_told everyone (Port 1);
-        decides = decides_here; leaves = leaves here (decided first_told everyone (Port 1)) leaves_by_two };
+        record {
+          site = site_of here;
+          at = refl;
+          same = refl;
+          decision = decided first_told everyone (Port 1);
+          decides = decides_here;
+          leaves = leaves here (decided first_told everyone (Port 1)) leaves_by_two;
+        };
     by_tunnel = record {
       near = site_of here;
       far = site_of there;

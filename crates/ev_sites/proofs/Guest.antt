@@ -59,34 +59,34 @@ beaten : (address : ℕ) (said : List Said) (counter : ℕ) (pending : List Regi
     → is_beaten (voice_with address said counter pending) 5001 guest.mac ≡ loses address said
 beaten address said counter pending =
     ap (λ o. is_some (advert_of o) && not (is_at (owner (table_with said) 5001 guest.mac) address))
-        (found said (guest_register address))
+    (found said (guest_register address))
     ∙ ap (λ o. is_some (advert_of (looked_up said (guest_register address))) && not (is_at o address))
-        (owned said 5001 guest.mac)
+    (owned said 5001 guest.mac)
 
 -- what the edge claims once it has taken the update, whether it loses the guest or not
 heard : (address other : ℕ) (said : List Said) (counter : ℕ) (pending : List Register) (learned : Learning) (v : Value)
     → is_news (looked_up said (guest_register other)) v ≡ true → (b : Bool)
-        → loses address ((guest_register other, v) ∷ said) ≡ b
+    → loses address ((guest_register other, v) ∷ said) ≡ b
     → after_take (claims_with (voice_with address said counter pending) learned)
-        (record { register = guest_register other; value = v })
+    (record { register = guest_register other; value = v })
     ≡ cond b (after_removal
-        (claims_with (voice_with address ((guest_register other, v) ∷ said) counter pending) learned) guest)
-        (claims_with (voice_with address ((guest_register other, v) ∷ said) counter pending) learned)
+    (claims_with (voice_with address ((guest_register other, v) ∷ said) counter pending) learned) guest)
+    (claims_with (voice_with address ((guest_register other, v) ∷ said) counter pending) learned)
 heard address other said counter pending learned v news b is =
     ap (λ (t : Table). after_losing_at
-        (claims_with (record { address = address; incarnation = 0; table = t; counter = counter; pending = pending })
-        learned) guest) (taken said (guest_register other) v news)
+    (claims_with (record { address = address; incarnation = 0; table = t; counter = counter; pending = pending })
+    learned) guest) (taken said (guest_register other) v news)
     ∙ ap (λ c. cond c (after_removal
-        (claims_with (voice_with address ((guest_register other, v) ∷ said) counter pending) learned) guest)
-        (claims_with (voice_with address ((guest_register other, v) ∷ said) counter pending) learned))
+    (claims_with (voice_with address ((guest_register other, v) ∷ said) counter pending) learned) guest)
+    (claims_with (voice_with address ((guest_register other, v) ∷ said) counter pending) learned))
     (beaten address ((guest_register other, v) ∷ said) counter pending ∙ is)
 
 pub keeps : (address other : ℕ) (said : List Said) (counter : ℕ) (pending : List Register) (learned : Learning)
     (v : Value)
     → is_news (looked_up said (guest_register other)) v ≡ true
-        → loses address ((guest_register other, v) ∷ said) ≡ false
+    → loses address ((guest_register other, v) ∷ said) ≡ false
     → after_take (claims_with (voice_with address said counter pending) learned)
-        (record { register = guest_register other; value = v })
+    (record { register = guest_register other; value = v })
     ≡ claims_with (voice_with address ((guest_register other, v) ∷ said) counter pending) learned
 keeps address other said counter pending learned v news kept =
     heard address other said counter pending learned v news false kept
@@ -96,11 +96,11 @@ pub withdraws : (address other : ℕ) (said : List Said) (counter : ℕ) (pendin
     (v : Value)
     → is_news (looked_up said (guest_register other)) v ≡ true → loses address ((guest_register other, v) ∷ said) ≡ true
     → after_take (claims_with (voice_with address said counter pending) learned)
-        (record { register = guest_register other; value = v })
+    (record { register = guest_register other; value = v })
     ≡ claims_with (voice_with address
-        ((guest_register address, record { incarnation = 0; counter = counter + 1; content = Withdrawn })
-        ∷ (guest_register other, v) ∷ said) (counter + 1) (marked pending (guest_register address)))
-        (gone learned guest)
+    ((guest_register address, record { incarnation = 0; counter = counter + 1; content = Withdrawn })
+    ∷ (guest_register other, v) ∷ said) (counter + 1) (marked pending (guest_register address)))
+    (gone learned guest)
 withdraws address other said counter pending learned v news lost =
     heard address other said counter pending learned v news true lost
 
@@ -108,12 +108,12 @@ withdraws address other said counter pending learned v news lost =
 pub hears : (address other : ℕ) (said : List Said) (counter : ℕ) (pending : List Register) (learned : Learning)
     → is_news (looked_up said (flood_register other)) said_first ≡ true
     → after_take (claims_with (voice_with address said counter pending) learned)
-        (record { register = flood_register other; value = said_first })
+    (record { register = flood_register other; value = said_first })
     ≡ claims_with (voice_with address ((flood_register other, said_first) ∷ said) counter pending) learned
 hears address other said counter pending learned news =
     ap (λ (t : Table). claims_with
-        (record { address = address; incarnation = 0; table = t; counter = counter; pending = pending }) learned)
-        (taken said (flood_register other) said_first news)
+    (record { address = address; incarnation = 0; table = t; counter = counter; pending = pending }) learned)
+    (taken said (flood_register other) said_first news)
 
 -- ---- the two edges' tables
 

@@ -60,10 +60,10 @@ alone_passes port from members passing q there = go (has_port passing port) ther
 passes_in : (destination : ℕ) (entry owner : Option ℕ) (own : ℕ) (from : Source) (members passing q : ℕ)
     → passing < 2 ^ 64 → IsPort q
     → has_port (local_of (place_of destination entry owner own) from (record { members = members; passing = passing }))
-        q ≡ true → has_port passing q ≡ true
+    q ≡ true → has_port passing q ≡ true
 passes_in destination None owner own from members passing q small port there =
     (local_passes (place_of destination None owner own) from (record { members = members; passing = passing }) small
-        (member_is destination None owner own members (λ p at. absurd (let no : ⊥ = cc in no))) q port there).1
+    (member_is destination None owner own members (λ p at. absurd (let no : ⊥ = cc in no))) q port there).1
 passes_in destination (Some p) owner own from members passing q small port there = go (is_group destination) there
   where
     go : (b : Bool) → has_port
@@ -74,8 +74,8 @@ passes_in destination (Some p) owner own from members passing q small port there
         there).1
     go false there =
         let same : Some p ≡ Some q =
-            at_port (Some p) None (learnt_place (Some p) owner own) from
-            (record { members = members; passing = passing }) q small refl (λ e. let no : ⊥ = cc in no) there in
+        at_port (Some p) None (learnt_place (Some p) owner own) from
+        (record { members = members; passing = passing }) q small refl (λ e. let no : ⊥ = cc in no) there in
         let one : p ≡ q = cc in
         ap (has_port passing) (sym one) ∙ alone_passes p from members passing q there
 
@@ -83,8 +83,8 @@ decided : (e : Edge) (vni destination : ℕ) (from : Source) (d : Decision) → 
     → (q : ℕ) → IsPort q → has_port d.local q ≡ true → Passes e.tree q
 decided e vni destination from d i q port there =
     ((i.are_passing q).0
-        (passes_in destination (port_of e vni destination) (owner (table_of e) vni destination) (address_of e) from
-        i.members i.passing q i.passing_fit port
+    (passes_in destination (port_of e vni destination) (owner (table_of e) vni destination) (address_of e) from
+    i.members i.passing q i.passing_fit port
     (ap (λ n. has_port n q) (sym i.local) ∙ there))).1
 
 -- a port that passes is one of the bridge
@@ -102,11 +102,11 @@ not_own : (e : Edge) (vni destination port : ℕ) (d : Decision) → 1 ≤ port 
 not_own e vni destination port d some passes i =
     let within = is_there e.tree port passes in
     let in_set : has_port i.passing port ≡ true =
-        (i.are_passing port).1 ((some, omega (arith, within, some)), passes) in
+    (i.are_passing port).1 ((some, omega (arith, within, some)), passes) in
     ap (λ n. has_port n port) i.local
     ∙ never_back (place_of destination (port_of e vni destination) (owner (table_of e) vni destination) (address_of e))
-        port (record { members = i.members; passing = i.passing }) i.members_fit i.passing_fit
-        (is_port i.passing port i.passing_fit in_set)
+    port (record { members = i.members; passing = i.passing }) i.members_fit i.passing_fit
+    (is_port i.passing port i.passing_fit in_set)
 
 -- ---- frames from an access port
 
@@ -164,8 +164,8 @@ module _ (e : Edge) (port : ℕ) (e' : Edge) (some : 1 ≤ port) where
       → has_port d.local q ≡ true → Sent e port q
   data_sent vni destination source reply d h is q port_q there =
       sent vni destination d
-          (learnt_stays e (record { vni = vni; mac = source }) port reply.alert e' _ h.learning.learning) h.passes
-          h.are_passed.0 (subst (SendsIf h.passes e' vni destination (Port port)) is h.sending) q port_q there
+      (learnt_stays e (record { vni = vni; mac = source }) port reply.alert e' _ h.learning.learning) h.passes
+      h.are_passed.0 (subst (SendsIf h.passes e' vni destination (Port port)) is h.sending) q port_q there
 
   pub frame_sent : (arrival : Result Arrival Refusal) (result : Result Reply Refusal) (d : Decision)
       → FrameSteps arrival e port result e' → decision_in result ≡ Some d → (q : ℕ) → IsPort q

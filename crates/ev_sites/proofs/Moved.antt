@@ -101,34 +101,74 @@ hears_it =
     (keeps there here second_said 2 [] guest_learnt said_gone refl refl)
 
 pub rests : Rests come move_steps moved
-rests =
-    (heard, Ok (announcing guest_there), tt, tt, tells,
-    (left, Ok (taking first_edge guest_there), tt, tt, loses,
-    (withdrawn, Ok (announcing guest_gone), tt, tt, tells_it,
-    (moved, Ok (taking (second_with second_said []) guest_gone), tt, tt, hears_it, refl))))
+rests = (
+  heard,
+  Ok (announcing guest_there),
+  tt,
+  tt,
+  tells,
+  (
+    left,
+    Ok (taking first_edge guest_there),
+    tt,
+    tt,
+    loses,
+    (
+      withdrawn,
+      Ok (announcing guest_gone),
+      tt,
+      tt,
+      tells_it,
+      (moved, Ok (taking (second_with second_said []) guest_gone), tt, tt, hears_it, refl),
+    ),
+  ),
+)
 
 pub beside : RunsBeside 0 1 guest come move_steps moved
-beside =
-    (heard, Ok (announcing guest_there), tells, tt,
-    (left, Ok (taking first_edge guest_there), loses, tt,
-    (withdrawn, Ok (announcing guest_gone), tells_it, tt,
-    (moved, Ok (taking (second_with second_said []) guest_gone), hears_it, tt, refl))))
+beside = (
+  heard,
+  Ok (announcing guest_there),
+  tells,
+  tt,
+  (
+    left,
+    Ok (taking first_edge guest_there),
+    loses,
+    tt,
+    (
+      withdrawn,
+      Ok (announcing guest_gone),
+      tells_it,
+      tt,
+      (moved, Ok (taking (second_with second_said []) guest_gone), hears_it, tt, refl),
+    ),
+  ),
+)
 
 -- ---- all agree again
 
 pub agree_again : AllAgree moved
-agree_again = all_agree first_moved second_moved 3 2 (gone guest_learnt guest) guest_learnt empty one_move moved_pool
-    ((said_first, refl, refl),
-        ((said_gone, refl, refl),
-        ((said_first, refl, refl), ((said_guest 1, refl, refl), ((said_gone, refl, refl), tt)))))
-    ((said_first, refl, refl),
-        ((said_gone, refl, refl),
-        ((said_first, refl, refl), ((said_guest 1, refl, refl), ((said_gone, refl, refl), tt)))))
+agree_again = all_agree first_moved second_moved 3 2 (gone guest_learnt guest) guest_learnt empty one_move moved_pool (
+  (said_first, refl, refl),
+  (
+    (said_gone, refl, refl),
+    ((said_first, refl, refl), ((said_guest 1, refl, refl), ((said_gone, refl, refl), tt))),
+  ),
+) (
+  (said_first, refl, refl),
+  (
+    (said_gone, refl, refl),
+    ((said_first, refl, refl), ((said_guest 1, refl, refl), ((said_gone, refl, refl), tt))),
+  ),
+)
 
 pub advertised_there : Advertises (second_with second_moved []) guest
-advertised_there =
-    (None, record { is_static = false; sequence = 1; label2 = None }, ap advert_of
-    (found second_moved (guest_register there)))
+advertised_there = (
+  None,
+  record { is_static = false; sequence = 1; label2 = None },
+  ap advert_of
+      (found second_moved (guest_register there)),
+)
 
 module _ (lists : SettledByLists) (happens : RunsHappen) where
   abbrev sent : Reply
@@ -139,7 +179,7 @@ module _ (lists : SettledByLists) (happens : RunsHappen) where
       second_steps first_edge second_edge (second_with second_said (guest_register there ∷ [])) agreed_pool
       (Frame 1 (lent hello)) sent
       (subst (λ r. FrameSteps r second_edge 1 (Ok sent) (second_with second_said (guest_register there ∷ [])))
-          (sym (hello_arrives (voice_with there second_agreed 1 []) nobody_learnt empty))
+      (sym (hello_arrives (voice_with there second_agreed 1 []) nobody_learnt empty))
       (sends lists happens _ _ _ _ _ _ everyone guest.mac (learns there second_agreed [] 1 refl refl)))
 
   pub comes : AgreesOn agreed guest → StationComes agreed 0 1 guest come

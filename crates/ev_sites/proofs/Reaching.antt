@@ -173,10 +173,10 @@ one_goes : (old new : Fabric) (i : ℕ) (a b : Edge) → IsEdge old i a → new.
 one_goes old new i a b at edges configs goes h j c x at_c at_x =
     elim (set_cases old.edges i b j x (subst (λ l. slice_get l j ≡ Some x) edges at_x)) as (λ _. CanBe c.tree
     (settings_of c.ports.items) x.tree) [
-  | inl p ↦ subst (λ (y : Edge). CanBe c.tree (settings_of c.ports.items) y.tree) (sym p.1)
-      (goes c.tree (settings_of c.ports.items) (h i c a (subst (λ n. slice_get old.configs n ≡ Some c) p.0 was) at))
-  | inr p ↦ h j c x was p.1
-]
+      | inl p ↦ subst (λ (y : Edge). CanBe c.tree (settings_of c.ports.items) y.tree) (sym p.1)
+          (goes c.tree (settings_of c.ports.items) (h i c a (subst (λ n. slice_get old.configs n ≡ Some c) p.0 was) at))
+      | inr p ↦ h j c x was p.1
+    ]
   where
     was : slice_get old.configs j ≡ Some c
     was = subst (λ l. slice_get l j ≡ Some c) configs at_c
@@ -191,35 +191,35 @@ steps_at : (old new : Fabric) (i : ℕ) (a : Edge) (event : Event) (result : Res
     → StepsAt old (suc i) a event result new → BridgesCanBe old → BridgesCanBe new
 steps_at old new i a event result at s h =
     one_goes old new i a s.after at
-        (ap (λ (f : Fabric). f.edges) s.new_is ∙ ap (λ n. slice_set old.edges n s.after) (back i))
-        (ap (λ (f : Fabric). f.configs) s.new_is) (steps_go a event s.answer s.after s.steps) h
+    (ap (λ (f : Fabric). f.edges) s.new_is ∙ ap (λ n. slice_set old.edges n s.after) (back i))
+    (ap (λ (f : Fabric). f.configs) s.new_is) (steps_go a event s.answer s.after s.steps) h
 
 announces_at : (old new : Fabric) (i : ℕ) (a : Edge) (result : Result Reply Refusal) → IsEdge old i a
     → AnnouncesAt old (suc i) a result new → BridgesCanBe old → BridgesCanBe new
 announces_at old new i a (Err why) at s h = unchanged old new s.1 h
 announces_at old new i a (Ok reply) at s h =
     one_goes old new i a s.0 at (ap (λ (f : Fabric). f.edges) s.2 ∙ ap (λ n. slice_set old.edges n s.0) (back i))
-        (ap (λ (f : Fabric). f.configs) s.2) (steps_go a events.Announce (Ok reply) s.0 s.1) h
+    (ap (λ (f : Fabric). f.configs) s.2) (steps_go a events.Announce (Ok reply) s.0 s.1) h
 
 reopened : (old new : Fabric) (i : ℕ) (a : Edge) (n : ℕ) (reply : Reply) → OpensAnew old (suc i) a n reply new
     → BridgesCanBe old → BridgesCanBe new
 reopened old new i a n reply s h j c x at_c at_x =
     elim (set_cases old.edges i s.after j x (subst (λ l. slice_get l j ≡ Some x) edges at_x)) as (λ _. CanBe c.tree
     (settings_of c.ports.items) x.tree) [
-  | inl p ↦ elim (set_cases old.configs i (in_life s.config n) j c
-      (subst (λ l. slice_get l j ≡ Some c) configs at_c)) as (λ _. CanBe c.tree (settings_of c.ports.items) x.tree) [
-    | inl q ↦
-        subst (λ (d : EdgeConfig). CanBe d.tree (settings_of d.ports.items) x.tree) (sym q.1)
-        (subst (λ (y : Edge). CanBe s.config.tree (settings_of s.config.ports.items) y.tree) (sym p.1)
-            (opening_can_be (in_life s.config n) s.after s.opened))
-    | inr q ↦ absurd (q.0 p.0)
-  ]
-  | inr p ↦ elim (set_cases old.configs i (in_life s.config n) j c
-      (subst (λ l. slice_get l j ≡ Some c) configs at_c)) as (λ _. CanBe c.tree (settings_of c.ports.items) x.tree) [
-    | inl q ↦ absurd (p.0 q.0)
-    | inr q ↦ h j c x q.1 p.1
-  ]
-]
+      | inl p ↦ elim (set_cases old.configs i (in_life s.config n) j c
+          (subst (λ l. slice_get l j ≡ Some c) configs at_c)) as (λ _. CanBe c.tree (settings_of c.ports.items) x.tree) [
+            | inl q ↦
+                subst (λ (d : EdgeConfig). CanBe d.tree (settings_of d.ports.items) x.tree) (sym q.1)
+                (subst (λ (y : Edge). CanBe s.config.tree (settings_of s.config.ports.items) y.tree) (sym p.1)
+                (opening_can_be (in_life s.config n) s.after s.opened))
+            | inr q ↦ absurd (q.0 p.0)
+          ]
+      | inr p ↦ elim (set_cases old.configs i (in_life s.config n) j c
+          (subst (λ l. slice_get l j ≡ Some c) configs at_c)) as (λ _. CanBe c.tree (settings_of c.ports.items) x.tree) [
+            | inl q ↦ absurd (p.0 q.0)
+            | inr q ↦ h j c x q.1 p.1
+          ]
+    ]
   where
     edges : new.edges ≡ slice_set old.edges i s.after
     edges = ap (λ (f : Fabric). f.edges) s.new_is ∙ ap (λ m. slice_set old.edges m s.after) (back i)
@@ -262,8 +262,8 @@ step_can_be old new (Deliver e k) result s h = go e (nth old.edges e) refl s
   where
     go : (e : ℕ) (o : Option Edge) → nth old.edges e ≡ o
         → MatchOption o (IsRefused NoSuchEdge old result new)
-            (λ a. MatchOption (nth old.pool k) (IsRefused NoSuchUpdate old result new)
-            (λ u. StepsAt old e a (events.Take u) result new)) → BridgesCanBe new
+        (λ a. MatchOption (nth old.pool k) (IsRefused NoSuchUpdate old result new)
+        (λ u. StepsAt old e a (events.Take u) result new)) → BridgesCanBe new
     go e None is s = unchanged old new s.1 h
     go zero (Some a) is s = absurd (no_edge a is)
     go (suc i) (Some a) is s = delivers_at old new i a result (nth old.pool k) is s h
@@ -343,4 +343,4 @@ sites_at_rest f sites h can of rest =
 pub no_circle_in_a_fabric : NoCircleThroughTunnels → NoCircleInAFabric
 no_circle_in_a_fabric no_circle cs old new steps fit start runs sites of rest x points goes =
     no_circle sites (sites_at_rest new sites (runs_sound steps old new runs (start_sound cs old fit start))
-        (every_run_can_be cs old new steps start runs) of rest) x points goes
+    (every_run_can_be cs old new steps start runs) of rest) x points goes

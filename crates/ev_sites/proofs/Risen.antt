@@ -62,8 +62,8 @@ has_both : (p : ℕ) → has_port both_ports p ≡ ((2 == p) || ((1 == p) || fal
 has_both p =
     has_port-with (with_port no_ports 1) 2 (record { least = lit≤ tt; most = lit≤ tt }) p
     ∙ ap (λ b. (2 == p) || b)
-        (has_port-with no_ports 1 (record { least = lit≤ tt; most = lit≤ tt }) p
-        ∙ ap (λ b. (1 == p) || b) (has_port-none p))
+    (has_port-with no_ports 1 (record { least = lit≤ tt; most = lit≤ tt }) p
+    ∙ ap (λ b. (1 == p) || b) (has_port-none p))
 
 past_two : (p : ℕ) → ((2 == suc (suc (suc p))) || ((1 == suc (suc (suc p))) || false)) ≡ false
 past_two p =
@@ -191,45 +191,80 @@ module _ (lists : SettledByLists) (happens : RunsHappen) where
   half_goes : BridgeGoes (tree_events.PortUp 1) down half 0 (sent_from 1 half.ports)
   half_goes =
       let (settled, does) =
-          happens (tree_events.PortUp 1) 192 down half (coming_up 0)
-          (run_is (coming_up 0) (direct (tree_events.PortUp 1) down) half_fires) (lit≤ tt) (inr (half_settled lists)) in
+      happens (tree_events.PortUp 1) 192 down half (coming_up 0)
+      (run_is (coming_up 0) (direct (tree_events.PortUp 1) down) half_fires) (lit≤ tt) (inr (half_settled lists)) in
       record { settled = settled; happens = does; slots = refl }
 
   root_goes : BridgeGoes (tree_events.PortUp 2) half root_bridge 0 (sent_from 1 root_bridge.ports)
   root_goes =
       let (settled, does) =
-          happens (tree_events.PortUp 2) 192 half root_bridge (coming_up 1)
-          (run_is (coming_up 1) (direct (tree_events.PortUp 2) half) both_fire) (lit≤ tt) (inr (root_settled lists)) in
-      record { settled = settled; happens = subst (λ n. Happens (tree_events.PortUp 2) n half root_bridge settled 0)
-          (sym half_limit) does; slots = refl }
+      happens (tree_events.PortUp 2) 192 half root_bridge (coming_up 1)
+      (run_is (coming_up 1) (direct (tree_events.PortUp 2) half) both_fire) (lit≤ tt) (inr (root_settled lists)) in
+      record {
+        settled = settled;
+        happens = subst (λ n. Happens (tree_events.PortUp 2) n half root_bridge settled 0)
+            (sym half_limit) does;
+        slots = refl;
+      }
 
   pub comes_up : Runs (fabric_of root_settings) steps_up risen
-  comes_up =
-      (fabric_up half down, Ok (told half), first_half,
-      (fabric_up root_bridge down, Ok (told root_bridge), first_whole,
-      (fabric_up root_bridge half, Ok (told half), second_half, (risen, Ok (told root_bridge), second_whole, refl))))
+  comes_up = (
+    fabric_up half down,
+    Ok (told half),
+    first_half,
+    (
+      fabric_up root_bridge down,
+      Ok (told root_bridge),
+      first_whole,
+      (fabric_up root_bridge half, Ok (told half), second_half, (risen, Ok (told root_bridge), second_whole, refl)),
+    ),
+  )
     where
       first_half : FabricSteps (fabric_of root_settings) (Local 1 (PortUp 1)) (Ok (told half)) (fabric_up half down)
       first_half =
-          record { after = opened_with here half; answer = Ok (told half); steps = goes_up (opened_with here down)
-          (tree_events.PortUp 1) half half_goes; result_is = refl; new_is = refl }
+          record {
+            after = opened_with here half;
+            answer = Ok (told half);
+            steps = goes_up (opened_with here down)
+                (tree_events.PortUp 1) half half_goes;
+            result_is = refl;
+            new_is = refl;
+          }
 
       first_whole : FabricSteps (fabric_up half down) (Local 1 (PortUp 2)) (Ok (told root_bridge))
           (fabric_up root_bridge down)
       first_whole =
-          record { after = opened_with here root_bridge; answer = Ok (told root_bridge); steps = goes_up
-          (opened_with here half) (tree_events.PortUp 2) root_bridge root_goes; result_is = refl; new_is = refl }
+          record {
+            after = opened_with here root_bridge;
+            answer = Ok (told root_bridge);
+            steps = goes_up
+                (opened_with here half) (tree_events.PortUp 2) root_bridge root_goes;
+            result_is = refl;
+            new_is = refl;
+          }
 
       second_half : FabricSteps (fabric_up root_bridge down) (Local 2 (PortUp 1)) (Ok (told half))
           (fabric_up root_bridge half)
       second_half =
-          record { after = opened_with there half; answer = Ok (told half); steps = goes_up (opened_with there down)
-          (tree_events.PortUp 1) half half_goes; result_is = refl; new_is = refl }
+          record {
+            after = opened_with there half;
+            answer = Ok (told half);
+            steps = goes_up (opened_with there down)
+                (tree_events.PortUp 1) half half_goes;
+            result_is = refl;
+            new_is = refl;
+          }
 
       second_whole : FabricSteps (fabric_up root_bridge half) (Local 2 (PortUp 2)) (Ok (told root_bridge)) risen
       second_whole =
-          record { after = opened_with there root_bridge; answer = Ok (told root_bridge); steps = goes_up
-          (opened_with there half) (tree_events.PortUp 2) root_bridge root_goes; result_is = refl; new_is = refl }
+          record {
+            after = opened_with there root_bridge;
+            answer = Ok (told root_bridge);
+            steps = goes_up
+                (opened_with there half) (tree_events.PortUp 2) root_bridge root_goes;
+            result_is = refl;
+            new_is = refl;
+          }
 
   -- ---- its ports
 
@@ -250,9 +285,11 @@ module _ (lists : SettledByLists) (happens : RunsHappen) where
   two_there = refl
 
   both_pass : ArePassing root_bridge both_ports
-  both_pass p =
-      (λ h. elim (of_both p h) [ inl one ↦ (at_one p one) | inr two ↦ (at_two p two) ], λ h. in_both p h.0.0
-      (let most = h.0.1 in omega (arith, most, two_there)))
+  both_pass p = (
+    λ h. elim (of_both p h) [ inl one ↦ (at_one p one) | inr two ↦ (at_two p two) ],
+    λ h. in_both p h.0.0
+        (let most = h.0.1 in omega (arith, most, two_there)),
+  )
     where
       at_one : (p : ℕ) → p ≡ 1 → IsPort p (length root_bridge.ports) × Passes root_bridge p
       at_one p one =
@@ -282,9 +319,9 @@ module _ (lists : SettledByLists) (happens : RunsHappen) where
   -- a frame that comes at port 1
   pub sends : (v v' : Voice) (l l' : Learning) (w w' : Windows) (destination source : ℕ)
       → LearnsIf (true && not (is_group source)) (risen_edge v l w) (record { vni = 5001; mac = source }) 1 None
-          (risen_edge v' l' w')
+      (risen_edge v' l' w')
       → DataSteps (risen_edge v l w) 1 5001 destination source
-          (sending (decided (risen_edge v' l' w') destination (Port 1))) (risen_edge v' l' w')
+      (sending (decided (risen_edge v' l' w') destination (Port 1))) (risen_edge v' l' w')
   sends v v' l l' w w' destination source learning = record {
     learning = record { learns = true; are_learnt = learns_one; learning = learning };
     passes = true;

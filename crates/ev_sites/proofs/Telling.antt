@@ -65,24 +65,25 @@ announcing u = record nothing { announced = Some u }
 announces : (address : ℕ) (said : List Said) (counter : ℕ) (r : Register) (rs : List Register) (l : Learning)
     (w : Windows) (v : Value) → looked_up said r ≡ Some v
     → Steps (risen_edge (voice_with address said counter (r ∷ rs)) l w) events.Announce (Ok (announcing (update r v)))
-        (risen_edge (voice_with address said counter rs) l w)
-announces address said counter r rs l w v is =
-    (ap (λ o. Ok (record nothing { announced = option_map (λ (x : Value). update r x) o })) (sym (found said r ∙ is)),
-        refl)
+    (risen_edge (voice_with address said counter rs) l w)
+announces address said counter r rs l w v is = (
+  ap (λ o. Ok (record nothing { announced = option_map (λ (x : Value). update r x) o })) (sym (found said r ∙ is)),
+  refl,
+)
 
 pub first_announces : (b : Edge) (pool : List Fields) (said : List Said) (counter : ℕ) (r : Register)
     (rs : List Register) (l : Learning) (w : Windows) (v : Value) → looked_up said r ≡ Some v
     → FabricSteps (fabric_with (risen_edge (voice_with here said counter (r ∷ rs)) l w) b pool) (Announce 1)
-        (Ok (announcing (update r v)))
-        (fabric_with (risen_edge (voice_with here said counter rs) l w) b (pool ++ update r v ∷ []))
+    (Ok (announcing (update r v)))
+    (fabric_with (risen_edge (voice_with here said counter rs) l w) b (pool ++ update r v ∷ []))
 first_announces b pool said counter r rs l w v is =
     (risen_edge (voice_with here said counter rs) l w, announces here said counter r rs l w v is, refl)
 
 pub second_announces : (a : Edge) (pool : List Fields) (said : List Said) (counter : ℕ) (r : Register)
     (rs : List Register) (l : Learning) (w : Windows) (v : Value) → looked_up said r ≡ Some v
     → FabricSteps (fabric_with a (risen_edge (voice_with there said counter (r ∷ rs)) l w) pool) (Announce 2)
-        (Ok (announcing (update r v)))
-        (fabric_with a (risen_edge (voice_with there said counter rs) l w) (pool ++ update r v ∷ []))
+    (Ok (announcing (update r v)))
+    (fabric_with a (risen_edge (voice_with there said counter rs) l w) (pool ++ update r v ∷ []))
 second_announces a pool said counter r rs l w v is =
     (risen_edge (voice_with there said counter rs) l w, announces there said counter r rs l w v is, refl)
 
@@ -105,11 +106,16 @@ pub first_takes : (a b : Edge) (pool : List Fields) (k : ℕ) (u : Fields) (c : 
     → FabricSteps (fabric_with a b pool) (Deliver 1 k) (Ok (taking a u)) (fabric_with (record a { claims = c }) b pool)
 first_takes a b pool k u c at other listed is =
     subst (λ o. MatchOption o
-        (IsRefused NoSuchUpdate (fabric_with a b pool) (Ok (taking a u)) (fabric_with (record a { claims = c }) b pool))
-        (λ w. StepsAt (fabric_with a b pool) 1 a (events.Take w) (Ok (taking a u))
-        (fabric_with (record a { claims = c }) b pool))) (sym at)
-    (record { after = record a { claims = c }; answer = Ok (taking a u); steps = takes a u c other listed is;
-        result_is = refl; new_is = refl })
+    (IsRefused NoSuchUpdate (fabric_with a b pool) (Ok (taking a u)) (fabric_with (record a { claims = c }) b pool))
+    (λ w. StepsAt (fabric_with a b pool) 1 a (events.Take w) (Ok (taking a u))
+    (fabric_with (record a { claims = c }) b pool))) (sym at)
+    (record {
+      after = record a { claims = c };
+      answer = Ok (taking a u);
+      steps = takes a u c other listed is;
+      result_is = refl;
+      new_is = refl;
+    })
 
 pub second_takes : (a b : Edge) (pool : List Fields) (k : ℕ) (u : Fields) (c : Claims) → nth pool k ≡ Some u
     → (u.register.originator == address_of b) ≡ false → is_listed (table_of b) u.register.originator ≡ true
@@ -117,11 +123,16 @@ pub second_takes : (a b : Edge) (pool : List Fields) (k : ℕ) (u : Fields) (c :
     → FabricSteps (fabric_with a b pool) (Deliver 2 k) (Ok (taking b u)) (fabric_with a (record b { claims = c }) pool)
 second_takes a b pool k u c at other listed is =
     subst (λ o. MatchOption o
-        (IsRefused NoSuchUpdate (fabric_with a b pool) (Ok (taking b u)) (fabric_with a (record b { claims = c }) pool))
-        (λ w. StepsAt (fabric_with a b pool) 2 b (events.Take w) (Ok (taking b u))
-        (fabric_with a (record b { claims = c }) pool))) (sym at)
-    (record { after = record b { claims = c }; answer = Ok (taking b u); steps = takes b u c other listed is;
-        result_is = refl; new_is = refl })
+    (IsRefused NoSuchUpdate (fabric_with a b pool) (Ok (taking b u)) (fabric_with a (record b { claims = c }) pool))
+    (λ w. StepsAt (fabric_with a b pool) 2 b (events.Take w) (Ok (taking b u))
+    (fabric_with a (record b { claims = c }) pool))) (sym at)
+    (record {
+      after = record b { claims = c };
+      answer = Ok (taking b u);
+      steps = takes b u c other listed is;
+      result_is = refl;
+      new_is = refl;
+    })
 
 -- ---- learning
 
@@ -146,6 +157,6 @@ learns address said pending n next case =
         ap (λ o. case_at (newcomer address said pending) guest o) (get-empty {X = Entry} station_cmp guest)
         ∙ ap (λ o. new_case (newcomer address said pending) guest o) (get-empty {X = Window} station_cmp guest)
         ∙ ap (λ q. numbered_case (newcomer address said pending) None q)
-            (next_number said address 5001 guest.mac ∙ next)
+        (next_number said address 5001 guest.mac ∙ next)
         ∙ ap (λ b. cond b (Refuse TableFull) (move_case None 0 n)) room
         ∙ case

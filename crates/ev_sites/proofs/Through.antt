@@ -32,8 +32,8 @@ edge_crosses : (s : Site) (x y : Spot) (d : Decision) → DecidesAt s x d → Le
 edge_crosses s x y d at leaves =
     let e = at.before in
     let sent : Sent e (x.place + 1) (leaves.out.place + 1) =
-        frame_sent e (x.place + 1) at.after (omega arith) _ at.result d at.step at.decision (leaves.out.place + 1)
-        leaves.among.0 leaves.among.1 in
+    frame_sent e (x.place + 1) at.after (omega arith) _ at.result d at.step at.decision (leaves.out.place + 1)
+    leaves.among.0 leaves.among.1 in
     record {
       out = leaves.out;
       bridge = leaves.bridge ∙ sym at.here;
@@ -56,8 +56,13 @@ record Within (sites : List Site) (x y : Point) : Type 0 where
 hop_is : (sites : List Site) (x y : Point) → Hops sites x y → Within sites x y ⊎ ByTunnel sites x y
 hop_is sites x y (inl h) = inl (record { site = h.site; at = h.at; same = h.same; crosses = h.crosses })
 hop_is sites x y (inr (inl h)) =
-    inl (record { site = h.site; at = h.at; same = h.same; crosses = edge_crosses h.site x.spot y.spot h.decision
-    h.decides h.leaves })
+    inl (record {
+      site = h.site;
+      at = h.at;
+      same = h.same;
+      crosses = edge_crosses h.site x.spot y.spot h.decision
+          h.decides h.leaves;
+    })
 hop_is sites x y (inr (inr h)) = inr h
 
 came : (sites : List Site) (x y : Point) (h : ByTunnel sites x y)
@@ -100,33 +105,33 @@ module _ (law : NoCircle) (sites : List Site) (rest : AreAtRest sites) where
   after_tunnel : (points : List Point) (z w : Point) (s : Site) (o y : Spot) (before : List Spot)
       → IsSiteAt sites z.site s → o.bridge ≡ s.attached
       → PassesAt s.net o → PassesAt s.net y → s.net.segment o ≡ s.net.segment y → o ≢ y → Travels s.net before y z.spot
-          → Goes sites points z w → w.site ≡ z.site
+      → Goes sites points z w → w.site ≡ z.site
   after_tunnel [] z w s o y before at here leaves arrives segment apart way goes = ap (λ (p : Point). p.site) (sym goes)
   after_tunnel (v ∷ later) z w s o y before at here leaves arrives segment apart way goes =
       elim (hop_is sites z v goes.0) [
-    | inl h ↦ (
-        let one : h.site ≡ s = some_same h.site s (sym h.at ∙ at) in
-        let crosses : Crosses s.net z.spot v.spot = subst (λ (t : Site). Crosses t.net z.spot v.spot) one h.crosses in
-        let further = longer s.net before y z.spot v.spot way crosses in
-        let at_v : IsSiteAt sites v.site s = ap (λ i. slice_get sites i) h.same ∙ at in
-        after_tunnel later v w s o y (further.first ∷ further.later) at_v here leaves arrives segment apart further.way
+        | inl h ↦ (
+            let one : h.site ≡ s = some_same h.site s (sym h.at ∙ at) in
+            let crosses : Crosses s.net z.spot v.spot = subst (λ (t : Site). Crosses t.net z.spot v.spot) one h.crosses in
+            let further = longer s.net before y z.spot v.spot way crosses in
+            let at_v : IsSiteAt sites v.site s = ap (λ i. slice_get sites i) h.same ∙ at in
+            after_tunnel later v w s o y (further.first ∷ further.later) at_v here leaves arrives segment apart further.way
             goes.1 ∙ h.same)
-    | inr h ↦ (
-        let one : h.near ≡ s = some_same h.near s (sym h.at_near ∙ at) in
-        let back : z.spot.bridge ≡ o.bridge = h.decides.here ∙ ap (λ (t : Site). t.attached) one ∙ sym here in
-        absurd (never_back law s.net (rest.networks z.site s at) (rest.rest z.site s at) o y z.spot before leaves
+        | inr h ↦ (
+            let one : h.near ≡ s = some_same h.near s (sym h.at_near ∙ at) in
+            let back : z.spot.bridge ≡ o.bridge = h.decides.here ∙ ap (λ (t : Site). t.attached) one ∙ sym here in
+            absurd (never_back law s.net (rest.networks z.site s at) (rest.rest z.site s at) o y z.spot before leaves
             arrives segment apart way back))
-  ]
+      ]
 
   -- so a way that begins behind a tunnel stays in the site to which that leads
   behind : (points : List Point) (x z w : Point) → ByTunnel sites x z → Goes sites points z w → w.site ≡ z.site
   behind points x z w h goes =
       let e = h.decides_far in
       let out_passes =
-          passes_at h.far e.before h.leaves.out e.edge h.leaves.bridge
-          ((came sites x z h).passes (h.leaves.out.place + 1) h.leaves.among.0 h.leaves.among.1) in
+      passes_at h.far e.before h.leaves.out e.edge h.leaves.bridge
+      ((came sites x z h).passes (h.leaves.out.place + 1) h.leaves.among.0 h.leaves.among.1) in
       after_tunnel points z w h.far h.leaves.out z.spot [] h.at_far h.leaves.bridge out_passes h.leaves.arrives
-          h.leaves.segment h.leaves.apart refl goes
+      h.leaves.segment h.leaves.apart refl goes
 
   pub none_twice : (x y z w : Point) (points : List Point) → ByTunnel sites x y → Goes sites points y z
       → ByTunnel sites z w → ⊥
@@ -152,9 +157,11 @@ module _ (law : NoCircle) (sites : List Site) (rest : AreAtRest sites) where
       on h (inl more) = inl (record {
         same = more.same ∙ h.same;
         way = λ s at. (
-            let one : h.site ≡ s = some_same h.site s (sym h.at ∙ at) in
-            (subst (λ (t : Site). Crosses t.net x.spot z.spot) one h.crosses, more.way s
-                (ap (λ i. slice_get sites i) h.same ∙ at)));
+            let one : h.site ≡ s = some_same h.site s (sym h.at ∙ at) in (
+              subst (λ (t : Site). Crosses t.net x.spot z.spot) one h.crosses,
+              more.way s
+                  (ap (λ i. slice_get sites i) h.same ∙ at),
+            ));
       })
 
   site_of : (x z : Point) → Hops sites x z → (s : Site) × IsSiteAt sites x.site s
@@ -170,8 +177,8 @@ module _ (law : NoCircle) (sites : List Site) (rest : AreAtRest sites) where
         let first = site_of x z goes.0 in
         let s = first.0 in
         let none : z.spot ∷ spots later ≡ [] =
-            law s.net (rest.networks x.site s first.1) (rest.rest x.site s first.1) x.spot (z.spot ∷ spots later)
-            (stays.way s first.1) in
+        law s.net (rest.networks x.site s first.1) (rest.rest x.site s first.1) x.spot (z.spot ∷ spots later)
+        (stays.way s first.1) in
         absurd (let no : ⊥ = cc in no))
   ]
 
@@ -182,18 +189,26 @@ sites_at_rest law (net, x, y, is, rest, crosses) =
     let first : Site = record { net = net; attached = y.bridge; address = 1 } in
     let second : Site = record { net = net; attached = y.bridge; address = 2 } in
     let away : y.bridge ≢ crosses.out.bridge =
-        never_back law net is rest crosses.out y y [] crosses.leaves crosses.arrives crosses.segment crosses.apart
-        refl in
+    never_back law net is rest crosses.out y y [] crosses.leaves crosses.arrives crosses.segment crosses.apart
+    refl in
     let x_at : Point = record { site = 0; spot = x } in
     let y_at : Point = record { site = 0; spot = y } in (
       first,
       second,
       x_at,
       y_at,
-      record { networks = λ i s at. subst IsNetwork (sym (the_net net i s at)) is; rest = λ i s at. subst IsAtRest
-          (sym (the_net net i s at)) rest },
-      record { site = first; at = refl; same = refl; other = λ same. away (sym same ∙ sym crosses.bridge);
-          crosses = crosses },
+      record {
+        networks = λ i s at. subst IsNetwork (sym (the_net net i s at)) is;
+        rest = λ i s at. subst IsAtRest
+            (sym (the_net net i s at)) rest;
+      },
+      record {
+        site = first;
+        at = refl;
+        same = refl;
+        other = λ same. away (sym same ∙ sym crosses.bridge);
+        crosses = crosses;
+      },
       refl,
       λ same. absurd (omega (arith, same)),
     )
