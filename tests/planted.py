@@ -52,13 +52,13 @@ def wrong_body(crate):
     return None
 
 
-def end_of_call(text, start):
-    """Returns the place of the parenthesis that closes the one before this place."""
-    depth = 1
-    for it in re.finditer(r"[()]", text[start:]):
-        depth += 1 if it[0] == "(" else -1
-        if depth == 0:
+def end_of_condition(text, start):
+    """Returns the place behind an assertion's condition, which begins here: that of its comma, or of the closing parenthesis."""
+    depth = 0
+    for it in re.finditer(r"[()\[\]{},]", text[start:]):
+        if depth == 0 and it[0] in "),":
             return start + it.start()
+        depth += (it[0] in "([{") - (it[0] in ")]}")
     return len(text)
 
 
@@ -70,7 +70,7 @@ def turned_round(text):
         return None
     if found[1]:
         return f"{text[: found.start()]}assert_ne!({text[found.start() + len('assert_eq!(') :]}"
-    end = end_of_call(text, found.end())
+    end = end_of_condition(text, found.end())
     return f"{text[: found.end()]}!({text[found.end() : end]}){text[end:]}"
 
 
@@ -120,7 +120,7 @@ def look_at_tests(crate):
         status, said = judged(crate, True)
     at = os.path.relpath(path, TOP)
     print(f"{crate.name}: a comparison turned round in {at}: status {status}, {said.splitlines()[0] if said else ''}", flush=True)
-    return [f"a wrong expectation in {at} passed"] * (status == 0 or "assertion" not in said)
+    return [f"a wrong expectation in {at} passed"] * (status == 0 or "... FAILED" not in said)
 
 
 def main(names):
