@@ -97,7 +97,9 @@ def look_at_body(crate):
     """Plants a wrong body, and looks whether the gate refuses the crate and misses the function."""
     texts, name = wrong_body(crate) or (None, None)
     if texts is None:
-        return ["no must-fail edit of a body"]
+        # (a crate of laws, whose edits change definitions)
+        print(f"{crate.name}: no edit of a body", flush=True)
+        return []
     shutil.copytree(f"{crate.folder}/{rtlib.KEPT[1]}", f"{gate.Run.folder}/{crate.name}")
     # what stands in out/ goes on being the right one
     rlib, crate.rlib = crate.rlib, f"{gate.Run.folder}/rlib/{crate.name}.rlib"
