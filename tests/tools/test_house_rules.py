@@ -23,7 +23,7 @@ LONG_RT = {  # lines that could be broken; bpdu_wire's is the row of a table, ev
     "crates/evpnd_report/src/main.rt": 1, "crates/evpnd_report/src/program.rt": 1,
     "crates/rstp_net/src/laws.rt": 1,
 }
-LONG_ANTT = 5791
+LONG_ANTT = 10
 
 
 def files(ending: str, part: str = "") -> List[str]:

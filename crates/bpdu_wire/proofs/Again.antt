@@ -1,5 +1,6 @@
 -- What is written is read again.
-use Rattle.std.proofs.Common.{◌≡◌, ℕ, ◌≤◌, Bool, true, false, nat_lt, cond, List, [], ◌∷◌, ◌++◌, length, Some, None, Ok, Err, refl, ap, ◌∙◌, arith}
+use Rattle.std.proofs.Common.{◌≡◌, ℕ, ◌≤◌, Bool, true, false, nat_lt, cond, List, [], ◌∷◌, ◌++◌, length, Some, None, Ok}
+use Rattle.std.proofs.Common.{Err, refl, ap, ◌∙◌, arith}
 use Rattle.std.proofs.lemmas.Bool.Decides.{nat_tests}
 use Rattle.byteorder.specs.Endian.{big_bytes}
 use Rattle.byteorder.specs.Numbers.{big_number-reads_back}
@@ -11,7 +12,8 @@ use Rattle.bpdu_wire.specs.Bpdu.{is_aged}
 use Rattle.bpdu_wire.specs.Reading.{message_of, unless_refused, reading}
 use Rattle.bpdu_wire.specs.Writing.{HasVector, HasTimes, message_octets, octets_of, read_again}
 
-message_again : (version type : ℕ) (m : Message) (after rest : List ℕ) → HasVector m → HasTimes m → message_of (message_octets version type m after ++ rest) ≡ m
+message_again : (version type : ℕ) (m : Message) (after rest : List ℕ) → HasVector m → HasTimes m
+    → message_of (message_octets version type m after ++ rest) ≡ m
 message_again version type m after rest vector times =
     let tail : List ℕ = after ++ rest in
     let delay = big_number-reads_back 2 m.forward_delay tail times.forward_delay in
@@ -45,7 +47,8 @@ not_less a b h = grind (arith, nat_tests)
 
 -- the answer, where of the tests at most the last is met
 last_test : (a b f : Bool) (bpdu : Bpdu) → a ≡ false → b ≡ false
-    → unless_refused (cond a (Some Short) (cond b (Some Short) (cond f (Some Aged) None))) bpdu ≡ cond f (Err Aged) (Ok bpdu)
+    → unless_refused (cond a (Some Short) (cond b (Some Short) (cond f (Some Aged) None))) bpdu
+    ≡ cond f (Err Aged) (Ok bpdu)
 last_test true b f bpdu h k = cc
 last_test false true f bpdu h k = cc
 last_test false false true bpdu h k = refl
@@ -54,24 +57,29 @@ last_test false false false bpdu h k = refl
 along : (a b : Bool) (x y : Bpdu) → x ≡ y
     → unless_refused (cond a (Some Short) (cond b (Some Short) (cond (is_aged x) (Some Aged) None))) x
     ≡ unless_refused (cond a (Some Short) (cond b (Some Short) (cond (is_aged y) (Some Aged) None))) y
-along a b x y e = ap (λ (z : Bpdu). unless_refused (cond a (Some Short) (cond b (Some Short) (cond (is_aged z) (Some Aged) None))) z) e
+along a b x y e = ap (λ (z : Bpdu). unless_refused (cond a (Some Short)
+    (cond b (Some Short) (cond (is_aged z) (Some Aged) None))) z) e
 
-pub config_again : (m : Message) (rest : List ℕ) → HasVector m → HasTimes m → reading (octets_of (Config m) ++ rest) ≡ read_again (Config m)
+pub config_again : (m : Message) (rest : List ℕ) → HasVector m → HasTimes m
+    → reading (octets_of (Config m) ++ rest) ≡ read_again (Config m)
 unfolding reading
 config_again m rest vector times =
     let octets : List ℕ = octets_of (Config m) ++ rest in
     let four = not_less (length octets) 4 (omega arith) in
     let whole = not_less (length octets) 35 (omega arith) in
-    along (nat_lt (length octets) 4) (nat_lt (length octets) 35) (Config (message_of octets)) (Config m) (ap Config (message_again 0 0 m [] rest vector times))
+    along (nat_lt (length octets) 4) (nat_lt (length octets) 35) (Config (message_of octets)) (Config m)
+    (ap Config (message_again 0 0 m [] rest vector times))
     ∙ last_test _ _ (is_aged (Config m)) (Config m) four whole
 
-pub rst_again : (m : Message) (rest : List ℕ) → HasVector m → HasTimes m → reading (octets_of (Rst m) ++ rest) ≡ read_again (Rst m)
+pub rst_again : (m : Message) (rest : List ℕ) → HasVector m → HasTimes m
+    → reading (octets_of (Rst m) ++ rest) ≡ read_again (Rst m)
 unfolding reading
 rst_again m rest vector times =
     let octets : List ℕ = octets_of (Rst m) ++ rest in
     let four = not_less (length octets) 4 (omega arith) in
     let whole = not_less (length octets) 36 (omega arith) in
-    along (nat_lt (length octets) 4) (nat_lt (length octets) 36) (Rst (message_of octets)) (Rst m) (ap Rst (message_again 2 2 m (0 ∷ []) rest vector times))
+    along (nat_lt (length octets) 4) (nat_lt (length octets) 36) (Rst (message_of octets)) (Rst m)
+    (ap Rst (message_again 2 2 m (0 ∷ []) rest vector times))
     ∙ last_test _ _ (is_aged (Rst m)) (Rst m) four whole
 
 pub tcn_again : (rest : List ℕ) → reading (octets_of Tcn ++ rest) ≡ read_again Tcn

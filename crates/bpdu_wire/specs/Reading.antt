@@ -1,9 +1,13 @@
 -- BPDUs as octets, each field the number at its place (IEEE 802.1D-2004, 9.2 and 9.3).
-use Rattle.std.specs.Prelude.{ℕ, Bool, true, not, ◌&&◌, ◌==◌, nat_lt, if◌then◌else◌, List, [], ◌∷◌, length, drop, slice_index, Option, Some, None, Result, Ok, Err}
+use Rattle.std.specs.Prelude.{ℕ, Bool, true, not, ◌&&◌, ◌==◌, nat_lt, if◌then◌else◌, List, [], ◌∷◌, length, drop}
+use Rattle.std.specs.Prelude.{slice_index, Option, Some, None, Result, Ok, Err}
 use Rattle.byteorder.specs.Endian.{big_number}
-use Rattle.bpdu_wire.specs.declared.reading.TheConstants.{VERSION_PLACE, TYPE_PLACE, FLAGS_PLACE, ROOT_PLACE, COST_PLACE, BRIDGE_PLACE, PORT_PLACE}
-use Rattle.bpdu_wire.specs.declared.reading.TheConstants.{MESSAGE_AGE_PLACE, MAX_AGE_PLACE, HELLO_PLACE, FORWARD_DELAY_PLACE}
-use Rattle.bpdu_wire.specs.declared.reading.TheConstants.{CONFIG_TYPE, RST_TYPE, TCN_TYPE, RAPID_VERSION, CONFIG_SIZE, RST_SIZE, TCN_SIZE}
+use Rattle.bpdu_wire.specs.declared.reading.TheConstants.{VERSION_PLACE, TYPE_PLACE, FLAGS_PLACE, ROOT_PLACE}
+use Rattle.bpdu_wire.specs.declared.reading.TheConstants.{COST_PLACE, BRIDGE_PLACE, PORT_PLACE}
+use Rattle.bpdu_wire.specs.declared.reading.TheConstants.{MESSAGE_AGE_PLACE, MAX_AGE_PLACE, HELLO_PLACE}
+use Rattle.bpdu_wire.specs.declared.reading.TheConstants.{FORWARD_DELAY_PLACE}
+use Rattle.bpdu_wire.specs.declared.reading.TheConstants.{CONFIG_TYPE, RST_TYPE, TCN_TYPE, RAPID_VERSION, CONFIG_SIZE}
+use Rattle.bpdu_wire.specs.declared.reading.TheConstants.{RST_SIZE, TCN_SIZE}
 use Rattle.bpdu_wire.specs.declared.bpdu.Message.{Message}
 use Rattle.bpdu_wire.specs.declared.bpdu.Bpdu.{Bpdu}
 use Rattle.bpdu_wire.specs.declared.bpdu.Bpdu.TheVariants.{Config, Rst, Tcn}

@@ -15,7 +15,8 @@ vector_octets m = big_bytes 8 m.root ++ (big_bytes 4 m.cost ++ (big_bytes 8 m.br
 
 -- message age, max age, hello, forward delay
 abbrev pub times_octets : Message → List ℕ
-times_octets m = big_bytes 2 m.message_age ++ (big_bytes 2 m.max_age ++ (big_bytes 2 m.hello ++ big_bytes 2 m.forward_delay))
+times_octets m = big_bytes 2 m.message_age ++ (big_bytes 2 m.max_age
+    ++ (big_bytes 2 m.hello ++ big_bytes 2 m.forward_delay))
 
 -- protocol 0 in two octets, version, type, flags, the other fields, and then what follows them
 abbrev pub message_octets : ℕ → ℕ → Message → List ℕ → List ℕ

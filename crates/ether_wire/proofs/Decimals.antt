@@ -15,7 +15,8 @@ one_digit n small = decimal_digit n small ∙ same_digits n (n % 10) (omega arit
 pub two_digits : (n : ℕ) → 10 ≤ n → n < 100 → decimal n ≡ (48 + n / 10 % 10) ∷ (48 + n % 10) ∷ []
 two_digits n least small = rw (decimal_step n least (omega arith), one_digit (n / 10) (omega arith))
 
-pub three_digits : (n : ℕ) → 100 ≤ n → n < 1000 → decimal n ≡ (48 + n / 100 % 10) ∷ (48 + n / 10 % 10) ∷ (48 + n % 10) ∷ []
+pub three_digits : (n : ℕ) → 100 ≤ n → n < 1000 → decimal n ≡ (48 + n / 100 % 10) ∷ (48 + n / 10 % 10) ∷ (48 + n % 10)
+    ∷ []
 three_digits n least small =
     let e : n / 10 / 10 ≡ n / 100 = omega arith in
     rw (decimal_step n (omega arith) (omega arith), two_digits (n / 10) (omega arith) (omega arith), e)

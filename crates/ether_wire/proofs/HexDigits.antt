@@ -1,5 +1,6 @@
 -- The table of hexadecimal digits has each of them at its place.
-use Rattle.std.proofs.Common.{◌≡◌, ℕ, zero, suc, ◌-◌, ◌<◌, Bool, true, false, ◌&&◌, T, eqb, get_or, inl, inr, arith, eq-zero-or-pos, eqb→eq}
+use Rattle.std.proofs.Common.{◌≡◌, ℕ, zero, suc, ◌-◌, ◌<◌, Bool, true, false, ◌&&◌, T, eqb, get_or, inl, inr, arith}
+use Rattle.std.proofs.Common.{eq-zero-or-pos, eqb→eq}
 use Rattle.std.specs.Fmt.{digit_glyph}
 use lib.Ieee.Fits.{and_l, and_r}
 use Rattle.ether_wire.specs.declared.text.TheConstants.{HEX_DIGITS}

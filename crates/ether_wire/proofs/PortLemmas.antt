@@ -1,18 +1,23 @@
 -- Sets of ports, port by port.
-use Rattle.std.proofs.Common.{◌≡◌, ◌≢◌, ℕ, zero, suc, ◌+◌, ◌-◌, ◌*◌, ◌/◌, ◌%◌, ◌^◌, ◌<◌, ◌≤◌, min, max, Bool, true, false, not, cond, ◌&&◌, ◌||◌, ◌==◌, List, [], ◌∷◌, filter, length, Contains, inl, inr, refl, sym, ap, ◌∙◌, arith}
+use Rattle.std.proofs.Common.{◌≡◌, ◌≢◌, ℕ, zero, suc, ◌+◌, ◌-◌, ◌*◌, ◌/◌, ◌%◌, ◌^◌, ◌<◌, ◌≤◌, min, max, Bool, true}
+use Rattle.std.proofs.Common.{false, not, cond, ◌&&◌, ◌||◌, ◌==◌, List, [], ◌∷◌, filter, length, Contains, inl, inr}
+use Rattle.std.proofs.Common.{refl, sym, ap, ◌∙◌, arith}
 use Rattle.std.proofs.lemmas.Bool.Decides.{eqb_tells, leb_tells, nat_tests}
 use Rattle.std.proofs.lemmas.Bool.{eqb-true, eq-eqb, false_from_ne_true, true≢false}
-use Rattle.std.proofs.lemmas.List.Elements.{All-contains, All-contains_itself, All-filter, filter_passes, Contains-append_right}
+use Rattle.std.proofs.lemmas.List.Elements.{All-contains, All-contains_itself, All-filter, filter_passes}
+use Rattle.std.proofs.lemmas.List.Elements.{Contains-append_right}
 use Rattle.std.proofs.lemmas.List.FromFn.{length-range_with_len, get_or-range_with_len}
 use Rattle.std.proofs.lemmas.List.Kept.{IsStrictlyIncreasing-filter}
-use Rattle.std.proofs.lemmas.Nat.Bits.{bit_at_and, bit_at_or, bit_at-pow_same, bit_at-pow_other, bit_at_not, bit_at-lt, bit_at-zero, bit_at_above, same_from_bits_below, bit_at-trailing_zeros}
+use Rattle.std.proofs.lemmas.Nat.Bits.{bit_at_and, bit_at_or, bit_at-pow_same, bit_at-pow_other, bit_at_not, bit_at-lt}
+use Rattle.std.proofs.lemmas.Nat.Bits.{bit_at-zero, bit_at_above, same_from_bits_below, bit_at-trailing_zeros}
 use Rattle.std.proofs.Math.Nat.{div-div-eq-div-mul, div-le_self, mod-eq_of_lt}
 use Rattle.std.proofs.lemmas.Nat.{pow-add}
 use Rattle.std.proofs.Math.Pow.{pow-lt}
 use Rattle.std.specs.Int.{bit_at, bit_not, w64, trailing_zeros}
 use Rattle.std.specs.List.{range_with_len}
 use Rattle.std.specs.List.Sorted.{IsStrictlyIncreasing}
-use Rattle.ether_wire.specs.Ports.{IsPort, IsNextPort, has_port, with_port, without_port, common_ports, ports_after, ports_of, ArePortsOf}
+use Rattle.ether_wire.specs.Ports.{IsPort, IsNextPort, has_port, with_port, without_port, common_ports, ports_after}
+use Rattle.ether_wire.specs.Ports.{ports_of, ArePortsOf}
 
 -- a port's bit
 pub has_port-bit : (set p : ℕ) → 1 ≤ p → has_port set p ≡ (bit_at set (p - 1) == 1)
@@ -44,13 +49,16 @@ min_is a b h k = grind (arith, nat_tests)
 pub has_port-common : (set other p : ℕ) → has_port (common_ports set other) p ≡ (has_port set p && has_port other p)
 unfolding has_port common_ports
 has_port-common set other zero = refl
-has_port-common set other (suc bit) = ap (λ b. b == 1) (bit_at_and set other bit) ∙ min_is (bit_at set bit) (bit_at other bit) (bit_at-lt set bit) (bit_at-lt other bit)
+has_port-common set other (suc bit) = ap (λ b. b == 1) (bit_at_and set other bit)
+    ∙ min_is (bit_at set bit) (bit_at other bit) (bit_at-lt set bit) (bit_at-lt other bit)
 
 -- the bit of one port alone
 only_bit : (p bit : ℕ) → 1 ≤ p → (bit_at (2 ^ (p - 1)) bit == 1) ≡ (p == suc bit)
 only_bit p bit least = elim (eqb_tells bit (p - 1)) [
-  | inl same ↦ ap (λ k. bit_at (2 ^ (p - 1)) k == 1) same.1 ∙ ap (λ b. b == 1) (bit_at-pow_same (p - 1)) ∙ sym (eq-eqb p (suc bit) (let e = same.1 in omega arith))
-  | inr other ↦ ap (λ b. b == 1) (bit_at-pow_other (p - 1) bit other.1) ∙ sym (false_from_ne_true (p == suc bit) (λ is. other.1 (let e = eqb-true p (suc bit) is in omega arith)))
+  | inl same ↦ ap (λ k. bit_at (2 ^ (p - 1)) k == 1) same.1 ∙ ap (λ b. b == 1) (bit_at-pow_same (p - 1))
+      ∙ sym (eq-eqb p (suc bit) (let e = same.1 in omega arith))
+  | inr other ↦ ap (λ b. b == 1) (bit_at-pow_other (p - 1) bit other.1)
+      ∙ sym (false_from_ne_true (p == suc bit) (λ is. other.1 (let e = eqb-true p (suc bit) is in omega arith)))
 ]
 
 or_turned : (a b : Bool) → (a || b) ≡ (b || a)
@@ -88,20 +96,25 @@ others_bit p bit h low =
     turned : (b : ℕ) → b < 2 → (1 - b == 1) ≡ not (b == 1)
     turned b h = grind (arith, nat_tests)
 
-pub has_port-without : (set p : ℕ) → set < 2 ^ 64 → IsPort p → (q : ℕ) → has_port (without_port set p) q ≡ (not (p == q) && has_port set q)
+pub has_port-without : (set p : ℕ) → set < 2 ^ 64 → IsPort p → (q : ℕ)
+    → has_port (without_port set p) q ≡ (not (p == q) && has_port set q)
 unfolding has_port without_port
 has_port-without set p small h zero = and_turned false (not (p == 0))
 has_port-without set p small h (suc bit) =
     ap (λ b. b == 1) (bit_at_and set (bit_not w64 (2 ^ (p - 1))) bit)
-    ∙ min_is (bit_at set bit) (bit_at (bit_not w64 (2 ^ (p - 1))) bit) (bit_at-lt set bit) (bit_at-lt (bit_not w64 (2 ^ (p - 1))) bit)
+    ∙ min_is (bit_at set bit) (bit_at (bit_not w64 (2 ^ (p - 1))) bit) (bit_at-lt set bit)
+    (bit_at-lt (bit_not w64 (2 ^ (p - 1))) bit)
     ∙ elim (leb_tells 64 bit) [
-      | inr low ↦ ap (λ b. bit_at set bit == 1 && b) (others_bit p bit h low.1) ∙ and_turned (bit_at set bit == 1) (not (p == suc bit))
+      | inr low ↦ ap (λ b. bit_at set bit == 1 && b) (others_bit p bit h low.1)
+          ∙ and_turned (bit_at set bit == 1) (not (p == suc bit))
       | inl high ↦
           let gone : (bit_at set bit == 1) ≡ false = ap (λ b. b == 1) (bit_at_above set 64 bit small high.1) in
-          ap (λ b. b && (bit_at (bit_not w64 (2 ^ (p - 1))) bit == 1)) gone ∙ and_turned false (not (p == suc bit)) ∙ ap (λ b. not (p == suc bit) && b) (sym gone)
+          ap (λ b. b && (bit_at (bit_not w64 (2 ^ (p - 1))) bit == 1)) gone ∙ and_turned false (not (p == suc bit))
+          ∙ ap (λ b. not (p == suc bit) && b) (sym gone)
     ]
 
-pub same_ports : (set other : ℕ) → set < 2 ^ 64 → other < 2 ^ 64 → ((p : ℕ) → IsPort p → has_port set p ≡ has_port other p) → set ≡ other
+pub same_ports : (set other : ℕ) → set < 2 ^ 64 → other < 2 ^ 64
+    → ((p : ℕ) → IsPort p → has_port set p ≡ has_port other p) → set ≡ other
 unfolding has_port
 same_ports set other h k same = same_from_bits_below 64 set other h k (λ bit low.
     let is = same (suc bit) (record { least = omega arith; most = omega arith }) in
@@ -117,7 +130,8 @@ none_from set a zero none = refl
 none_from set a (suc n) none = rw (none a (omega arith)) (none_from set (a + 1) n (λ q h. none q (omega arith)))
 
 -- p is the first of them from a on
-first_from : (set a n p : ℕ) → a ≤ p → p < a + n → ((q : ℕ) → a ≤ q → q < p → has_port set q ≡ false) → has_port set p ≡ true
+first_from : (set a n p : ℕ) → a ≤ p → p < a + n → ((q : ℕ) → a ≤ q → q < p → has_port set q ≡ false)
+    → has_port set p ≡ true
     → filter (has_port set) (range_with_len a n) ≡ p ∷ filter (has_port set) (range_with_len (p + 1) (a + n - (p + 1)))
 first_from set a zero p low high none there = absurd (omega arith)
 first_from set a (suc n) p low high none there = elim (eqb_tells a p) [
@@ -128,24 +142,28 @@ first_from set a (suc n) p low high none there = elim (eqb_tells a p) [
   | inr other ↦
       let below : a + 1 ≤ p = (let e = other.1 in omega arith) in
       let size : a + 1 + n - (p + 1) ≡ a + suc n - (p + 1) = omega arith in
-      rw (none a (omega arith) (omega arith)) (first_from set (a + 1) n p below (omega arith) (λ q h k. none q (omega arith) k) there ∙ (λ i. p ∷ filter (has_port set) (range_with_len (p + 1) (size i))))
+      rw (none a (omega arith) (omega arith)) (first_from set (a + 1) n p below (omega arith)
+      (λ q h k. none q (omega arith) k) there ∙ (λ i. p ∷ filter (has_port set) (range_with_len (p + 1) (size i))))
 ]
 
 -- the bits of a number without its lowest ones
 bit_at-later : (set after bit : ℕ) → bit_at (set / 2 ^ after) bit ≡ bit_at set (after + bit)
-bit_at-later set after bit = (λ i. div-div-eq-div-mul set (2 ^ after) (2 ^ bit) i % 2) ∙ (λ i. set / sym (pow-add 2 after bit) i % 2)
+bit_at-later set after bit = (λ i. div-div-eq-div-mul set (2 ^ after) (2 ^ bit) i % 2)
+    ∙ (λ i. set / sym (pow-add 2 after bit) i % 2)
 
 -- a port after a number, in the set without the lowest bits
 has_port-later : (set after bit : ℕ) → has_port set (after + 1 + bit) ≡ (bit_at (set / 2 ^ after) bit == 1)
 has_port-later set after bit =
     let place : after + 1 + bit - 1 ≡ after + bit = omega arith in
-    has_port-bit set (after + 1 + bit) (omega arith) ∙ ap (λ k. bit_at set k == 1) place ∙ sym (ap (λ b. b == 1) (bit_at-later set after bit))
+    has_port-bit set (after + 1 + bit) (omega arith) ∙ ap (λ k. bit_at set k == 1) place
+    ∙ sym (ap (λ b. b == 1) (bit_at-later set after bit))
 
 pub none_after : (set after : ℕ) → set < 2 ^ 64 → set / 2 ^ after ≡ 0 → ports_after set after ≡ []
 unfolding ports_after has_port
 none_after set after small h = none_from set (after + 1) (64 - after) (λ q above.
     let place : q ≡ after + 1 + (q - (after + 1)) = omega arith in
-    ap (has_port set) place ∙ has_port-later set after (q - (after + 1)) ∙ ap (λ n. bit_at n (q - (after + 1)) == 1) h ∙ ap (λ b. b == 1) (bit_at-zero (q - (after + 1))))
+    ap (has_port set) place ∙ has_port-later set after (q - (after + 1)) ∙ ap (λ n. bit_at n (q - (after + 1)) == 1) h
+    ∙ ap (λ b. b == 1) (bit_at-zero (q - (after + 1))))
 
 pub all_passed : (set after : ℕ) → 64 ≤ after → ports_after set after ≡ []
 unfolding ports_after
@@ -154,36 +172,46 @@ all_passed set after h = (λ i. filter (has_port set) (range_with_len (after + 1
     none : 64 - after ≡ 0
     none = omega arith
 
-pub next_is : (set after : ℕ) → set < 2 ^ 64 → after < 64 → set / 2 ^ after ≢ 0 → IsNextPort set after (after + 1 + trailing_zeros w64 (set / 2 ^ after))
+pub next_is : (set after : ℕ) → set < 2 ^ 64 → after < 64 → set / 2 ^ after ≢ 0
+    → IsNextPort set after (after + 1 + trailing_zeros w64 (set / 2 ^ after))
 unfolding ports_after has_port
 next_is set after small low some =
     let rest : ℕ = set / 2 ^ after in
     let zeros : ℕ = trailing_zeros w64 rest in
-    let lowest = bit_at-trailing_zeros w64 rest (omega (arith, some)) (omega (arith, div-le_self set (2 ^ after), small)) in
+    let lowest = bit_at-trailing_zeros w64 rest (omega (arith, some))
+    (omega (arith, div-le_self set (2 ^ after), small)) in
     let there : has_port set (after + 1 + zeros) ≡ true = has_port-later set after zeros ∙ ap (λ b. b == 1) lowest.1 in
     let most : after + 1 + zeros ≤ 64 = elim (leb_tells 65 (after + 1 + zeros)) [
       | inl high ↦ absurd (true≢false (sym there ∙ has_port-above set (after + 1 + zeros) small high.1))
       | inr low ↦ omega (arith, low.1)
     ] in
-    let first = first_from set (after + 1) (64 - after) (after + 1 + zeros) (omega arith) (omega (arith, most, low)) (λ q above below.
+    let first = first_from set (after + 1) (64 - after) (after + 1 + zeros) (omega arith) (omega (arith, most, low))
+    (λ q above below.
     let place : q ≡ after + 1 + (q - (after + 1)) = omega arith in
-    ap (has_port set) place ∙ has_port-later set after (q - (after + 1)) ∙ ap (λ b. b == 1) (lowest.2 (q - (after + 1)) (omega (arith, above, below)))) there in
+    ap (has_port set) place ∙ has_port-later set after (q - (after + 1))
+    ∙ ap (λ b. b == 1) (lowest.2 (q - (after + 1)) (omega (arith, above, below)))) there in
     let size : after + 1 + (64 - after) - (after + 1 + zeros + 1) ≡ 64 - (after + 1 + zeros) = omega (arith, low) in
     record {
       port = record { least = omega arith; most = most };
       later = omega arith;
       there = there;
-      rest = first ∙ (λ i. (after + 1 + zeros) ∷ filter (has_port set) (range_with_len (after + 1 + zeros + 1) (size i)));
+      rest = first ∙ (λ i. (after + 1 + zeros) ∷ filter (has_port set)
+          (range_with_len (after + 1 + zeros + 1) (size i)));
     }
 
 -- what `1 << (p - 1)` computes
 pub shifted_one : (p : ℕ) → IsPort p → 1 * 2 ^ (p - 1) % 2 ^ 64 ≡ 2 ^ (p - 1)
 shifted_one p h =
     let one : 1 * 2 ^ (p - 1) ≡ 2 ^ (p - 1) = omega arith in
-    ap (λ n. n % 2 ^ 64) one ∙ mod-eq_of_lt (pow-lt {i = p - 1} {j = 64} (let a = h.least in let b = h.most in omega arith))
+    ap (λ n. n % 2 ^ 64) one ∙ mod-eq_of_lt (pow-lt {i = p - 1} {j = 64} (let a = h.least in let b = h.most in
+    omega arith))
 
 Contains-range : (a n p : ℕ) → a ≤ p → p < a + n → Contains (range_with_len a n) p
-Contains-range a n p low high = (p - a, rw length-range_with_len (omega arith), get_or-range_with_len a n (p - a) p (omega arith) ∙ omega arith)
+Contains-range a n p low high = (
+  p - a,
+  rw length-range_with_len (omega arith),
+  get_or-range_with_len a n (p - a) p (omega arith) ∙ omega arith,
+)
 
 in_range : (a n p : ℕ) → Contains (range_with_len a n) p → (a ≤ p) × (p < a + n)
 in_range a n p (k, below, at) =
@@ -225,7 +253,9 @@ are_from set a n one all = record {
         let is = in_filter (has_port set) (range_with_len a n) p there in
         let within = in_range a n p is.0 in
         (record { least = omega (arith, within.0, one); most = omega (arith, within.1, one, all) }, is.1),
-    λ is. Contains-filter (has_port set) (range_with_len a n) p (Contains-range a n p (let h = is.0.least in omega (arith, h, one)) (let h = is.0.most in omega (arith, h, one, all))) is.1,
+    λ is. Contains-filter (has_port set) (range_with_len a n) p
+        (Contains-range a n p (let h = is.0.least in omega (arith, h, one)) (let h = is.0.most in
+        omega (arith, h, one, all))) is.1,
   );
 }
 
@@ -252,7 +282,8 @@ has_port-less set p zero there = there
 has_port-less set p (suc bit) there =
     let rest : ℕ = bit_not w64 (2 ^ (p - 1)) in
     first (bit_at set bit == 1) (bit_at rest bit == 1)
-    (sym (ap (λ b. b == 1) (bit_at_and set rest bit) ∙ min_is (bit_at set bit) (bit_at rest bit) (bit_at-lt set bit) (bit_at-lt rest bit)) ∙ there)
+    (sym (ap (λ b. b == 1) (bit_at_and set rest bit) ∙ min_is (bit_at set bit) (bit_at rest bit) (bit_at-lt set bit)
+    (bit_at-lt rest bit)) ∙ there)
   where
     first : (a b : Bool) → (a && b) ≡ true → a ≡ true
     first true b h = refl

@@ -1,10 +1,14 @@
 -- Text that is printed is read back, and what is read was printed so.
-use Rattle.std.proofs.Common.{◌≡◌, ℕ, ◌+◌, ◌*◌, ◌/◌, ◌%◌, ◌^◌, ◌<◌, ◌≤◌, zero, suc, true, false, ◌&&◌, List, [], ◌∷◌, ◌++◌, length, take, drop, get_or, Option, Some, None, option_map, IfSome, MatchResult, Result, Ok, Err, refl, sym, ◌∙◌, ap, subst, append_assoc, take-append-drop, drop-cons, arith, rules, nat_lt, nat_le, ◌==◌, position, add-one, length-append, inl, inr}
+use Rattle.std.proofs.Common.{◌≡◌, ℕ, ◌+◌, ◌*◌, ◌/◌, ◌%◌, ◌^◌, ◌<◌, ◌≤◌, zero, suc, true, false, ◌&&◌, List, [], ◌∷◌}
+use Rattle.std.proofs.Common.{◌++◌, length, take, drop, get_or, Option, Some, None, option_map, IfSome, MatchResult}
+use Rattle.std.proofs.Common.{Result, Ok, Err, refl, sym, ◌∙◌, ap, subst, append_assoc, take-append-drop, drop-cons}
+use Rattle.std.proofs.Common.{arith, rules, nat_lt, nat_le, ◌==◌, position, add-one, length-append, inl, inr}
 use Rattle.std.proofs.lemmas.Bool.{eqb-true, eq-eqb, cases_lt}
 use Rattle.std.proofs.lemmas.Bool.Decides.{nat_tests}
 use Rattle.std.proofs.lemmas.List.Quantifiers.{position-Some}
 use Rattle.std.proofs.lemmas.Option.{option_and_then_some, same_Some, none-some, cond_some}
-use Rattle.std.proofs.lemmas.Fmt.{digits_decimal, digits_value-decimal, decimal_nonempty, first_decimal, decimal_digit, decimal-digits_value, IsAscii-from_digits}
+use Rattle.std.proofs.lemmas.Fmt.{digits_decimal, digits_value-decimal, decimal_nonempty, first_decimal, decimal_digit}
+use Rattle.std.proofs.lemmas.Fmt.{decimal-digits_value, IsAscii-from_digits}
 use Rattle.std.proofs.lemmas.Str.{IsUtf8-from_ascii}
 use Rattle.std.proofs.lemmas.Str.Parse.{IsNumeralModel, numerals_by_value, parse_digits}
 use Rattle.std.proofs.Math.Seq.{take-append_seam, drop-append-add}
@@ -20,7 +24,8 @@ use Rattle.std.proofs.lemmas.Nat.{from_be_bytes-to_be_bytes_8, from_be_bytes-to_
 use Rattle.byteorder.specs.Endian.{big_number}
 use Rattle.std.specs.Fmt.{decimal, digit_glyph}
 use Rattle.ether_wire.specs.Names.{hex_pair, mac_text, addr_text}
-use Rattle.ether_wire.specs.Spelling.{parted, is_decimal, decimal_of_text, hex_value, pair_of_text, mac_of_text, addr_of_text}
+use Rattle.ether_wire.specs.Spelling.{parted, is_decimal, decimal_of_text, hex_value, pair_of_text, mac_of_text}
+use Rattle.ether_wire.specs.Spelling.{addr_of_text}
 
 -- no octet of the text is b
 abbrev pub Lacks : ℕ → List ℕ → Type 0
@@ -48,16 +53,18 @@ parted-joined b x y h =
 -- a text that is parted is joined of the parts
 pub joined-parted : (b : ℕ) (s : List ℕ) (p : List ℕ × List ℕ) → parted b s ≡ Some p → s ≡ p.0 ++ b ∷ p.1
 unfolding parted
-joined-parted b s p e = elim (position (λ c. c == b) s) as (λ o. position (λ c. c == b) s ≡ o → option_map (λ i. (take i s, drop (i + 1) s)) o ≡ Some p → s ≡ p.0 ++ b ∷ p.1) [
-  | None ↦ λ _ none. absurd (none-some p none)
-  | Some i ↦ λ is some.
-      let at = position-Some (λ c. c == b) s i 0 is in
-      let same : get_or s i 0 ≡ b = eqb-true _ _ at.1 in
-      let parts = same_Some (take i s, drop (i + 1) s) p some in
-      let cut : drop i s ≡ b ∷ drop (suc i) s = rw same at (drop-cons s i 0 at.0) in
-      let whole : s ≡ take i s ++ b ∷ drop (i + 1) s = rw add-one (sym (take-append-drop i s) ∙ ap (λ l. take i s ++ l) cut) in
-      subst (λ q. s ≡ q.0 ++ b ∷ q.1) parts whole
-] refl e
+joined-parted b s p e = elim (position (λ c. c == b) s) as (λ o. position (λ c. c == b) s ≡ o
+    → option_map (λ i. (take i s, drop (i + 1) s)) o ≡ Some p → s ≡ p.0 ++ b ∷ p.1) [
+      | None ↦ λ _ none. absurd (none-some p none)
+      | Some i ↦ λ is some.
+          let at = position-Some (λ c. c == b) s i 0 is in
+          let same : get_or s i 0 ≡ b = eqb-true _ _ at.1 in
+          let parts = same_Some (take i s, drop (i + 1) s) p some in
+          let cut : drop i s ≡ b ∷ drop (suc i) s = rw same at (drop-cons s i 0 at.0) in
+          let whole : s ≡ take i s ++ b ∷ drop (i + 1) s = rw add-one (sym (take-append-drop i s)
+          ∙ ap (λ l. take i s ++ l) cut) in
+          subst (λ q. s ≡ q.0 ++ b ∷ q.1) parts whole
+    ] refl e
 
 hex_value-glyph : (d : ℕ) → d < 16 → hex_value (digit_glyph false d) ≡ Some d
 hex_value-glyph d h = grind (arith, nat_tests)
@@ -77,7 +84,11 @@ pub record IsDecimal (s : List ℕ) : Type 0 where
 
 pub decimal_parts : (s : List ℕ) → is_decimal s ≡ true → IsDecimal s
 unfolding is_decimal
-decimal_parts s h = record { all = grind (arith, nat_tests); nonempty = grind (arith, nat_tests); first = grind (arith, nat_tests) }
+decimal_parts s h = record {
+  all = grind (arith, nat_tests);
+  nonempty = grind (arith, nat_tests);
+  first = grind (arith, nat_tests);
+}
 
 decimal_is : (s : List ℕ) → IsDecimal s → is_decimal s ≡ true
 unfolding is_decimal
@@ -104,7 +115,8 @@ decimal_of_text-decimal max n most h =
     let fits : nat_le n max ≡ true = grind (arith, nat_tests) in
     rw (is, value, fits) refl
 
-pub decimal_of_text-spelt : (max : ℕ) (s : List ℕ) (n : ℕ) → max < 2 ^ 64 → decimal_of_text max s ≡ Some n → (s ≡ decimal n) × (n ≤ max)
+pub decimal_of_text-spelt : (max : ℕ) (s : List ℕ) (n : ℕ) → max < 2 ^ 64 → decimal_of_text max s ≡ Some n
+    → (s ≡ decimal n) × (n ≤ max)
 unfolding decimal_of_text
 decimal_of_text-spelt max s n most e =
     let found = cond_some (is_decimal s && nat_le (digits_value 10 s) max) (digits_value 10 s) n e in
@@ -141,7 +153,8 @@ pub pair_of_text-spelt : (s : List ℕ) (n : ℕ) → pair_of_text s ≡ Some n 
 unfolding pair_of_text
 pair_of_text-spelt [] n e = absurd (none-some n e)
 pair_of_text-spelt (h ∷ []) n e = absurd (none-some n e)
-pair_of_text-spelt (h ∷ l ∷ []) n e = option_and_then_some _ _ n e (λ a a_is e1. option_and_then_some _ _ n e1 (λ b b_is e2.
+pair_of_text-spelt (h ∷ l ∷ []) n e = option_and_then_some _ _ n e
+    (λ a a_is e1. option_and_then_some _ _ n e1 (λ b b_is e2.
     let high = hex_value-spelt h a a_is in
     let low = hex_value-spelt l b b_is in
     let n_is : 16 * a + b ≡ n = same_Some _ _ e2 in
@@ -159,14 +172,16 @@ pub parsed_digits : {E : Type 0} (s : List ℕ) (r : Result ℕ E) → is_decima
 parsed_digits s r h p =
     let parts = decimal_parts s h in
     let is = parse_digits own 64 s r p parts.all in
-    elim r as (λ x. OkIff x ((0 < length s) × (digits_value 10 s < 2 ^ 64)) (digits_value 10 s) → SomeIff (result_ok x) (digits_value 10 s < 2 ^ 64) (digits_value 10 s)) [
+    elim r as (λ x. OkIff x ((0 < length s) × (digits_value 10 s < 2 ^ 64)) (digits_value 10 s)
+    → SomeIff (result_ok x) (digits_value 10 s < 2 ^ 64) (digits_value 10 s)) [
       | Ok n ↦ λ k. (k.0.1, k.1)
       | Err e ↦ λ k. λ small. k (parts.nonempty, small)
     ] is
 
 -- ---- MAC addresses
 
-mac_number : (n : ℕ) → n < 2 ^ 48 → big_number 6 (byte_at 5 n ∷ byte_at 4 n ∷ byte_at 3 n ∷ byte_at 2 n ∷ byte_at 1 n ∷ byte_at 0 n ∷ []) ≡ n
+mac_number : (n : ℕ) → n < 2 ^ 48 → big_number 6 (byte_at 5 n ∷ byte_at 4 n ∷ byte_at 3 n ∷ byte_at 2 n ∷ byte_at 1 n
+    ∷ byte_at 0 n ∷ []) ≡ n
 mac_number n h =
     let whole = from_be_bytes-to_be_bytes_8 n (omega arith) in
     omega (arith, whole)
@@ -192,9 +207,19 @@ mac_octets : (a b c d e f n : ℕ) → a < 256 → b < 256 → c < 256 → d < 2
     → big_number 6 (a ∷ b ∷ c ∷ d ∷ e ∷ f ∷ []) ≡ n → MacOctets n a b c d e f
 mac_octets a b c d e f n ha hb hc hd he hf is =
     let zeroth : 0 < 256 = omega arith in
-    let small = small_at (0 ∷ 0 ∷ a ∷ b ∷ c ∷ d ∷ e ∷ f ∷ []) (zeroth, (zeroth, (ha, (hb, (hc, (hd, (he, (hf, tt)))))))) in
+    let small = small_at (0 ∷ 0 ∷ a ∷ b ∷ c ∷ d ∷ e ∷ f ∷ []) (
+      zeroth,
+      (zeroth, (ha, (hb, (hc, (hd, (he, (hf, tt))))))),
+    ) in
     let octets = be_bytes_8 (0 ∷ 0 ∷ a ∷ b ∷ c ∷ d ∷ e ∷ f ∷ []) n refl small (omega (arith, is)) in
-    record { five = cc octets; four = cc octets; three = cc octets; two = cc octets; one = cc octets; zeroth = cc octets }
+    record {
+      five = cc octets;
+      four = cc octets;
+      three = cc octets;
+      two = cc octets;
+      one = cc octets;
+      zeroth = cc octets;
+    }
 
 pub mac_of_text-mac_text : (m : ℕ) → m < 2 ^ 48 → mac_of_text (mac_text m) ≡ Some m
 unfolding mac_of_text mac_text
@@ -209,15 +234,32 @@ mac_of_text-mac_text m h =
     let t2 : List ℕ = hex_pair (byte_at 2 m) ++ 58 ∷ t1 in
     let t3 : List ℕ = hex_pair (byte_at 3 m) ++ 58 ∷ t2 in
     let t4 : List ℕ = hex_pair (byte_at 4 m) ++ 58 ∷ t3 in
-    rw (parted-joined 58 (hex_pair (byte_at 5 m)) t4 (Lacks-hex_pair (byte_at 5 m) small5), pair_of_text-hex_pair (byte_at 5 m) small5)
-    (rw (parted-joined 58 (hex_pair (byte_at 4 m)) t3 (Lacks-hex_pair (byte_at 4 m) small4), pair_of_text-hex_pair (byte_at 4 m) small4)
-    (rw (parted-joined 58 (hex_pair (byte_at 3 m)) t2 (Lacks-hex_pair (byte_at 3 m) small3), pair_of_text-hex_pair (byte_at 3 m) small3)
-    (rw (parted-joined 58 (hex_pair (byte_at 2 m)) t1 (Lacks-hex_pair (byte_at 2 m) small2), pair_of_text-hex_pair (byte_at 2 m) small2)
-    (rw (parted-joined 58 (hex_pair (byte_at 1 m)) (hex_pair (byte_at 0 m)) (Lacks-hex_pair (byte_at 1 m) small1), pair_of_text-hex_pair (byte_at 1 m) small1, pair_of_text-hex_pair (byte_at 0 m) small0)
+    rw (
+      parted-joined 58 (hex_pair (byte_at 5 m)) t4 (Lacks-hex_pair (byte_at 5 m) small5),
+      pair_of_text-hex_pair (byte_at 5 m) small5,
+    )
+    (rw (
+      parted-joined 58 (hex_pair (byte_at 4 m)) t3 (Lacks-hex_pair (byte_at 4 m) small4),
+      pair_of_text-hex_pair (byte_at 4 m) small4,
+    )
+    (rw (
+      parted-joined 58 (hex_pair (byte_at 3 m)) t2 (Lacks-hex_pair (byte_at 3 m) small3),
+      pair_of_text-hex_pair (byte_at 3 m) small3,
+    )
+    (rw (
+      parted-joined 58 (hex_pair (byte_at 2 m)) t1 (Lacks-hex_pair (byte_at 2 m) small2),
+      pair_of_text-hex_pair (byte_at 2 m) small2,
+    )
+    (rw (
+      parted-joined 58 (hex_pair (byte_at 1 m)) (hex_pair (byte_at 0 m)) (Lacks-hex_pair (byte_at 1 m) small1),
+      pair_of_text-hex_pair (byte_at 1 m) small1,
+      pair_of_text-hex_pair (byte_at 0 m) small0,
+    )
     (ap Some (mac_number m h))))))
 
 mac_text_of : (m a b c d e f : ℕ) → MacOctets m a b c d e f
-    → hex_pair a ++ 58 ∷ (hex_pair b ++ 58 ∷ (hex_pair c ++ 58 ∷ (hex_pair d ++ 58 ∷ (hex_pair e ++ 58 ∷ hex_pair f)))) ≡ mac_text m
+    → hex_pair a ++ 58 ∷ (hex_pair b ++ 58 ∷ (hex_pair c ++ 58 ∷ (hex_pair d ++ 58 ∷ (hex_pair e ++ 58 ∷ hex_pair f))))
+    ≡ mac_text m
 unfolding mac_text
 mac_text_of m a b c d e f o = rw (o.five, o.four, o.three, o.two, o.one, o.zeroth) refl
 
@@ -242,7 +284,19 @@ mac_of_text-spelt s m is =
     let r_joined = joined-parted 58 q.1 r r_is in
     let t_joined = joined-parted 58 r.1 t t_is in
     let u_joined = joined-parted 58 t.1 u u_is in
-    rw (p_joined, a_pair.0, q_joined, b_pair.0, r_joined, c_pair.0, t_joined, d_pair.0, u_joined, e_pair.0, f_pair.0) (mac_text_of m a b c d e f octets)
+    rw (
+      p_joined,
+      a_pair.0,
+      q_joined,
+      b_pair.0,
+      r_joined,
+      c_pair.0,
+      t_joined,
+      d_pair.0,
+      u_joined,
+      e_pair.0,
+      f_pair.0,
+    ) (mac_text_of m a b c d e f octets)
 
 -- ---- IPv4 addresses
 
@@ -276,7 +330,8 @@ joined_decimals-read a b c d ha hb hc hd =
 pub addr_of_text-addr_text : (n : ℕ) → n < 2 ^ 32 → addr_of_text (addr_text n) ≡ Some n
 addr_of_text-addr_text n h =
     ap addr_of_text (addr_text-joined n)
-    ∙ joined_decimals-read (byte_at 3 n) (byte_at 2 n) (byte_at 1 n) (byte_at 0 n) (omega arith) (omega arith) (omega arith) (omega arith)
+    ∙ joined_decimals-read (byte_at 3 n) (byte_at 2 n) (byte_at 1 n) (byte_at 0 n) (omega arith) (omega arith)
+    (omega arith) (omega arith)
     ∙ ap Some (addr_number n h)
 
 octet_spelt : (s : List ℕ) (n : ℕ) → decimal_of_text 255 s ≡ Some n → (s ≡ decimal n) × (n < 256)
@@ -314,14 +369,17 @@ addr_of_text-spelt s n is =
 
 -- ---- what an answer says
 
-pub IfSome-from : {X : Type 0} (o : Option X) (p : Option X) (P : X → Type 0) → o ≡ p → ((x : X) → p ≡ Some x → P x) → IfSome o P
+pub IfSome-from : {X : Type 0} (o : Option X) (p : Option X) (P : X → Type 0) → o ≡ p → ((x : X) → p ≡ Some x → P x)
+    → IfSome o P
 IfSome-from None p P is h = tt
 IfSome-from (Some x) p P is h = h x (sym is)
 
-pub at_err : {T E : Type 0} (r : Result T E) (P : T → Type 0) (Q : E → Type 0) (X : Type 0) → result_ok r ≡ None → MatchResult r P Q → ((e : E) → Q e → X) → X
+pub at_err : {T E : Type 0} (r : Result T E) (P : T → Type 0) (Q : E → Type 0) (X : Type 0) → result_ok r ≡ None
+    → MatchResult r P Q → ((e : E) → Q e → X) → X
 at_err (Ok x) P Q X none m f = absurd (none-some x (sym none))
 at_err (Err e) P Q X none m f = f e m
 
-pub at_ok : {T E : Type 0} (r : Result T E) (P : T → Type 0) (Q : E → Type 0) (x : T) → result_ok r ≡ Some x → MatchResult r P Q → P x
+pub at_ok : {T E : Type 0} (r : Result T E) (P : T → Type 0) (Q : E → Type 0) (x : T) → result_ok r ≡ Some x
+    → MatchResult r P Q → P x
 at_ok (Ok y) P Q x some m = subst P (same_Some y x some) m
 at_ok (Err e) P Q x some m = absurd (none-some x some)

@@ -4,7 +4,8 @@ use Rattle.byteorder.specs.Endian.{big_bytes}
 
 -- destination 01-80-C2-00-00-00, source, length, and LLC 42 42 03
 abbrev pub bpdu_header : ℕ → ℕ → List ℕ
-bpdu_header source size = big_bytes 6 0x0180_c200_0000 ++ (big_bytes 6 source ++ (big_bytes 2 (3 + size) ++ (0x42 ∷ 0x42 ∷ 0x03 ∷ [])))
+bpdu_header source size = big_bytes 6 0x0180_c200_0000 ++ (big_bytes 6 source
+    ++ (big_bytes 2 (3 + size) ++ (0x42 ∷ 0x42 ∷ 0x03 ∷ [])))
 
 -- the header, the BPDU, and zeros up to 60 octets
 unfoldable pub bpdu_frame_of : ℕ → List ℕ → List ℕ

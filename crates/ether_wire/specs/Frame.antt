@@ -1,8 +1,10 @@
 -- An Ethernet frame (IEEE 802.3, section 3.1.1) without preamble and check sequence: destination 6,
 -- source 6, type or length 2, and the rest.
-use Rattle.std.specs.Prelude.{◌≡◌, ℕ, ◌+◌, ◌-◌, ◌≤◌, Bool, true, ◌&&◌, nat_lt, nat_le, if◌then◌else◌, List, [], ◌∷◌, length, take, drop, Option, Some, None, Result, Ok, Err}
+use Rattle.std.specs.Prelude.{◌≡◌, ℕ, ◌+◌, ◌-◌, ◌≤◌, Bool, true, ◌&&◌, nat_lt, nat_le, if◌then◌else◌, List, [], ◌∷◌}
+use Rattle.std.specs.Prelude.{length, take, drop, Option, Some, None, Result, Ok, Err}
 use Rattle.byteorder.specs.Endian.{big_number}
-use Rattle.ether_wire.specs.declared.frame.TheConstants.{SOURCE_PLACE, TYPE_PLACE, PAYLOAD_PLACE, MOST_OCTETS, MOST_LENGTH, TOO_SHORT, TOO_LONG, LENGTH_BEYOND}
+use Rattle.ether_wire.specs.declared.frame.TheConstants.{SOURCE_PLACE, TYPE_PLACE, PAYLOAD_PLACE, MOST_OCTETS}
+use Rattle.ether_wire.specs.declared.frame.TheConstants.{MOST_LENGTH, TOO_SHORT, TOO_LONG, LENGTH_BEYOND}
 use Rattle.ether_wire.specs.declared.frame.FrameRefusal.{FrameRefusal}
 use Rattle.ether_wire.specs.declared.frame.FrameRefusal.TheVariants.{Short, Long, BadLength}
 use Rattle.ether_wire.specs.declared.frame.Kind.{Kind}
@@ -32,7 +34,8 @@ kind_of octets = if has_length octets then Length (type_or_length octets) else E
 
 -- as many octets as the length says, after which comes padding; or all that follows a type
 abbrev pub payload_of : List ℕ → List ℕ
-payload_of octets = if has_length octets then take (type_or_length octets) (drop PAYLOAD_PLACE octets) else drop PAYLOAD_PLACE octets
+payload_of octets = if has_length octets then take (type_or_length octets) (drop PAYLOAD_PLACE octets) else drop
+    PAYLOAD_PLACE octets
 
 -- a frame has 14 to 9,018 octets, and a length that isn't beyond them
 abbrev pub refusal_tests : List ℕ → List (Bool × FrameRefusal)

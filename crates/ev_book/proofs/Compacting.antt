@@ -1,5 +1,7 @@
--- The updates of a table: no more than those whose table it is, each of them among these, and no fewer for more updates.
-use Rattle.std.proofs.Common.{◌≡◌, ℕ, zero, suc, ◌<◌, ◌≤◌, Bool, true, false, ◌||◌, Option, Some, None, is_some, List, [], ◌∷◌, ◌++◌, length, map, get_or, Contains, refl, ap, ◌∙◌, arith}
+-- The updates of a table: no more than those whose table it is, each of them among these, and no fewer for more
+-- updates.
+use Rattle.std.proofs.Common.{◌≡◌, ℕ, zero, suc, ◌<◌, ◌≤◌, Bool, true, false, ◌||◌, Option, Some, None, is_some, List}
+use Rattle.std.proofs.Common.{[], ◌∷◌, ◌++◌, length, map, get_or, Contains, refl, ap, ◌∙◌, arith}
 use Rattle.std.specs.List.{AllByRecursion, list_any}
 use Rattle.std.specs.List.Sorted.{IsStrictlySortedBy}
 use Rattle.std.specs.Set.{is_member}
@@ -31,13 +33,15 @@ keys es = map (λ (e : Register × Value). e.0) es
 abbrev registers_in : List Fields → List Register
 registers_in us = map (λ (u : Fields). u.register) us
 
-below_keys : (r : Register) (es : List (Register × Value)) → below_all register_cmp r es ≡ true → AllByRecursion (λ q. register_cmp r q ≡ Less) (keys es)
+below_keys : (r : Register) (es : List (Register × Value)) → below_all register_cmp r es ≡ true
+    → AllByRecursion (λ q. register_cmp r q ≡ Less) (keys es)
 below_keys r [] h = tt
 below_keys r (e ∷ es) h =
     let parts = both (is_lt (register_cmp r e.0)) (below_all register_cmp r es) h in
     (less (register_cmp r e.0) parts.0, below_keys r es parts.1)
 
-sorted_keys : (es : List (Register × Value)) → is_sorted register_cmp es ≡ true → IsStrictlySortedBy register_cmp (keys es)
+sorted_keys : (es : List (Register × Value)) → is_sorted register_cmp es ≡ true
+    → IsStrictlySortedBy register_cmp (keys es)
 unfolding IsStrictlySortedBy
 sorted_keys [] h = tt
 sorted_keys (e ∷ es) h =
@@ -48,29 +52,38 @@ or_right : (b c : Bool) → c ≡ true → (b || c) ≡ true
 or_right true c h = refl
 or_right false c h = h
 
-member_at : (us : List Fields) (u : Fields) (k : ℕ) → k < length us → get_or us k u ≡ u → is_member (eq_by_cmp register_cmp) (registers_in us) u.register ≡ true
+member_at : (us : List Fields) (u : Fields) (k : ℕ) → k < length us → get_or us k u ≡ u
+    → is_member (eq_by_cmp register_cmp) (registers_in us) u.register ≡ true
 member_at [] u k l e = absurd (omega (arith, l))
 member_at (x ∷ us) u zero l e =
-    ap (λ (y : Fields). eq_by_cmp register_cmp u.register y.register || list_any (eq_by_cmp register_cmp u.register) (registers_in us)) e
+    ap (λ (y : Fields). eq_by_cmp register_cmp u.register y.register || list_any (eq_by_cmp register_cmp u.register)
+    (registers_in us)) e
     ∙ ap (λ b. b || list_any (eq_by_cmp register_cmp u.register) (registers_in us)) (itself_register u.register)
-member_at (x ∷ us) u (suc k) l e = or_right (eq_by_cmp register_cmp u.register x.register) _ (member_at us u k (omega (arith, l)) e)
+member_at (x ∷ us) u (suc k) l e = or_right (eq_by_cmp register_cmp u.register x.register) _
+    (member_at us u k (omega (arith, l)) e)
 
 -- a table has no more registers than there are updates, if each of its registers has one
-few : (us : List Fields) (t : Table) → ((q : Register) (v : Value) → value_at t q ≡ Some v → (w : Value) × Contains us (record { register = q; value = w })) → register_count t ≤ length us
+few : (us : List Fields) (t : Table) → ((q : Register) (v : Value) → value_at t q ≡ Some v
+    → (w : Value) × Contains us (record { register = q; value = w })) → register_count t ≤ length us
 few us t h =
     let es = entries t.registers in
     let sorted : is_sorted register_cmp es ≡ true = from_T _ (entries_sorted t.registers) in
-    let few : length (keys es) ≤ length (registers_in us) = length-le_from_is_member (eq_by_cmp_equiv register_total) (keys es) (registers_in us) (IsDistinct-from_sorted register_cmp (keys es) (sorted_keys es sorted)) (λ q m. there q (is_some-find register_cmp q es ∙ m)) in
+    let few : length (keys es) ≤ length (registers_in us) =
+    length-le_from_is_member (eq_by_cmp_equiv register_total) (keys es) (registers_in us)
+    (IsDistinct-from_sorted register_cmp (keys es) (sorted_keys es sorted))
+    (λ q m. there q (is_some-find register_cmp q es ∙ m)) in
     let all = length-map es update_from in
     let some = length-map es (λ (e : Register × Value). e.0) in
     let their = length-map us (λ (u : Fields). u.register) in
     omega (arith, few, all, some, their)
   where
-    at : (q : Register) (o : Option Value) → value_at t q ≡ o → is_some o ≡ true → is_member (eq_by_cmp register_cmp) (registers_in us) q ≡ true
+    at : (q : Register) (o : Option Value) → value_at t q ≡ o → is_some o ≡ true
+        → is_member (eq_by_cmp register_cmp) (registers_in us) q ≡ true
     at q None e s = absurd (false≢true s)
     at q (Some v) e s = (let c = h q v e in member_at us (record { register = q; value = c.0 }) c.1.0 c.1.1 c.1.2)
 
-    there : (q : Register) → is_some (find register_cmp q (entries t.registers)) ≡ true → is_member (eq_by_cmp register_cmp) (registers_in us) q ≡ true
+    there : (q : Register) → is_some (find register_cmp q (entries t.registers)) ≡ true
+        → is_member (eq_by_cmp register_cmp) (registers_in us) q ≡ true
     there q s = at q (find register_cmp q (entries t.registers)) (get-entries t.registers q) s
 
 -- the table of updates has no more registers than there are
@@ -78,7 +91,8 @@ pub no_more : (us : List Fields) (t : Table) → IsTableOf us t → register_cou
 no_more us t h = few us t (λ q v e. (v, h.from q v e))
 
 -- and that of more updates has no fewer
-pub no_fewer : (us more : List Fields) (s t : Table) → IsTableOf us s → IsTableOf (us ++ more) t → register_count s ≤ register_count t
+pub no_fewer : (us more : List Fields) (s t : Table) → IsTableOf us s → IsTableOf (us ++ more) t
+    → register_count s ≤ register_count t
 no_fewer us more s t a b =
     few (all_updates t) s (λ q v e.
     let n = b.newest (record { register = q; value = v }) (Contains-append_left us more _ (a.from q v e)) in
@@ -90,7 +104,12 @@ compacted us t h =
     record {
       ordered = are.ordered;
       from = λ u c. h.from u.register u.value (are.own u c);
-      newest = λ u c. (let n = h.newest u c in (record { register = u.register; value = n.0 }, are.all u.register n.0 n.1, refl, n.2));
+      newest = λ u c. (let n = h.newest u c in (
+        record { register = u.register; value = n.0 },
+        are.all u.register n.0 n.1,
+        refl,
+        n.2,
+      ));
     }
 
 -- it is the table of its updates

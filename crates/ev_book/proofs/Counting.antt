@@ -1,5 +1,6 @@
 -- What a book keeps of its passes.
-use Rattle.std.proofs.Common.{ℕ, zero, suc, replicate, ◌+◌, ◌<◌, ◌≡◌, inl, inr, true, Option, Some, None, IfSome, List, length, get_or, set, slice_get, refl, ap, sym, subst, ◌∙◌, arith, eqb}
+use Rattle.std.proofs.Common.{ℕ, zero, suc, replicate, ◌+◌, ◌<◌, ◌≡◌, inl, inr, true, Option, Some, None, IfSome, List}
+use Rattle.std.proofs.Common.{length, get_or, set, slice_get, refl, ap, sym, subst, ◌∙◌, arith, eqb}
 use Rattle.std.proofs.lemmas.Bool.{cases_eq, false≢true, eqb-true}
 use Rattle.std.proofs.lemmas.Option.{slice_get_within, get_or_from_slice_get}
 use Rattle.std.proofs.lemmas.List.{get_or-set_same, get_or-set_other, length-set}
@@ -21,7 +22,8 @@ pub record Fitting (kept : List Kept) (p : PassState) : Type 0 where
   pub count : (kept_at kept p.number).count ≡ p.count
   pub mark : (kept_at kept p.number).mark ≡ p.mark
 
-fitting_at : (kept : List Kept) (p : PassState) (o : Option Kept) → slice_get kept p.number ≡ o → fits_kept o p ≡ true → Fitting kept p
+fitting_at : (kept : List Kept) (p : PassState) (o : Option Kept) → slice_get kept p.number ≡ o → fits_kept o p ≡ true
+    → Fitting kept p
 fitting_at kept p None is h = absurd (false≢true h)
 fitting_at kept p (Some k) is h =
     let parts = both (eqb k.count p.count) (same_mark k.mark p.mark) h in
@@ -36,13 +38,15 @@ pub fitting : (kept : List Kept) (p : PassState) → fits_kept (slice_get kept p
 fitting kept p h = fitting_at kept p (slice_get kept p.number) refl h
 
 -- so the table has its mark
-pub fitting_holds : (b : BookState) (total : ℕ) (p : PassState) → IsGoodBook b total → fits b p ≡ true → HoldsAt (table_of b.edge) p.mark
+pub fitting_holds : (b : BookState) (total : ℕ) (p : PassState) → IsGoodBook b total → fits b p ≡ true
+    → HoldsAt (table_of b.edge) p.mark
 fitting_holds b total p good h =
     let f = fitting b.kept p h in
     subst (HoldsAt (table_of b.edge)) f.mark (good.marks p.number f.low)
 
 -- it has the mark after a call
-pub then_holds : (s t : Table) (m : Option Mark) (o : Option Fields) → ((k : Mark) → Holds s k → Holds t k) → HoldsAt s m → IfSome o (λ u. Holds t (mark_of u)) → HoldsAt t (mark_then m o)
+pub then_holds : (s t : Table) (m : Option Mark) (o : Option Fields) → ((k : Mark) → Holds s k → Holds t k)
+    → HoldsAt s m → IfSome o (λ u. Holds t (mark_of u)) → HoldsAt t (mark_then m o)
 then_holds s t m (Some u) on h new = new
 then_holds s t None None on h new = tt
 then_holds s t (Some k) None on h new = on k h
@@ -52,7 +56,8 @@ on_marks s t on None h = tt
 on_marks s t on (Some k) h = on k h
 
 -- one call more, a journal that has grown, and a mark that holds
-pub entered : (b : BookState) (total : ℕ) (p : PassState) (edge : Edge) (journal : List Fields) (mark : Option Mark) → IsGoodBook b total → fits b p ≡ true → IsTableOf journal (table_of edge)
+pub entered : (b : BookState) (total : ℕ) (p : PassState) (edge : Edge) (journal : List Fields) (mark : Option Mark)
+    → IsGoodBook b total → fits b p ≡ true → IsTableOf journal (table_of edge)
     → ((k : Mark) → Holds (table_of b.edge) k → Holds (table_of edge) k) → HoldsAt (table_of edge) mark
     → IsGoodBook (book_of edge journal (set b.kept p.number (record { count = p.count + 1; mark = mark }))) (total + 1)
 entered b total p edge journal mark good h table on new =
@@ -63,10 +68,15 @@ entered b total p edge journal mark good h table on new =
       marks = λ n lt.
           let lt' : n < length b.kept = rw length-set at lt in
           elim (cases_eq n p.number) [
-            | inl e ↦ (let P : Kept → Type 0 = λ x. HoldsAt (table_of edge) x.mark in subst P (sym (ap (λ i. get_or (set b.kept p.number k) i unused) e ∙ get_or-set_same b.kept p.number k unused f.low)) new)
-            | inr ne ↦ (let P : Kept → Type 0 = λ x. HoldsAt (table_of edge) x.mark in subst P (sym (get_or-set_other b.kept p.number n k unused ne)) (on_marks (table_of b.edge) (table_of edge) on (kept_at b.kept n).mark (good.marks n lt')))
+            | inl e ↦ (let P : Kept → Type 0 = λ x. HoldsAt (table_of edge) x.mark in
+                subst P (sym (ap (λ i. get_or (set b.kept p.number k) i unused) e
+                ∙ get_or-set_same b.kept p.number k unused f.low)) new)
+            | inr ne ↦ (let P : Kept → Type 0 = λ x. HoldsAt (table_of edge) x.mark in
+                subst P (sym (get_or-set_other b.kept p.number n k unused ne))
+                (on_marks (table_of b.edge) (table_of edge) on (kept_at b.kept n).mark (good.marks n lt')))
           ];
-      counts = (let sum = sum_by-set (λ (x : Kept). x.count) b.kept p.number k unused f.low in let was = good.counts in let count = f.count in omega (arith, sum, was, count));
+      counts = (let sum = sum_by-set (λ (x : Kept). x.count) b.kept p.number k unused f.low in let was = good.counts in
+          let count = f.count in omega (arith, sum, was, count));
     }
 
 -- what fits as it is seen, fits as it is kept
@@ -85,7 +95,8 @@ unmarked (suc n) zero lt = refl
 unmarked (suc n) (suc k) lt = unmarked n k (omega (arith, lt))
 
 -- passes that have called nothing, over the journal of an edge
-pub opened_good : (edge : Edge) (journal : List Fields) (n : ℕ) → IsTableOf journal (table_of edge) → IsGoodBook (book_of edge journal (replicate n unused)) 0
+pub opened_good : (edge : Edge) (journal : List Fields) (n : ℕ) → IsTableOf journal (table_of edge)
+    → IsGoodBook (book_of edge journal (replicate n unused)) 0
 opened_good edge journal n table = record {
   table = table;
   marks = λ k lt. subst (HoldsAt (table_of edge)) (sym (unmarked n k lt)) tt;

@@ -14,13 +14,15 @@ use Rattle.ev_book.specs.declared.mark.Mark.{Mark}
 use Rattle.ev_book.specs.Mark.{Holds, HoldsAt, is_same, same_mark, mark_of}
 
 -- a table of more updates has what the table of some has
-pub still_holds : (us more : List Fields) (s t : Table) → IsTableOf us s → IsTableOf (us ++ more) t → (m : Mark) → Holds s m → Holds t m
+pub still_holds : (us more : List Fields) (s t : Table) → IsTableOf us s → IsTableOf (us ++ more) t → (m : Mark)
+    → Holds s m → Holds t m
 still_holds us more s t a b m h =
     let u : Fields = record { register = m.register; value = h.value } in
     let n = b.newest u (Contains-append_left us more u (a.from m.register h.value h.there)) in
     record { value = n.0; there = n.1; no_older = not_newer_trans n.0 h.value m.value n.2 h.no_older }
 
-pub still_holds_at : (us more : List Fields) (s t : Table) → IsTableOf us s → IsTableOf (us ++ more) t → (m : Option Mark) → HoldsAt s m → HoldsAt t m
+pub still_holds_at : (us more : List Fields) (s t : Table) → IsTableOf us s → IsTableOf (us ++ more) t
+    → (m : Option Mark) → HoldsAt s m → HoldsAt t m
 still_holds_at us more s t a b None h = h
 still_holds_at us more s t a b (Some m) h = still_holds us more s t a b m h
 
@@ -42,7 +44,8 @@ neither false false h = (refl, refl)
 
 pub same_marks : (a b : Mark) → is_same a b ≡ true → a ≡ b
 same_marks a b h =
-    let parts = both (eq_by_cmp register_cmp a.register b.register) (not (is_newer a.value b.value || is_newer b.value a.value)) h in
+    let parts = both (eq_by_cmp register_cmp a.register b.register)
+    (not (is_newer a.value b.value || is_newer b.value a.value)) h in
     let none = neither (is_newer a.value b.value) (is_newer b.value a.value) parts.1 in
     let r = same_register a.register b.register parts.0 in
     let v = neither_newer a.value b.value none.0 none.1 in

@@ -1,5 +1,6 @@
 -- A pass fits again after its call, and the others still.
-use Rattle.std.proofs.Common.{◌≡◌, ◌≢◌, ℕ, zero, suc, ◌+◌, ◌<◌, Bool, true, false, ◌&&◌, ◌||◌, not, Option, Some, None, Result, List, [], ◌∷◌, length, refl, sym, ap, subst, ◌∙◌, arith}
+use Rattle.std.proofs.Common.{◌≡◌, ◌≢◌, ℕ, zero, suc, ◌+◌, ◌<◌, Bool, true, false, ◌&&◌, ◌||◌, not, Option, Some, None}
+use Rattle.std.proofs.Common.{Result, List, [], ◌∷◌, length, refl, sym, ap, subst, ◌∙◌, arith}
 use Rattle.std.specs.Prelude.{slice_get, slice_set, ◌==◌}
 use Rattle.std.specs.Cmp.{tied_itself}
 use Rattle.std.specs.Ordering.{is_eq}
@@ -21,7 +22,8 @@ both : (x y : Bool) → x ≡ true → y ≡ true → (x && y) ≡ true
 both x y p q = ap (λ b. b && y) p ∙ q
 
 same_itself : (a : Mark) → is_same a a ≡ true
-same_itself a = both _ _ (ap is_eq (tied_itself register_total a.register)) (ap (λ newer. not (newer || newer)) (not_newer_itself a.value))
+same_itself a = both _ _ (ap is_eq (tied_itself register_total a.register))
+    (ap (λ newer. not (newer || newer)) (not_newer_itself a.value))
 
 mark_itself : (m : Option Mark) → same_mark m m ≡ true
 mark_itself None = refl
@@ -32,7 +34,8 @@ set_there [] i a less = absurd (omega (arith, less))
 set_there (x ∷ xs) zero a less = refl
 set_there (x ∷ xs) (suc i) a less = set_there xs i a (omega (arith, less))
 
-set_elsewhere : {A : Type 0} (xs : List A) (i : ℕ) (a : A) (j : ℕ) → j ≢ i → slice_get (slice_set xs i a) j ≡ slice_get xs j
+set_elsewhere : {A : Type 0} (xs : List A) (i : ℕ) (a : A) (j : ℕ) → j ≢ i
+    → slice_get (slice_set xs i a) j ≡ slice_get xs j
 set_elsewhere [] i a j ne = refl
 set_elsewhere (x ∷ xs) zero a zero ne = absurd (ne refl)
 set_elsewhere (x ∷ xs) zero a (suc j) ne = refl
@@ -43,7 +46,8 @@ set_elsewhere (x ∷ xs) (suc i) a (suc j) ne = set_elsewhere xs i a j (λ same.
 kept_itself : (p : PassState) → fits_kept (Some (kept_of p)) p ≡ true
 kept_itself p = both _ _ (eq-eqb p.count p.count refl) (mark_itself p.mark)
 
-entered_fits : (b b' : BookState) (p p' : PassState) (event : Event) (result : Result Reply BookRefusal) → fits b p ≡ true → Enters b p event result b' p' → FitAgain b b' p p'
+entered_fits : (b b' : BookState) (p p' : PassState) (event : Event) (result : Result Reply BookRefusal)
+    → fits b p ≡ true → Enters b p event result b' p' → FitAgain b b' p p'
 entered_fits b b' p p' event result fit h = record {
   own =
       ap (λ n. fits_kept (slice_get b'.kept n) p') number
@@ -59,7 +63,8 @@ entered_fits b b' p p' event result fit h = record {
     number = ap (λ (x : PassState). x.number) h.pass
 
 pub fits_again : FitsAgain
-fits_again b b' p p' event result fit calls = go (is_spent p) (subst (λ x. Calls x (is_spent p) b p event result b' p') fit calls)
+fits_again b b' p p' event result fit calls = go (is_spent p)
+    (subst (λ x. Calls x (is_spent p) b p event result b' p') fit calls)
   where
     go : (spent : Bool) → Calls true spent b p event result b' p' → FitAgain b b' p p'
     go true h = record {

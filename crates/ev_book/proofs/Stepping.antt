@@ -1,5 +1,6 @@
 -- One step of an edge, and the journal that grows by it.
-use Rattle.std.proofs.Common.{◌≡◌, ◌+◌, Option, Some, None, IfSome, Result, Ok, Err, List, [], ◌∷◌, ◌++◌, refl, ap, sym, subst, ◌∙◌, arith}
+use Rattle.std.proofs.Common.{◌≡◌, ◌+◌, Option, Some, None, IfSome, Result, Ok, Err, List, [], ◌∷◌, ◌++◌, refl, ap, sym}
+use Rattle.std.proofs.Common.{subst, ◌∙◌, arith}
 use Rattle.std.proofs.lemmas.List.Elements.{Contains-append_right, Contains-append_left, Contains-push}
 use Rattle.std.proofs.lemmas.List.{length-map}
 use Rattle.std.specs.FinMap.{empty}
@@ -28,10 +29,12 @@ use Rattle.ev_book.specs.Entering.{touched, touched_by}
 use Rattle.ev_book.proofs.Reaching.{holds_update, holds_there}
 
 -- what an event makes the edge say
-abbrev pub own_in : {e : Edge} {event : Event} {result : Result Reply edges.Refusal} {e' : Edge} → Changes e event result e' → List Fields
+abbrev pub own_in : {e : Edge} {event : Event} {result : Result Reply edges.Refusal} {e' : Edge}
+    → Changes e event result e' → List Fields
 own_in {e} {event} {result} {e'} h = said_updates (heard event result e.claims.voice) h.said
 
-pub are_own : {e : Edge} {event : Event} {result : Result Reply edges.Refusal} {e' : Edge} → (h : Changes e event result e') → AreOwnSince e'.claims.voice e.claims.voice.counter (own_in h)
+pub are_own : {e : Edge} {event : Event} {result : Result Reply edges.Refusal} {e' : Edge}
+    → (h : Changes e event result e') → AreOwnSince e'.claims.voice e.claims.voice.counter (own_in h)
 are_own {e} {event} {result} {e'} h =
     let before = heard_counter event result e.claims.voice in
     let count = h.says.count in
@@ -42,13 +45,17 @@ are_own {e} {event} {result} {e'} h =
     }
 
 -- the journal's table is the edge's still
-pub still_table : {e : Edge} {event : Event} {result : Result Reply edges.Refusal} {e' : Edge} (journal : List Fields) → (h : Changes e event result e') → IsTableOf journal (table_of e) → IsTableOf (journal ++ (accepted event result ++ own_in h)) (table_of e')
+pub still_table : {e : Edge} {event : Event} {result : Result Reply edges.Refusal} {e' : Edge} (journal : List Fields)
+    → (h : Changes e event result e') → IsTableOf journal (table_of e)
+    → IsTableOf (journal ++ (accepted event result ++ own_in h)) (table_of e')
 still_table {e} {event} {result} {e'} journal h was =
-    subst (IsTableOf (journal ++ (accepted event result ++ own_in h))) (sym h.table) (all_taken journal (accepted event result ++ own_in h) (table_of e) was)
+    subst (IsTableOf (journal ++ (accepted event result ++ own_in h))) (sym h.table)
+    (all_taken journal (accepted event result ++ own_in h) (table_of e) was)
 
 -- ---- what was touched is there
 
-announced_there : (v : Voice) (rs : List Register) (u : Fields) → announced_of v rs ≡ Some u → value_at v.table u.register ≡ Some u.value
+announced_there : (v : Voice) (rs : List Register) (u : Fields) → announced_of v rs ≡ Some u
+    → value_at v.table u.register ≡ Some u.value
 announced_there v [] u h = cc
 announced_there v (r ∷ rs) u h =
     let told = update_told v.table r u h in
@@ -58,14 +65,18 @@ if_some : (o : Option Fields) (P : Fields → Type 0) → ((u : Fields) → o �
 if_some None P h = tt
 if_some (Some u) P h = h u refl
 
-pub touched_there : (e : Edge) (event : Event) (reply : Reply) (e' : Edge) (journal own : List Fields) → Steps e event (Ok reply) e'
-    → IsTableOf (journal ++ (accepted event (Ok reply) ++ own)) (table_of e') → IfSome (touched event reply) (λ u. Holds (table_of e') (mark_of u))
+pub touched_there : (e : Edge) (event : Event) (reply : Reply) (e' : Edge) (journal own : List Fields)
+    → Steps e event (Ok reply) e'
+    → IsTableOf (journal ++ (accepted event (Ok reply) ++ own)) (table_of e')
+    → IfSome (touched event reply) (λ u. Holds (table_of e') (mark_of u))
 touched_there e (events.Take u) reply e' journal own steps table =
-    holds_update (journal ++ ((u ∷ []) ++ own)) (table_of e') u table (Contains-append_right journal ((u ∷ []) ++ own) u (Contains-append_left (u ∷ []) own u (Contains-push [] u)))
+    holds_update (journal ++ ((u ∷ []) ++ own)) (table_of e') u table
+    (Contains-append_right journal ((u ∷ []) ++ own) u (Contains-append_left (u ∷ []) own u (Contains-push [] u)))
 touched_there e events.Announce reply e' journal own steps table =
     if_some reply.announced (λ u. Holds (table_of e') (mark_of u)) (λ u h.
     let told : reply.announced ≡ announced e.claims.voice = cc in
-    let there : value_at (table_of e) u.register ≡ Some u.value = announced_there e.claims.voice e.claims.voice.pending u (sym told ∙ h) in
+    let there : value_at (table_of e) u.register ≡ Some u.value =
+    announced_there e.claims.voice e.claims.voice.pending u (sym told ∙ h) in
     let kept : table_of e' ≡ table_of e = ap (λ (x : Edge). table_of x) steps.1 in
     holds_there (table_of e') u (ap (λ (t : Table). value_at t u.register) kept ∙ there))
 touched_there e (events.Frame port octets) reply e' journal own steps table = tt
@@ -78,8 +89,10 @@ touched_there e (events.PortUp port) reply e' journal own steps table = tt
 touched_there e (events.PortDown port) reply e' journal own steps table = tt
 touched_there e (events.Mcheck port) reply e' journal own steps table = tt
 
-pub touched_by_there : (e : Edge) (event : Event) (result : Result Reply edges.Refusal) (e' : Edge) (journal own : List Fields) → Steps e event result e'
-    → IsTableOf (journal ++ (accepted event result ++ own)) (table_of e') → IfSome (touched_by event result) (λ u. Holds (table_of e') (mark_of u))
+pub touched_by_there : (e : Edge) (event : Event) (result : Result Reply edges.Refusal) (e' : Edge)
+    (journal own : List Fields) → Steps e event result e'
+    → IsTableOf (journal ++ (accepted event result ++ own)) (table_of e')
+    → IfSome (touched_by event result) (λ u. Holds (table_of e') (mark_of u))
 touched_by_there e event (Ok reply) e' journal own steps table = touched_there e event reply e' journal own steps table
 touched_by_there e event (Err r) e' journal own steps table = tt
 
@@ -101,4 +114,6 @@ first_are_own s e h =
 pub first_table : (s : Start) (e : Claims) → Opens s e → IsTableOf (first_own s e) e.voice.table
 first_table s e h =
     let none : Table = record { originators = s.originators.items; registers = empty } in
-    subst (IsTableOf (first_own s e)) (sym h.says.table) (all_taken [] (first_own s e) none (subst (IsTableOf []) (new_table s.originators.items) (none_taken s.originators.items)))
+    subst (IsTableOf (first_own s e)) (sym h.says.table)
+    (all_taken [] (first_own s e) none (subst (IsTableOf []) (new_table s.originators.items)
+    (none_taken s.originators.items)))

@@ -1,5 +1,6 @@
 -- What a call of a book does to it and to the pass.
-use Rattle.std.specs.Prelude.{◌≡◌, ℕ, ◌+◌, ◌^◌, ◌++◌, nat_le, Bool, true, false, Option, Some, None, Result, Ok, Err, List, slice_set}
+use Rattle.std.specs.Prelude.{◌≡◌, ℕ, ◌+◌, ◌^◌, ◌++◌, nat_le, Bool, true, false, Option, Some, None, Result, Ok, Err}
+use Rattle.std.specs.Prelude.{List, slice_set}
 use Rattle.route_wire.specs.Fields.{Fields}
 use Rattle.ev_edge.specs.declared.event.Event.{Event}
 use Rattle.ev_edge.specs.declared.event.Event.TheVariants as events
@@ -54,17 +55,21 @@ called p m = record { number = p.number; count = p.count + 1; mark = m }
 
 -- ---- one call
 
--- One step of the edge. The journal grows by the update that the event took, whether it was news or not, and then by the
+-- One step of the edge. The journal grows by the update that the event took, whether it was news or not, and then by
+-- the
 -- own updates of the event.
-pub record Grows (e : Edge) (us : List Fields) (event : Event) (result : Result Reply edges.Refusal) (e' : Edge) (us' : List Fields) : Type 0 where
+pub record Grows (e : Edge) (us : List Fields) (event : Event) (result : Result Reply edges.Refusal) (e' : Edge)
+    (us' : List Fields) : Type 0 where
   pub steps : Steps e event result e'
   pub own : List Fields
   pub are_own : AreOwnSince e'.claims.voice e.claims.voice.counter own
   pub journal : us' ≡ us ++ (accepted event result ++ own)
 
--- The same behind what is left of the journal: all of it, or what the table has of it; not more than two updates for each
+-- The same behind what is left of the journal: all of it, or what the table has of it; not more than two updates for
+-- each
 -- register, and 64.
-pub record Writes (e : Edge) (us : List Fields) (event : Event) (result : Result Reply edges.Refusal) (e' : Edge) (us' : List Fields) : Type 0 where
+pub record Writes (e : Edge) (us : List Fields) (event : Event) (result : Result Reply edges.Refusal) (e' : Edge)
+    (us' : List Fields) : Type 0 where
   pub left : List Fields
   pub kept : IsKept (table_of e) us left
   pub grows : Grows e left event result e' us'
@@ -77,15 +82,18 @@ WritesOrNot e journal event (Err NoRoom) e' journal' = (e' ≡ e) × IsFull (tab
 WritesOrNot e journal event (Err PassStrange) e' journal' = ⊥
 WritesOrNot e journal event (Err PassSpent) e' journal' = ⊥
 
--- A call that isn't refused for its pass. It is counted, and the pass has the mark of what it took or announced; the book
+-- A call that isn't refused for its pass. It is counted, and the pass has the mark of what it took or announced; the
+-- book
 -- keeps both, and nothing else of any pass changes.
-pub record Enters (b : BookState) (p : PassState) (event : Event) (result : Result Reply BookRefusal) (b' : BookState) (p' : PassState) : Type 0 where
+pub record Enters (b : BookState) (p : PassState) (event : Event) (result : Result Reply BookRefusal) (b' : BookState)
+    (p' : PassState) : Type 0 where
   pub writes : WritesOrNot b.edge b.journal event result b'.edge b'.journal
   pub pass : p' ≡ called p (mark_then p.mark (touched_by event result))
   pub kept : b'.kept ≡ slice_set b.kept p.number (kept_of p')
 
 -- nothing changes
-pub record Refuses (b : BookState) (p : PassState) (why : BookRefusal) (result : Result Reply BookRefusal) (b' : BookState) (p' : PassState) : Type 0 where
+pub record Refuses (b : BookState) (p : PassState) (why : BookRefusal) (result : Result Reply BookRefusal)
+    (b' : BookState) (p' : PassState) : Type 0 where
   pub result_is : result ≡ Err why
   pub book : b' ≡ b
   pub pass : p' ≡ p
@@ -94,7 +102,8 @@ pub record Refuses (b : BookState) (p : PassState) (why : BookRefusal) (result :
 abbrev pub is_spent : PassState → Bool
 is_spent p = nat_le (2 ^ 55) p.count
 
-abbrev pub Calls : Bool → Bool → BookState → PassState → Event → Result Reply BookRefusal → BookState → PassState → Type 0
+abbrev pub Calls : Bool → Bool → BookState → PassState → Event → Result Reply BookRefusal → BookState → PassState
+    → Type 0
 Calls false spent b p event result b' p' = Refuses b p PassStrange result b' p'
 Calls true true b p event result b' p' = Refuses b p PassSpent result b' p'
 Calls true false b p event result b' p' = Enters b p event result b' p'

@@ -1,5 +1,6 @@
 -- The journal of an edge: what is added to it, and its octets.
-use Rattle.std.specs.Prelude.{◌≡◌, ◌⊎◌, ℕ, ◌+◌, ◌*◌, ◌≤◌, ◌++◌, Some, List, slice_get, length, map, Contains, false, Result, Ok}
+use Rattle.std.specs.Prelude.{◌≡◌, ◌⊎◌, ℕ, ◌+◌, ◌*◌, ◌≤◌, ◌++◌, Some, List, slice_get, length, map, Contains, false}
+use Rattle.std.specs.Prelude.{Result, Ok}
 use Rattle.std.specs.List.{concat}
 use Rattle.route_wire.specs.Order.{is_newer}
 use Rattle.route_join.specs.Table.{Table, IsOrdered}
@@ -34,7 +35,8 @@ all_ok us = map (λ u. Ok u) us
 pub record Compacts (old new : List Fields) : Type 0 where
   pub ordered : IsOrdered new
   pub from : (u : Fields) → Contains new u → Contains old u
-  pub newest : (u : Fields) → Contains old u → (v : Fields) × Contains new v × (v.register ≡ u.register) × (is_newer u.value v.value ≡ false)
+  pub newest : (u : Fields) → Contains old u → (v : Fields) × Contains new v × (v.register ≡ u.register)
+      × (is_newer u.value v.value ≡ false)
 
 -- ---- before an event is written
 

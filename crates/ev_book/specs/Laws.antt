@@ -20,11 +20,13 @@ pub record Replays (b : BookState) : Type 0 where
   pub registers : (with_updates (listening b) b.journal).registers ≡ (table_of b.edge).registers
   pub report : report_of (with_updates (listening b) b.journal) ≡ report_of (table_of b.edge)
 
--- The octets are a stream of records that spell updates of listed originators, with nothing left over, however it is read;
+-- The octets are a stream of records that spell updates of listed originators, with nothing left over, however it is
+-- read;
 -- and this is the report of a table that takes them.
 pub record ReportsAs (t : Table) (octets text : List ℕ) : Type 0 where
   pub updates : List Fields
   pub answers : Answers octets (all_ok updates) []
-  pub only : (answers : List (Result Fields ℕ)) (rest : List ℕ) → Answers octets answers rest → (answers ≡ all_ok updates) × (rest ≡ [])
+  pub only : (answers : List (Result Fields ℕ)) (rest : List ℕ) → Answers octets answers rest
+      → (answers ≡ all_ok updates) × (rest ≡ [])
   pub listed : (u : Fields) → Contains updates u → is_listed t u.register.originator ≡ true
   pub report : report_of (with_updates t updates) ≡ text

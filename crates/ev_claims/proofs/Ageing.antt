@@ -1,5 +1,6 @@
 -- The stations that are due go one after another, from the front of the ageing list.
-use Rattle.std.proofs.Common.{◌≡◌, ◌≢◌, ℕ, suc, ◌<◌, ◌≤◌, Bool, true, false, cond, Option, Some, None, List, [], ◌∷◌, length, refl, sym, ap, subst, ◌∙◌, arith}
+use Rattle.std.proofs.Common.{◌≡◌, ◌≢◌, ℕ, suc, ◌<◌, ◌≤◌, Bool, true, false, cond, Option, Some, None, List, [], ◌∷◌}
+use Rattle.std.proofs.Common.{length, refl, sym, ap, subst, ◌∙◌, arith}
 use Rattle.std.specs.Prelude.{slice_get, ◌||◌}
 use Rattle.std.proofs.lemmas.Bool.Decides.{nat_tests}
 use Rattle.mac_arena.specs.declared.station.Station.{Station}
@@ -24,12 +25,21 @@ pub record IsFront (t : Learning) (limit : ℕ) (s : Station) : Type 0 where
 pub front : (t : Learning) (limit : ℕ) (s : Station) → slice_get (due_in t limit) 0 ≡ Some s → IsFront t limit s
 front t limit s e = go t.ageing refl e
   where
-    entry_of : (o : Option Entry) (x : Station) (xs : List Station) → entry_at t x ≡ o → is_due limit o ≡ true → t.ageing ≡ x ∷ xs → IsFront t limit x
+    entry_of : (o : Option Entry) (x : Station) (xs : List Station) → entry_at t x ≡ o → is_due limit o ≡ true
+        → t.ageing ≡ x ∷ xs → IsFront t limit x
     entry_of None x xs is due list = cc
-    entry_of (Some y) x xs is due list = record { rest = xs; list = list; entry = y; known = is; due = ap (is_due limit) is ∙ due }
+    entry_of (Some y) x xs is due list = record {
+      rest = xs;
+      list = list;
+      entry = y;
+      known = is;
+      due = ap (is_due limit) is ∙ due;
+    }
 
-    pick : (x : Station) (xs : List Station) → t.ageing ≡ x ∷ xs → (b : Bool) → is_due limit (entry_at t x) ≡ b → slice_get (cond b (x ∷ due_among t limit xs) []) 0 ≡ Some s → IsFront t limit s
-    pick x xs list true due h = let same : x ≡ s = cc in subst (IsFront t limit) same (entry_of (entry_at t x) x xs refl due list)
+    pick : (x : Station) (xs : List Station) → t.ageing ≡ x ∷ xs → (b : Bool) → is_due limit (entry_at t x) ≡ b
+        → slice_get (cond b (x ∷ due_among t limit xs) []) 0 ≡ Some s → IsFront t limit s
+    pick x xs list true due h = let same : x ≡ s = cc in
+        subst (IsFront t limit) same (entry_of (entry_at t x) x xs refl due list)
     pick x xs list false due h = cc
 
     go : (ss : List Station) → t.ageing ≡ ss → slice_get (due_among t limit ss) 0 ≡ Some s → IsFront t limit s
@@ -37,14 +47,17 @@ front t limit s e = go t.ageing refl e
     go (x ∷ xs) list h = pick x xs list (is_due limit (entry_at t x)) refl h
 
 -- a station that doesn't stand on a list has no part in it
-due_stays : (t : Learning) (limit : ℕ) (s : Station) (ss : List Station) → stands ss s ≡ false → due_among (gone t s) limit ss ≡ due_among t limit ss
+due_stays : (t : Learning) (limit : ℕ) (s : Station) (ss : List Station) → stands ss s ≡ false
+    → due_among (gone t s) limit ss ≡ due_among t limit ss
 due_stays t limit s [] h = refl
 due_stays t limit s (x ∷ xs) h = go (is_same x s) refl h (due_stays t limit s xs)
   where
     apart : is_same x s ≡ false → x ≢ s
     apart e same = let ties = ap (λ q. is_same q s) same ∙ same_self s in cc
 
-    go : (b : Bool) → is_same x s ≡ b → b || stands xs s ≡ false → (stands xs s ≡ false → due_among (gone t s) limit xs ≡ due_among t limit xs) → due_among (gone t s) limit (x ∷ xs) ≡ due_among t limit (x ∷ xs)
+    go : (b : Bool) → is_same x s ≡ b → b || stands xs s ≡ false
+        → (stands xs s ≡ false → due_among (gone t s) limit xs ≡ due_among t limit xs)
+        → due_among (gone t s) limit (x ∷ xs) ≡ due_among t limit (x ∷ xs)
     go true e h rest = cc
     go false e h rest = λ i. cond (is_due limit (removal_there t s x (apart e) i)) (x ∷ rest h i) []
 
@@ -53,7 +66,8 @@ module _ (e : Claims) (limit : ℕ) (s : Station) (lists : ListsName e.learned) 
   t = e.learned
 
   pub ageing_left : (gone t s).ageing ≡ f.rest
-  ageing_left = ap (λ o. (after_removal_at t s o).ageing) f.known ∙ ap (left s) f.list ∙ ap (λ b. cond b f.rest (s ∷ left s f.rest)) (same_self s)
+  ageing_left = ap (λ o. (after_removal_at t s o).ageing) f.known ∙ ap (left s) f.list
+      ∙ ap (λ b. cond b f.rest (s ∷ left s f.rest)) (same_self s)
 
   once : stands f.rest s ≡ false
   once = (subst AreOnce f.list lists.ageing_once).0
@@ -84,20 +98,25 @@ front_none l limit e = go l.ageing e
     go [] e = refl
     go (x ∷ xs) e = cc
 
-late_by : (l : Learning) (limit : ℕ) (s : Station) → Some s ≡ slice_get l.ageing 0 → is_due limit (entry_at l s) ≡ false → None ≡ slice_get (due_in l limit) 0
+late_by : (l : Learning) (limit : ℕ) (s : Station) → Some s ≡ slice_get l.ageing 0 → is_due limit (entry_at l s) ≡ false
+    → None ≡ slice_get (due_in l limit) 0
 late_by l limit s e late = go l.ageing e
   where
     go : (ss : List Station) → Some s ≡ slice_get ss 0 → None ≡ slice_get (due_among l limit ss) 0
     go [] e = cc
-    go (x ∷ xs) e = let same : s ≡ x = cc in sym (ap (λ b. slice_get (cond b (x ∷ due_among l limit xs) []) 0) (ap (λ q. is_due limit (entry_at l q)) (sym same) ∙ late))
+    go (x ∷ xs) e = let same : s ≡ x = cc in sym (ap (λ b. slice_get (cond b (x ∷ due_among l limit xs) []) 0)
+        (ap (λ q. is_due limit (entry_at l q)) (sym same) ∙ late))
 
-pub front_unknown : (l : Learning) (limit : ℕ) (s : Station) → Some s ≡ slice_get l.ageing 0 → None ≡ entry_at l s → None ≡ slice_get (due_in l limit) 0
+pub front_unknown : (l : Learning) (limit : ℕ) (s : Station) → Some s ≡ slice_get l.ageing 0 → None ≡ entry_at l s
+    → None ≡ slice_get (due_in l limit) 0
 front_unknown l limit s e none = late_by l limit s e (ap (is_due limit) (sym none))
 
-pub front_late : (l : Learning) (limit : ℕ) (s : Station) (x : Entry) → Some s ≡ slice_get l.ageing 0 → Some x ≡ entry_at l s → limit < x.last → None ≡ slice_get (due_in l limit) 0
+pub front_late : (l : Learning) (limit : ℕ) (s : Station) (x : Entry) → Some s ≡ slice_get l.ageing 0
+    → Some x ≡ entry_at l s → limit < x.last → None ≡ slice_get (due_in l limit) 0
 front_late l limit s x e is late = late_by l limit s e (ap (is_due limit) (sym is) ∙ grind (arith, nat_tests))
 
-pub front_due : (l : Learning) (limit : ℕ) (s : Station) (x : Entry) → Some s ≡ slice_get l.ageing 0 → Some x ≡ entry_at l s → x.last ≤ limit → Some s ≡ slice_get (due_in l limit) 0
+pub front_due : (l : Learning) (limit : ℕ) (s : Station) (x : Entry) → Some s ≡ slice_get l.ageing 0
+    → Some x ≡ entry_at l s → x.last ≤ limit → Some s ≡ slice_get (due_in l limit) 0
 front_due l limit s x e is low = go l.ageing e
   where
     due : is_due limit (entry_at l s) ≡ true
@@ -105,4 +124,6 @@ front_due l limit s x e is low = go l.ageing e
 
     go : (ss : List Station) → Some s ≡ slice_get ss 0 → Some s ≡ slice_get (due_among l limit ss) 0
     go [] e = cc
-    go (y ∷ ys) e = let same : s ≡ y = cc in ap Some same ∙ sym (ap (λ b. slice_get (cond b (y ∷ due_among l limit ys) []) 0) (ap (λ q. is_due limit (entry_at l q)) (sym same) ∙ due))
+    go (y ∷ ys) e = let same : s ≡ y = cc in ap Some same
+        ∙ sym (ap (λ b. slice_get (cond b (y ∷ due_among l limit ys) []) 0)
+        (ap (λ q. is_due limit (entry_at l q)) (sym same) ∙ due))

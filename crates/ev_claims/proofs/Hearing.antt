@@ -1,5 +1,7 @@
 -- what an own update of an earlier life does to what an edge says
-use Rattle.std.proofs.Common.{◌≡◌, ◌≢◌, inl, inr, ℕ, zero, suc, ◌+◌, ◌≤◌, ◌<◌, Bool, true, false, cond, nat_lt, eqb, Option, Some, None, List, [], ◌∷◌, Result, Ok, Err, drop, refl, sym, ap, subst, ◌∙◌, arith}
+use Rattle.std.proofs.Common.{◌≡◌, ◌≢◌, inl, inr, ℕ, zero, suc, ◌+◌, ◌≤◌, ◌<◌, Bool, true, false, cond, nat_lt, eqb}
+use Rattle.std.proofs.Common.{Option, Some, None, List, [], ◌∷◌, Result, Ok, Err, drop, refl, sym, ap, subst, ◌∙◌}
+use Rattle.std.proofs.Common.{arith}
 use Rattle.std.specs.Prelude.{IsSome, is_some, Contains, OnOk, OnErr, ◌&&◌, ◌||◌, nat_le, slice_get}
 use Rattle.std.specs.List.{list_any}
 use Rattle.std.proofs.lemmas.Bool.Decides.{nat_tests}
@@ -23,7 +25,9 @@ use Rattle.route_join.specs.Owner.{advert_of, advert_in}
 use Rattle.route_join.proofs.Tables.{same_or_other, at_same, at_other}
 use Rattle.route_join.proofs.Joins.{update_other}
 use Rattle.route_join.proofs.Merging.{same_listeners}
-use Rattle.ev_claims.specs.Voice.{Voice, own_register, own, own_advert, IsPresent, IsVoice, KeepsNumbers, HasRooms, is_newest, is_ahead, is_returning, after_saying, after_hearing, after_hearing_own, after_announcing, silent}
+use Rattle.ev_claims.specs.Voice.{Voice, own_register, own, own_advert, IsPresent, IsVoice, KeepsNumbers, HasRooms}
+use Rattle.ev_claims.specs.Voice.{is_newest, is_ahead, is_returning, after_saying, after_hearing, after_hearing_own}
+use Rattle.ev_claims.specs.Voice.{after_announcing, silent}
 use Rattle.ev_claims.proofs.Numbers.{key_or_other, own_same, key_stays}
 use Rattle.ev_claims.proofs.Values.{not_newer_earlier}
 
@@ -31,12 +35,14 @@ use Rattle.ev_claims.proofs.Values.{not_newer_earlier}
 
 -- none of the first ones of these registers has the number
 abbrev pub IsNoneBefore : Voice → List Register → ℕ → ℕ → Type 0
-IsNoneBefore e known n places = (j : ℕ) (r : Register) → j < places → slice_get known j ≡ Some r → (v : Value) → own e r.key ≡ Some v → IsPresent e v → v.counter ≢ n
+IsNoneBefore e known n places = (j : ℕ) (r : Register) → j < places → slice_get known j ≡ Some r → (v : Value)
+    → own e r.key ≡ Some v → IsPresent e v → v.counter ≢ n
 
 -- ---- an own update of an earlier life
 
 -- a register whose newest update is of an earlier life says nothing of this one
-pub not_present : (e : Voice) (u : Fields) (v : Value) → is_newest e u ≡ true → u.value.incarnation < e.incarnation → value_at e.table u.register ≡ Some v → v.incarnation ≢ e.incarnation
+pub not_present : (e : Voice) (u : Fields) (v : Value) → is_newest e u ≡ true → u.value.incarnation < e.incarnation
+    → value_at e.table u.register ≡ Some v → v.incarnation ≢ e.incarnation
 not_present e u v newest past at present =
     let older = not_newer_earlier v u.value (let q = present in omega (arith, q, past)) in
     let newer : is_newer u.value v ≡ true = ap (λ o. is_news o u.value) (sym at) ∙ newest in
@@ -46,7 +52,8 @@ register_is : (e : Voice) (u : Fields) → u.register.originator ≡ e.address �
 register_is e u same = λ i. record { originator = same i; key = u.register.key }
 
 -- it isn't advertised in this life
-pub not_said : (e : Voice) (u : Fields) → KeepsNumbers e → u.register.originator ≡ e.address → is_newest e u ≡ true → u.value.incarnation < e.incarnation → own_advert e u.register.key ≡ None
+pub not_said : (e : Voice) (u : Fields) → KeepsNumbers e → u.register.originator ≡ e.address → is_newest e u ≡ true
+    → u.value.incarnation < e.incarnation → own_advert e u.register.key ≡ None
 not_said e u h mine newest past = go (own e u.register.key) refl
   where
     none : (a : Option Advert) → (IsSome a → ⊥) → a ≡ None
@@ -55,74 +62,103 @@ not_said e u h mine newest past = go (own e u.register.key) refl
 
     go : (o : Option Value) → own e u.register.key ≡ o → own_advert e u.register.key ≡ None
     go None at = ap advert_of at
-    go (Some v) at = ap advert_of at ∙ none (advert_in v.content) (λ some. not_present e u v newest past (ap (value_at e.table) (register_is e u mine) ∙ at) (h.alive u.register.key v at some))
+    go (Some v) at = ap advert_of at ∙ none (advert_in v.content)
+        (λ some. not_present e u v newest past (ap (value_at e.table) (register_is e u mine) ∙ at)
+        (h.alive u.register.key v at some))
 
 -- the value that a withdrawal of an earlier life leaves
-pub there_now : (e : Voice) (u : Fields) → u.register.originator ≡ e.address → is_newest e u ≡ true → own (after_hearing e u) u.register.key ≡ Some u.value
+pub there_now : (e : Voice) (u : Fields) → u.register.originator ≡ e.address → is_newest e u ≡ true
+    → own (after_hearing e u) u.register.key ≡ Some u.value
 there_now e u mine newest =
-    ap (λ t. value_at t (own_register e u.register.key)) (ap (λ b. cond b (with_value e.table u.register u.value) e.table) newest)
-    ∙ ap (value_at (with_value e.table u.register u.value)) (sym (register_is e u mine)) ∙ at_same e.table u.register u.value
+    ap (λ t. value_at t (own_register e u.register.key))
+    (ap (λ b. cond b (with_value e.table u.register u.value) e.table) newest)
+    ∙ ap (value_at (with_value e.table u.register u.value)) (sym (register_is e u mine))
+    ∙ at_same e.table u.register u.value
 
 pub elsewhere : (e : Voice) (u : Fields) (k : Key) → k ≢ u.register.key → own (after_hearing e u) k ≡ own e k
-elsewhere e u k ne = update_other e.table u.register u.value (own_register e k) (λ same. ne (ap (λ (r : Register). r.key) same))
+elsewhere e u k ne = update_other e.table u.register u.value (own_register e k)
+    (λ same. ne (ap (λ (r : Register). r.key) same))
 
 -- ---- what is said of each key stays
 
 pub unheard : (e : Voice) (u : Fields) → is_newest e u ≡ false → after_hearing e u ≡ e
 unheard e u known = λ i. record e { table = cond (known i) (with_value e.table u.register u.value) e.table }
 
-withdrawn_said : (e : Voice) (u : Fields) → KeepsNumbers e → u.register.originator ≡ e.address → is_newest e u ≡ true → u.value.incarnation < e.incarnation → advert_in u.value.content ≡ None → (k : Key) → own_advert (after_hearing e u) k ≡ own_advert e k
-withdrawn_said e u h mine newest past none k = elim (key_or_other k u.register.key) as (λ _. own_advert (after_hearing e u) k ≡ own_advert e k) [
-  | inl same ↦ subst (λ j. own_advert (after_hearing e u) j ≡ own_advert e j) (sym same) (ap advert_of (there_now e u mine newest) ∙ none ∙ sym (not_said e u h mine newest past))
-  | inr ne ↦ ap advert_of (elsewhere e u k ne)
-]
+withdrawn_said : (e : Voice) (u : Fields) → KeepsNumbers e → u.register.originator ≡ e.address → is_newest e u ≡ true
+    → u.value.incarnation < e.incarnation → advert_in u.value.content ≡ None → (k : Key)
+    → own_advert (after_hearing e u) k ≡ own_advert e k
+withdrawn_said e u h mine newest past none k = elim (key_or_other k u.register.key) as (λ _. own_advert
+    (after_hearing e u) k ≡ own_advert e k) [
+      | inl same ↦ subst (λ j. own_advert (after_hearing e u) j ≡ own_advert e j) (sym same)
+          (ap advert_of (there_now e u mine newest) ∙ none ∙ sym (not_said e u h mine newest past))
+      | inr ne ↦ ap advert_of (elsewhere e u k ne)
+    ]
 
-refuted_said : (e : Voice) (u : Fields) → KeepsNumbers e → u.register.originator ≡ e.address → is_newest e u ≡ true → u.value.incarnation < e.incarnation → (k : Key) → own_advert (after_saying (after_hearing e u) u.register.key Withdrawn) k ≡ own_advert e k
-refuted_said e u h mine newest past k = elim (key_or_other k u.register.key) as (λ _. own_advert (after_saying (after_hearing e u) u.register.key Withdrawn) k ≡ own_advert e k) [
-  | inl same ↦ subst (λ j. own_advert (after_saying (after_hearing e u) u.register.key Withdrawn) j ≡ own_advert e j) (sym same)
-      (ap advert_of (own_same (after_hearing e u) u.register.key Withdrawn) ∙ sym (not_said e u h mine newest past))
-  | inr ne ↦ key_stays (after_hearing e u) u.register.key Withdrawn k e.address ne ∙ ap advert_of (elsewhere e u k ne)
-]
+refuted_said : (e : Voice) (u : Fields) → KeepsNumbers e → u.register.originator ≡ e.address → is_newest e u ≡ true
+    → u.value.incarnation < e.incarnation → (k : Key) → own_advert
+    (after_saying (after_hearing e u) u.register.key Withdrawn) k ≡ own_advert e k
+refuted_said e u h mine newest past k = elim (key_or_other k u.register.key) as (λ _. own_advert
+    (after_saying (after_hearing e u) u.register.key Withdrawn) k ≡ own_advert e k) [
+      | inl same ↦ subst (λ j. own_advert (after_saying (after_hearing e u) u.register.key Withdrawn) j ≡ own_advert e j)
+          (sym same)
+          (ap advert_of (own_same (after_hearing e u) u.register.key Withdrawn) ∙ sym (not_said e u h mine newest past))
+      | inr ne ↦ key_stays (after_hearing e u) u.register.key Withdrawn k e.address ne ∙ ap advert_of (elsewhere e u k ne)
+    ]
 
 -- not ahead: of an earlier life, or no news
-pub past_if_newest : (e : Voice) (u : Fields) → is_ahead e u ≡ false → is_newest e u ≡ true → u.value.incarnation < e.incarnation
+pub past_if_newest : (e : Voice) (u : Fields) → is_ahead e u ≡ false → is_newest e u ≡ true
+    → u.value.incarnation < e.incarnation
 past_if_newest e u behind newest =
-    let late : nat_le e.incarnation u.value.incarnation ≡ false = sym (ap (λ b. b && nat_le e.incarnation u.value.incarnation) newest) ∙ behind in
+    let late : nat_le e.incarnation u.value.incarnation ≡ false =
+    sym (ap (λ b. b && nat_le e.incarnation u.value.incarnation) newest) ∙ behind in
     grind (arith, nat_tests)
 
-pub own_said : (e : Voice) (u : Fields) → KeepsNumbers e → u.register.originator ≡ e.address → is_ahead e u ≡ false → (k : Key) → own_advert (after_hearing_own e u) k ≡ own_advert e k
+pub own_said : (e : Voice) (u : Fields) → KeepsNumbers e → u.register.originator ≡ e.address → is_ahead e u ≡ false
+    → (k : Key) → own_advert (after_hearing_own e u) k ≡ own_advert e k
 own_said e u h mine behind k = go (is_newest e u) refl
   where
     Same : Bool → Type 0
-    Same b = own_advert (cond b (after_saying (after_hearing e u) u.register.key Withdrawn) (after_hearing e u)) k ≡ own_advert e k
+    Same b = own_advert (cond b (after_saying (after_hearing e u) u.register.key Withdrawn) (after_hearing e u)) k
+        ≡ own_advert e k
 
     past : is_newest e u ≡ true → nat_lt u.value.incarnation e.incarnation ≡ true
     past newest = let less = past_if_newest e u behind newest in grind (arith, nat_tests)
 
-    said : (c : Content) → u.value.content ≡ c → is_newest e u ≡ true → own_advert (cond (is_some (advert_in c)) (after_saying (after_hearing e u) u.register.key Withdrawn) (after_hearing e u)) k ≡ own_advert e k
+    said : (c : Content) → u.value.content ≡ c → is_newest e u ≡ true
+        → own_advert (cond (is_some (advert_in c)) (after_saying (after_hearing e u) u.register.key Withdrawn)
+        (after_hearing e u)) k ≡ own_advert e k
     said Withdrawn is newest = withdrawn_said e u h mine newest (past_if_newest e u behind newest) (ap advert_in is) k
     said (Advertised a) is newest = refuted_said e u h mine newest (past_if_newest e u behind newest) k
 
     go : (b : Bool) → is_newest e u ≡ b → own_advert (after_hearing_own e u) k ≡ own_advert e k
     go false newest =
-        ap (λ b. own_advert (cond (b && (nat_lt u.value.incarnation e.incarnation && is_some (advert_in u.value.content))) (after_saying (after_hearing e u) u.register.key Withdrawn) (after_hearing e u)) k) newest
+        ap (λ b. own_advert (cond (b && (nat_lt u.value.incarnation e.incarnation
+        && is_some (advert_in u.value.content))) (after_saying (after_hearing e u) u.register.key Withdrawn)
+        (after_hearing e u)) k) newest
         ∙ ap (λ v. own_advert v k) (unheard e u newest)
     go true newest =
-        ap (λ b. own_advert (cond (b && (nat_lt u.value.incarnation e.incarnation && is_some (advert_in u.value.content))) (after_saying (after_hearing e u) u.register.key Withdrawn) (after_hearing e u)) k) newest
-        ∙ ap (λ b. own_advert (cond (b && is_some (advert_in u.value.content)) (after_saying (after_hearing e u) u.register.key Withdrawn) (after_hearing e u)) k) (past newest)
+        ap (λ b. own_advert (cond (b && (nat_lt u.value.incarnation e.incarnation
+        && is_some (advert_in u.value.content))) (after_saying (after_hearing e u) u.register.key Withdrawn)
+        (after_hearing e u)) k) newest
+        ∙ ap (λ b. own_advert (cond (b && is_some (advert_in u.value.content))
+        (after_saying (after_hearing e u) u.register.key Withdrawn) (after_hearing e u)) k) (past newest)
         ∙ said u.value.content refl newest
 
 -- the counter goes up by one at the most, and only where an advert returns
-pub own_counter : (e : Voice) (u : Fields) (bound : ℕ) → (is_returning e u ≡ true → e.counter + 1 ≤ bound) → e.counter ≤ bound → (after_hearing_own e u).counter ≤ bound
+pub own_counter : (e : Voice) (u : Fields) (bound : ℕ) → (is_returning e u ≡ true → e.counter + 1 ≤ bound)
+    → e.counter ≤ bound → (after_hearing_own e u).counter ≤ bound
 own_counter e u bound more low = go (is_returning e u) refl
   where
-    go : (b : Bool) → is_returning e u ≡ b → (cond b (after_saying (after_hearing e u) u.register.key Withdrawn) (after_hearing e u)).counter ≤ bound
+    go : (b : Bool) → is_returning e u ≡ b → (cond b (after_saying (after_hearing e u) u.register.key Withdrawn)
+        (after_hearing e u)).counter ≤ bound
     go true is = more is
     go false is = low
 
 -- ---- a withdrawal of an earlier life is heard
 
-pub earlier_numbers : (e : Voice) (u : Fields) → KeepsNumbers e → u.register.originator ≡ e.address → is_newest e u ≡ true → u.value.incarnation < e.incarnation → advert_in u.value.content ≡ None → KeepsNumbers (after_hearing e u)
+pub earlier_numbers : (e : Voice) (u : Fields) → KeepsNumbers e → u.register.originator ≡ e.address
+    → is_newest e u ≡ true → u.value.incarnation < e.incarnation → advert_in u.value.content ≡ None
+    → KeepsNumbers (after_hearing e u)
 earlier_numbers e u h mine newest past none = record {
   counted = λ k v at present. elim (key_or_other k u.register.key) as (λ _. v.counter ≤ e.counter) [
     | inl same ↦ absurd (late k v same at present)
@@ -140,40 +176,58 @@ earlier_numbers e u h mine newest past none = record {
     | inr ne ↦ h.past k v (before k v ne at)
   ];
   alive = λ k v at some. elim (key_or_other k u.register.key) as (λ _. v.incarnation ≡ e.incarnation) [
-    | inl same ↦ absurd (let gone : is_some (advert_in v.content) ≡ false = ap (λ (w : Value). is_some (advert_in w.content)) (sym (now k v same at)) ∙ ap (λ (o : Option Advert). is_some o) none in let bad : false ≡ true = sym gone ∙ some in cc)
+    | inl same ↦ absurd (let gone : is_some (advert_in v.content) ≡ false =
+        ap (λ (w : Value). is_some (advert_in w.content)) (sym (now k v same at))
+        ∙ ap (λ (o : Option Advert). is_some o) none in let bad : false ≡ true = sym gone ∙ some in cc)
     | inr ne ↦ h.alive k v (before k v ne at) some
   ];
   known = ap (λ os. list_any (λ x. eqb x e.address) os) (same_listeners e.table u) ∙ h.known;
   pending = λ r in'.
-      let p = h.pending r in' in
-      (p.0, update_other e.table u.register u.value r (λ same. not_present e u p.0 newest past (ap (value_at e.table) (sym same) ∙ p.1) p.2) ∙ p.1, p.2, p.3);
+      let p = h.pending r in' in (
+        p.0,
+        update_other e.table u.register u.value r (λ same. not_present e u p.0 newest past
+            (ap (value_at e.table) (sym same) ∙ p.1) p.2) ∙ p.1,
+        p.2,
+        p.3,
+      );
 }
   where
     before : (k : Key) (v : Value) → k ≢ u.register.key → own (after_hearing e u) k ≡ Some v → own e k ≡ Some v
     before k v ne at = sym (elsewhere e u k ne) ∙ at
 
     now : (k : Key) (v : Value) → k ≡ u.register.key → own (after_hearing e u) k ≡ Some v → u.value ≡ v
-    now k v same at = let both : Some u.value ≡ Some v = sym (there_now e u mine newest) ∙ subst (λ j. own (after_hearing e u) j ≡ Some v) same at in cc
+    now k v same at = let both : Some u.value ≡ Some v = sym (there_now e u mine newest)
+        ∙ subst (λ j. own (after_hearing e u) j ≡ Some v) same at in cc
 
-    late : (k : Key) (v : Value) → k ≡ u.register.key → own (after_hearing e u) k ≡ Some v → v.incarnation ≢ e.incarnation
-    late k v same at present = let is = ap (λ (w : Value). w.incarnation) (now k v same at) in omega (arith, is, past, present)
+    late : (k : Key) (v : Value) → k ≡ u.register.key → own (after_hearing e u) k ≡ Some v
+        → v.incarnation ≢ e.incarnation
+    late k v same at present = let is = ap (λ (w : Value). w.incarnation) (now k v same at) in
+        omega (arith, is, past, present)
 
-pub earlier_rooms : (e : Voice) (u : Fields) (known : List Register) → HasRooms e known → u.register.originator ≡ e.address → is_newest e u ≡ true → u.value.incarnation < e.incarnation → HasRooms (after_hearing e u) known
-earlier_rooms e u known h mine newest past k v at present = elim (key_or_other k u.register.key) as (λ _. Contains known (own_register e k)) [
-  | inl same ↦
-      let both : Some u.value ≡ Some v = sym (there_now e u mine newest) ∙ subst (λ j. own (after_hearing e u) j ≡ Some v) same at in
-      let is : u.value ≡ v = cc in
-      absurd (let life = ap (λ (w : Value). w.incarnation) is in omega (arith, life, past, present))
-  | inr ne ↦ h k v (sym (elsewhere e u k ne) ∙ at) present
-]
+pub earlier_rooms : (e : Voice) (u : Fields) (known : List Register) → HasRooms e known
+    → u.register.originator ≡ e.address → is_newest e u ≡ true → u.value.incarnation < e.incarnation
+    → HasRooms (after_hearing e u) known
+earlier_rooms e u known h mine newest past k v at present =
+    elim (key_or_other k u.register.key) as (λ _. Contains known (own_register e k)) [
+      | inl same ↦
+          let both : Some u.value ≡ Some v = sym (there_now e u mine newest)
+          ∙ subst (λ j. own (after_hearing e u) j ≡ Some v) same at in
+          let is : u.value ≡ v = cc in
+          absurd (let life = ap (λ (w : Value). w.incarnation) is in omega (arith, life, past, present))
+      | inr ne ↦ h k v (sym (elsewhere e u k ne) ∙ at) present
+    ]
 
-pub earlier_voice : (e : Voice) (known : List Register) (t : Table) (u : Fields) (r : Result Taken TakeError) → IsVoice e known → u.register.originator ≡ e.address → is_newest e u ≡ true → u.value.incarnation < e.incarnation → u.value.content ≡ Withdrawn
+pub earlier_voice : (e : Voice) (known : List Register) (t : Table) (u : Fields) (r : Result Taken TakeError)
+    → IsVoice e known → u.register.originator ≡ e.address → is_newest e u ≡ true → u.value.incarnation < e.incarnation
+    → u.value.content ≡ Withdrawn
     → OnOk r (t ≡ with_update e.table u) → OnErr r (t ≡ e.table) → IsVoice (record e { table = t }) known
-earlier_voice e known t u (Ok x) h mine newest past withdrawn ok err = subst (λ q. IsVoice (record e { table = q }) known) (sym ok) (record {
-  numbers = earlier_numbers e u h.numbers mine newest past (ap advert_in withdrawn);
-  rooms = earlier_rooms e u known h.rooms mine newest past;
-})
-earlier_voice e known t u (Err x) h mine newest past withdrawn ok err = subst (λ q. IsVoice (record e { table = q }) known) (sym err) h
+earlier_voice e known t u (Ok x) h mine newest past withdrawn ok err =
+    subst (λ q. IsVoice (record e { table = q }) known) (sym ok) (record {
+      numbers = earlier_numbers e u h.numbers mine newest past (ap advert_in withdrawn);
+      rooms = earlier_rooms e u known h.rooms mine newest past;
+    })
+earlier_voice e known t u (Err x) h mine newest past withdrawn ok err =
+    subst (λ q. IsVoice (record e { table = q }) known) (sym err) h
 
 -- ---- an advert of an earlier life is withdrawn without being taken first
 
@@ -181,17 +235,26 @@ value_twice : (t : Table) (r : Register) (v w : Value) → with_value (with_valu
 value_twice t r v w = λ i. record { originators = t.originators; registers = twice i }
   where
     twice : insert (insert t.registers r v) r w ≡ insert t.registers r w
-    twice = same_map register_total register_exact (insert (insert t.registers r v) r w) (insert t.registers r w) (λ q. elim (same_or_other q r) as (λ _. value_at (with_value (with_value t r v) r w) q ≡ value_at (with_value t r w) q) [
-      | inl e ↦ subst (λ z. value_at (with_value (with_value t r v) r w) z ≡ value_at (with_value t r w) z) (sym e) (at_same (with_value t r v) r w ∙ sym (at_same t r w))
-      | inr ne ↦ at_other (with_value t r v) r w q ne ∙ at_other t r v q ne ∙ sym (at_other t r w q ne)
-    ])
+    twice = same_map register_total register_exact (insert (insert t.registers r v) r w) (insert t.registers r w)
+        (λ q. elim (same_or_other q r) as (λ _. value_at (with_value (with_value t r v) r w) q
+        ≡ value_at (with_value t r w) q) [
+          | inl e ↦ subst (λ z. value_at (with_value (with_value t r v) r w) z ≡ value_at (with_value t r w) z) (sym e)
+              (at_same (with_value t r v) r w ∙ sym (at_same t r w))
+          | inr ne ↦ at_other (with_value t r v) r w q ne ∙ at_other t r v q ne ∙ sym (at_other t r w q ne)
+        ])
 
-pub refuted_is : (e : Voice) (u : Fields) (c : Content) → u.register.originator ≡ e.address → after_saying (after_hearing e u) u.register.key c ≡ after_saying e u.register.key c
+pub refuted_is : (e : Voice) (u : Fields) (c : Content) → u.register.originator ≡ e.address
+    → after_saying (after_hearing e u) u.register.key c ≡ after_saying e u.register.key c
 refuted_is e u c mine = λ i. record (after_saying e u.register.key c) { table = go (is_newest e u) i }
   where
-    go : (b : Bool) → with_value (cond b (with_value e.table u.register u.value) e.table) (own_register e u.register.key) (record { incarnation = e.incarnation; counter = e.counter + 1; content = c }) ≡ with_value e.table (own_register e u.register.key) (record { incarnation = e.incarnation; counter = e.counter + 1; content = c })
-    go true = ap (λ q. with_value (with_value e.table q u.value) (own_register e u.register.key) (record { incarnation = e.incarnation; counter = e.counter + 1; content = c })) (register_is e u mine)
-        ∙ value_twice e.table (own_register e u.register.key) u.value (record { incarnation = e.incarnation; counter = e.counter + 1; content = c })
+    go : (b : Bool) → with_value (cond b (with_value e.table u.register u.value) e.table)
+        (own_register e u.register.key) (record { incarnation = e.incarnation; counter = e.counter + 1; content = c })
+        ≡ with_value e.table (own_register e u.register.key)
+        (record { incarnation = e.incarnation; counter = e.counter + 1; content = c })
+    go true = ap (λ q. with_value (with_value e.table q u.value) (own_register e u.register.key)
+        (record { incarnation = e.incarnation; counter = e.counter + 1; content = c })) (register_is e u mine)
+        ∙ value_twice e.table (own_register e u.register.key) u.value
+        (record { incarnation = e.incarnation; counter = e.counter + 1; content = c })
     go false = refl
 
 -- ---- announcing
@@ -222,10 +285,12 @@ somebody_first [] r e = cc
 somebody_first (x ∷ rs) r e = (0, omega arith, let same : r ≡ x = cc in sym same)
 
 -- what is announced is there
-pub announced_there : (e : Voice) (r : Register) (o : Option Fields) (P : Type 0) → KeepsNumbers e → Some r ≡ slice_get e.pending 0 → o ≡ update_at e.table r → IfNone o P
+pub announced_there : (e : Voice) (r : Register) (o : Option Fields) (P : Type 0) → KeepsNumbers e
+    → Some r ≡ slice_get e.pending 0 → o ≡ update_at e.table r → IfNone o P
 announced_there e r None P h first is =
     let p = h.pending r (somebody_first e.pending r first) in
-    absurd (let bad : None ≡ Some (record { register = r; value = p.0 }) = is ∙ ap (option_map (λ (v : Value). let u : Fields = record { register = r; value = v } in u)) p.1 in cc)
+    absurd (let bad : None ≡ Some (record { register = r; value = p.0 }) = is
+    ∙ ap (option_map (λ (v : Value). let u : Fields = record { register = r; value = v } in u)) p.1 in cc)
 announced_there e r (Some u) P h first is = tt
 
 -- ---- nothing is said yet
@@ -240,9 +305,11 @@ listed (x ∷ os) a (suc k, less, is) = go (eqb x a) (listed os a (k, omega (ari
     go false h = h
 
 nothing_at : (e : Voice) (r : Register) (v : Value) → e.table.registers ≡ empty → value_at e.table r ≢ Some v
-nothing_at e r v is at = let none = ap (λ m. get m r) is ∙ get-empty {X = Value} register_cmp r in let bad : None ≡ Some v = sym none ∙ at in cc
+nothing_at e r v is at = let none = ap (λ m. get m r) is ∙ get-empty {X = Value} register_cmp r in
+    let bad : None ≡ Some v = sym none ∙ at in cc
 
-pub silent_voice : (address incarnation : ℕ) (originators : List ℕ) → Contains originators address → IsVoice (silent address incarnation originators) []
+pub silent_voice : (address incarnation : ℕ) (originators : List ℕ) → Contains originators address
+    → IsVoice (silent address incarnation originators) []
 silent_voice address incarnation originators there = record {
   numbers = record {
     counted = λ k v at present. absurd (nothing_at e (own_register e k) v refl at);

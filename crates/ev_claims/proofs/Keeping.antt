@@ -1,5 +1,6 @@
 -- that what is learnt and what is said go on naming each other, whatever is learnt, said and heard
-use Rattle.std.proofs.Common.{◌≡◌, ◌≢◌, inl, inr, ℕ, ◌+◌, ◌-◌, ◌≤◌, ◌<◌, ◌^◌, Bool, true, false, Option, Some, None, Result, Ok, Err, length, refl, sym, ap, subst, ◌∙◌, arith}
+use Rattle.std.proofs.Common.{◌≡◌, ◌≢◌, inl, inr, ℕ, ◌+◌, ◌-◌, ◌≤◌, ◌<◌, ◌^◌, Bool, true, false, Option, Some, None}
+use Rattle.std.proofs.Common.{Result, Ok, Err, length, refl, sym, ap, subst, ◌∙◌, arith}
 use Rattle.std.specs.Prelude.{IsSome, OnOk, OnErr, ◌↔◌, ◌&&◌, nat_le}
 use Rattle.std.proofs.lemmas.Bool.Decides.{nat_tests}
 use Rattle.route_wire.specs.Fields.{Fields}
@@ -15,7 +16,8 @@ use Rattle.route_wire.specs.declared.update.Content.TheVariants.{Withdrawn}
 use Rattle.route_join.specs.Owner.{advert_of}
 use Rattle.mac_arena.specs.declared.station.Station.{Station}
 use Rattle.mac_arena.specs.declared.station.Entry.{Entry}
-use Rattle.mac_arena.specs.Learning.{Learning, entry_at, is_full, is_pinned, after_learn, answer_of, learnt_of, after_pin as pinned_on, after_removal as gone}
+use Rattle.mac_arena.specs.Learning.{Learning, entry_at, is_full, is_pinned, after_learn, answer_of, learnt_of}
+use Rattle.mac_arena.specs.Learning.{after_pin as pinned_on, after_removal as gone}
 use Rattle.mac_arena.specs.declared.table.Learnt.{Learnt}
 use Rattle.mac_arena.specs.declared.table.Learnt.TheVariants.{New}
 use Rattle.mac_arena.specs.Entry.{pinned_at, heard_at}
@@ -23,11 +25,13 @@ use Rattle.mac_arena.proofs.Entries.{same_or_other, get_here, get_there}
 use Rattle.mac_arena.proofs.Values.{ports_removal}
 use Rattle.ev_claims.specs.declared.voice.OwnError.{OwnError}
 use Rattle.ev_claims.specs.declared.voice.OwnError.TheVariants.{Ahead, Spent}
-use Rattle.ev_claims.specs.Voice.{Voice, own_advert, KeepsNumbers, after_saying, after_hearing, after_hearing_own, is_ahead, is_spent, is_returning}
+use Rattle.ev_claims.specs.Voice.{Voice, own_advert, KeepsNumbers, after_saying, after_hearing, after_hearing_own}
+use Rattle.ev_claims.specs.Voice.{is_ahead, is_spent, is_returning}
 use Rattle.ev_claims.specs.Claims.{Claims, KeepsClaims, key_of, entries, capacity, vni_at, moving, fixed, after_removal}
 use Rattle.ev_claims.proofs.Numbers.{own_same, key_stays, own_stays}
 use Rattle.ev_claims.proofs.Hearing.{own_said, own_counter}
-use Rattle.ev_claims.proofs.Learnt.{Sets, sets_new, sets_refresh, sets_pin, size_new, size_known, room_left, size_gone, removal_here, removal_there, removal_places}
+use Rattle.ev_claims.proofs.Learnt.{Sets, sets_new, sets_refresh, sets_pin, size_new, size_known, room_left, size_gone}
+use Rattle.ev_claims.proofs.Learnt.{removal_here, removal_there, removal_places}
 
 abbrev pins : Option Entry → Option Bool
 pins o = option_map (λ (x : Entry). x.pinned) o
@@ -37,12 +41,16 @@ fixes o = option_map (λ (a : Advert). a.is_static) o
 
 -- ---- other adverts than the edge's own change, and the counter
 
-pub spoken_claims : (e : Claims) (v : Voice) → KeepsClaims e → ((k : Key) → own_advert v k ≡ own_advert e.voice k) → v.counter + entries e ≤ 2 ^ 63 + capacity e → KeepsClaims (record e { voice = v })
+pub spoken_claims : (e : Claims) (v : Voice) → KeepsClaims e → ((k : Key) → own_advert v k ≡ own_advert e.voice k)
+    → v.counter + entries e ≤ 2 ^ 63 + capacity e → KeepsClaims (record e { voice = v })
 spoken_claims e v h same left = record {
   kinds = λ s. h.kinds s ∙ ap fixes (sym (same (key_of s)));
   bare = λ s ip. same (Mac s.vni s.mac (Some ip)) ∙ h.bare s ip;
   ports = h.ports;
-  floods = λ n. (λ p. (h.floods n).0 (subst IsSome (same (Flood n)) p), λ q. subst IsSome (sym (same (Flood n))) ((h.floods n).1 q));
+  floods = λ n. (
+    λ p. (h.floods n).0 (subst IsSome (same (Flood n)) p),
+    λ q. subst IsSome (sym (same (Flood n))) ((h.floods n).1 q),
+  );
   fits = h.fits;
   small = h.small;
   left = left;
@@ -68,27 +76,34 @@ pub record Enters (e : Claims) (t : Learning) (v : Voice) (s : Station) (x : Ent
   pub fits : len t.entries ≤ capacity e
   pub left : v.counter + len t.entries ≤ 2 ^ 63 + capacity e
 
-entry_here : (e : Claims) (t : Learning) (v : Voice) (s : Station) (x : Entry) → Enters e t v s x → entry_at t s ≡ Some x
+entry_here : (e : Claims) (t : Learning) (v : Voice) (s : Station) (x : Entry) → Enters e t v s x
+    → entry_at t s ≡ Some x
 entry_here e t v s x h = ap (λ m. get m s) h.sets.entries ∙ get_here e.learned.entries s x
 
-entry_there : (e : Claims) (t : Learning) (v : Voice) (s : Station) (x : Entry) → Enters e t v s x → (r : Station) → r ≢ s → entry_at t r ≡ entry_at e.learned r
+entry_there : (e : Claims) (t : Learning) (v : Voice) (s : Station) (x : Entry) → Enters e t v s x → (r : Station)
+    → r ≢ s → entry_at t r ≡ entry_at e.learned r
 entry_there e t v s x h r ne = ap (λ m. get m r) h.sets.entries ∙ get_there e.learned.entries s x r ne
 
-pub entered_claims : (e : Claims) (t : Learning) (v : Voice) (s : Station) (x : Entry) → KeepsClaims e → Enters e t v s x → KeepsClaims (record e { learned = t; voice = v })
+pub entered_claims : (e : Claims) (t : Learning) (v : Voice) (s : Station) (x : Entry) → KeepsClaims e
+    → Enters e t v s x → KeepsClaims (record e { learned = t; voice = v })
 entered_claims e t v s x h n = record {
   kinds = λ r. elim (same_or_other r s) as (λ _. pins (entry_at t r) ≡ fixes (own_advert v (key_of r))) [
-    | inl is ↦ subst (λ q. pins (entry_at t q) ≡ fixes (own_advert v (key_of q))) (sym is) (ap pins (entry_here e t v s x n) ∙ n.kind)
-    | inr ne ↦ ap pins (entry_there e t v s x n r ne) ∙ h.kinds r ∙ ap fixes (sym (n.others (key_of r) (key_apart r s ne)))
+    | inl is ↦ subst (λ q. pins (entry_at t q) ≡ fixes (own_advert v (key_of q))) (sym is)
+        (ap pins (entry_here e t v s x n) ∙ n.kind)
+    | inr ne ↦ ap pins (entry_there e t v s x n r ne) ∙ h.kinds r
+        ∙ ap fixes (sym (n.others (key_of r) (key_apart r s ne)))
   ];
   bare = λ r ip. n.others (Mac r.vni r.mac (Some ip)) (λ q. cc) ∙ h.bare r ip;
   ports = λ r y at. elim (same_or_other r s) as (λ _. vni_at e.ports y.port ≡ Some r.vni) [
     | inl same ↦
         let mine : Some x ≡ Some y = sym (entry_here e t v s x n) ∙ subst (λ q. entry_at t q ≡ Some y) same at in
         let is : x ≡ y = cc in
-        subst (λ (z : Entry). vni_at e.ports z.port ≡ Some r.vni) is (n.port ∙ ap (λ (q : Station). Some q.vni) (sym same))
+        subst (λ (z : Entry). vni_at e.ports z.port ≡ Some r.vni) is (n.port
+        ∙ ap (λ (q : Station). Some q.vni) (sym same))
     | inr ne ↦ h.ports r y (sym (entry_there e t v s x n r ne) ∙ at)
   ];
-  floods = λ w. let same = n.others (Flood w) (λ q. cc) in (λ p. (h.floods w).0 (subst IsSome same p), λ q. subst IsSome (sym same) ((h.floods w).1 q));
+  floods = λ w. let same = n.others (Flood w) (λ q. cc) in
+      (λ p. (h.floods w).0 (subst IsSome same p), λ q. subst IsSome (sym same) ((h.floods w).1 q));
   fits = let places = n.sets.places in let fits = n.fits in omega (arith, places, fits);
   small = let places = n.sets.places in let small = h.small in omega (arith, places, small);
   left = let places = n.sets.places in let left = n.left in omega (arith, places, left);
@@ -98,19 +113,28 @@ entered_claims e t v s x h n = record {
 
 -- ---- a station goes, and is withdrawn
 
-pub removal_claims : (e : Claims) (s : Station) (x : Entry) → entry_at e.learned s ≡ Some x → KeepsClaims e → KeepsClaims (after_removal e s)
+pub removal_claims : (e : Claims) (s : Station) (x : Entry) → entry_at e.learned s ≡ Some x → KeepsClaims e
+    → KeepsClaims (after_removal e s)
 removal_claims e s x known h = record {
-  kinds = λ r. elim (same_or_other r s) as (λ _. pins (entry_at (gone e.learned s) r) ≡ fixes (own_advert v (key_of r))) [
-    | inl is ↦ subst (λ r. pins (entry_at (gone e.learned s) r) ≡ fixes (own_advert v (key_of r))) (sym is)
-        (ap pins (removal_here e.learned s) ∙ ap (λ o. fixes (advert_of o)) (sym (own_same e.voice (key_of s) Withdrawn)))
-    | inr ne ↦ ap pins (removal_there e.learned s r ne) ∙ h.kinds r ∙ ap fixes (sym (stays (key_of r) (key_apart r s ne)))
-  ];
+  kinds = λ r. elim (same_or_other r s) as (λ _. pins (entry_at (gone e.learned s) r)
+      ≡ fixes (own_advert v (key_of r))) [
+        | inl is ↦ subst (λ r. pins (entry_at (gone e.learned s) r) ≡ fixes (own_advert v (key_of r))) (sym is)
+            (ap pins (removal_here e.learned s) ∙ ap (λ o. fixes (advert_of o))
+            (sym (own_same e.voice (key_of s) Withdrawn)))
+        | inr ne ↦ ap pins (removal_there e.learned s r ne) ∙ h.kinds r
+            ∙ ap fixes (sym (stays (key_of r) (key_apart r s ne)))
+      ];
   bare = λ r ip. stays (Mac r.vni r.mac (Some ip)) (λ q. cc) ∙ h.bare r ip;
   ports = λ r y at. elim (same_or_other r s) as (λ _. vni_at e.ports y.port ≡ Some r.vni) [
-    | inl same ↦ absurd (let none = removal_here e.learned s in let some : entry_at (gone e.learned s) s ≡ Some y = subst (λ q. entry_at (gone e.learned s) q ≡ Some y) same at in cc)
+    | inl same ↦ absurd (let none = removal_here e.learned s in
+        let some : entry_at (gone e.learned s) s ≡ Some y =
+        subst (λ q. entry_at (gone e.learned s) q ≡ Some y) same at in cc)
     | inr ne ↦ h.ports r y (sym (removal_there e.learned s r ne) ∙ at)
   ];
-  floods = λ w. (λ p. (h.floods w).0 (subst IsSome (stays (Flood w) (λ q. cc)) p), λ q. subst IsSome (sym (stays (Flood w) (λ q. cc))) ((h.floods w).1 q));
+  floods = λ w. (
+    λ p. (h.floods w).0 (subst IsSome (stays (Flood w) (λ q. cc)) p),
+    λ q. subst IsSome (sym (stays (Flood w) (λ q. cc))) ((h.floods w).1 q),
+  );
   fits = let fits = h.fits in omega (arith, places, size, fits);
   small = let small = h.small in omega (arith, places, small);
   left = let left = h.left in omega (arith, places, size, left);
@@ -131,7 +155,8 @@ removal_claims e s x known h = record {
     size = size_gone e.learned s x known
 
 -- a station that is learnt is advertised, and its withdrawal finds a number
-pub known_advert : (e : Claims) (s : Station) → KeepsClaims e → IsSome (entry_at e.learned s) → IsSome (own_advert e.voice (key_of s))
+pub known_advert : (e : Claims) (s : Station) → KeepsClaims e → IsSome (entry_at e.learned s)
+    → IsSome (own_advert e.voice (key_of s))
 known_advert e s h there = go (entry_at e.learned s) (own_advert e.voice (key_of s)) (h.kinds s) there
   where
     go : (o : Option Entry) (a : Option Advert) → pins o ≡ fixes a → IsSome o → IsSome a
@@ -142,7 +167,8 @@ known_advert e s h there = go (entry_at e.learned s) (own_advert e.voice (key_of
 pub number_left : (e : Claims) → KeepsClaims e → 0 < entries e → e.voice.counter + 1 < 2 ^ 64
 number_left e h more = let left = h.left in let small = h.small in omega (arith, left, small, more)
 
-pub known_entry : (e : Claims) (s : Station) → IsSome (entry_at e.learned s) → (x : Entry) × (entry_at e.learned s ≡ Some x)
+pub known_entry : (e : Claims) (s : Station) → IsSome (entry_at e.learned s)
+    → (x : Entry) × (entry_at e.learned s ≡ Some x)
 known_entry e s there = go (entry_at e.learned s) refl there
   where
     go : (o : Option Entry) → entry_at e.learned s ≡ o → IsSome o → (x : Entry) × (entry_at e.learned s ≡ Some x)
@@ -151,17 +177,23 @@ known_entry e s there = go (entry_at e.learned s) refl there
 
 -- ---- each change in turn
 
-new_answer : (t : Learning) (s : Station) (port : ℕ) → entry_at t s ≡ None → is_full t ≡ false → learnt_of t s port ≡ New
+new_answer : (t : Learning) (s : Station) (port : ℕ) → entry_at t s ≡ None → is_full t ≡ false
+    → learnt_of t s port ≡ New
 new_answer t s port none room = λ i. answer_of (none i) (room i) port
 
-said_others : (e : Voice) (s : Station) (c : Content) (k : Key) → k ≢ key_of s → own_advert (after_saying e (key_of s) c) k ≡ own_advert e k
+said_others : (e : Voice) (s : Station) (c : Content) (k : Key) → k ≢ key_of s
+    → own_advert (after_saying e (key_of s) c) k ≡ own_advert e k
 said_others e s c k ne = key_stays e (key_of s) c k e.address ne
 
-pub advert_claims : (e : Claims) (t : Learning) (v : Voice) (s : Station) (port second n : ℕ) (a : Learnt) → KeepsClaims e → entry_at e.learned s ≡ None → is_full e.learned ≡ false → e.voice.counter < 2 ^ 63 → vni_at e.ports port ≡ Some s.vni
-    → t ≡ after_learn e.learned s port second a → a ≡ learnt_of e.learned s port → v ≡ after_saying e.voice (key_of s) (moving n) → KeepsClaims (record e { learned = t; voice = v })
+pub advert_claims : (e : Claims) (t : Learning) (v : Voice) (s : Station) (port second n : ℕ) (a : Learnt)
+    → KeepsClaims e → entry_at e.learned s ≡ None → is_full e.learned ≡ false → e.voice.counter < 2 ^ 63
+    → vni_at e.ports port ≡ Some s.vni
+    → t ≡ after_learn e.learned s port second a → a ≡ learnt_of e.learned s port
+    → v ≡ after_saying e.voice (key_of s) (moving n) → KeepsClaims (record e { learned = t; voice = v })
 advert_claims e t v s port second n a h none room number behind t_is a_is v_is =
     subst (λ (q : Claims). KeepsClaims q) (λ i. record e { learned = sym whole i; voice = sym v_is i })
-    (entered_claims e (after_learn e.learned s port second New) (after_saying e.voice (key_of s) (moving n)) s (heard_at port second) h (record {
+    (entered_claims e (after_learn e.learned s port second New) (after_saying e.voice (key_of s) (moving n)) s
+    (heard_at port second) h (record {
       sets = sets;
       port = behind;
       kind = sym (ap (λ o. fixes (advert_of o)) (own_same e.voice (key_of s) (moving n)));
@@ -183,8 +215,10 @@ advert_claims e t v s port second n a h none room number behind t_is a_is v_is =
 pinned_is : (o : Option Entry) (x : Entry) (b : Bool) → o ≡ Some x → is_pinned o ≡ b → x.pinned ≡ b
 pinned_is o x b is pinned = ap is_pinned (sym is) ∙ pinned
 
-pub refresh_claims : (e : Claims) (t : Learning) (s : Station) (port second : ℕ) (a : Learnt) → KeepsClaims e → IsSome (entry_at e.learned s) → is_pinned (entry_at e.learned s) ≡ false → vni_at e.ports port ≡ Some s.vni
-    → t ≡ after_learn e.learned s port second a → a ≡ learnt_of e.learned s port → KeepsClaims (record e { learned = t })
+pub refresh_claims : (e : Claims) (t : Learning) (s : Station) (port second : ℕ) (a : Learnt) → KeepsClaims e
+    → IsSome (entry_at e.learned s) → is_pinned (entry_at e.learned s) ≡ false → vni_at e.ports port ≡ Some s.vni
+    → t ≡ after_learn e.learned s port second a → a ≡ learnt_of e.learned s port
+    → KeepsClaims (record e { learned = t })
 refresh_claims e t s port second a h there loose behind t_is a_is = go (known_entry e s there)
   where
     whole : t ≡ after_learn e.learned s port second (learnt_of e.learned s port)
@@ -194,9 +228,11 @@ refresh_claims e t s port second a h there loose behind t_is a_is = go (known_en
     go (x, known) =
         let free = pinned_is (entry_at e.learned s) x false known loose in
         let sets = sets_refresh e.learned s port second x known free in
-        let size = size_known e.learned (after_learn e.learned s port second (learnt_of e.learned s port)) s (heard_at port second) x sets.entries known in
+        let size = size_known e.learned (after_learn e.learned s port second (learnt_of e.learned s port)) s
+        (heard_at port second) x sets.entries known in
         subst (λ (q : Learning). KeepsClaims (record e { learned = q })) (sym whole)
-        (entered_claims e (after_learn e.learned s port second (learnt_of e.learned s port)) e.voice s (heard_at port second) h (record {
+        (entered_claims e (after_learn e.learned s port second (learnt_of e.learned s port)) e.voice s
+        (heard_at port second) h (record {
           sets = sets;
           port = behind;
           kind = ap Some (sym free) ∙ ap pins (sym known) ∙ h.kinds s;
@@ -206,21 +242,28 @@ refresh_claims e t s port second a h there loose behind t_is a_is = go (known_en
         }))
 
 -- how many stations are learnt after one was pinned
-pin_size : (e : Claims) (s : Station) (port : ℕ) → KeepsClaims e → (entry_at e.learned s ≡ None → is_full e.learned ≡ false) → len (pinned_on e.learned s port).entries ≤ capacity e
+pin_size : (e : Claims) (s : Station) (port : ℕ) → KeepsClaims e
+    → (entry_at e.learned s ≡ None → is_full e.learned ≡ false) → len (pinned_on e.learned s port).entries ≤ capacity e
 pin_size e s port h room = go (entry_at e.learned s) refl
   where
     sets : Sets e.learned (pinned_on e.learned s port) s (pinned_at port)
     sets = sets_pin e.learned s port room
 
     go : (o : Option Entry) → entry_at e.learned s ≡ o → len (pinned_on e.learned s port).entries ≤ capacity e
-    go None none = let size = size_new e.learned (pinned_on e.learned s port) s (pinned_at port) sets.entries none in let low = room_left e.learned h.fits (room none) in omega (arith, size, low)
-    go (Some x) known = let size = size_known e.learned (pinned_on e.learned s port) s (pinned_at port) x sets.entries known in let low = h.fits in omega (arith, size, low)
+    go None none = let size = size_new e.learned (pinned_on e.learned s port) s (pinned_at port) sets.entries none in
+        let low = room_left e.learned h.fits (room none) in omega (arith, size, low)
+    go (Some x) known = let size = size_known e.learned (pinned_on e.learned s port) s (pinned_at port) x sets.entries
+        known in let low = h.fits in omega (arith, size, low)
 
-pub pin_claims : (e : Claims) (t : Learning) (v : Voice) (s : Station) (port : ℕ) → KeepsClaims e → (entry_at e.learned s ≡ None → is_full e.learned ≡ false) → e.voice.counter < 2 ^ 63 → vni_at e.ports port ≡ Some s.vni
-    → t ≡ pinned_on e.learned s port → v ≡ after_saying e.voice (key_of s) fixed → KeepsClaims (record e { learned = t; voice = v })
+pub pin_claims : (e : Claims) (t : Learning) (v : Voice) (s : Station) (port : ℕ) → KeepsClaims e
+    → (entry_at e.learned s ≡ None → is_full e.learned ≡ false) → e.voice.counter < 2 ^ 63
+    → vni_at e.ports port ≡ Some s.vni
+    → t ≡ pinned_on e.learned s port → v ≡ after_saying e.voice (key_of s) fixed
+    → KeepsClaims (record e { learned = t; voice = v })
 pin_claims e t v s port h room number behind t_is v_is =
     subst (λ (q : Claims). KeepsClaims q) (λ i. record e { learned = sym t_is i; voice = sym v_is i })
-    (entered_claims e (pinned_on e.learned s port) (after_saying e.voice (key_of s) fixed) s (pinned_at port) h (record {
+    (entered_claims e (pinned_on e.learned s port) (after_saying e.voice (key_of s) fixed) s (pinned_at port) h
+    (record {
       sets = sets_pin e.learned s port room;
       port = behind;
       kind = sym (ap (λ o. fixes (advert_of o)) (own_same e.voice (key_of s) fixed));
@@ -229,7 +272,9 @@ pin_claims e t v s port h room number behind t_is v_is =
       left = let low = pin_size e s port h room in omega (arith, low, number);
     }))
 
-pub shift_claims : (e : Claims) (t : Learning) (s : Station) (port : ℕ) → KeepsClaims e → is_pinned (entry_at e.learned s) ≡ true → vni_at e.ports port ≡ Some s.vni → t ≡ pinned_on e.learned s port → KeepsClaims (record e { learned = t })
+pub shift_claims : (e : Claims) (t : Learning) (s : Station) (port : ℕ) → KeepsClaims e
+    → is_pinned (entry_at e.learned s) ≡ true → vni_at e.ports port ≡ Some s.vni → t ≡ pinned_on e.learned s port
+    → KeepsClaims (record e { learned = t })
 shift_claims e t s port h pinned behind t_is = go (entry_at e.learned s) refl
   where
     go : (o : Option Entry) → entry_at e.learned s ≡ o → KeepsClaims (record e { learned = t })
@@ -249,28 +294,37 @@ shift_claims e t s port h pinned behind t_is = go (entry_at e.learned s) refl
         }))
 
 -- another's update, or an own one of an earlier life
-pub heard_claims : (e : Claims) (v : Voice) (u : Fields) (r : Result Taken TakeError) → u.register.originator ≢ e.voice.address → KeepsClaims e → OnOk r (v ≡ after_hearing e.voice u) → OnErr r (v ≡ e.voice) → KeepsClaims (record e { voice = v })
-heard_claims e v u (Ok x) other h ok err = subst (λ w. KeepsClaims (record e { voice = w })) (sym ok) (spoken_claims e (after_hearing e.voice u) h (λ k. ap advert_of (own_stays e.voice u other k)) h.left)
+pub heard_claims : (e : Claims) (v : Voice) (u : Fields) (r : Result Taken TakeError)
+    → u.register.originator ≢ e.voice.address → KeepsClaims e → OnOk r (v ≡ after_hearing e.voice u)
+    → OnErr r (v ≡ e.voice) → KeepsClaims (record e { voice = v })
+heard_claims e v u (Ok x) other h ok err = subst (λ w. KeepsClaims (record e { voice = w })) (sym ok)
+    (spoken_claims e (after_hearing e.voice u) h (λ k. ap advert_of (own_stays e.voice u other k)) h.left)
 heard_claims e v u (Err x) other h ok err = subst (λ w. KeepsClaims (record e { voice = w })) (sym err) h
 
 not_true : (b : Bool) → (b ≡ true → ⊥) → b ≡ false
 not_true true never = absurd (never refl)
 not_true false never = refl
 
-pub own_claims : (e : Claims) (v : Voice) (u : Fields) (r : Result Taken OwnError) → u.register.originator ≡ e.voice.address → KeepsNumbers e.voice → KeepsClaims e
-    → OnOk r (v ≡ after_hearing_own e.voice u) → OnErr r (v ≡ e.voice) → (r ≡ Err Ahead) ↔ (is_ahead e.voice u ≡ true) → (r ≡ Err Spent) ↔ (is_spent e.voice u ≡ true) → KeepsClaims (record e { voice = v })
+pub own_claims : (e : Claims) (v : Voice) (u : Fields) (r : Result Taken OwnError)
+    → u.register.originator ≡ e.voice.address → KeepsNumbers e.voice → KeepsClaims e
+    → OnOk r (v ≡ after_hearing_own e.voice u) → OnErr r (v ≡ e.voice) → (r ≡ Err Ahead) ↔ (is_ahead e.voice u ≡ true)
+    → (r ≡ Err Spent) ↔ (is_spent e.voice u ≡ true) → KeepsClaims (record e { voice = v })
 own_claims e v u (Err x) mine n h ok err ahead spent = subst (λ w. KeepsClaims (record e { voice = w })) (sym err) h
 own_claims e v u (Ok x) mine n h ok err ahead spent = subst (λ w. KeepsClaims (record e { voice = w })) (sym ok)
-    (spoken_claims e (after_hearing_own e.voice u) h (own_said e.voice u n mine (not_true (is_ahead e.voice u) (λ t. let no = ahead.1 t in cc))) bound)
+    (spoken_claims e (after_hearing_own e.voice u) h (own_said e.voice u n mine
+    (not_true (is_ahead e.voice u) (λ t. let no = ahead.1 t in cc))) bound)
   where
     few : is_returning e.voice u ≡ true → e.voice.counter + 1 ≤ 2 ^ 63
     few back =
-        let full : (is_returning e.voice u && nat_le (2 ^ 63) e.voice.counter) ≡ false = not_true (is_spent e.voice u) (λ t. let no = spent.1 t in cc) in
-        let room : nat_le (2 ^ 63) e.voice.counter ≡ false = sym (ap (λ b. b && nat_le (2 ^ 63) e.voice.counter) back) ∙ full in
+        let full : (is_returning e.voice u && nat_le (2 ^ 63) e.voice.counter) ≡ false =
+        not_true (is_spent e.voice u) (λ t. let no = spent.1 t in cc) in
+        let room : nat_le (2 ^ 63) e.voice.counter ≡ false = sym (ap (λ b. b && nat_le (2 ^ 63) e.voice.counter) back)
+        ∙ full in
         grind (arith, nat_tests)
 
     bound : (after_hearing_own e.voice u).counter + entries e ≤ 2 ^ 63 + capacity e
     bound =
-        let low = own_counter e.voice u (2 ^ 63 + capacity e - entries e) (λ back. let one = few back in let fits = h.fits in omega (arith, one, fits)) (let left = h.left in omega (arith, left)) in
+        let low = own_counter e.voice u (2 ^ 63 + capacity e - entries e) (λ back. let one = few back in
+        let fits = h.fits in omega (arith, one, fits)) (let left = h.left in omega (arith, left)) in
         let left = h.left in
         omega (arith, low, left)

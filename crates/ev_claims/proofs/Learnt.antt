@@ -1,5 +1,6 @@
 -- what each change of the learning table leaves: its entries, how many they are, and how many places, ports there are
-use Rattle.std.proofs.Common.{◌≡◌, ◌≢◌, ℕ, zero, suc, ◌+◌, ◌-◌, ◌≤◌, ◌<◌, Bool, true, false, cond, eqb, Option, Some, None, length, map, refl, sym, ap, subst, ◌∙◌, arith}
+use Rattle.std.proofs.Common.{◌≡◌, ◌≢◌, ℕ, zero, suc, ◌+◌, ◌-◌, ◌≤◌, ◌<◌, Bool, true, false, cond, eqb, Option, Some}
+use Rattle.std.proofs.Common.{None, length, map, refl, sym, ap, subst, ◌∙◌, arith}
 use Rattle.std.specs.Option.{is_some}
 use Rattle.std.specs.FinMap.{get, get-empty, empty_of_len, insert, remove, len, len-insert, len-remove}
 use Rattle.std.proofs.lemmas.List.{length-set, length-map}
@@ -9,7 +10,8 @@ use Rattle.mac_arena.specs.declared.station.Entry.{Entry}
 use Rattle.mac_arena.specs.declared.table.Learnt.TheVariants.{New, Moved, Refreshed, Pinned}
 use Rattle.mac_arena.specs.Station.{station_cmp}
 use Rattle.mac_arena.specs.Entry.{pinned_at, heard_at}
-use Rattle.mac_arena.specs.Learning.{Learning, entry_at, is_full, left, joined_by, entered, after_learn, answer_of, learnt_of, after_pin, after_pin_at, after_removal, after_removal_at}
+use Rattle.mac_arena.specs.Learning.{Learning, entry_at, is_full, left, joined_by, entered, after_learn, answer_of}
+use Rattle.mac_arena.specs.Learning.{learnt_of, after_pin, after_pin_at, after_removal, after_removal_at}
 use Rattle.mac_arena.proofs.Entries.{station_total, gone_here, gone_there}
 
 -- ---- one entry is set
@@ -18,19 +20,33 @@ pub record Sets (t t' : Learning) (s : Station) (x : Entry) : Type 0 where
   pub places : length t'.places ≡ length t.places
   pub ports : length t'.ports ≡ length t.ports
 
-pub sets_new : (t : Learning) (s : Station) (port second : ℕ) → Sets t (after_learn t s port second New) s (heard_at port second)
-sets_new t s port second = record { entries = refl; places = length-set t.places _ _; ports = length-set t.ports (port - 1) _ }
+pub sets_new : (t : Learning) (s : Station) (port second : ℕ)
+    → Sets t (after_learn t s port second New) s (heard_at port second)
+sets_new t s port second = record {
+  entries = refl;
+  places = length-set t.places _ _;
+  ports = length-set t.ports (port - 1) _;
+}
 
 -- a station that is known and not pinned is heard
-pub sets_refresh : (t : Learning) (s : Station) (port second : ℕ) (x : Entry) → entry_at t s ≡ Some x → x.pinned ≡ false → Sets t (after_learn t s port second (learnt_of t s port)) s (heard_at port second)
-sets_refresh t s port second x known loose = subst (λ o. Sets t (after_learn t s port second (answer_of o (is_full t) port)) s (heard_at port second)) (sym known)
-    (subst (λ b. Sets t (after_learn t s port second (cond b Pinned (cond (eqb x.port port) Refreshed Moved))) s (heard_at port second)) (sym loose) (go (eqb x.port port)))
+pub sets_refresh : (t : Learning) (s : Station) (port second : ℕ) (x : Entry) → entry_at t s ≡ Some x → x.pinned ≡ false
+    → Sets t (after_learn t s port second (learnt_of t s port)) s (heard_at port second)
+sets_refresh t s port second x known loose = subst (λ o. Sets t
+    (after_learn t s port second (answer_of o (is_full t) port)) s (heard_at port second)) (sym known)
+    (subst (λ b. Sets t (after_learn t s port second (cond b Pinned (cond (eqb x.port port) Refreshed Moved))) s
+    (heard_at port second)) (sym loose) (go (eqb x.port port)))
   where
     go : (b : Bool) → Sets t (after_learn t s port second (cond b Refreshed Moved)) s (heard_at port second)
     go true = record { entries = refl; places = refl; ports = refl }
-    go false = record { entries = refl; places = refl; ports = length-set (map (left s) t.ports) (port - 1) _ ∙ length-map t.ports (left s) }
+    go false = record {
+      entries = refl;
+      places = refl;
+      ports = length-set (map (left s) t.ports) (port - 1) _
+          ∙ length-map t.ports (left s);
+    }
 
-pub sets_pin : (t : Learning) (s : Station) (port : ℕ) → (entry_at t s ≡ None → is_full t ≡ false) → Sets t (after_pin t s port) s (pinned_at port)
+pub sets_pin : (t : Learning) (s : Station) (port : ℕ) → (entry_at t s ≡ None → is_full t ≡ false)
+    → Sets t (after_pin t s port) s (pinned_at port)
 sets_pin t s port room = go (entry_at t s) refl
   where
     new : (b : Bool) → is_full t ≡ b → b ≡ false → Sets t (cond b t (entered t s port)) s (pinned_at port)
@@ -46,26 +62,34 @@ sets_pin t s port room = go (entry_at t s) refl
     go (Some x) e = record { entries = refl; places = refl; ports = known (eqb x.port port) }
 
 -- ---- how many
-pub size_new : (t t' : Learning) (s : Station) (x : Entry) → t'.entries ≡ insert t.entries s x → entry_at t s ≡ None → len t'.entries ≡ len t.entries + 1
-size_new t t' s x is none = ap len is ∙ len-insert station_total t.entries s x ∙ ap (λ (o : Option Entry). cond (is_some o) (len t.entries) (len t.entries + 1)) none
+pub size_new : (t t' : Learning) (s : Station) (x : Entry) → t'.entries ≡ insert t.entries s x → entry_at t s ≡ None
+    → len t'.entries ≡ len t.entries + 1
+size_new t t' s x is none = ap len is ∙ len-insert station_total t.entries s x
+    ∙ ap (λ (o : Option Entry). cond (is_some o) (len t.entries) (len t.entries + 1)) none
 
-pub size_known : (t t' : Learning) (s : Station) (x y : Entry) → t'.entries ≡ insert t.entries s x → entry_at t s ≡ Some y → len t'.entries ≡ len t.entries
-size_known t t' s x y is known = ap len is ∙ len-insert station_total t.entries s x ∙ ap (λ (o : Option Entry). cond (is_some o) (len t.entries) (len t.entries + 1)) known
+pub size_known : (t t' : Learning) (s : Station) (x y : Entry) → t'.entries ≡ insert t.entries s x
+    → entry_at t s ≡ Some y → len t'.entries ≡ len t.entries
+size_known t t' s x y is known = ap len is ∙ len-insert station_total t.entries s x
+    ∙ ap (λ (o : Option Entry). cond (is_some o) (len t.entries) (len t.entries + 1)) known
 
 pub some : (t : Learning) (s : Station) (y : Entry) → entry_at t s ≡ Some y → 0 < len t.entries
 some t s y known = go (len t.entries) refl
   where
     go : (n : ℕ) → len t.entries ≡ n → 0 < n
-    go zero e = absurd (let none = ap (λ m. get m s) (empty_of_len t.entries e) ∙ get-empty {X = Entry} station_cmp s in let bad : None ≡ Some y = sym none ∙ known in cc)
+    go zero e = absurd (let none = ap (λ m. get m s) (empty_of_len t.entries e) ∙ get-empty {X = Entry} station_cmp s in
+        let bad : None ≡ Some y = sym none ∙ known in cc)
     go (suc n) e = omega arith
 
-pub size_gone : (t : Learning) (s : Station) (y : Entry) → entry_at t s ≡ Some y → len (after_removal t s).entries + 1 ≡ len t.entries
+pub size_gone : (t : Learning) (s : Station) (y : Entry) → entry_at t s ≡ Some y
+    → len (after_removal t s).entries + 1 ≡ len t.entries
 size_gone t s y known =
-    let one : len (remove t.entries s) ≡ len t.entries - 1 = len-remove station_total t.entries s ∙ ap (λ (o : Option Entry). cond (is_some o) (len t.entries - 1) (len t.entries)) known in
+    let one : len (remove t.entries s) ≡ len t.entries - 1 = len-remove station_total t.entries s
+    ∙ ap (λ (o : Option Entry). cond (is_some o) (len t.entries - 1) (len t.entries)) known in
     let more = some t s y known in
     ap (λ o. len (after_removal_at t s o).entries + 1) known ∙ omega (arith, one, more)
 
-pub room_left : (t : Learning) → len t.entries ≤ length t.places → is_full t ≡ false → len t.entries + 1 ≤ length t.places
+pub room_left : (t : Learning) → len t.entries ≤ length t.places → is_full t ≡ false
+    → len t.entries + 1 ≤ length t.places
 room_left t fits room = grind (arith, nat_tests)
 
 -- ---- one entry goes

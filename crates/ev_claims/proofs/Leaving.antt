@@ -1,5 +1,6 @@
 -- How many stations go by a flush, and by age after it: each once, and no more than are learnt.
-use Rattle.std.proofs.Common.{◌≡◌, ◌≢◌, ℕ, ◌≤◌, Bool, true, false, cond, Option, Some, None, List, [], ◌∷◌, ◌++◌, length, refl, sym, ap, subst, ◌∙◌, arith}
+use Rattle.std.proofs.Common.{◌≡◌, ◌≢◌, ℕ, ◌≤◌, Bool, true, false, cond, Option, Some, None, List, [], ◌∷◌, ◌++◌}
+use Rattle.std.proofs.Common.{length, refl, sym, ap, subst, ◌∙◌, arith}
 use Rattle.std.specs.Prelude.{IsSome, not, ◌||◌, ◌&&◌}
 use Rattle.std.proofs.lemmas.List.{length-append}
 use Rattle.ether_wire.specs.Ports.{ports_of}
@@ -14,7 +15,8 @@ use Rattle.mac_arena.specs.Laws.{is_due, due_among}
 use Rattle.ev_claims.specs.Leaving.{due_in, flushed_in, after_flush, after_ageing}
 use Rattle.ev_claims.proofs.Learnt.{removal_there}
 use Rattle.ev_claims.proofs.Flushing.{removals_joined}
-use Rattle.ev_claims.proofs.Changed.{on_any, none_on, once_joined, due_once, flushed_stands, flushed_once, ports_climb, removals_entries}
+use Rattle.ev_claims.proofs.Changed.{on_any, none_on, once_joined, due_once, flushed_stands, flushed_once, ports_climb}
+use Rattle.ev_claims.proofs.Changed.{removals_entries}
 use Rattle.ev_claims.proofs.Sayings.{removals_size}
 
 -- these stations go, each once, and all were learnt
@@ -26,8 +28,10 @@ pub record Leaves (e e' : Claims) : Type 0 where
 
 -- ---- by a flush
 
-flush_known : (e : Claims) (set : ℕ) → AreGood e → (s : Station) → stands (flushed_in e.learned set) s ≡ true → IsSome (entry_at e.learned s)
-flush_known e set h s in' = go (entry_at e.learned s) (sym (flushed_stands e.learned h.lists 0 (ports_of set) s (ports_climb set)) ∙ in')
+flush_known : (e : Claims) (set : ℕ) → AreGood e → (s : Station) → stands (flushed_in e.learned set) s ≡ true
+    → IsSome (entry_at e.learned s)
+flush_known e set h s in' = go (entry_at e.learned s) (sym
+    (flushed_stands e.learned h.lists 0 (ports_of set) s (ports_climb set)) ∙ in')
   where
     go : (o : Option Entry) → (on_any (ports_of set) o && not (is_pinned o)) ≡ true → IsSome o
     go None on = let none = none_on (ports_of set) in let bad : false ≡ true = sym (ap (λ b. b && true) none) ∙ on in cc
@@ -41,7 +45,8 @@ flush_leaves e set h = record {
   stations = flushed_in e.learned set;
   are = refl;
   once = flush_once e set h;
-  few = let size = removals_size e (flushed_in e.learned set) (flush_once e set h) (flush_known e set h) in omega (arith, size);
+  few = let size = removals_size e (flushed_in e.learned set) (flush_once e set h) (flush_known e set h) in
+      omega (arith, size);
 }
 
 -- ---- the ageing list once stations are gone
@@ -63,11 +68,13 @@ left_stands s q (x ∷ xs) h = go (is_same x s) h (left_stands s q xs)
     or_both true d c e f = refl
     or_both false d c e f = f e
 
-    go : (b : Bool) → stands (cond b xs (x ∷ left s xs)) q ≡ true → (stands (left s xs) q ≡ true → stands xs q ≡ true) → stands (x ∷ xs) q ≡ true
+    go : (b : Bool) → stands (cond b xs (x ∷ left s xs)) q ≡ true → (stands (left s xs) q ≡ true → stands xs q ≡ true)
+        → stands (x ∷ xs) q ≡ true
     go true e rest = later (is_same x q) (stands xs q) e
     go false e rest = or_both (is_same x q) (stands (left s xs) q) (stands xs q) e rest
 
-not_stands : (xs ys : List Station) (q : Station) → (stands xs q ≡ true → stands ys q ≡ true) → stands ys q ≡ false → stands xs q ≡ false
+not_stands : (xs ys : List Station) (q : Station) → (stands xs q ≡ true → stands ys q ≡ true) → stands ys q ≡ false
+    → stands xs q ≡ false
 not_stands xs ys q h out = go (stands xs q) refl
   where
     go : (b : Bool) → stands xs q ≡ b → b ≡ false
@@ -104,7 +111,9 @@ removal_ageing t s h = go (entry_at t s) refl
         known : (q : Station) → stands (gone t s).ageing q ≡ true → IsSome (entry_at (gone t s) q)
         known q in' =
             let there : stands (left s t.ageing) q ≡ true = ap (λ xs. stands xs q) (sym list) ∙ in' in
-            let other : q ≢ s = (λ same. (let out = left_out s t.ageing h.once in let in'' = subst (λ r. stands (left s t.ageing) r ≡ true) same there in let bad : false ≡ true = sym out ∙ in'' in cc)) in
+            let other : q ≢ s = (λ same. (let out = left_out s t.ageing h.once in
+            let in'' = subst (λ r. stands (left s t.ageing) r ≡ true) same there in
+            let bad : false ≡ true = sym out ∙ in'' in cc)) in
             subst IsSome (sym (removal_there t s q other)) (h.known q (left_stands s q t.ageing there))
 
 removals_ageing : (e : Claims) (ss : List Station) → IsAgeing e.learned → IsAgeing (after_removals e ss).learned
@@ -113,7 +122,8 @@ removals_ageing e (s ∷ ss) h = removals_ageing (after_removal e s) ss (removal
 
 -- ---- by age
 
-due_in_list : (t : Learning) (limit : ℕ) (xs : List Station) (s : Station) → stands (due_among t limit xs) s ≡ true → stands xs s ≡ true
+due_in_list : (t : Learning) (limit : ℕ) (xs : List Station) (s : Station) → stands (due_among t limit xs) s ≡ true
+    → stands xs s ≡ true
 due_in_list t limit [] s h = h
 due_in_list t limit (x ∷ xs) s h = go (is_due limit (entry_at t x)) h (due_in_list t limit xs s)
   where
@@ -121,12 +131,17 @@ due_in_list t limit (x ∷ xs) s h = go (is_due limit (entry_at t x)) h (due_in_
     or_both true d c e f = refl
     or_both false d c e f = f e
 
-    go : (b : Bool) → stands (cond b (x ∷ due_among t limit xs) []) s ≡ true → (stands (due_among t limit xs) s ≡ true → stands xs s ≡ true) → stands (x ∷ xs) s ≡ true
+    go : (b : Bool) → stands (cond b (x ∷ due_among t limit xs) []) s ≡ true
+        → (stands (due_among t limit xs) s ≡ true → stands xs s ≡ true) → stands (x ∷ xs) s ≡ true
     go true e rest = or_both (is_same x s) (stands (due_among t limit xs) s) (stands xs s) e rest
     go false e rest = cc
 
 good_ageing : (e : Claims) → AreGood e → IsAgeing e.learned
-good_ageing e h = record { once = h.lists.ageing_once; known = λ s in'. go (entry_at e.learned s) (sym (h.lists.ageing s) ∙ in') }
+good_ageing e h = record {
+  once = h.lists.ageing_once;
+  known =
+      λ s in'. go (entry_at e.learned s) (sym (h.lists.ageing s) ∙ in');
+}
   where
     go : (o : Option Entry) → ages o ≡ true → IsSome o
     go None a = cc
@@ -152,10 +167,12 @@ second_leaves e set limit h = record {
     due : AreOnce (due_in (after_flush e set).learned limit)
     due = due_once (after_flush e set).learned limit (after_flush e set).learned.ageing age.once
 
-    known : (s : Station) → stands (due_in (after_flush e set).learned limit) s ≡ true → IsSome (entry_at (after_flush e set).learned s)
+    known : (s : Station) → stands (due_in (after_flush e set).learned limit) s ≡ true
+        → IsSome (entry_at (after_flush e set).learned s)
     known s in' = age.known s (due_in_list (after_flush e set).learned limit (after_flush e set).learned.ageing s in')
 
-    not_both : (s : Station) → stands (flushed_in e.learned set) s ≡ true → stands (due_in (after_flush e set).learned limit) s ≡ false
+    not_both : (s : Station) → stands (flushed_in e.learned set) s ≡ true
+        → stands (due_in (after_flush e set).learned limit) s ≡ false
     not_both s first = go (stands (due_in (after_flush e set).learned limit) s) refl
       where
         none : entry_at (after_flush e set).learned s ≡ None

@@ -1,5 +1,6 @@
 -- What goes from a learning table leaves lists that name what is left.
-use Rattle.std.proofs.Common.{◌≡◌, ◌≢◌, inl, inr, ℕ, zero, suc, ◌+◌, ◌<◌, ◌==◌, ◌&&◌, ◌||◌, Bool, true, false, cond, length, map, Option, Some, None, List, [], ◌∷◌, refl, sym, ap, subst, ◌∙◌, arith}
+use Rattle.std.proofs.Common.{◌≡◌, ◌≢◌, inl, inr, ℕ, zero, suc, ◌+◌, ◌<◌, ◌==◌, ◌&&◌, ◌||◌, Bool, true, false, cond}
+use Rattle.std.proofs.Common.{length, map, Option, Some, None, List, [], ◌∷◌, refl, sym, ap, subst, ◌∙◌, arith}
 use Rattle.std.proofs.lemmas.List.{length-map, length-set}
 use Rattle.std.proofs.lemmas.Bool.{cases_eq, eq-eqb, ne_eqb}
 use Rattle.std.proofs.lemmas.Bool.Decides.{nat_tests}
@@ -9,7 +10,8 @@ use Rattle.idx_links.proofs.Paths.{has-append, apart-push}
 use Rattle.mac_arena.specs.declared.station.Station.{Station}
 use Rattle.mac_arena.specs.declared.station.Entry.{Entry}
 use Rattle.mac_arena.specs.Station.{is_same, bucket_of}
-use Rattle.mac_arena.specs.Learning.{Learning as Learned, entry_at, stations_at, left, place_of, bucket_in, after_removal, after_removal_at}
+use Rattle.mac_arena.specs.Learning.{Learning as Learned, entry_at, stations_at, left, place_of, bucket_in}
+use Rattle.mac_arena.specs.Learning.{after_removal, after_removal_at}
 use Rattle.mac_arena.specs.ListsName.{ListsName, stands, AreOnce, is_on, ages, last_at, Rises}
 use Rattle.mac_arena.proofs.Entries.{same_self, same_true, ne_same, same_or_other}
 use Rattle.mac_arena.proofs.Looking.{removal_entry}
@@ -31,7 +33,8 @@ left_there : (s : Station) (xs : List Station) (q : Station) → q ≢ s → sta
 left_there s [] q ne = refl
 left_there s (x ∷ xs) q ne = go (is_same x s) refl (left_there s xs q ne)
   where
-    go : (b : Bool) → is_same x s ≡ b → stands (left s xs) q ≡ stands xs q → stands (cond b xs (x ∷ left s xs)) q ≡ (is_same x q || stands xs q)
+    go : (b : Bool) → is_same x s ≡ b → stands (left s xs) q ≡ stands xs q
+        → stands (cond b xs (x ∷ left s xs)) q ≡ (is_same x q || stands xs q)
     go true e rest = ap (λ b. b || stands xs q) (sym (ne_same x q (λ is. ne (sym is ∙ same_true x s e))))
     go false e rest = ap (λ b. is_same x q || b) rest
 
@@ -43,20 +46,23 @@ left_once s (x ∷ xs) once = go (is_same x s) refl (left_once s xs once.1)
     go true e rest = once.1
     go false e rest = (left_there s xs x (differs x s e) ∙ once.0, rest)
 
-lists_left : (s : Station) (ls : List (List Station)) (l : ℕ) → stations_at (map (left s) ls) l ≡ left s (stations_at ls l)
+lists_left : (s : Station) (ls : List (List Station)) (l : ℕ)
+    → stations_at (map (left s) ls) l ≡ left s (stations_at ls l)
 lists_left s [] l = refl
 lists_left s (x ∷ ls) zero = refl
 lists_left s (x ∷ ls) (suc l) = lists_left s ls l
 
 -- ---- places
 
-place_there : (ps : List (Option Station)) (s : Station) (n : ℕ) → slice_index_or ps n None ≡ Some s → slice_index_or ps (place_of ps s) None ≡ Some s
+place_there : (ps : List (Option Station)) (s : Station) (n : ℕ) → slice_index_or ps n None ≡ Some s
+    → slice_index_or ps (place_of ps s) None ≡ Some s
 place_there [] s n at = cc
 place_there (None ∷ ps) s zero at = cc
 place_there (None ∷ ps) s (suc n) at = place_there ps s n at
 place_there (Some x ∷ ps) s n at = found (is_same x s) refl n at (λ m h. place_there ps s m h)
   where
-    found : (b : Bool) → is_same x s ≡ b → (n : ℕ) → slice_index_or (Some x ∷ ps) n None ≡ Some s → ((m : ℕ) → slice_index_or ps m None ≡ Some s → slice_index_or ps (place_of ps s) None ≡ Some s)
+    found : (b : Bool) → is_same x s ≡ b → (n : ℕ) → slice_index_or (Some x ∷ ps) n None ≡ Some s
+        → ((m : ℕ) → slice_index_or ps m None ≡ Some s → slice_index_or ps (place_of ps s) None ≡ Some s)
         → slice_index_or (Some x ∷ ps) (cond b 0 (suc (place_of ps s))) None ≡ Some s
     found true e n at rest = ap Some (same_true x s e)
     found false e zero at rest = absurd (differs x s e cc)
@@ -67,7 +73,8 @@ emptied_here [] p = refl
 emptied_here (x ∷ ps) zero = refl
 emptied_here (x ∷ ps) (suc p) = emptied_here ps p
 
-emptied_there : (ps : List (Option Station)) (p n : ℕ) → n ≢ p → slice_index_or (slice_set ps p None) n None ≡ slice_index_or ps n None
+emptied_there : (ps : List (Option Station)) (p n : ℕ) → n ≢ p
+    → slice_index_or (slice_set ps p None) n None ≡ slice_index_or ps n None
 emptied_there [] p n ne = refl
 emptied_there (x ∷ ps) zero zero ne = absurd (ne refl)
 emptied_there (x ∷ ps) zero (suc n) ne = refl
@@ -95,7 +102,8 @@ module _ (t : Learned) (s : Station) (e : Entry) (known : entry_at t s ≡ Some 
 
   -- who is still known is another one
   other : (q : Station) (x : Entry) → entry_at after q ≡ Some x → q ≢ s
-  other q x at same = let none : entry_at after q ≡ None = ap (entry_at after) same ∙ gone in let bad : None ≡ Some x = sym none ∙ at in cc
+  other q x at same = let none : entry_at after q ≡ None = ap (entry_at after) same ∙ gone in
+      let bad : None ≡ Some x = sym none ∙ at in cc
 
   abbrev pub place : ℕ
   place = place_of t.places s
@@ -104,26 +112,40 @@ module _ (t : Learned) (s : Station) (e : Entry) (known : entry_at t s ≡ Some 
   held = let at = h.placed s e known in place_there t.places s at.0 at.1
 
   others_place : (n : ℕ) (q : Station) → slice_index_or after.places n None ≡ Some q → n ≢ place
-  others_place n q at same = let none : slice_index_or after.places n None ≡ None = ap (λ m. slice_index_or after.places m None) same ∙ emptied_here t.places place in let bad : None ≡ Some q = sym none ∙ at in cc
+  others_place n q at same = let none : slice_index_or after.places n None ≡ None =
+      ap (λ m. slice_index_or after.places m None) same ∙ emptied_here t.places place in
+      let bad : None ≡ Some q = sym none ∙ at in cc
 
-  before_place : (n : ℕ) (q : Station) → slice_index_or after.places n None ≡ Some q → slice_index_or t.places n None ≡ Some q
+  before_place : (n : ℕ) (q : Station) → slice_index_or after.places n None ≡ Some q
+      → slice_index_or t.places n None ≡ Some q
   before_place n q at = sym (emptied_there t.places place n (others_place n q at)) ∙ at
 
-  chains : (b : ℕ) (q : Station) → stands (stations_at after.chains b) q ≡ (is_some (entry_at after q) && (bucket_in after q == b))
-  chains b q = ap (λ l. stands l q) (lists_left s t.chains b) ∙ elim (same_or_other q s) as (λ _. stands (left s (stations_at t.chains b)) q ≡ (is_some (entry_at after q) && (bucket_in after q == b))) [
-    | inl same ↦ ap (stands (left s (stations_at t.chains b))) same ∙ left_here s (stations_at t.chains b) (h.chains_once b) ∙ sym (ap (λ o. is_some o && (bucket_in after q == b)) (ap (entry_at after) same ∙ gone))
-    | inr ne ↦ left_there s (stations_at t.chains b) q ne ∙ h.chains b q ∙ (λ i. is_some (sym (stays q ne) i) && (bucket_of (sym (length-map t.chains (left s)) i) t.salt q == b))
-  ]
+  chains : (b : ℕ) (q : Station) → stands (stations_at after.chains b) q
+      ≡ (is_some (entry_at after q) && (bucket_in after q == b))
+  chains b q = ap (λ l. stands l q) (lists_left s t.chains b)
+      ∙ elim (same_or_other q s) as (λ _. stands (left s (stations_at t.chains b)) q
+      ≡ (is_some (entry_at after q) && (bucket_in after q == b))) [
+        | inl same ↦ ap (stands (left s (stations_at t.chains b))) same
+            ∙ left_here s (stations_at t.chains b) (h.chains_once b)
+            ∙ sym (ap (λ o. is_some o && (bucket_in after q == b)) (ap (entry_at after) same ∙ gone))
+        | inr ne ↦ left_there s (stations_at t.chains b) q ne ∙ h.chains b q
+            ∙ (λ i. is_some (sym (stays q ne) i) && (bucket_of (sym (length-map t.chains (left s)) i) t.salt q == b))
+      ]
 
   ports : (l : ℕ) (q : Station) → stands (stations_at after.ports l) q ≡ is_on (entry_at after q) (l + 1)
-  ports l q = ap (λ xs. stands xs q) (lists_left s t.ports l) ∙ elim (same_or_other q s) as (λ _. stands (left s (stations_at t.ports l)) q ≡ is_on (entry_at after q) (l + 1)) [
-    | inl same ↦ ap (stands (left s (stations_at t.ports l))) same ∙ left_here s (stations_at t.ports l) (h.ports_once l) ∙ sym (ap (λ o. is_on o (l + 1)) (ap (entry_at after) same ∙ gone))
-    | inr ne ↦ left_there s (stations_at t.ports l) q ne ∙ h.ports l q ∙ ap (λ o. is_on o (l + 1)) (sym (stays q ne))
-  ]
+  ports l q = ap (λ xs. stands xs q) (lists_left s t.ports l)
+      ∙ elim (same_or_other q s) as (λ _. stands (left s (stations_at t.ports l)) q
+      ≡ is_on (entry_at after q) (l + 1)) [
+        | inl same ↦ ap (stands (left s (stations_at t.ports l))) same
+            ∙ left_here s (stations_at t.ports l) (h.ports_once l)
+            ∙ sym (ap (λ o. is_on o (l + 1)) (ap (entry_at after) same ∙ gone))
+        | inr ne ↦ left_there s (stations_at t.ports l) q ne ∙ h.ports l q ∙ ap (λ o. is_on o (l + 1)) (sym (stays q ne))
+      ]
 
   ageing : (q : Station) → stands (left s t.ageing) q ≡ ages (entry_at after q)
   ageing q = elim (same_or_other q s) as (λ _. stands (left s t.ageing) q ≡ ages (entry_at after q)) [
-    | inl same ↦ ap (stands (left s t.ageing)) same ∙ left_here s t.ageing h.ageing_once ∙ sym (ap ages (ap (entry_at after) same ∙ gone))
+    | inl same ↦ ap (stands (left s t.ageing)) same ∙ left_here s t.ageing h.ageing_once
+        ∙ sym (ap ages (ap (entry_at after) same ∙ gone))
     | inr ne ↦ left_there s t.ageing q ne ∙ h.ageing q ∙ ap ages (sym (stays q ne))
   ]
 
@@ -138,7 +160,8 @@ module _ (t : Learned) (s : Station) (e : Entry) (known : entry_at t s ≡ Some 
   rises_on [] off r = tt
   rises_on (x ∷ xs) off r = go (is_same x s) refl off (λ off. rises_on xs off r.1)
     where
-      go : (b : Bool) → is_same x s ≡ b → (b || stands xs s) ≡ false → (stands xs s ≡ false → Rises after xs) → Rises after (x ∷ xs)
+      go : (b : Bool) → is_same x s ≡ b → (b || stands xs s) ≡ false → (stands xs s ≡ false → Rises after xs)
+          → Rises after (x ∷ xs)
       go true is off rest = cc
       go false is off rest = (
         λ q on.
@@ -166,20 +189,24 @@ module _ (t : Learned) (s : Station) (e : Entry) (known : entry_at t s ≡ Some 
       )
 
   free : (n : ℕ) → has after.free n ≡ (nat_lt n (length after.places) && is_none (slice_index_or after.places n None))
-  free n = has-append t.free (place ∷ []) n ∙ elim (cases_eq n place) as (λ _. (has t.free n || has (place ∷ []) n) ≡ (nat_lt n (length after.places) && is_none (slice_index_or after.places n None))) [
-    | inl same ↦
-        let below = held_below t.places place s held in
-        let size : length after.places ≡ length t.places = length-set t.places place None in
-        let low : nat_lt n (length after.places) ≡ true = grind (arith, nat_tests) in
-        let none : slice_index_or after.places n None ≡ None = ap (λ m. slice_index_or after.places m None) same ∙ emptied_here t.places place in
-        let here : (place == n) ≡ true = eq-eqb place n (sym same) in
-        let told : (nat_lt n (length after.places) && is_none (slice_index_or after.places n None)) ≡ true = rw (low, none) refl in
-        either (has t.free n) (has (place ∷ []) n) (ap (λ b. b || false) here) ∙ sym told
-    | inr ne ↦
-        let off : (place == n) ≡ false = ne_eqb place n (λ same. ne (sym same)) in
-        right (has t.free n) (has (place ∷ []) n) (ap (λ b. b || false) off) ∙ h.free n
-        ∙ (λ i. nat_lt n (sym (length-set t.places place None) i) && is_none (sym (emptied_there t.places place n ne) i))
-  ]
+  free n = has-append t.free (place ∷ []) n ∙ elim (cases_eq n place) as (λ _. (has t.free n || has (place ∷ []) n)
+      ≡ (nat_lt n (length after.places) && is_none (slice_index_or after.places n None))) [
+        | inl same ↦
+            let below = held_below t.places place s held in
+            let size : length after.places ≡ length t.places = length-set t.places place None in
+            let low : nat_lt n (length after.places) ≡ true = grind (arith, nat_tests) in
+            let none : slice_index_or after.places n None ≡ None = ap (λ m. slice_index_or after.places m None) same
+            ∙ emptied_here t.places place in
+            let here : (place == n) ≡ true = eq-eqb place n (sym same) in
+            let told : (nat_lt n (length after.places) && is_none (slice_index_or after.places n None)) ≡ true =
+            rw (low, none) refl in
+            either (has t.free n) (has (place ∷ []) n) (ap (λ b. b || false) here) ∙ sym told
+        | inr ne ↦
+            let off : (place == n) ≡ false = ne_eqb place n (λ same. ne (sym same)) in
+            right (has t.free n) (has (place ∷ []) n) (ap (λ b. b || false) off) ∙ h.free n
+            ∙ (λ i. nat_lt n (sym (length-set t.places place None) i)
+            && is_none (sym (emptied_there t.places place n ne) i))
+      ]
     where
       either : (x y : Bool) → y ≡ true → (x || y) ≡ true
       either true y e = refl
@@ -192,9 +219,11 @@ module _ (t : Learned) (s : Station) (e : Entry) (known : entry_at t s ≡ Some 
   pub one_gone : ListsName after
   one_gone = record {
     chains = chains;
-    chains_once = λ b. subst AreOnce (sym (lists_left s t.chains b)) (left_once s (stations_at t.chains b) (h.chains_once b));
+    chains_once = λ b. subst AreOnce (sym (lists_left s t.chains b))
+        (left_once s (stations_at t.chains b) (h.chains_once b));
     ports = ports;
-    ports_once = λ l. subst AreOnce (sym (lists_left s t.ports l)) (left_once s (stations_at t.ports l) (h.ports_once l));
+    ports_once = λ l. subst AreOnce (sym (lists_left s t.ports l))
+        (left_once s (stations_at t.ports l) (h.ports_once l));
     ageing = ageing;
     ageing_once = left_once s t.ageing h.ageing_once;
     rises = rises_left t.ageing h.ageing_once h.rises;
@@ -202,7 +231,8 @@ module _ (t : Learned) (s : Station) (e : Entry) (known : entry_at t s ≡ Some 
     placed = λ q x at.
         let ne = other q x at in
         let p = h.placed q x (sym (stays q ne) ∙ at) in
-        let apart : p.0 ≢ place = (λ same. let it : Some q ≡ Some s = sym p.1 ∙ ap (λ n. slice_index_or t.places n None) same ∙ held in let is : q ≡ s = cc in ne is) in
+        let apart : p.0 ≢ place = (λ same. let it : Some q ≡ Some s = sym p.1
+        ∙ ap (λ n. slice_index_or t.places n None) same ∙ held in let is : q ≡ s = cc in ne is) in
         (p.0, emptied_there t.places place p.0 apart ∙ p.1);
     known = λ n q at.
         let before = before_place n q at in
@@ -210,7 +240,8 @@ module _ (t : Learned) (s : Station) (e : Entry) (known : entry_at t s ≡ Some 
         ap is_some (stays q ne) ∙ h.known n q before;
     one_place = λ n m q at_n at_m. h.one_place n m q (before_place n q at_n) (before_place m q at_m);
     free = free;
-    free_once = apart-push t.free place h.free_once (h.free place ∙ (λ i. nat_lt place (length t.places) && is_none (held i)) ∙ none_free (nat_lt place (length t.places)));
+    free_once = apart-push t.free place h.free_once (h.free place
+        ∙ (λ i. nat_lt place (length t.places) && is_none (held i)) ∙ none_free (nat_lt place (length t.places)));
   }
     where
       none_free : (x : Bool) → (x && false) ≡ false

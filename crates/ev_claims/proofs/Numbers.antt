@@ -1,5 +1,6 @@
 -- what the own registers keep when the edge says or hears something
-use Rattle.std.proofs.Common.{◌≡◌, ◌≢◌, ◌⊎◌, inl, inr, ℕ, ◌+◌, ◌≤◌, Bool, true, false, cond, Option, Some, None, List, [], ◌∷◌, ◌++◌, refl, sym, ap, subst, ◌∙◌, arith}
+use Rattle.std.proofs.Common.{◌≡◌, ◌≢◌, ◌⊎◌, inl, inr, ℕ, ◌+◌, ◌≤◌, Bool, true, false, cond, Option, Some, None, List}
+use Rattle.std.proofs.Common.{[], ◌∷◌, ◌++◌, refl, sym, ap, subst, ◌∙◌, arith}
 use Rattle.std.proofs.lemmas.List.Elements.{Contains-push_cases}
 use Rattle.std.specs.Prelude.{Contains, ◌==◌}
 use Rattle.std.specs.List.{list_any}
@@ -16,20 +17,25 @@ use Rattle.route_join.proofs.Tables.{same_or_other, at_same, at_other}
 use Rattle.route_join.proofs.Joins.{update_other}
 use Rattle.route_join.proofs.Merging.{same_listeners}
 use Rattle.ev_claims.specs.Pending.{marked}
-use Rattle.ev_claims.specs.Voice.{Voice, own_register, own, KeepsNumbers, HasRooms, next_value, after_saying, after_hearing}
+use Rattle.ev_claims.specs.Voice.{Voice, own_register, own, KeepsNumbers, HasRooms, next_value, after_saying}
+use Rattle.ev_claims.specs.Voice.{after_hearing}
 use Rattle.route_wire.proofs.Newer.{next_newer}
 
 pub key_or_other : (k j : Key) → (k ≡ j) ⊎ (k ≢ j)
-key_or_other k j = elim (same_or_other (register_of 0 k) (register_of 0 j)) as (λ _. (k ≡ j) ⊎ (k ≢ j)) [ inl e ↦ inl (ap (λ (r : Register). r.key) e) | inr ne ↦ inr (λ e. ne (ap (register_of 0) e)) ]
+key_or_other k j = elim (same_or_other (register_of 0 k) (register_of 0 j)) as (λ _. (k ≡ j)
+    ⊎ (k ≢ j)) [ inl e ↦ inl (ap (λ (r : Register). r.key) e) | inr ne ↦ inr (λ e. ne (ap (register_of 0) e)) ]
 
 pub own_same : (e : Voice) (k : Key) (c : Content) → own (after_saying e k c) k ≡ Some (next_value e c)
 own_same e k c = at_same e.table (own_register e k) (next_value e c)
 
 pub own_other : (e : Voice) (k : Key) (c : Content) (j : Key) → j ≢ k → own (after_saying e k c) j ≡ own e j
-own_other e k c j ne = at_other e.table (own_register e k) _ (own_register e j) (λ h. ne (ap (λ (r : Register). r.key) h))
+own_other e k c j ne = at_other e.table (own_register e k) _ (own_register e j)
+    (λ h. ne (ap (λ (r : Register). r.key) h))
 
-pub key_stays : (e : Voice) (k : Key) (c : Content) (j : Key) (o : ℕ) → j ≢ k → advert_at (after_saying e k c).table o j ≡ advert_at e.table o j
-key_stays e k c j o ne = ap advert_of (at_other e.table (own_register e k) _ (register_of o j) (λ h. ne (ap (λ (q : Register). q.key) h)))
+pub key_stays : (e : Voice) (k : Key) (c : Content) (j : Key) (o : ℕ) → j ≢ k
+    → advert_at (after_saying e k c).table o j ≡ advert_at e.table o j
+key_stays e k c j o ne = ap advert_of (at_other e.table (own_register e k) _ (register_of o j)
+    (λ h. ne (ap (λ (q : Register). q.key) h)))
 
 -- ---- the registers that wait
 
@@ -41,9 +47,11 @@ marked_only rs r q = go (list_any (eq_by_cmp register_cmp r) rs)
     go false h = Contains-push_cases rs r q h
 
 -- ---- saying something
-now_said : (e : Voice) (k j : Key) (c : Content) (v : Value) → j ≡ k → own (after_saying e k c) j ≡ Some v → next_value e c ≡ v
+now_said : (e : Voice) (k j : Key) (c : Content) (v : Value) → j ≡ k → own (after_saying e k c) j ≡ Some v
+    → next_value e c ≡ v
 now_said e k j c v same is =
-    let is' : Some (next_value e c) ≡ Some v = sym (own_same e k c) ∙ subst (λ q. own (after_saying e k c) q ≡ Some v) same is in
+    let is' : Some (next_value e c) ≡ Some v = sym (own_same e k c)
+    ∙ subst (λ q. own (after_saying e k c) q ≡ Some v) same is in
     cc
 
 pub said_numbers : (e : Voice) (k : Key) (c : Content) → KeepsNumbers e → KeepsNumbers (after_saying e k c)
@@ -77,13 +85,27 @@ said_numbers e k c h = record {
     | inr ne ↦ h.alive j v (before j v ne is) some
   ];
   known = h.known;
-  pending = λ r in'. elim (same_or_other r (own_register e k)) as (λ _. (v : Value) × (value_at (after_saying e k c).table r ≡ Some v) × (v.incarnation ≡ e.incarnation) × (r.originator ≡ e.address)) [
-    | inl same ↦ (next_value e c, ap (value_at (after_saying e k c).table) same ∙ own_same e k c, refl, ap (λ (q : Register). q.originator) same)
-    | inr ne ↦ elim (marked_only e.pending (own_register e k) r in') as (λ _. (v : Value) × (value_at (after_saying e k c).table r ≡ Some v) × (v.incarnation ≡ e.incarnation) × (r.originator ≡ e.address)) [
-      | inl earlier ↦ let p = h.pending r earlier in (p.0, at_other e.table (own_register e k) (next_value e c) r ne ∙ p.1, p.2, p.3)
-      | inr same ↦ absurd (ne (sym same))
-    ]
-  ];
+  pending = λ r in'. elim (same_or_other r (own_register e k)) as (λ _. (v : Value)
+      × (value_at (after_saying e k c).table r ≡ Some v) × (v.incarnation ≡ e.incarnation)
+      × (r.originator ≡ e.address)) [
+        | inl same ↦ (
+          next_value e c,
+          ap (value_at (after_saying e k c).table) same ∙ own_same e k c,
+          refl,
+          ap (λ (q : Register). q.originator) same,
+        )
+        | inr ne ↦ elim (marked_only e.pending (own_register e k) r in') as (λ _. (v : Value)
+            × (value_at (after_saying e k c).table r ≡ Some v) × (v.incarnation ≡ e.incarnation)
+            × (r.originator ≡ e.address)) [
+              | inl earlier ↦ let p = h.pending r earlier in (
+                p.0,
+                at_other e.table (own_register e k) (next_value e c) r ne ∙ p.1,
+                p.2,
+                p.3,
+              )
+              | inr same ↦ absurd (ne (sym same))
+            ]
+      ];
 }
   where
     before : (j : Key) (v : Value) → j ≢ k → own (after_saying e k c) j ≡ Some v → own e j ≡ Some v
@@ -98,31 +120,44 @@ said_is_news e k c h = go (own e k) refl
     go (Some v) is = next_newer v _ (h.past k v is) (λ same. let bound = h.counted k v is same in omega (arith, bound))
 
 -- so the table that takes it has it
-pub said_joins : (e : Voice) (k : Key) (c : Content) → KeepsNumbers e → with_update e.table (record { register = own_register e k; value = next_value e c }) ≡ (after_saying e k c).table
+pub said_joins : (e : Voice) (k : Key) (c : Content) → KeepsNumbers e
+    → with_update e.table (record { register = own_register e k; value = next_value e c }) ≡ (after_saying e k c).table
 said_joins e k c h = ap (λ b. cond b (after_saying e k c).table e.table) (said_is_news e k c h)
 
-pub said_rooms : (e : Voice) (k : Key) (c : Content) (known : List Register) → Contains known (own_register e k) → HasRooms e known → HasRooms (after_saying e k c) known
+pub said_rooms : (e : Voice) (k : Key) (c : Content) (known : List Register) → Contains known (own_register e k)
+    → HasRooms e known → HasRooms (after_saying e k c) known
 said_rooms e k c known here h j v is present = elim (key_or_other j k) as (λ _. Contains known (own_register e j)) [
   | inl same ↦ subst (λ q. Contains known (own_register e q)) (sym same) here
   | inr ne ↦ h j v (sym (own_other e k c j ne) ∙ is) present
 ]
 
 -- ---- hearing something of another
-pub own_stays : (e : Voice) (u : Fields) → u.register.originator ≢ e.address → (k : Key) → own (after_hearing e u) k ≡ own e k
-own_stays e u other k = update_other e.table u.register u.value (own_register e k) (λ same. other (ap (λ (r : Register). r.originator) (sym same)))
+pub own_stays : (e : Voice) (u : Fields) → u.register.originator ≢ e.address → (k : Key)
+    → own (after_hearing e u) k ≡ own e k
+own_stays e u other k = update_other e.table u.register u.value (own_register e k)
+    (λ same. other (ap (λ (r : Register). r.originator) (sym same)))
 
-pub heard_numbers : (e : Voice) (u : Fields) → u.register.originator ≢ e.address → KeepsNumbers e → KeepsNumbers (after_hearing e u)
+pub heard_numbers : (e : Voice) (u : Fields) → u.register.originator ≢ e.address → KeepsNumbers e
+    → KeepsNumbers (after_hearing e u)
 heard_numbers e u other h = record {
   counted = λ k v is present. h.counted k v (before k v is) present;
-  distinct = λ k j v w at_k at_j here there same. h.distinct k j v w (before k v at_k) (before j w at_j) here there same;
+  distinct = λ k j v w at_k at_j here there same. h.distinct k j v w (before k v at_k) (before j w at_j) here there
+      same;
   past = λ k v is. h.past k v (before k v is);
   alive = λ k v is some. h.alive k v (before k v is) some;
   known = ap (λ os. list_any (λ x. ◌==◌ x e.address) os) (same_listeners e.table u) ∙ h.known;
-  pending = λ r in'. let p = h.pending r in' in (p.0, update_other e.table u.register u.value r (λ same. other (ap (λ (q : Register). q.originator) (sym same) ∙ p.3)) ∙ p.1, p.2, p.3);
+  pending = λ r in'. let p = h.pending r in' in (
+    p.0,
+    update_other e.table u.register u.value r
+        (λ same. other (ap (λ (q : Register). q.originator) (sym same) ∙ p.3)) ∙ p.1,
+    p.2,
+    p.3,
+  );
 }
   where
     before : (k : Key) (v : Value) → own (after_hearing e u) k ≡ Some v → own e k ≡ Some v
     before k v is = sym (own_stays e u other k) ∙ is
 
-pub heard_rooms : (e : Voice) (u : Fields) (known : List Register) → u.register.originator ≢ e.address → HasRooms e known → HasRooms (after_hearing e u) known
+pub heard_rooms : (e : Voice) (u : Fields) (known : List Register) → u.register.originator ≢ e.address
+    → HasRooms e known → HasRooms (after_hearing e u) known
 heard_rooms e u known other h k v is present = h k v (sym (own_stays e u other k) ∙ is) present

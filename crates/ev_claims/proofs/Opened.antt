@@ -1,5 +1,6 @@
 -- what is kept once the flood lists are said
-use Rattle.std.proofs.Common.{◌≡◌, ◌≢◌, ◌⊎◌, inl, inr, ℕ, zero, suc, ◌+◌, ◌≤◌, ◌<◌, Some, None, List, [], ◌∷◌, length, get_or, refl, sym, ap, subst, ◌∙◌, arith}
+use Rattle.std.proofs.Common.{◌≡◌, ◌≢◌, ◌⊎◌, inl, inr, ℕ, zero, suc, ◌+◌, ◌≤◌, ◌<◌, Some, None, List, [], ◌∷◌, length}
+use Rattle.std.proofs.Common.{get_or, refl, sym, ap, subst, ◌∙◌, arith}
 use Rattle.std.specs.Prelude.{IsSome, Contains, ◌↔◌}
 use Rattle.std.specs.List.{refill}
 use Rattle.std.specs.Option.{option_map}
@@ -23,61 +24,88 @@ use Rattle.ev_claims.specs.Claims.{KeepsClaims, claims_of}
 use Rattle.ev_claims.proofs.Numbers.{key_or_other, own_same, key_stays}
 
 -- other keys are as they were
-pub floods_other : (e : Voice) (vs : List ℕ) (k : Key) → ((v : ℕ) → k ≢ Flood v) → own_advert (after_floods e vs) k ≡ own_advert e k
+pub floods_other : (e : Voice) (vs : List ℕ) (k : Key) → ((v : ℕ) → k ≢ Flood v)
+    → own_advert (after_floods e vs) k ≡ own_advert e k
 floods_other e [] k ne = refl
-floods_other e (v ∷ vs) k ne = floods_other (after_saying e (Flood v) (Advertised flood_advert)) vs k ne ∙ key_stays e (Flood v) (Advertised flood_advert) k e.address (ne v)
+floods_other e (v ∷ vs) k ne = floods_other (after_saying e (Flood v) (Advertised flood_advert)) vs k ne
+    ∙ key_stays e (Flood v) (Advertised flood_advert) k e.address (ne v)
 
 said_there : (e : Voice) (v : ℕ) → IsSome (own_advert (after_saying e (Flood v) (Advertised flood_advert)) (Flood v))
 said_there e v = subst IsSome (sym (ap advert_of (own_same e (Flood v) (Advertised flood_advert)))) refl
 
 -- one list more
-floods_more : (e : Voice) (w : ℕ) (ws : List ℕ) (v : ℕ) → IsSome (own_advert (after_floods (after_saying e (Flood w) (Advertised flood_advert)) ws) (Flood v)) ↔ (IsSome (own_advert (after_saying e (Flood w) (Advertised flood_advert)) (Flood v)) ⊎ Contains ws v)
+floods_more : (e : Voice) (w : ℕ) (ws : List ℕ) (v : ℕ)
+    → IsSome (own_advert (after_floods (after_saying e (Flood w) (Advertised flood_advert)) ws) (Flood v))
+    ↔ (IsSome (own_advert (after_saying e (Flood w) (Advertised flood_advert)) (Flood v)) ⊎ Contains ws v)
     → IsSome (own_advert (after_floods e (w ∷ ws)) (Flood v)) ↔ (IsSome (own_advert e (Flood v)) ⊎ Contains (w ∷ ws) v)
 floods_more e w ws v rest = (
   λ p. elim (rest.0 p) as (λ _. IsSome (own_advert e (Flood v)) ⊎ Contains (w ∷ ws) v) [
-    | inl there ↦ elim (key_or_other (Flood v) (Flood w)) as (λ _. IsSome (own_advert e (Flood v)) ⊎ Contains (w ∷ ws) v) [
-      | inl same ↦ inr (0, omega arith, let is : v ≡ w = cc in sym is)
-      | inr ne ↦ inl (subst IsSome (key_stays e (Flood w) (Advertised flood_advert) (Flood v) e.address ne) there)
-    ]
+    | inl there ↦ elim (key_or_other (Flood v) (Flood w)) as (λ _. IsSome (own_advert e (Flood v))
+        ⊎ Contains (w ∷ ws) v) [
+          | inl same ↦ inr (0, omega arith, let is : v ≡ w = cc in sym is)
+          | inr ne ↦ inl (subst IsSome (key_stays e (Flood w) (Advertised flood_advert) (Flood v) e.address ne) there)
+        ]
     | inr later ↦ inr (suc later.0, (let less = later.1 in omega (arith, less)), later.2)
   ],
-  λ q. elim q as (λ _. IsSome (own_advert (after_floods (after_saying e (Flood w) (Advertised flood_advert)) ws) (Flood v))) [
-    | inl there ↦ elim (key_or_other (Flood v) (Flood w)) as (λ _. IsSome (own_advert (after_floods (after_saying e (Flood w) (Advertised flood_advert)) ws) (Flood v))) [
-      | inl same ↦ rest.1 (inl (subst (λ k. IsSome (own_advert (after_saying e (Flood w) (Advertised flood_advert)) k)) (sym same) (said_there e w)))
-      | inr ne ↦ rest.1 (inl (subst IsSome (sym (key_stays e (Flood w) (Advertised flood_advert) (Flood v) e.address ne)) there))
-    ]
-    | inr c ↦ among c.0 c.1 c.2
-  ],
+  λ q. elim q as (λ _. IsSome (own_advert (after_floods (after_saying e (Flood w) (Advertised flood_advert)) ws)
+      (Flood v))) [
+        | inl there ↦ elim (key_or_other (Flood v) (Flood w)) as (λ _. IsSome
+            (own_advert (after_floods (after_saying e (Flood w) (Advertised flood_advert)) ws) (Flood v))) [
+              | inl same ↦ rest.1 (inl (subst (λ k. IsSome (own_advert (after_saying e (Flood w) (Advertised flood_advert)) k))
+                  (sym same) (said_there e w)))
+              | inr ne ↦ rest.1 (inl (subst IsSome (sym (key_stays e (Flood w) (Advertised flood_advert) (Flood v) e.address
+                  ne)) there))
+            ]
+        | inr c ↦ among c.0 c.1 c.2
+      ],
 )
   where
-    among : (k : ℕ) → k < length (w ∷ ws) → get_or (w ∷ ws) k v ≡ v → IsSome (own_advert (after_floods (after_saying e (Flood w) (Advertised flood_advert)) ws) (Flood v))
-    among zero less is = rest.1 (inl (subst (λ x. IsSome (own_advert (after_saying e (Flood w) (Advertised flood_advert)) (Flood x))) is (said_there e w)))
+    among : (k : ℕ) → k < length (w ∷ ws) → get_or (w ∷ ws) k v ≡ v
+        → IsSome (own_advert (after_floods (after_saying e (Flood w) (Advertised flood_advert)) ws) (Flood v))
+    among zero less is = rest.1 (inl (subst (λ x. IsSome
+        (own_advert (after_saying e (Flood w) (Advertised flood_advert)) (Flood x))) is (said_there e w)))
     among (suc k) less is = rest.1 (inr (k, omega (arith, less), is))
 
 -- a flood list is advertised where it was, or is said
-pub floods_are : (e : Voice) (vs : List ℕ) (v : ℕ) → IsSome (own_advert (after_floods e vs) (Flood v)) ↔ (IsSome (own_advert e (Flood v)) ⊎ Contains vs v)
-floods_are e [] v = (λ p. inl p, λ q. elim q as (λ _. IsSome (own_advert e (Flood v))) [ inl p ↦ p | inr c ↦ absurd (let less = c.1 in omega (arith, less)) ])
+pub floods_are : (e : Voice) (vs : List ℕ) (v : ℕ) → IsSome (own_advert (after_floods e vs) (Flood v))
+    ↔ (IsSome (own_advert e (Flood v)) ⊎ Contains vs v)
+floods_are e [] v = (
+  λ p. inl p,
+  λ q. elim q as (λ _. IsSome (own_advert e (Flood v))) [
+    | inl p ↦ p
+    | inr c ↦ absurd (let less = c.1 in omega (arith, less))
+  ],
+)
 floods_are e (w ∷ ws) v = floods_more e w ws v (floods_are (after_saying e (Flood w) (Advertised flood_advert)) ws v)
 
 pub floods_counter : (e : Voice) (vs : List ℕ) → (after_floods e vs).counter ≡ e.counter + length vs
 floods_counter e [] = omega arith
-floods_counter e (v ∷ vs) = let rest = floods_counter (after_saying e (Flood v) (Advertised flood_advert)) vs in omega (arith, rest)
+floods_counter e (v ∷ vs) = let rest = floods_counter (after_saying e (Flood v) (Advertised flood_advert)) vs in
+    omega (arith, rest)
 
-nothing_said : (address incarnation : ℕ) (originators : List ℕ) (k : Key) → own_advert (silent address incarnation originators) k ≡ None
-nothing_said address incarnation originators k = ap advert_of (get-empty {X = Value} register_cmp (own_register (silent address incarnation originators) k))
+nothing_said : (address incarnation : ℕ) (originators : List ℕ) (k : Key)
+    → own_advert (silent address incarnation originators) k ≡ None
+nothing_said address incarnation originators k = ap advert_of
+    (get-empty {X = Value} register_cmp (own_register (silent address incarnation originators) k))
 
-nobody : (capacity ports buckets salt : ℕ) (s : Station) → entry_at (nothing_learnt capacity ports buckets salt) s ≡ None
+nobody : (capacity ports buckets salt : ℕ) (s : Station)
+    → entry_at (nothing_learnt capacity ports buckets salt) s ≡ None
 nobody capacity ports buckets salt s = get-empty {X = Entry} station_cmp s
 
-pub opened_claims : (address incarnation : ℕ) (originators vs ports : List ℕ) (capacity buckets salt : ℕ) → capacity ≤ 65536 → length ports ≤ 64 → length vs ≤ 64
-    → KeepsClaims (claims_of (after_floods (silent address incarnation originators) vs) (nothing_learnt capacity (length ports) buckets salt) ports vs)
+pub opened_claims : (address incarnation : ℕ) (originators vs ports : List ℕ) (capacity buckets salt : ℕ)
+    → capacity ≤ 65536 → length ports ≤ 64 → length vs ≤ 64
+    → KeepsClaims (claims_of (after_floods (silent address incarnation originators) vs)
+    (nothing_learnt capacity (length ports) buckets salt) ports vs)
 opened_claims address incarnation originators vs ports capacity buckets salt small few listed = record {
-  kinds = λ s. ap (option_map (λ (x : Entry). x.pinned)) (nobody capacity (length ports) buckets salt s) ∙ ap (option_map (λ (a : Advert). a.is_static)) (sym (none (Mac s.vni s.mac None) (λ v q. cc)));
+  kinds = λ s. ap (option_map (λ (x : Entry). x.pinned)) (nobody capacity (length ports) buckets salt s)
+      ∙ ap (option_map (λ (a : Advert). a.is_static)) (sym (none (Mac s.vni s.mac None) (λ v q. cc)));
   bare = λ s ip. none (Mac s.vni s.mac (Some ip)) (λ v q. cc);
-  ports = λ s x at. absurd (let no = nobody capacity (length ports) buckets salt s in let bad : None ≡ Some x = sym no ∙ at in cc);
+  ports = λ s x at. absurd (let no = nobody capacity (length ports) buckets salt s in
+      let bad : None ≡ Some x = sym no ∙ at in cc);
   floods = λ v. (
     λ p. elim ((floods_are start vs v).0 p) as (λ _. Contains vs v) [
-      | inl there ↦ absurd (let no = nothing_said address incarnation originators (Flood v) in let bad : IsSome {T = Advert} None = subst IsSome no there in cc)
+      | inl there ↦ absurd (let no = nothing_said address incarnation originators (Flood v) in
+          let bad : IsSome {T = Advert} None = subst IsSome no there in cc)
       | inr c ↦ c
     ],
     λ c. (floods_are start vs v).1 (inr c),
@@ -92,7 +120,8 @@ opened_claims address incarnation originators vs ports capacity buckets salt sma
     start : Voice
     start = silent address incarnation originators
 
-    none : (k : Key) → ((v : ℕ) → k ≢ Flood v) → own_advert (after_floods (silent address incarnation originators) vs) k ≡ None
+    none : (k : Key) → ((v : ℕ) → k ≢ Flood v) → own_advert (after_floods (silent address incarnation originators) vs) k
+        ≡ None
     none k ne = floods_other start vs k ne ∙ nothing_said address incarnation originators k
 
     empty : len (nothing_learnt capacity (length ports) buckets salt).entries ≡ 0

@@ -1,5 +1,6 @@
 -- What is said, one thing after the other, and no key twice.
-use Rattle.std.proofs.Common.{◌≡◌, ◌≢◌, inl, inr, ℕ, zero, suc, ◌+◌, ◌≤◌, Bool, true, false, cond, Option, Some, None, List, [], ◌∷◌, length, refl, sym, ap, subst, ◌∙◌, arith}
+use Rattle.std.proofs.Common.{◌≡◌, ◌≢◌, inl, inr, ℕ, zero, suc, ◌+◌, ◌≤◌, Bool, true, false, cond, Option, Some, None}
+use Rattle.std.proofs.Common.{List, [], ◌∷◌, length, refl, sym, ap, subst, ◌∙◌, arith}
 use Rattle.std.specs.Prelude.{Contains, IsSome, slice_get, eqb, ◌||◌}
 use Rattle.std.specs.List.{AllByRecursion, IsDistinct}
 use Rattle.std.specs.FinMap.{get-empty}
@@ -22,7 +23,8 @@ use Rattle.mac_arena.specs.Station.{is_same}
 use Rattle.mac_arena.specs.Learning.{entry_at}
 use Rattle.mac_arena.specs.ListsName.{stands, AreOnce}
 use Rattle.mac_arena.proofs.Entries.{same_self}
-use Rattle.ev_claims.specs.Voice.{Voice, own_register, own, IsPresent, IsOwnAt, KeepsNumbers, next_value, after_saying, after_hearing, silent}
+use Rattle.ev_claims.specs.Voice.{Voice, own_register, own, IsPresent, IsOwnAt, KeepsNumbers, next_value, after_saying}
+use Rattle.ev_claims.specs.Voice.{after_hearing, silent}
 use Rattle.ev_claims.specs.declared.opening.Start.{Start}
 use Rattle.ev_claims.specs.Opening.{IsOpening, Opens, after_floods, floods_of}
 use Rattle.ev_claims.specs.Claims.{Claims, entries, key_of, after_removal, after_removals}
@@ -57,31 +59,36 @@ said_behind e k c h = record {
   where
     now : (j : Key) (v : Value) → j ≡ k → own (after_saying e k c) j ≡ Some v → next_value e c ≡ v
     now j v same is =
-        let both : Some (next_value e c) ≡ Some v = sym (own_same e k c) ∙ subst (λ q. own (after_saying e k c) q ≡ Some v) same is in
+        let both : Some (next_value e c) ≡ Some v = sym (own_same e k c)
+        ∙ subst (λ q. own (after_saying e k c) q ≡ Some v) same is in
         cc
 
     before : (j : Key) (v : Value) → j ≢ k → own (after_saying e k c) j ≡ Some v → own e j ≡ Some v
     before j v ne is = sym (own_other e k c j ne) ∙ is
 
 -- another's update changes no own value
-pub heard_behind : (e : Voice) (u : Fields) → u.register.originator ≢ e.address → IsBehind e → IsBehind (after_hearing e u)
+pub heard_behind : (e : Voice) (u : Fields) → u.register.originator ≢ e.address → IsBehind e
+    → IsBehind (after_hearing e u)
 heard_behind e u other h = record {
   past = λ k v is. h.past k v (sym (own_stays e u other k) ∙ is);
   counted = λ k v is present. h.counted k v (sym (own_stays e u other k) ∙ is) present;
 }
 
 -- so what is said next is taken by the table
-joined : (e : Voice) (k : Key) (c : Content) → IsBehind e → with_update e.table (record { register = own_register e k; value = next_value e c }) ≡ (after_saying e k c).table
+joined : (e : Voice) (k : Key) (c : Content) → IsBehind e
+    → with_update e.table (record { register = own_register e k; value = next_value e c }) ≡ (after_saying e k c).table
 joined e k c h = ap (λ b. cond b (after_saying e k c).table e.table) (go (own e k) refl)
   where
     go : (o : Option Value) → own e k ≡ o → is_news o (next_value e c) ≡ true
     go None is = refl
     go (Some v) is = next_newer v _ (h.past k v is) (λ same. let bound = h.counted k v is same in omega (arith, bound))
 
-sayings_join : (e : Voice) (ss : List (Key × Content)) → IsBehind e → (after_sayings e ss).table ≡ with_updates e.table (said_updates e ss)
+sayings_join : (e : Voice) (ss : List (Key × Content)) → IsBehind e
+    → (after_sayings e ss).table ≡ with_updates e.table (said_updates e ss)
 sayings_join e [] h = refl
 sayings_join e (s ∷ ss) h =
-    sayings_join (after_saying e s.0 s.1) ss (said_behind e s.0 s.1 h) ∙ ap (λ t. with_updates t (said_updates (after_saying e s.0 s.1) ss)) (sym (joined e s.0 s.1 h))
+    sayings_join (after_saying e s.0 s.1) ss (said_behind e s.0 s.1 h)
+    ∙ ap (λ t. with_updates t (said_updates (after_saying e s.0 s.1) ss)) (sym (joined e s.0 s.1 h))
 
 -- ---- no key twice
 
@@ -94,20 +101,28 @@ said_count e [] = refl
 said_count e (s ∷ ss) = ap suc (said_count (after_saying e s.0 s.1) ss)
 
 -- a register of which something is said is that of one of the keys
-said_of : (e : Voice) (ss : List (Key × Content)) (r : Register) → Contains (registers_in (said_updates e ss)) r → (i : ℕ) × (t : Key × Content) × (slice_get ss i ≡ Some t) × (own_register e t.0 ≡ r)
+said_of : (e : Voice) (ss : List (Key × Content)) (r : Register) → Contains (registers_in (said_updates e ss)) r
+    → (i : ℕ) × (t : Key × Content) × (slice_get ss i ≡ Some t) × (own_register e t.0 ≡ r)
 said_of e [] r (k, less, is) = absurd (omega (arith, less))
 said_of e (s ∷ ss) r (zero, less, is) = (0, s, refl, is)
-said_of e (s ∷ ss) r (suc k, less, is) = let h = said_of (after_saying e s.0 s.1) ss r (k, omega (arith, less), is) in (suc h.0, h.1, h.2, h.3)
+said_of e (s ∷ ss) r (suc k, less, is) = let h = said_of (after_saying e s.0 s.1) ss r (k, omega (arith, less), is) in
+    (suc h.0, h.1, h.2, h.3)
 
-not_again : (e : Voice) (s : Key × Content) (ss : List (Key × Content)) → AreApart (s ∷ ss) → Contains (registers_in (said_updates (after_saying e s.0 s.1) ss)) (own_register e s.0) → ⊥
-not_again e s ss apart in' = let h = said_of (after_saying e s.0 s.1) ss (own_register e s.0) in' in apart.0 h.0 h.1 h.2 (ap (λ (r : Register). r.key) h.3)
+not_again : (e : Voice) (s : Key × Content) (ss : List (Key × Content)) → AreApart (s ∷ ss)
+    → Contains (registers_in (said_updates (after_saying e s.0 s.1) ss)) (own_register e s.0) → ⊥
+not_again e s ss apart in' = let h = said_of (after_saying e s.0 s.1) ss (own_register e s.0) in' in
+    apart.0 h.0 h.1 h.2 (ap (λ (r : Register). r.key) h.3)
 
-sayings_change : (e : Voice) (ss : List (Key × Content)) → AreApart ss → OwnChanges e (after_sayings e ss) (registers_in (said_updates e ss))
+sayings_change : (e : Voice) (ss : List (Key × Content)) → AreApart ss
+    → OwnChanges e (after_sayings e ss) (registers_in (said_updates e ss))
 sayings_change e [] apart = nothing_changes e
 sayings_change e (s ∷ ss) apart =
-    more_changes e s.0 s.1 (after_sayings (after_saying e s.0 s.1) ss) (registers_in (said_updates (after_saying e s.0 s.1) ss)) (not_again e s ss apart) (sayings_change (after_saying e s.0 s.1) ss apart.1)
+    more_changes e s.0 s.1 (after_sayings (after_saying e s.0 s.1) ss)
+    (registers_in (said_updates (after_saying e s.0 s.1) ss)) (not_again e s ss apart)
+    (sayings_change (after_saying e s.0 s.1) ss apart.1)
 
-sayings_numbered : (e : Voice) (ss : List (Key × Content)) → AreApart ss → (i : ℕ) (u : Fields) → slice_get (said_updates e ss) i ≡ Some u → IsOwnAt (after_sayings e ss) (e.counter + (i + 1)) u
+sayings_numbered : (e : Voice) (ss : List (Key × Content)) → AreApart ss → (i : ℕ) (u : Fields)
+    → slice_get (said_updates e ss) i ≡ Some u → IsOwnAt (after_sayings e ss) (e.counter + (i + 1)) u
 sayings_numbered e [] apart i u at = cc
 sayings_numbered e (s ∷ ss) apart zero u at =
     let first : Fields = record { register = own_register e s.0; value = next_value e s.1 } in
@@ -115,20 +130,30 @@ sayings_numbered e (s ∷ ss) apart zero u at =
     let rest = sayings_change (after_saying e s.0 s.1) ss apart.1 in
     subst (λ q. IsOwnAt (after_sayings (after_saying e s.0 s.1) ss) (e.counter + (0 + 1)) q) same (record {
       own = sym rest.address;
-      there = rest.others (own_register e s.0) refl (not_again e s ss apart) ∙ at_same e.table (own_register e s.0) (next_value e s.1);
+      there = rest.others (own_register e s.0) refl (not_again e s ss apart)
+          ∙ at_same e.table (own_register e s.0) (next_value e s.1);
       present = sym rest.incarnation;
       numbered = omega arith;
     })
 sayings_numbered e (s ∷ ss) apart (suc i) u at =
     let later = sayings_numbered (after_saying e s.0 s.1) ss apart.1 i u at in
-    record { own = later.own; there = later.there; present = later.present; numbered = let is = later.numbered in omega (arith, is) }
+    record {
+      own = later.own;
+      there = later.there;
+      present = later.present;
+      numbered = let is = later.numbered in
+          omega (arith, is);
+    }
 
-sayings_foreign : (e : Voice) (ss : List (Key × Content)) (r : Register) → r.originator ≢ e.address → value_at (after_sayings e ss).table r ≡ value_at e.table r
+sayings_foreign : (e : Voice) (ss : List (Key × Content)) (r : Register) → r.originator ≢ e.address
+    → value_at (after_sayings e ss).table r ≡ value_at e.table r
 sayings_foreign e [] r ne = refl
-sayings_foreign e (s ∷ ss) r ne = sayings_foreign (after_saying e s.0 s.1) ss r ne ∙ at_other e.table (own_register e s.0) (next_value e s.1) r (λ same. ne (ap (λ (q : Register). q.originator) same))
+sayings_foreign e (s ∷ ss) r ne = sayings_foreign (after_saying e s.0 s.1) ss r ne
+    ∙ at_other e.table (own_register e s.0) (next_value e s.1) r (λ same. ne (ap (λ (q : Register). q.originator) same))
 
 -- whoever says these things, says them and no other
-pub says : (e new : Voice) (ss : List (Key × Content)) → new ≡ after_sayings e ss → AreApart ss → IsBehind e → Says e new ss
+pub says : (e new : Voice) (ss : List (Key × Content)) → new ≡ after_sayings e ss → AreApart ss → IsBehind e
+    → Says e new ss
 says e new ss is apart h = subst (λ v. Says e v ss) (sym is) (record {
   after = refl;
   changes = sayings_change e ss apart;
@@ -147,7 +172,8 @@ abbrev pub withdrawals : List Station → List (Key × Content)
 withdrawals [] = []
 withdrawals (s ∷ ss) = (key_of s, Withdrawn) ∷ withdrawals ss
 
-pub removals_say : (e : Claims) (ss : List Station) → (after_removals e ss).voice ≡ after_sayings e.voice (withdrawals ss)
+pub removals_say : (e : Claims) (ss : List Station) → (after_removals e ss).voice
+    ≡ after_sayings e.voice (withdrawals ss)
 removals_say e [] = refl
 removals_say e (s ∷ ss) = removals_say (after_removal e s) ss
 
@@ -155,7 +181,8 @@ pub withdrawals_count : (ss : List Station) → length (withdrawals ss) ≡ leng
 withdrawals_count [] = refl
 withdrawals_count (s ∷ ss) = ap suc (withdrawals_count ss)
 
-not_withdrawn : (s : Station) (ss : List Station) → stands ss s ≡ false → (i : ℕ) (t : Key × Content) → slice_get (withdrawals ss) i ≡ Some t → t.0 ≢ key_of s
+not_withdrawn : (s : Station) (ss : List Station) → stands ss s ≡ false → (i : ℕ) (t : Key × Content)
+    → slice_get (withdrawals ss) i ≡ Some t → t.0 ≢ key_of s
 not_withdrawn s [] not i t at same = cc
 not_withdrawn s (x ∷ ss) not zero t at same =
     let head : Key × Content = (key_of x, Withdrawn) in
@@ -165,10 +192,12 @@ not_withdrawn s (x ∷ ss) not zero t at same =
     let vnis : x.vni ≡ s.vni = cc in
     let macs : x.mac ≡ s.mac = cc in
     let is : x ≡ s = (λ i. record { vni = vnis i; mac = macs i }) in
-    let yes : stands (x ∷ ss) s ≡ true = ap (λ q. is_same x q || stands ss q) (sym is) ∙ ap (λ b. b || stands ss x) (same_self x) in
+    let yes : stands (x ∷ ss) s ≡ true = ap (λ q. is_same x q || stands ss q) (sym is)
+    ∙ ap (λ b. b || stands ss x) (same_self x) in
     let bad : false ≡ true = sym not ∙ yes in
     cc
-not_withdrawn s (x ∷ ss) not (suc i) t at same = not_withdrawn s ss (or_later (is_same x s) (stands ss s) not) i t at same
+not_withdrawn s (x ∷ ss) not (suc i) t at same = not_withdrawn s ss (or_later (is_same x s) (stands ss s) not) i t at
+    same
   where
     or_later : (b c : Bool) → (b || c) ≡ false → c ≡ false
     or_later true c h = cc
@@ -179,12 +208,16 @@ withdrawals_apart [] once = tt
 withdrawals_apart (s ∷ ss) once = (not_withdrawn s ss once.0, withdrawals_apart ss once.1)
 
 -- as many are learnt fewer as go
-pub removals_size : (e : Claims) (ss : List Station) → AreOnce ss → ((s : Station) → stands ss s ≡ true → IsSome (entry_at e.learned s)) → entries (after_removals e ss) + length ss ≡ entries e
+pub removals_size : (e : Claims) (ss : List Station) → AreOnce ss
+    → ((s : Station) → stands ss s ≡ true → IsSome (entry_at e.learned s))
+    → entries (after_removals e ss) + length ss ≡ entries e
 removals_size e [] once known = omega arith
 removals_size e (s ∷ ss) once known =
     let entry = known_entry e s (known s (ap (λ b. b || stands ss s) (same_self s))) in
     let one : entries (after_removal e s) + 1 ≡ entries e = size_gone e.learned s entry.0 entry.1 in
-    let rest = removals_size (after_removal e s) ss once.1 (λ q in'. subst IsSome (sym (removal_there e.learned s q (apart q in'))) (known q (or_true (is_same s q) (stands ss q) in'))) in
+    let rest = removals_size (after_removal e s) ss once.1
+    (λ q in'. subst IsSome (sym (removal_there e.learned s q (apart q in')))
+    (known q (or_true (is_same s q) (stands ss q) in'))) in
     omega (arith, one, rest)
   where
     or_true : (b c : Bool) → c ≡ true → (b || c) ≡ true
@@ -192,7 +225,8 @@ removals_size e (s ∷ ss) once known =
     or_true false c h = h
 
     apart : (q : Station) → stands ss q ≡ true → q ≢ s
-    apart q in' same = let there : stands ss s ≡ true = subst (λ x. stands ss x ≡ true) same in' in let not = once.0 in let bad : false ≡ true = sym not ∙ there in cc
+    apart q in' same = let there : stands ss s ≡ true = subst (λ x. stands ss x ≡ true) same in' in let not = once.0 in
+        let bad : false ≡ true = sym not ∙ there in cc
 
 -- ---- the opening
 
@@ -200,7 +234,8 @@ floods_say : (e : Voice) (vs : List ℕ) → after_floods e vs ≡ after_sayings
 floods_say e [] = refl
 floods_say e (v ∷ vs) = floods_say (after_saying e (Flood v) (Advertised flood_advert)) vs
 
-not_flooded : (v : ℕ) (vs : List ℕ) → AllByRecursion (λ w. eqb v w ≡ false) vs → (i : ℕ) (t : Key × Content) → slice_get (floods_of vs) i ≡ Some t → t.0 ≢ Flood v
+not_flooded : (v : ℕ) (vs : List ℕ) → AllByRecursion (λ w. eqb v w ≡ false) vs → (i : ℕ) (t : Key × Content)
+    → slice_get (floods_of vs) i ≡ Some t → t.0 ≢ Flood v
 not_flooded v [] apart i t at same = cc
 not_flooded v (w ∷ vs) apart zero t at same =
     let head : Key × Content = (Flood w, Advertised flood_advert) in
@@ -221,19 +256,27 @@ flips x y = go (eqb x y) refl (eqb y x) refl
   where
     go : (b : Bool) → eqb x y ≡ b → (d : Bool) → eqb y x ≡ d → b ≡ d
     go true e true f = refl
-    go true e false f = let is : x ≡ y = grind (arith, nat_tests) in let yes = eq-eqb y x (sym is) in let bad : false ≡ true = sym f ∙ yes in cc
-    go false e true f = let is : y ≡ x = grind (arith, nat_tests) in let yes = eq-eqb x y (sym is) in let bad : false ≡ true = sym e ∙ yes in cc
+    go true e false f = let is : x ≡ y = grind (arith, nat_tests) in let yes = eq-eqb y x (sym is) in
+        let bad : false ≡ true = sym f ∙ yes in cc
+    go false e true f = let is : y ≡ x = grind (arith, nat_tests) in let yes = eq-eqb x y (sym is) in
+        let bad : false ≡ true = sym e ∙ yes in cc
     go false e false f = refl
 
 silent_behind : (address incarnation : ℕ) (originators : List ℕ) → IsBehind (silent address incarnation originators)
-silent_behind address incarnation originators = record { past = λ k v is. absurd (nothing k v is); counted = λ k v is present. absurd (nothing k v is) }
+silent_behind address incarnation originators = record {
+  past = λ k v is. absurd (nothing k v is);
+  counted = λ k v is present. absurd (nothing k v is);
+}
   where
     nothing : (k : Key) (v : Value) → own (silent address incarnation originators) k ≢ Some v
-    nothing k v is = let none = get-empty {X = Value} register_cmp (own_register (silent address incarnation originators) k) in let bad : None ≡ Some v = sym none ∙ is in cc
+    nothing k v is = let none = get-empty {X = Value} register_cmp
+        (own_register (silent address incarnation originators) k) in let bad : None ≡ Some v = sym none ∙ is in cc
 
 pub opens : (s : Start) (e : Claims) → IsOpening s e → IsDistinct eqb s.vnis.items → Opens s e
 opens s e h distinct = record {
-  says = says (silent s.address s.incarnation s.originators.items) e.voice (floods_of e.vnis) (h.voice ∙ floods_say (silent s.address s.incarnation s.originators.items) e.vnis)
-      (floods_apart e.vnis (IsDistinct-IsPermutation eqb flips s.vnis.items e.vnis h.vnis distinct)) (silent_behind s.address s.incarnation s.originators.items);
+  says = says (silent s.address s.incarnation s.originators.items) e.voice (floods_of e.vnis) (h.voice
+      ∙ floods_say (silent s.address s.incarnation s.originators.items) e.vnis)
+      (floods_apart e.vnis (IsDistinct-IsPermutation eqb flips s.vnis.items e.vnis h.vnis distinct))
+      (silent_behind s.address s.incarnation s.originators.items);
   count = length_permutation s.vnis.items e.vnis h.vnis;
 }

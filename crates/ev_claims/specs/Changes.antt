@@ -31,7 +31,8 @@ pub record OwnChanges (old new : Voice) (changed : List Register) : Type 0 where
   pub incarnation : new.incarnation ≡ old.incarnation
   pub own : (i : ℕ) (r : Register) → slice_get changed i ≡ Some r → r.originator ≡ old.address
   pub numbers : (i : ℕ) (r : Register) → slice_get changed i ≡ Some r → IsNumbered new r (old.counter + (i + 1))
-  pub others : (r : Register) → r.originator ≡ old.address → (Contains changed r → ⊥) → value_at new.table r ≡ value_at old.table r
+  pub others : (r : Register) → r.originator ≡ old.address → (Contains changed r → ⊥)
+      → value_at new.table r ≡ value_at old.table r
   pub counter : new.counter ≡ old.counter + length changed
   pub pending : new.pending ≡ all_marked old.pending changed
 
@@ -53,7 +54,8 @@ after_sayings e (s ∷ ss) = after_sayings (after_saying e s.0 s.1) ss
 -- what is said so, as updates with the numbers after the counter
 abbrev pub said_updates : Voice → List (Key × Content) → List Fields
 said_updates e [] = []
-said_updates e (s ∷ ss) = record { register = own_register e s.0; value = next_value e s.1 } ∷ said_updates (after_saying e s.0 s.1) ss
+said_updates e (s ∷ ss) = record { register = own_register e s.0; value = next_value e s.1 }
+    ∷ said_updates (after_saying e s.0 s.1) ss
 
 -- The edge says these things and no other, no key twice: so exactly their registers change, each is then its register's
 -- value and is found by its number, and the table has taken them.
@@ -61,6 +63,7 @@ pub record Says (old new : Voice) (said : List (Key × Content)) : Type 0 where
   pub after : new ≡ after_sayings old said
   pub changes : OwnChanges old new (registers_in (said_updates old said))
   pub count : length (said_updates old said) ≡ length said
-  pub numbered : (i : ℕ) (u : Fields) → slice_get (said_updates old said) i ≡ Some u → IsOwnAt new (old.counter + (i + 1)) u
+  pub numbered : (i : ℕ) (u : Fields) → slice_get (said_updates old said) i ≡ Some u
+      → IsOwnAt new (old.counter + (i + 1)) u
   pub table : new.table ≡ with_updates old.table (said_updates old said)
   pub foreign : (r : Register) → r.originator ≢ old.address → value_at new.table r ≡ value_at old.table r

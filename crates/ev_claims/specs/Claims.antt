@@ -1,5 +1,6 @@
 -- What an edge says and has learnt: that each names the other, and what each event does to both.
-use Rattle.std.specs.Prelude.{◌≡◌, ℕ, zero, suc, ◌+◌, ◌≤◌, ◌^◌, ◌↔◌, Bool, true, false, Option, Some, None, IsSome, List, [], ◌∷◌, Contains, slice_get, length, if◌then◌else◌}
+use Rattle.std.specs.Prelude.{◌≡◌, ℕ, zero, suc, ◌+◌, ◌≤◌, ◌^◌, ◌↔◌, Bool, true, false, Option, Some, None, IsSome}
+use Rattle.std.specs.Prelude.{List, [], ◌∷◌, Contains, slice_get, length, if◌then◌else◌}
 use Rattle.std.specs.Option.{option_map}
 use Rattle.std.specs.FinMap.{len}
 use Rattle.route_wire.specs.declared.update.Ip.{Ip}
@@ -12,9 +13,11 @@ use Rattle.route_wire.specs.Fields.{Fields}
 use Rattle.mac_arena.specs.declared.station.Station.{Station}
 use Rattle.mac_arena.specs.declared.station.Entry.{Entry}
 use Rattle.mac_arena.specs.declared.table.Learnt.TheVariants.{New}
-use Rattle.mac_arena.specs.Learning.{Learning, entry_at, is_pinned, after_learn, learnt_of, after_pin as pinned_on, after_removal as gone}
+use Rattle.mac_arena.specs.Learning.{Learning, entry_at, is_pinned, after_learn, learnt_of, after_pin as pinned_on}
+use Rattle.mac_arena.specs.Learning.{after_removal as gone}
 use Rattle.mac_arena.specs.ListsName.{ListsName}
-use Rattle.ev_claims.specs.Voice.{Voice, KeepsNumbers, own_advert, is_at, is_beaten, after_saying, after_hearing, after_hearing_own, after_announcing}
+use Rattle.ev_claims.specs.Voice.{Voice, KeepsNumbers, own_advert, is_at, is_beaten, after_saying, after_hearing}
+use Rattle.ev_claims.specs.Voice.{after_hearing_own, after_announcing}
 
 -- The ports are given by the VNI of each, port 1 first; the VNIs are those that the edge serves.
 pub record Claims : Type 0 where
@@ -54,7 +57,8 @@ is_member ports vni port = is_at (vni_at ports port) vni
 -- station is behind a port of its VNI; the flood lists that the edge is on are those of its VNIs. The learning map
 -- fits, and the counter leaves a number below 2^64 for each withdrawal that may come.
 pub record KeepsClaims (e : Claims) : Type 0 where
-  pub kinds : (s : Station) → option_map (λ (x : Entry). x.pinned) (entry_at e.learned s) ≡ option_map (λ (a : Advert). a.is_static) (own_advert e.voice (key_of s))
+  pub kinds : (s : Station) → option_map (λ (x : Entry). x.pinned) (entry_at e.learned s)
+      ≡ option_map (λ (a : Advert). a.is_static) (own_advert e.voice (key_of s))
   pub bare : (s : Station) (ip : Ip) → own_advert e.voice (Mac s.vni s.mac (Some ip)) ≡ None
   pub ports : (s : Station) (x : Entry) → entry_at e.learned s ≡ Some x → vni_at e.ports x.port ≡ Some s.vni
   pub floods : (v : ℕ) → IsSome (own_advert e.voice (Flood v)) ↔ Contains e.vnis v
@@ -82,7 +86,10 @@ fixed = Advertised (record { is_static = true; sequence = 0; label2 = None })
 
 -- a new station is learnt on a port at a second, and advertised with a sequence number
 abbrev pub after_advert : Claims → Station → ℕ → ℕ → ℕ → Claims
-after_advert e s port second n = record e { learned = after_learn e.learned s port second New; voice = after_saying e.voice (key_of s) (moving n) }
+after_advert e s port second n = record e {
+  learned = after_learn e.learned s port second New;
+  voice = after_saying e.voice (key_of s) (moving n);
+}
 
 -- a station that is learnt is heard again, on the same port or on another; nothing is said
 abbrev pub after_refresh : Claims → Station → ℕ → ℕ → Claims

@@ -1,5 +1,6 @@
 -- What an edge says itself: its own registers in its table, their numbers, and what is still to be announced.
-use Rattle.std.specs.Prelude.{◌≡◌, ℕ, ◌+◌, ◌^◌, ◌≤◌, ◌==◌, ◌&&◌, Bool, true, false, not, nat_le, nat_lt, Option, Some, None, IsSome, is_some, List, [], ◌∷◌, Contains, drop, if◌then◌else◌}
+use Rattle.std.specs.Prelude.{◌≡◌, ℕ, ◌+◌, ◌^◌, ◌≤◌, ◌==◌, ◌&&◌, Bool, true, false, not, nat_le, nat_lt, Option, Some}
+use Rattle.std.specs.Prelude.{None, IsSome, is_some, List, [], ◌∷◌, Contains, drop, if◌then◌else◌}
 use Rattle.std.specs.FinMap.{empty}
 use Rattle.route_wire.specs.declared.update.Key.{Key}
 use Rattle.route_wire.specs.declared.update.Key.TheVariants.{Mac}
@@ -47,18 +48,26 @@ is_said e k = said_in e.incarnation (own e k)
 -- advertises is of this one. The edge listens to itself. What is pending is an own register of this life.
 pub record KeepsNumbers (e : Voice) : Type 0 where
   pub counted : (k : Key) (v : Value) → own e k ≡ Some v → IsPresent e v → v.counter ≤ e.counter
-  pub distinct : (k j : Key) (v w : Value) → own e k ≡ Some v → own e j ≡ Some w → IsPresent e v → IsPresent e w → v.counter ≡ w.counter → k ≡ j
+  pub distinct : (k j : Key) (v w : Value) → own e k ≡ Some v → own e j ≡ Some w → IsPresent e v → IsPresent e w
+      → v.counter ≡ w.counter → k ≡ j
   pub past : (k : Key) (v : Value) → own e k ≡ Some v → v.incarnation ≤ e.incarnation
   pub alive : (k : Key) (v : Value) → own e k ≡ Some v → IsSome (advert_in v.content) → IsPresent e v
   pub known : is_listed e.table e.address ≡ true
-  pub pending : (r : Register) → Contains e.pending r → (v : Value) × (value_at e.table r ≡ Some v) × IsPresent e v × (r.originator ≡ e.address)
+  pub pending : (r : Register) → Contains e.pending r → (v : Value) × (value_at e.table r ≡ Some v) × IsPresent e v
+      × (r.originator ≡ e.address)
 
 -- each own register of this life has a node of the list of what is pending
 abbrev pub HasRooms : Voice → List Register → Type 0
 HasRooms e known = (k : Key) (v : Value) → own e k ≡ Some v → IsPresent e v → Contains known (own_register e k)
 
 abbrev pub voice_of : ℕ → ℕ → Table → ℕ → Pending → Voice
-voice_of address incarnation table counter p = record { address = address; incarnation = incarnation; table = table; counter = counter; pending = p.waiting }
+voice_of address incarnation table counter p = record {
+  address = address;
+  incarnation = incarnation;
+  table = table;
+  counter = counter;
+  pending = p.waiting;
+}
 
 pub record IsVoice (e : Voice) (known : List Register) : Type 0 where
   pub numbers : KeepsNumbers e
@@ -80,11 +89,21 @@ next_value e c = record { incarnation = e.incarnation; counter = e.counter + 1; 
 
 -- the own register of the key says this, under the next number; it is pending, and keeps its place if it was already
 abbrev pub after_saying : Voice → Key → Content → Voice
-after_saying e k c = record e { table = with_value e.table (own_register e k) (next_value e c); counter = e.counter + 1; pending = marked e.pending (own_register e k) }
+after_saying e k c = record e {
+  table = with_value e.table (own_register e k) (next_value e c);
+  counter = e.counter + 1;
+  pending = marked e.pending (own_register e k);
+}
 
 -- nothing is said yet, in this life
 abbrev pub silent : ℕ → ℕ → List ℕ → Voice
-silent address incarnation originators = record { address = address; incarnation = incarnation; table = record { originators = originators; registers = empty }; counter = 0; pending = [] }
+silent address incarnation originators = record {
+  address = address;
+  incarnation = incarnation;
+  table = record { originators = originators; registers = empty };
+  counter = 0;
+  pending = [];
+}
 
 -- ---- hearing
 
@@ -95,7 +114,8 @@ after_hearing e u = record e { table = with_update e.table u }
 abbrev pub is_newest : Voice → Fields → Bool
 is_newest e u = is_news (value_at e.table u.register) u.value
 
--- an own update that would become its register's value, and isn't of an earlier life: the edge's name was taken by another
+-- an own update that would become its register's value, and isn't of an earlier life: the edge's name was taken by
+-- another
 abbrev pub is_ahead : Voice → Fields → Bool
 is_ahead e u = is_newest e u && nat_le e.incarnation u.value.incarnation
 
@@ -110,7 +130,8 @@ is_spent e u = is_returning e u && nat_le (2 ^ 63) e.counter
 -- An own update is heard: an advert of an earlier life that becomes its register's value is withdrawn in the same step,
 -- by its key.
 abbrev pub after_hearing_own : Voice → Fields → Voice
-after_hearing_own e u = if is_returning e u then after_saying (after_hearing e u) u.register.key Withdrawn else after_hearing e u
+after_hearing_own e u = if is_returning e u then after_saying (after_hearing e u) u.register.key
+    Withdrawn else after_hearing e u
 
 -- ---- announcing
 

@@ -1,5 +1,6 @@
 -- Edges that fit together, one by one, and then told of each other.
-use Rattle.std.proofs.Common.{◌≡◌, ℕ, zero, suc, ◌<◌, ◌≤◌, ◌⊎◌, inl, inr, true, false, List, [], ◌∷◌, ◌++◌, length, map, refl, sym, ap, subst, ◌∙◌, arith, Contains}
+use Rattle.std.proofs.Common.{◌≡◌, ℕ, zero, suc, ◌<◌, ◌≤◌, ◌⊎◌, inl, inr, true, false, List, [], ◌∷◌, ◌++◌, length, map}
+use Rattle.std.proofs.Common.{refl, sym, ap, subst, ◌∙◌, arith, Contains}
 use Rattle.std.specs.Prelude.{eqb}
 use Rattle.std.specs.List.{IsDistinct, list_any}
 use Rattle.std.proofs.lemmas.Bool.{eqb-true}
@@ -29,8 +30,10 @@ vnis_push (x ∷ ps) p = ap (λ vs. x.vni ∷ vs) (vnis_push ps p)
 pub none_served : (vnis : List ℕ) → AreServed [] vnis
 none_served vnis v (n, l, e) = absurd (omega (arith, l))
 
-pub served_more : (ps : List PortConfig) (p : PortConfig) (vnis : List ℕ) → AreServed (vnis_of ps) vnis → Contains vnis p.vni → AreServed (vnis_of (ps ++ p ∷ [])) vnis
-served_more ps p vnis h one v c = go (Contains-push_cases (vnis_of ps) p.vni v (subst (λ l. Contains l v) (vnis_push ps p) c))
+pub served_more : (ps : List PortConfig) (p : PortConfig) (vnis : List ℕ) → AreServed (vnis_of ps) vnis
+    → Contains vnis p.vni → AreServed (vnis_of (ps ++ p ∷ [])) vnis
+served_more ps p vnis h one v c = go (Contains-push_cases (vnis_of ps) p.vni v
+    (subst (λ l. Contains l v) (vnis_push ps p) c))
   where
     go : Contains (vnis_of ps) v ⊎ (p.vni ≡ v) → Contains vnis v
     go (inl b) = h v b
@@ -49,7 +52,8 @@ none_fit = record {
   fit = λ c (n, l, e). absurd (omega (arith, l));
 }
 
-pub fit_more : (e : Edges) (d : Described) → FitTogether e → Fits d.config → list_any (λ x. eqb x d.config.address) e.addresses ≡ false → FitTogether (with_edge e d)
+pub fit_more : (e : Edges) (d : Described) → FitTogether e → Fits d.config
+    → list_any (λ x. eqb x d.config.address) e.addresses ≡ false → FitTogether (with_edge e d)
 fit_more e d h one new = record {
   named = ap (λ names. names ++ d.config.address ∷ []) h.named ∙ sym (names_push e.configs d.config);
   apart = distinct_more e.addresses d.config.address h.apart new;
@@ -70,10 +74,12 @@ same_names names (c ∷ cs) = ap (λ xs. c.address ∷ xs) (same_names names cs)
 abbrev WasOne : List ℕ → List EdgeConfig → EdgeConfig → Type 0
 WasOne names cs c = (d : EdgeConfig) × Contains cs d × (listening names d ≡ c)
 
-further : (names : List ℕ) (x : EdgeConfig) (cs : List EdgeConfig) (c : EdgeConfig) → WasOne names cs c → WasOne names (x ∷ cs) c
+further : (names : List ℕ) (x : EdgeConfig) (cs : List EdgeConfig) (c : EdgeConfig) → WasOne names cs c
+    → WasOne names (x ∷ cs) c
 further names x cs c (d, (n, l, e), p) = (d, (suc n, omega (arith, l), e), p)
 
-untold : (names : List ℕ) (cs : List EdgeConfig) (c : EdgeConfig) → Contains (map (listening names) cs) c → WasOne names cs c
+untold : (names : List ℕ) (cs : List EdgeConfig) (c : EdgeConfig) → Contains (map (listening names) cs) c
+    → WasOne names cs c
 untold names [] c (n, l, e) = absurd (omega (arith, l))
 untold names (x ∷ cs) c (zero, l, e) = (x, (zero, omega arith, refl), e)
 untold names (x ∷ cs) c (suc n, l, e) = further names x cs c (untold names cs c (n, omega (arith, l), e))
@@ -92,14 +98,16 @@ opens e some few h = record {
   few = subst (λ n. n ≤ 64) count few;
   apart = subst (IsDistinct eqb) same h.apart;
   configs = λ c in'. is_config c (untold e.addresses e.configs c in');
-  listed = λ c in' o at. lists c (untold e.addresses e.configs c in') o (subst (λ names. Contains names o) (sym same) at);
+  listed = λ c in' o at. lists c (untold e.addresses e.configs c in') o
+      (subst (λ names. Contains names o) (sym same) at);
 }
   where
     same : e.addresses ≡ addresses_of (map (listening e.addresses) e.configs)
     same = h.named ∙ sym (same_names e.addresses e.configs)
 
     count : length e.addresses ≡ length (map (listening e.addresses) e.configs)
-    count = ap length h.named ∙ length-map e.configs (λ (c : EdgeConfig). c.address) ∙ sym (length-map e.configs (listening e.addresses))
+    count = ap length h.named ∙ length-map e.configs (λ (c : EdgeConfig). c.address)
+        ∙ sym (length-map e.configs (listening e.addresses))
 
     of_told : (d : EdgeConfig) → Contains e.configs d → Fits d → IsConfig (listening e.addresses d)
     of_told d in' f = record {
@@ -118,8 +126,10 @@ opens e some few h = record {
     is_config : (c : EdgeConfig) → WasOne e.addresses e.configs c → IsConfig c
     is_config c (d, in', p) = subst IsConfig p (of_told d in' (h.fit d in'))
 
-    lists : (c : EdgeConfig) → WasOne e.addresses e.configs c → (o : ℕ) → Contains e.addresses o → Contains c.originators.items o
+    lists : (c : EdgeConfig) → WasOne e.addresses e.configs c → (o : ℕ) → Contains e.addresses o
+        → Contains c.originators.items o
     lists c (d, in', p) o at = subst (λ (x : EdgeConfig). Contains x.originators.items o) p at
 
-pub opens_as : (w : Whole) (e : Edges) → w ≡ whole_of e → 0 < length e.addresses → length e.addresses ≤ 64 → FitTogether e → AreConfigs w.0
+pub opens_as : (w : Whole) (e : Edges) → w ≡ whole_of e → 0 < length e.addresses → length e.addresses ≤ 64
+    → FitTogether e → AreConfigs w.0
 opens_as w e is some few h = subst (λ (x : Whole). AreConfigs x.0) (sym is) (opens e some few h)

@@ -1,5 +1,6 @@
 -- The configuration that a document gives, or its first fault.
-use Rattle.std.specs.Prelude.{◌≡◌, ℕ, ◌+◌, Bool, List, [], ◌∷◌, ◌++◌, map, codes, string_bytes, Some, None, Result, Ok, Err}
+use Rattle.std.specs.Prelude.{◌≡◌, ℕ, ◌+◌, Bool, List, [], ◌∷◌, ◌++◌, map, codes, string_bytes, Some, None, Result, Ok}
+use Rattle.std.specs.Prelude.{Err}
 use Rattle.toml.specs.Data.{Items, no_items, item, Members, as_table}
 use Rattle.toml.specs.Parse.{parse_document}
 use Rattle.arrayvec.specs.ArrayVec.{ArrayVec}
@@ -32,7 +33,12 @@ with_edge before edge = record {
 }
 
 abbrev pub edges_view : code.Edges → Edges
-edges_view e = record { addresses = e.addresses.items; bridges = e.bridges.items; configs = e.configs.items; links = e.links.items }
+edges_view e = record {
+  addresses = e.addresses.items;
+  bridges = e.bridges.items;
+  configs = e.configs.items;
+  links = e.links.items;
+}
 
 -- the edges of the tables, after those before
 abbrev pub edges_from : Bool → Edges → Items → Result Edges Key
@@ -66,6 +72,7 @@ view_of c = (c.edges.items, c.links.items)
 -- The document gives this configuration, or this first faulty key, or it is none. Memory excuses any text.
 abbrev pub ConfigOf : Bool → List ℕ → Result Config ConfigRefusal → Type 0
 ConfigOf for_run text (Ok c) = (t : Members) × (parse_document text ≡ Some t) × (config_in for_run t ≡ Ok (view_of c))
-ConfigOf for_run text (Err (refusal.Key k)) = (t : Members) × (parse_document text ≡ Some t) × (config_in for_run t ≡ Err (string_bytes k))
+ConfigOf for_run text (Err (refusal.Key k)) = (t : Members) × (parse_document text ≡ Some t)
+    × (config_in for_run t ≡ Err (string_bytes k))
 ConfigOf for_run text (Err refusal.Text) = parse_document text ≡ None
 ConfigOf for_run text (Err refusal.NoMemory) = Unit {0}

@@ -1,17 +1,20 @@
 -- An edge of the configuration: for each key, in the order of the faults, what it holds.
-use Rattle.std.specs.Prelude.{ℕ, ◌+◌, ◌-◌, ◌*◌, ◌^◌, Bool, true, ◌&&◌, nat_le, if◌then◌else◌, List, [], ◌∷◌, codes, Result, Ok, Err}
+use Rattle.std.specs.Prelude.{ℕ, ◌+◌, ◌-◌, ◌*◌, ◌^◌, Bool, true, ◌&&◌, nat_le, if◌then◌else◌, List, [], ◌∷◌, codes}
+use Rattle.std.specs.Prelude.{Result, Ok, Err}
 use Rattle.toml.specs.Data.{Members}
 use Rattle.rstp_state.specs.declared.start.Settings.{Settings}
 use Rattle.ev_config.specs.declared.port.Ports.{Ports}
 use Rattle.ev_config.specs.declared.edge.Names.{Names}
 use Rattle.ev_config.specs.declared.edge.Limits.{Limits}
 use Rattle.ev_config.specs.declared.edge.Described.{Described}
-use Rattle.ev_config.specs.Keys.{Key, ◌>>=◌, required, optional, number_in, steps_in, addr_in, bridge_in, vnis_in, tables_in, new_among, only}
+use Rattle.ev_config.specs.Keys.{Key, ◌>>=◌, required, optional, number_in, steps_in, addr_in, bridge_in, vnis_in}
+use Rattle.ev_config.specs.Keys.{tables_in, new_among, only}
 use Rattle.ev_config.specs.ConfigPort.{no_ports, ports_from}
 
 abbrev pub edge_keys : List Key
 edge_keys =
-    codes "address" ∷ codes "bridge" ∷ codes "vnis" ∷ codes "priority" ∷ codes "hello" ∷ codes "max_age" ∷ codes "forward_delay" ∷ codes "hold" ∷
+    codes "address" ∷ codes "bridge" ∷ codes "vnis" ∷ codes "priority" ∷ codes "hello" ∷ codes "max_age"
+    ∷ codes "forward_delay" ∷ codes "hold" ∷
     codes "ageing" ∷ codes "capacity" ∷ codes "buckets" ∷ codes "salt" ∷ codes "incarnation" ∷ codes "port" ∷ []
 
 -- who the edge is, given the addresses and bridges of the edges before it
@@ -30,7 +33,13 @@ tree_of bridge t = do
   max_age ← optional (codes "max_age") (number_in 6 40) 20 t
   forward_delay ← optional (codes "forward_delay") (number_in 4 30) 15 t
   hold ← optional (codes "hold") (number_in 1 10) 6 t
-  Ok (record { identifier = priority * 2 ^ 48 + bridge; hello = hello; max_age = max_age; forward_delay = forward_delay; hold = hold })
+  Ok (record {
+    identifier = priority * 2 ^ 48 + bridge;
+    hello = hello;
+    max_age = max_age;
+    forward_delay = forward_delay;
+    hold = hold;
+  })
 
 -- how much it keeps, how long, and in which of its lives
 abbrev pub limits_of : Members → Result Limits Key

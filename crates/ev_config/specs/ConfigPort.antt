@@ -1,14 +1,17 @@
 -- A port of the configuration: for each key, in the order of the faults, what it holds.
-use Rattle.std.specs.Prelude.{ℕ, ◌+◌, ◌∷◌, [], ◌++◌, Bool, true, false, if◌then◌else◌, List, codes, Option, Some, None, option_map, Result, Ok, Err}
+use Rattle.std.specs.Prelude.{ℕ, ◌+◌, ◌∷◌, [], ◌++◌, Bool, true, false, if◌then◌else◌, List, codes, Option, Some, None}
+use Rattle.std.specs.Prelude.{option_map, Result, Ok, Err}
 use Rattle.toml.specs.Data.{Data, Items, no_items, item, Members, get_member, as_table}
 use Rattle.ev_config.specs.declared.endpoint.Endpoint.{Endpoint}
 use Rattle.ev_config.specs.declared.port.Port.{Port}
 use Rattle.ev_config.specs.declared.port.Ports.{Ports}
-use Rattle.ev_config.specs.Keys.{Key, ◌>>=◌, read_or, required, optional, number_in, steps_in, flag_in, endpoint_in, vni_in, one_of, only}
+use Rattle.ev_config.specs.Keys.{Key, ◌>>=◌, read_or, required, optional, number_in, steps_in, flag_in, endpoint_in}
+use Rattle.ev_config.specs.Keys.{vni_in, one_of, only}
 
 abbrev pub port_keys : List Key
 port_keys =
-    codes "vni" ∷ codes "cost" ∷ codes "priority" ∷ codes "admin_edge" ∷ codes "auto_edge" ∷ codes "point_to_point" ∷ codes "local" ∷ codes "remote" ∷ []
+    codes "vni" ∷ codes "cost" ∷ codes "priority" ∷ codes "admin_edge" ∷ codes "auto_edge" ∷ codes "point_to_point"
+    ∷ codes "local" ∷ codes "remote" ∷ []
 
 -- an endpoint that may be left out unless it is needed
 abbrev pub endpoint_at : Bool → Key → Option Data → Result (Option Endpoint) Key
@@ -33,7 +36,13 @@ port_of for_run vnis t = do
   Ok (record {
     config = record {
       vni = vni;
-      settings = record { priority = priority; cost = cost; admin_edge = admin_edge; auto_edge = auto_edge; point_to_point = point_to_point };
+      settings = record {
+        priority = priority;
+        cost = cost;
+        admin_edge = admin_edge;
+        auto_edge = auto_edge;
+        point_to_point = point_to_point;
+      };
     };
     link = record { local = local; remote = remote };
   })

@@ -1,8 +1,10 @@
 -- What the keys of a table hold: a value, or the key as the fault.
-use Rattle.std.specs.Prelude.{◌≡◌, ℕ, ℤ, pos, negsuc, ◌+◌, ◌%◌, Bool, true, ◌&&◌, ◌==◌, nat_lt, nat_le, if◌then◌else◌, List, [], ◌∷◌, ◌++◌, is_some, Option, Some, None, option_and_then, Result, Ok, Err}
+use Rattle.std.specs.Prelude.{◌≡◌, ℕ, ℤ, pos, negsuc, ◌+◌, ◌%◌, Bool, true, ◌&&◌, ◌==◌, nat_lt, nat_le, if◌then◌else◌}
+use Rattle.std.specs.Prelude.{List, [], ◌∷◌, ◌++◌, is_some, Option, Some, None, option_and_then, Result, Ok, Err}
 use Rattle.std.specs.Str.{bytes_eq}
 use Rattle.std.specs.List.{list_any}
-use Rattle.toml.specs.Data.{Data, Items, no_items, item, Members, no_members, member, get_member, as_integer, as_bool, as_str, as_array, as_table}
+use Rattle.toml.specs.Data.{Data, Items, no_items, item, Members, no_members, member, get_member, as_integer, as_bool}
+use Rattle.toml.specs.Data.{as_str, as_array, as_table}
 use Rattle.ether_wire.specs.Names.{is_group}
 use Rattle.ether_wire.specs.Spelling.{addr_of_text, mac_of_text}
 use Rattle.ev_config.specs.declared.endpoint.Endpoint.{Endpoint}
@@ -95,7 +97,8 @@ one_of known (Some n) = if list_any (λ x. x == n) known then Some n else None
 -- distinct numbers, after those before
 abbrev pub numbers_from : (Data → Option ℕ) → List ℕ → Items → Option (List ℕ)
 numbers_from read before no_items = Some before
-numbers_from read before (item d ds) = option_and_then (λ n. numbers_from read (before ++ n ∷ []) ds) (new_among before (read d))
+numbers_from read before (item d ds) = option_and_then (λ n. numbers_from read (before ++ n ∷ []) ds)
+    (new_among before (read d))
 
 abbrev pub count_of : Items → ℕ
 count_of no_items = 0

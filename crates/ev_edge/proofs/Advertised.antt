@@ -26,7 +26,8 @@ both (Some x) (Some a) same = (λ p. refl, λ p. refl)
 pub advertises_own : (e : Edge) → IsGoodEdge e → AdvertisesItsOwn e
 advertises_own e h = record {
   learnt = names;
-  pinned = λ s x a at said. (let same : Some x.pinned ≡ Some a.is_static = ap pins (sym at) ∙ h.claims.claims.kinds s ∙ ap fixes said in cc);
+  pinned = λ s x a at said. (let same : Some x.pinned ≡ Some a.is_static = ap pins (sym at) ∙ h.claims.claims.kinds s
+      ∙ ap fixes said in cc);
   bare = h.claims.claims.bare;
   owned = λ s there. h.keeps.owns s ((names s).0 there);
 }

@@ -1,5 +1,6 @@
 -- Where frames go, by what they are.
-use Rattle.std.proofs.Common.{◌≡◌, inl, inr, ℕ, Bool, true, false, cond, eqb, Option, Some, None, Result, Ok, Err, List, drop, refl, sym, ap, subst, ◌∙◌, arith}
+use Rattle.std.proofs.Common.{◌≡◌, inl, inr, ℕ, Bool, true, false, cond, eqb, Option, Some, None, Result, Ok, Err, List}
+use Rattle.std.proofs.Common.{drop, refl, sym, ap, subst, ◌∙◌, arith}
 use Rattle.std.specs.Option.{ForSome, option_map}
 use Rattle.std.proofs.lemmas.Bool.{eq-eqb}
 use Rattle.std.proofs.lemmas.Bool.Decides.{nat_tests}
@@ -34,7 +35,9 @@ use Rattle.ev_edge.specs.declared.learning.Case.TheVariants.{Leave, Refresh, Ref
 use Rattle.ev_edge.specs.declared.refusal.Refusal.{Refusal}
 use Rattle.ev_edge.specs.declared.reply.Reply.{Reply}
 use Rattle.ev_edge.specs.Edge.{Edge, table_of, address_of}
-use Rattle.ev_edge.specs.Arrival.{is_reserved, holds_bpdu, message_in, reserved_arrival, data_in, arrival_at, arrival_on, frame_arrival, is_up, serves, inner_arrival, datagram_arrival, is_other, tunnel_arrival}
+use Rattle.ev_edge.specs.Arrival.{is_reserved, holds_bpdu, message_in, reserved_arrival, data_in, arrival_at}
+use Rattle.ev_edge.specs.Arrival.{arrival_on, frame_arrival, is_up, serves, inner_arrival, datagram_arrival, is_other}
+use Rattle.ev_edge.specs.Arrival.{tunnel_arrival}
 use Rattle.ev_edge.specs.Learning.{Does, case_of, moved}
 use Rattle.ev_edge.specs.Sending.{IsDecision, port_of}
 use Rattle.ev_edge.specs.Steps.{LearnsIf, SendsIf, DataSteps, FrameSteps, TunnelSteps, Bridges}
@@ -43,22 +46,26 @@ use Rattle.ev_edge.proofs.Places.{set_port}
 
 -- ---- nowhere
 
-none : (result : Result Reply Refusal) → decision_in result ≡ None → (P : Decision → Type 0) → ForSome (decision_in result) P
+none : (result : Result Reply Refusal) → decision_in result ≡ None → (P : Decision → Type 0)
+    → ForSome (decision_in result) P
 none result is P d at = absurd (let no : None ≡ Some d = sym is ∙ at in cc)
 
-bridged : (event : tree.Event) (e : Edge) (result : Result Reply Refusal) (e' : Edge) → Bridges event e result e' → decision_in result ≡ None
+bridged : (event : tree.Event) (e : Edge) (result : Result Reply Refusal) (e' : Edge) → Bridges event e result e'
+    → decision_in result ≡ None
 bridged event e (Ok reply) e' h = ap (λ (r : Reply). r.decision) h.reply_is
 bridged event e (Err r) e' h = refl
 
 -- a frame to a reserved destination
-reserved_none : (e : Edge) (port : ℕ) (frame : List ℕ) (result : Result Reply Refusal) (e' : Edge) → FrameSteps (reserved_arrival frame) e port result e' → decision_in result ≡ None
+reserved_none : (e : Edge) (port : ℕ) (frame : List ℕ) (result : Result Reply Refusal) (e' : Edge)
+    → FrameSteps (reserved_arrival frame) e port result e' → decision_in result ≡ None
 reserved_none e port frame result e' h = held (holds_bpdu frame) h
   where
     message : (r : Result Bpdu bpdu.Refusal) → FrameSteps (message_in r) e port result e' → decision_in result ≡ None
     message (Ok b) h = bridged _ e result e' h
     message (Err r) h = ap decision_in h.0
 
-    held : (b : Bool) → FrameSteps (cond b (message_in (reading (drop 3 (payload_of frame)))) (Ok Dropped)) e port result e' → decision_in result ≡ None
+    held : (b : Bool) → FrameSteps (cond b (message_in (reading (drop 3 (payload_of frame)))) (Ok Dropped)) e port
+        result e' → decision_in result ≡ None
     held true h = message (reading (drop 3 (payload_of frame))) h
     held false h = ap decision_in h.0
 
@@ -69,26 +76,35 @@ at_true None v h = cc
 at_true (Some w) v h = ap Some (let same : w ≡ v = grind (arith, nat_tests) in same)
 
 -- by members that pass
-decided : (e : Edge) (vni destination : ℕ) (from : Source) (d : Decision) → KeepsClaims e.claims → IsDecision e vni destination from d → (p : ℕ) → IsPort p → has_port d.local p ≡ true → (vni_at e.claims.ports p ≡ Some vni) × Passes e.tree p
+decided : (e : Edge) (vni destination : ℕ) (from : Source) (d : Decision) → KeepsClaims e.claims
+    → IsDecision e vni destination from d → (p : ℕ) → IsPort p → has_port d.local p ≡ true
+    → (vni_at e.claims.ports p ≡ Some vni) × Passes e.tree p
 decided e vni destination from d keeps i p port there =
-    let both = local_passes (place_of destination (port_of e vni destination) (owner (table_of e) vni destination) (address_of e)) from (record { members = i.members; passing = i.passing }) i.passing_fit
-    (member_is destination (port_of e vni destination) (owner (table_of e) vni destination) (address_of e) i.members (λ q at. i.are_members q ∙ member (entry_at e.claims.learned s) refl q at)) p port (ap (λ n. has_port n p) (sym i.local) ∙ there) in
+    let both = local_passes (place_of destination (port_of e vni destination) (owner (table_of e) vni destination)
+    (address_of e)) from (record { members = i.members; passing = i.passing }) i.passing_fit
+    (member_is destination (port_of e vni destination) (owner (table_of e) vni destination) (address_of e) i.members
+    (λ q at. i.are_members q ∙ member (entry_at e.claims.learned s) refl q at)) p port
+    (ap (λ n. has_port n p) (sym i.local) ∙ there) in
     (at_true (vni_at e.claims.ports p) vni (sym (i.are_members p) ∙ both.0), ((i.are_passing p).0 both.1).1)
   where
     s : Station
     s = record { vni = vni; mac = destination }
 
-    member : (o : Option Entry) → entry_at e.claims.learned (record { vni = vni; mac = destination }) ≡ o → (q : ℕ) → option_map (λ (x : Entry). x.port) o ≡ Some q → is_member e.claims.ports vni q ≡ true
+    member : (o : Option Entry) → entry_at e.claims.learned (record { vni = vni; mac = destination }) ≡ o → (q : ℕ)
+        → option_map (λ (x : Entry). x.port) o ≡ Some q → is_member e.claims.ports vni q ≡ true
     member None is q at = cc
     member (Some x) is q at =
         let same : x.port ≡ q = cc in
-        ap (is_member e.claims.ports vni) (sym same) ∙ ap (λ o. is_at o vni) (keeps.ports (record { vni = vni; mac = destination }) x is) ∙ eq-eqb vni vni refl
+        ap (is_member e.claims.ports vni) (sym same) ∙ ap (λ o. is_at o vni)
+        (keeps.ports (record { vni = vni; mac = destination }) x is) ∙ eq-eqb vni vni refl
 
 -- and not by the frame's own port
-not_back : (e : Edge) (vni destination port : ℕ) (d : Decision) → IsPort port → IsDecision e vni destination (Port port) d → has_port d.local port ≡ false
+not_back : (e : Edge) (vni destination port : ℕ) (d : Decision) → IsPort port
+    → IsDecision e vni destination (Port port) d → has_port d.local port ≡ false
 not_back e vni destination port d is i =
     ap (λ n. has_port n port) i.local
-    ∙ never_back (place_of destination (port_of e vni destination) (owner (table_of e) vni destination) (address_of e)) port (record { members = i.members; passing = i.passing }) i.members_fit i.passing_fit is
+    ∙ never_back (place_of destination (port_of e vni destination) (owner (table_of e) vni destination) (address_of e))
+    port (record { members = i.members; passing = i.passing }) i.members_fit i.passing_fit is
 
 -- ---- from an access port
 
@@ -100,14 +116,21 @@ record Stays (e e' : Edge) : Type 0 where
 same_stays : (e e' : Edge) → e' ≡ e → Stays e e'
 same_stays e e' is = record { ports = ap (λ (x : Edge). x.claims.ports) is; tree = ap (λ (x : Edge). x.tree) is }
 
-learn_stays : (e : Edge) (s : Station) (port : ℕ) (told : Option Alert) (e' : Edge) (c : Case) → Does c e s port told e' → Stays e e'
+learn_stays : (e : Edge) (s : Station) (port : ℕ) (told : Option Alert) (e' : Edge) (c : Case) → Does c e s port told e'
+    → Stays e e'
 learn_stays e s port told e' Leave h = same_stays e e' h.1
-learn_stays e s port told e' Refresh h = record { ports = ap (λ (x : Edge). x.claims.ports) h.1; tree = ap (λ (x : Edge). x.tree) h.1 }
+learn_stays e s port told e' Refresh h = record {
+  ports = ap (λ (x : Edge). x.claims.ports) h.1;
+  tree = ap (λ (x : Edge). x.tree) h.1;
+}
 learn_stays e s port told e' (Refuse alert) h = same_stays e e' h.1
 learn_stays e s port told e' Freeze h =
     record { ports = ap (λ (x : Edge). x.claims.ports) h.1; tree = ap (λ (x : Edge). x.tree) h.1 }
 learn_stays e s port told e' (Learn n) h = elim h as (λ _. Stays e e') [
-  | inl done ↦ record { ports = ap (λ (x : Edge). x.claims.ports) done.1; tree = ap (λ (x : Edge). x.tree) done.1 ∙ go (eqb n 0) }
+  | inl done ↦ record {
+    ports = ap (λ (x : Edge). x.claims.ports) done.1;
+    tree = ap (λ (x : Edge). x.tree) done.1 ∙ go (eqb n 0);
+  }
   | inr refused ↦ same_stays e e' refused.1
 ]
   where
@@ -115,50 +138,69 @@ learn_stays e s port told e' (Learn n) h = elim h as (λ _. Stays e e') [
     go true = refl
     go false = refl
 
-learnt_stays : (e : Edge) (s : Station) (port : ℕ) (told : Option Alert) (e' : Edge) (b : Bool) → LearnsIf b e s port told e' → Stays e e'
+learnt_stays : (e : Edge) (s : Station) (port : ℕ) (told : Option Alert) (e' : Edge) (b : Bool)
+    → LearnsIf b e s port told e' → Stays e e'
 learnt_stays e s port told e' true h = learn_stays e s port told e' (case_of e s) h
 learnt_stays e s port told e' false h = same_stays e e' h.1
 
 module _ (e : Edge) (port : ℕ) (result : Result Reply Refusal) (e' : Edge) (keeps : KeepsClaims e'.claims) where
-  sent : (vni destination : ℕ) (d : Decision) → vni_at e.claims.ports port ≡ Some vni → Stays e e' → (b : Bool) → SendsIf b e' vni destination (Port port) (Some d) → LeavesBy e port d
-  sent vni destination d at stays false h p is there = absurd (let no : false ≡ true = sym (has_port-none p) ∙ ap (λ n. has_port n p) (sym h.0) ∙ there in cc)
+  sent : (vni destination : ℕ) (d : Decision) → vni_at e.claims.ports port ≡ Some vni → Stays e e' → (b : Bool)
+      → SendsIf b e' vni destination (Port port) (Some d) → LeavesBy e port d
+  sent vni destination d at stays false h p is there = absurd (let no : false ≡ true = sym (has_port-none p)
+      ∙ ap (λ n. has_port n p) (sym h.0) ∙ there in cc)
   sent vni destination d at stays true h p is there =
       let both = decided e' vni destination (Port port) d keeps h p is there in
       let own : vni_at e'.claims.ports port ≡ Some vni = ap (λ ps. vni_at ps port) stays.ports ∙ at in
-      let back = not_back e' vni destination port d (set_port e'.claims.ports port vni keeps.few own) h in
-      (ap (λ ps. vni_at ps p) (sym stays.ports) ∙ both.0 ∙ sym at, subst (λ t. Passes t p) stays.tree both.1, λ same. (let no : false ≡ true = sym back ∙ ap (has_port d.local) (sym same) ∙ there in cc))
+      let back = not_back e' vni destination port d (set_port e'.claims.ports port vni keeps.few own) h in (
+        ap (λ ps. vni_at ps p) (sym stays.ports) ∙ both.0 ∙ sym at,
+        subst (λ t. Passes t p) stays.tree both.1,
+        λ same. (let no : false ≡ true = sym back ∙ ap (has_port d.local) (sym same) ∙ there in cc),
+      )
 
-  data_leaves : (vni destination source : ℕ) (reply : Reply) → vni_at e.claims.ports port ≡ Some vni → DataSteps e port vni destination source reply e' → ForSome reply.decision (LeavesBy e port)
+  data_leaves : (vni destination source : ℕ) (reply : Reply) → vni_at e.claims.ports port ≡ Some vni
+      → DataSteps e port vni destination source reply e' → ForSome reply.decision (LeavesBy e port)
   data_leaves vni destination source reply at h d is =
-      sent vni destination d at (learnt_stays e (record { vni = vni; mac = source }) port reply.alert e' _ h.learning.learning) h.passes (subst (SendsIf h.passes e' vni destination (Port port)) is h.sending)
+      sent vni destination d at (learnt_stays e (record { vni = vni; mac = source }) port reply.alert e' _
+      h.learning.learning) h.passes (subst (SendsIf h.passes e' vni destination (Port port)) is h.sending)
 
-  in_frame : (vni : ℕ) (frame : List ℕ) → vni_at e.claims.ports port ≡ Some vni → (b : Bool) → (r : Result Reply Refusal) → FrameSteps (cond b (reserved_arrival frame) (Ok (data_in vni frame))) e port r e' → ForSome (decision_in r) (LeavesBy e port)
+  in_frame : (vni : ℕ) (frame : List ℕ) → vni_at e.claims.ports port ≡ Some vni → (b : Bool)
+      → (r : Result Reply Refusal) → FrameSteps (cond b (reserved_arrival frame) (Ok (data_in vni frame))) e port r e'
+      → ForSome (decision_in r) (LeavesBy e port)
   in_frame vni frame at true r h = none r (reserved_none e port frame r e' h) (LeavesBy e port)
   in_frame vni frame at false (Ok reply) h = data_leaves vni (destination_of frame) (source_of frame) reply at h
   in_frame vni frame at false (Err r) h = absurd h
 
-  at_port : (vni : ℕ) (up : Bool) (f : Result (List ℕ) FrameRefusal) → vni_at e.claims.ports port ≡ Some vni → FrameSteps (arrival_at up vni f) e port result e' → ForSome (decision_in result) (LeavesBy e port)
+  at_port : (vni : ℕ) (up : Bool) (f : Result (List ℕ) FrameRefusal) → vni_at e.claims.ports port ≡ Some vni
+      → FrameSteps (arrival_at up vni f) e port result e' → ForSome (decision_in result) (LeavesBy e port)
   at_port vni up (Err r) at h = none result (ap decision_in h.0) (LeavesBy e port)
   at_port vni false (Ok frame) at h = none result (ap decision_in h.0) (LeavesBy e port)
   at_port vni true (Ok frame) at h = in_frame vni frame at (is_reserved (destination_of frame)) result h
 
-  pub frame_leaves : (octets : List ℕ) → FrameSteps (frame_arrival e port octets) e port result e' → ForSome (decision_in result) (LeavesBy e port)
+  pub frame_leaves : (octets : List ℕ) → FrameSteps (frame_arrival e port octets) e port result e'
+      → ForSome (decision_in result) (LeavesBy e port)
   frame_leaves octets h = go (vni_at e.claims.ports port) refl h
     where
-      go : (o : Option ℕ) → vni_at e.claims.ports port ≡ o → FrameSteps (arrival_on o (is_up e.tree port) octets) e port result e' → ForSome (decision_in result) (LeavesBy e port)
+      go : (o : Option ℕ) → vni_at e.claims.ports port ≡ o
+          → FrameSteps (arrival_on o (is_up e.tree port) octets) e port result e'
+          → ForSome (decision_in result) (LeavesBy e port)
       go None at h = none result (ap decision_in h.0) (LeavesBy e port)
       go (Some vni) at h = at_port vni (is_up e.tree port) (frame_of octets) at h
 
-pub reserved_frame : (e : Edge) (port : ℕ) (octets : List ℕ) (result : Result Reply Refusal) (e' : Edge) → IsReserved octets → FrameSteps (frame_arrival e port octets) e port result e' → decision_in result ≡ None
+pub reserved_frame : (e : Edge) (port : ℕ) (octets : List ℕ) (result : Result Reply Refusal) (e' : Edge)
+    → IsReserved octets → FrameSteps (frame_arrival e port octets) e port result e' → decision_in result ≡ None
 reserved_frame e port octets result e' (frame, is, reserved) h = go (vni_at e.claims.ports port) h
   where
-    up_or_down : (vni : ℕ) (up : Bool) → FrameSteps (arrival_at up vni (Ok frame)) e port result e' → decision_in result ≡ None
+    up_or_down : (vni : ℕ) (up : Bool) → FrameSteps (arrival_at up vni (Ok frame)) e port result e'
+        → decision_in result ≡ None
     up_or_down vni false h = ap decision_in h.0
-    up_or_down vni true h = reserved_none e port frame result e' (subst (λ b. FrameSteps (cond b (reserved_arrival frame) (Ok (data_in vni frame))) e port result e') reserved h)
+    up_or_down vni true h = reserved_none e port frame result e'
+        (subst (λ b. FrameSteps (cond b (reserved_arrival frame) (Ok (data_in vni frame))) e port result e') reserved h)
 
-    go : (o : Option ℕ) → FrameSteps (arrival_on o (is_up e.tree port) octets) e port result e' → decision_in result ≡ None
+    go : (o : Option ℕ) → FrameSteps (arrival_on o (is_up e.tree port) octets) e port result e'
+        → decision_in result ≡ None
     go None h = ap decision_in h.0
-    go (Some vni) h = up_or_down vni (is_up e.tree port) (subst (λ f. FrameSteps (arrival_at (is_up e.tree port) vni f) e port result e') is h)
+    go (Some vni) h = up_or_down vni (is_up e.tree port)
+        (subst (λ f. FrameSteps (arrival_at (is_up e.tree port) vni f) e port result e') is h)
 
 -- ---- from a tunnel
 
@@ -166,7 +208,8 @@ module _ (e : Edge) (octets : List ℕ) (result : Result Reply Refusal) (e' : Ed
   Leaves : Decision → Type 0
   Leaves = LeavesTunnel e octets
 
-  inner_sent : (inner : ℕ × List ℕ) → instance_of octets ≡ Ok inner → (destination : ℕ) (d : Decision) → IsDecision e inner.0 destination Tunnel d → LeavesTunnel e octets d
+  inner_sent : (inner : ℕ × List ℕ) → instance_of octets ≡ Ok inner → (destination : ℕ) (d : Decision)
+      → IsDecision e inner.0 destination Tunnel d → LeavesTunnel e octets d
   inner_sent inner is destination d i = record {
     remote = i.remote;
     local = λ vni rest whole p port there.
@@ -175,39 +218,51 @@ module _ (e : Edge) (octets : List ℕ) (result : Result Reply Refusal) (e' : Ed
         (h.0 ∙ ap (λ (q : ℕ × List ℕ). Some q.0) same, h.1);
   }
 
-  inner_leaves : (inner : ℕ × List ℕ) → instance_of octets ≡ Ok inner → (f : Result (List ℕ) FrameRefusal) (r : Result Reply Refusal) → TunnelSteps (inner_arrival inner.0 f) e r e' → ForSome (decision_in r) (LeavesTunnel e octets)
+  inner_leaves : (inner : ℕ × List ℕ) → instance_of octets ≡ Ok inner
+      → (f : Result (List ℕ) FrameRefusal) (r : Result Reply Refusal) → TunnelSteps (inner_arrival inner.0 f) e r e'
+      → ForSome (decision_in r) (LeavesTunnel e octets)
   inner_leaves inner is (Err f) r h = none r (ap decision_in h.0) (LeavesTunnel e octets)
   inner_leaves inner is (Ok frame) r h = go (is_reserved (destination_of frame)) r h
     where
-      go : (b : Bool) (r : Result Reply Refusal) → TunnelSteps (cond b (Ok Dropped) (Ok (data_in inner.0 frame))) e r e' → ForSome (decision_in r) (LeavesTunnel e octets)
+      go : (b : Bool) (r : Result Reply Refusal) → TunnelSteps (cond b (Ok Dropped) (Ok (data_in inner.0 frame))) e r e'
+          → ForSome (decision_in r) (LeavesTunnel e octets)
       go true r h = none r (ap decision_in h.0) (LeavesTunnel e octets)
-      go false (Ok reply) h = λ d at. inner_sent inner is (destination_of frame) d (subst (SendsIf true e inner.0 (destination_of frame) Tunnel) at h.0)
+      go false (Ok reply) h = λ d at. inner_sent inner is (destination_of frame) d
+          (subst (SendsIf true e inner.0 (destination_of frame) Tunnel) at h.0)
       go false (Err r) h = absurd h
 
-  datagram_leaves : (i : Result (ℕ × List ℕ) vxlan.Refusal) → instance_of octets ≡ i → TunnelSteps (datagram_arrival e i) e result e' → ForSome (decision_in result) (LeavesTunnel e octets)
+  datagram_leaves : (i : Result (ℕ × List ℕ) vxlan.Refusal) → instance_of octets ≡ i
+      → TunnelSteps (datagram_arrival e i) e result e' → ForSome (decision_in result) (LeavesTunnel e octets)
   datagram_leaves (Err r) is h = none result (ap decision_in h.0) (LeavesTunnel e octets)
   datagram_leaves (Ok inner) is h = go (serves e inner.0) h
     where
-      go : (b : Bool) → TunnelSteps (cond b (inner_arrival inner.0 (frame_of inner.1)) (Err (OfEdge NoSuchVni))) e result e' → ForSome (decision_in result) (LeavesTunnel e octets)
+      go : (b : Bool) → TunnelSteps (cond b (inner_arrival inner.0 (frame_of inner.1)) (Err (OfEdge NoSuchVni))) e
+          result e' → ForSome (decision_in result) (LeavesTunnel e octets)
       go true h = inner_leaves inner is (frame_of inner.1) result h
       go false h = none result (ap decision_in h.0) (LeavesTunnel e octets)
 
-  pub tunnel_leaves : (from : ℕ) → TunnelSteps (tunnel_arrival e from octets) e result e' → ForSome (decision_in result) (LeavesTunnel e octets)
+  pub tunnel_leaves : (from : ℕ) → TunnelSteps (tunnel_arrival e from octets) e result e'
+      → ForSome (decision_in result) (LeavesTunnel e octets)
   tunnel_leaves from h = go (is_other e from) h
     where
-      go : (b : Bool) → TunnelSteps (cond b (datagram_arrival e (instance_of octets)) (Err (OfEdge UnknownOriginator))) e result e' → ForSome (decision_in result) (LeavesTunnel e octets)
+      go : (b : Bool) → TunnelSteps (cond b (datagram_arrival e (instance_of octets)) (Err (OfEdge UnknownOriginator)))
+          e result e' → ForSome (decision_in result) (LeavesTunnel e octets)
       go true h = datagram_leaves (instance_of octets) refl h
       go false h = none result (ap decision_in h.0) (LeavesTunnel e octets)
 
-pub reserved_datagram : (e : Edge) (from : ℕ) (octets : List ℕ) (result : Result Reply Refusal) (e' : Edge) → HoldsReserved octets → TunnelSteps (tunnel_arrival e from octets) e result e' → decision_in result ≡ None
+pub reserved_datagram : (e : Edge) (from : ℕ) (octets : List ℕ) (result : Result Reply Refusal) (e' : Edge)
+    → HoldsReserved octets → TunnelSteps (tunnel_arrival e from octets) e result e' → decision_in result ≡ None
 reserved_datagram e from octets result e' (vni, inner, is, (frame, framed, reserved)) h = go (is_other e from) h
   where
-    served : (b : Bool) → TunnelSteps (cond b (inner_arrival vni (frame_of inner)) (Err (OfEdge NoSuchVni))) e result e' → decision_in result ≡ None
+    served : (b : Bool) → TunnelSteps (cond b (inner_arrival vni (frame_of inner)) (Err (OfEdge NoSuchVni))) e result e'
+        → decision_in result ≡ None
     served false h = ap decision_in h.0
     served true h =
-        let dropped = subst (λ b. TunnelSteps (cond b (Ok Dropped) (Ok (data_in vni frame))) e result e') reserved (subst (λ f. TunnelSteps (inner_arrival vni f) e result e') framed h) in
+        let dropped = subst (λ b. TunnelSteps (cond b (Ok Dropped) (Ok (data_in vni frame))) e result e') reserved
+        (subst (λ f. TunnelSteps (inner_arrival vni f) e result e') framed h) in
         ap decision_in dropped.0
 
-    go : (b : Bool) → TunnelSteps (cond b (datagram_arrival e (instance_of octets)) (Err (OfEdge UnknownOriginator))) e result e' → decision_in result ≡ None
+    go : (b : Bool) → TunnelSteps (cond b (datagram_arrival e (instance_of octets)) (Err (OfEdge UnknownOriginator))) e
+        result e' → decision_in result ≡ None
     go false h = ap decision_in h.0
     go true h = served (serves e vni) (subst (λ i. TunnelSteps (datagram_arrival e i) e result e') is h)

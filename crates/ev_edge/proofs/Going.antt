@@ -7,5 +7,6 @@ use Rattle.rstp_run.specs.Rules.{Tree}
 use Rattle.ev_edge.specs.Bridging.{BridgeGoes}
 
 pub goes_by : (event : Event) (old new : Tree) (settled : Bool) (flush : ℕ) (sent : List (ℕ × Bpdu))
-    → Happens event (firings_at old) old new settled flush → sent ≡ sent_from 1 new.ports → BridgeGoes event old new flush sent
+    → Happens event (firings_at old) old new settled flush → sent ≡ sent_from 1 new.ports
+    → BridgeGoes event old new flush sent
 goes_by event old new settled flush sent happens slots = record { settled = settled; happens = happens; slots = slots }

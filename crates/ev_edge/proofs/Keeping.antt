@@ -1,5 +1,6 @@
 -- An edge stays good when what it claims changes.
-use Rattle.std.proofs.Common.{◌≡◌, ℕ, ◌+◌, ◌≤◌, ◌^◌, Bool, true, false, cond, Result, Ok, Err, List, [], ◌∷◌, length, refl, sym, ap, subst, ◌∙◌, arith}
+use Rattle.std.proofs.Common.{◌≡◌, ℕ, ◌+◌, ◌≤◌, ◌^◌, Bool, true, false, cond, Result, Ok, Err, List, [], ◌∷◌, length}
+use Rattle.std.proofs.Common.{refl, sym, ap, subst, ◌∙◌, arith}
 use Rattle.std.specs.Prelude.{OnOk, OnErr, nat_le, ◌==◌, ◌-◌}
 use Rattle.std.proofs.lemmas.Bool.Decides.{nat_tests}
 use Rattle.ether_wire.specs.Names.{is_group}
@@ -10,7 +11,8 @@ use Rattle.mac_arena.specs.declared.station.Station.{Station}
 use Rattle.mac_arena.proofs.Looking.{learn_entry, pin_entry}
 use Rattle.mac_arena.proofs.Values.{latest_learn, latest_pin, latest_later, chains_learn, chains_pin}
 use Rattle.mac_arena.specs.Learning.{learnt_of}
-use Rattle.ev_claims.specs.Claims.{Claims, after_removals, after_removal, after_update, after_losing, after_take, after_refresh, after_shift, after_announcement, is_lost}
+use Rattle.ev_claims.specs.Claims.{Claims, after_removals, after_removal, after_update, after_losing, after_take}
+use Rattle.ev_claims.specs.Claims.{after_refresh, after_shift, after_announcement, is_lost}
 use Rattle.ev_edge.specs.Edge.{Edge, IsEdge}
 use Rattle.std.specs.FinMap.{FinMap}
 use Rattle.mac_arena.specs.Station.{station_cmp}
@@ -22,7 +24,13 @@ use Rattle.ev_edge.specs.Bridging.{next_second, aged}
 use Rattle.ev_edge.proofs.Owning.{Holds, changed_individual, some_bucket, removals_hold}
 
 pub holds_of : (e : Edge) (passing : ℕ) → IsEdge e passing → Holds e.claims e.clock
-holds_of e passing h = record { owns = h.keeps.owns; latest = h.keeps.latest; individual = h.keeps.individual; served = h.keeps.served; buckets = h.keeps.buckets }
+holds_of e passing h = record {
+  owns = h.keeps.owns;
+  latest = h.keeps.latest;
+  individual = h.keeps.individual;
+  served = h.keeps.served;
+  buckets = h.keeps.buckets;
+}
 
 -- ---- the same ports
 pub removals_ports : (c : Claims) (ss : List Station) → (after_removals c ss).ports ≡ c.ports
@@ -41,53 +49,94 @@ taken_ports c u = go u.register.key
     go (Mac v m ip) = pick (record { vni = v; mac = m }) (is_lost (after_update c u) (record { vni = v; mac = m }))
 
 -- ---- other claims
-pub kept : (e : Edge) (passing : ℕ) (c d : Claims) → IsEdge e passing → d ≡ c → Holds c e.clock → c.ports ≡ e.claims.ports → IsEdge (record e { claims = d }) passing
+pub kept : (e : Edge) (passing : ℕ) (c d : Claims) → IsEdge e passing → d ≡ c → Holds c e.clock
+    → c.ports ≡ e.claims.ports → IsEdge (record e { claims = d }) passing
 kept e passing c d h is holds ports = subst (λ x. IsEdge (record e { claims = x }) passing) (sym is) (record {
-  keeps = record { owns = holds.owns; latest = holds.latest; individual = holds.individual; served = holds.served; buckets = holds.buckets; ports = h.keeps.ports ∙ sym (ap length ports); early = h.keeps.early };
+  keeps = record {
+    owns = holds.owns;
+    latest = holds.latest;
+    individual = holds.individual;
+    served = holds.served;
+    buckets = holds.buckets;
+    ports = h.keeps.ports ∙ sym (ap length ports);
+    early = h.keeps.early;
+  };
   exact = h.exact;
 })
 
-pub either : {X E : Type 0} (e : Edge) (passing : ℕ) (c d : Claims) (r : Result X E) → IsEdge e passing → OnOk r (d ≡ c) → OnErr r (d ≡ e.claims) → Holds c e.clock → c.ports ≡ e.claims.ports
+pub either : {X E : Type 0} (e : Edge) (passing : ℕ) (c d : Claims) (r : Result X E) → IsEdge e passing → OnOk r (d ≡ c)
+    → OnErr r (d ≡ e.claims) → Holds c e.clock → c.ports ≡ e.claims.ports
     → IsEdge (record e { claims = d }) passing
 either e passing c d (Ok x) h ok err holds ports = kept e passing c d h ok holds ports
 either e passing c d (Err x) h ok err holds ports = kept e passing e.claims d h err (holds_of e passing h) refl
 
-pub refresh_holds : (c : Claims) (s : Station) (port second : ℕ) → is_group s.mac ≡ false → Holds c second → Holds (after_refresh c s port second) second
+pub refresh_holds : (c : Claims) (s : Station) (port second : ℕ) → is_group s.mac ≡ false → Holds c second
+    → Holds (after_refresh c s port second) second
 refresh_holds c s port second single h = record {
   owns = h.owns;
   latest = latest_learn c.learned s port second (learnt_of c.learned s port) h.latest;
-  individual = changed_individual c.learned (after_refresh c s port second).learned s _ (learn_entry c.learned s port second (learnt_of c.learned s port)) (λ some. single) h.individual;
+  individual = changed_individual c.learned (after_refresh c s port second).learned s _
+      (learn_entry c.learned s port second (learnt_of c.learned s port)) (λ some. single) h.individual;
   served = h.served;
-  buckets = some_bucket c.learned (after_refresh c s port second).learned (chains_learn c.learned s port second (learnt_of c.learned s port)) h.buckets;
+  buckets = some_bucket c.learned (after_refresh c s port second).learned
+      (chains_learn c.learned s port second (learnt_of c.learned s port)) h.buckets;
 }
 
-pub shift_holds : (c : Claims) (s : Station) (port second : ℕ) → is_group s.mac ≡ false → Holds c second → Holds (after_shift c s port) second
+pub shift_holds : (c : Claims) (s : Station) (port second : ℕ) → is_group s.mac ≡ false → Holds c second
+    → Holds (after_shift c s port) second
 shift_holds c s port second single h = record {
   owns = h.owns;
   latest = latest_pin c.learned s port second h.latest;
-  individual = changed_individual c.learned (after_shift c s port).learned s _ (pin_entry c.learned s port) (λ some. single) h.individual;
+  individual = changed_individual c.learned (after_shift c s port).learned s _ (pin_entry c.learned s port)
+      (λ some. single) h.individual;
   served = h.served;
   buckets = some_bucket c.learned (after_shift c s port).learned (chains_pin c.learned s port) h.buckets;
 }
 
 -- an announcement
 pub announced_holds : (c : Claims) (second : ℕ) → Holds c second → Holds (after_announcement c) second
-announced_holds c second h = record { owns = h.owns; latest = h.latest; individual = h.individual; served = h.served; buckets = h.buckets }
+announced_holds c second h = record {
+  owns = h.owns;
+  latest = h.latest;
+  individual = h.individual;
+  served = h.served;
+  buckets = h.buckets;
+}
 
 -- other windows
-pub other_windows : (e : Edge) (passing : ℕ) (windows : FinMap station_cmp Window) → IsEdge e passing → IsEdge (record e { windows = windows }) passing
+pub other_windows : (e : Edge) (passing : ℕ) (windows : FinMap station_cmp Window) → IsEdge e passing
+    → IsEdge (record e { windows = windows }) passing
 other_windows e passing windows h = record {
-  keeps = record { owns = h.keeps.owns; latest = h.keeps.latest; individual = h.keeps.individual; served = h.keeps.served; buckets = h.keeps.buckets; ports = h.keeps.ports; early = h.keeps.early };
+  keeps = record {
+    owns = h.keeps.owns;
+    latest = h.keeps.latest;
+    individual = h.keeps.individual;
+    served = h.keeps.served;
+    buckets = h.keeps.buckets;
+    ports = h.keeps.ports;
+    early = h.keeps.early;
+  };
   exact = h.exact;
 }
 
 -- ---- the bridge goes on
-pub bridged : (e : Edge) (was passing clock : ℕ) (tree : Tree) (c d : Claims) → IsEdge e was → length tree.ports ≡ length e.tree.ports → ArePassing tree passing → clock ≤ 2 ^ 63 → d ≡ c → Holds c clock → c.ports ≡ e.claims.ports
+pub bridged : (e : Edge) (was passing clock : ℕ) (tree : Tree) (c d : Claims) → IsEdge e was
+    → length tree.ports ≡ length e.tree.ports → ArePassing tree passing → clock ≤ 2 ^ 63 → d ≡ c → Holds c clock
+    → c.ports ≡ e.claims.ports
     → IsEdge (record e { tree = tree; clock = clock; claims = d }) passing
-bridged e was passing clock tree c d h size exact early is holds ports = subst (λ x. IsEdge (record e { tree = tree; clock = clock; claims = x }) passing) (sym is) (record {
-  keeps = record { owns = holds.owns; latest = holds.latest; individual = holds.individual; served = holds.served; buckets = holds.buckets; ports = size ∙ h.keeps.ports ∙ sym (ap length ports); early = early };
-  exact = exact;
-})
+bridged e was passing clock tree c d h size exact early is holds ports =
+    subst (λ x. IsEdge (record e { tree = tree; clock = clock; claims = x }) passing) (sym is) (record {
+      keeps = record {
+        owns = holds.owns;
+        latest = holds.latest;
+        individual = holds.individual;
+        served = holds.served;
+        buckets = holds.buckets;
+        ports = size ∙ h.keeps.ports ∙ sym (ap length ports);
+        early = early;
+      };
+      exact = exact;
+    })
 
 pub second_early : (clock : ℕ) → clock ≤ 2 ^ 63 → (clock ≤ next_second clock) × (next_second clock ≤ 2 ^ 63)
 second_early clock low = go (clock == 2 ^ 63) refl
@@ -97,7 +146,13 @@ second_early clock low = go (clock == 2 ^ 63) refl
     go false e = (omega arith, grind (arith, nat_tests))
 
 pub later_holds : (c : Claims) (second later : ℕ) → second ≤ later → Holds c second → Holds c later
-later_holds c second later less h = record { owns = h.owns; latest = latest_later c.learned second later less h.latest; individual = h.individual; served = h.served; buckets = h.buckets }
+later_holds c second later less h = record {
+  owns = h.owns;
+  latest = latest_later c.learned second later less h.latest;
+  individual = h.individual;
+  served = h.served;
+  buckets = h.buckets;
+}
 
 pub flush_holds : (c : Claims) (set second : ℕ) → Holds c second → Holds (after_flush c set) second
 flush_holds c set second h = removals_hold c (flushed_in c.learned set) second h

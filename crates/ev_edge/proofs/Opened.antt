@@ -1,5 +1,6 @@
 -- An edge that is opened is good: it advertises no station, has heard none, and no port passes.
-use Rattle.std.proofs.Common.{◌≡◌, ℕ, zero, suc, ◌+◌, ◌-◌, true, false, Option, Some, None, List, [], ◌∷◌, length, refl, sym, ap, subst, ◌∙◌, arith}
+use Rattle.std.proofs.Common.{◌≡◌, ℕ, zero, suc, ◌+◌, ◌-◌, true, false, Option, Some, None, List, [], ◌∷◌, length, refl}
+use Rattle.std.proofs.Common.{sym, ap, subst, ◌∙◌, arith}
 use Rattle.std.specs.Prelude.{IsSome, Contains, replicate, ◌<◌, ◌&&◌}
 use Rattle.std.proofs.lemmas.List.{length-replicate}
 use Rattle.std.proofs.lemmas.List.Sorted.{Contains-permutation}
@@ -37,34 +38,41 @@ floods_address : (e : Voice) (vs : List ℕ) → (after_floods e vs).address ≡
 floods_address e [] = refl
 floods_address e (v ∷ vs) = floods_address (after_saying e (Flood v) (Advertised flood_advert)) vs
 
-floods_silent : (e : Voice) (vs : List ℕ) (s : Station) → own_advert (after_floods e vs) (key_of s) ≡ own_advert e (key_of s)
+floods_silent : (e : Voice) (vs : List ℕ) (s : Station)
+    → own_advert (after_floods e vs) (key_of s) ≡ own_advert e (key_of s)
 floods_silent e [] s = refl
 floods_silent e (v ∷ vs) s =
     floods_silent (after_saying e (Flood v) (Advertised flood_advert)) vs s
-    ∙ said_other e (Flood v) (Advertised flood_advert) (key_of s) e.address (λ same. let both : Mac s.vni s.mac None ≡ Flood v = same in cc)
+    ∙ said_other e (Flood v) (Advertised flood_advert) (key_of s) e.address
+    (λ same. let both : Mac s.vni s.mac None ≡ Flood v = same in cc)
 
-nothing_said : (address incarnation : ℕ) (originators vs : List ℕ) (s : Station) → own_advert (after_floods (silent address incarnation originators) vs) (key_of s) ≡ None
+nothing_said : (address incarnation : ℕ) (originators vs : List ℕ) (s : Station)
+    → own_advert (after_floods (silent address incarnation originators) vs) (key_of s) ≡ None
 nothing_said address incarnation originators vs s =
-    floods_silent (silent address incarnation originators) vs s ∙ ap advert_of (get-empty {X = Value} register_cmp (register_of address (key_of s)))
+    floods_silent (silent address incarnation originators) vs s
+    ∙ ap advert_of (get-empty {X = Value} register_cmp (register_of address (key_of s)))
 
 never_some : (o : Option Advert) → o ≡ None → IsSome o → ⊥
 never_some None is some = cc
 never_some (Some a) is some = cc
 
 -- ---- no port is up
-down : (settings : Settings) (ports : List PortSettings) (n k : ℕ) → test_at k (λ port. port.enabled && port.forwarding) (ports_from n settings ports) ≡ false
+down : (settings : Settings) (ports : List PortSettings) (n k : ℕ)
+    → test_at k (λ port. port.enabled && port.forwarding) (ports_from n settings ports) ≡ false
 down settings [] n k = refl
 down settings (p ∷ ports) n zero = refl
 down settings (p ∷ ports) n (suc k) = down settings ports (n + 1) k
 
-ports_length : (settings : Settings) (ports : List PortSettings) (n : ℕ) → length (ports_from n settings ports) ≡ length ports
+ports_length : (settings : Settings) (ports : List PortSettings) (n : ℕ)
+    → length (ports_from n settings ports) ≡ length ports
 ports_length settings [] n = refl
 ports_length settings (p ∷ ports) n = ap suc (ports_length settings ports (n + 1))
 
 none_passing : (settings : Settings) (ports : List PortSettings) → ArePassing (start settings ports) 0
 none_passing settings ports p = (
   λ h. absurd (let no : false ≡ true = sym (has_port-none p) ∙ h in cc),
-  λ h. absurd (let up : test_at (p - 1) (λ port. port.enabled && port.forwarding) (ports_from 1 settings ports) ≡ true = h.1.1 in let no : false ≡ true = sym (down settings ports 1 (p - 1)) ∙ up in cc),
+  λ h. absurd (let up : test_at (p - 1) (λ port. port.enabled && port.forwarding) (ports_from 1 settings ports) ≡ true =
+      h.1.1 in let no : false ≡ true = sym (down settings ports 1 (p - 1)) ∙ up in cc),
 )
 
 abbrev none_there : List Station
@@ -72,23 +80,33 @@ none_there = []
 
 -- nobody is learnt
 nobody_individual : (s : Start) (c : Claims) → IsOpening s c → AreIndividual c.learned
-nobody_individual s c h = subst AreIndividual (sym h.learned) (λ r some. absurd (never_learnt (entry_at (nothing_learnt s.capacity (length s.ports.items) s.buckets s.salt) r) (get-empty {X = Entry} station_cmp r) some))
+nobody_individual s c h = subst AreIndividual (sym h.learned)
+    (λ r some. absurd (never_learnt (entry_at (nothing_learnt s.capacity (length s.ports.items) s.buckets s.salt) r)
+    (get-empty {X = Entry} station_cmp r) some))
   where
     never_learnt : (o : Option Entry) → o ≡ None → IsSome o → ⊥
     never_learnt None is some = cc
     never_learnt (Some a) is some = cc
 
-pub opened : (s : Start) (c : Claims) (settings : Settings) (ports : List PortSettings) (ageing : ℕ) (tree : Tree) (moves : Moves) → IsOpening s c → tree ≡ start settings ports → length s.ports.items ≡ length ports
-    → ((v : ℕ) → Contains s.ports.items v → Contains s.vnis.items v) → 0 < s.buckets → IsEdge (edge_of c 0 ageing tree moves) 0
-opened s c settings ports ageing tree moves h is size serves some = subst (λ t. IsEdge (edge_of c 0 ageing t moves) 0) (sym is) (record {
-  keeps = record {
-    owns = λ r some. absurd (never_some (own_advert c.voice (key_of r)) (ap (λ v. own_advert v (key_of r)) h.voice ∙ nothing_said s.address s.incarnation s.originators.items c.vnis r) some);
-    latest = subst (λ l. IsLatest l 0) (sym h.learned) (latest_nothing s.capacity (length s.ports.items) s.buckets s.salt 0);
-    individual = nobody_individual s c h;
-    served = λ v in'. Contains-permutation s.vnis.items c.vnis v h.vnis (serves v (subst (λ l. Contains l v) h.ports in'));
-    buckets = subst (λ (l : Learning). 0 < length l.chains) (sym h.learned) (let many : length (replicate s.buckets none_there) ≡ s.buckets = length-replicate s.buckets none_there in omega (arith, many, some));
-    ports = ports_length settings ports 1 ∙ sym size ∙ sym (ap length h.ports);
-    early = omega arith;
-  };
-  exact = none_passing settings ports;
-})
+pub opened : (s : Start) (c : Claims) (settings : Settings) (ports : List PortSettings) (ageing : ℕ) (tree : Tree)
+    (moves : Moves) → IsOpening s c → tree ≡ start settings ports → length s.ports.items ≡ length ports
+    → ((v : ℕ) → Contains s.ports.items v → Contains s.vnis.items v) → 0 < s.buckets
+    → IsEdge (edge_of c 0 ageing tree moves) 0
+opened s c settings ports ageing tree moves h is size serves some =
+    subst (λ t. IsEdge (edge_of c 0 ageing t moves) 0) (sym is) (record {
+      keeps = record {
+        owns = λ r some. absurd (never_some (own_advert c.voice (key_of r)) (ap (λ v. own_advert v (key_of r)) h.voice
+            ∙ nothing_said s.address s.incarnation s.originators.items c.vnis r) some);
+        latest = subst (λ l. IsLatest l 0) (sym h.learned) (latest_nothing s.capacity (length s.ports.items) s.buckets
+            s.salt 0);
+        individual = nobody_individual s c h;
+        served = λ v in'. Contains-permutation s.vnis.items c.vnis v h.vnis
+            (serves v (subst (λ l. Contains l v) h.ports in'));
+        buckets = subst (λ (l : Learning). 0 < length l.chains) (sym h.learned)
+            (let many : length (replicate s.buckets none_there) ≡ s.buckets = length-replicate s.buckets none_there in
+            omega (arith, many, some));
+        ports = ports_length settings ports 1 ∙ sym size ∙ sym (ap length h.ports);
+        early = omega arith;
+      };
+      exact = none_passing settings ports;
+    })

@@ -1,5 +1,6 @@
 -- An edge owns what it advertises, and has heard no station later than now, through each change of what it claims.
-use Rattle.std.proofs.Common.{◌≡◌, ◌≢◌, inl, inr, ℕ, ◌<◌, Bool, true, false, cond, not, Option, Some, None, List, [], ◌∷◌, length, refl, sym, ap, subst, ◌∙◌, arith}
+use Rattle.std.proofs.Common.{◌≡◌, ◌≢◌, inl, inr, ℕ, ◌<◌, Bool, true, false, cond, not, Option, Some, None, List, []}
+use Rattle.std.proofs.Common.{◌∷◌, length, refl, sym, ap, subst, ◌∙◌, arith}
 use Rattle.std.specs.Prelude.{IsSome, is_some, ◌&&◌, MatchOption}
 use Rattle.std.proofs.lemmas.Bool.Decides.{nat_tests}
 use Rattle.ether_wire.specs.Names.{is_group}
@@ -24,7 +25,8 @@ use Rattle.mac_arena.proofs.Entries.{same_or_other}
 use Rattle.mac_arena.proofs.Looking.{removal_entry}
 use Rattle.mac_arena.proofs.Values.{latest_removal, chains_removal}
 use Rattle.ev_claims.specs.Voice.{Voice, own_register, own_advert, is_at, next_value, after_saying}
-use Rattle.ev_claims.specs.Claims.{Claims, key_of, after_removal, after_removals, after_update, after_losing_at, after_losing, after_take, is_lost}
+use Rattle.ev_claims.specs.Claims.{Claims, key_of, after_removal, after_removals, after_update, after_losing_at}
+use Rattle.ev_claims.specs.Claims.{after_losing, after_take, is_lost}
 use Rattle.ev_edge.specs.Edge.{OwnsAt, AreIndividual, ServesPorts}
 
 -- ---- another key is said
@@ -34,13 +36,17 @@ other_key r s i j ne e =
     let macs : r.mac ≡ s.mac = cc in
     ne (λ k. record { vni = vnis k; mac = macs k })
 
-pub said_other : (e : Voice) (k : Key) (c : Content) (j : Key) (o : ℕ) → j ≢ k → advert_at (after_saying e k c).table o j ≡ advert_at e.table o j
-said_other e k c j o ne = ap advert_of (at_other e.table (own_register e k) (next_value e c) (register_of o j) (λ h. ne (ap (λ (q : Register). q.key) h)))
+pub said_other : (e : Voice) (k : Key) (c : Content) (j : Key) (o : ℕ) → j ≢ k
+    → advert_at (after_saying e k c).table o j ≡ advert_at e.table o j
+said_other e k c j o ne = ap advert_of (at_other e.table (own_register e k) (next_value e c) (register_of o j)
+    (λ h. ne (ap (λ (q : Register). q.key) h)))
 
 -- a station whose key isn't said, by whatever IP address, is owned as it was
-pub saying_owns : (c : Claims) (k : Key) (content : Content) (r : Station) → ((j : Option Ip) → Mac r.vni r.mac j ≢ k) → OwnsAt c r → OwnsAt (record c { voice = after_saying c.voice k content }) r
+pub saying_owns : (c : Claims) (k : Key) (content : Content) (r : Station) → ((j : Option Ip) → Mac r.vni r.mac j ≢ k)
+    → OwnsAt c r → OwnsAt (record c { voice = after_saying c.voice k content }) r
 saying_owns c k content r ne h some =
-    owner_along c.voice.table (after_saying c.voice k content).table r.vni r.mac c.voice.address (λ o j. sym (said_other c.voice k content (Mac r.vni r.mac j) o (ne j)))
+    owner_along c.voice.table (after_saying c.voice k content).table r.vni r.mac c.voice.address
+    (λ o j. sym (said_other c.voice k content (Mac r.vni r.mac j) o (ne j)))
     (h (subst IsSome (said_other c.voice k content (key_of r) c.voice.address (ne None)) some))
 
 -- ---- a removal
@@ -49,9 +55,11 @@ never_some None is some = cc
 never_some (Some a) is some = cc
 
 removed_owns : (c : Claims) (s : Station) → OwnsAt (after_removal c s) s
-removed_owns c s some = absurd (never_some (own_advert (after_removal c s).voice (key_of s)) (ap advert_of (at_same c.voice.table (own_register c.voice (key_of s)) (next_value c.voice Withdrawn))) some)
+removed_owns c s some = absurd (never_some (own_advert (after_removal c s).voice (key_of s))
+    (ap advert_of (at_same c.voice.table (own_register c.voice (key_of s)) (next_value c.voice Withdrawn))) some)
 
-pub removal_owns : (c : Claims) (s : Station) → ((r : Station) → r ≢ s → OwnsAt c r) → (r : Station) → OwnsAt (after_removal c s) r
+pub removal_owns : (c : Claims) (s : Station) → ((r : Station) → r ≢ s → OwnsAt c r) → (r : Station)
+    → OwnsAt (after_removal c s) r
 removal_owns c s others r = elim (same_or_other r s) as (λ _. OwnsAt (after_removal c s) r) [
   | inl same ↦ subst (OwnsAt (after_removal c s)) (sym same) (removed_owns c s)
   | inr ne ↦ saying_owns c (key_of s) Withdrawn r (λ j. other_key r s j None ne) (others r ne)
@@ -60,9 +68,11 @@ removal_owns c s others r = elim (same_or_other r s) as (λ _. OwnsAt (after_rem
 -- ---- several removals
 
 -- no group address is learnt, where one entry changes
-pub changed_individual : (t t' : Learning) (s : Station) (o : Option Entry) → ChangesEntry t t' s o → (IsSome o → is_group s.mac ≡ false) → AreIndividual t → AreIndividual t'
+pub changed_individual : (t t' : Learning) (s : Station) (o : Option Entry) → ChangesEntry t t' s o
+    → (IsSome o → is_group s.mac ≡ false) → AreIndividual t → AreIndividual t'
 changed_individual t t' s o change free h r some = elim (same_or_other r s) as (λ _. is_group r.mac ≡ false) [
-  | inl same ↦ subst (λ (q : Station). is_group q.mac ≡ false) (sym same) (free (subst IsSome change.here (subst (λ q. IsSome (entry_at t' q)) same some)))
+  | inl same ↦ subst (λ (q : Station). is_group q.mac ≡ false) (sym same)
+      (free (subst IsSome change.here (subst (λ q. IsSome (entry_at t' q)) same some)))
   | inr ne ↦ h r (subst IsSome (change.others r ne) some)
 ]
 
@@ -97,19 +107,25 @@ removals_hold c [] second h = h
 removals_hold c (s ∷ ss) second h = removals_hold (after_removal c s) ss second (removal_holds c s second h)
 
 -- ---- another's update
-update_stays : (t : Table) (u : Fields) (k : Key) (o : ℕ) → k ≢ u.register.key → advert_at (with_update t u) o k ≡ advert_at t o k
-update_stays t u k o ne = ap advert_of (others_stay t u (register_of o k) (λ same. ne (ap (λ (r : Register). r.key) same)))
+update_stays : (t : Table) (u : Fields) (k : Key) (o : ℕ) → k ≢ u.register.key
+    → advert_at (with_update t u) o k ≡ advert_at t o k
+update_stays t u k o ne = ap advert_of (others_stay t u (register_of o k)
+    (λ same. ne (ap (λ (r : Register). r.key) same)))
 
-elsewhere : (c : Claims) (u : Fields) (r : Station) → ((j : Option Ip) → Mac r.vni r.mac j ≢ u.register.key) → OwnsAt c r → OwnsAt (after_update c u) r
+elsewhere : (c : Claims) (u : Fields) (r : Station) → ((j : Option Ip) → Mac r.vni r.mac j ≢ u.register.key)
+    → OwnsAt c r → OwnsAt (after_update c u) r
 elsewhere c u r ne h some =
-    owner_along c.voice.table (with_update c.voice.table u) r.vni r.mac c.voice.address (λ o j. sym (update_stays c.voice.table u (Mac r.vni r.mac j) o (ne j)))
+    owner_along c.voice.table (with_update c.voice.table u) r.vni r.mac c.voice.address
+    (λ o j. sym (update_stays c.voice.table u (Mac r.vni r.mac j) o (ne j)))
     (h (subst IsSome (update_stays c.voice.table u (key_of r) c.voice.address (ne None)) some))
 
 -- an edge that isn't beaten is the owner
 not_lost : (c : Claims) (s : Station) → is_lost c s ≡ false → OwnsAt c s
-not_lost c s h some = go (owner c.voice.table s.vni s.mac) (at (own_advert c.voice (key_of s)) some h) (owner_is c.voice.table s.vni s.mac)
+not_lost c s h some = go (owner c.voice.table s.vni s.mac) (at (own_advert c.voice (key_of s)) some h)
+    (owner_is c.voice.table s.vni s.mac)
   where
-    at : (o : Option Advert) → IsSome o → (is_some o && not (is_at (owner c.voice.table s.vni s.mac) c.voice.address)) ≡ false → is_at (owner c.voice.table s.vni s.mac) c.voice.address ≡ true
+    at : (o : Option Advert) → IsSome o → (is_some o && not (is_at (owner c.voice.table s.vni s.mac) c.voice.address))
+        ≡ false → is_at (owner c.voice.table s.vni s.mac) c.voice.address ≡ true
     at None some h = cc
     at (Some a) some h = tests (is_at (owner c.voice.table s.vni s.mac) c.voice.address) h
       where
@@ -117,11 +133,16 @@ not_lost c s h some = go (owner c.voice.table s.vni s.mac) (at (own_advert c.voi
         tests true e = refl
         tests false e = absurd cc
 
-    go : (o : Option ℕ) → is_at o c.voice.address ≡ true → MatchOption o (IsUnowned c.voice.table s.vni s.mac) (IsOwner c.voice.table s.vni s.mac) → IsOwner c.voice.table s.vni s.mac c.voice.address
+    go : (o : Option ℕ) → is_at o c.voice.address ≡ true
+        → MatchOption o (IsUnowned c.voice.table s.vni s.mac) (IsOwner c.voice.table s.vni s.mac)
+        → IsOwner c.voice.table s.vni s.mac c.voice.address
     go None p q = cc
-    go (Some o) p q = let same : o ≡ c.voice.address = grind (arith, nat_tests) in subst (IsOwner c.voice.table s.vni s.mac) same q
+    go (Some o) p q = let same : o ≡ c.voice.address = grind (arith, nat_tests) in
+        subst (IsOwner c.voice.table s.vni s.mac) same q
 
-losing_holds : (c : Claims) (s : Station) (second : ℕ) → ((r : Station) → r ≢ s → OwnsAt c r) → IsLatest c.learned second → AreIndividual c.learned → ServesPorts c → 0 < length c.learned.chains → Holds (after_losing_at c s) second
+losing_holds : (c : Claims) (s : Station) (second : ℕ) → ((r : Station) → r ≢ s → OwnsAt c r)
+    → IsLatest c.learned second → AreIndividual c.learned → ServesPorts c → 0 < length c.learned.chains
+    → Holds (after_losing_at c s) second
 losing_holds c s second others latest single served buckets = go (is_lost c s) refl
   where
     go : (x : Bool) → is_lost c s ≡ x → Holds (cond x (after_removal c s) c) second
@@ -133,7 +154,11 @@ losing_holds c s second others latest single served buckets = go (is_lost c s) r
       buckets = some_bucket c.learned (gone c.learned s) (chains_removal c.learned s) buckets;
     }
     go false lost = record {
-      owns = λ r. elim (same_or_other r s) as (λ _. OwnsAt c r) [ inl same ↦ subst (OwnsAt c) (sym same) (not_lost c s lost) | inr ne ↦ others r ne ];
+      owns = λ r. elim (same_or_other r s) as (λ _. OwnsAt c r) [
+        | inl same ↦
+            subst (OwnsAt c) (sym same) (not_lost c s lost)
+        | inr ne ↦ others r ne
+      ];
       latest = latest;
       individual = single;
       served = served;
@@ -144,6 +169,15 @@ pub taken_holds : (c : Claims) (u : Fields) (second : ℕ) → Holds c second �
 taken_holds c u second h = go u.register.key refl
   where
     go : (k : Key) → u.register.key ≡ k → Holds (after_losing (after_update c u) k) second
-    go (Flood v) key = record { owns = λ r. elsewhere c u r (λ j q. let both : Mac r.vni r.mac j ≡ Flood v = q ∙ key in cc) (h.owns r); latest = h.latest; individual = h.individual; served = h.served; buckets = h.buckets }
+    go (Flood v) key = record {
+      owns = λ r. elsewhere c u r (λ j q. let both : Mac r.vni r.mac j ≡ Flood v = q ∙ key in
+          cc) (h.owns r);
+      latest = h.latest;
+      individual = h.individual;
+      served = h.served;
+      buckets = h.buckets;
+    }
     go (Mac v m ip) key =
-        losing_holds (after_update c u) (record { vni = v; mac = m }) second (λ r ne. elsewhere c u r (λ j q. other_key r (record { vni = v; mac = m }) j ip ne (q ∙ key)) (h.owns r)) h.latest h.individual h.served h.buckets
+        losing_holds (after_update c u) (record { vni = v; mac = m }) second
+        (λ r ne. elsewhere c u r (λ j q. other_key r (record { vni = v; mac = m }) j ip ne (q ∙ key)) (h.owns r))
+        h.latest h.individual h.served h.buckets

@@ -1,5 +1,6 @@
 -- The set of the ports that pass, by a walk over all ports.
-use Rattle.std.proofs.Common.{◌≡◌, ◌≢◌, ◌⊎◌, inl, inr, ℕ, ◌+◌, ◌≤◌, Bool, true, false, eqb, ◌||◌, refl, sym, ap, subst, ◌∙◌, arith}
+use Rattle.std.proofs.Common.{◌≡◌, ◌≢◌, ◌⊎◌, inl, inr, ℕ, ◌+◌, ◌≤◌, Bool, true, false, eqb, ◌||◌, refl, sym, ap, subst}
+use Rattle.std.proofs.Common.{◌∙◌, arith}
 use Rattle.std.specs.Prelude.{length}
 use Rattle.std.proofs.lemmas.Bool.{eq-eqb}
 use Rattle.std.proofs.lemmas.Bool.Decides.{nat_tests}
@@ -38,16 +39,19 @@ upto_more s n set more upto adds = record {
       where
         go : (b : Bool) → eqb p (n + 1) ≡ b → (p ≤ n) ⊎ (p ≡ n + 1)
         go true e = inr (grind (arith, nat_tests))
-        go false e = inl (let ne : p ≢ n + 1 = λ same. (let yes = eq-eqb p (n + 1) same in cc) in omega (arith, low, ne))
+        go false e = inl (let ne : p ≢ n + 1 = λ same. (let yes = eq-eqb p (n + 1) same in cc) in
+            omega (arith, low, ne))
 
 pub upto_all : (s : Tree) (set : ℕ) → Upto s (length s.ports) set → ArePassing s set
 upto_all s set upto p = (λ h. (let o = upto.only p h in ((o.0, o.1), o.2)), λ h. upto.all p h.0.0 h.0.1 h.1)
 
 -- ---- one port
-pub adds_yes : (s : Tree) (set port more : ℕ) → Passes s port → ((p : ℕ) → has_port more p ≡ (eqb port p || has_port set p)) → AddsPassing s set port more
+pub adds_yes : (s : Tree) (set port more : ℕ) → Passes s port
+    → ((p : ℕ) → has_port more p ≡ (eqb port p || has_port set p)) → AddsPassing s set port more
 adds_yes s set port more passes ports p = (λ h. go (eqb port p) refl (sym (ports p) ∙ h), λ h. ports p ∙ back h)
   where
-    go : (b : Bool) → eqb port p ≡ b → (b || has_port set p) ≡ true → (has_port set p ≡ true) ⊎ ((port ≡ p) × Passes s p)
+    go : (b : Bool) → eqb port p ≡ b → (b || has_port set p) ≡ true
+        → (has_port set p ≡ true) ⊎ ((port ≡ p) × Passes s p)
     go true e h = let same : port ≡ p = grind (arith, nat_tests) in inr (same, subst (Passes s) same passes)
     go false e h = inl h
 

@@ -1,5 +1,6 @@
 -- Ports that are there are ports.
-use Rattle.std.proofs.Common.{◌≡◌, ℕ, zero, suc, ◌≤◌, ◌<◌, Bool, false, eqb, ◌||◌, Some, List, [], ◌∷◌, length, Contains, refl, sym, ap, arith}
+use Rattle.std.proofs.Common.{◌≡◌, ℕ, zero, suc, ◌≤◌, ◌<◌, Bool, false, eqb, ◌||◌, Some, List, [], ◌∷◌, length}
+use Rattle.std.proofs.Common.{Contains, refl, sym, ap, arith}
 use Rattle.std.proofs.lemmas.Bool.{eq-eqb}
 use Rattle.std.proofs.lemmas.Bool.Decides.{nat_tests}
 use Rattle.std.specs.List.{list_any}
@@ -19,14 +20,16 @@ there_port ports (suc l) h = let less = get_within ports l h in (omega arith, om
 
 -- ports of an edge are ports of sets, too
 pub set_port : (ports : List ℕ) (p v : ℕ) → length ports ≤ 64 → vni_at ports p ≡ Some v → ports_of_sets.IsPort p
-set_port ports p v few is = let there = there_port ports p (ap is_some is) in record { least = there.0; most = (let low = there.1 in omega (arith, low, few)) }
+set_port ports p v few is = let there = there_port ports p (ap is_some is) in
+    record { least = there.0; most = (let low = there.1 in omega (arith, low, few)) }
 
 -- ---- whether a number is in a list
 any_contains : (xs : List ℕ) (q : ℕ) → list_any (λ v. eqb v q) xs ≡ true → Contains xs q
 any_contains [] q e = cc
 any_contains (x ∷ xs) q e = go (eqb x q) refl e (any_contains xs q)
   where
-    go : (b : Bool) → eqb x q ≡ b → (b || list_any (λ v. eqb v q) xs) ≡ true → (list_any (λ v. eqb v q) xs ≡ true → Contains xs q) → Contains (x ∷ xs) q
+    go : (b : Bool) → eqb x q ≡ b → (b || list_any (λ v. eqb v q) xs) ≡ true
+        → (list_any (λ v. eqb v q) xs ≡ true → Contains xs q) → Contains (x ∷ xs) q
     go true t e later = (0, omega arith, grind (arith, nat_tests))
     go false t e later = let h = later e in (suc h.0, omega (arith, h.1), h.2)
 
@@ -38,7 +41,8 @@ contains_any (x ∷ xs) q c = go (contains_any xs q) c.0 c.1 c.2
     later true e = refl
     later false e = e
 
-    go : (Contains xs q → list_any (λ v. eqb v q) xs ≡ true) → (k : ℕ) → k < length (x ∷ xs) → slice_index_or (x ∷ xs) k q ≡ q → (eqb x q || list_any (λ v. eqb v q) xs) ≡ true
+    go : (Contains xs q → list_any (λ v. eqb v q) xs ≡ true) → (k : ℕ) → k < length (x ∷ xs)
+        → slice_index_or (x ∷ xs) k q ≡ q → (eqb x q || list_any (λ v. eqb v q) xs) ≡ true
     go rest zero less is = ap (λ b. b || list_any (λ v. eqb v q) xs) (eq-eqb x q is)
     go rest (suc k) less is = later (eqb x q) (rest (k, omega (arith, less), is))
 

@@ -1,5 +1,7 @@
 -- An edge stays good at each event: of the relation of edge, event, answer and edge alone.
-use Rattle.std.proofs.Common.{◌≡◌, inl, inr, ℕ, ◌+◌, ◌-◌, ◌<◌, ◌≤◌, ◌^◌, Bool, true, false, cond, eqb, not, ◌&&◌, Option, Some, None, Result, Ok, Err, List, [], ◌∷◌, drop, length, map, refl, sym, ap, subst, ◌∙◌, arith}
+use Rattle.std.proofs.Common.{◌≡◌, inl, inr, ℕ, ◌+◌, ◌-◌, ◌<◌, ◌≤◌, ◌^◌, Bool, true, false, cond, eqb, not, ◌&&◌}
+use Rattle.std.proofs.Common.{Option, Some, None, Result, Ok, Err, List, [], ◌∷◌, drop, length, map, refl, sym, ap}
+use Rattle.std.proofs.Common.{subst, ◌∙◌, arith}
 use Rattle.std.specs.Prelude.{IsSome, nat_le}
 use Rattle.std.specs.FinMap.{FinMap, get}
 use Rattle.std.proofs.lemmas.List.{length-map}
@@ -31,7 +33,8 @@ use Rattle.ev_mobility.specs.declared.seq.Seq.TheVariants.{Next, Static, Spent}
 use Rattle.ev_mobility.specs.declared.window.Window.{Window}
 use Rattle.ev_mobility.specs.Window.{is_frozen, is_fifth}
 use Rattle.ev_mobility.specs.Seq.{seq_for}
-use Rattle.ev_claims.specs.Claims.{Claims, vni_at, after_advert, after_refresh, after_pin, after_shift, after_removal, after_take, after_own, after_announcement}
+use Rattle.ev_claims.specs.Claims.{Claims, vni_at, after_advert, after_refresh, after_pin, after_shift, after_removal}
+use Rattle.ev_claims.specs.Claims.{after_take, after_own, after_announcement}
 use Rattle.ev_claims.specs.Leaving.{after_flush, flushed_in}
 use Rattle.ev_edge.specs.declared.arrival.Arrival.{Arrival}
 use Rattle.ev_edge.specs.declared.arrival.Arrival.TheVariants.{Dropped, Message, Data}
@@ -44,24 +47,32 @@ use Rattle.ev_edge.specs.declared.pinning.PinCase.TheVariants.{Keep, Shift, Deny
 use Rattle.ev_edge.specs.declared.refusal.EdgeRefusal.{EdgeRefusal}
 use Rattle.ev_edge.specs.declared.refusal.Refusal.{Refusal}
 use Rattle.ev_edge.specs.declared.reply.Reply.{Reply}
-use Rattle.ev_edge.specs.Arrival.{frame_arrival, tunnel_arrival, arrival_on, arrival_at, reserved_arrival, message_in, data_in, is_reserved, holds_bpdu, is_up}
+use Rattle.ev_edge.specs.Arrival.{frame_arrival, tunnel_arrival, arrival_on, arrival_at, reserved_arrival, message_in}
+use Rattle.ev_edge.specs.Arrival.{data_in, is_reserved, holds_bpdu, is_up}
 use Rattle.ev_edge.specs.Bridging.{BridgeGoes, next_second, aged}
 use Rattle.ev_edge.specs.Edge.{Edge, IsGoodEdge, table_of, address_of}
-use Rattle.ev_edge.specs.Learning.{is_spent, move_case, numbered_case, new_case, case_at, case_of, moved, needs_register, needs_memory, OrNoMemory, Does}
+use Rattle.ev_edge.specs.Learning.{is_spent, move_case, numbered_case, new_case, case_at, case_of, moved}
+use Rattle.ev_edge.specs.Learning.{needs_register, needs_memory, OrNoMemory, Does}
 use Rattle.ev_edge.specs.Pinning.{is_static, unpinned_case, pin_case_at, pin_case, refused_pin, DoesPin, after_unpin}
-use Rattle.ev_edge.specs.Steps.{Steps, LearnsIf, FrameSteps, TunnelSteps, Bridges, BridgesAt, Seconds, Takes, TakesOther, TakesOwn, Pins}
+use Rattle.ev_edge.specs.Steps.{Steps, LearnsIf, FrameSteps, TunnelSteps, Bridges, BridgesAt, Seconds, Takes}
+use Rattle.ev_edge.specs.Steps.{TakesOther, TakesOwn, Pins}
 use Rattle.ev_edge.proofs.Keeping.{removals_ports, taken_ports, second_early, aged_ports}
 use Rattle.ev_edge.proofs.Winning.{pin_fits, pinned_alone}
-use Rattle.ev_edge.proofs.Staying.{Keeps, keeps_of, good_by, advert_keeps, refresh_keeps, pin_keeps, shift_keeps, removal_keeps, flush_keeps, aged_keeps, later_keeps, other_keeps, own_keeps, announced_keeps}
+use Rattle.ev_edge.proofs.Staying.{Keeps, keeps_of, good_by, advert_keeps, refresh_keeps, pin_keeps, shift_keeps}
+use Rattle.ev_edge.proofs.Staying.{removal_keeps, flush_keeps, aged_keeps, later_keeps, other_keeps, own_keeps}
+use Rattle.ev_edge.proofs.Staying.{announced_keeps}
 
 same_good : (e e' : Edge) → e' ≡ e → IsGoodEdge e → IsGoodEdge e'
 same_good e e' is h = subst IsGoodEdge (sym is) h
 
 -- other claims, of the same ports
-claims_good : (e e' : Edge) (c : Claims) → IsGoodEdge e → Keeps c e.clock → c.ports ≡ e.claims.ports → e' ≡ record e { claims = c } → IsGoodEdge e'
-claims_good e e' c h k ports is = subst IsGoodEdge (sym is) (good_by (record e { claims = c }) k (h.keeps.ports ∙ sym (ap length ports)) h.keeps.early)
+claims_good : (e e' : Edge) (c : Claims) → IsGoodEdge e → Keeps c e.clock → c.ports ≡ e.claims.ports
+    → e' ≡ record e { claims = c } → IsGoodEdge e'
+claims_good e e' c h k ports is = subst IsGoodEdge (sym is)
+    (good_by (record e { claims = c }) k (h.keeps.ports ∙ sym (ap length ports)) h.keeps.early)
 
-windows_good : (e : Edge) (windows : FinMap station_cmp Window) → IsGoodEdge e → IsGoodEdge (record e { windows = windows })
+windows_good : (e : Edge) (windows : FinMap station_cmp Window) → IsGoodEdge e
+    → IsGoodEdge (record e { windows = windows })
 windows_good e windows h = good_by (record e { windows = windows }) (keeps_of e h) h.keeps.ports h.keeps.early
 
 number_left : (c : Claims) → is_spent c ≡ false → c.voice.counter < 2 ^ 63
@@ -97,22 +108,34 @@ case_new e s n is = go (entry_at e.claims.learned s) refl is
     loose true q = cc
     loose false q = cc
 
-    room : (m : ℕ) → entry_at e.claims.learned s ≡ None → seq_for (table_of e) (address_of e) s.vni s.mac ≡ Next m → is_spent e.claims ≡ false
-        → (b : Bool) → is_full e.claims.learned ≡ b → cond b (Refuse TableFull) (move_case (get e.windows s) e.clock m) ≡ Learn n → IsNew e s n
+    room : (m : ℕ) → entry_at e.claims.learned s ≡ None → seq_for (table_of e) (address_of e) s.vni s.mac ≡ Next m
+        → is_spent e.claims ≡ false
+        → (b : Bool) → is_full e.claims.learned ≡ b → cond b (Refuse TableFull) (move_case (get e.windows s) e.clock m)
+        ≡ Learn n → IsNew e s n
     room m at next few true t q = cc
-    room m at next few false t q = record { none = at; room = t; few = few; next = next ∙ ap Next (moved_number (get e.windows s) e.clock m n q) }
+    room m at next few false t q = record {
+      none = at;
+      room = t;
+      few = few;
+      next = next ∙ ap Next (moved_number (get e.windows s) e.clock m n q);
+    }
 
-    spent : (m : ℕ) → entry_at e.claims.learned s ≡ None → seq_for (table_of e) (address_of e) s.vni s.mac ≡ Next m → (b : Bool) → is_spent e.claims ≡ b
-        → cond b (Refuse CounterSpent) (cond (is_full e.claims.learned) (Refuse TableFull) (move_case (get e.windows s) e.clock m)) ≡ Learn n → IsNew e s n
+    spent : (m : ℕ) → entry_at e.claims.learned s ≡ None → seq_for (table_of e) (address_of e) s.vni s.mac ≡ Next m
+        → (b : Bool) → is_spent e.claims ≡ b
+        → cond b (Refuse CounterSpent) (cond (is_full e.claims.learned) (Refuse TableFull)
+        (move_case (get e.windows s) e.clock m)) ≡ Learn n → IsNew e s n
     spent m at next true t q = cc
     spent m at next false t q = room m at next t (is_full e.claims.learned) refl q
 
-    numbered : entry_at e.claims.learned s ≡ None → (q : Seq) → seq_for (table_of e) (address_of e) s.vni s.mac ≡ q → numbered_case e (get e.windows s) q ≡ Learn n → IsNew e s n
+    numbered : entry_at e.claims.learned s ≡ None → (q : Seq) → seq_for (table_of e) (address_of e) s.vni s.mac ≡ q
+        → numbered_case e (get e.windows s) q ≡ Learn n → IsNew e s n
     numbered at Static next q = cc
     numbered at Spent next q = cc
     numbered at (Next m) next q = spent m at next (is_spent e.claims) refl q
 
-    frozen : entry_at e.claims.learned s ≡ None → (b : Bool) → cond b Leave (numbered_case e (get e.windows s) (seq_for (table_of e) (address_of e) s.vni s.mac)) ≡ Learn n → IsNew e s n
+    frozen : entry_at e.claims.learned s ≡ None → (b : Bool)
+        → cond b Leave (numbered_case e (get e.windows s) (seq_for (table_of e) (address_of e) s.vni s.mac)) ≡ Learn n
+        → IsNew e s n
     frozen at true q = cc
     frozen at false q = numbered at (seq_for (table_of e) (address_of e) s.vni s.mac) refl q
 
@@ -121,7 +144,8 @@ case_new e s n is = go (entry_at e.claims.learned s) refl is
     go None at q = frozen at (is_frozen (get e.windows s)) q
 
 -- what is heard again is learnt, and not pinned
-case_known : (e : Edge) (s : Station) → case_of e s ≡ Refresh → IsSome (entry_at e.claims.learned s) × (is_pinned (entry_at e.claims.learned s) ≡ false)
+case_known : (e : Edge) (s : Station) → case_of e s ≡ Refresh
+    → IsSome (entry_at e.claims.learned s) × (is_pinned (entry_at e.claims.learned s) ≡ false)
 case_known e s is = go (entry_at e.claims.learned s) refl is
   where
     move : (m : ℕ) (b d : Bool) → cond b (Learn 0) (cond d Freeze (Learn m)) ≡ Refresh → ⊥
@@ -129,7 +153,8 @@ case_known e s is = go (entry_at e.claims.learned s) refl is
     move m false true q = cc
     move m false false q = cc
 
-    spent : (m : ℕ) (b d : Bool) → cond b (Refuse CounterSpent) (cond d (Refuse TableFull) (move_case (get e.windows s) e.clock m)) ≡ Refresh → ⊥
+    spent : (m : ℕ) (b d : Bool) → cond b (Refuse CounterSpent)
+        (cond d (Refuse TableFull) (move_case (get e.windows s) e.clock m)) ≡ Refresh → ⊥
     spent m true d q = cc
     spent m false true q = cc
     spent m false false q = move m (eqb m 0) (is_fifth (get e.windows s) e.clock) q
@@ -139,7 +164,8 @@ case_known e s is = go (entry_at e.claims.learned s) refl is
     numbered Spent q = cc
     numbered (Next m) q = spent m (is_spent e.claims) (is_full e.claims.learned) q
 
-    frozen : (b : Bool) → cond b Leave (numbered_case e (get e.windows s) (seq_for (table_of e) (address_of e) s.vni s.mac)) ≡ Refresh → ⊥
+    frozen : (b : Bool) → cond b Leave (numbered_case e (get e.windows s)
+        (seq_for (table_of e) (address_of e) s.vni s.mac)) ≡ Refresh → ⊥
     frozen true q = cc
     frozen false q = numbered (seq_for (table_of e) (address_of e) s.vni s.mac) q
 
@@ -147,32 +173,43 @@ case_known e s is = go (entry_at e.claims.learned s) refl is
     loose true q = cc
     loose false q = refl
 
-    go : (o : Option Entry) → entry_at e.claims.learned s ≡ o → case_at e s o ≡ Refresh → IsSome (entry_at e.claims.learned s) × (is_pinned (entry_at e.claims.learned s) ≡ false)
+    go : (o : Option Entry) → entry_at e.claims.learned s ≡ o → case_at e s o ≡ Refresh
+        → IsSome (entry_at e.claims.learned s) × (is_pinned (entry_at e.claims.learned s) ≡ false)
     go (Some x) at q = (subst IsSome (sym at) refl, ap is_pinned at ∙ loose x.pinned q)
     go None at q = absurd (frozen (is_frozen (get e.windows s)) q)
 
-either_good : (needs : Bool) (e after e' : Edge) (alert told : Option Alert) → IsGoodEdge e → IsGoodEdge after → OrNoMemory needs e alert after told e' → IsGoodEdge e'
+either_good : (needs : Bool) (e after e' : Edge) (alert told : Option Alert) → IsGoodEdge e → IsGoodEdge after
+    → OrNoMemory needs e alert after told e' → IsGoodEdge e'
 either_good needs e after e' alert told h g (inl d) = same_good after e' d.1 g
 either_good needs e after e' alert told h g (inr d) = same_good e e' d.1 h
 
-learnt_good : (e : Edge) (s : Station) (port n : ℕ) → IsGoodEdge e → Keeps (after_advert e.claims s port e.clock n) e.clock → (b : Bool) → IsGoodEdge (record (cond b e (moved e s)) { claims = after_advert e.claims s port e.clock n })
+learnt_good : (e : Edge) (s : Station) (port n : ℕ) → IsGoodEdge e
+    → Keeps (after_advert e.claims s port e.clock n) e.clock → (b : Bool)
+    → IsGoodEdge (record (cond b e (moved e s)) { claims = after_advert e.claims s port e.clock n })
 learnt_good e s port n h k true = good_by _ k h.keeps.ports h.keeps.early
 learnt_good e s port n h k false = good_by _ k h.keeps.ports h.keeps.early
 
-does_good : (e : Edge) (s : Station) (port : ℕ) (told : Option Alert) (e' : Edge) → IsGoodEdge e → vni_at e.claims.ports port ≡ Some s.vni → is_group s.mac ≡ false → (c : Case) → case_of e s ≡ c → Does c e s port told e' → IsGoodEdge e'
+does_good : (e : Edge) (s : Station) (port : ℕ) (told : Option Alert) (e' : Edge) → IsGoodEdge e
+    → vni_at e.claims.ports port ≡ Some s.vni → is_group s.mac ≡ false → (c : Case) → case_of e s ≡ c
+    → Does c e s port told e' → IsGoodEdge e'
 does_good e s port told e' h behind single Leave is d = same_good e e' d.1 h
 does_good e s port told e' h behind single Refresh is d =
     let known = case_known e s is in
-    claims_good e e' (after_refresh e.claims s port e.clock) h (refresh_keeps e.claims s port e.clock (keeps_of e h) known.0 known.1 behind single) refl d.1
+    claims_good e e' (after_refresh e.claims s port e.clock) h
+    (refresh_keeps e.claims s port e.clock (keeps_of e h) known.0 known.1 behind single) refl d.1
 does_good e s port told e' h behind single (Refuse alert) is d = same_good e e' d.1 h
 does_good e s port told e' h behind single Freeze is d = same_good (moved e s) e' d.1 (windows_good e _ h)
 does_good e s port told e' h behind single (Learn n) is d =
     let new = case_new e s n is in
     either_good (needs_memory e s n) e _ e' _ told h
-    (learnt_good e s port n h (advert_keeps e.claims s port e.clock n (keeps_of e h) new.none new.room (number_left e.claims new.few) behind single new.next) (eqb n 0)) d
+    (learnt_good e s port n h (advert_keeps e.claims s port e.clock n (keeps_of e h) new.none new.room
+    (number_left e.claims new.few) behind single new.next) (eqb n 0)) d
 
-learns_good : (e : Edge) (s : Station) (port : ℕ) (told : Option Alert) (e' : Edge) → IsGoodEdge e → vni_at e.claims.ports port ≡ Some s.vni → (learns group : Bool) → is_group s.mac ≡ group → LearnsIf (learns && not group) e s port told e' → IsGoodEdge e'
-learns_good e s port told e' h behind true false single d = does_good e s port told e' h behind single (case_of e s) refl d
+learns_good : (e : Edge) (s : Station) (port : ℕ) (told : Option Alert) (e' : Edge) → IsGoodEdge e
+    → vni_at e.claims.ports port ≡ Some s.vni → (learns group : Bool) → is_group s.mac ≡ group
+    → LearnsIf (learns && not group) e s port told e' → IsGoodEdge e'
+learns_good e s port told e' h behind true false single d =
+    does_good e s port told e' h behind single (case_of e s) refl d
 learns_good e s port told e' h behind true true single d = same_good e e' d.1 h
 learns_good e s port told e' h behind false group single d = same_good e e' d.1 h
 
@@ -180,7 +217,8 @@ learns_good e s port told e' h behind false group single d = same_good e e' d.1 
 
 run_length : (firings : List Firing) (s t : Tree) → Run firings s t → length t.ports ≡ length s.ports
 run_length [] s t same = ap (λ (v : Tree). length v.ports) same
-run_length (f ∷ earlier) s t run = ap (λ (v : Tree). length v.ports) run.2.1 ∙ length-ports_after f.rule run.0 f.place ∙ run_length earlier s run.0 run.1
+run_length (f ∷ earlier) s t run = ap (λ (v : Tree). length v.ports) run.2.1 ∙ length-ports_after f.rule run.0 f.place
+    ∙ run_length earlier s run.0 run.1
 
 direct_length : (event : tree.Event) (ports : List PortState) → length (ports_at event ports) ≡ length ports
 direct_length (tree_events.Bpdu p message) ports = length-change_at (place_of_port p) _ ports
@@ -189,67 +227,88 @@ direct_length (tree_events.PortUp p) ports = length-change_at (place_of_port p) 
 direct_length (tree_events.PortDown p) ports = length-change_at (place_of_port p) _ ports
 direct_length (tree_events.Mcheck p) ports = length-change_at (place_of_port p) _ ports
 
-goes_length : (event : tree.Event) (old new : Tree) (firings : List Firing) → Run firings (direct event old) new → length new.ports ≡ length old.ports
-goes_length event old new firings run = run_length firings (direct event old) new run ∙ direct_length event _ ∙ length-map old.ports _
+goes_length : (event : tree.Event) (old new : Tree) (firings : List Firing) → Run firings (direct event old) new
+    → length new.ports ≡ length old.ports
+goes_length event old new firings run = run_length firings (direct event old) new run ∙ direct_length event _
+    ∙ length-map old.ports _
 
-bridges_good : (event : tree.Event) (e : Edge) (result : Result Reply Refusal) (e' : Edge) → IsGoodEdge e → Bridges event e result e' → IsGoodEdge e'
+bridges_good : (event : tree.Event) (e : Edge) (result : Result Reply Refusal) (e' : Edge) → IsGoodEdge e
+    → Bridges event e result e' → IsGoodEdge e'
 bridges_good event e (Ok reply) e' h d =
     subst IsGoodEdge (sym d.after)
     (good_by _ (flush_keeps e.claims d.flush e.clock (keeps_of e h))
-    (goes_length event e.tree e'.tree d.goes.happens.firings d.goes.happens.run ∙ h.keeps.ports ∙ sym (ap length (removals_ports e.claims (flushed_in e.claims.learned d.flush)))) h.keeps.early)
+    (goes_length event e.tree e'.tree d.goes.happens.firings d.goes.happens.run ∙ h.keeps.ports
+    ∙ sym (ap length (removals_ports e.claims (flushed_in e.claims.learned d.flush)))) h.keeps.early)
 bridges_good event e (Err r) e' h d = absurd d
 
-bridges_at_good : (vni : Option ℕ) (event : tree.Event) (e : Edge) (result : Result Reply Refusal) (e' : Edge) → IsGoodEdge e → BridgesAt vni event e result e' → IsGoodEdge e'
+bridges_at_good : (vni : Option ℕ) (event : tree.Event) (e : Edge) (result : Result Reply Refusal) (e' : Edge)
+    → IsGoodEdge e → BridgesAt vni event e result e' → IsGoodEdge e'
 bridges_at_good None event e result e' h d = same_good e e' d.1 h
 bridges_at_good (Some vni) event e result e' h d = bridges_good event e result e' h d
 
-seconds_good : (e : Edge) (result : Result Reply Refusal) (e' : Edge) → IsGoodEdge e → Seconds e result e' → IsGoodEdge e'
+seconds_good : (e : Edge) (result : Result Reply Refusal) (e' : Edge) → IsGoodEdge e → Seconds e result e'
+    → IsGoodEdge e'
 seconds_good e (Err r) e' h d = absurd d
 seconds_good e (Ok reply) e' h d =
     let times = second_early e.clock h.keeps.early in
     subst IsGoodEdge (sym d.after)
-    (good_by _ (aged_keeps (after_flush e.claims d.flush) e.ageing (next_second e.clock) (later_keeps (after_flush e.claims d.flush) e.clock (next_second e.clock) times.0 (flush_keeps e.claims d.flush e.clock (keeps_of e h))))
+    (good_by _ (aged_keeps (after_flush e.claims d.flush) e.ageing (next_second e.clock)
+    (later_keeps (after_flush e.claims d.flush) e.clock (next_second e.clock) times.0
+    (flush_keeps e.claims d.flush e.clock (keeps_of e h))))
     (goes_length tree_events.Second e.tree e'.tree d.goes.happens.firings d.goes.happens.run ∙ h.keeps.ports
-    ∙ sym (ap length (aged_ports (after_flush e.claims d.flush) e.ageing (next_second e.clock) ∙ removals_ports e.claims (flushed_in e.claims.learned d.flush)))) times.1)
+    ∙ sym (ap length (aged_ports (after_flush e.claims d.flush) e.ageing (next_second e.clock)
+    ∙ removals_ports e.claims (flushed_in e.claims.learned d.flush)))) times.1)
 
 -- ---- frames
 
 -- a frame of a network came at a port of it
-data_port : (e : Edge) (port : ℕ) (octets : List ℕ) (vni destination source : ℕ) → frame_arrival e port octets ≡ Ok (Data vni destination source) → vni_at e.claims.ports port ≡ Some vni
+data_port : (e : Edge) (port : ℕ) (octets : List ℕ) (vni destination source : ℕ)
+    → frame_arrival e port octets ≡ Ok (Data vni destination source) → vni_at e.claims.ports port ≡ Some vni
 data_port e port octets vni destination source is = go (vni_at e.claims.ports port) refl is
   where
-    reserved : (b : Bool) (r : Result Bpdu bpdu.Refusal) → cond b (message_in r) (Ok Dropped) ≡ Ok (Data vni destination source) → ⊥
+    reserved : (b : Bool) (r : Result Bpdu bpdu.Refusal)
+        → cond b (message_in r) (Ok Dropped) ≡ Ok (Data vni destination source) → ⊥
     reserved true (Ok m) q = cc
     reserved true (Err r) q = cc
     reserved false r q = cc
 
-    of_data : (v : ℕ) (frame : List ℕ) (b : Bool) → cond b (reserved_arrival frame) (Ok (data_in v frame)) ≡ Ok (Data vni destination source) → v ≡ vni
+    of_data : (v : ℕ) (frame : List ℕ) (b : Bool) → cond b (reserved_arrival frame) (Ok (data_in v frame))
+        ≡ Ok (Data vni destination source) → v ≡ vni
     of_data v frame true q = absurd (reserved (holds_bpdu frame) (reading (drop 3 (payload_of frame))) q)
     of_data v frame false q = cc
 
-    at_port : (v : ℕ) (up : Bool) (f : Result (List ℕ) FrameRefusal) → arrival_at up v f ≡ Ok (Data vni destination source) → v ≡ vni
+    at_port : (v : ℕ) (up : Bool) (f : Result (List ℕ) FrameRefusal)
+        → arrival_at up v f ≡ Ok (Data vni destination source) → v ≡ vni
     at_port v up (Err r) q = cc
     at_port v true (Ok frame) q = of_data v frame (is_reserved (destination_of frame)) q
     at_port v false (Ok frame) q = cc
 
-    go : (o : Option ℕ) → vni_at e.claims.ports port ≡ o → arrival_on o (is_up e.tree port) octets ≡ Ok (Data vni destination source) → vni_at e.claims.ports port ≡ Some vni
+    go : (o : Option ℕ) → vni_at e.claims.ports port ≡ o
+        → arrival_on o (is_up e.tree port) octets ≡ Ok (Data vni destination source)
+        → vni_at e.claims.ports port ≡ Some vni
     go None at q = cc
     go (Some v) at q = at ∙ ap Some (at_port v (is_up e.tree port) (frame_of octets) q)
 
-frame_good : (arrival : Result Arrival Refusal) (e : Edge) (port : ℕ) (result : Result Reply Refusal) (e' : Edge) → IsGoodEdge e → ((vni destination source : ℕ) → arrival ≡ Ok (Data vni destination source) → vni_at e.claims.ports port ≡ Some vni)
+frame_good : (arrival : Result Arrival Refusal) (e : Edge) (port : ℕ) (result : Result Reply Refusal) (e' : Edge)
+    → IsGoodEdge e → ((vni destination source : ℕ) → arrival ≡ Ok (Data vni destination source)
+    → vni_at e.claims.ports port ≡ Some vni)
     → FrameSteps arrival e port result e' → IsGoodEdge e'
 frame_good (Err r) e port result e' h at d = same_good e e' d.1 h
 frame_good (Ok Dropped) e port result e' h at d = same_good e e' d.1 h
 frame_good (Ok (Message b)) e port result e' h at d = bridges_good _ e result e' h d
 frame_good (Ok (Data vni destination source)) e port (Ok reply) e' h at d =
-    learns_good e (record { vni = vni; mac = source }) port reply.alert e' h (at vni destination source refl) d.learning.learns (is_group source) refl d.learning.learning
+    learns_good e (record { vni = vni; mac = source }) port reply.alert e' h (at vni destination source refl)
+    d.learning.learns (is_group source) refl d.learning.learning
 frame_good (Ok (Data vni destination source)) e port (Err r) e' h at d = absurd d
 
 -- the octets of a frame at a port
-pub frame_stays : (e : Edge) (port : ℕ) (octets : List ℕ) (result : Result Reply Refusal) (e' : Edge) → IsGoodEdge e → FrameSteps (frame_arrival e port octets) e port result e' → IsGoodEdge e'
-frame_stays e port octets result e' h d = frame_good (frame_arrival e port octets) e port result e' h (data_port e port octets) d
+pub frame_stays : (e : Edge) (port : ℕ) (octets : List ℕ) (result : Result Reply Refusal) (e' : Edge) → IsGoodEdge e
+    → FrameSteps (frame_arrival e port octets) e port result e' → IsGoodEdge e'
+frame_stays e port octets result e' h d = frame_good (frame_arrival e port octets) e port result e' h
+    (data_port e port octets) d
 
-tunnel_good : (arrival : Result Arrival Refusal) (e : Edge) (result : Result Reply Refusal) (e' : Edge) → IsGoodEdge e → TunnelSteps arrival e result e' → IsGoodEdge e'
+tunnel_good : (arrival : Result Arrival Refusal) (e : Edge) (result : Result Reply Refusal) (e' : Edge) → IsGoodEdge e
+    → TunnelSteps arrival e result e' → IsGoodEdge e'
 tunnel_good (Err r) e result e' h d = same_good e e' d.1 h
 tunnel_good (Ok Dropped) e result e' h d = same_good e e' d.1 h
 tunnel_good (Ok (Message b)) e result e' h d = absurd d
@@ -258,10 +317,13 @@ tunnel_good (Ok (Data vni destination source)) e (Err r) e' h d = absurd d
 
 -- ---- updates and pins
 
-takes_good : (e : Edge) (u : Fields) (result : Result Reply Refusal) (e' : Edge) → IsGoodEdge e → (b : Bool) → eqb u.register.originator (address_of e) ≡ b → Takes b e u result e' → IsGoodEdge e'
-takes_good e u (Ok reply) e' h true t d = claims_good e e' (after_own e.claims u) h (own_keeps e.claims u e.clock (grind (arith, nat_tests)) d.0 d.1 (keeps_of e h)) refl d.3
+takes_good : (e : Edge) (u : Fields) (result : Result Reply Refusal) (e' : Edge) → IsGoodEdge e → (b : Bool)
+    → eqb u.register.originator (address_of e) ≡ b → Takes b e u result e' → IsGoodEdge e'
+takes_good e u (Ok reply) e' h true t d = claims_good e e' (after_own e.claims u) h
+    (own_keeps e.claims u e.clock (grind (arith, nat_tests)) d.0 d.1 (keeps_of e h)) refl d.3
 takes_good e u (Err r) e' h true t d = same_good e e' d.1 h
-takes_good e u (Ok reply) e' h false t d = claims_good e e' (after_take e.claims u) h (other_keeps e.claims u e.clock (λ same. grind (arith, nat_tests)) (keeps_of e h)) (taken_ports e.claims u) d.2
+takes_good e u (Ok reply) e' h false t d = claims_good e e' (after_take e.claims u) h
+    (other_keeps e.claims u e.clock (λ same. grind (arith, nat_tests)) (keeps_of e h)) (taken_ports e.claims u) d.2
 takes_good e u (Err r) e' h false t d = same_good e e' d.1 h
 
 -- a station that is pinned anew finds a number, and a place
@@ -269,39 +331,50 @@ record IsPinnable (e : Edge) (s : Station) : Type 0 where
   few : is_spent e.claims ≡ false
   room : entry_at e.claims.learned s ≡ None → is_full e.claims.learned ≡ false
 
-unpinned_fits : (e : Edge) (s : Station) (known : Bool) → unpinned_case e s known ≡ Pin → (is_spent e.claims ≡ false) × ((not known && is_full e.claims.learned) ≡ false)
-unpinned_fits e s known is = go (is_static (seq_for (table_of e) (address_of e) s.vni s.mac)) (is_spent e.claims) (not known && is_full e.claims.learned) is
+unpinned_fits : (e : Edge) (s : Station) (known : Bool) → unpinned_case e s known ≡ Pin
+    → (is_spent e.claims ≡ false) × ((not known && is_full e.claims.learned) ≡ false)
+unpinned_fits e s known is = go (is_static (seq_for (table_of e) (address_of e) s.vni s.mac)) (is_spent e.claims)
+    (not known && is_full e.claims.learned) is
   where
-    go : (a b d : Bool) → cond a (Deny StaticElsewhere) (cond b (Deny CounterSpent) (cond d (Deny TableFull) Pin)) ≡ Pin → (b ≡ false) × (d ≡ false)
+    go : (a b d : Bool) → cond a (Deny StaticElsewhere) (cond b (Deny CounterSpent) (cond d (Deny TableFull) Pin)) ≡ Pin
+        → (b ≡ false) × (d ≡ false)
     go true b d q = cc
     go false true d q = cc
     go false false true q = cc
     go false false false q = (refl, refl)
 
-pinnable : (e : Edge) (s : Station) (port : ℕ) (o : Option Entry) → entry_at e.claims.learned s ≡ o → pin_case_at e s port o ≡ Pin → IsPinnable e s
+pinnable : (e : Edge) (s : Station) (port : ℕ) (o : Option Entry) → entry_at e.claims.learned s ≡ o
+    → pin_case_at e s port o ≡ Pin → IsPinnable e s
 pinnable e s port None at is = let f = unpinned_fits e s false is in record { few = f.0; room = λ none. f.1 }
 pinnable e s port (Some x) at is = go x.pinned (eqb x.port port) is
   where
     go : (b d : Bool) → cond b (cond d Keep Shift) (unpinned_case e s true) ≡ Pin → IsPinnable e s
     go true true q = cc
     go true false q = cc
-    go false d q = let f = unpinned_fits e s true q in record { few = f.0; room = λ none. absurd (let bad : None ≡ Some x = sym none ∙ at in cc) }
+    go false d q = let f = unpinned_fits e s true q in record {
+      few = f.0;
+      room = λ none. absurd (let bad : None ≡ Some x = sym none ∙ at in cc);
+    }
 
 -- what goes to another port is pinned
-shifts_pinned : (e : Edge) (s : Station) (port : ℕ) (o : Option Entry) → pin_case_at e s port o ≡ Shift → is_pinned o ≡ true
+shifts_pinned : (e : Edge) (s : Station) (port : ℕ) (o : Option Entry) → pin_case_at e s port o ≡ Shift
+    → is_pinned o ≡ true
 shifts_pinned e s port None is = absurd (never false is)
   where
     never : (known : Bool) → unpinned_case e s known ≡ Shift → ⊥
-    never known q = go (is_static (seq_for (table_of e) (address_of e) s.vni s.mac)) (is_spent e.claims) (not known && is_full e.claims.learned) q
+    never known q = go (is_static (seq_for (table_of e) (address_of e) s.vni s.mac)) (is_spent e.claims)
+        (not known && is_full e.claims.learned) q
       where
-        go : (a b d : Bool) → cond a (Deny StaticElsewhere) (cond b (Deny CounterSpent) (cond d (Deny TableFull) Pin)) ≡ Shift → ⊥
+        go : (a b d : Bool) → cond a (Deny StaticElsewhere) (cond b (Deny CounterSpent) (cond d (Deny TableFull) Pin))
+            ≡ Shift → ⊥
         go true b d q = cc
         go false true d q = cc
         go false false true q = cc
         go false false false q = cc
 shifts_pinned e s port (Some x) is = go x.pinned (eqb x.port port) is
   where
-    never : (a b d : Bool) → cond a (Deny StaticElsewhere) (cond b (Deny CounterSpent) (cond d (Deny TableFull) Pin)) ≡ Shift → ⊥
+    never : (a b d : Bool) → cond a (Deny StaticElsewhere) (cond b (Deny CounterSpent) (cond d (Deny TableFull) Pin))
+        ≡ Shift → ⊥
     never true b d q = cc
     never false true d q = cc
     never false false true q = cc
@@ -309,22 +382,27 @@ shifts_pinned e s port (Some x) is = go x.pinned (eqb x.port port) is
 
     go : (b d : Bool) → cond b (cond d Keep Shift) (unpinned_case e s true) ≡ Shift → b ≡ true
     go true d q = refl
-    go false d q = absurd (never (is_static (seq_for (table_of e) (address_of e) s.vni s.mac)) (is_spent e.claims) (not true && is_full e.claims.learned) q)
+    go false d q = absurd (never (is_static (seq_for (table_of e) (address_of e) s.vni s.mac)) (is_spent e.claims)
+        (not true && is_full e.claims.learned) q)
 
-does_pin_good : (e : Edge) (s : Station) (port : ℕ) (told : Option Alert) (e' : Edge) → IsGoodEdge e → refused_pin e s port ≡ None → (c : PinCase) → pin_case e s port ≡ c → DoesPin c e s port told e' → IsGoodEdge e'
+does_pin_good : (e : Edge) (s : Station) (port : ℕ) (told : Option Alert) (e' : Edge) → IsGoodEdge e
+    → refused_pin e s port ≡ None → (c : PinCase) → pin_case e s port ≡ c → DoesPin c e s port told e' → IsGoodEdge e'
 does_pin_good e s port told e' h free Keep is d = same_good e e' d.1 h
 does_pin_good e s port told e' h free Shift is d =
     let fits = pin_fits e s port free in
-    claims_good e e' (after_shift e.claims s port) h (shift_keeps e.claims s port e.clock (keeps_of e h) (shifts_pinned e s port (entry_at e.claims.learned s) is) fits.0 fits.1) refl d.1
+    claims_good e e' (after_shift e.claims s port) h (shift_keeps e.claims s port e.clock (keeps_of e h)
+    (shifts_pinned e s port (entry_at e.claims.learned s) is) fits.0 fits.1) refl d.1
 does_pin_good e s port told e' h free (Deny alert) is d = same_good e e' d.1 h
 does_pin_good e s port told e' h free Pin is d =
     let fits = pin_fits e s port free in
     let f = pinnable e s port (entry_at e.claims.learned s) refl is in
     let alone = pinned_alone e s port (entry_at e.claims.learned s) is in
     either_good (needs_register e s) e (record e { claims = after_pin e.claims s port }) e' _ told h
-    (claims_good e _ (after_pin e.claims s port) h (pin_keeps e.claims s port e.clock (keeps_of e h) f.room (number_left e.claims f.few) fits.0 fits.1 alone) refl refl) d
+    (claims_good e _ (after_pin e.claims s port) h (pin_keeps e.claims s port e.clock (keeps_of e h) f.room
+    (number_left e.claims f.few) fits.0 fits.1 alone) refl refl) d
 
-pins_good : (e : Edge) (s : Station) (port : ℕ) (result : Result Reply Refusal) (e' : Edge) → IsGoodEdge e → (refused : Option EdgeRefusal) → refused_pin e s port ≡ refused → Pins refused e s port result e' → IsGoodEdge e'
+pins_good : (e : Edge) (s : Station) (port : ℕ) (result : Result Reply Refusal) (e' : Edge) → IsGoodEdge e
+    → (refused : Option EdgeRefusal) → refused_pin e s port ≡ refused → Pins refused e s port result e' → IsGoodEdge e'
 pins_good e s port result e' h (Some r) is d = same_good e e' d.1 h
 pins_good e s port (Ok reply) e' h None is d = does_pin_good e s port reply.alert e' h is (pin_case e s port) refl d.0
 pins_good e s port (Err r) e' h None is d = absurd d
@@ -336,16 +414,22 @@ unpin_good e s h = go (is_pinned (entry_at e.claims.learned s)) refl
     known None is = absurd (false≢true is)
     known (Some x) is = refl
 
-    go : (b : Bool) → is_pinned (entry_at e.claims.learned s) ≡ b → IsGoodEdge (cond b (record e { claims = after_removal e.claims s }) e)
-    go true is = claims_good e _ (after_removal e.claims s) h (removal_keeps e.claims s e.clock (keeps_of e h) (known (entry_at e.claims.learned s) is)) refl refl
+    go : (b : Bool) → is_pinned (entry_at e.claims.learned s) ≡ b
+        → IsGoodEdge (cond b (record e { claims = after_removal e.claims s }) e)
+    go true is = claims_good e _ (after_removal e.claims s) h
+        (removal_keeps e.claims s e.clock (keeps_of e h) (known (entry_at e.claims.learned s) is)) refl refl
     go false is = h
 
 -- ---- all events
 
-pub steps_good : (e : Edge) (event : Event) (result : Result Reply Refusal) (e' : Edge) → IsGoodEdge e → Steps e event result e' → IsGoodEdge e'
-steps_good e (events.Frame port octets) result e' h d = frame_good (frame_arrival e port octets.now) e port result e' h (data_port e port octets.now) d
-steps_good e (events.TunnelFrame from octets) result e' h d = tunnel_good (tunnel_arrival e from octets.now) e result e' h d
-steps_good e (events.Take u) result e' h d = takes_good e u result e' h (eqb u.register.originator (address_of e)) refl d
+pub steps_good : (e : Edge) (event : Event) (result : Result Reply Refusal) (e' : Edge) → IsGoodEdge e
+    → Steps e event result e' → IsGoodEdge e'
+steps_good e (events.Frame port octets) result e' h d =
+    frame_good (frame_arrival e port octets.now) e port result e' h (data_port e port octets.now) d
+steps_good e (events.TunnelFrame from octets) result e' h d =
+    tunnel_good (tunnel_arrival e from octets.now) e result e' h d
+steps_good e (events.Take u) result e' h d = takes_good e u result e' h (eqb u.register.originator (address_of e)) refl
+    d
 steps_good e (events.Pin s port) result e' h d = pins_good e s port result e' h (refused_pin e s port) refl d
 steps_good e (events.Unpin s) result e' h d = same_good _ e' d.1 (unpin_good e s h)
 steps_good e (events.Thaw s) result e' h d = same_good _ e' d.1 (windows_good e _ h)
@@ -353,4 +437,5 @@ steps_good e events.Second result e' h d = seconds_good e result e' h d
 steps_good e (events.PortUp port) result e' h d = bridges_at_good (vni_at e.claims.ports port) _ e result e' h d
 steps_good e (events.PortDown port) result e' h d = bridges_at_good (vni_at e.claims.ports port) _ e result e' h d
 steps_good e (events.Mcheck port) result e' h d = bridges_at_good (vni_at e.claims.ports port) _ e result e' h d
-steps_good e events.Announce result e' h d = claims_good e e' (after_announcement e.claims) h (announced_keeps e.claims e.clock (keeps_of e h)) refl d.1
+steps_good e events.Announce result e' h d = claims_good e e' (after_announcement e.claims) h
+    (announced_keeps e.claims e.clock (keeps_of e h)) refl d.1

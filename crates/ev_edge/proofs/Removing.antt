@@ -77,16 +77,19 @@ same e e' is = same_table e e' (ap (λ (x : Edge). x.claims.learned) is)
 -- one entry changes, and is there
 changed : (e e' : Edge) (q : Station) (x : Option Entry) → ChangesEntry e.claims.learned e'.claims.learned q x
     → (IsSome (entry_at e.claims.learned q) → IsSome x) → GoExactly e e' nobody
-changed e e' q x c there = λ s known. elim (same_or_other s q) as (λ _. (entry_at e'.claims.learned s ≡ None) ↔ (false ≡ true)) [
-  | inl is ↦ still (entry_at e'.claims.learned s)
-      (subst IsSome (sym (ap (entry_at e'.claims.learned) is ∙ c.here)) (there (subst (λ r. IsSome (entry_at e.claims.learned r)) is known)))
-  | inr ne ↦ still (entry_at e'.claims.learned s) (subst IsSome (sym (c.others s ne)) known)
-]
+changed e e' q x c there = λ s known. elim (same_or_other s q) as (λ _. (entry_at e'.claims.learned s ≡ None)
+    ↔ (false ≡ true)) [
+      | inl is ↦ still (entry_at e'.claims.learned s)
+          (subst IsSome (sym (ap (entry_at e'.claims.learned) is ∙ c.here))
+          (there (subst (λ r. IsSome (entry_at e.claims.learned r)) is known)))
+      | inr ne ↦ still (entry_at e'.claims.learned s) (subst IsSome (sym (c.others s ne)) known)
+    ]
 
 changes_to : (t u v : Learning) (q : Station) (x : Option Entry) → v ≡ u → ChangesEntry t u q x → ChangesEntry t v q x
 changes_to t u v q x is c = subst (λ w. ChangesEntry t w q x) (sym is) c
 
-learnt_there : (o : Option Entry) (port second : ℕ) (answer : Learnt) → IsSome o → IsSome (entry_learnt o port second answer)
+learnt_there : (o : Option Entry) (port second : ℕ) (answer : Learnt) → IsSome o
+    → IsSome (entry_learnt o port second answer)
 learnt_there o port second New known = refl
 learnt_there o port second Moved known = refl
 learnt_there o port second Refreshed known = refl
@@ -97,7 +100,8 @@ learnt : (e e' : Edge) (q : Station) (port second : ℕ) (answer : Learnt)
     → e'.claims.learned ≡ after_learn e.claims.learned q port second answer → GoExactly e e' nobody
 learnt e e' q port second answer is =
     changed e e' q (entry_learnt (entry_at e.claims.learned q) port second answer)
-    (changes_to e.claims.learned (after_learn e.claims.learned q port second answer) e'.claims.learned q _ is (learn_entry e.claims.learned q port second answer))
+    (changes_to e.claims.learned (after_learn e.claims.learned q port second answer) e'.claims.learned q _ is
+    (learn_entry e.claims.learned q port second answer))
     (learnt_there (entry_at e.claims.learned q) port second answer)
 
 pinned_there : (o : Option Entry) (full : Bool) (port : ℕ) → IsSome o
@@ -105,14 +109,18 @@ pinned_there : (o : Option Entry) (full : Bool) (port : ℕ) → IsSome o
 pinned_there None full port known = let f : ⊥ = cc in absurd f
 pinned_there (Some x) full port known = refl
 
-pinned : (e e' : Edge) (q : Station) (port : ℕ) → e'.claims.learned ≡ pinned_on e.claims.learned q port → GoExactly e e' nobody
+pinned : (e e' : Edge) (q : Station) (port : ℕ) → e'.claims.learned ≡ pinned_on e.claims.learned q port
+    → GoExactly e e' nobody
 pinned e e' q port is =
-    changed e e' q _ (changes_to e.claims.learned (pinned_on e.claims.learned q port) e'.claims.learned q _ is (pin_entry e.claims.learned q port))
+    changed e e' q _ (changes_to e.claims.learned (pinned_on e.claims.learned q port) e'.claims.learned q _ is
+    (pin_entry e.claims.learned q port))
     (pinned_there (entry_at e.claims.learned q) (is_full e.claims.learned) port)
 
-does : (c : Case) (e : Edge) (q : Station) (port : ℕ) (told : Option Alert) (e' : Edge) → Does c e q port told e' → GoExactly e e' nobody
+does : (c : Case) (e : Edge) (q : Station) (port : ℕ) (told : Option Alert) (e' : Edge) → Does c e q port told e'
+    → GoExactly e e' nobody
 does Leave e q port told e' h = same e e' h.1
-does Refresh e q port told e' h = learnt e e' q port e.clock (learnt_of e.claims.learned q port) (ap (λ (x : Edge). x.claims.learned) h.1)
+does Refresh e q port told e' h = learnt e e' q port e.clock (learnt_of e.claims.learned q port)
+    (ap (λ (x : Edge). x.claims.learned) h.1)
 does (Refuse alert) e q port told e' h = same e e' h.1
 does Freeze e q port told e' h = same_table e e' (ap (λ (x : Edge). x.claims.learned) h.1)
 does (Learn n) e q port told e' h = elim h as (λ _. GoExactly e e' nobody) [
@@ -120,7 +128,8 @@ does (Learn n) e q port told e' h = elim h as (λ _. GoExactly e e' nobody) [
   | inr refused ↦ same e e' refused.1
 ]
 
-does_pin : (c : PinCase) (e : Edge) (q : Station) (port : ℕ) (told : Option Alert) (e' : Edge) → DoesPin c e q port told e' → GoExactly e e' nobody
+does_pin : (c : PinCase) (e : Edge) (q : Station) (port : ℕ) (told : Option Alert) (e' : Edge)
+    → DoesPin c e q port told e' → GoExactly e e' nobody
 does_pin pins.Keep e q port told e' h = same e e' h.1
 does_pin pins.Shift e q port told e' h = pinned e e' q port (ap (λ (x : Edge). x.claims.learned) h.1)
 does_pin (pins.Deny alert) e q port told e' h = same e e' h.1
@@ -129,18 +138,22 @@ does_pin pins.Pin e q port told e' h = elim h as (λ _. GoExactly e e' nobody) [
   | inr refused ↦ same e e' refused.1
 ]
 
-learns : (b : Bool) (e : Edge) (q : Station) (port : ℕ) (told : Option Alert) (e' : Edge) → LearnsIf b e q port told e' → GoExactly e e' nobody
+learns : (b : Bool) (e : Edge) (q : Station) (port : ℕ) (told : Option Alert) (e' : Edge) → LearnsIf b e q port told e'
+    → GoExactly e e' nobody
 learns true e q port told e' h = does (case_of e q) e q port told e' h
 learns false e q port told e' h = same e e' h.1
 
 -- ---- what goes by one test
 
 exactly : (e e' : Edge) (goes : Station → Bool)
-    → ((s : Station) → entry_at e'.claims.learned s ≡ cond (goes s) None (entry_at e.claims.learned s)) → GoExactly e e' goes
-exactly e e' goes is = λ s known. either_way (entry_at e.claims.learned s) (entry_at e'.claims.learned s) (goes s) known (is s)
+    → ((s : Station) → entry_at e'.claims.learned s ≡ cond (goes s) None (entry_at e.claims.learned s))
+    → GoExactly e e' goes
+exactly e e' goes is = λ s known. either_way (entry_at e.claims.learned s) (entry_at e'.claims.learned s) (goes s) known
+    (is s)
 
 -- one station goes
-one_gone : (c : Claims) (q s : Station) → entry_at (after_removal c q).learned s ≡ cond (is_same q s) None (entry_at c.learned s)
+one_gone : (c : Claims) (q s : Station) → entry_at (after_removal c q).learned s
+    ≡ cond (is_same q s) None (entry_at c.learned s)
 one_gone c q s = removals_entries c (q ∷ []) s ∙ go (is_same q s)
   where
     go : (b : Bool) → cond (b || false) None (entry_at c.learned s) ≡ cond b None (entry_at c.learned s)
@@ -154,7 +167,8 @@ pick false d o h = refl
 
 -- the station goes if it is so, which is asked of it as of the one that goes
 one_if : (c : Claims) (q s : Station) (test : Station → Bool)
-    → entry_at (cond (test q) (after_removal c q) c).learned s ≡ cond (is_same q s && test s) None (entry_at c.learned s)
+    → entry_at (cond (test q) (after_removal c q) c).learned s
+    ≡ cond (is_same q s && test s) None (entry_at c.learned s)
 one_if c q s test = go (test q) refl (is_same q s) refl
   where
     goes_on : is_same q s ≡ true → test s ≡ test q
@@ -168,7 +182,8 @@ one_if c q s test = go (test q) refl (is_same q s) refl
     go false is true there = ap (λ x. cond x None (entry_at c.learned s)) (sym (goes_on there ∙ is))
     go false is false there = refl
 
-unpinned : (e : Edge) (q s : Station) → entry_at (after_unpin e q).claims.learned s ≡ cond (goes_by_unpin e q s) None (entry_at e.claims.learned s)
+unpinned : (e : Edge) (q s : Station) → entry_at (after_unpin e q).claims.learned s
+    ≡ cond (goes_by_unpin e q s) None (entry_at e.claims.learned s)
 unpinned e q s =
     go (is_pinned (entry_at e.claims.learned q)) ∙ one_if e.claims q s (λ r. is_pinned (entry_at e.claims.learned r))
   where
@@ -177,18 +192,25 @@ unpinned e q s =
     go true = refl
     go false = refl
 
-lost : (c : Claims) (k : Key) (s : Station) → entry_at (after_losing c k).learned s ≡ cond (is_of (station_of k) s && is_lost c s) None (entry_at c.learned s)
+lost : (c : Claims) (k : Key) (s : Station) → entry_at (after_losing c k).learned s
+    ≡ cond (is_of (station_of k) s && is_lost c s) None (entry_at c.learned s)
 lost c (Flood v) s = refl
 lost c (Mac v m ip) s = one_if c (record { vni = v; mac = m }) s (is_lost c)
 
 -- ---- the bridge
 
-flushed : (e e' : Edge) (flush : ℕ) → IsGoodEdge e → e'.claims ≡ after_flush e.claims flush → GoExactly e e' (is_flushed e flush)
+flushed : (e e' : Edge) (flush : ℕ) → IsGoodEdge e → e'.claims ≡ after_flush e.claims flush
+    → GoExactly e e' (is_flushed e flush)
 flushed e e' flush good is = exactly e e' (is_flushed e flush)
     (λ s. ap (λ (c : Claims). entry_at c.learned s) is ∙ (flushes_out e.claims flush good.claims).exactly s)
 
-bridged : (event : tree.Event) (e : Edge) (reply : Reply) (e' : Edge) → IsGoodEdge e → Bridges event e (Ok reply) e' → FlushRemoves event e reply e'
-bridged event e reply e' good h = record { flush = h.flush; goes = h.goes; gone = flushed e e' h.flush good (ap (λ (x : Edge). x.claims) h.after) }
+bridged : (event : tree.Event) (e : Edge) (reply : Reply) (e' : Edge) → IsGoodEdge e → Bridges event e (Ok reply) e'
+    → FlushRemoves event e reply e'
+bridged event e reply e' good h = record {
+  flush = h.flush;
+  goes = h.goes;
+  gone = flushed e e' h.flush good (ap (λ (x : Edge). x.claims) h.after);
+}
 
 -- ---- a second
 
@@ -197,14 +219,17 @@ removals_lists c [] h = h
 removals_lists c (s ∷ ss) h = removals_lists (after_removal c s) ss (removal_lists c.learned s h)
 
 due_goes : (c : Claims) (limit : ℕ) (s : Station) → ListsName c.learned
-    → entry_at (after_ageing c limit).learned s ≡ cond (goes_by_age limit (entry_at c.learned s)) None (entry_at c.learned s)
-due_goes c limit s h = removals_entries c (due_in c.learned limit) s ∙ ap (λ b. cond b None (entry_at c.learned s)) (due_exact c.learned limit h s)
+    → entry_at (after_ageing c limit).learned s ≡ cond (goes_by_age limit (entry_at c.learned s)) None
+    (entry_at c.learned s)
+due_goes c limit s h = removals_entries c (due_in c.learned limit) s
+    ∙ ap (λ b. cond b None (entry_at c.learned s)) (due_exact c.learned limit h s)
 
 old_is : (ageing now : ℕ) (o : Option Entry) → ageing ≤ now → goes_by_age (now - ageing) o ≡ is_old ageing now o
 old_is ageing now None le = refl
 old_is ageing now (Some x) le = go x.pinned (nat_le x.last (now - ageing)) refl (nat_le (x.last + ageing) now) refl
   where
-    go : (p a : Bool) → nat_le x.last (now - ageing) ≡ a → (b : Bool) → nat_le (x.last + ageing) now ≡ b → (not p && a) ≡ (not p && b)
+    go : (p a : Bool) → nat_le x.last (now - ageing) ≡ a → (b : Bool) → nat_le (x.last + ageing) now ≡ b
+        → (not p && a) ≡ (not p && b)
     go true a at b bt = refl
     go false true at true bt = refl
     go false false at false bt = refl
@@ -221,17 +246,21 @@ young ageing now (Some x) off = go x.pinned (nat_le (x.last + ageing) now) refl
     go false true bt = let f : ⊥ = grind (arith, nat_tests) in absurd f
 
 aged_goes : (c : Claims) (ageing now : ℕ) (s : Station) → ListsName c.learned
-    → entry_at (aged c ageing now).learned s ≡ cond (is_old ageing now (entry_at c.learned s)) None (entry_at c.learned s)
+    → entry_at (aged c ageing now).learned s ≡ cond (is_old ageing now (entry_at c.learned s)) None
+    (entry_at c.learned s)
 aged_goes c ageing now s h = go (nat_le ageing now) refl
   where
-    go : (b : Bool) → nat_le ageing now ≡ b → entry_at (cond b (after_ageing c (now - ageing)) c).learned s ≡ cond (is_old ageing now (entry_at c.learned s)) None (entry_at c.learned s)
+    go : (b : Bool) → nat_le ageing now ≡ b → entry_at (cond b (after_ageing c (now - ageing)) c).learned s
+        ≡ cond (is_old ageing now (entry_at c.learned s)) None (entry_at c.learned s)
     go true is =
         let le : ageing ≤ now = grind (arith, nat_tests) in
-        due_goes c (now - ageing) s h ∙ ap (λ b. cond b None (entry_at c.learned s)) (old_is ageing now (entry_at c.learned s) le)
+        due_goes c (now - ageing) s h ∙ ap (λ b. cond b None (entry_at c.learned s))
+        (old_is ageing now (entry_at c.learned s) le)
     go false is = sym (ap (λ b. cond b None (entry_at c.learned s)) (young ageing now (entry_at c.learned s) is))
 
 -- first by the flush, then by age
-twice : (ageing now : ℕ) (f : Bool) (o : Option Entry) → cond (is_old ageing now (cond f None o)) None (cond f None o) ≡ cond (f || is_old ageing now o) None o
+twice : (ageing now : ℕ) (f : Bool) (o : Option Entry) → cond (is_old ageing now (cond f None o)) None (cond f None o)
+    ≡ cond (f || is_old ageing now o) None o
 twice ageing now true o = refl
 twice ageing now false o = refl
 
@@ -251,19 +280,23 @@ second e reply e' good h = record {
 
 -- ---- all events
 
-by_frame : (a : Result Arrival Refusal) (e : Edge) (port : ℕ) (reply : Reply) (e' : Edge) → IsGoodEdge e → FrameSteps a e port (Ok reply) e' → FrameRemoves a e port reply e'
+by_frame : (a : Result Arrival Refusal) (e : Edge) (port : ℕ) (reply : Reply) (e' : Edge) → IsGoodEdge e
+    → FrameSteps a e port (Ok reply) e' → FrameRemoves a e port reply e'
 by_frame (Err r) e port reply e' good h = same e e' h.1
 by_frame (Ok Dropped) e port reply e' good h = same e e' h.1
 by_frame (Ok (Message b)) e port reply e' good h = bridged (tree_events.Bpdu port b) e reply e' good h
-by_frame (Ok (Data vni destination source)) e port reply e' good h = learns _ e _ port reply.alert e' h.learning.learning
+by_frame (Ok (Data vni destination source)) e port reply e' good h =
+    learns _ e _ port reply.alert e' h.learning.learning
 
-no_frame : (a : Result Arrival Refusal) (e : Edge) (port : ℕ) (r : Refusal) (e' : Edge) → FrameSteps a e port (Err r) e' → GoExactly e e' nobody
+no_frame : (a : Result Arrival Refusal) (e : Edge) (port : ℕ) (r : Refusal) (e' : Edge) → FrameSteps a e port (Err r) e'
+    → GoExactly e e' nobody
 no_frame (Err q) e port r e' h = same e e' h.1
 no_frame (Ok Dropped) e port r e' h = same e e' h.1
 no_frame (Ok (Message b)) e port r e' h = absurd h
 no_frame (Ok (Data vni destination source)) e port r e' h = absurd h
 
-by_tunnel : (a : Result Arrival Refusal) (e : Edge) (result : Result Reply Refusal) (e' : Edge) → TunnelSteps a e result e' → GoExactly e e' nobody
+by_tunnel : (a : Result Arrival Refusal) (e : Edge) (result : Result Reply Refusal) (e' : Edge)
+    → TunnelSteps a e result e' → GoExactly e e' nobody
 by_tunnel (Err r) e result e' h = same e e' h.1
 by_tunnel (Ok Dropped) e result e' h = same e e' h.1
 by_tunnel (Ok (Message b)) e result e' h = absurd h
@@ -280,30 +313,39 @@ no_take : (b : Bool) (e : Edge) (u : Fields) (r : Refusal) (e' : Edge) → Takes
 no_take true e u r e' h = same e e' h.1
 no_take false e u r e' h = same e e' h.1
 
-by_pin : (o : Option EdgeRefusal) (e : Edge) (q : Station) (port : ℕ) (result : Result Reply Refusal) (e' : Edge) → Pins o e q port result e' → GoExactly e e' nobody
+by_pin : (o : Option EdgeRefusal) (e : Edge) (q : Station) (port : ℕ) (result : Result Reply Refusal) (e' : Edge)
+    → Pins o e q port result e' → GoExactly e e' nobody
 by_pin (Some r) e q port result e' h = same e e' h.1
 by_pin None e q port (Ok reply) e' h = does_pin (pin_case e q port) e q port reply.alert e' h.0
 by_pin None e q port (Err r) e' h = absurd h
 
-by_port : (vni : Option ℕ) (event : tree.Event) (e : Edge) (reply : Reply) (e' : Edge) → IsGoodEdge e → BridgesAt vni event e (Ok reply) e' → FlushRemoves event e reply e'
+by_port : (vni : Option ℕ) (event : tree.Event) (e : Edge) (reply : Reply) (e' : Edge) → IsGoodEdge e
+    → BridgesAt vni event e (Ok reply) e' → FlushRemoves event e reply e'
 by_port None event e reply e' good h = let f : ⊥ = (let bad = h.0 in cc) in absurd f
 by_port (Some vni) event e reply e' good h = bridged event e reply e' good h
 
-no_port : (vni : Option ℕ) (event : tree.Event) (e : Edge) (r : Refusal) (e' : Edge) → BridgesAt vni event e (Err r) e' → GoExactly e e' nobody
+no_port : (vni : Option ℕ) (event : tree.Event) (e : Edge) (r : Refusal) (e' : Edge) → BridgesAt vni event e (Err r) e'
+    → GoExactly e e' nobody
 no_port None event e r e' h = same e e' h.1
 no_port (Some vni) event e r e' h = absurd h
 
-taken : (event : Event) (e : Edge) (reply : Reply) (e' : Edge) → IsGoodEdge e → Steps e event (Ok reply) e' → RemovesBy event e reply e'
+taken : (event : Event) (e : Edge) (reply : Reply) (e' : Edge) → IsGoodEdge e → Steps e event (Ok reply) e'
+    → RemovesBy event e reply e'
 taken (events.Frame port octets) e reply e' good h = by_frame (frame_arrival e port octets.now) e port reply e' good h
-taken (events.TunnelFrame from octets) e reply e' good h = by_tunnel (tunnel_arrival e from octets.now) e (Ok reply) e' h
+taken (events.TunnelFrame from octets) e reply e' good h =
+    by_tunnel (tunnel_arrival e from octets.now) e (Ok reply) e' h
 taken (events.Take u) e reply e' good h = by_take (eqb u.register.originator (address_of e)) e u reply e' h
 taken (events.Pin q port) e reply e' good h = by_pin (refused_pin e q port) e q port (Ok reply) e' h
-taken (events.Unpin q) e reply e' good h = exactly e e' (goes_by_unpin e q) (λ s. ap (λ (x : Edge). entry_at x.claims.learned s) h.1 ∙ unpinned e q s)
+taken (events.Unpin q) e reply e' good h = exactly e e' (goes_by_unpin e q)
+    (λ s. ap (λ (x : Edge). entry_at x.claims.learned s) h.1 ∙ unpinned e q s)
 taken (events.Thaw q) e reply e' good h = same_table e e' (ap (λ (x : Edge). x.claims.learned) h.1)
 taken events.Second e reply e' good h = second e reply e' good h
-taken (events.PortUp port) e reply e' good h = by_port (vni_at e.claims.ports port) (tree_events.PortUp port) e reply e' good h
-taken (events.PortDown port) e reply e' good h = by_port (vni_at e.claims.ports port) (tree_events.PortDown port) e reply e' good h
-taken (events.Mcheck port) e reply e' good h = by_port (vni_at e.claims.ports port) (tree_events.Mcheck port) e reply e' good h
+taken (events.PortUp port) e reply e' good h = by_port (vni_at e.claims.ports port) (tree_events.PortUp port) e reply e'
+    good h
+taken (events.PortDown port) e reply e' good h = by_port (vni_at e.claims.ports port) (tree_events.PortDown port) e
+    reply e' good h
+taken (events.Mcheck port) e reply e' good h = by_port (vni_at e.claims.ports port) (tree_events.Mcheck port) e reply e'
+    good h
 taken events.Announce e reply e' good h = same_table e e' (ap (λ (x : Edge). x.claims.learned) h.1)
 
 refused : (event : Event) (e : Edge) (r : Refusal) (e' : Edge) → Steps e event (Err r) e' → GoExactly e e' nobody
@@ -320,6 +362,7 @@ refused (events.Mcheck port) e r e' h = no_port (vni_at e.claims.ports port) (tr
 refused events.Announce e r e' h = let f : ⊥ = (let bad = h.0 in cc) in absurd f
 
 -- so it is at each event
-pub removed : (e : Edge) (event : Event) (result : Result Reply Refusal) (e' : Edge) → IsGoodEdge e → Steps e event result e' → Removed event e result e'
+pub removed : (e : Edge) (event : Event) (result : Result Reply Refusal) (e' : Edge) → IsGoodEdge e
+    → Steps e event result e' → Removed event e result e'
 removed e event (Ok reply) e' good h = taken event e reply e' good h
 removed e event (Err r) e' good h = refused event e r e' h

@@ -18,18 +18,32 @@ never : (b : Bool) (P : Type 0) → P ↔ (b ≡ true) → (P → ⊥) → b ≡
 never true P h free = absurd (free (h.1 refl))
 never false P h free = refl
 
-pub own_steps : (e : Edge) (u : Fields) (d : Claims) (r : Result Taken OwnError) → IfOk r (λ t. t ≡ taken_of (table_of e) u) → OnOk r (d ≡ after_own e.claims u)
+pub own_steps : (e : Edge) (u : Fields) (d : Claims) (r : Result Taken OwnError)
+    → IfOk r (λ t. t ≡ taken_of (table_of e) u) → OnOk r (d ≡ after_own e.claims u)
     → (r ≡ Err Ahead) ↔ (is_ahead e.claims.voice u ≡ true) → (r ≡ Err Spent) ↔ (is_spent e.claims.voice u ≡ true)
-    → (r ≡ Err NoMemory → (value_at (table_of e) u.register ≡ None) ⊎ (is_returning e.claims.voice u ≡ true)) → OnErr r (d ≡ e.claims)
+    → (r ≡ Err NoMemory → (value_at (table_of e) u.register ≡ None) ⊎ (is_returning e.claims.voice u ≡ true))
+    → OnErr r (d ≡ e.claims)
     → TakesOwn e u (own_result r) (record e { claims = d })
-own_steps e u d (Ok t) taken ok ahead spent memory err = (never _ _ ahead (λ p. cc), never _ _ spent (λ p. cc), (λ i. record nothing { taken = Some (taken i) }), λ i. record e { claims = ok i })
-own_steps e u d (Err Ahead) taken ok ahead spent memory err = (inl (refl, ahead.0 refl), λ i. record e { claims = err i })
-own_steps e u d (Err Spent) taken ok ahead spent memory err = (inr (inl (refl, spent.0 refl)), λ i. record e { claims = err i })
-own_steps e u d (Err NoMemory) taken ok ahead spent memory err =
-    (inr (inr (refl, never _ _ ahead (λ p. cc), never _ _ spent (λ p. cc), memory refl)), λ i. record e { claims = err i })
+own_steps e u d (Ok t) taken ok ahead spent memory err = (
+  never _ _ ahead (λ p. cc),
+  never _ _ spent (λ p. cc),
+  (λ i. record nothing { taken = Some (taken i) }),
+  λ i. record e { claims = ok i },
+)
+own_steps e u d (Err Ahead) taken ok ahead spent memory err =
+    (inl (refl, ahead.0 refl), λ i. record e { claims = err i })
+own_steps e u d (Err Spent) taken ok ahead spent memory err =
+    (inr (inl (refl, spent.0 refl)), λ i. record e { claims = err i })
+own_steps e u d (Err NoMemory) taken ok ahead spent memory err = (
+  inr (inr (refl, never _ _ ahead (λ p. cc), never _ _ spent (λ p. cc), memory refl)),
+  λ i. record e { claims = err i },
+)
 
-pub own_kept : (e : Edge) (passing : ℕ) (u : Fields) (d : Claims) (r : Result Taken OwnError) → IsEdge e passing → KeepsNumbers e.claims.voice → u.register.originator ≡ e.claims.voice.address → OnOk r (d ≡ after_own e.claims u)
-    → (r ≡ Err Ahead) ↔ (is_ahead e.claims.voice u ≡ true) → OnErr r (d ≡ e.claims) → IsEdge (record e { claims = d }) passing
+pub own_kept : (e : Edge) (passing : ℕ) (u : Fields) (d : Claims) (r : Result Taken OwnError) → IsEdge e passing
+    → KeepsNumbers e.claims.voice → u.register.originator ≡ e.claims.voice.address → OnOk r (d ≡ after_own e.claims u)
+    → (r ≡ Err Ahead) ↔ (is_ahead e.claims.voice u ≡ true) → OnErr r (d ≡ e.claims)
+    → IsEdge (record e { claims = d }) passing
 own_kept e passing u d (Ok t) h numbers own ok ahead err =
-    kept e passing (after_own e.claims u) d h ok (own_holds e.claims u e.clock numbers own (never _ _ ahead (λ p. cc)) (holds_of e passing h)) refl
+    kept e passing (after_own e.claims u) d h ok (own_holds e.claims u e.clock numbers own (never _ _ ahead (λ p. cc))
+    (holds_of e passing h)) refl
 own_kept e passing u d (Err x) h numbers own ok ahead err = kept e passing e.claims d h err (holds_of e passing h) refl

@@ -1,5 +1,7 @@
 -- An edge stays good, whatever event comes: of the relation of edge, event, answer and edge alone.
-use Rattle.std.proofs.Common.{◌≡◌, ◌≢◌, inl, inr, ℕ, zero, suc, ◌+◌, ◌-◌, ◌<◌, ◌≤◌, ◌^◌, Bool, true, false, cond, eqb, not, ◌&&◌, ◌||◌, Option, Some, None, Result, Ok, Err, List, [], ◌∷◌, drop, length, map, refl, sym, ap, subst, ◌∙◌, arith}
+use Rattle.std.proofs.Common.{◌≡◌, ◌≢◌, inl, inr, ℕ, zero, suc, ◌+◌, ◌-◌, ◌<◌, ◌≤◌, ◌^◌, Bool, true, false, cond, eqb}
+use Rattle.std.proofs.Common.{not, ◌&&◌, ◌||◌, Option, Some, None, Result, Ok, Err, List, [], ◌∷◌, drop, length, map}
+use Rattle.std.proofs.Common.{refl, sym, ap, subst, ◌∙◌, arith}
 use Rattle.std.specs.Prelude.{IsSome, is_some, nat_le, nat_lt, IsTrue, ◌↔◌}
 use Rattle.std.specs.Option.{option_map}
 use Rattle.std.proofs.lemmas.List.{length-map}
@@ -18,19 +20,24 @@ use Rattle.mac_arena.specs.declared.station.Station.{Station}
 use Rattle.mac_arena.specs.declared.station.Entry.{Entry}
 use Rattle.mac_arena.specs.declared.table.Learnt.TheVariants.{New}
 use Rattle.mac_arena.specs.Station.{is_same}
-use Rattle.mac_arena.specs.Learning.{Learning, entry_at, is_full, is_pinned, answer_of, learnt_of, after_learn, after_pin as pinned_on, after_removal as gone}
+use Rattle.mac_arena.specs.Learning.{Learning, entry_at, is_full, is_pinned, answer_of, learnt_of, after_learn}
+use Rattle.mac_arena.specs.Learning.{after_pin as pinned_on, after_removal as gone}
 use Rattle.mac_arena.specs.ListsName.{ListsName, AreOnce, stands, ages}
 use Rattle.mac_arena.specs.Laws.{is_due}
 use Rattle.mac_arena.proofs.Entries.{same_true, eq_same}
 use Rattle.mac_arena.proofs.Going.{due_exact}
 use Rattle.mac_arena.proofs.Held.{learn_names, hear_names, pin_names, removal_names}
 use Rattle.mac_arena.proofs.Placing.{IsBased}
-use Rattle.ev_claims.specs.Voice.{Voice, KeepsNumbers, own_advert, is_at, is_newest, is_ahead, is_spent as has_spent, is_returning, after_saying, after_hearing, after_hearing_own, after_announcing}
-use Rattle.ev_claims.specs.Claims.{Claims, KeepsClaims, AreGood, key_of, moving, fixed, vni_at, is_lost, after_advert, after_refresh, after_pin, after_shift, after_removal, after_removals, after_update, after_losing, after_take, after_own, after_announcement}
+use Rattle.ev_claims.specs.Voice.{Voice, KeepsNumbers, own_advert, is_at, is_newest, is_ahead, is_spent as has_spent}
+use Rattle.ev_claims.specs.Voice.{is_returning, after_saying, after_hearing, after_hearing_own, after_announcing}
+use Rattle.ev_claims.specs.Claims.{Claims, KeepsClaims, AreGood, key_of, moving, fixed, vni_at, is_lost, after_advert}
+use Rattle.ev_claims.specs.Claims.{after_refresh, after_pin, after_shift, after_removal, after_removals, after_update}
+use Rattle.ev_claims.specs.Claims.{after_losing, after_take, after_own, after_announcement}
 use Rattle.ev_claims.specs.Leaving.{after_flush, after_ageing, due_in, flushed_in}
 use Rattle.ev_claims.proofs.Numbers.{own_stays, said_numbers, heard_numbers}
 use Rattle.ev_claims.proofs.Hearing.{dropped_contains, past_if_newest, earlier_numbers, unheard, refuted_is}
-use Rattle.ev_claims.proofs.Keeping.{spoken_claims, advert_claims, refresh_claims, pin_claims, shift_claims, removal_claims, own_claims, known_entry}
+use Rattle.ev_claims.proofs.Keeping.{spoken_claims, advert_claims, refresh_claims, pin_claims, shift_claims}
+use Rattle.ev_claims.proofs.Keeping.{removal_claims, own_claims, known_entry}
 use Rattle.ev_claims.proofs.Learnt.{removal_there}
 use Rattle.ev_claims.proofs.Changed.{on_any, none_on, ports_climb, flushed_stands, flushed_once, due_once}
 use Rattle.ev_edge.specs.Edge.{Edge, IsGoodEdge, KeepsEdge}
@@ -56,13 +63,28 @@ keeps_of e h = record {
   claims = h.claims.claims;
   numbers = h.claims.numbers;
   lists = h.claims.lists;
-  holds = record { owns = h.keeps.owns; latest = h.keeps.latest; individual = h.keeps.individual; served = h.keeps.served; buckets = h.keeps.buckets };
+  holds = record {
+    owns = h.keeps.owns;
+    latest = h.keeps.latest;
+    individual = h.keeps.individual;
+    served = h.keeps.served;
+    buckets = h.keeps.buckets;
+  };
 }
 
-pub good_by : (e : Edge) → Keeps e.claims e.clock → length e.tree.ports ≡ length e.claims.ports → e.clock ≤ 2 ^ 63 → IsGoodEdge e
+pub good_by : (e : Edge) → Keeps e.claims e.clock → length e.tree.ports ≡ length e.claims.ports → e.clock ≤ 2 ^ 63
+    → IsGoodEdge e
 good_by e k ports early = record {
   claims = record { claims = k.claims; numbers = k.numbers; lists = k.lists };
-  keeps = record { owns = k.holds.owns; latest = k.holds.latest; individual = k.holds.individual; served = k.holds.served; buckets = k.holds.buckets; ports = ports; early = early };
+  keeps = record {
+    owns = k.holds.owns;
+    latest = k.holds.latest;
+    individual = k.holds.individual;
+    served = k.holds.served;
+    buckets = k.holds.buckets;
+    ports = ports;
+    early = early;
+  };
 }
 
 -- ---- ports
@@ -75,7 +97,8 @@ based c h s x at = go x.port (h.ports s x at)
     go zero is = cc
     go (suc p) is = omega arith
 
-port_there : (c : Claims) (s : Station) (port : ℕ) → KeepsClaims c → vni_at c.ports port ≡ Some s.vni → (0 < port) × (port - 1 < length c.learned.ports)
+port_there : (c : Claims) (s : Station) (port : ℕ) → KeepsClaims c → vni_at c.ports port ≡ Some s.vni
+    → (0 < port) × (port - 1 < length c.learned.ports)
 port_there c s port h is =
     let there = there_port c.ports port (ap is_some is) in
     let low = there.0 in
@@ -85,40 +108,56 @@ port_there c s port h is =
 
 -- ---- a station comes
 
-new_answer : (t : Learning) (s : Station) (port : ℕ) → entry_at t s ≡ None → is_full t ≡ false → New ≡ learnt_of t s port
+new_answer : (t : Learning) (s : Station) (port : ℕ) → entry_at t s ≡ None → is_full t ≡ false
+    → New ≡ learnt_of t s port
 new_answer t s port none room = sym (λ i. answer_of (none i) (room i) port)
 
-pub advert_keeps : (c : Claims) (s : Station) (port second n : ℕ) → Keeps c second → entry_at c.learned s ≡ None → is_full c.learned ≡ false → c.voice.counter < 2 ^ 63 → vni_at c.ports port ≡ Some s.vni → is_group s.mac ≡ false
+pub advert_keeps : (c : Claims) (s : Station) (port second n : ℕ) → Keeps c second → entry_at c.learned s ≡ None
+    → is_full c.learned ≡ false → c.voice.counter < 2 ^ 63 → vni_at c.ports port ≡ Some s.vni → is_group s.mac ≡ false
     → seq_for c.voice.table c.voice.address s.vni s.mac ≡ Next n → Keeps (after_advert c s port second n) second
 advert_keeps c s port second n h none room number behind single next = record {
-  claims = advert_claims c (after_learn c.learned s port second New) (after_saying c.voice (key_of s) (moving n)) s port second n New h.claims none room number behind refl (new_answer c.learned s port none room) refl;
+  claims = advert_claims c (after_learn c.learned s port second New) (after_saying c.voice (key_of s) (moving n)) s port
+      second n New h.claims none room number behind refl (new_answer c.learned s port none room) refl;
   numbers = said_numbers c.voice (key_of s) (moving n) h.numbers;
-  lists = let at = port_there c s port h.claims behind in learn_names c.learned s port second h.lists h.holds.buckets (based c h.claims) none room at.0 at.1 h.holds.latest;
+  lists = let at = port_there c s port h.claims behind in
+      learn_names c.learned s port second h.lists h.holds.buckets (based c h.claims) none room at.0 at.1 h.holds.latest;
   holds = advert_holds c s port second n h.claims next single h.holds;
 }
 
-pub refresh_keeps : (c : Claims) (s : Station) (port second : ℕ) → Keeps c second → IsSome (entry_at c.learned s) → is_pinned (entry_at c.learned s) ≡ false → vni_at c.ports port ≡ Some s.vni → is_group s.mac ≡ false → Keeps (after_refresh c s port second) second
+pub refresh_keeps : (c : Claims) (s : Station) (port second : ℕ) → Keeps c second → IsSome (entry_at c.learned s)
+    → is_pinned (entry_at c.learned s) ≡ false → vni_at c.ports port ≡ Some s.vni → is_group s.mac ≡ false
+    → Keeps (after_refresh c s port second) second
 refresh_keeps c s port second h known loose behind single = record {
-  claims = refresh_claims c (after_learn c.learned s port second (learnt_of c.learned s port)) s port second (learnt_of c.learned s port) h.claims known loose behind refl refl;
+  claims = refresh_claims c (after_learn c.learned s port second (learnt_of c.learned s port)) s port second
+      (learnt_of c.learned s port) h.claims known loose behind refl refl;
   numbers = h.numbers;
-  lists = let at = port_there c s port h.claims behind in hear_names c.learned s port second h.lists h.holds.buckets (based c h.claims) at.0 at.1 h.holds.latest known;
+  lists = let at = port_there c s port h.claims behind in
+      hear_names c.learned s port second h.lists h.holds.buckets (based c h.claims) at.0 at.1 h.holds.latest known;
   holds = refresh_holds c s port second single h.holds;
 }
 
-pub pin_keeps : (c : Claims) (s : Station) (port second : ℕ) → Keeps c second → (entry_at c.learned s ≡ None → is_full c.learned ≡ false) → c.voice.counter < 2 ^ 63 → vni_at c.ports port ≡ Some s.vni → is_group s.mac ≡ false
+pub pin_keeps : (c : Claims) (s : Station) (port second : ℕ) → Keeps c second
+    → (entry_at c.learned s ≡ None → is_full c.learned ≡ false) → c.voice.counter < 2 ^ 63
+    → vni_at c.ports port ≡ Some s.vni → is_group s.mac ≡ false
     → is_static (seq_for c.voice.table c.voice.address s.vni s.mac) ≡ false → Keeps (after_pin c s port) second
 pin_keeps c s port second h room number behind single free = record {
-  claims = pin_claims c (pinned_on c.learned s port) (after_saying c.voice (key_of s) fixed) s port h.claims room number behind refl refl;
+  claims = pin_claims c (pinned_on c.learned s port) (after_saying c.voice (key_of s) fixed) s port h.claims room number
+      behind refl refl;
   numbers = said_numbers c.voice (key_of s) fixed h.numbers;
-  lists = let at = port_there c s port h.claims behind in pin_names c.learned s port h.lists h.holds.buckets (based c h.claims) at.0 at.1 room;
+  lists = let at = port_there c s port h.claims behind in
+      pin_names c.learned s port h.lists h.holds.buckets (based c h.claims) at.0 at.1 room;
   holds = pin_holds c s port second h.claims free single h.holds;
 }
 
-pub shift_keeps : (c : Claims) (s : Station) (port second : ℕ) → Keeps c second → is_pinned (entry_at c.learned s) ≡ true → vni_at c.ports port ≡ Some s.vni → is_group s.mac ≡ false → Keeps (after_shift c s port) second
+pub shift_keeps : (c : Claims) (s : Station) (port second : ℕ) → Keeps c second
+    → is_pinned (entry_at c.learned s) ≡ true → vni_at c.ports port ≡ Some s.vni → is_group s.mac ≡ false
+    → Keeps (after_shift c s port) second
 shift_keeps c s port second h pinned behind single = record {
   claims = shift_claims c (pinned_on c.learned s port) s port h.claims pinned behind refl;
   numbers = h.numbers;
-  lists = let at = port_there c s port h.claims behind in pin_names c.learned s port h.lists h.holds.buckets (based c h.claims) at.0 at.1 (known (entry_at c.learned s) pinned);
+  lists = let at = port_there c s port h.claims behind in
+      pin_names c.learned s port h.lists h.holds.buckets (based c h.claims) at.0 at.1
+      (known (entry_at c.learned s) pinned);
   holds = shift_holds c s port second single h.holds;
 }
   where
@@ -128,7 +167,8 @@ shift_keeps c s port second h pinned behind single = record {
 
 -- ---- stations go
 
-pub removal_keeps : (c : Claims) (s : Station) (second : ℕ) → Keeps c second → IsSome (entry_at c.learned s) → Keeps (after_removal c s) second
+pub removal_keeps : (c : Claims) (s : Station) (second : ℕ) → Keeps c second → IsSome (entry_at c.learned s)
+    → Keeps (after_removal c s) second
 removal_keeps c s second h there =
     let x = known_entry c s there in
     record {
@@ -138,9 +178,11 @@ removal_keeps c s second h there =
       holds = removal_holds c s second h.holds;
     }
 
-pub removals_keep : (c : Claims) (ss : List Station) (second : ℕ) → Keeps c second → AreOnce ss → ((s : Station) → stands ss s ≡ true → IsSome (entry_at c.learned s)) → Keeps (after_removals c ss) second
+pub removals_keep : (c : Claims) (ss : List Station) (second : ℕ) → Keeps c second → AreOnce ss
+    → ((s : Station) → stands ss s ≡ true → IsSome (entry_at c.learned s)) → Keeps (after_removals c ss) second
 removals_keep c [] second h once known = h
-removals_keep c (s ∷ ss) second h once known = removals_keep (after_removal c s) ss second (removal_keeps c s second h (known s (ap (λ b. b || stands ss s) (eq_same s s refl)))) once.1 rest
+removals_keep c (s ∷ ss) second h once known = removals_keep (after_removal c s) ss second
+    (removal_keeps c s second h (known s (ap (λ b. b || stands ss s) (eq_same s s refl)))) once.1 rest
   where
     rest : (q : Station) → stands ss q ≡ true → IsSome (entry_at (after_removal c s).learned q)
     rest q on =
@@ -153,17 +195,22 @@ removals_keep c (s ∷ ss) second h once known = removals_keep (after_removal c 
 
 -- ---- by a flush, and by age
 
-flush_known : (c : Claims) (set : ℕ) → ListsName c.learned → (s : Station) → stands (flushed_in c.learned set) s ≡ true → IsSome (entry_at c.learned s)
-flush_known c set lists s on = go (entry_at c.learned s) (sym (flushed_stands c.learned lists 0 (ports_of set) s (ports_climb set)) ∙ on)
+flush_known : (c : Claims) (set : ℕ) → ListsName c.learned → (s : Station) → stands (flushed_in c.learned set) s ≡ true
+    → IsSome (entry_at c.learned s)
+flush_known c set lists s on = go (entry_at c.learned s)
+    (sym (flushed_stands c.learned lists 0 (ports_of set) s (ports_climb set)) ∙ on)
   where
     go : (o : Option Entry) → (on_any (ports_of set) o && not (is_pinned o)) ≡ true → IsSome o
-    go None on = let none = none_on (ports_of set) in absurd (let bad : false ≡ true = sym (ap (λ b. b && true) none) ∙ on in cc)
+    go None on = let none = none_on (ports_of set) in absurd (let bad : false ≡ true = sym (ap (λ b. b && true) none)
+        ∙ on in cc)
     go (Some x) on = refl
 
 pub flush_keeps : (c : Claims) (set second : ℕ) → Keeps c second → Keeps (after_flush c set) second
-flush_keeps c set second h = removals_keep c (flushed_in c.learned set) second h (flushed_once c.learned h.lists 0 (ports_of set) (ports_climb set)) (flush_known c set h.lists)
+flush_keeps c set second h = removals_keep c (flushed_in c.learned set) second h
+    (flushed_once c.learned h.lists 0 (ports_of set) (ports_climb set)) (flush_known c set h.lists)
 
-age_known : (c : Claims) (limit : ℕ) → ListsName c.learned → (s : Station) → stands (due_in c.learned limit) s ≡ true → IsSome (entry_at c.learned s)
+age_known : (c : Claims) (limit : ℕ) → ListsName c.learned → (s : Station) → stands (due_in c.learned limit) s ≡ true
+    → IsSome (entry_at c.learned s)
 age_known c limit lists s on = go (entry_at c.learned s) (sym (due_exact c.learned limit lists s) ∙ on)
   where
     go : (o : Option Entry) → (ages o && is_due limit o) ≡ true → IsSome o
@@ -171,7 +218,8 @@ age_known c limit lists s on = go (entry_at c.learned s) (sym (due_exact c.learn
     go (Some x) on = refl
 
 age_keeps : (c : Claims) (limit second : ℕ) → Keeps c second → Keeps (after_ageing c limit) second
-age_keeps c limit second h = removals_keep c (due_in c.learned limit) second h (due_once c.learned limit c.learned.ageing h.lists.ageing_once) (age_known c limit h.lists)
+age_keeps c limit second h = removals_keep c (due_in c.learned limit) second h
+    (due_once c.learned limit c.learned.ageing h.lists.ageing_once) (age_known c limit h.lists)
 
 pub aged_keeps : (c : Claims) (ageing second : ℕ) → Keeps c second → Keeps (aged c ageing second) second
 aged_keeps c ageing second h = go (nat_le ageing second)
@@ -181,27 +229,36 @@ aged_keeps c ageing second h = go (nat_le ageing second)
     go false = h
 
 pub later_keeps : (c : Claims) (second later : ℕ) → second ≤ later → Keeps c second → Keeps c later
-later_keeps c second later less h = record { claims = h.claims; numbers = h.numbers; lists = h.lists; holds = later_holds c second later less h.holds }
+later_keeps c second later less h = record {
+  claims = h.claims;
+  numbers = h.numbers;
+  lists = h.lists;
+  holds = later_holds c second later less h.holds;
+}
 
 -- ---- updates come
 
 -- what is advertised is learnt
-advert_known : (c : Claims) (s : Station) → KeepsClaims c → is_some (own_advert c.voice (key_of s)) ≡ true → IsSome (entry_at c.learned s)
+advert_known : (c : Claims) (s : Station) → KeepsClaims c → is_some (own_advert c.voice (key_of s)) ≡ true
+    → IsSome (entry_at c.learned s)
 advert_known c s h some = go (entry_at c.learned s) (own_advert c.voice (key_of s)) (h.kinds s) some
   where
-    go : (x : Option Entry) (y : Option Advert) → option_map (λ (x : Entry). x.pinned) x ≡ option_map (λ (a : Advert). a.is_static) y → is_some y ≡ true → IsSome x
+    go : (x : Option Entry) (y : Option Advert) → option_map (λ (x : Entry). x.pinned) x
+        ≡ option_map (λ (a : Advert). a.is_static) y → is_some y ≡ true → IsSome x
     go (Some x) y same yes' = refl
     go None None same yes' = absurd (false≢true yes')
     go None (Some y) same yes' = absurd (let bad : None ≡ Some y.is_static = same in cc)
 
-pub other_keeps : (c : Claims) (u : Fields) (second : ℕ) → u.register.originator ≢ c.voice.address → Keeps c second → Keeps (after_take c u) second
+pub other_keeps : (c : Claims) (u : Fields) (second : ℕ) → u.register.originator ≢ c.voice.address → Keeps c second
+    → Keeps (after_take c u) second
 other_keeps c u second other h = losing u.register.key (taken_holds c u second h.holds)
   where
     mid : Claims
     mid = after_update c u
 
     heard : KeepsClaims (after_update c u)
-    heard = spoken_claims c (after_hearing c.voice u) h.claims (λ k. ap advert_of (own_stays c.voice u other k)) h.claims.left
+    heard = spoken_claims c (after_hearing c.voice u) h.claims (λ k. ap advert_of (own_stays c.voice u other k))
+        h.claims.left
 
     told : KeepsNumbers (after_hearing c.voice u)
     told = heard_numbers c.voice u other h.numbers
@@ -210,10 +267,14 @@ other_keeps c u second other h = losing u.register.key (taken_holds c u second h
     first true y e = refl
     first false y e = absurd (false≢true e)
 
-    pick : (s : Station) (b : Bool) → is_lost (after_update c u) s ≡ b → Holds (cond b (after_removal (after_update c u) s) (after_update c u)) second → Keeps (cond b (after_removal (after_update c u) s) (after_update c u)) second
+    pick : (s : Station) (b : Bool) → is_lost (after_update c u) s ≡ b
+        → Holds (cond b (after_removal (after_update c u) s) (after_update c u)) second
+        → Keeps (cond b (after_removal (after_update c u) s) (after_update c u)) second
     pick s false is holds = record { claims = heard; numbers = told; lists = h.lists; holds = holds }
     pick s true is holds =
-        let known = advert_known (after_update c u) s heard (first (is_some (own_advert (after_hearing c.voice u) (key_of s))) (is_at (owner (after_hearing c.voice u).table s.vni s.mac) c.voice.address) is) in
+        let known = advert_known (after_update c u) s heard
+        (first (is_some (own_advert (after_hearing c.voice u) (key_of s)))
+        (is_at (owner (after_hearing c.voice u).table s.vni s.mac) c.voice.address) is) in
         let x = known_entry (after_update c u) s known in
         record {
           claims = removal_claims (after_update c u) s x.0 x.1 heard;
@@ -222,11 +283,14 @@ other_keeps c u second other h = losing u.register.key (taken_holds c u second h
           holds = holds;
         }
 
-    losing : (k : Key) → Holds (after_losing (after_update c u) k) second → Keeps (after_losing (after_update c u) k) second
+    losing : (k : Key) → Holds (after_losing (after_update c u) k) second
+        → Keeps (after_losing (after_update c u) k) second
     losing (Flood v) holds = record { claims = heard; numbers = told; lists = h.lists; holds = holds }
-    losing (Mac v m ip) holds = pick (record { vni = v; mac = m }) (is_lost (after_update c u) (record { vni = v; mac = m })) refl holds
+    losing (Mac v m ip) holds = pick (record { vni = v; mac = m })
+        (is_lost (after_update c u) (record { vni = v; mac = m })) refl holds
 
-own_numbers : (e : Voice) (u : Fields) → KeepsNumbers e → u.register.originator ≡ e.address → is_ahead e u ≡ false → KeepsNumbers (after_hearing_own e u)
+own_numbers : (e : Voice) (u : Fields) → KeepsNumbers e → u.register.originator ≡ e.address → is_ahead e u ≡ false
+    → KeepsNumbers (after_hearing_own e u)
 own_numbers e u n mine ahead = go (is_returning e u) refl
   where
     none : (past : Bool) (o : Option Advert) → past ≡ true → (past && is_some o) ≡ false → o ≡ None
@@ -239,17 +303,25 @@ own_numbers e u n mine ahead = go (is_returning e u) refl
     quiet true newest is =
         let less = past_if_newest e u ahead newest in
         let past : nat_lt u.value.incarnation e.incarnation ≡ true = grind (arith, nat_tests) in
-        let rest : (nat_lt u.value.incarnation e.incarnation && is_some (advert_in u.value.content)) ≡ false = sym (ap (λ b. b && (nat_lt u.value.incarnation e.incarnation && is_some (advert_in u.value.content))) newest) ∙ is in
-        earlier_numbers e u n mine newest less (none (nat_lt u.value.incarnation e.incarnation) (advert_in u.value.content) past rest)
+        let rest : (nat_lt u.value.incarnation e.incarnation && is_some (advert_in u.value.content)) ≡ false =
+        sym (ap (λ b. b && (nat_lt u.value.incarnation e.incarnation && is_some (advert_in u.value.content)))
+        newest) ∙ is in
+        earlier_numbers e u n mine newest less (none (nat_lt u.value.incarnation e.incarnation)
+        (advert_in u.value.content) past rest)
 
-    go : (b : Bool) → is_returning e u ≡ b → KeepsNumbers (cond b (after_saying (after_hearing e u) u.register.key Withdrawn) (after_hearing e u))
+    go : (b : Bool) → is_returning e u ≡ b → KeepsNumbers
+        (cond b (after_saying (after_hearing e u) u.register.key Withdrawn) (after_hearing e u))
     go true is = subst KeepsNumbers (sym (refuted_is e u Withdrawn mine)) (said_numbers e u.register.key Withdrawn n)
     go false is = quiet (is_newest e u) refl is
 
-pub own_keeps : (c : Claims) (u : Fields) (second : ℕ) → u.register.originator ≡ c.voice.address → is_ahead c.voice u ≡ false → has_spent c.voice u ≡ false → Keeps c second → Keeps (after_own c u) second
+pub own_keeps : (c : Claims) (u : Fields) (second : ℕ) → u.register.originator ≡ c.voice.address
+    → is_ahead c.voice u ≡ false → has_spent c.voice u ≡ false → Keeps c second → Keeps (after_own c u) second
 own_keeps c u second mine ahead spent h = record {
   claims = own_claims c (after_hearing_own c.voice u) u (Ok Known) mine h.numbers h.claims refl tt
-      ((λ q. absurd cc), (λ t. absurd (false≢true (sym ahead ∙ t)))) ((λ q. absurd cc), (λ t. absurd (false≢true (sym spent ∙ t))));
+      ((λ q. absurd cc), (λ t. absurd (false≢true (sym ahead ∙ t)))) (
+        (λ q. absurd cc),
+        (λ t. absurd (false≢true (sym spent ∙ t))),
+      );
   numbers = own_numbers c.voice u h.numbers mine ahead;
   lists = h.lists;
   holds = own_holds c u second h.numbers mine ahead h.holds;
@@ -258,7 +330,17 @@ own_keeps c u second mine ahead spent h = record {
 -- an announcement says and learns nothing
 pub announced_keeps : (c : Claims) (second : ℕ) → Keeps c second → Keeps (after_announcement c) second
 announced_keeps c second h = record {
-  claims = record { kinds = h.claims.kinds; bare = h.claims.bare; ports = h.claims.ports; floods = h.claims.floods; fits = h.claims.fits; small = h.claims.small; left = h.claims.left; lists = h.claims.lists; few = h.claims.few };
+  claims = record {
+    kinds = h.claims.kinds;
+    bare = h.claims.bare;
+    ports = h.claims.ports;
+    floods = h.claims.floods;
+    fits = h.claims.fits;
+    small = h.claims.small;
+    left = h.claims.left;
+    lists = h.claims.lists;
+    few = h.claims.few;
+  };
   numbers = record {
     counted = h.numbers.counted;
     distinct = h.numbers.distinct;
@@ -268,5 +350,11 @@ announced_keeps c second h = record {
     pending = λ r in'. h.numbers.pending r (dropped_contains c.voice.pending r in');
   };
   lists = h.lists;
-  holds = record { owns = h.holds.owns; latest = h.holds.latest; individual = h.holds.individual; served = h.holds.served; buckets = h.holds.buckets };
+  holds = record {
+    owns = h.holds.owns;
+    latest = h.holds.latest;
+    individual = h.holds.individual;
+    served = h.holds.served;
+    buckets = h.holds.buckets;
+  };
 }

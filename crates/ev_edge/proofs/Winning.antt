@@ -1,5 +1,6 @@
 -- An edge that advertises a station with the next number above all others', or as static where no other does, owns it.
-use Rattle.std.proofs.Common.{◌≡◌, ◌≢◌, inl, inr, ℕ, ◌<◌, Bool, true, false, cond, eqb, not, ◌&&◌, Option, Some, None, refl, sym, ap, subst, ◌∙◌, arith}
+use Rattle.std.proofs.Common.{◌≡◌, ◌≢◌, inl, inr, ℕ, ◌<◌, Bool, true, false, cond, eqb, not, ◌&&◌, Option, Some, None}
+use Rattle.std.proofs.Common.{refl, sym, ap, subst, ◌∙◌, arith}
 use Rattle.std.specs.declared.cmp.Ordering.{Ordering}
 use Rattle.std.proofs.lemmas.Bool.{eq-eqb}
 use Rattle.std.proofs.lemmas.Bool.Decides.{nat_tests}
@@ -42,9 +43,12 @@ seq_exact t own vni mac = seq_is t own vni mac (updates_of t vni mac) (updates_o
 
 -- what beats every other edge's advert
 abbrev Beats : Claims → Station → Advert → Type 0
-Beats c s a = (b : Advert) (o : Ordering) (p : ℕ) (j : Option Ip) → p ≢ c.voice.address → advert_at c.voice.table p (Mac s.vni s.mac j) ≡ Some b → IsBetterBy a.is_static b.is_static a.sequence b.sequence o
+Beats c s a = (b : Advert) (o : Ordering) (p : ℕ) (j : Option Ip) → p ≢ c.voice.address
+    → advert_at c.voice.table p (Mac s.vni s.mac j) ≡ Some b
+    → IsBetterBy a.is_static b.is_static a.sequence b.sequence o
 
-said_owns : (c : Claims) (s : Station) (a : Advert) → KeepsClaims c → Beats c s a → OwnsAt (record c { voice = after_saying c.voice (key_of s) (Advertised a) }) s
+said_owns : (c : Claims) (s : Station) (a : Advert) → KeepsClaims c → Beats c s a
+    → OwnsAt (record c { voice = after_saying c.voice (key_of s) (Advertised a) }) s
 said_owns c s a good beats some = record {
   ip = None;
   advert = a;
@@ -55,36 +59,52 @@ said_owns c s a good beats some = record {
     now : Voice
     now = after_saying c.voice (key_of s) (Advertised a)
 
-    same_ip : (p : ℕ) (j : Option Ip) (b : Advert) → p ≡ c.voice.address → register_of p (Mac s.vni s.mac j) ≢ register_of c.voice.address (Mac s.vni s.mac None) → advert_at now.table p (Mac s.vni s.mac j) ≡ Some b → ⊥
+    same_ip : (p : ℕ) (j : Option Ip) (b : Advert) → p ≡ c.voice.address
+        → register_of p (Mac s.vni s.mac j) ≢ register_of c.voice.address (Mac s.vni s.mac None)
+        → advert_at now.table p (Mac s.vni s.mac j) ≡ Some b → ⊥
     same_ip p None b same ne is = ne (λ i. register_of (same i) (Mac s.vni s.mac None))
     same_ip p (Some ip) b same ne is =
         let differ : Mac s.vni s.mac (Some ip) ≢ key_of s = λ e. (let no : Some ip ≡ None = cc in cc) in
-        let none : advert_at now.table p (Mac s.vni s.mac (Some ip)) ≡ None = said_other c.voice (key_of s) (Advertised a) (Mac s.vni s.mac (Some ip)) p differ ∙ ap (λ o. advert_at c.voice.table o (Mac s.vni s.mac (Some ip))) same ∙ good.bare s ip in
+        let none : advert_at now.table p (Mac s.vni s.mac (Some ip)) ≡ None =
+        said_other c.voice (key_of s) (Advertised a) (Mac s.vni s.mac (Some ip)) p differ
+        ∙ ap (λ o. advert_at c.voice.table o (Mac s.vni s.mac (Some ip))) same ∙ good.bare s ip in
         let no : None ≡ Some b = sym none ∙ is in cc
 
-    key_other : (p : ℕ) (j : Option Ip) → p ≢ c.voice.address → advert_at now.table p (Mac s.vni s.mac j) ≡ advert_at c.voice.table p (Mac s.vni s.mac j)
-    key_other p j ne = ap advert_of (at_other c.voice.table (own_register c.voice (key_of s)) (next_value c.voice (Advertised a)) (register_of p (Mac s.vni s.mac j)) (λ h. ne (ap (λ (q : Register). q.originator) h)))
+    key_other : (p : ℕ) (j : Option Ip) → p ≢ c.voice.address
+        → advert_at now.table p (Mac s.vni s.mac j) ≡ advert_at c.voice.table p (Mac s.vni s.mac j)
+    key_other p j ne = ap advert_of (at_other c.voice.table (own_register c.voice (key_of s))
+        (next_value c.voice (Advertised a)) (register_of p (Mac s.vni s.mac j))
+        (λ h. ne (ap (λ (q : Register). q.originator) h)))
 
-    go : (p : ℕ) (j : Option Ip) (b : Advert) → register_of p (Mac s.vni s.mac j) ≢ register_of c.voice.address (Mac s.vni s.mac None) → advert_at now.table p (Mac s.vni s.mac j) ≡ Some b → (x : Bool) → eqb p c.voice.address ≡ x
+    go : (p : ℕ) (j : Option Ip) (b : Advert) → register_of p (Mac s.vni s.mac j) ≢ register_of c.voice.address
+        (Mac s.vni s.mac None) → advert_at now.table p (Mac s.vni s.mac j) ≡ Some b → (x : Bool)
+        → eqb p c.voice.address ≡ x
         → IsBetter a (register_of c.voice.address (Mac s.vni s.mac None)) b (register_of p (Mac s.vni s.mac j))
-    go p j b ne is true t = let same : p ≡ c.voice.address = grind (arith, nat_tests) in absurd (same_ip p j b same ne is)
+    go p j b ne is true t = let same : p ≡ c.voice.address = grind (arith, nat_tests) in
+        absurd (same_ip p j b same ne is)
     go p j b ne is false t =
         let other : p ≢ c.voice.address = λ same. (let yes = eq-eqb p c.voice.address same in cc) in
-        beats b (register_cmp (register_of c.voice.address (Mac s.vni s.mac None)) (register_of p (Mac s.vni s.mac j))) p j other (sym (key_other p j other) ∙ is)
+        beats b (register_cmp (register_of c.voice.address (Mac s.vni s.mac None)) (register_of p (Mac s.vni s.mac j)))
+        p j other (sym (key_other p j other) ∙ is)
 
-said_holds : (c : Claims) (s : Station) (a : Advert) → KeepsClaims c → Beats c s a → ((r : Station) → OwnsAt c r) → (r : Station) → OwnsAt (record c { voice = after_saying c.voice (key_of s) (Advertised a) }) r
-said_holds c s a good beats owns r = elim (same_or_other r s) as (λ _. OwnsAt (record c { voice = after_saying c.voice (key_of s) (Advertised a) }) r) [
-  | inl same ↦ subst (OwnsAt (record c { voice = after_saying c.voice (key_of s) (Advertised a) })) (sym same) (said_owns c s a good beats)
-  | inr ne ↦ saying_owns c (key_of s) (Advertised a) r (λ j. other_key r s j None ne) (owns r)
-]
+said_holds : (c : Claims) (s : Station) (a : Advert) → KeepsClaims c → Beats c s a → ((r : Station) → OwnsAt c r)
+    → (r : Station) → OwnsAt (record c { voice = after_saying c.voice (key_of s) (Advertised a) }) r
+said_holds c s a good beats owns r = elim (same_or_other r s) as (λ _. OwnsAt
+    (record c { voice = after_saying c.voice (key_of s) (Advertised a) }) r) [
+      | inl same ↦ subst (OwnsAt (record c { voice = after_saying c.voice (key_of s) (Advertised a) })) (sym same)
+          (said_owns c s a good beats)
+      | inr ne ↦ saying_owns c (key_of s) (Advertised a) r (λ j. other_key r s j None ne) (owns r)
+    ]
 
 -- ---- learning
 
-next_beats : (c : Claims) (s : Station) (n : ℕ) → seq_for c.voice.table c.voice.address s.vni s.mac ≡ Next n → Beats c s (record { is_static = false; sequence = n; label2 = None })
+next_beats : (c : Claims) (s : Station) (n : ℕ) → seq_for c.voice.table c.voice.address s.vni s.mac ≡ Next n
+    → Beats c s (record { is_static = false; sequence = n; label2 = None })
 next_beats c s n next b o p j other is = pick b.is_static loose
   where
     exact : IsSeqFor c.voice.table c.voice.address s.vni s.mac (Next n)
-    exact = subst (IsSeqFor c.voice.table c.voice.address s.vni s.mac) next (seq_exact c.voice.table c.voice.address s.vni s.mac)
+    exact = subst (IsSeqFor c.voice.table c.voice.address s.vni s.mac) next
+        (seq_exact c.voice.table c.voice.address s.vni s.mac)
 
     loose : b.is_static ≡ false
     loose = exact.0 p j b other is
@@ -96,21 +116,29 @@ next_beats c s n next b o p j other is = pick b.is_static loose
     pick true e = cc
     pick false e = (omega (arith, less), λ same. absurd (omega (arith, less, same)))
 
-pub advert_holds : (c : Claims) (s : Station) (port second n : ℕ) → KeepsClaims c → seq_for c.voice.table c.voice.address s.vni s.mac ≡ Next n → is_group s.mac ≡ false → Holds c second → Holds (after_advert c s port second n) second
+pub advert_holds : (c : Claims) (s : Station) (port second n : ℕ) → KeepsClaims c
+    → seq_for c.voice.table c.voice.address s.vni s.mac ≡ Next n → is_group s.mac ≡ false → Holds c second
+    → Holds (after_advert c s port second n) second
 advert_holds c s port second n good next single h = record {
   owns = said_holds c s (record { is_static = false; sequence = n; label2 = None }) good (next_beats c s n next) h.owns;
   latest = latest_learn c.learned s port second New h.latest;
-  individual = changed_individual c.learned (after_advert c s port second n).learned s _ (learn_entry c.learned s port second New) (λ some. single) h.individual;
+  individual = changed_individual c.learned (after_advert c s port second n).learned s _
+      (learn_entry c.learned s port second New) (λ some. single) h.individual;
   served = h.served;
-  buckets = some_bucket c.learned (after_advert c s port second n).learned (chains_learn c.learned s port second New) h.buckets;
+  buckets = some_bucket c.learned (after_advert c s port second n).learned (chains_learn c.learned s port second New)
+      h.buckets;
 }
 
 -- ---- pinning
 
-static_beats : (c : Claims) (s : Station) → is_static (seq_for c.voice.table c.voice.address s.vni s.mac) ≡ false → Beats c s (record { is_static = true; sequence = 0; label2 = None })
-static_beats c s free b o p j other is = pick b.is_static (loose (seq_for c.voice.table c.voice.address s.vni s.mac) free (seq_exact c.voice.table c.voice.address s.vni s.mac) p j b other is)
+static_beats : (c : Claims) (s : Station) → is_static (seq_for c.voice.table c.voice.address s.vni s.mac) ≡ false
+    → Beats c s (record { is_static = true; sequence = 0; label2 = None })
+static_beats c s free b o p j other is = pick b.is_static
+    (loose (seq_for c.voice.table c.voice.address s.vni s.mac) free
+    (seq_exact c.voice.table c.voice.address s.vni s.mac) p j b other is)
   where
-    loose : (q : Seq) → is_static q ≡ false → IsSeqFor c.voice.table c.voice.address s.vni s.mac q → EveryElsewhere c.voice.table c.voice.address s.vni s.mac (λ a. a.is_static ≡ false)
+    loose : (q : Seq) → is_static q ≡ false → IsSeqFor c.voice.table c.voice.address s.vni s.mac q
+        → EveryElsewhere c.voice.table c.voice.address s.vni s.mac (λ a. a.is_static ≡ false)
     loose Static e x = cc
     loose Spent e x = x.0
     loose (Next n) e x = x.0
@@ -119,40 +147,55 @@ static_beats c s free b o p j other is = pick b.is_static (loose (seq_for c.voic
     pick true e = cc
     pick false e = tt
 
-pub pin_holds : (c : Claims) (s : Station) (port second : ℕ) → KeepsClaims c → is_static (seq_for c.voice.table c.voice.address s.vni s.mac) ≡ false → is_group s.mac ≡ false → Holds c second → Holds (after_pin c s port) second
+pub pin_holds : (c : Claims) (s : Station) (port second : ℕ) → KeepsClaims c
+    → is_static (seq_for c.voice.table c.voice.address s.vni s.mac) ≡ false → is_group s.mac ≡ false → Holds c second
+    → Holds (after_pin c s port) second
 pin_holds c s port second good free single h = record {
   owns = said_holds c s (record { is_static = true; sequence = 0; label2 = None }) good (static_beats c s free) h.owns;
   latest = latest_pin c.learned s port second h.latest;
-  individual = changed_individual c.learned (after_pin c s port).learned s _ (pin_entry c.learned s port) (λ some. single) h.individual;
+  individual = changed_individual c.learned (after_pin c s port).learned s _ (pin_entry c.learned s port)
+      (λ some. single) h.individual;
   served = h.served;
   buckets = some_bucket c.learned (after_pin c s port).learned (chains_pin c.learned s port) h.buckets;
 }
 
 -- what isn't refused is an individual address, and the port is of its network
-pub pin_fits : (e : Edge) (s : Station) (port : ℕ) → refused_pin e s port ≡ None → (vni_at e.claims.ports port ≡ Some s.vni) × (is_group s.mac ≡ false)
+pub pin_fits : (e : Edge) (s : Station) (port : ℕ) → refused_pin e s port ≡ None
+    → (vni_at e.claims.ports port ≡ Some s.vni) × (is_group s.mac ≡ false)
 pin_fits e s port is = go (vni_at e.claims.ports port) refl is
   where
     single : (b : Bool) → cond b (Some BadMac) None ≡ None → b ≡ false
     single true q = cc
     single false q = refl
 
-    there : (vni : ℕ) → vni_at e.claims.ports port ≡ Some vni → (b : Bool) → eqb vni s.vni ≡ b → cond b (cond (is_group s.mac) (Some BadMac) None) (Some NoSuchVni) ≡ None → (vni_at e.claims.ports port ≡ Some s.vni) × (is_group s.mac ≡ false)
-    there vni at true t q = (at ∙ ap Some (let same : vni ≡ s.vni = grind (arith, nat_tests) in same), single (is_group s.mac) q)
+    there : (vni : ℕ) → vni_at e.claims.ports port ≡ Some vni → (b : Bool) → eqb vni s.vni ≡ b
+        → cond b (cond (is_group s.mac) (Some BadMac) None) (Some NoSuchVni) ≡ None
+        → (vni_at e.claims.ports port ≡ Some s.vni) × (is_group s.mac ≡ false)
+    there vni at true t q = (
+      at ∙ ap Some (let same : vni ≡ s.vni = grind (arith, nat_tests) in same),
+      single (is_group s.mac) q,
+    )
     there vni at false t q = cc
 
-    go : (o : Option ℕ) → vni_at e.claims.ports port ≡ o → pin_refusal o s ≡ None → (vni_at e.claims.ports port ≡ Some s.vni) × (is_group s.mac ≡ false)
+    go : (o : Option ℕ) → vni_at e.claims.ports port ≡ o → pin_refusal o s ≡ None
+        → (vni_at e.claims.ports port ≡ Some s.vni) × (is_group s.mac ≡ false)
     go None at q = cc
     go (Some vni) at q = there vni at (eqb vni s.vni) refl q
 
 -- what is pinned isn't static elsewhere
-not_static : (e : Edge) (s : Station) (known : Bool) → unpinned_case e s known ≡ Pin → is_static (seq_for (table_of e) (address_of e) s.vni s.mac) ≡ false
+not_static : (e : Edge) (s : Station) (known : Bool) → unpinned_case e s known ≡ Pin
+    → is_static (seq_for (table_of e) (address_of e) s.vni s.mac) ≡ false
 not_static e s known is = go (is_static (seq_for (table_of e) (address_of e) s.vni s.mac)) refl is
   where
-    go : (b : Bool) → is_static (seq_for (table_of e) (address_of e) s.vni s.mac) ≡ b → cond b (Deny StaticElsewhere) (cond (is_spent e.claims) (Deny CounterSpent) (cond (not known && is_full e.claims.learned) (Deny TableFull) Pin)) ≡ Pin → is_static (seq_for (table_of e) (address_of e) s.vni s.mac) ≡ false
+    go : (b : Bool) → is_static (seq_for (table_of e) (address_of e) s.vni s.mac) ≡ b
+        → cond b (Deny StaticElsewhere) (cond (is_spent e.claims) (Deny CounterSpent)
+        (cond (not known && is_full e.claims.learned) (Deny TableFull) Pin)) ≡ Pin
+        → is_static (seq_for (table_of e) (address_of e) s.vni s.mac) ≡ false
     go true t q = cc
     go false t q = t
 
-pub pinned_alone : (e : Edge) (s : Station) (port : ℕ) (o : Option Entry) → pin_case_at e s port o ≡ Pin → is_static (seq_for (table_of e) (address_of e) s.vni s.mac) ≡ false
+pub pinned_alone : (e : Edge) (s : Station) (port : ℕ) (o : Option Entry) → pin_case_at e s port o ≡ Pin
+    → is_static (seq_for (table_of e) (address_of e) s.vni s.mac) ≡ false
 pinned_alone e s port None is = not_static e s false is
 pinned_alone e s port (Some x) is = go x.pinned is
   where
@@ -160,6 +203,7 @@ pinned_alone e s port (Some x) is = go x.pinned is
     inner true q = cc
     inner false q = cc
 
-    go : (b : Bool) → cond b (cond (eqb x.port port) Keep Shift) (unpinned_case e s true) ≡ Pin → is_static (seq_for (table_of e) (address_of e) s.vni s.mac) ≡ false
+    go : (b : Bool) → cond b (cond (eqb x.port port) Keep Shift) (unpinned_case e s true) ≡ Pin
+        → is_static (seq_for (table_of e) (address_of e) s.vni s.mac) ≡ false
     go true q = absurd (inner (eqb x.port port) q)
     go false q = not_static e s true q

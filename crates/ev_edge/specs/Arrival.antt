@@ -1,5 +1,6 @@
 -- What a frame that comes is, or why it is refused.
-use Rattle.std.specs.Prelude.{ℕ, ◌==◌, ◌&&◌, Bool, not, nat_le, if◌then◌else◌, Option, Some, None, Result, Ok, Err, List, length, drop, slice_index}
+use Rattle.std.specs.Prelude.{ℕ, ◌==◌, ◌&&◌, Bool, not, nat_le, if◌then◌else◌, Option, Some, None, Result, Ok, Err}
+use Rattle.std.specs.Prelude.{List, length, drop, slice_index}
 use Rattle.std.specs.List.{list_any}
 use Rattle.ether_wire.specs.Frame.{frame_of, destination_of, source_of, has_length, payload_of}
 use Rattle.ether_wire.specs.Ports.{place_of_port}
@@ -30,7 +31,8 @@ is_bridge_group mac = mac == 0x0180C2000000
 
 -- the LLC header of the spanning tree in front of the payload (9.2)
 abbrev pub has_llc : List ℕ → Bool
-has_llc payload = nat_le 3 (length payload) && (slice_index payload 0 == 0x42 && (slice_index payload 1 == 0x42 && slice_index payload 2 == 0x03))
+has_llc payload = nat_le 3 (length payload) && (slice_index payload 0 == 0x42
+    && (slice_index payload 1 == 0x42 && slice_index payload 2 == 0x03))
 
 -- the frame holds a BPDU
 abbrev pub holds_bpdu : List ℕ → Bool
@@ -79,7 +81,8 @@ inner_arrival vni (Ok frame) = if is_reserved (destination_of frame) then Ok Dro
 
 abbrev pub datagram_arrival : Edge → Result (ℕ × List ℕ) vxlan.Refusal → Result Arrival Refusal
 datagram_arrival e (Err r) = Err (Vxlan r)
-datagram_arrival e (Ok inner) = if serves e inner.0 then inner_arrival inner.0 (frame_of inner.1) else Err (OfEdge NoSuchVni)
+datagram_arrival e (Ok inner) = if serves e inner.0 then inner_arrival inner.0 (frame_of inner.1) else Err
+    (OfEdge NoSuchVni)
 
 -- only other edges that are listed are heard
 abbrev pub is_other : Edge → ℕ → Bool
@@ -87,4 +90,5 @@ is_other e from = is_listed (table_of e) from && not (from == address_of e)
 
 -- this datagram comes from an edge
 abbrev pub tunnel_arrival : Edge → ℕ → List ℕ → Result Arrival Refusal
-tunnel_arrival e from octets = if is_other e from then datagram_arrival e (instance_of octets) else Err (OfEdge UnknownOriginator)
+tunnel_arrival e from octets = if is_other e from then datagram_arrival e (instance_of octets) else Err
+    (OfEdge UnknownOriginator)

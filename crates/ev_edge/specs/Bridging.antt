@@ -39,4 +39,5 @@ after_second e tree flush = record e {
 
 -- one port more of those that pass
 abbrev pub AddsPassing : Tree → ℕ → ℕ → ℕ → Type 0
-AddsPassing tree set port more = (p : ℕ) → (has_port more p ≡ true) ↔ ((has_port set p ≡ true) ⊎ ((port ≡ p) × Passes tree p))
+AddsPassing tree set port more = (p : ℕ) → (has_port more p ≡ true)
+    ↔ ((has_port set p ≡ true) ⊎ ((port ≡ p) × Passes tree p))

@@ -59,4 +59,5 @@ pub record Changes (e : Edge) (event : Event) (result : Result Reply Refusal) (e
   pub address : e'.claims.voice.address ≡ e.claims.voice.address
   pub incarnation : e'.claims.voice.incarnation ≡ e.claims.voice.incarnation
   pub counter : e'.claims.voice.counter ≡ e.claims.voice.counter + length said
-  pub table : table_of e' ≡ with_updates (table_of e) (accepted event result ++ said_updates (heard event result e.claims.voice) said)
+  pub table : table_of e' ≡ with_updates (table_of e) (accepted event result
+      ++ said_updates (heard event result e.claims.voice) said)

@@ -25,7 +25,13 @@ pub record Edge : Type 0 where
   pub windows : FinMap station_cmp Window
 
 abbrev pub edge_of : Claims → ℕ → ℕ → Tree → Moves → Edge
-edge_of claims clock ageing tree moves = record { claims = claims; clock = clock; ageing = ageing; tree = tree; windows = moves.windows }
+edge_of claims clock ageing tree moves = record {
+  claims = claims;
+  clock = clock;
+  ageing = ageing;
+  tree = tree;
+  windows = moves.windows;
+}
 
 abbrev pub table_of : Edge → Table
 table_of e = e.claims.voice.table

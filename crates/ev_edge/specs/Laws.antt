@@ -1,5 +1,6 @@
 -- What the laws of edges say.
-use Rattle.std.specs.Prelude.{◌≡◌, ◌≢◌, ◌↔◌, ℕ, ◌==◌, ◌&&◌, Bool, true, false, not, Option, Some, None, IsSome, is_some, Result, Ok, Err, List, []}
+use Rattle.std.specs.Prelude.{◌≡◌, ◌≢◌, ◌↔◌, ℕ, ◌==◌, ◌&&◌, Bool, true, false, not, Option, Some, None, IsSome, is_some}
+use Rattle.std.specs.Prelude.{Result, Ok, Err, List, []}
 use Rattle.std.specs.Option.{ForSome}
 use Rattle.ether_wire.specs.Ports.{IsPort, has_port}
 use Rattle.ether_wire.specs.Frame.{frame_of, destination_of}
@@ -39,12 +40,14 @@ decision_in (Err r) = None
 
 -- each access port that a frame from this port leaves by is of its network, passes, and is another one
 abbrev pub LeavesBy : Edge → ℕ → Decision → Type 0
-LeavesBy e port d = (p : ℕ) → IsPort p → has_port d.local p ≡ true → (vni_at e.claims.ports p ≡ vni_at e.claims.ports port) × Passes e.tree p × (p ≢ port)
+LeavesBy e port d = (p : ℕ) → IsPort p → has_port d.local p ≡ true
+    → (vni_at e.claims.ports p ≡ vni_at e.claims.ports port) × Passes e.tree p × (p ≢ port)
 
 -- a frame of this network from a tunnel goes into no tunnel, and leaves only by ports of the network that pass
 pub record LeavesTunnel (e : Edge) (octets : List ℕ) (d : Decision) : Type 0 where
   pub remote : d.remote.items ≡ []
-  pub local : (vni : ℕ) (inner : List ℕ) → instance_of octets ≡ Ok (vni, inner) → (p : ℕ) → IsPort p → has_port d.local p ≡ true → (vni_at e.claims.ports p ≡ Some vni) × Passes e.tree p
+  pub local : (vni : ℕ) (inner : List ℕ) → instance_of octets ≡ Ok (vni, inner) → (p : ℕ) → IsPort p
+      → has_port d.local p ≡ true → (vni_at e.claims.ports p ≡ Some vni) × Passes e.tree p
 
 -- the octets are a frame whose destination is reserved
 abbrev pub IsReserved : List ℕ → Type 0
@@ -60,7 +63,8 @@ HoldsReserved octets = (vni : ℕ) × (inner : List ℕ) × (instance_of octets 
 -- ones, none of them with an IP address, and it owns each.
 pub record AdvertisesItsOwn (e : Edge) : Type 0 where
   pub learnt : (s : Station) → IsSome (entry_at e.claims.learned s) ↔ IsSome (own_advert e.claims.voice (key_of s))
-  pub pinned : (s : Station) (x : Entry) (a : Advert) → entry_at e.claims.learned s ≡ Some x → own_advert e.claims.voice (key_of s) ≡ Some a → x.pinned ≡ a.is_static
+  pub pinned : (s : Station) (x : Entry) (a : Advert) → entry_at e.claims.learned s ≡ Some x
+      → own_advert e.claims.voice (key_of s) ≡ Some a → x.pinned ≡ a.is_static
   pub bare : (s : Station) (ip : Ip) → own_advert e.claims.voice (Mac s.vni s.mac (Some ip)) ≡ None
   pub owned : (s : Station) → IsSome (entry_at e.claims.learned s) → IsOwner (table_of e) s.vni s.mac (address_of e)
 
@@ -97,10 +101,12 @@ TellsNoMemory (Err r) = r ≡ OfEdge NoMemory
 
 -- an edge stays good, whatever comes
 abbrev pub StaysGood : Type 0
-StaysGood = (e e' : Edge) (event : Event) (result : Result Reply Refusal) → IsGoodEdge e → Steps e event result e' → IsGoodEdge e'
+StaysGood = (e e' : Edge) (event : Event) (result : Result Reply Refusal) → IsGoodEdge e → Steps e event result e'
+    → IsGoodEdge e'
 
 abbrev pub ChangesItsOwn : Type 0
-ChangesItsOwn = (e e' : Edge) (event : Event) (result : Result Reply Refusal) → IsGoodEdge e → Steps e event result e' → Changes e event result e'
+ChangesItsOwn = (e e' : Edge) (event : Event) (result : Result Reply Refusal) → IsGoodEdge e → Steps e event result e'
+    → Changes e event result e'
 
 abbrev pub LeavesByMembers : Type 0
 LeavesByMembers =

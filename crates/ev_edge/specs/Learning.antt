@@ -1,12 +1,14 @@
 -- Learning the source of a frame (IEEE 802.1D-2004, 7.8, and RFC 7432, section 15): the first of the ten cases that
 -- applies, with what it does.
-use Rattle.std.specs.Prelude.{◌≡◌, ◌⊎◌, ℕ, ◌^◌, ◌==◌, ◌&&◌, ◌||◌, not, nat_le, Bool, true, Option, Some, None, is_none, if◌then◌else◌}
+use Rattle.std.specs.Prelude.{◌≡◌, ◌⊎◌, ℕ, ◌^◌, ◌==◌, ◌&&◌, ◌||◌, not, nat_le, Bool, true, Option, Some, None, is_none}
+use Rattle.std.specs.Prelude.{if◌then◌else◌}
 use Rattle.std.specs.FinMap.{get, insert}
 use Rattle.mac_arena.specs.declared.station.Station.{Station}
 use Rattle.mac_arena.specs.declared.station.Entry.{Entry}
 use Rattle.mac_arena.specs.Learning.{entry_at, is_full}
 use Rattle.ev_mobility.specs.declared.alert.Alert.{Alert}
-use Rattle.ev_mobility.specs.declared.alert.Alert.TheVariants.{StaticElsewhere, SequenceSpent, Duplicate, CounterSpent, TableFull, NoMemory}
+use Rattle.ev_mobility.specs.declared.alert.Alert.TheVariants.{StaticElsewhere, SequenceSpent, Duplicate, CounterSpent}
+use Rattle.ev_mobility.specs.declared.alert.Alert.TheVariants.{TableFull, NoMemory}
 use Rattle.ev_mobility.specs.declared.window.Window.{Window}
 use Rattle.ev_mobility.specs.declared.seq.Seq.{Seq}
 use Rattle.ev_mobility.specs.declared.seq.Seq.TheVariants.{Next, Static, Spent}
@@ -39,7 +41,8 @@ numbered_case e window (Next n) =
 
 -- a station that isn't learnt
 abbrev pub new_case : Edge → Station → Option Window → Case
-new_case e s window = if is_frozen window then Leave else numbered_case e window (seq_for (table_of e) (address_of e) s.vni s.mac)
+new_case e s window = if is_frozen window then Leave else numbered_case e window
+    (seq_for (table_of e) (address_of e) s.vni s.mac)
 
 abbrev pub case_at : Edge → Station → Option Entry → Case
 case_at e s (Some x) = if x.pinned then Leave else Refresh

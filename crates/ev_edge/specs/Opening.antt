@@ -21,7 +21,8 @@ start_of c = record {
   salt = c.salt;
 }
 
--- Nothing is learnt, and it is second 0. The edge advertises the flood list of each VNI, the lowest first, numbered from
+-- Nothing is learnt, and it is second 0. The edge advertises the flood list of each VNI, the lowest first, numbered
+-- from
 -- 1 and pending in this order. No station has moved, and the bridge is as it starts.
 pub record IsOpening (c : EdgeConfig) (e : Edge) : Type 0 where
   pub claims : claims.IsOpening (start_of c) e.claims

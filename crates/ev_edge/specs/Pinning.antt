@@ -31,7 +31,8 @@ is_static Static = true
 is_static Spent = false
 is_static (Next n) = false
 
--- a station that isn't pinned: another edge's static advert hinders it, a spent counter, and a full table where it isn't
+-- a station that isn't pinned: another edge's static advert hinders it, a spent counter, and a full table where it
+-- isn't
 -- learnt
 abbrev pub unpinned_case : Edge → Station → Bool → PinCase
 unpinned_case e s known =

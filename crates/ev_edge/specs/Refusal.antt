@@ -1,7 +1,8 @@
 -- The numbers of an edge's own refusals.
 use Rattle.std.specs.Prelude.{ℕ}
 use Rattle.ev_edge.specs.declared.refusal.EdgeRefusal.{EdgeRefusal}
-use Rattle.ev_edge.specs.declared.refusal.EdgeRefusal.TheVariants.{BadMac, UnknownOriginator, OwnNameAhead, NoMemory, NoSuchPort, NoSuchVni, OwnSpent}
+use Rattle.ev_edge.specs.declared.refusal.EdgeRefusal.TheVariants.{BadMac, UnknownOriginator, OwnNameAhead, NoMemory}
+use Rattle.ev_edge.specs.declared.refusal.EdgeRefusal.TheVariants.{NoSuchPort, NoSuchVni, OwnSpent}
 use Rattle.ev_edge.specs.declared.refusal.Refusal.{Refusal}
 use Rattle.ev_edge.specs.declared.refusal.Refusal.TheVariants.{Ether, Bpdu, Vxlan, Edge}
 use Rattle.ether_wire.specs.Frame as frame

@@ -23,5 +23,6 @@ pub record IsDecision (e : Edge) (vni destination : ℕ) (from : Source) (d : De
   pub passing : ℕ
   pub passing_fit : passing < 2 ^ 64
   pub are_passing : ArePassing e.tree passing
-  pub local : d.local ≡ local_for (table_of e) vni destination (port_of e vni destination) (address_of e) from members passing
+  pub local : d.local ≡ local_for (table_of e) vni destination (port_of e vni destination) (address_of e) from members
+      passing
   pub remote : d.remote.items ≡ remote_for (table_of e) vni destination (port_of e vni destination) (address_of e) from

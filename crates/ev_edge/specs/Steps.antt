@@ -1,5 +1,6 @@
 -- What an event makes of an edge, and what is answered: a table by event and answer.
-use Rattle.std.specs.Prelude.{◌≡◌, ◌⊎◌, ◌↔◌, ℕ, ◌==◌, ◌&&◌, Bool, true, false, not, IsTrue, Option, Some, None, Result, Ok, Err, [], if◌then◌else◌}
+use Rattle.std.specs.Prelude.{◌≡◌, ◌⊎◌, ◌↔◌, ℕ, ◌==◌, ◌&&◌, Bool, true, false, not, IsTrue, Option, Some, None, Result}
+use Rattle.std.specs.Prelude.{Ok, Err, [], if◌then◌else◌}
 use Rattle.ether_wire.specs.Names.{is_group}
 use Rattle.route_wire.specs.Fields.{Fields}
 use Rattle.route_join.specs.Table.{is_listed, value_at}
@@ -26,7 +27,8 @@ use Rattle.ev_edge.specs.declared.reply.Reply.{Reply}
 use Rattle.ev_edge.specs.declared.refusal.Refusal.{Refusal}
 use Rattle.ev_edge.specs.declared.refusal.Refusal.TheVariants.{Edge as OfEdge}
 use Rattle.ev_edge.specs.declared.refusal.EdgeRefusal.{EdgeRefusal}
-use Rattle.ev_edge.specs.declared.refusal.EdgeRefusal.TheVariants.{UnknownOriginator, OwnNameAhead, NoMemory, NoSuchPort, OwnSpent}
+use Rattle.ev_edge.specs.declared.refusal.EdgeRefusal.TheVariants.{UnknownOriginator, OwnNameAhead, NoMemory}
+use Rattle.ev_edge.specs.declared.refusal.EdgeRefusal.TheVariants.{NoSuchPort, OwnSpent}
 use Rattle.ev_edge.specs.Edge.{Edge, table_of, address_of}
 use Rattle.ev_edge.specs.Arrival.{frame_arrival, tunnel_arrival}
 use Rattle.ev_edge.specs.Learning.{Learning}
@@ -68,7 +70,8 @@ pub record LearnsAt (e : Edge) (port vni source : ℕ) (told : Option Alert) (e'
   pub are_learnt : IsTrue learns ↔ Learns e.tree port
   pub learning : LearnsIf (learns && not (is_group source)) e (record { vni = vni; mac = source }) port told e'
 
--- A frame of a network comes at a port. Its source is learnt first; then it is sent by what is learnt and heard then, if
+-- A frame of a network comes at a port. Its source is learnt first; then it is sent by what is learnt and heard then,
+-- if
 -- the port passes.
 pub record DataSteps (e : Edge) (port vni destination source : ℕ) (reply : Reply) (e' : Edge) : Type 0 where
   pub learning : LearnsAt e port vni source reply.alert e'
@@ -120,7 +123,8 @@ TunnelSteps (Err r) e result e' = (result ≡ Err r) × (e' ≡ e)
 TunnelSteps (Ok Dropped) e result e' = (result ≡ Ok nothing) × (e' ≡ e)
 TunnelSteps (Ok (Message b)) e result e' = ⊥
 TunnelSteps (Ok (Data vni destination source)) e (Ok reply) e' =
-    SendsIf true e vni destination Tunnel reply.decision × (reply ≡ record nothing { decision = reply.decision }) × (e' ≡ e)
+    SendsIf true e vni destination Tunnel reply.decision × (reply ≡ record nothing { decision = reply.decision })
+    × (e' ≡ e)
 TunnelSteps (Ok (Data vni destination source)) e (Err r) e' = ⊥
 
 -- ---- updates
@@ -132,7 +136,8 @@ lost_alert lost = if lost then Some LostStatic else None
 abbrev pub OtherRefused : Edge → Fields → Refusal → Type 0
 OtherRefused e u r =
     ((r ≡ OfEdge UnknownOriginator) × (is_listed (table_of e) u.register.originator ≡ false))
-    ⊎ ((r ≡ OfEdge NoMemory) × (is_listed (table_of e) u.register.originator ≡ true) × (value_at (table_of e) u.register ≡ None))
+    ⊎ ((r ≡ OfEdge NoMemory) × (is_listed (table_of e) u.register.originator ≡ true)
+    × (value_at (table_of e) u.register ≡ None))
 
 abbrev pub TakesOther : Edge → Fields → Result Reply Refusal → Edge → Type 0
 TakesOther e u (Ok reply) e' =
@@ -141,7 +146,8 @@ TakesOther e u (Ok reply) e' =
     × (e' ≡ record e { claims = after_take e.claims u })
 TakesOther e u (Err r) e' = OtherRefused e u r × (e' ≡ e)
 
--- why an update under the edge's own name isn't taken; the memory for a new register, or for the withdrawal of an advert
+-- why an update under the edge's own name isn't taken; the memory for a new register, or for the withdrawal of an
+-- advert
 -- of an earlier life, may be refused
 abbrev pub OwnRefused : Edge → Fields → Refusal → Type 0
 OwnRefused e u r =
@@ -185,7 +191,9 @@ Steps e (events.Unpin s) result e' = (result ≡ Ok nothing) × (e' ≡ after_un
 Steps e (events.Thaw s) result e' = (result ≡ Ok nothing) × (e' ≡ after_thawing e s)
 Steps e events.Second result e' = Seconds e result e'
 Steps e (events.PortUp port) result e' = BridgesAt (vni_at e.claims.ports port) (tree_events.PortUp port) e result e'
-Steps e (events.PortDown port) result e' = BridgesAt (vni_at e.claims.ports port) (tree_events.PortDown port) e result e'
+Steps e (events.PortDown port) result e' = BridgesAt (vni_at e.claims.ports port) (tree_events.PortDown port) e result
+    e'
 Steps e (events.Mcheck port) result e' = BridgesAt (vni_at e.claims.ports port) (tree_events.Mcheck port) e result e'
 Steps e events.Announce result e' =
-    (result ≡ Ok (record nothing { announced = announced e.claims.voice })) × (e' ≡ record e { claims = after_announcement e.claims })
+    (result ≡ Ok (record nothing { announced = announced e.claims.voice }))
+    × (e' ≡ record e { claims = after_announcement e.claims })

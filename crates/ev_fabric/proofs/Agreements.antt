@@ -1,5 +1,6 @@
 -- What follows for a sound fabric, and for one whose edges agree.
-use Rattle.std.proofs.Common.{◌≡◌, ◌⊎◌, inl, inr, ℕ, ◌<◌, Bool, false, Option, Some, None, [], refl, sym, ap, subst, ◌∙◌, arith}
+use Rattle.std.proofs.Common.{◌≡◌, ◌⊎◌, inl, inr, ℕ, ◌<◌, Bool, false, Option, Some, None, [], refl, sym, ap, subst}
+use Rattle.std.proofs.Common.{◌∙◌, arith}
 use Rattle.std.proofs.lemmas.Bool.{cases_eq}
 use Rattle.std.specs.Prelude.{Contains, IsSome}
 use Rattle.std.specs.FinMap.{get}
@@ -26,7 +27,8 @@ use Rattle.ev_edge.specs.Edge.{Edge, IsGoodEdge, table_of, address_of}
 use Rattle.ev_fabric.specs.Fabric.{Fabric, IsEdge, life_of}
 use Rattle.ev_fabric.specs.Sound.{update_of, IsBehind, IsSound}
 use Rattle.ev_fabric.specs.Agreed.{AllAgree, Advertises}
-use Rattle.ev_fabric.specs.Laws.{IsNotAhead, NoneAhead, Announced, OneOfTwo, AgreedTables, AgreedReports, IsBehindPort, Learnt, NoneBack}
+use Rattle.ev_fabric.specs.Laws.{IsNotAhead, NoneAhead, Announced, OneOfTwo, AgreedTables, AgreedReports, IsBehindPort}
+use Rattle.ev_fabric.specs.Laws.{Learnt, NoneBack}
 
 -- ---- no table is ahead of its originator
 
@@ -38,30 +40,36 @@ not_ahead b u h = inr (h.says, h.there, go h.order)
     go (inr less) = not_newer_lower u.value h.says (h.present ∙ sym h.alive) less
 
 pub none_ahead : NoneAhead
-none_ahead f h i j a b at_a at_b r v mine is = elim (cases_eq (address_of a) (address_of b)) as (λ _. IsNotAhead b r v) [
-  | inl same ↦
-      let place : i ≡ j = h.apart i j a b at_a at_b same in
-      let edge : a ≡ b = (let at_b' : IsEdge f i b = subst (λ n. IsEdge f n b) (sym place) at_b in cc) in
-      inr (v, subst (λ (e : Edge). value_at (table_of e) r ≡ Some v) edge is, not_newer_itself v)
-  | inr ne ↦ elim ((h.told j b at_b).behind (update_of r v) ((h.told i a at_a).foreign r v (λ q. ne (sym q ∙ mine)) is) mine) as (λ _. IsNotAhead b r v) [
-    | inl earlier ↦ inl earlier
-    | inr told ↦ not_ahead b (update_of r v) told
-  ]
-]
+none_ahead f h i j a b at_a at_b r v mine is = elim (cases_eq (address_of a) (address_of b)) as (λ _. IsNotAhead b r
+    v) [
+      | inl same ↦
+          let place : i ≡ j = h.apart i j a b at_a at_b same in
+          let edge : a ≡ b = (let at_b' : IsEdge f i b = subst (λ n. IsEdge f n b) (sym place) at_b in cc) in
+          inr (v, subst (λ (e : Edge). value_at (table_of e) r ≡ Some v) edge is, not_newer_itself v)
+      | inr ne ↦ elim ((h.told j b at_b).behind (update_of r v)
+          ((h.told i a at_a).foreign r v (λ q. ne (sym q ∙ mine)) is)
+          mine) as (λ _. IsNotAhead b r v) [
+            | inl earlier ↦ inl earlier
+            | inr told ↦ not_ahead b (update_of r v) told
+          ]
+    ]
 
 pub announced : Announced
-announced f h i a at r v is quiet = elim (cases_eq r.originator (address_of a)) as (λ _. Contains f.pool (update_of r v)) [
-  | inl mine ↦ (h.told i a at).own r v mine is (quiet mine)
-  | inr ne ↦ (h.told i a at).foreign r v ne is
-]
+announced f h i a at r v is quiet = elim (cases_eq r.originator (address_of a)) as (λ _. Contains f.pool
+    (update_of r v)) [
+      | inl mine ↦ (h.told i a at).own r v mine is (quiet mine)
+      | inr ne ↦ (h.told i a at).foreign r v ne is
+    ]
 
 -- ---- equal tables
 
 -- what a good edge advertises has no IP address
-pub advert_bare : (a : Edge) (s : Station) → IsGoodEdge a → Advertises a s → (x : Advert) × (own_advert a.claims.voice (key_of s) ≡ Some x)
+pub advert_bare : (a : Edge) (s : Station) → IsGoodEdge a → Advertises a s
+    → (x : Advert) × (own_advert a.claims.voice (key_of s) ≡ Some x)
 advert_bare a s h y = go y.0 y.2
   where
-    go : (ip : Option Ip) → own_advert a.claims.voice (Mac s.vni s.mac ip) ≡ Some y.1 → (x : Advert) × (own_advert a.claims.voice (key_of s) ≡ Some x)
+    go : (ip : Option Ip) → own_advert a.claims.voice (Mac s.vni s.mac ip) ≡ Some y.1
+        → (x : Advert) × (own_advert a.claims.voice (key_of s) ≡ Some x)
     go None is = (y.1, is)
     go (Some n) is = let none = h.claims.claims.bare s n in cc
 
@@ -69,13 +77,15 @@ pub owns : (a : Edge) (s : Station) → IsGoodEdge a → Advertises a s → IsOw
 owns a s h y = let x = advert_bare a s h y in h.keeps.owns s (subst IsSome (sym x.1) refl)
 
 -- equal registers, equal adverts
-same_adverts : (a b : Edge) → (table_of a).registers ≡ (table_of b).registers → (s : Station) (o : ℕ) (ip : Option Ip) → advert_at (table_of a) o (Mac s.vni s.mac ip) ≡ advert_at (table_of b) o (Mac s.vni s.mac ip)
+same_adverts : (a b : Edge) → (table_of a).registers ≡ (table_of b).registers → (s : Station) (o : ℕ) (ip : Option Ip)
+    → advert_at (table_of a) o (Mac s.vni s.mac ip) ≡ advert_at (table_of b) o (Mac s.vni s.mac ip)
 same_adverts a b same s o ip = ap (λ m. advert_of (get m (register_of o (Mac s.vni s.mac ip)))) same
 
 pub one_of_two : OneOfTwo
 one_of_two a b s good_a good_b same x y =
     one_owner (table_of a) s.vni s.mac (address_of a) (address_of b) (owns a s good_a x)
-    (owner_along (table_of b) (table_of a) s.vni s.mac (address_of b) (same_adverts b a (sym same) s) (owns b s good_b y))
+    (owner_along (table_of b) (table_of a) s.vni s.mac (address_of b) (same_adverts b a (sym same) s)
+    (owns b s good_b y))
 
 -- ---- where all agree
 
@@ -84,16 +94,21 @@ none_pending (x, lt, is) = omega (arith, lt)
 
 pub agreed_table : AgreedTables
 agreed_table f h agree i a at = record {
-  from = λ r v is. announced f h i a at r v is (λ mine in'. none_pending (subst (λ l. Contains l r) (agree.quiet i a at) in'));
+  from = λ r v is. announced f h i a at r v is (λ mine in'. none_pending
+      (subst (λ l. Contains l r) (agree.quiet i a at) in'));
   newest = agree.arrived i a at;
 }
 
-pub agreed_registers : (f : Fabric) → IsSound f → AllAgree f → (i j : ℕ) (a b : Edge) → IsEdge f i a → IsEdge f j b → (table_of a).registers ≡ (table_of b).registers
-agreed_registers f h agree i j a b at_a at_b = one_table f.pool f.pool (table_of a) (table_of b) (record { there = λ w in'. in'; back = λ w in'. in' }) (agreed_table f h agree i a at_a) (agreed_table f h agree j b at_b)
+pub agreed_registers : (f : Fabric) → IsSound f → AllAgree f → (i j : ℕ) (a b : Edge) → IsEdge f i a → IsEdge f j b
+    → (table_of a).registers ≡ (table_of b).registers
+agreed_registers f h agree i j a b at_a at_b = one_table f.pool f.pool (table_of a) (table_of b)
+    (record { there = λ w in'. in'; back = λ w in'. in' }) (agreed_table f h agree i a at_a)
+    (agreed_table f h agree j b at_b)
 
 -- a report depends on the registers alone
 pub agreed_reports : AgreedReports
-agreed_reports f h agree i j a b at_a at_b = ap (λ registers. report_of (record { originators = []; registers = registers })) (agreed_registers f h agree i j a b at_a at_b)
+agreed_reports f h agree i j a b at_a at_b = ap (λ registers. report_of
+    (record { originators = []; registers = registers })) (agreed_registers f h agree i j a b at_a at_b)
 
 pub learnt : Learnt
 learnt a s h says = go (entry_at a.claims.learned s) refl
@@ -105,8 +120,10 @@ learnt a s h says = go (entry_at a.claims.learned s) refl
     go (Some x) is = (x, record { learnt = is; port = h.claims.claims.ports s x is })
     go None is =
         let k = h.claims.claims.kinds s in
-        let left : option_map {U = Bool} (λ (x : Entry). x.pinned) (entry_at a.claims.learned s) ≡ None = ap (option_map (λ (x : Entry). x.pinned)) is in
-        let right : option_map {U = Bool} (λ (x : Advert). x.is_static) (own_advert a.claims.voice (key_of s)) ≡ Some y.0.is_static = ap (option_map (λ (x : Advert). x.is_static)) y.1 in
+        let left : option_map {U = Bool} (λ (x : Entry). x.pinned) (entry_at a.claims.learned s) ≡ None =
+        ap (option_map (λ (x : Entry). x.pinned)) is in
+        let right : option_map {U = Bool} (λ (x : Advert). x.is_static) (own_advert a.claims.voice (key_of s))
+        ≡ Some y.0.is_static = ap (option_map (λ (x : Advert). x.is_static)) y.1 in
         absurd (let bad : None ≡ Some y.0.is_static = sym left ∙ k ∙ right in cc)
 
 -- a station that is advertised has an individual address
@@ -116,7 +133,8 @@ individual a s h says = h.keeps.individual s (subst IsSome (sym (learnt a s h sa
 -- no advert of an earlier life is left
 pub none_back : NoneBack
 none_back f h agree i j a b at_a at_b r v mine is some =
-    (h.good j b at_b).claims.numbers.alive r.key v (ap (value_at (table_of b)) (sym named) ∙ ap (λ m. get m r) (agreed_registers f h agree j i b a at_b at_a) ∙ is) some
+    (h.good j b at_b).claims.numbers.alive r.key v (ap (value_at (table_of b)) (sym named)
+    ∙ ap (λ m. get m r) (agreed_registers f h agree j i b a at_b at_a) ∙ is) some
   where
     named : r ≡ register_of (address_of b) r.key
     named = λ k. register_of (mine k) r.key

@@ -1,5 +1,6 @@
 -- What each event of an edge does to what the edge says: it says something, or hears or announces it.
-use Rattle.std.proofs.Common.{◌≡◌, ◌≢◌, ◌⊎◌, inl, inr, ℕ, ◌-◌, ◌<◌, ◌^◌, ◌==◌, ◌&&◌, Bool, true, false, cond, nat_le, Option, Some, None, Result, Ok, Err, List, [], ◌∷◌, refl, sym, ap, subst, ◌∙◌, arith}
+use Rattle.std.proofs.Common.{◌≡◌, ◌≢◌, ◌⊎◌, inl, inr, ℕ, ◌-◌, ◌<◌, ◌^◌, ◌==◌, ◌&&◌, Bool, true, false, cond, nat_le}
+use Rattle.std.proofs.Common.{Option, Some, None, Result, Ok, Err, List, [], ◌∷◌, refl, sym, ap, subst, ◌∙◌, arith}
 use Rattle.std.specs.Prelude.{not}
 use Rattle.std.proofs.lemmas.Bool.Decides.{nat_tests}
 use Rattle.ether_wire.specs.Names.{is_group}
@@ -13,7 +14,8 @@ use Rattle.ev_mobility.specs.declared.alert.Alert.{Alert}
 use Rattle.rstp_run.specs.declared.event.Event as tree
 use Rattle.rstp_run.specs.declared.event.Event.TheVariants as tree_events
 use Rattle.ev_claims.specs.Voice.{Voice, KeepsNumbers, after_saying, after_hearing}
-use Rattle.ev_claims.specs.Claims.{Claims, vni_at, key_of, after_removal, after_removals, after_update, after_losing, after_take, is_lost}
+use Rattle.ev_claims.specs.Claims.{Claims, vni_at, key_of, after_removal, after_removals, after_update, after_losing}
+use Rattle.ev_claims.specs.Claims.{after_take, is_lost}
 use Rattle.ev_claims.specs.Leaving.{after_ageing, after_flush, due_in, flushed_in}
 use Rattle.ev_claims.proofs.Numbers.{heard_numbers}
 use Rattle.ev_edge.specs.declared.arrival.Arrival.{Arrival}
@@ -32,12 +34,15 @@ use Rattle.ev_edge.specs.Learning.{OrNoMemory, Does, case_of, Learning}
 use Rattle.ev_edge.specs.Pinning.{DoesPin, pin_case, refused_pin, after_unpin}
 use Rattle.ev_edge.specs.Bridging.{aged, next_second}
 use Rattle.ev_edge.specs.Learning as learning
-use Rattle.ev_edge.specs.Steps.{LearnsIf, Bridges, BridgesAt, Seconds, FrameSteps, TunnelSteps, TakesOwn, TakesOther, Takes, Pins, Steps}
+use Rattle.ev_edge.specs.Steps.{LearnsIf, Bridges, BridgesAt, Seconds, FrameSteps, TunnelSteps, TakesOwn, TakesOther}
+use Rattle.ev_edge.specs.Steps.{Takes, Pins, Steps}
 use Rattle.ev_fabric.specs.declared.step.LocalEvent.{LocalEvent}
-use Rattle.ev_fabric.specs.declared.step.LocalEvent.TheVariants.{Frame, TunnelFrame, Pin, Unpin, Thaw, Second, PortUp, PortDown, Mcheck}
+use Rattle.ev_fabric.specs.declared.step.LocalEvent.TheVariants.{Frame, TunnelFrame, Pin, Unpin, Thaw, Second, PortUp}
+use Rattle.ev_fabric.specs.declared.step.LocalEvent.TheVariants.{PortDown, Mcheck}
 use Rattle.ev_fabric.specs.Local.{event_of}
 use Rattle.ev_fabric.specs.Sound.{IsTold}
-use Rattle.ev_fabric.proofs.Voices.{Talks, Quiet, Says, talks_numbers, talks_told, talks_further, talks_one, AreOne, heard_one, own_one, one_itself, one_further, heard_told, own_told}
+use Rattle.ev_fabric.proofs.Voices.{Talks, Quiet, Says, talks_numbers, talks_told, talks_further, talks_one, AreOne}
+use Rattle.ev_fabric.proofs.Voices.{heard_one, own_one, one_itself, one_further, heard_told, own_told}
 use Rattle.std.specs.Prelude.{Contains}
 
 -- one edge's words after another's
@@ -49,7 +54,8 @@ stays e e' is = subst (Goes e) (sym is) Quiet
 
 removals_talk : (c : Claims) (ss : List Station) → Talks c.voice (after_removals c ss).voice
 removals_talk c [] = Quiet
-removals_talk c (s ∷ ss) = talks_further c.voice (after_removal c s).voice (after_removals (after_removal c s) ss).voice (Says c.voice (key_of s) Withdrawn Quiet) (removals_talk (after_removal c s) ss)
+removals_talk c (s ∷ ss) = talks_further c.voice (after_removal c s).voice (after_removals (after_removal c s) ss).voice
+    (Says c.voice (key_of s) Withdrawn Quiet) (removals_talk (after_removal c s) ss)
 
 aged_talks : (c : Claims) (ageing clock : ℕ) → Talks c.voice (aged c ageing clock).voice
 aged_talks c ageing clock = go (nat_le ageing clock)
@@ -64,41 +70,52 @@ either : (needs : Bool) (e after e' : Edge) (alert told : Option Alert) → Goes
 either needs e after e' alert told t (inl h) = subst (Goes e) (sym h.1) t
 either needs e after e' alert told t (inr h) = stays e e' h.1
 
-does_talk : (c : Case) (e : Edge) (s : Station) (port : ℕ) (told : Option Alert) (e' : Edge) → Does c e s port told e' → Goes e e'
+does_talk : (c : Case) (e : Edge) (s : Station) (port : ℕ) (told : Option Alert) (e' : Edge) → Does c e s port told e'
+    → Goes e e'
 does_talk Leave e s port told e' h = stays e e' h.1
 does_talk Refresh e s port told e' h = subst (Goes e) (sym h.1) Quiet
 does_talk (Refuse alert) e s port told e' h = stays e e' h.1
 does_talk Freeze e s port told e' h = subst (Goes e) (sym h.1) Quiet
 does_talk (Learn n) e s port told e' h = either _ e _ e' _ told (Says e.claims.voice (key_of s) _ Quiet) h
 
-learns_talk : (b : Bool) (e : Edge) (s : Station) (port : ℕ) (told : Option Alert) (e' : Edge) → LearnsIf b e s port told e' → Goes e e'
+learns_talk : (b : Bool) (e : Edge) (s : Station) (port : ℕ) (told : Option Alert) (e' : Edge)
+    → LearnsIf b e s port told e' → Goes e e'
 learns_talk true e s port told e' h = does_talk (case_of e s) e s port told e' h
 learns_talk false e s port told e' h = stays e e' h.1
 
 -- ---- the bridge
-bridges_talk : (event : tree.Event) (e : Edge) (result : Result Reply Refusal) (e' : Edge) → Bridges event e result e' → Goes e e'
-bridges_talk event e (Ok reply) e' h = subst (Goes e) (sym h.after) (removals_talk e.claims (flushed_in e.claims.learned h.flush))
+bridges_talk : (event : tree.Event) (e : Edge) (result : Result Reply Refusal) (e' : Edge) → Bridges event e result e'
+    → Goes e e'
+bridges_talk event e (Ok reply) e' h = subst (Goes e) (sym h.after)
+    (removals_talk e.claims (flushed_in e.claims.learned h.flush))
 bridges_talk event e (Err r) e' h = absurd h
 
-bridges_at_talk : (o : Option ℕ) (event : tree.Event) (e : Edge) (result : Result Reply Refusal) (e' : Edge) → BridgesAt o event e result e' → Goes e e'
+bridges_at_talk : (o : Option ℕ) (event : tree.Event) (e : Edge) (result : Result Reply Refusal) (e' : Edge)
+    → BridgesAt o event e result e' → Goes e e'
 bridges_at_talk None event e result e' h = stays e e' h.1
 bridges_at_talk (Some vni) event e result e' h = bridges_talk event e result e' h
 
 seconds_talk : (e : Edge) (result : Result Reply Refusal) (e' : Edge) → Seconds e result e' → Goes e e'
 seconds_talk e (Ok reply) e' h =
     subst (Goes e) (sym h.after)
-    (talks_further e.claims.voice (after_flush e.claims h.flush).voice _ (removals_talk e.claims (flushed_in e.claims.learned h.flush)) (aged_talks (after_flush e.claims h.flush) e.ageing (next_second e.clock)))
+    (talks_further e.claims.voice (after_flush e.claims h.flush).voice _
+    (removals_talk e.claims (flushed_in e.claims.learned h.flush))
+    (aged_talks (after_flush e.claims h.flush) e.ageing (next_second e.clock)))
 seconds_talk e (Err r) e' h = absurd h
 
 -- ---- frames
-frame_talks : (a : Result Arrival Refusal) (e : Edge) (port : ℕ) (result : Result Reply Refusal) (e' : Edge) → FrameSteps a e port result e' → Goes e e'
+frame_talks : (a : Result Arrival Refusal) (e : Edge) (port : ℕ) (result : Result Reply Refusal) (e' : Edge)
+    → FrameSteps a e port result e' → Goes e e'
 frame_talks (Err r) e port result e' h = stays e e' h.1
 frame_talks (Ok Dropped) e port result e' h = stays e e' h.1
 frame_talks (Ok (Message b)) e port result e' h = bridges_talk (tree_events.Bpdu port b) e result e' h
-frame_talks (Ok (Data vni destination source)) e port (Ok reply) e' h = learns_talk (h.learning.learns && not (is_group source)) e (record { vni = vni; mac = source }) port reply.alert e' h.learning.learning
+frame_talks (Ok (Data vni destination source)) e port (Ok reply) e' h =
+    learns_talk (h.learning.learns && not (is_group source)) e (record { vni = vni; mac = source }) port reply.alert e'
+    h.learning.learning
 frame_talks (Ok (Data vni destination source)) e port (Err r) e' h = absurd h
 
-tunnel_talks : (a : Result Arrival Refusal) (e : Edge) (result : Result Reply Refusal) (e' : Edge) → TunnelSteps a e result e' → Goes e e'
+tunnel_talks : (a : Result Arrival Refusal) (e : Edge) (result : Result Reply Refusal) (e' : Edge)
+    → TunnelSteps a e result e' → Goes e e'
 tunnel_talks (Err r) e result e' h = stays e e' h.1
 tunnel_talks (Ok Dropped) e result e' h = stays e e' h.1
 tunnel_talks (Ok (Message b)) e result e' h = absurd h
@@ -106,13 +123,15 @@ tunnel_talks (Ok (Data vni destination source)) e (Ok reply) e' h = stays e e' h
 tunnel_talks (Ok (Data vni destination source)) e (Err r) e' h = absurd h
 
 -- ---- pins
-does_pin_talk : (c : PinCase) (e : Edge) (s : Station) (port : ℕ) (told : Option Alert) (e' : Edge) → DoesPin c e s port told e' → Goes e e'
+does_pin_talk : (c : PinCase) (e : Edge) (s : Station) (port : ℕ) (told : Option Alert) (e' : Edge)
+    → DoesPin c e s port told e' → Goes e e'
 does_pin_talk pins.Keep e s port told e' h = stays e e' h.1
 does_pin_talk pins.Shift e s port told e' h = subst (Goes e) (sym h.1) Quiet
 does_pin_talk (pins.Deny alert) e s port told e' h = stays e e' h.1
 does_pin_talk pins.Pin e s port told e' h = either _ e _ e' _ told (Says e.claims.voice (key_of s) _ Quiet) h
 
-pins_talk : (o : Option EdgeRefusal) (e : Edge) (s : Station) (port : ℕ) (result : Result Reply Refusal) (e' : Edge) → Pins o e s port result e' → Goes e e'
+pins_talk : (o : Option EdgeRefusal) (e : Edge) (s : Station) (port : ℕ) (result : Result Reply Refusal) (e' : Edge)
+    → Pins o e s port result e' → Goes e e'
 pins_talk (Some r) e s port result e' h = stays e e' h.1
 pins_talk None e s port (Ok reply) e' h = does_pin_talk (pin_case e s port) e s port reply.alert e' h.0
 pins_talk None e s port (Err r) e' h = absurd h
@@ -125,16 +144,20 @@ unpin_talks e s = go (is_pinned (entry_at e.claims.learned s))
     go false = Quiet
 
 -- ---- all events from outside
-pub local_talks : (e : Edge) (event : LocalEvent) (result : Result Reply Refusal) (e' : Edge) → Steps e (event_of event) result e' → Goes e e'
+pub local_talks : (e : Edge) (event : LocalEvent) (result : Result Reply Refusal) (e' : Edge)
+    → Steps e (event_of event) result e' → Goes e e'
 local_talks e (Frame port octets) result e' h = frame_talks (frame_arrival e port octets.now) e port result e' h
 local_talks e (TunnelFrame from octets) result e' h = tunnel_talks (tunnel_arrival e from octets.now) e result e' h
 local_talks e (Pin s port) result e' h = pins_talk (refused_pin e s port) e s port result e' h
 local_talks e (Unpin s) result e' h = subst (Goes e) (sym h.1) (unpin_talks e s)
 local_talks e (Thaw s) result e' h = subst (Goes e) (sym h.1) Quiet
 local_talks e Second result e' h = seconds_talk e result e' h
-local_talks e (PortUp port) result e' h = bridges_at_talk (vni_at e.claims.ports port) (tree_events.PortUp port) e result e' h
-local_talks e (PortDown port) result e' h = bridges_at_talk (vni_at e.claims.ports port) (tree_events.PortDown port) e result e' h
-local_talks e (Mcheck port) result e' h = bridges_at_talk (vni_at e.claims.ports port) (tree_events.Mcheck port) e result e' h
+local_talks e (PortUp port) result e' h = bridges_at_talk (vni_at e.claims.ports port) (tree_events.PortUp port) e
+    result e' h
+local_talks e (PortDown port) result e' h = bridges_at_talk (vni_at e.claims.ports port) (tree_events.PortDown port) e
+    result e' h
+local_talks e (Mcheck port) result e' h = bridges_at_talk (vni_at e.claims.ports port) (tree_events.Mcheck port) e
+    result e' h
 
 -- ---- an update
 losing_talks : (c : Claims) (k : Key) → Talks c.voice (after_losing c k).voice
@@ -151,25 +174,37 @@ pub record Leaves (pool : List Fields) (e e' : Voice) : Type 0 where
   pub one : AreOne e e'
 
 unchanged : (pool : List Fields) (e e' : Edge) → e' ≡ e → Leaves pool e.claims.voice e'.claims.voice
-unchanged pool e e' is = subst (λ x. Leaves pool e.claims.voice x.claims.voice) (sym is) (record { told = λ told. told; one = one_itself e.claims.voice })
+unchanged pool e e' is = subst (λ x. Leaves pool e.claims.voice x.claims.voice) (sym is)
+    (record { told = λ told. told; one = one_itself e.claims.voice })
 
-takes_own : (pool : List Fields) (e : Edge) (u : Fields) (result : Result Reply Refusal) (e' : Edge) → Contains pool u → KeepsNumbers e.claims.voice → u.register.originator ≡ address_of e → TakesOwn e u result e' → Leaves pool e.claims.voice e'.claims.voice
-takes_own pool e u (Ok reply) e' in' h mine steps = subst (λ x. Leaves pool e.claims.voice x.claims.voice) (sym steps.3) (record { told = own_told pool e.claims.voice u in' h mine steps.0; one = own_one e.claims.voice u })
+takes_own : (pool : List Fields) (e : Edge) (u : Fields) (result : Result Reply Refusal) (e' : Edge) → Contains pool u
+    → KeepsNumbers e.claims.voice → u.register.originator ≡ address_of e → TakesOwn e u result e'
+    → Leaves pool e.claims.voice e'.claims.voice
+takes_own pool e u (Ok reply) e' in' h mine steps = subst (λ x. Leaves pool e.claims.voice x.claims.voice) (sym steps.3)
+    (record { told = own_told pool e.claims.voice u in' h mine steps.0; one = own_one e.claims.voice u })
 takes_own pool e u (Err r) e' in' h mine steps = unchanged pool e e' steps.1
 
-takes_other : (pool : List Fields) (e : Edge) (u : Fields) (result : Result Reply Refusal) (e' : Edge) → Contains pool u → KeepsNumbers e.claims.voice → u.register.originator ≢ address_of e → TakesOther e u result e' → Leaves pool e.claims.voice e'.claims.voice
-takes_other pool e u (Ok reply) e' in' h other steps = subst (λ x. Leaves pool e.claims.voice x.claims.voice) (sym steps.2) (record {
-  told = λ told. talks_told pool (after_hearing e.claims.voice u) _ lost (heard_numbers e.claims.voice u other h) (heard_told pool e.claims.voice u in' other told);
-  one = one_further e.claims.voice (after_hearing e.claims.voice u) _ (heard_one e.claims.voice u) (talks_one (after_hearing e.claims.voice u) _ lost);
-})
+takes_other : (pool : List Fields) (e : Edge) (u : Fields) (result : Result Reply Refusal) (e' : Edge) → Contains pool u
+    → KeepsNumbers e.claims.voice → u.register.originator ≢ address_of e → TakesOther e u result e'
+    → Leaves pool e.claims.voice e'.claims.voice
+takes_other pool e u (Ok reply) e' in' h other steps = subst (λ x. Leaves pool e.claims.voice x.claims.voice)
+    (sym steps.2) (record {
+      told = λ told. talks_told pool (after_hearing e.claims.voice u) _ lost (heard_numbers e.claims.voice u other h)
+          (heard_told pool e.claims.voice u in' other told);
+      one = one_further e.claims.voice (after_hearing e.claims.voice u) _ (heard_one e.claims.voice u)
+          (talks_one (after_hearing e.claims.voice u) _ lost);
+    })
   where
     lost : Talks (after_hearing e.claims.voice u) (after_take e.claims u).voice
     lost = losing_talks (after_update e.claims u) u.register.key
 takes_other pool e u (Err r) e' in' h other steps = unchanged pool e e' steps.1
 
-pub takes_told : (pool : List Fields) (e : Edge) (u : Fields) (result : Result Reply Refusal) (e' : Edge) → Contains pool u → KeepsNumbers e.claims.voice → Steps e (events.Take u) result e' → Leaves pool e.claims.voice e'.claims.voice
+pub takes_told : (pool : List Fields) (e : Edge) (u : Fields) (result : Result Reply Refusal) (e' : Edge)
+    → Contains pool u → KeepsNumbers e.claims.voice → Steps e (events.Take u) result e'
+    → Leaves pool e.claims.voice e'.claims.voice
 takes_told pool e u result e' in' h steps = go (u.register.originator == address_of e) refl steps
   where
-    go : (b : Bool) → (u.register.originator == address_of e) ≡ b → Takes b e u result e' → Leaves pool e.claims.voice e'.claims.voice
+    go : (b : Bool) → (u.register.originator == address_of e) ≡ b → Takes b e u result e'
+        → Leaves pool e.claims.voice e'.claims.voice
     go true is steps = takes_own pool e u result e' in' h (grind (arith, nat_tests)) steps
     go false is steps = takes_other pool e u result e' in' h (grind (arith, nat_tests)) steps

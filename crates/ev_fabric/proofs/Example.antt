@@ -1,5 +1,6 @@
 -- Two edges of one network as they are opened: the laws' first premise can be met.
-use Rattle.std.proofs.Common.{◌≡◌, ◌≤◌, ◌==◌, ◌&&◌, ◌||◌, ℕ, zero, suc, ◌+◌, true, false, Some, None, List, [], ◌∷◌, refl, sym, ap, subst, ◌∙◌, eqb, arith, lit<, lit≤}
+use Rattle.std.proofs.Common.{◌≡◌, ◌≤◌, ◌==◌, ◌&&◌, ◌||◌, ℕ, zero, suc, ◌+◌, true, false, Some, None, List, [], ◌∷◌}
+use Rattle.std.proofs.Common.{refl, sym, ap, subst, ◌∙◌, eqb, arith, lit<, lit≤}
 use Rattle.std.specs.Prelude.{Contains, is_some, is_none, slice_get, slice_index_or, nat_lt}
 use Rattle.std.specs.List.{IsDistinct}
 use Rattle.std.proofs.lemmas.Bool.Decides.{nat_tests}
@@ -37,7 +38,16 @@ use Rattle.ev_fabric.proofs.Opened.{start_sound}
 
 -- a port that leads to no bridge
 abbrev pub port_of : PortConfig
-port_of = record { vni = 5001; settings = record { priority = 128; cost = 20000; admin_edge = true; auto_edge = false; point_to_point = true } }
+port_of = record {
+  vni = 5001;
+  settings = record {
+    priority = 128;
+    cost = 20000;
+    admin_edge = true;
+    auto_edge = false;
+    point_to_point = true;
+  };
+}
 
 -- The edge of this address has two ports of network 5001, room for one station, and listens to 10.0.0.1 and 10.0.0.2.
 abbrev pub config_of : Settings → ℕ → EdgeConfig
@@ -98,7 +108,8 @@ are_configs tree hello = record {
   some = lit< tt;
   few = lit≤ tt;
   apart = differ;
-  configs = each IsConfig (config_of tree 0x0a000001) (config_of tree 0x0a000002) (fits tree 0x0a000001 hello (zero, lit< tt, refl)) (fits tree 0x0a000002 hello (suc zero, lit< tt, refl));
+  configs = each IsConfig (config_of tree 0x0a000001) (config_of tree 0x0a000002)
+      (fits tree 0x0a000001 hello (zero, lit< tt, refl)) (fits tree 0x0a000002 hello (suc zero, lit< tt, refl));
   listed = each (ListsAll addresses) (config_of tree 0x0a000001) (config_of tree 0x0a000002) (λ o h. h) (λ o h. h);
 }
 
@@ -111,7 +122,12 @@ abbrev pub opened_voice : ℕ → Voice
 opened_voice address = after_saying (silent address 0 addresses) (Flood 5001) (Advertised flood_advert)
 
 abbrev pub opened_claims_of : ℕ → Claims
-opened_claims_of address = record { voice = opened_voice address; learned = nobody_learnt; ports = 5001 ∷ 5001 ∷ []; vnis = 5001 ∷ [] }
+opened_claims_of address = record {
+  voice = opened_voice address;
+  learned = nobody_learnt;
+  ports = 5001 ∷ 5001 ∷ [];
+  vnis = 5001 ∷ [];
+}
 
 abbrev pub edge_of : Settings → ℕ → Edge
 edge_of tree address = record {
@@ -123,9 +139,14 @@ edge_of tree address = record {
 }
 
 abbrev pub fabric_of : Settings → Fabric
-fabric_of tree = record { edges = edge_of tree 0x0a000001 ∷ edge_of tree 0x0a000002 ∷ []; configs = configs_of tree; pool = [] }
+fabric_of tree = record {
+  edges = edge_of tree 0x0a000001 ∷ edge_of tree 0x0a000002 ∷ [];
+  configs = configs_of tree;
+  pool = [];
+}
 
-opens_claims : (tree : Settings) (address : ℕ) → claims.IsOpening (start_of (config_of tree address)) (opened_claims_of address)
+opens_claims : (tree : Settings) (address : ℕ) → claims.IsOpening (start_of (config_of tree address))
+    (opened_claims_of address)
 opens_claims tree address = record {
   vnis = IsPermutation-refl (5001 ∷ []);
   ascending = λ k d from within. absurd (omega (arith, within));
@@ -135,7 +156,13 @@ opens_claims tree address = record {
 }
 
 opens : (tree : Settings) (address : ℕ) → IsOpening (config_of tree address) (edge_of tree address)
-opens tree address = record { claims = opens_claims tree address; clock = refl; ageing = refl; tree = refl; windows = refl }
+opens tree address = record {
+  claims = opens_claims tree address;
+  clock = refl;
+  ageing = refl;
+  tree = refl;
+  windows = refl;
+}
 
 -- ---- they are good
 
@@ -167,7 +194,8 @@ free (suc n) =
 
 lists_name : ListsName nobody_learnt
 lists_name = record {
-  chains = λ b s. ap (λ xs. stands xs s) (no_chain b) ∙ sym (ap (λ o. is_some o && (bucket_in nobody_learnt s == b)) (none s));
+  chains = λ b s. ap (λ xs. stands xs s) (no_chain b) ∙ sym
+      (ap (λ o. is_some o && (bucket_in nobody_learnt s == b)) (none s));
   chains_once = λ b. subst AreOnce (sym (no_chain b)) tt;
   ports = λ l s. ap (λ xs. stands xs s) (no_port l) ∙ sym (ap (λ o. is_on o (l + 1)) (none s));
   ports_once = λ l. subst AreOnce (sym (no_port l)) tt;
@@ -186,10 +214,13 @@ good : (tree : Settings) (address : ℕ) → Contains addresses address → IsGo
 good tree address listed = record {
   claims = record {
     claims = opened_claims address 0 addresses (5001 ∷ []) (5001 ∷ 5001 ∷ []) 1 1 0 (lit≤ tt) (lit≤ tt) (lit≤ tt);
-    numbers = said_numbers (silent address 0 addresses) (Flood 5001) (Advertised flood_advert) (silent_voice address 0 addresses listed).numbers;
+    numbers = said_numbers (silent address 0 addresses) (Flood 5001) (Advertised flood_advert)
+        (silent_voice address 0 addresses listed).numbers;
     lists = lists_name;
   };
-  keeps = (edge.opened (start_of (config_of tree address)) (opened_claims_of address) tree (settings_of (port_of ∷ port_of ∷ [])) 300 (start tree (settings_of (port_of ∷ port_of ∷ []))) (record { windows = empty; places = [] }) (opens_claims tree address) refl refl served (lit< tt)).keeps;
+  keeps = (edge.opened (start_of (config_of tree address)) (opened_claims_of address) tree
+      (settings_of (port_of ∷ port_of ∷ [])) 300 (start tree (settings_of (port_of ∷ port_of ∷ [])))
+      (record { windows = empty; places = [] }) (opens_claims tree address) refl refl served (lit< tt)).keeps;
 }
 
 -- ---- the fabric
@@ -201,18 +232,32 @@ is_start tree = record {
   quiet = refl;
 }
   where
-    opened_at : (i : ℕ) (c : EdgeConfig) (a : Edge) → slice_get (configs_of tree) i ≡ Some c → slice_get (fabric_of tree).edges i ≡ Some a → IsOpening c a
-    opened_at zero c a at_c at_a = let p : config_of tree 0x0a000001 ≡ c = cc in let q : edge_of tree 0x0a000001 ≡ a = cc in subst (λ d. IsOpening d a) p (subst (IsOpening (config_of tree 0x0a000001)) q (opens tree 0x0a000001))
-    opened_at (suc zero) c a at_c at_a = let p : config_of tree 0x0a000002 ≡ c = cc in let q : edge_of tree 0x0a000002 ≡ a = cc in subst (λ d. IsOpening d a) p (subst (IsOpening (config_of tree 0x0a000002)) q (opens tree 0x0a000002))
+    opened_at : (i : ℕ) (c : EdgeConfig) (a : Edge) → slice_get (configs_of tree) i ≡ Some c
+        → slice_get (fabric_of tree).edges i ≡ Some a → IsOpening c a
+    opened_at zero c a at_c at_a = let p : config_of tree 0x0a000001 ≡ c = cc in
+        let q : edge_of tree 0x0a000001 ≡ a = cc in subst (λ d. IsOpening d a) p
+        (subst (IsOpening (config_of tree 0x0a000001)) q (opens tree 0x0a000001))
+    opened_at (suc zero) c a at_c at_a = let p : config_of tree 0x0a000002 ≡ c = cc in
+        let q : edge_of tree 0x0a000002 ≡ a = cc in subst (λ d. IsOpening d a) p
+        (subst (IsOpening (config_of tree 0x0a000002)) q (opens tree 0x0a000002))
     opened_at (suc (suc i)) c a at_c at_a = let e : ⊥ = cc in absurd e
 
     good_at : (i : ℕ) (a : Edge) → slice_get (fabric_of tree).edges i ≡ Some a → IsGoodEdge a
-    good_at zero a at = let q : edge_of tree 0x0a000001 ≡ a = cc in subst IsGoodEdge q (good tree 0x0a000001 (zero, lit< tt, refl))
-    good_at (suc zero) a at = let q : edge_of tree 0x0a000002 ≡ a = cc in subst IsGoodEdge q (good tree 0x0a000002 (suc zero, lit< tt, refl))
+    good_at zero a at = let q : edge_of tree 0x0a000001 ≡ a = cc in
+        subst IsGoodEdge q (good tree 0x0a000001 (zero, lit< tt, refl))
+    good_at (suc zero) a at = let q : edge_of tree 0x0a000002 ≡ a = cc in
+        subst IsGoodEdge q (good tree 0x0a000002 (suc zero, lit< tt, refl))
     good_at (suc (suc i)) a at = let e : ⊥ = cc in absurd e
 
 abbrev usual : Settings
 usual = record { identifier = 0x8000000000000001; hello = 2; max_age = 20; forward_delay = 15; hold = 6 }
 
 pub a_fabric_opens : FabricOpens
-a_fabric_opens = (configs_of usual, fabric_of usual, are_configs usual (lit≤ tt), is_start usual, lit≤ tt, start_sound (configs_of usual) (fabric_of usual) (are_configs usual (lit≤ tt)) (is_start usual))
+a_fabric_opens = (
+  configs_of usual,
+  fabric_of usual,
+  are_configs usual (lit≤ tt),
+  is_start usual,
+  lit≤ tt,
+  start_sound (configs_of usual) (fabric_of usual) (are_configs usual (lit≤ tt)) (is_start usual),
+)

@@ -1,5 +1,6 @@
 -- Every step keeps a fabric sound.
-use Rattle.std.proofs.Common.{◌≡◌, ◌≢◌, ◌⊎◌, inl, inr, ℕ, zero, suc, ◌-◌, ◌<◌, true, Option, Some, None, Result, Ok, Err, List, [], ◌∷◌, ◌++◌, length, refl, sym, ap, subst, ◌∙◌, arith}
+use Rattle.std.proofs.Common.{◌≡◌, ◌≢◌, ◌⊎◌, inl, inr, ℕ, zero, suc, ◌-◌, ◌<◌, true, Option, Some, None, Result, Ok}
+use Rattle.std.proofs.Common.{Err, List, [], ◌∷◌, ◌++◌, length, refl, sym, ap, subst, ◌∙◌, arith}
 use Rattle.std.proofs.lemmas.Bool.{cases_eq}
 use Rattle.std.proofs.lemmas.List.Elements.{Contains-push_cases}
 use Rattle.std.specs.Prelude.{Contains, slice_get, slice_set, drop}
@@ -29,7 +30,8 @@ use Rattle.ev_fabric.specs.declared.step.Step.TheVariants.{Local, Announce, Deli
 use Rattle.ev_fabric.specs.Fabric.{Fabric, IsEdge, nth, life_of}
 use Rattle.ev_fabric.specs.Local.{event_of}
 use Rattle.ev_fabric.specs.Sound.{update_of, IsTold, SaidOnce, IsOf, IsSound}
-use Rattle.ev_fabric.specs.Steps.{with_announced, IsRefused, StepsAt, AnnouncesAt, in_life, OpensAnew, RestartsAt, FabricSteps}
+use Rattle.ev_fabric.specs.Steps.{with_announced, IsRefused, StepsAt, AnnouncesAt, in_life, OpensAnew, RestartsAt}
+use Rattle.ev_fabric.specs.Steps.{FabricSteps}
 use Rattle.ev_fabric.specs.Runs.{Runs}
 use Rattle.ev_fabric.specs.Rest.{Rests}
 use Rattle.ev_fabric.proofs.Places.{set_cases, set_same, set_other, set_length, contains_at}
@@ -46,18 +48,22 @@ record Becomes (old new : Fabric) (i : ℕ) (before after : Edge) : Type 0 where
   address : address_of after ≡ address_of before
   originators : (table_of after).originators ≡ (table_of before).originators
 
-at_place : (old new : Fabric) (i : ℕ) (before after : Edge) → Becomes old new i before after → (j : ℕ) (a : Edge) → IsEdge new j a → ((j ≡ i) × (a ≡ after)) ⊎ ((j ≢ i) × (IsEdge old j a))
-at_place old new i before after b j a is = set_cases old.edges i after j a (subst (λ l. slice_get l j ≡ Some a) b.edges is)
+at_place : (old new : Fabric) (i : ℕ) (before after : Edge) → Becomes old new i before after → (j : ℕ) (a : Edge)
+    → IsEdge new j a → ((j ≡ i) × (a ≡ after)) ⊎ ((j ≢ i) × (IsEdge old j a))
+at_place old new i before after b j a is = set_cases old.edges i after j a
+    (subst (λ l. slice_get l j ≡ Some a) b.edges is)
 
 -- each edge is good
 abbrev AreGood : Fabric → Type 0
 AreGood f = (i : ℕ) (a : Edge) → IsEdge f i a → IsGoodEdge a
 
-goods : (old new : Fabric) (i : ℕ) (before after : Edge) → Becomes old new i before after → IsGoodEdge after → IsSound old → AreGood new
-goods old new i before after step good h j a at = elim (at_place old new i before after step j a at) as (λ _. IsGoodEdge a) [
-  | inl p ↦ subst IsGoodEdge (sym p.1) good
-  | inr p ↦ h.good j a p.1
-]
+goods : (old new : Fabric) (i : ℕ) (before after : Edge) → Becomes old new i before after → IsGoodEdge after
+    → IsSound old → AreGood new
+goods old new i before after step good h j a at = elim (at_place old new i before after step j a at) as (λ _. IsGoodEdge
+    a) [
+      | inl p ↦ subst IsGoodEdge (sym p.1) good
+      | inr p ↦ h.good j a p.1
+    ]
 
 -- each edge has the name of the edge that was there, and its listeners
 record WasThere (old : Fabric) (j : ℕ) (a : Edge) : Type 0 where
@@ -66,7 +72,8 @@ record WasThere (old : Fabric) (j : ℕ) (a : Edge) : Type 0 where
   address : address_of a ≡ address_of was
   originators : (table_of a).originators ≡ (table_of was).originators
 
-was_there : (old new : Fabric) (i : ℕ) (before after : Edge) → Becomes old new i before after → (j : ℕ) (a : Edge) → IsEdge new j a → WasThere old j a
+was_there : (old new : Fabric) (i : ℕ) (before after : Edge) → Becomes old new i before after → (j : ℕ) (a : Edge)
+    → IsEdge new j a → WasThere old j a
 was_there old new i before after b j a is = elim (at_place old new i before after b j a is) as (λ _. WasThere old j a) [
   | inl p ↦ record {
     was = before;
@@ -77,56 +84,87 @@ was_there old new i before after b j a is = elim (at_place old new i before afte
   | inr p ↦ record { was = a; is = p.1; address = refl; originators = refl }
 ]
 
-apart_still : (old new : Fabric) (i : ℕ) (before after : Edge) → Becomes old new i before after → IsSound old → (j k : ℕ) (a b : Edge) → IsEdge new j a → IsEdge new k b → address_of a ≡ address_of b → j ≡ k
+apart_still : (old new : Fabric) (i : ℕ) (before after : Edge) → Becomes old new i before after → IsSound old
+    → (j k : ℕ) (a b : Edge) → IsEdge new j a → IsEdge new k b → address_of a ≡ address_of b → j ≡ k
 apart_still old new i before after step h j k a b at_a at_b same =
     let x = was_there old new i before after step j a at_a in
     let y = was_there old new i before after step k b at_b in
     h.apart j k x.was y.was x.is y.is (sym x.address ∙ same ∙ y.address)
 
-listed_still : (old new : Fabric) (i : ℕ) (before after : Edge) → Becomes old new i before after → IsSound old → (j k : ℕ) (a b : Edge) → IsEdge new j a → IsEdge new k b → is_listed (table_of a) (address_of b) ≡ true
+listed_still : (old new : Fabric) (i : ℕ) (before after : Edge) → Becomes old new i before after → IsSound old
+    → (j k : ℕ) (a b : Edge) → IsEdge new j a → IsEdge new k b → is_listed (table_of a) (address_of b) ≡ true
 listed_still old new i before after step h j k a b at_a at_b =
     let x = was_there old new i before after step j a at_a in
     let y = was_there old new i before after step k b at_b in
-    ap (λ os. list_any (λ o. eqb o (address_of b)) os) x.originators ∙ ap (λ p. is_listed (table_of x.was) p) y.address ∙ h.listed j k x.was y.was x.is y.is
+    ap (λ os. list_any (λ o. eqb o (address_of b)) os) x.originators ∙ ap (λ p. is_listed (table_of x.was) p) y.address
+    ∙ h.listed j k x.was y.was x.is y.is
 
 -- every update of the old pool has its source still
-source_still : (old new : Fabric) (i : ℕ) (before after : Edge) → Becomes old new i before after → IsSound old → (u : Fields) → Contains old.pool u → (j : ℕ) × (a : Edge) × IsEdge new j a × (address_of a ≡ u.register.originator)
+source_still : (old new : Fabric) (i : ℕ) (before after : Edge) → Becomes old new i before after → IsSound old
+    → (u : Fields) → Contains old.pool u → (j : ℕ) × (a : Edge) × IsEdge new j a
+    × (address_of a ≡ u.register.originator)
 source_still old new i before after step h u in' = go (h.sources u in')
   where
-    go : ((j : ℕ) × (a : Edge) × IsEdge old j a × (address_of a ≡ u.register.originator)) → (j : ℕ) × (a : Edge) × IsEdge new j a × (address_of a ≡ u.register.originator)
-    go (j, a, is, names) = elim (cases_eq j i) as (λ _. (j : ℕ) × (a : Edge) × IsEdge new j a × (address_of a ≡ u.register.originator)) [
-      | inl same ↦
-          let here : before ≡ a = (let p : IsEdge old i a = subst (λ n. IsEdge old n a) same is in let q = step.is in cc) in
-          (i, after, subst (λ l. slice_get l i ≡ Some after) (sym step.edges) (set_same old.edges i before after step.is), step.address ∙ ap address_of here ∙ names)
-      | inr ne ↦ (j, a, subst (λ l. slice_get l j ≡ Some a) (sym step.edges) (set_other old.edges i after j a ne is), names)
-    ]
+    go : ((j : ℕ) × (a : Edge) × IsEdge old j a × (address_of a ≡ u.register.originator))
+        → (j : ℕ) × (a : Edge) × IsEdge new j a × (address_of a ≡ u.register.originator)
+    go (j, a, is, names) = elim (cases_eq j i) as (λ _. (j : ℕ) × (a : Edge) × IsEdge new j a
+        × (address_of a ≡ u.register.originator)) [
+          | inl same ↦
+              let here : before ≡ a = (let p : IsEdge old i a = subst (λ n. IsEdge old n a) same is in
+              let q = step.is in
+              cc) in (
+                i,
+                after,
+                subst (λ l. slice_get l i ≡ Some after) (sym step.edges)
+                    (set_same old.edges i before after step.is),
+                step.address ∙ ap address_of here ∙ names,
+              )
+          | inr ne ↦ (
+            j,
+            a,
+            subst (λ l. slice_get l j ≡ Some a) (sym step.edges) (set_other old.edges i after j a ne is),
+            names,
+          )
+        ]
 
 -- what an edge was opened with, where it goes on
 goes_on : (c : EdgeConfig) (a b : Edge) → AreOne a.claims.voice b.claims.voice → IsOf c a → IsOf c b
-goes_on c a b one h = record { config = h.config; address = one.address ∙ h.address; life = one.incarnation ∙ h.life; originators = one.originators ∙ h.originators }
+goes_on c a b one h = record {
+  config = h.config;
+  address = one.address ∙ h.address;
+  life = one.incarnation ∙ h.life;
+  originators = one.originators ∙ h.originators;
+}
 
-configs_still : (old new : Fabric) (i : ℕ) (before after : Edge) → Becomes old new i before after → new.configs ≡ old.configs → AreOne before.claims.voice after.claims.voice → IsSound old
+configs_still : (old new : Fabric) (i : ℕ) (before after : Edge) → Becomes old new i before after
+    → new.configs ≡ old.configs → AreOne before.claims.voice after.claims.voice → IsSound old
     → (j : ℕ) (c : EdgeConfig) (a : Edge) → slice_get new.configs j ≡ Some c → IsEdge new j a → IsOf c a
-configs_still old new i before after step same one h j c a at_c at_a = elim (at_place old new i before after step j a at_a) as (λ _. IsOf c a) [
-  | inl p ↦ subst (IsOf c) (sym p.1) (goes_on c before after one (h.configs i c before (subst (λ n. slice_get old.configs n ≡ Some c) p.0 was) step.is))
-  | inr p ↦ h.configs j c a was p.1
-]
+configs_still old new i before after step same one h j c a at_c at_a =
+    elim (at_place old new i before after step j a at_a) as (λ _. IsOf c a) [
+      | inl p ↦ subst (IsOf c) (sym p.1) (goes_on c before after one
+          (h.configs i c before (subst (λ n. slice_get old.configs n ≡ Some c) p.0 was) step.is))
+      | inr p ↦ h.configs j c a was p.1
+    ]
   where
     was : slice_get old.configs j ≡ Some c
     was = subst (λ l. slice_get l j ≡ Some c) same at_c
 
-count_still : (old new : Fabric) (i : ℕ) (after : Edge) → new.edges ≡ slice_set old.edges i after → length new.configs ≡ length old.configs → IsSound old → length new.configs ≡ length new.edges
+count_still : (old new : Fabric) (i : ℕ) (after : Edge) → new.edges ≡ slice_set old.edges i after
+    → length new.configs ≡ length old.configs → IsSound old → length new.configs ≡ length new.edges
 count_still old new i after edges same h = same ∙ h.count ∙ sym (ap length edges ∙ set_length old.edges i after)
 
 -- ---- the pool stays
-pool_stays : (old new : Fabric) (i : ℕ) (before after : Edge) → Becomes old new i before after → new.pool ≡ old.pool → new.configs ≡ old.configs → AreOne before.claims.voice after.claims.voice → IsGoodEdge after → IsTold old.pool after.claims.voice → IsSound old → IsSound new
+pool_stays : (old new : Fabric) (i : ℕ) (before after : Edge) → Becomes old new i before after → new.pool ≡ old.pool
+    → new.configs ≡ old.configs → AreOne before.claims.voice after.claims.voice → IsGoodEdge after
+    → IsTold old.pool after.claims.voice → IsSound old → IsSound new
 pool_stays old new i before after step pool configs one good told h = record {
   apart = apart_still old new i before after step h;
   good = goods old new i before after step good h;
-  told = λ j a at_a. subst (λ l. IsTold l a.claims.voice) (sym pool) (elim (at_place old new i before after step j a at_a) as (λ _. IsTold old.pool a.claims.voice) [
-    | inl p ↦ subst (λ (x : Edge). IsTold old.pool x.claims.voice) (sym p.1) told
-    | inr p ↦ h.told j a p.1
-  ]);
+  told = λ j a at_a. subst (λ l. IsTold l a.claims.voice) (sym pool)
+      (elim (at_place old new i before after step j a at_a) as (λ _. IsTold old.pool a.claims.voice) [
+        | inl p ↦ subst (λ (x : Edge). IsTold old.pool x.claims.voice) (sym p.1) told
+        | inr p ↦ h.told j a p.1
+      ]);
   once = subst SaidOnce (sym pool) h.once;
   sources = λ u in'. source_still old new i before after step h u (subst (λ l. Contains l u) pool in');
   listed = listed_still old new i before after step h;
@@ -135,8 +173,12 @@ pool_stays old new i before after step pool configs one good told h = record {
 }
 
 -- the edge steps
-steps_at : (old new : Fabric) (i : ℕ) (a : Edge) (event : Event) (result : Result Reply Refusal) → IsEdge old i a → (s : StepsAt old (suc i) a event result new) → Leaves old.pool a.claims.voice s.after.claims.voice → IsSound old → IsSound new
-steps_at old new i a event result at s leaves h = pool_stays old new i a s.after step (ap (λ (f : Fabric). f.pool) s.new_is) (ap (λ (f : Fabric). f.configs) s.new_is) leaves.one (steps_good a event s.answer s.after (h.good i a at) s.steps) (leaves.told (h.told i a at)) h
+steps_at : (old new : Fabric) (i : ℕ) (a : Edge) (event : Event) (result : Result Reply Refusal) → IsEdge old i a
+    → (s : StepsAt old (suc i) a event result new) → Leaves old.pool a.claims.voice s.after.claims.voice → IsSound old
+    → IsSound new
+steps_at old new i a event result at s leaves h = pool_stays old new i a s.after step
+    (ap (λ (f : Fabric). f.pool) s.new_is) (ap (λ (f : Fabric). f.configs) s.new_is) leaves.one
+    (steps_good a event s.answer s.after (h.good i a at) s.steps) (leaves.told (h.told i a at)) h
   where
     index : suc i - 1 ≡ i
     index = omega arith
@@ -152,10 +194,14 @@ steps_at old new i a event result at s leaves h = pool_stays old new i a s.after
 numbers_of : (f : Fabric) (i : ℕ) (a : Edge) → IsSound f → IsEdge f i a → KeepsNumbers a.claims.voice
 numbers_of f i a h at = (h.good i a at).claims.numbers
 
-local_leaves : (old : Fabric) (i : ℕ) (a b : Edge) (event : LocalEvent) (answer : Result Reply edge.Refusal) → IsSound old → IsEdge old i a → Steps a (event_of event) answer b → Leaves old.pool a.claims.voice b.claims.voice
+local_leaves : (old : Fabric) (i : ℕ) (a b : Edge) (event : LocalEvent) (answer : Result Reply edge.Refusal)
+    → IsSound old → IsEdge old i a → Steps a (event_of event) answer b → Leaves old.pool a.claims.voice b.claims.voice
 local_leaves old i a b event answer h at steps =
     let talks = local_talks a event answer b steps in
-    record { told = talks_told old.pool a.claims.voice b.claims.voice talks (numbers_of old i a h at); one = talks_one a.claims.voice b.claims.voice talks }
+    record {
+      told = talks_told old.pool a.claims.voice b.claims.voice talks (numbers_of old i a h at);
+      one = talks_one a.claims.voice b.claims.voice talks;
+    }
 
 -- ---- an announcement
 
@@ -170,7 +216,8 @@ record IsAnnounced (a : Edge) (o : Option Fields) (rs : List Register) : Type 0 
   is : o ≡ Some (update_of register value)
 
 -- nothing is pending, or the first register is
-announced_cases : (a : Edge) (rs : List Register) → a.claims.voice.pending ≡ rs → KeepsNumbers a.claims.voice → ((rs ≡ []) × (announced a.claims.voice ≡ None)) ⊎ IsAnnounced a (announced a.claims.voice) (drop 1 rs)
+announced_cases : (a : Edge) (rs : List Register) → a.claims.voice.pending ≡ rs → KeepsNumbers a.claims.voice
+    → ((rs ≡ []) × (announced a.claims.voice ≡ None)) ⊎ IsAnnounced a (announced a.claims.voice) (drop 1 rs)
 announced_cases a [] at h = inl (refl, ap (announced_of a.claims.voice) at)
 announced_cases a (r ∷ rs) at h =
     let p = h.pending r (subst (λ l. Contains l r) (sym at) (0, omega arith, refl)) in
@@ -185,54 +232,81 @@ announced_cases a (r ∷ rs) at h =
     })
 
 -- an update of the present number is the one that the edge says
-present_once : (pool : List Fields) (e : Voice) (r : Register) (v : Value) → r.originator ≡ e.address → value_at e.table r ≡ Some v → v.incarnation ≡ e.incarnation → IsTold pool e
-    → (w : Fields) → Contains pool w → w.register ≡ r → w.value.incarnation ≡ v.incarnation → w.value.counter ≡ v.counter → w ≡ update_of r v
-present_once pool e r v mine is alive told w in' same life number = elim (told.behind w in' (ap (λ (q : Register). q.originator) same ∙ mine)) as (λ _. w ≡ update_of r v) [
-  | inl earlier ↦ absurd (omega (arith, earlier, life, alive))
-  | inr b ↦
-      let here : value_at e.table w.register ≡ Some v = ap (value_at e.table) same ∙ is in
-      let says : b.says ≡ v = (let there = b.there in cc) in
-      elim b.order as (λ _. w ≡ update_of r v) [
-        | inl equal ↦ λ j. update_of (same j) ((equal ∙ says) j)
-        | inr less ↦ let counters = ap (λ (x : Value). x.counter) says in absurd (omega (arith, less, counters, number))
-      ]
-]
+present_once : (pool : List Fields) (e : Voice) (r : Register) (v : Value) → r.originator ≡ e.address
+    → value_at e.table r ≡ Some v → v.incarnation ≡ e.incarnation → IsTold pool e
+    → (w : Fields) → Contains pool w → w.register ≡ r → w.value.incarnation ≡ v.incarnation
+    → w.value.counter ≡ v.counter → w ≡ update_of r v
+present_once pool e r v mine is alive told w in' same life number =
+    elim (told.behind w in' (ap (λ (q : Register). q.originator) same ∙ mine)) as (λ _. w ≡ update_of r v) [
+      | inl earlier ↦ absurd (omega (arith, earlier, life, alive))
+      | inr b ↦
+          let here : value_at e.table w.register ≡ Some v = ap (value_at e.table) same ∙ is in
+          let says : b.says ≡ v = (let there = b.there in cc) in
+          elim b.order as (λ _. w ≡ update_of r v) [
+            | inl equal ↦ λ j. update_of (same j) ((equal ∙ says) j)
+            | inr less ↦ let counters = ap (λ (x : Value). x.counter) says in
+                absurd (omega (arith, less, counters, number))
+          ]
+    ]
 
-grown_once : (pool : List Fields) (u : Fields) → ((w : Fields) → Contains pool w → w.register ≡ u.register → w.value.incarnation ≡ u.value.incarnation → w.value.counter ≡ u.value.counter → w ≡ u) → SaidOnce pool → SaidOnce (pool ++ u ∷ [])
+grown_once : (pool : List Fields) (u : Fields) → ((w : Fields) → Contains pool w → w.register ≡ u.register
+    → w.value.incarnation ≡ u.value.incarnation → w.value.counter ≡ u.value.counter → w ≡ u) → SaidOnce pool
+    → SaidOnce (pool ++ u ∷ [])
 grown_once pool u one once w x in_w in_x same life number = elim (Contains-push_cases pool u w in_w) as (λ _. w ≡ x) [
   | inl w_old ↦ elim (Contains-push_cases pool u x in_x) as (λ _. w ≡ x) [
     | inl x_old ↦ once w x w_old x_old same life number
-    | inr x_new ↦ one w w_old (same ∙ ap (λ (y : Fields). y.register) (sym x_new)) (life ∙ ap (λ (y : Fields). y.value.incarnation) (sym x_new)) (number ∙ ap (λ (y : Fields). y.value.counter) (sym x_new)) ∙ x_new
+    | inr x_new ↦ one w w_old (same ∙ ap (λ (y : Fields). y.register) (sym x_new)) (life
+        ∙ ap (λ (y : Fields). y.value.incarnation) (sym x_new)) (number
+        ∙ ap (λ (y : Fields). y.value.counter) (sym x_new)) ∙ x_new
   ]
   | inr w_new ↦ elim (Contains-push_cases pool u x in_x) as (λ _. w ≡ x) [
-    | inl x_old ↦ sym w_new ∙ sym (one x x_old (sym same ∙ ap (λ (y : Fields). y.register) (sym w_new)) (sym life ∙ ap (λ (y : Fields). y.value.incarnation) (sym w_new)) (sym number ∙ ap (λ (y : Fields). y.value.counter) (sym w_new)))
+    | inl x_old ↦ sym w_new ∙ sym (one x x_old (sym same ∙ ap (λ (y : Fields). y.register) (sym w_new)) (sym life
+        ∙ ap (λ (y : Fields). y.value.incarnation) (sym w_new)) (sym number
+        ∙ ap (λ (y : Fields). y.value.counter) (sym w_new)))
     | inr x_new ↦ sym w_new ∙ x_new
   ]
 ]
 
 -- something is announced
-pool_grows : (old new : Fabric) (i : ℕ) (a b : Edge) (rs : List Register) (r : Register) (v : Value) → Becomes old new i a b → new.pool ≡ old.pool ++ update_of r v ∷ [] → new.configs ≡ old.configs → b.claims.voice ≡ record a.claims.voice { pending = rs }
-    → a.claims.voice.pending ≡ r ∷ rs → value_at (table_of a) r ≡ Some v → v.incarnation ≡ life_of a → r.originator ≡ address_of a → IsGoodEdge b → IsSound old → IsSound new
+pool_grows : (old new : Fabric) (i : ℕ) (a b : Edge) (rs : List Register) (r : Register) (v : Value)
+    → Becomes old new i a b → new.pool ≡ old.pool ++ update_of r v ∷ [] → new.configs ≡ old.configs
+    → b.claims.voice ≡ record a.claims.voice { pending = rs }
+    → a.claims.voice.pending ≡ r ∷ rs → value_at (table_of a) r ≡ Some v → v.incarnation ≡ life_of a
+    → r.originator ≡ address_of a → IsGoodEdge b → IsSound old → IsSound new
 pool_grows old new i a b rs r v step pool configs voice at is alive mine good h = record {
   apart = apart_still old new i a b step h;
   good = goods old new i a b step good h;
-  told = λ j x at_x. subst (λ l. IsTold l x.claims.voice) (sym pool) (elim (at_place old new i a b step j x at_x) as (λ _. IsTold (old.pool ++ update_of r v ∷ []) x.claims.voice) [
-    | inl p ↦ subst (λ (y : Edge). IsTold (old.pool ++ update_of r v ∷ []) y.claims.voice) (sym p.1) (subst (IsTold (old.pool ++ update_of r v ∷ [])) (sym voice) (announced_told old.pool a.claims.voice r rs v at is alive (h.told i a step.is)))
-    | inr p ↦ grown_told old.pool (update_of r v) x.claims.voice (λ same. p.0 (h.apart j i x a p.1 step.is (sym same ∙ mine))) (h.told j x p.1)
-  ]);
-  once = subst SaidOnce (sym pool) (grown_once old.pool (update_of r v) (present_once old.pool a.claims.voice r v mine is alive (h.told i a step.is)) h.once);
-  sources = λ u in'. elim (Contains-push_cases old.pool (update_of r v) u (subst (λ l. Contains l u) pool in')) as (λ _. (j : ℕ) × (x : Edge) × IsEdge new j x × (address_of x ≡ u.register.originator)) [
-    | inl before ↦ source_still old new i a b step h u before
-    | inr same ↦ (i, b, subst (λ l. slice_get l i ≡ Some b) (sym step.edges) (set_same old.edges i a b step.is), step.address ∙ sym mine ∙ ap (λ (x : Fields). x.register.originator) same)
-  ];
+  told = λ j x at_x. subst (λ l. IsTold l x.claims.voice) (sym pool)
+      (elim (at_place old new i a b step j x at_x) as (λ _. IsTold (old.pool ++ update_of r v ∷ []) x.claims.voice) [
+        | inl p ↦ subst (λ (y : Edge). IsTold (old.pool ++ update_of r v ∷ []) y.claims.voice) (sym p.1)
+            (subst (IsTold (old.pool ++ update_of r v ∷ [])) (sym voice)
+            (announced_told old.pool a.claims.voice r rs v at is alive (h.told i a step.is)))
+        | inr p ↦ grown_told old.pool (update_of r v) x.claims.voice
+            (λ same. p.0 (h.apart j i x a p.1 step.is (sym same ∙ mine))) (h.told j x p.1)
+      ]);
+  once = subst SaidOnce (sym pool) (grown_once old.pool (update_of r v)
+      (present_once old.pool a.claims.voice r v mine is alive (h.told i a step.is)) h.once);
+  sources = λ u in'. elim (Contains-push_cases old.pool (update_of r v) u (subst (λ l. Contains l u) pool in')) as (λ _.
+      (j : ℕ) × (x : Edge) × IsEdge new j x × (address_of x ≡ u.register.originator)) [
+        | inl before ↦ source_still old new i a b step h u before
+        | inr same ↦ (
+          i,
+          b,
+          subst (λ l. slice_get l i ≡ Some b) (sym step.edges) (set_same old.edges i a b step.is),
+          step.address ∙ sym mine ∙ ap (λ (x : Fields). x.register.originator) same,
+        )
+      ];
   listed = listed_still old new i a b step h;
   count = count_still old new i b step.edges (ap length configs) h;
-  configs = configs_still old new i a b step configs (subst (AreOne a.claims.voice) (sym voice) (record { address = refl; incarnation = refl; originators = refl })) h;
+  configs = configs_still old new i a b step configs (subst (AreOne a.claims.voice) (sym voice)
+      (record { address = refl; incarnation = refl; originators = refl })) h;
 }
 
-announces_at : (old new : Fabric) (i : ℕ) (a : Edge) (result : Result Reply Refusal) → IsEdge old i a → AnnouncesAt old (suc i) a result new → IsSound old → IsSound new
+announces_at : (old new : Fabric) (i : ℕ) (a : Edge) (result : Result Reply Refusal) → IsEdge old i a
+    → AnnouncesAt old (suc i) a result new → IsSound old → IsSound new
 announces_at old new i a (Err why) at s h = subst IsSound (sym s.1) h
-announces_at old new i a (Ok reply) at s h = go (announced_cases a a.claims.voice.pending refl (numbers_of old i a h at))
+announces_at old new i a (Ok reply) at s h = go (announced_cases a a.claims.voice.pending refl
+    (numbers_of old i a h at))
   where
     b : Edge
     b = s.0
@@ -269,34 +343,43 @@ announces_at old new i a (Ok reply) at s h = go (announced_cases a a.claims.voic
     quiet : a.claims.voice.pending ≡ [] → b.claims.voice ≡ a.claims.voice
     quiet none = voice ∙ ap (λ l. record a.claims.voice { pending = l }) (ap (drop 1) none ∙ sym none)
 
-    go : ((a.claims.voice.pending ≡ []) × (announced a.claims.voice ≡ None)) ⊎ IsAnnounced a (announced a.claims.voice) (drop 1 a.claims.voice.pending) → IsSound new
-    go (inl none) = pool_stays old new i a b step (pool ∙ ap (with_announced old.pool) none.1) configs (subst (AreOne a.claims.voice) (sym (quiet none.0)) (one_itself a.claims.voice)) good (subst (IsTold old.pool) (sym (quiet none.0)) (h.told i a at)) h
+    go : ((a.claims.voice.pending ≡ []) × (announced a.claims.voice ≡ None))
+        ⊎ IsAnnounced a (announced a.claims.voice) (drop 1 a.claims.voice.pending) → IsSound new
+    go (inl none) = pool_stays old new i a b step (pool ∙ ap (with_announced old.pool) none.1) configs
+        (subst (AreOne a.claims.voice) (sym (quiet none.0)) (one_itself a.claims.voice)) good
+        (subst (IsTold old.pool) (sym (quiet none.0)) (h.told i a at)) h
     go (inr first) =
-        pool_grows old new i a b (drop 1 a.claims.voice.pending) first.register first.value step (pool ∙ ap (with_announced old.pool) first.is) configs voice
+        pool_grows old new i a b (drop 1 a.claims.voice.pending) first.register first.value step (pool
+        ∙ ap (with_announced old.pool) first.is) configs voice
         first.first first.there first.alive first.own good h
 
 -- ---- a restart
-restart_sound : (old new : Fabric) (i : ℕ) (a : Edge) (n : ℕ) (reply : Reply) → IsEdge old i a → OpensAnew old (suc i) a n reply new → IsSound old → IsSound new
+restart_sound : (old new : Fabric) (i : ℕ) (a : Edge) (n : ℕ) (reply : Reply) → IsEdge old i a
+    → OpensAnew old (suc i) a n reply new → IsSound old → IsSound new
 restart_sound old new i a n reply at s h = record {
   apart = apart_still old new i a s.after step h;
   good = goods old new i a s.after step s.good h;
-  told = λ j x at_x. subst (λ l. IsTold l x.claims.voice) (sym pool) (elim (at_place old new i a s.after step j x at_x) as (λ _. IsTold old.pool x.claims.voice) [
-    | inl p ↦ subst (λ (y : Edge). IsTold old.pool y.claims.voice) (sym p.1) told
-    | inr p ↦ h.told j x p.1
-  ]);
+  told = λ j x at_x. subst (λ l. IsTold l x.claims.voice) (sym pool)
+      (elim (at_place old new i a s.after step j x at_x) as (λ _. IsTold old.pool x.claims.voice) [
+        | inl p ↦ subst (λ (y : Edge). IsTold old.pool y.claims.voice) (sym p.1) told
+        | inr p ↦ h.told j x p.1
+      ]);
   once = subst SaidOnce (sym pool) h.once;
   sources = λ u in'. source_still old new i a s.after step h u (subst (λ l. Contains l u) pool in');
   listed = listed_still old new i a s.after step h;
-  count = count_still old new i s.after step.edges (ap length configs ∙ set_length old.configs i (in_life s.config n)) h;
+  count = count_still old new i s.after step.edges (ap length configs ∙ set_length old.configs i (in_life s.config n))
+      h;
   configs = λ j c x at_c at_x. elim (at_place old new i a s.after step j x at_x) as (λ _. IsOf c x) [
-    | inl p ↦ elim (set_cases old.configs i (in_life s.config n) j c (subst (λ l. slice_get l j ≡ Some c) configs at_c)) as (λ _. IsOf c x) [
-      | inl q ↦ subst (λ d. IsOf d x) (sym q.1) (subst (IsOf (in_life s.config n)) (sym p.1) anew)
-      | inr q ↦ absurd (q.0 p.0)
-    ]
-    | inr p ↦ elim (set_cases old.configs i (in_life s.config n) j c (subst (λ l. slice_get l j ≡ Some c) configs at_c)) as (λ _. IsOf c x) [
-      | inl q ↦ absurd (p.0 q.0)
-      | inr q ↦ h.configs j c x q.1 p.1
-    ]
+    | inl p ↦ elim (set_cases old.configs i (in_life s.config n) j c
+        (subst (λ l. slice_get l j ≡ Some c) configs at_c)) as (λ _. IsOf c x) [
+          | inl q ↦ subst (λ d. IsOf d x) (sym q.1) (subst (IsOf (in_life s.config n)) (sym p.1) anew)
+          | inr q ↦ absurd (q.0 p.0)
+        ]
+    | inr p ↦ elim (set_cases old.configs i (in_life s.config n) j c
+        (subst (λ l. slice_get l j ≡ Some c) configs at_c)) as (λ _. IsOf c x) [
+          | inl q ↦ absurd (p.0 q.0)
+          | inr q ↦ h.configs j c x q.1 p.1
+        ]
   ];
 }
   where
@@ -328,49 +411,62 @@ restart_sound old new i a n reply at s h = record {
 
     -- what was announced under this name was said in the old life, or earlier
     earlier : (u : Fields) → Contains old.pool u → u.register.originator ≡ s.config.address → u.value.incarnation < n
-    earlier u in' mine = elim ((h.told i a at).behind u in' (mine ∙ sym was.address)) as (λ _. u.value.incarnation < n) [
-      | inl before ↦ let higher = s.higher in omega (arith, before, higher)
-      | inr b ↦ let higher = s.higher in let present = b.present in omega (arith, present, higher)
-    ]
+    earlier u in' mine = elim ((h.told i a at).behind u in' (mine ∙ sym was.address)) as (λ _. u.value.incarnation <
+        n) [
+          | inl before ↦ let higher = s.higher in omega (arith, before, higher)
+          | inr b ↦ let higher = s.higher in let present = b.present in omega (arith, present, higher)
+        ]
 
     told : IsTold old.pool s.after.claims.voice
     told = opened_told old.pool (in_life s.config n) s.after fit s.opened earlier
 
-restarts_at : (old new : Fabric) (i : ℕ) (a : Edge) (n : ℕ) (result : Result Reply Refusal) → IsEdge old i a → RestartsAt old (suc i) a n result new → IsSound old → IsSound new
+restarts_at : (old new : Fabric) (i : ℕ) (a : Edge) (n : ℕ) (result : Result Reply Refusal) → IsEdge old i a
+    → RestartsAt old (suc i) a n result new → IsSound old → IsSound new
 restarts_at old new i a n (Ok reply) at s h = restart_sound old new i a n reply at s h
 restarts_at old new i a n (Err why) at s h = subst IsSound (sym s.1) h
 
 -- ---- one step
-delivers_at : (old new : Fabric) (i : ℕ) (a : Edge) (result : Result Reply Refusal) (k : ℕ) (o : Option Fields) → nth old.pool k ≡ o → IsEdge old i a
-    → MatchOption o (IsRefused NoSuchUpdate old result new) (λ u. StepsAt old (suc i) a (events.Take u) result new) → IsSound old → IsSound new
+delivers_at : (old new : Fabric) (i : ℕ) (a : Edge) (result : Result Reply Refusal) (k : ℕ) (o : Option Fields)
+    → nth old.pool k ≡ o → IsEdge old i a
+    → MatchOption o (IsRefused NoSuchUpdate old result new) (λ u. StepsAt old (suc i) a (events.Take u) result new)
+    → IsSound old → IsSound new
 delivers_at old new i a result k None is at s h = subst IsSound (sym s.1) h
 delivers_at old new i a result zero (Some u) is at s h = cc
 delivers_at old new i a result (suc k) (Some u) is at s h =
-    steps_at old new i a (events.Take u) result at s (takes_told old.pool a u s.answer s.after (contains_at old.pool k u is) (numbers_of old i a h at) s.steps) h
+    steps_at old new i a (events.Take u) result at s (takes_told old.pool a u s.answer s.after
+    (contains_at old.pool k u is) (numbers_of old i a h at) s.steps) h
 
-pub step_sound : (old new : Fabric) (step : Step) (result : Result Reply Refusal) → FabricSteps old step result new → IsSound old → IsSound new
+pub step_sound : (old new : Fabric) (step : Step) (result : Result Reply Refusal) → FabricSteps old step result new
+    → IsSound old → IsSound new
 step_sound old new (Local e event) result s h = go e (nth old.edges e) refl s
   where
-    go : (e : ℕ) (o : Option Edge) → nth old.edges e ≡ o → MatchOption o (IsRefused NoSuchEdge old result new) (λ a. StepsAt old e a (event_of event) result new) → IsSound new
+    go : (e : ℕ) (o : Option Edge) → nth old.edges e ≡ o
+        → MatchOption o (IsRefused NoSuchEdge old result new) (λ a. StepsAt old e a (event_of event) result new)
+        → IsSound new
     go e None is s = subst IsSound (sym s.1) h
     go zero (Some a) is s = cc
-    go (suc i) (Some a) is s = steps_at old new i a (event_of event) result is s (local_leaves old i a s.after event s.answer h is s.steps) h
+    go (suc i) (Some a) is s = steps_at old new i a (event_of event) result is s
+        (local_leaves old i a s.after event s.answer h is s.steps) h
 step_sound old new (Announce e) result s h = go e (nth old.edges e) refl s
   where
-    go : (e : ℕ) (o : Option Edge) → nth old.edges e ≡ o → MatchOption o (IsRefused NoSuchEdge old result new) (λ a. AnnouncesAt old e a result new) → IsSound new
+    go : (e : ℕ) (o : Option Edge) → nth old.edges e ≡ o
+        → MatchOption o (IsRefused NoSuchEdge old result new) (λ a. AnnouncesAt old e a result new) → IsSound new
     go e None is s = subst IsSound (sym s.1) h
     go zero (Some a) is s = cc
     go (suc i) (Some a) is s = announces_at old new i a result is s h
 step_sound old new (Deliver e k) result s h = go e (nth old.edges e) refl s
   where
     go : (e : ℕ) (o : Option Edge) → nth old.edges e ≡ o
-        → MatchOption o (IsRefused NoSuchEdge old result new) (λ a. MatchOption (nth old.pool k) (IsRefused NoSuchUpdate old result new) (λ u. StepsAt old e a (events.Take u) result new)) → IsSound new
+        → MatchOption o (IsRefused NoSuchEdge old result new)
+        (λ a. MatchOption (nth old.pool k) (IsRefused NoSuchUpdate old result new)
+        (λ u. StepsAt old e a (events.Take u) result new)) → IsSound new
     go e None is s = subst IsSound (sym s.1) h
     go zero (Some a) is s = cc
     go (suc i) (Some a) is s = delivers_at old new i a result k (nth old.pool k) refl is s h
 step_sound old new (Restart e n) result s h = go e (nth old.edges e) refl s
   where
-    go : (e : ℕ) (o : Option Edge) → nth old.edges e ≡ o → MatchOption o (IsRefused NoSuchEdge old result new) (λ a. RestartsAt old e a n result new) → IsSound new
+    go : (e : ℕ) (o : Option Edge) → nth old.edges e ≡ o
+        → MatchOption o (IsRefused NoSuchEdge old result new) (λ a. RestartsAt old e a n result new) → IsSound new
     go e None is s = subst IsSound (sym s.1) h
     go zero (Some a) is s = cc
     go (suc i) (Some a) is s = restarts_at old new i a n result is s h

@@ -1,5 +1,6 @@
 -- Whatever comes, edges stay, their lives rise, and the pool grows.
-use Rattle.std.proofs.Common.{◌≡◌, inl, inr, ℕ, zero, suc, ◌-◌, ◌≤◌, Option, Some, None, Result, Ok, Err, List, [], ◌∷◌, ◌++◌, length, refl, sym, ap, subst, ◌∙◌, arith}
+use Rattle.std.proofs.Common.{◌≡◌, inl, inr, ℕ, zero, suc, ◌-◌, ◌≤◌, Option, Some, None, Result, Ok, Err, List, [], ◌∷◌}
+use Rattle.std.proofs.Common.{◌++◌, length, refl, sym, ap, subst, ◌∙◌, arith}
 use Rattle.std.proofs.lemmas.Bool.{cases_eq}
 use Rattle.std.proofs.lemmas.List.{append-nil, append_assoc}
 use Rattle.std.specs.Prelude.{IsSome, Contains, slice_get, slice_set}
@@ -24,7 +25,8 @@ use Rattle.ev_fabric.specs.declared.step.Step.TheVariants.{Local, Announce, Deli
 use Rattle.ev_fabric.specs.Fabric.{Fabric, IsEdge, nth, life_of}
 use Rattle.ev_fabric.specs.Local.{event_of}
 use Rattle.ev_fabric.specs.Sound.{IsSound, IsOf}
-use Rattle.ev_fabric.specs.Steps.{with_announced, IsRefused, StepsAt, AnnouncesAt, in_life, OpensAnew, RestartsAt, FabricSteps}
+use Rattle.ev_fabric.specs.Steps.{with_announced, IsRefused, StepsAt, AnnouncesAt, in_life, OpensAnew, RestartsAt}
+use Rattle.ev_fabric.specs.Steps.{FabricSteps}
 use Rattle.ev_fabric.specs.Agreed.{AllAgree}
 use Rattle.ev_fabric.specs.Runs.{Runs}
 use Rattle.ev_fabric.specs.Rest.{Rests}
@@ -42,7 +44,11 @@ edge_itself : (a : Edge) → IsLaterEdge a a
 edge_itself a = record { address = refl; life = omega arith }
 
 edge_further : (a b c : Edge) → IsLaterEdge a b → IsLaterEdge b c → IsLaterEdge a c
-edge_further a b c h g = record { address = g.address ∙ h.address; life = let low = h.life in let high = g.life in omega (arith, low, high) }
+edge_further a b c h g = record {
+  address = g.address ∙ h.address;
+  life = let low = h.life in let high = g.life in
+      omega (arith, low, high);
+}
 
 same_life : (a b : Edge) → AreOne a.claims.voice b.claims.voice → IsLaterEdge a b
 same_life a b one = record { address = one.address; life = let life = one.incarnation in omega (arith, life) }
@@ -50,7 +56,12 @@ same_life a b one = record { address = one.address; life = let life = one.incarn
 -- ---- one step
 
 fabric_itself : (f : Fabric) → IsLaterFabric f f
-fabric_itself f = record { count = refl; edges = λ i a at. (a, at, edge_itself a); more = []; pool = sym (append-nil f.pool) }
+fabric_itself f = record {
+  count = refl;
+  edges = λ i a at. (a, at, edge_itself a);
+  more = [];
+  pool = sym (append-nil f.pool);
+}
 
 unchanged : (old new : Fabric) → new ≡ old → IsLaterFabric old new
 unchanged old new is = subst (IsLaterFabric old) (sym is) (fabric_itself old)
@@ -59,14 +70,19 @@ one_there : (f : Fabric) (i : ℕ) (a x : Edge) → IsEdge f i a → IsEdge f i 
 one_there f i a x p q = cc
 
 -- one edge becomes another one, and the pool may grow
-one_later : (old new : Fabric) (i : ℕ) (a b : Edge) (more : List Fields) → IsEdge old i a → new.edges ≡ slice_set old.edges i b → IsLaterEdge a b → new.pool ≡ old.pool ++ more → IsLaterFabric old new
+one_later : (old new : Fabric) (i : ℕ) (a b : Edge) (more : List Fields) → IsEdge old i a
+    → new.edges ≡ slice_set old.edges i b → IsLaterEdge a b → new.pool ≡ old.pool ++ more → IsLaterFabric old new
 one_later old new i a b more at edges later pool = record {
   count = ap length edges ∙ set_length old.edges i b;
   edges = λ j x at_x. elim (cases_eq j i) as (λ _. (y : Edge) × IsEdge new j y × IsLaterEdge x y) [
     | inl same ↦
         let here : IsEdge old i x = subst (λ n. IsEdge old n x) same at_x in
-        let is : a ≡ x = one_there old i a x at here in
-        (b, subst (λ l. slice_get l j ≡ Some b) (sym edges) (subst (λ n. slice_get (slice_set old.edges i b) n ≡ Some b) (sym same) (set_same old.edges i a b at)), subst (λ z. IsLaterEdge z b) is later)
+        let is : a ≡ x = one_there old i a x at here in (
+          b,
+          subst (λ l. slice_get l j ≡ Some b) (sym edges)
+              (subst (λ n. slice_get (slice_set old.edges i b) n ≡ Some b) (sym same) (set_same old.edges i a b at)),
+          subst (λ z. IsLaterEdge z b) is later,
+        )
     | inr ne ↦ (x, subst (λ l. slice_get l j ≡ Some x) (sym edges) (set_other old.edges i b j x ne at_x), edge_itself x)
   ];
   more = more;
@@ -76,32 +92,46 @@ one_later old new i a b more at edges later pool = record {
 back : (i : ℕ) → suc i - 1 ≡ i
 back i = omega arith
 
-steps_later : (old new : Fabric) (i : ℕ) (a : Edge) (event : Event) (result : Result Reply Refusal) → IsEdge old i a → (s : StepsAt old (suc i) a event result new) → Leaves old.pool a.claims.voice s.after.claims.voice → IsLaterFabric old new
+steps_later : (old new : Fabric) (i : ℕ) (a : Edge) (event : Event) (result : Result Reply Refusal) → IsEdge old i a
+    → (s : StepsAt old (suc i) a event result new) → Leaves old.pool a.claims.voice s.after.claims.voice
+    → IsLaterFabric old new
 steps_later old new i a event result at s leaves =
-    one_later old new i a s.after [] at (ap (λ (f : Fabric). f.edges) s.new_is ∙ ap (λ n. slice_set old.edges n s.after) (back i)) (same_life a s.after leaves.one) (ap (λ (f : Fabric). f.pool) s.new_is ∙ sym (append-nil old.pool))
+    one_later old new i a s.after [] at (ap (λ (f : Fabric). f.edges) s.new_is
+    ∙ ap (λ n. slice_set old.edges n s.after) (back i)) (same_life a s.after leaves.one)
+    (ap (λ (f : Fabric). f.pool) s.new_is ∙ sym (append-nil old.pool))
 
 -- what is announced is put at the pool's end
 grown : (pool : List Fields) (o : Option Fields) → (more : List Fields) × (with_announced pool o ≡ pool ++ more)
 grown pool None = ([], sym (append-nil pool))
 grown pool (Some u) = (u ∷ [], refl)
 
-announces_later : (old new : Fabric) (i : ℕ) (a : Edge) (result : Result Reply Refusal) → IsEdge old i a → AnnouncesAt old (suc i) a result new → IsLaterFabric old new
+announces_later : (old new : Fabric) (i : ℕ) (a : Edge) (result : Result Reply Refusal) → IsEdge old i a
+    → AnnouncesAt old (suc i) a result new → IsLaterFabric old new
 announces_later old new i a (Err why) at s = unchanged old new s.1
 announces_later old new i a (Ok reply) at s =
     let more = grown old.pool reply.announced in
     let voice = s.1.1 in
-    one_later old new i a s.0 more.0 at (ap (λ (f : Fabric). f.edges) s.2 ∙ ap (λ n. slice_set old.edges n s.0) (back i))
+    one_later old new i a s.0 more.0 at (ap (λ (f : Fabric). f.edges) s.2
+    ∙ ap (λ n. slice_set old.edges n s.0) (back i))
     (record { address = ap address_of voice; life = let life = ap life_of voice in omega (arith, life) })
     (ap (λ (f : Fabric). f.pool) s.2 ∙ more.1)
 
 -- the edge that is opened anew
-anew : (old new : Fabric) (i : ℕ) (a : Edge) (n : ℕ) (reply : Reply) → IsSound old → IsEdge old i a → (s : OpensAnew old (suc i) a n reply new) → IsOf (in_life s.config n) s.after
-anew old new i a n reply h at s = opened_of (in_life s.config n) s.after (fit_in_life s.config n (h.configs i s.config a s.config_is at).config) s.opened
+anew : (old new : Fabric) (i : ℕ) (a : Edge) (n : ℕ) (reply : Reply) → IsSound old → IsEdge old i a
+    → (s : OpensAnew old (suc i) a n reply new) → IsOf (in_life s.config n) s.after
+anew old new i a n reply h at s = opened_of (in_life s.config n) s.after
+    (fit_in_life s.config n (h.configs i s.config a s.config_is at).config) s.opened
 
-restart_later : (old new : Fabric) (i : ℕ) (a : Edge) (n : ℕ) (reply : Reply) → IsSound old → IsEdge old i a → OpensAnew old (suc i) a n reply new → IsLaterFabric old new
+restart_later : (old new : Fabric) (i : ℕ) (a : Edge) (n : ℕ) (reply : Reply) → IsSound old → IsEdge old i a
+    → OpensAnew old (suc i) a n reply new → IsLaterFabric old new
 restart_later old new i a n reply h at s =
-    one_later old new i a s.after [] at (ap (λ (f : Fabric). f.edges) s.new_is ∙ ap (λ m. slice_set old.edges m s.after) (back i))
-    (record { address = after.address ∙ sym was.address; life = let life = after.life in let higher = s.higher in omega (arith, life, higher) })
+    one_later old new i a s.after [] at (ap (λ (f : Fabric). f.edges) s.new_is
+    ∙ ap (λ m. slice_set old.edges m s.after) (back i))
+    (record {
+      address = after.address ∙ sym was.address;
+      life = let life = after.life in let higher = s.higher in
+          omega (arith, life, higher);
+    })
     (ap (λ (f : Fabric). f.pool) s.new_is ∙ sym (append-nil old.pool))
   where
     was : IsOf s.config a
@@ -110,17 +140,22 @@ restart_later old new i a n reply h at s =
     after : IsOf (in_life s.config n) s.after
     after = anew old new i a n reply h at s
 
-restarts_later : (old new : Fabric) (i : ℕ) (a : Edge) (n : ℕ) (result : Result Reply Refusal) → IsSound old → IsEdge old i a → RestartsAt old (suc i) a n result new → IsLaterFabric old new
+restarts_later : (old new : Fabric) (i : ℕ) (a : Edge) (n : ℕ) (result : Result Reply Refusal) → IsSound old
+    → IsEdge old i a → RestartsAt old (suc i) a n result new → IsLaterFabric old new
 restarts_later old new i a n (Ok reply) h at s = restart_later old new i a n reply h at s
 restarts_later old new i a n (Err why) h at s = unchanged old new s.1
 
 numbers_of : (f : Fabric) (i : ℕ) (a : Edge) → IsSound f → IsEdge f i a → KeepsNumbers a.claims.voice
 numbers_of f i a h at = (h.good i a at).claims.numbers
 
-local_leaves : (old : Fabric) (i : ℕ) (a b : Edge) (event : LocalEvent) (answer : Result Reply edge.Refusal) → IsSound old → IsEdge old i a → Steps a (event_of event) answer b → Leaves old.pool a.claims.voice b.claims.voice
+local_leaves : (old : Fabric) (i : ℕ) (a b : Edge) (event : LocalEvent) (answer : Result Reply edge.Refusal)
+    → IsSound old → IsEdge old i a → Steps a (event_of event) answer b → Leaves old.pool a.claims.voice b.claims.voice
 local_leaves old i a b event answer h at steps =
     let talks = local_talks a event answer b steps in
-    record { told = talks_told old.pool a.claims.voice b.claims.voice talks (numbers_of old i a h at); one = talks_one a.claims.voice b.claims.voice talks }
+    record {
+      told = talks_told old.pool a.claims.voice b.claims.voice talks (numbers_of old i a h at);
+      one = talks_one a.claims.voice b.claims.voice talks;
+    }
 
 nth_there : (us : List Fields) (k : ℕ) (u : Fields) → nth us k ≡ Some u → Contains us u
 nth_there us zero u is = absurd (none is)
@@ -130,40 +165,56 @@ nth_there us zero u is = absurd (none is)
 nth_there us (suc k) u is = contains_at us k u is
 
 -- a delivery
-given_leaves : (f : Fabric) (i k : ℕ) (a b : Edge) (u : Fields) (answer : Result Reply edge.Refusal) → IsSound f → IsEdge f i a → nth f.pool k ≡ Some u → Steps a (events.Take u) answer b → Leaves f.pool a.claims.voice b.claims.voice
-given_leaves f i k a b u answer h at is steps = takes_told f.pool a u answer b (nth_there f.pool k u is) (numbers_of f i a h at) steps
+given_leaves : (f : Fabric) (i k : ℕ) (a b : Edge) (u : Fields) (answer : Result Reply edge.Refusal) → IsSound f
+    → IsEdge f i a → nth f.pool k ≡ Some u → Steps a (events.Take u) answer b
+    → Leaves f.pool a.claims.voice b.claims.voice
+given_leaves f i k a b u answer h at is steps = takes_told f.pool a u answer b (nth_there f.pool k u is)
+    (numbers_of f i a h at) steps
 
-delivers_later : (old new : Fabric) (i : ℕ) (a : Edge) (result : Result Reply Refusal) (k : ℕ) (o : Option Fields) → IsSound old → nth old.pool k ≡ o → IsEdge old i a
-    → MatchOption o (IsRefused NoSuchUpdate old result new) (λ u. StepsAt old (suc i) a (events.Take u) result new) → IsLaterFabric old new
+delivers_later : (old new : Fabric) (i : ℕ) (a : Edge) (result : Result Reply Refusal) (k : ℕ) (o : Option Fields)
+    → IsSound old → nth old.pool k ≡ o → IsEdge old i a
+    → MatchOption o (IsRefused NoSuchUpdate old result new) (λ u. StepsAt old (suc i) a (events.Take u) result new)
+    → IsLaterFabric old new
 delivers_later old new i a result k None h is at s = unchanged old new s.1
-delivers_later old new i a result k (Some u) h is at s = steps_later old new i a (events.Take u) result at s (given_leaves old i k a s.after u s.answer h at is s.steps)
+delivers_later old new i a result k (Some u) h is at s =
+    steps_later old new i a (events.Take u) result at s (given_leaves old i k a s.after u s.answer h at is s.steps)
 
 no_edge : (a : Edge) → ◌≡◌ {A = Option Edge} None (Some a) → ⊥
 no_edge a q = cc
 
-pub step_later : (old new : Fabric) (step : Step) (result : Result Reply Refusal) → IsSound old → FabricSteps old step result new → IsLaterFabric old new
+pub step_later : (old new : Fabric) (step : Step) (result : Result Reply Refusal) → IsSound old
+    → FabricSteps old step result new → IsLaterFabric old new
 step_later old new (Local e event) result h s = go e (nth old.edges e) refl s
   where
-    go : (e : ℕ) (o : Option Edge) → nth old.edges e ≡ o → MatchOption o (IsRefused NoSuchEdge old result new) (λ a. StepsAt old e a (event_of event) result new) → IsLaterFabric old new
+    go : (e : ℕ) (o : Option Edge) → nth old.edges e ≡ o
+        → MatchOption o (IsRefused NoSuchEdge old result new) (λ a. StepsAt old e a (event_of event) result new)
+        → IsLaterFabric old new
     go e None is s = unchanged old new s.1
     go zero (Some a) is s = absurd (no_edge a is)
-    go (suc i) (Some a) is s = steps_later old new i a (event_of event) result is s (local_leaves old i a s.after event s.answer h is s.steps)
+    go (suc i) (Some a) is s = steps_later old new i a (event_of event) result is s
+        (local_leaves old i a s.after event s.answer h is s.steps)
 step_later old new (Announce e) result h s = go e (nth old.edges e) refl s
   where
-    go : (e : ℕ) (o : Option Edge) → nth old.edges e ≡ o → MatchOption o (IsRefused NoSuchEdge old result new) (λ a. AnnouncesAt old e a result new) → IsLaterFabric old new
+    go : (e : ℕ) (o : Option Edge) → nth old.edges e ≡ o
+        → MatchOption o (IsRefused NoSuchEdge old result new) (λ a. AnnouncesAt old e a result new)
+        → IsLaterFabric old new
     go e None is s = unchanged old new s.1
     go zero (Some a) is s = absurd (no_edge a is)
     go (suc i) (Some a) is s = announces_later old new i a result is s
 step_later old new (Deliver e k) result h s = go e (nth old.edges e) refl s
   where
     go : (e : ℕ) (o : Option Edge) → nth old.edges e ≡ o
-        → MatchOption o (IsRefused NoSuchEdge old result new) (λ a. MatchOption (nth old.pool k) (IsRefused NoSuchUpdate old result new) (λ u. StepsAt old e a (events.Take u) result new)) → IsLaterFabric old new
+        → MatchOption o (IsRefused NoSuchEdge old result new)
+        (λ a. MatchOption (nth old.pool k) (IsRefused NoSuchUpdate old result new)
+        (λ u. StepsAt old e a (events.Take u) result new)) → IsLaterFabric old new
     go e None is s = unchanged old new s.1
     go zero (Some a) is s = absurd (no_edge a is)
     go (suc i) (Some a) is s = delivers_later old new i a result k (nth old.pool k) h refl is s
 step_later old new (Restart e n) result h s = go e (nth old.edges e) refl s
   where
-    go : (e : ℕ) (o : Option Edge) → nth old.edges e ≡ o → MatchOption o (IsRefused NoSuchEdge old result new) (λ a. RestartsAt old e a n result new) → IsLaterFabric old new
+    go : (e : ℕ) (o : Option Edge) → nth old.edges e ≡ o
+        → MatchOption o (IsRefused NoSuchEdge old result new) (λ a. RestartsAt old e a n result new)
+        → IsLaterFabric old new
     go e None is s = unchanged old new s.1
     go zero (Some a) is s = absurd (no_edge a is)
     go (suc i) (Some a) is s = restarts_later old new i a n result h is s
@@ -180,7 +231,8 @@ fabric_further f g k x y = record {
 
 pub runs_lead : RunsLead
 runs_lead [] old new h s = unchanged old new s
-runs_lead (step ∷ steps) old new h s = fabric_further old s.0 new (step_later old s.0 step s.1 h s.2) (runs_lead steps s.0 new (step_sound old s.0 step s.1 s.2 h) s.3)
+runs_lead (step ∷ steps) old new h s = fabric_further old s.0 new (step_later old s.0 step s.1 h s.2)
+    (runs_lead steps s.0 new (step_sound old s.0 step s.1 s.2 h) s.3)
 
 pub rests_run : RestsRun
 rests_run [] old new s = s
@@ -192,20 +244,25 @@ no_answer : (reply : Reply) → ◌≡◌ {A = Result Reply Refusal} (Ok reply) 
 no_answer reply q = cc
 
 -- the edge that was opened anew is there, in its new life
-opened_there : (old mid : Fabric) (e n : ℕ) (reply : Reply) → IsSound old → FabricSteps old (Restart e n) (Ok reply) mid → (a : Edge) × (nth mid.edges e ≡ Some a) × (life_of a ≡ n)
+opened_there : (old mid : Fabric) (e n : ℕ) (reply : Reply) → IsSound old → FabricSteps old (Restart e n) (Ok reply) mid
+    → (a : Edge) × (nth mid.edges e ≡ Some a) × (life_of a ≡ n)
 opened_there old mid e n reply h s = go e (nth old.edges e) refl s
   where
-    go : (e : ℕ) (o : Option Edge) → nth old.edges e ≡ o → MatchOption o (IsRefused NoSuchEdge old (Ok reply) mid) (λ a. RestartsAt old e a n (Ok reply) mid) → (a : Edge) × (nth mid.edges e ≡ Some a) × (life_of a ≡ n)
+    go : (e : ℕ) (o : Option Edge) → nth old.edges e ≡ o
+        → MatchOption o (IsRefused NoSuchEdge old (Ok reply) mid) (λ a. RestartsAt old e a n (Ok reply) mid)
+        → (a : Edge) × (nth mid.edges e ≡ Some a) × (life_of a ≡ n)
     go e None is s = absurd (no_answer reply s.0)
     go zero (Some a) is s = absurd (no_edge a is)
     go (suc i) (Some a) is s = (
       s.after,
-      subst (λ l. slice_get l i ≡ Some s.after) (sym (ap (λ (f : Fabric). f.edges) s.new_is ∙ ap (λ m. slice_set old.edges m s.after) (back i))) (set_same old.edges i a s.after is),
+      subst (λ l. slice_get l i ≡ Some s.after) (sym (ap (λ (f : Fabric). f.edges) s.new_is
+          ∙ ap (λ m. slice_set old.edges m s.after) (back i))) (set_same old.edges i a s.after is),
       (anew old mid i a n reply h is s).life,
     )
 
 pub adverts_are_anew : AdvertsAreAnew
-adverts_are_anew old mid new e n reply steps h restart runs agree i b c at_b at_c r v mine is some = go e at_b (opened_there old mid e n reply h restart)
+adverts_are_anew old mid new e n reply steps h restart runs agree i b c at_b at_c r v mine is some =
+    go e at_b (opened_there old mid e n reply h restart)
   where
     sound_mid : IsSound mid
     sound_mid = step_sound old mid (Restart e n) (Ok reply) restart h
@@ -213,7 +270,8 @@ adverts_are_anew old mid new e n reply steps h restart runs agree i b c at_b at_
     sound : IsSound new
     sound = runs_sound steps mid new runs sound_mid
 
-    go : (e : ℕ) → nth new.edges e ≡ Some b → (a : Edge) × (nth mid.edges e ≡ Some a) × (life_of a ≡ n) → n ≤ v.incarnation
+    go : (e : ℕ) → nth new.edges e ≡ Some b → (a : Edge) × (nth mid.edges e ≡ Some a) × (life_of a ≡ n)
+        → n ≤ v.incarnation
     go zero at anew = absurd (no_edge b at)
     go (suc j) at anew =
         let x = (runs_lead steps mid new sound_mid runs).edges j anew.0 anew.1 in

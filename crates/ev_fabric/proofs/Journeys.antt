@@ -1,5 +1,6 @@
 -- From a port of one edge to the port of another: the datagram that the first one sends comes out at the second.
-use Rattle.std.proofs.Common.{◌≡◌, ◌≢◌, ℕ, zero, suc, ◌<◌, ◌==◌, ◌&&◌, ◌^◌, Bool, true, false, cond, not, drop, Option, Some, None, Result, Ok, Err, List, refl, sym, ap, subst, ◌∙◌, arith}
+use Rattle.std.proofs.Common.{◌≡◌, ◌≢◌, ℕ, zero, suc, ◌<◌, ◌==◌, ◌&&◌, ◌^◌, Bool, true, false, cond, not, drop, Option}
+use Rattle.std.proofs.Common.{Some, None, Result, Ok, Err, List, refl, sym, ap, subst, ◌∙◌, arith}
 use Rattle.std.proofs.lemmas.Bool.Decides.{nat_tests}
 use Rattle.ether_wire.specs.Frame.{frame_of, destination_of, payload_of}
 use Rattle.ether_wire.specs.declared.frame.FrameRefusal.{FrameRefusal}
@@ -20,7 +21,9 @@ use Rattle.ev_edge.specs.declared.refusal.EdgeRefusal.TheVariants.{UnknownOrigin
 use Rattle.ev_edge.specs.declared.refusal.Refusal.{Refusal}
 use Rattle.ev_edge.specs.declared.refusal.Refusal.TheVariants.{Edge as OfEdge}
 use Rattle.ev_edge.specs.declared.reply.Reply.{Reply}
-use Rattle.ev_edge.specs.Arrival.{frame_arrival, arrival_on, arrival_at, reserved_arrival, message_in, data_in, is_reserved, holds_bpdu, is_up, inner_arrival, serves, is_other, datagram_arrival, tunnel_arrival}
+use Rattle.ev_edge.specs.Arrival.{frame_arrival, arrival_on, arrival_at, reserved_arrival, message_in, data_in}
+use Rattle.ev_edge.specs.Arrival.{is_reserved, holds_bpdu, is_up, inner_arrival, serves, is_other, datagram_arrival}
+use Rattle.ev_edge.specs.Arrival.{tunnel_arrival}
 use Rattle.ev_edge.specs.Edge.{Edge, IsGoodEdge, table_of, address_of}
 use Rattle.ev_edge.specs.Steps.{TunnelSteps, Steps}
 use Rattle.ev_edge.proofs.Places.{any_is}
@@ -36,45 +39,57 @@ use Rattle.ev_fabric.proofs.Stations.{agree_on_each}
 use Rattle.ev_fabric.proofs.Sends.{station_frames_go, tunnel_frames_come_out, tunnel_step}
 
 -- what is a frame of a network at a port, is one out of a tunnel
-arrives_inner : (e : Edge) (port : ℕ) (octets : List ℕ) (vni destination source : ℕ) → frame_arrival e port octets ≡ Ok (Data vni destination source) → inner_arrival vni (frame_of octets) ≡ Ok (Data vni destination source)
+arrives_inner : (e : Edge) (port : ℕ) (octets : List ℕ) (vni destination source : ℕ)
+    → frame_arrival e port octets ≡ Ok (Data vni destination source)
+    → inner_arrival vni (frame_of octets) ≡ Ok (Data vni destination source)
 arrives_inner e port octets vni destination source is = go (vni_at e.claims.ports port) is
   where
-    reserved : (b : Bool) (r : Result Bpdu bpdu.Refusal) → ◌≡◌ {A = Result Arrival Refusal} (cond b (message_in r) (Ok Dropped)) (Ok (Data vni destination source)) → ⊥
+    reserved : (b : Bool) (r : Result Bpdu bpdu.Refusal)
+        → ◌≡◌ {A = Result Arrival Refusal} (cond b (message_in r) (Ok Dropped)) (Ok (Data vni destination source)) → ⊥
     reserved true (Ok m) q = cc
     reserved true (Err r) q = cc
     reserved false r q = cc
 
-    number : (v : ℕ) (frame : List ℕ) → ◌≡◌ {A = Result Arrival Refusal} (Ok (data_in v frame)) (Ok (Data vni destination source)) → v ≡ vni
+    number : (v : ℕ) (frame : List ℕ) → ◌≡◌ {A = Result Arrival Refusal} (Ok (data_in v frame))
+        (Ok (Data vni destination source)) → v ≡ vni
     number v frame q = cc
 
-    of_data : (v : ℕ) (frame : List ℕ) (b : Bool) → ◌≡◌ {A = Result Arrival Refusal} (cond b (reserved_arrival frame) (Ok (data_in v frame))) (Ok (Data vni destination source))
-        → ◌≡◌ {A = Result Arrival Refusal} (cond b (Ok Dropped) (Ok (data_in vni frame))) (Ok (Data vni destination source))
+    of_data : (v : ℕ) (frame : List ℕ) (b : Bool) → ◌≡◌ {A = Result Arrival Refusal}
+        (cond b (reserved_arrival frame) (Ok (data_in v frame))) (Ok (Data vni destination source))
+        → ◌≡◌ {A = Result Arrival Refusal} (cond b (Ok Dropped) (Ok (data_in vni frame)))
+        (Ok (Data vni destination source))
     of_data v frame true q = absurd (reserved (holds_bpdu frame) (reading (drop 3 (payload_of frame))) q)
     of_data v frame false q = ap (λ w. Ok (data_in w frame)) (sym (number v frame q)) ∙ q
 
-    at_port : (v : ℕ) (up : Bool) (f : Result (List ℕ) FrameRefusal) → arrival_at up v f ≡ Ok (Data vni destination source) → inner_arrival vni f ≡ Ok (Data vni destination source)
+    at_port : (v : ℕ) (up : Bool) (f : Result (List ℕ) FrameRefusal)
+        → arrival_at up v f ≡ Ok (Data vni destination source) → inner_arrival vni f ≡ Ok (Data vni destination source)
     at_port v up (Err r) q = cc
     at_port v true (Ok frame) q = of_data v frame (is_reserved (destination_of frame)) q
     at_port v false (Ok frame) q = cc
 
-    go : (o : Option ℕ) → arrival_on o (is_up e.tree port) octets ≡ Ok (Data vni destination source) → inner_arrival vni (frame_of octets) ≡ Ok (Data vni destination source)
+    go : (o : Option ℕ) → arrival_on o (is_up e.tree port) octets ≡ Ok (Data vni destination source)
+        → inner_arrival vni (frame_of octets) ≡ Ok (Data vni destination source)
     go None q = cc
     go (Some v) q = at_port v (is_up e.tree port) (frame_of octets) q
 
 -- a good edge serves the networks of its ports
 serves_own : (o : Edge) (vni q : ℕ) → IsGoodEdge o → vni_at o.claims.ports q ≡ Some vni → serves o vni ≡ true
 serves_own o vni zero good is = cc
-serves_own o vni (suc l) good is = sym (any_is true o.claims.vnis vni ((λ t. good.keeps.served vni (contains_at o.claims.ports l vni is)), (λ c. refl)))
+serves_own o vni (suc l) good is = sym (any_is true o.claims.vnis vni
+    ((λ t. good.keeps.served vni (contains_at o.claims.ports l vni is)), (λ c. refl)))
 
 both : (x y : Bool) → x ≡ true → y ≡ true → (x && y) ≡ true
 both x y p q = ap (λ b. b && y) p ∙ q
 
 -- the datagram of the frame is one of its network, at an edge that serves it and listens to the sender
-arrives_there : (o : Edge) (from vni destination source : ℕ) (octets : List ℕ) → vni < 2 ^ 24 → is_listed (table_of o) from ≡ true → from ≢ address_of o → serves o vni ≡ true → inner_arrival vni (frame_of octets) ≡ Ok (Data vni destination source)
+arrives_there : (o : Edge) (from vni destination source : ℕ) (octets : List ℕ) → vni < 2 ^ 24
+    → is_listed (table_of o) from ≡ true → from ≢ address_of o → serves o vni ≡ true
+    → inner_arrival vni (frame_of octets) ≡ Ok (Data vni destination source)
     → tunnel_arrival o from (datagram_of vni octets) ≡ Ok (Data vni destination source)
 arrives_there o from vni destination source octets small listed other served inner =
     let apart : not (from == address_of o) ≡ true = grind (arith, nat_tests) in
-    ap (λ b. cond b (datagram_arrival o (instance_of (datagram_of vni octets))) (Err (OfEdge UnknownOriginator))) (both (is_listed (table_of o) from) (not (from == address_of o)) listed apart)
+    ap (λ b. cond b (datagram_arrival o (instance_of (datagram_of vni octets))) (Err (OfEdge UnknownOriginator)))
+    (both (is_listed (table_of o) from) (not (from == address_of o)) listed apart)
     ∙ ap (datagram_arrival o) (instance_of-header_of vni octets small)
     ∙ ap (λ b. cond b (inner_arrival vni (frame_of octets)) (Err (OfEdge NoSuchVni))) served
     ∙ inner
@@ -82,7 +97,13 @@ arrives_there o from vni destination source octets small listed other served inn
 pub station_from_port_to_port : StationFromPortToPort
 station_from_port_to_port f s h agree i j o a b at_o at_a apart says small event port reply frame steps = (
   station_frames_go f s h agree i j o a b at_o at_a apart says event port reply frame steps,
-  record { entry = x.0; behind = x.1; out = λ arrival result after is step. answers arrival result after is step (subst (λ r. TunnelSteps r o result after) arrives (tunnel_step o arrival result after (address_of a) (datagram_of s.vni frame.octets) is step)) },
+  record {
+    entry = x.0;
+    behind = x.1;
+    out = λ arrival result after is step. answers arrival result after is step
+        (subst (λ r. TunnelSteps r o result after) arrives
+        (tunnel_step o arrival result after (address_of a) (datagram_of s.vni frame.octets) is step));
+  },
 )
   where
     good : IsGoodEdge o
@@ -92,14 +113,25 @@ station_from_port_to_port f s h agree i j o a b at_o at_a apart says small event
     x = learnt o s (h.good i o at_o) says
 
     arrives : tunnel_arrival o (address_of a) (datagram_of s.vni frame.octets) ≡ Ok (Data s.vni s.mac frame.source)
-    arrives = arrives_there o (address_of a) s.vni s.mac frame.source frame.octets small (h.listed i j o a at_o at_a) (λ same. apart (h.apart i j o a at_o at_a (sym same)))
-        (serves_own o s.vni x.0.port (h.good i o at_o) x.1.port) (arrives_inner a port frame.octets s.vni s.mac frame.source frame.arrives)
+    arrives = arrives_there o (address_of a) s.vni s.mac frame.source frame.octets small (h.listed i j o a at_o at_a)
+        (λ same. apart (h.apart i j o a at_o at_a (sym same)))
+        (serves_own o s.vni x.0.port (h.good i o at_o) x.1.port)
+        (arrives_inner a port frame.octets s.vni s.mac frame.source frame.arrives)
 
-    answers : (arrival : Event) (result : Result Reply Refusal) (after : Edge) → tunnel_frame_in arrival ≡ Some (address_of a, datagram_of s.vni frame.octets) → Steps o arrival result after → TunnelSteps (Ok (Data s.vni s.mac frame.source)) o result after
+    answers : (arrival : Event) (result : Result Reply Refusal) (after : Edge)
+        → tunnel_frame_in arrival ≡ Some (address_of a, datagram_of s.vni frame.octets) → Steps o arrival result after
+        → TunnelSteps (Ok (Data s.vni s.mac frame.source)) o result after
         → (reply : Reply) × (result ≡ Ok reply) × GoesOut x.0.port (Passes o.tree x.0.port) reply
     answers arrival (Err r) after is step t = absurd t
     answers arrival (Ok answer) after is step t =
-        let e = tunnel_frames_come_out o after s (h.good i o at_o) says arrival answer (record { from = address_of a; octets = datagram_of s.vni frame.octets; frame = is; source = frame.source; arrives = arrives }) step in
+        let e = tunnel_frames_come_out o after s (h.good i o at_o) says arrival answer
+        (record {
+          from = address_of a;
+          octets = datagram_of s.vni frame.octets;
+          frame = is;
+          source = frame.source;
+          arrives = arrives;
+        }) step in
         let same : e.0 ≡ x.0 = (let p = e.1.learnt in let q = x.1.learnt in cc) in
         (answer, refl, subst (λ (y : Entry). GoesOut y.port (Passes o.tree y.port) answer) same e.2)
 

@@ -1,5 +1,6 @@
 -- An edge as it is opened, and a fabric of such edges.
-use Rattle.std.proofs.Common.{◌≡◌, inl, inr, ℕ, zero, suc, ◌+◌, ◌<◌, ◌++◌, take, Bool, true, false, Some, None, List, [], ◌∷◌, length, refl, sym, ap, subst, ◌∙◌, arith}
+use Rattle.std.proofs.Common.{◌≡◌, inl, inr, ℕ, zero, suc, ◌+◌, ◌<◌, ◌++◌, take, Bool, true, false, Some, None, List}
+use Rattle.std.proofs.Common.{[], ◌∷◌, length, refl, sym, ap, subst, ◌∙◌, arith}
 use Rattle.std.proofs.lemmas.Bool.{eq-eqb}
 use Rattle.std.specs.Prelude.{Contains, slice_get, eqb, map, ◌||◌}
 use Rattle.std.specs.List.{IsDistinct, list_any, AllByRecursion}
@@ -23,12 +24,16 @@ use Rattle.ev_fabric.specs.Opening.{AreConfigs, AreOpened, IsStart}
 use Rattle.ev_fabric.specs.Steps.{in_life}
 use Rattle.ev_fabric.specs.Sound.{IsTold, IsOf, IsSound}
 use Rattle.ev_fabric.proofs.Voices.{Talks, Quiet, Says, talks_one, talks_told, talks_further}
-use Rattle.ev_fabric.proofs.Places.{contains_at, there_at, below_length, take_get, get_take, take_length, push_get, push_length}
+use Rattle.ev_fabric.proofs.Places.{contains_at, there_at, below_length, take_get, get_take, take_length, push_get}
+use Rattle.ev_fabric.proofs.Places.{push_length}
 
 -- opening is saying
 floods_talk : (e : Voice) (vs : List ℕ) → Talks e (after_floods e vs)
 floods_talk e [] = Quiet
-floods_talk e (v ∷ vs) = talks_further e (after_saying e (Flood v) (Advertised flood_advert)) (after_floods (after_saying e (Flood v) (Advertised flood_advert)) vs) (Says e (Flood v) (Advertised flood_advert) Quiet) (floods_talk (after_saying e (Flood v) (Advertised flood_advert)) vs)
+floods_talk e (v ∷ vs) = talks_further e (after_saying e (Flood v) (Advertised flood_advert))
+    (after_floods (after_saying e (Flood v) (Advertised flood_advert)) vs)
+    (Says e (Flood v) (Advertised flood_advert) Quiet) (floods_talk (after_saying e (Flood v) (Advertised flood_advert))
+    vs)
 
 abbrev start_voice : EdgeConfig → Voice
 start_voice c = silent c.address c.incarnation c.originators.items
@@ -37,25 +42,34 @@ opened_talks : (c : EdgeConfig) (a : Edge) → IsOpening c a → Talks (start_vo
 opened_talks c a h = subst (Talks (start_voice c)) (sym h.claims.voice) (floods_talk (start_voice c) a.claims.vnis)
 
 pub opened_of : (c : EdgeConfig) (a : Edge) → IsConfig c → IsOpening c a → IsOf c a
-opened_of c a fit h = let one = talks_one (start_voice c) a.claims.voice (opened_talks c a h) in record { config = fit; address = one.address; life = one.incarnation; originators = one.originators }
+opened_of c a fit h = let one = talks_one (start_voice c) a.claims.voice (opened_talks c a h) in
+    record { config = fit; address = one.address; life = one.incarnation; originators = one.originators }
 
 nothing_there : (e : Voice) (r : Register) (v : Value) → e.table.registers ≡ empty → value_at e.table r ≡ Some v → ⊥
-nothing_there e r v is at = let none = ap (λ m. get m r) is ∙ get-empty {X = Value} register_cmp r in let bad : None ≡ Some v = sym none ∙ at in cc
+nothing_there e r v is at = let none = ap (λ m. get m r) is ∙ get-empty {X = Value} register_cmp r in
+    let bad : None ≡ Some v = sym none ∙ at in cc
 
 -- nothing is said yet, and what was announced under this name was said in an earlier life
-silent_told : (pool : List Fields) (address incarnation : ℕ) (originators : List ℕ) → ((u : Fields) → Contains pool u → u.register.originator ≡ address → u.value.incarnation < incarnation) → IsTold pool (silent address incarnation originators)
+silent_told : (pool : List Fields) (address incarnation : ℕ) (originators : List ℕ)
+    → ((u : Fields) → Contains pool u → u.register.originator ≡ address → u.value.incarnation < incarnation)
+    → IsTold pool (silent address incarnation originators)
 silent_told pool address incarnation originators earlier = record {
   foreign = λ r v other is. absurd (nothing_there (silent address incarnation originators) r v refl is);
   own = λ r v mine is quiet. absurd (nothing_there (silent address incarnation originators) r v refl is);
   behind = λ u in' mine. inl (earlier u in' mine);
 }
 
-pub opened_told : (pool : List Fields) (c : EdgeConfig) (a : Edge) → IsConfig c → IsOpening c a → ((u : Fields) → Contains pool u → u.register.originator ≡ c.address → u.value.incarnation < c.incarnation) → IsTold pool a.claims.voice
+pub opened_told : (pool : List Fields) (c : EdgeConfig) (a : Edge) → IsConfig c → IsOpening c a
+    → ((u : Fields) → Contains pool u → u.register.originator ≡ c.address → u.value.incarnation < c.incarnation)
+    → IsTold pool a.claims.voice
 opened_told pool c a fit h earlier =
-    talks_told pool (start_voice c) a.claims.voice (opened_talks c a h) (silent_voice c.address c.incarnation c.originators.items fit.listed).numbers (silent_told pool c.address c.incarnation c.originators.items earlier)
+    talks_told pool (start_voice c) a.claims.voice (opened_talks c a h)
+    (silent_voice c.address c.incarnation c.originators.items fit.listed).numbers
+    (silent_told pool c.address c.incarnation c.originators.items earlier)
 
 -- ---- lists whose elements differ
-all_at : {A : Type 0} (P : A → Type 0) (xs : List A) (j : ℕ) (y : A) → AllByRecursion P xs → slice_get xs j ≡ Some y → P y
+all_at : {A : Type 0} (P : A → Type 0) (xs : List A) (j : ℕ) (y : A) → AllByRecursion P xs → slice_get xs j ≡ Some y
+    → P y
 all_at P [] j y h is = cc
 all_at P (x ∷ xs) zero y h is = let same : x ≡ y = cc in subst P same h.0
 all_at P (x ∷ xs) (suc j) y h is = all_at P xs j y h.1 is
@@ -64,11 +78,14 @@ one_place : (xs : List ℕ) (i j a : ℕ) → IsDistinct eqb xs → slice_get xs
 unfolding IsDistinct
 one_place [] i j a h at_i at_j = cc
 one_place (x ∷ xs) zero zero a h at_i at_j = refl
-one_place (x ∷ xs) zero (suc j) a h at_i at_j = absurd (let differs = all_at (λ y. eqb x y ≡ false) xs j a h.0 at_j in let same : x ≡ a = cc in let yes = eq-eqb x a same in cc)
-one_place (x ∷ xs) (suc i) zero a h at_i at_j = absurd (let differs = all_at (λ y. eqb x y ≡ false) xs i a h.0 at_i in let same : x ≡ a = cc in let yes = eq-eqb x a same in cc)
+one_place (x ∷ xs) zero (suc j) a h at_i at_j = absurd (let differs = all_at (λ y. eqb x y ≡ false) xs j a h.0 at_j in
+    let same : x ≡ a = cc in let yes = eq-eqb x a same in cc)
+one_place (x ∷ xs) (suc i) zero a h at_i at_j = absurd (let differs = all_at (λ y. eqb x y ≡ false) xs i a h.0 at_i in
+    let same : x ≡ a = cc in let yes = eq-eqb x a same in cc)
 one_place (x ∷ xs) (suc i) (suc j) a h at_i at_j = ap suc (one_place xs i j a h.1 at_i at_j)
 
-map_at : {A B : Type 0} (f : A → B) (xs : List A) (i : ℕ) (a : A) → slice_get xs i ≡ Some a → slice_get (map f xs) i ≡ Some (f a)
+map_at : {A B : Type 0} (f : A → B) (xs : List A) (i : ℕ) (a : A) → slice_get xs i ≡ Some a
+    → slice_get (map f xs) i ≡ Some (f a)
 map_at f [] i a is = cc
 map_at f (x ∷ xs) zero a is = let same : x ≡ a = cc in ap (λ y. Some (f y)) same
 map_at f (x ∷ xs) (suc i) a is = map_at f xs i a is
@@ -91,11 +108,18 @@ record HasConfig (cs : List EdgeConfig) (i : ℕ) (a : Edge) : Type 0 where
   opened : IsOpening config a
   is_of : IsOf config a
 
-has_config : (cs : List EdgeConfig) (f : Fabric) → AreConfigs cs → IsStart cs f → (i : ℕ) (a : Edge) → IsEdge f i a → HasConfig cs i a
-has_config cs f fit h i a at = go (there_at cs i (let less = below_length f.edges i a at in let same = h.opened.count in omega (arith, less, same)))
+has_config : (cs : List EdgeConfig) (f : Fabric) → AreConfigs cs → IsStart cs f → (i : ℕ) (a : Edge) → IsEdge f i a
+    → HasConfig cs i a
+has_config cs f fit h i a at = go (there_at cs i (let less = below_length f.edges i a at in let same = h.opened.count in
+    omega (arith, less, same)))
   where
     go : ((c : EdgeConfig) × (slice_get cs i ≡ Some c)) → HasConfig cs i a
-    go (c, there) = record { config = c; there = there; opened = h.opened.opened i c a there at; is_of = opened_of c a (fit.configs c (contains_at cs i c there)) (h.opened.opened i c a there at) }
+    go (c, there) = record {
+      config = c;
+      there = there;
+      opened = h.opened.opened i c a there at;
+      is_of = opened_of c a (fit.configs c (contains_at cs i c there)) (h.opened.opened i c a there at);
+    }
 
 pub start_sound : (cs : List EdgeConfig) (f : Fabric) → AreConfigs cs → IsStart cs f → IsSound f
 start_sound cs f fit h = record {
@@ -115,12 +139,16 @@ start_sound cs f fit h = record {
       let x = has_config cs f fit h i a at_a in
       let y = has_config cs f fit h j b at_b in
       ap (λ os. list_any (λ o. eqb o (address_of b)) os) x.is_of.originators
-      ∙ any_there x.config.originators.items (address_of b) (fit.listed x.config (contains_at cs i x.config x.there) (address_of b)
-      (subst (Contains (addresses_of cs)) (sym y.is_of.address) (contains_at (addresses_of cs) j y.config.address (map_at (λ (c : EdgeConfig). c.address) cs j y.config y.there))));
+      ∙ any_there x.config.originators.items (address_of b)
+      (fit.listed x.config (contains_at cs i x.config x.there) (address_of b)
+      (subst (Contains (addresses_of cs)) (sym y.is_of.address)
+      (contains_at (addresses_of cs) j y.config.address
+      (map_at (λ (c : EdgeConfig). c.address) cs j y.config y.there))));
   count = ap length h.configs ∙ sym h.opened.count;
   configs = λ i c a at_c at_a.
       let x = has_config cs f fit h i a at_a in
-      let same : x.config ≡ c = (let p = x.there in let q : slice_get cs i ≡ Some c = subst (λ l. slice_get l i ≡ Some c) h.configs at_c in cc) in
+      let same : x.config ≡ c = (let p = x.there in let q : slice_get cs i ≡ Some c =
+      subst (λ l. slice_get l i ≡ Some c) h.configs at_c in cc) in
       subst (λ d. IsOf d a) same x.is_of;
 }
   where
@@ -128,14 +156,18 @@ start_sound cs f fit h = record {
     none {u} in' = let in'' : Contains [] u = subst (λ l. Contains l u) h.quiet in' in omega (arith, in''.1)
 
 -- one edge more is opened
-pub opened_more : (cs : List EdgeConfig) (edges : List Edge) (i : ℕ) (c : EdgeConfig) (b : Edge) → i < length cs → slice_get cs i ≡ Some c → AreOpened (take i cs) edges → IsOpening c b → IsGoodEdge b → AreOpened (take (i + 1) cs) (edges ++ b ∷ [])
+pub opened_more : (cs : List EdgeConfig) (edges : List Edge) (i : ℕ) (c : EdgeConfig) (b : Edge) → i < length cs
+    → slice_get cs i ≡ Some c → AreOpened (take i cs) edges → IsOpening c b → IsGoodEdge b
+    → AreOpened (take (i + 1) cs) (edges ++ b ∷ [])
 opened_more cs edges i c b less at h opened good = record {
   count = push_length edges b ∙ ap suc size ∙ sym (take_length cs (i + 1) (omega (arith, less)) ∙ (omega arith));
   opened = λ j d a at_d at_a. elim (push_get edges b j a at_a) as (λ _. IsOpening d a) [
-    | inl before ↦ h.opened j d a (get_take cs i j d (let l = below_length edges j a before in let s = size in omega (arith, l, s)) (take_get cs (i + 1) j d at_d).1) before
+    | inl before ↦ h.opened j d a (get_take cs i j d (let l = below_length edges j a before in let s = size in
+        omega (arith, l, s)) (take_get cs (i + 1) j d at_d).1) before
     | inr new ↦
         let place : j ≡ i = new.0 ∙ size in
-        let same : d ≡ c = (let p : slice_get cs i ≡ Some d = subst (λ n. slice_get cs n ≡ Some d) place (take_get cs (i + 1) j d at_d).1 in cc) in
+        let same : d ≡ c = (let p : slice_get cs i ≡ Some d =
+        subst (λ n. slice_get cs n ≡ Some d) place (take_get cs (i + 1) j d at_d).1 in cc) in
         subst (λ x. IsOpening d x) (sym new.1) (subst (λ x. IsOpening x b) (sym same) opened)
   ];
   good = λ j a at_a. elim (push_get edges b j a at_a) as (λ _. IsGoodEdge a) [
@@ -148,4 +180,15 @@ opened_more cs edges i c b less at h opened good = record {
     size = h.count ∙ take_length cs i (omega (arith, less))
 
 pub fit_in_life : (c : EdgeConfig) (n : ℕ) → IsConfig c → IsConfig (in_life c n)
-fit_in_life c n h = record { originators = h.originators; listed = h.listed; distinct = h.distinct; some_port = h.some_port; served = h.served; some_place = h.some_place; places = h.places; some_bucket = h.some_bucket; buckets = h.buckets; hello = h.hello }
+fit_in_life c n h = record {
+  originators = h.originators;
+  listed = h.listed;
+  distinct = h.distinct;
+  some_port = h.some_port;
+  served = h.served;
+  some_place = h.some_place;
+  places = h.places;
+  some_bucket = h.some_bucket;
+  buckets = h.buckets;
+  hello = h.hello;
+}

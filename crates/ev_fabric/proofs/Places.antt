@@ -1,27 +1,32 @@
 -- Places of lists, and one edge of a list.
-use Rattle.std.proofs.Common.{◌≡◌, ◌≢◌, ◌⊎◌, inl, inr, ℕ, zero, suc, ◌-◌, ◌<◌, ◌≤◌, Option, Some, None, List, [], ◌∷◌, ◌++◌, length, take, get_or, refl, sym, ap, ◌∙◌, arith}
+use Rattle.std.proofs.Common.{◌≡◌, ◌≢◌, ◌⊎◌, inl, inr, ℕ, zero, suc, ◌-◌, ◌<◌, ◌≤◌, Option, Some, None, List, [], ◌∷◌}
+use Rattle.std.proofs.Common.{◌++◌, length, take, get_or, refl, sym, ap, ◌∙◌, arith}
 use Rattle.std.specs.Prelude.{Contains, slice_get, slice_set}
 use Rattle.std.specs.Option.{MatchOption}
 use Rattle.std.proofs.lemmas.Option.{slice_get-get_or}
 use Rattle.ev_fabric.specs.Fabric.{nth}
 
 -- ---- one element of a list is replaced
-pub set_cases : {A : Type 0} (xs : List A) (i : ℕ) (b : A) (j : ℕ) (c : A) → slice_get (slice_set xs i b) j ≡ Some c → ((j ≡ i) × (c ≡ b)) ⊎ ((j ≢ i) × (slice_get xs j ≡ Some c))
+pub set_cases : {A : Type 0} (xs : List A) (i : ℕ) (b : A) (j : ℕ) (c : A) → slice_get (slice_set xs i b) j ≡ Some c
+    → ((j ≡ i) × (c ≡ b)) ⊎ ((j ≢ i) × (slice_get xs j ≡ Some c))
 set_cases [] i b j c is = cc
 set_cases (x ∷ xs) zero b zero c is = inl (refl, cc)
 set_cases (x ∷ xs) zero b (suc j) c is = inr (omega arith, is)
 set_cases (x ∷ xs) (suc i) b zero c is = inr (omega arith, is)
-set_cases (x ∷ xs) (suc i) b (suc j) c is = elim (set_cases xs i b j c is) as (λ _. ((suc j ≡ suc i) × (c ≡ b)) ⊎ ((suc j ≢ suc i) × (slice_get xs j ≡ Some c))) [
-  | inl h ↦ inl (ap suc h.0, h.1)
-  | inr h ↦ inr (let ne = h.0 in omega (arith, ne), h.1)
-]
+set_cases (x ∷ xs) (suc i) b (suc j) c is = elim (set_cases xs i b j c is) as (λ _. ((suc j ≡ suc i) × (c ≡ b))
+    ⊎ ((suc j ≢ suc i) × (slice_get xs j ≡ Some c))) [
+      | inl h ↦ inl (ap suc h.0, h.1)
+      | inr h ↦ inr (let ne = h.0 in omega (arith, ne), h.1)
+    ]
 
-pub set_same : {A : Type 0} (xs : List A) (i : ℕ) (a b : A) → slice_get xs i ≡ Some a → slice_get (slice_set xs i b) i ≡ Some b
+pub set_same : {A : Type 0} (xs : List A) (i : ℕ) (a b : A) → slice_get xs i ≡ Some a
+    → slice_get (slice_set xs i b) i ≡ Some b
 set_same [] i a b is = cc
 set_same (x ∷ xs) zero a b is = refl
 set_same (x ∷ xs) (suc i) a b is = set_same xs i a b is
 
-pub set_other : {A : Type 0} (xs : List A) (i : ℕ) (b : A) (j : ℕ) (c : A) → j ≢ i → slice_get xs j ≡ Some c → slice_get (slice_set xs i b) j ≡ Some c
+pub set_other : {A : Type 0} (xs : List A) (i : ℕ) (b : A) (j : ℕ) (c : A) → j ≢ i → slice_get xs j ≡ Some c
+    → slice_get (slice_set xs i b) j ≡ Some c
 set_other [] i b j c ne is = is
 set_other (x ∷ xs) zero b zero c ne is = absurd (ne refl)
 set_other (x ∷ xs) zero b (suc j) c ne is = is
@@ -50,7 +55,8 @@ below_length (x ∷ xs) zero a is = omega arith
 below_length (x ∷ xs) (suc i) a is = let h = below_length xs i a is in omega (arith, h)
 
 -- ---- places counted from 1
-pub at_index : {A : Type 0} (xs : List A) (e : ℕ) (a d : A) → (e ≡ 0 → ⊥) → e ≤ length xs → a ≡ get_or xs (e - 1) d → nth xs e ≡ Some a
+pub at_index : {A : Type 0} (xs : List A) (e : ℕ) (a d : A) → (e ≡ 0 → ⊥) → e ≤ length xs → a ≡ get_or xs (e - 1) d
+    → nth xs e ≡ Some a
 at_index xs zero a d pos in' at = absurd (pos refl)
 at_index xs (suc i) a d pos in' at =
     let index : suc i - 1 ≡ i = omega arith in
@@ -73,14 +79,16 @@ pub item_at : {A : Type 0} (xs : List A) (i : ℕ) (a : A) → i < length xs →
 item_at xs i a less is = slice_get-get_or xs i a less ∙ ap Some (sym is)
 
 -- ---- the front of a list, and one element more
-pub take_get : {A : Type 0} (xs : List A) (n j : ℕ) (c : A) → slice_get (take n xs) j ≡ Some c → (j < n) × (slice_get xs j ≡ Some c)
+pub take_get : {A : Type 0} (xs : List A) (n j : ℕ) (c : A) → slice_get (take n xs) j ≡ Some c
+    → (j < n) × (slice_get xs j ≡ Some c)
 take_get [] zero j c is = cc
 take_get [] (suc n) j c is = cc
 take_get (x ∷ xs) zero j c is = cc
 take_get (x ∷ xs) (suc n) zero c is = (omega arith, is)
 take_get (x ∷ xs) (suc n) (suc j) c is = let h = take_get xs n j c is in (omega (arith, h.0), h.1)
 
-pub get_take : {A : Type 0} (xs : List A) (n j : ℕ) (c : A) → j < n → slice_get xs j ≡ Some c → slice_get (take n xs) j ≡ Some c
+pub get_take : {A : Type 0} (xs : List A) (n j : ℕ) (c : A) → j < n → slice_get xs j ≡ Some c
+    → slice_get (take n xs) j ≡ Some c
 get_take xs zero j c less is = absurd (omega (arith, less))
 get_take [] (suc n) j c less is = is
 get_take (x ∷ xs) (suc n) zero c less is = is
@@ -91,14 +99,16 @@ take_length xs zero less = refl
 take_length [] (suc n) less = absurd (omega (arith, less))
 take_length (x ∷ xs) (suc n) less = ap suc (take_length xs n (omega (arith, less)))
 
-pub push_get : {A : Type 0} (xs : List A) (b : A) (j : ℕ) (a : A) → slice_get (xs ++ b ∷ []) j ≡ Some a → (slice_get xs j ≡ Some a) ⊎ ((j ≡ length xs) × (a ≡ b))
+pub push_get : {A : Type 0} (xs : List A) (b : A) (j : ℕ) (a : A) → slice_get (xs ++ b ∷ []) j ≡ Some a
+    → (slice_get xs j ≡ Some a) ⊎ ((j ≡ length xs) × (a ≡ b))
 push_get [] b zero a is = inr (refl, cc)
 push_get [] b (suc j) a is = cc
 push_get (x ∷ xs) b zero a is = inl is
-push_get (x ∷ xs) b (suc j) a is = elim (push_get xs b j a is) as (λ _. (slice_get xs j ≡ Some a) ⊎ ((suc j ≡ suc (length xs)) × (a ≡ b))) [
-  | inl h ↦ inl h
-  | inr h ↦ inr (ap suc h.0, h.1)
-]
+push_get (x ∷ xs) b (suc j) a is = elim (push_get xs b j a is) as (λ _. (slice_get xs j ≡ Some a)
+    ⊎ ((suc j ≡ suc (length xs)) × (a ≡ b))) [
+      | inl h ↦ inl h
+      | inr h ↦ inr (ap suc h.0, h.1)
+    ]
 
 pub push_length : {A : Type 0} (xs : List A) (b : A) → length (xs ++ b ∷ []) ≡ suc (length xs)
 push_length [] b = refl

@@ -1,5 +1,6 @@
 -- What a delivery does to what an edge says and has learnt.
-use Rattle.std.proofs.Common.{◌≡◌, ◌≢◌, ◌⊎◌, inl, inr, ◌+◌, ◌≤◌, ◌<◌, Bool, true, false, cond, nat_lt, Option, Some, None, List, [], ◌∷◌, ◌++◌, length, refl, sym, ap, subst, ◌∙◌, arith}
+use Rattle.std.proofs.Common.{◌≡◌, ◌≢◌, ◌⊎◌, inl, inr, ◌+◌, ◌≤◌, ◌<◌, Bool, true, false, cond, nat_lt, Option, Some}
+use Rattle.std.proofs.Common.{None, List, [], ◌∷◌, ◌++◌, length, refl, sym, ap, subst, ◌∙◌, arith}
 use Rattle.std.proofs.lemmas.Bool.Decides.{nat_tests}
 use Rattle.std.specs.Prelude.{Contains, is_some, not, ◌==◌, ◌&&◌}
 use Rattle.std.specs.List.{list_any}
@@ -22,8 +23,10 @@ use Rattle.mac_arena.specs.declared.station.Station.{Station}
 use Rattle.mac_arena.specs.declared.station.Entry.{Entry}
 use Rattle.mac_arena.specs.Learning.{entry_at}
 use Rattle.ev_claims.specs.Pending.{marked}
-use Rattle.ev_claims.specs.Voice.{Voice, own_register, own, own_advert, KeepsNumbers, is_at, next_value, after_saying, after_hearing, is_newest, is_ahead, is_returning, is_spent}
-use Rattle.ev_claims.specs.Claims.{Claims, KeepsClaims, key_of, after_removal, after_update, after_own, is_lost, after_losing, after_take}
+use Rattle.ev_claims.specs.Voice.{Voice, own_register, own, own_advert, KeepsNumbers, is_at, next_value, after_saying}
+use Rattle.ev_claims.specs.Voice.{after_hearing, is_newest, is_ahead, is_returning, is_spent}
+use Rattle.ev_claims.specs.Claims.{Claims, KeepsClaims, key_of, after_removal, after_update, after_own, is_lost}
+use Rattle.ev_claims.specs.Claims.{after_losing, after_take}
 use Rattle.ev_claims.proofs.Values.{not_newer_earlier}
 use Rattle.ev_claims.proofs.Numbers.{key_or_other, own_same, own_other, said_joins, own_stays, heard_numbers}
 use Rattle.ev_claims.proofs.Hearing.{past_if_newest, refuted_is}
@@ -34,7 +37,13 @@ use Rattle.ev_fabric.proofs.RestingSums.{count_le, count_less}
 
 -- ---- later states
 pub later_itself : (a : Voice) → IsLater a a
-later_itself a = record { address = refl; incarnation = refl; originators = refl; news = λ r w h. h; fades = λ k. inl refl }
+later_itself a = record {
+  address = refl;
+  incarnation = refl;
+  originators = refl;
+  news = λ r w h. h;
+  fades = λ k. inl refl;
+}
 
 pub later_trans : (a b c : Voice) → IsLater a b → IsLater b c → IsLater a c
 later_trans a b c h g = record {
@@ -52,24 +61,40 @@ later_trans a b c h g = record {
 }
 
 -- an update sets its own register, where it is news, and leaves all others
-pub update_cases : (t : Table) (u : Fields) (r : Register) → ((r ≡ u.register) × (is_news (value_at t u.register) u.value ≡ true) × (value_at (with_update t u) r ≡ Some u.value)) ⊎ (value_at (with_update t u) r ≡ value_at t r)
+pub update_cases : (t : Table) (u : Fields) (r : Register)
+    → ((r ≡ u.register) × (is_news (value_at t u.register) u.value ≡ true)
+    × (value_at (with_update t u) r ≡ Some u.value)) ⊎ (value_at (with_update t u) r ≡ value_at t r)
 update_cases t u r = go (is_news (value_at t u.register) u.value) refl
   where
-    go : (b : Bool) → is_news (value_at t u.register) u.value ≡ b → ((r ≡ u.register) × (is_news (value_at t u.register) u.value ≡ true) × (value_at (cond b (with_value t u.register u.value) t) r ≡ Some u.value)) ⊎ (value_at (cond b (with_value t u.register u.value) t) r ≡ value_at t r)
-    go true e = elim (same_or_other r u.register) as (λ _. ((r ≡ u.register) × (is_news (value_at t u.register) u.value ≡ true) × (value_at (with_value t u.register u.value) r ≡ Some u.value)) ⊎ (value_at (with_value t u.register u.value) r ≡ value_at t r)) [
-      | inl same ↦ inl (same, e, ap (value_at (with_value t u.register u.value)) same ∙ at_same t u.register u.value)
-      | inr ne ↦ inr (at_other t u.register u.value r ne)
-    ]
+    go : (b : Bool) → is_news (value_at t u.register) u.value ≡ b
+        → ((r ≡ u.register) × (is_news (value_at t u.register) u.value ≡ true)
+        × (value_at (cond b (with_value t u.register u.value) t) r ≡ Some u.value))
+        ⊎ (value_at (cond b (with_value t u.register u.value) t) r ≡ value_at t r)
+    go true e = elim (same_or_other r u.register) as (λ _. ((r ≡ u.register)
+        × (is_news (value_at t u.register) u.value ≡ true)
+        × (value_at (with_value t u.register u.value) r ≡ Some u.value))
+        ⊎ (value_at (with_value t u.register u.value) r ≡ value_at t r)) [
+          | inl same ↦ inl (
+            same,
+            e,
+            ap (value_at (with_value t u.register u.value)) same
+                ∙ at_same t u.register u.value,
+          )
+          | inr ne ↦ inr (at_other t u.register u.value r ne)
+        ]
     go false e = inr refl
 
 -- what is no news for a table is none after any update
-pub news_stay : (t : Table) (u : Fields) (r : Register) (w : Value) → is_news (value_at t r) w ≡ false → is_news (value_at (with_update t u) r) w ≡ false
+pub news_stay : (t : Table) (u : Fields) (r : Register) (w : Value) → is_news (value_at t r) w ≡ false
+    → is_news (value_at (with_update t u) r) w ≡ false
 news_stay t u r w h = elim (update_cases t u r) as (λ _. is_news (value_at (with_update t u) r) w ≡ false) [
   | inl c ↦ go (value_at t r) refl h c.2 (ap (λ q. is_news (value_at t q) u.value) c.0 ∙ c.1)
   | inr kept ↦ ap (λ o. is_news o w) kept ∙ h
 ]
   where
-    go : (o : Option Value) → value_at t r ≡ o → is_news (value_at t r) w ≡ false → value_at (with_update t u) r ≡ Some u.value → is_news (value_at t r) u.value ≡ true → is_news (value_at (with_update t u) r) w ≡ false
+    go : (o : Option Value) → value_at t r ≡ o → is_news (value_at t r) w ≡ false
+        → value_at (with_update t u) r ≡ Some u.value → is_news (value_at t r) u.value ≡ true
+        → is_news (value_at (with_update t u) r) w ≡ false
     go None at old new more = let never : is_news None w ≡ false = ap (λ o. is_news o w) (sym at) ∙ old in absurd cc
     go (Some x) at old new more = ap (λ o. is_news o w) new ∙ pick (is_newer w u.value) refl
       where
@@ -86,11 +111,14 @@ said_later e k h = record {
   address = refl;
   incarnation = refl;
   originators = refl;
-  news = λ r w is. ap (λ t. is_news (value_at t r) w) (sym (said_joins e k Withdrawn h)) ∙ news_stay e.table (record { register = own_register e k; value = next_value e Withdrawn }) r w is;
-  fades = λ j. elim (key_or_other j k) as (λ _. (own (after_saying e k Withdrawn) j ≡ own e j) ⊎ (own_advert (after_saying e k Withdrawn) j ≡ None)) [
-    | inl same ↦ inr (ap (λ q. own_advert (after_saying e k Withdrawn) q) same ∙ ap advert_of (own_same e k Withdrawn))
-    | inr ne ↦ inl (own_other e k Withdrawn j ne)
-  ];
+  news = λ r w is. ap (λ t. is_news (value_at t r) w) (sym (said_joins e k Withdrawn h))
+      ∙ news_stay e.table (record { register = own_register e k; value = next_value e Withdrawn }) r w is;
+  fades = λ j. elim (key_or_other j k) as (λ _. (own (after_saying e k Withdrawn) j ≡ own e j)
+      ⊎ (own_advert (after_saying e k Withdrawn) j ≡ None)) [
+        | inl same ↦ inr (ap (λ q. own_advert (after_saying e k Withdrawn) q) same
+            ∙ ap advert_of (own_same e k Withdrawn))
+        | inr ne ↦ inl (own_other e k Withdrawn j ne)
+      ];
 }
 
 -- ---- an own advert that comes back
@@ -112,7 +140,8 @@ and_false false = refl
 pub comes : (e : Voice) (u : Fields) → comes_back e u ≡ true → ComesBack e u
 comes e u h =
     let p = both_true (u.register.originator == e.address) (is_returning e u) h in
-    let q = both_true (is_newest e u) (nat_lt u.value.incarnation e.incarnation && is_some (advert_in u.value.content)) p.1 in
+    let q = both_true (is_newest e u) (nat_lt u.value.incarnation e.incarnation && is_some (advert_in u.value.content))
+    p.1 in
     let r = both_true (nat_lt u.value.incarnation e.incarnation) (is_some (advert_in u.value.content)) q.1 in
     let mine : u.register.originator ≡ e.address = (let eq = p.0 in grind (arith, nat_tests)) in
     record { mine = mine; newest = q.0; earlier = r.0; advert = r.1 }
@@ -152,41 +181,59 @@ heard c u = cond (u.register.originator == c.voice.address) (after_own c u) (aft
 -- an own advert is withdrawn as it comes back, or a station is lost to another edge, or the table alone changes
 pub data Heard (c : Claims) (u : Fields) : Claims → Type 0 where
   Back : comes_back c.voice u ≡ true → Heard c u (record c { voice = after_saying c.voice u.register.key Withdrawn })
-  Lost : (s : Station) → u.register.originator ≢ c.voice.address → is_lost (after_update c u) s ≡ true → Heard c u (after_removal (after_update c u) s)
+  Lost : (s : Station) → u.register.originator ≢ c.voice.address → is_lost (after_update c u) s ≡ true
+      → Heard c u (after_removal (after_update c u) s)
   Kept : comes_back c.voice u ≡ false → Heard c u (after_update c u)
 
 pub hears : (c : Claims) (u : Fields) → Heard c u (heard c u)
 hears c u = choose (u.register.originator == c.voice.address) refl
   where
-    own_one : u.register.originator ≡ c.voice.address → (b : Bool) → is_returning c.voice u ≡ b → Heard c u (record c { voice = cond b (after_saying (after_hearing c.voice u) u.register.key Withdrawn) (after_hearing c.voice u) })
+    own_one : u.register.originator ≡ c.voice.address → (b : Bool) → is_returning c.voice u ≡ b
+        → Heard c u (record c {
+          voice = cond b (after_saying (after_hearing c.voice u) u.register.key Withdrawn)
+              (after_hearing c.voice u);
+        })
     own_one mine true back =
         let test : (u.register.originator == c.voice.address) ≡ true = grind (arith, nat_tests) in
-        subst (λ v. Heard c u (record c { voice = v })) (sym (refuted_is c.voice u Withdrawn mine)) (Back (rw (test, back) refl))
-    own_one mine false stays = Kept (ap (λ b. u.register.originator == c.voice.address && b) stays ∙ and_false (u.register.originator == c.voice.address))
+        subst (λ v. Heard c u (record c { voice = v })) (sym (refuted_is c.voice u Withdrawn mine))
+        (Back (rw (test, back) refl))
+    own_one mine false stays = Kept (ap (λ b. u.register.originator == c.voice.address && b) stays
+        ∙ and_false (u.register.originator == c.voice.address))
 
-    pick : u.register.originator ≢ c.voice.address → (s : Station) (b : Bool) → is_lost (after_update c u) s ≡ b → Heard c u (cond b (after_removal (after_update c u) s) (after_update c u))
+    pick : u.register.originator ≢ c.voice.address → (s : Station) (b : Bool) → is_lost (after_update c u) s ≡ b
+        → Heard c u (cond b (after_removal (after_update c u) s) (after_update c u))
     pick other s true is = Lost s other is
     pick other s false is = Kept (others_stay_away c.voice u other)
 
     losing : u.register.originator ≢ c.voice.address → (k : Key) → Heard c u (after_losing (after_update c u) k)
     losing other (Flood v) = Kept (others_stay_away c.voice u other)
-    losing other (Mac v m ip) = pick other (record { vni = v; mac = m }) (is_lost (after_update c u) (record { vni = v; mac = m })) refl
+    losing other (Mac v m ip) = pick other (record { vni = v; mac = m })
+        (is_lost (after_update c u) (record { vni = v; mac = m })) refl
 
-    choose : (b : Bool) → (u.register.originator == c.voice.address) ≡ b → Heard c u (cond b (after_own c u) (after_take c u))
-    choose true t = let mine : u.register.originator ≡ c.voice.address = grind (arith, nat_tests) in own_one mine (is_returning c.voice u) refl
-    choose false t = let other : u.register.originator ≡ c.voice.address → ⊥ = grind (arith, nat_tests) in losing other u.register.key
+    choose : (b : Bool) → (u.register.originator == c.voice.address) ≡ b
+        → Heard c u (cond b (after_own c u) (after_take c u))
+    choose true t = let mine : u.register.originator ≡ c.voice.address = grind (arith, nat_tests) in
+        own_one mine (is_returning c.voice u) refl
+    choose false t = let other : u.register.originator ≡ c.voice.address → ⊥ = grind (arith, nat_tests) in
+        losing other u.register.key
 
 -- ---- the edge afterwards is a later one
 
 -- an own update that is accepted, is news and doesn't come back is no advert
-pub silent : (e : Voice) (u : Fields) → Accepts e u → comes_back e u ≡ false → u.register.originator ≡ e.address → is_newest e u ≡ true → advert_in u.value.content ≡ None
+pub silent : (e : Voice) (u : Fields) → Accepts e u → comes_back e u ≡ false → u.register.originator ≡ e.address
+    → is_newest e u ≡ true → advert_in u.value.content ≡ None
 silent e u ok not mine newest = go (advert_in u.value.content) refl
   where
     go : (o : Option Advert) → advert_in u.value.content ≡ o → advert_in u.value.content ≡ None
     go None p = p
     go (Some a) p =
         let less = past_if_newest e u (ok.ahead mine) newest in
-        let back = comes_when e u (record { mine = mine; newest = newest; earlier = grind (arith, nat_tests); advert = ap is_some p }) in
+        let back = comes_when e u (record {
+          mine = mine;
+          newest = newest;
+          earlier = grind (arith, nat_tests);
+          advert = ap is_some p;
+        }) in
         absurd (let bad : false ≡ true = sym not ∙ back in cc)
 
 pub kept_later : (e : Voice) (u : Fields) → Accepts e u → comes_back e u ≡ false → IsLater e (after_hearing e u)
@@ -195,20 +242,24 @@ kept_later e u ok not = record {
   incarnation = refl;
   originators = same_listeners e.table u;
   news = λ r w is. news_stay e.table u r w is;
-  fades = λ k. elim (update_cases e.table u (own_register e k)) as (λ _. (own (after_hearing e u) k ≡ own e k) ⊎ (own_advert (after_hearing e u) k ≡ None)) [
-    | inl c ↦ inr (ap advert_of c.2 ∙ silent e u ok not (ap (λ (r : Register). r.originator) (sym c.0)) c.1)
-    | inr kept ↦ inl kept
-  ];
+  fades = λ k. elim (update_cases e.table u (own_register e k)) as (λ _. (own (after_hearing e u) k ≡ own e k)
+      ⊎ (own_advert (after_hearing e u) k ≡ None)) [
+        | inl c ↦ inr (ap advert_of c.2 ∙ silent e u ok not (ap (λ (r : Register). r.originator) (sym c.0)) c.1)
+        | inr kept ↦ inl kept
+      ];
 }
 
-heard_later_by : (c : Claims) (u : Fields) (d : Claims) → KeepsNumbers c.voice → Accepts c.voice u → Heard c u d → IsLater c.voice d.voice
+heard_later_by : (c : Claims) (u : Fields) (d : Claims) → KeepsNumbers c.voice → Accepts c.voice u → Heard c u d
+    → IsLater c.voice d.voice
 heard_later_by c u _ h ok (Back back) = said_later c.voice u.register.key h
 heard_later_by c u _ h ok (Lost s other lost) =
-    later_trans c.voice (after_hearing c.voice u) (after_saying (after_hearing c.voice u) (key_of s) Withdrawn) (kept_later c.voice u ok (others_stay_away c.voice u other))
+    later_trans c.voice (after_hearing c.voice u) (after_saying (after_hearing c.voice u) (key_of s) Withdrawn)
+    (kept_later c.voice u ok (others_stay_away c.voice u other))
     (said_later (after_hearing c.voice u) (key_of s) (heard_numbers c.voice u other h))
 heard_later_by c u _ h ok (Kept not) = kept_later c.voice u ok not
 
-pub heard_later : (c : Claims) (u : Fields) → KeepsNumbers c.voice → Accepts c.voice u → IsLater c.voice (heard c u).voice
+pub heard_later : (c : Claims) (u : Fields) → KeepsNumbers c.voice → Accepts c.voice u
+    → IsLater c.voice (heard c u).voice
 heard_later c u h ok = heard_later_by c u (heard c u) h ok (hears c u)
 
 -- ---- what may come back
@@ -229,12 +280,15 @@ comes_before a b h u back =
 abbrev pub may_return : List Fields → Voice → Fields → Bool
 may_return pool a u = comes_back a u && is_latest pool u
 
-pub returns_before : (pool : List Fields) (a b : Voice) → IsLater a b → (u : Fields) → may_return pool b u ≡ true → may_return pool a u ≡ true
-returns_before pool a b h u is = let t = both_true (comes_back b u) (is_latest pool u) is in let back = comes_before a b h u t.0 in let last = t.1 in rw (back, last) refl
+pub returns_before : (pool : List Fields) (a b : Voice) → IsLater a b → (u : Fields) → may_return pool b u ≡ true
+    → may_return pool a u ≡ true
+returns_before pool a b h u is = let t = both_true (comes_back b u) (is_latest pool u) is in
+    let back = comes_before a b h u t.0 in let last = t.1 in rw (back, last) refl
 
 -- what the pool has of the edge's own is of an earlier life, or is no news to it
 abbrev pub KnowsOwn : List Fields → Voice → Type 0
-KnowsOwn pool e = (u : Fields) → Contains pool u → u.register.originator ≡ e.address → (u.value.incarnation < e.incarnation) ⊎ (is_newest e u ≡ false)
+KnowsOwn pool e = (u : Fields) → Contains pool u → u.register.originator ≡ e.address
+    → (u.value.incarnation < e.incarnation) ⊎ (is_newest e u ≡ false)
 
 -- an update that comes back: the newest advert of its register is counted
 pub record Counted (pool : List Fields) (a : Voice) (u : Fields) : Type 0 where
@@ -243,31 +297,47 @@ pub record Counted (pool : List Fields) (a : Voice) (u : Fields) : Type 0 where
   pub register : update.register ≡ u.register
   pub counts : may_return pool a update ≡ true
 
-pub counted : (pool : List Fields) (a : Voice) (u : Fields) → KnowsOwn pool a → Contains pool u → comes_back a u ≡ true → Counted pool a u
+pub counted : (pool : List Fields) (a : Voice) (u : Fields) → KnowsOwn pool a → Contains pool u → comes_back a u ≡ true
+    → Counted pool a u
 counted pool a u knows in' back =
     let c = comes a u back in
     let n = newest pool u c.advert in
-    let inside : Contains pool n.update = elim n.from as (λ _. Contains pool n.update) [ inl here ↦ here | inr same ↦ subst (Contains pool) (sym same) in' ] in
+    let inside : Contains pool n.update = elim n.from as (λ _. Contains pool n.update) [
+      | inl here ↦ here
+      | inr same ↦ subst (Contains pool) (sym same) in'
+    ] in
     let mine : n.update.register.originator ≡ a.address = ap (λ (r : Register). r.originator) n.register ∙ c.mine in
-    let news : is_newest a n.update ≡ true = ap (λ r. is_news (value_at a.table r) n.update.value) n.register ∙ news_up (value_at a.table u.register) u n.update c.newest n.order in
-    let earlier : n.update.value.incarnation < a.incarnation = elim (knows n.update inside mine) as (λ _. n.update.value.incarnation < a.incarnation) [
+    let news : is_newest a n.update ≡ true = ap (λ r. is_news (value_at a.table r) n.update.value) n.register
+    ∙ news_up (value_at a.table u.register) u n.update c.newest n.order in
+    let earlier : n.update.value.incarnation < a.incarnation =
+    elim (knows n.update inside mine) as (λ _. n.update.value.incarnation < a.incarnation) [
       | inl less ↦ less
       | inr none ↦ absurd (let bad : false ≡ true = sym none ∙ news in cc)
     ] in
-    let again = comes_when a n.update (record { mine = mine; newest = news; earlier = grind (arith, nat_tests); advert = n.advert }) in
+    let again = comes_when a n.update (record {
+      mine = mine;
+      newest = news;
+      earlier = grind (arith, nat_tests);
+      advert = n.advert;
+    }) in
     let last = newest_is pool u n in
     record { update = n.update; inside = inside; register = n.register; counts = rw (again, last) refl }
 
 pub returning_later : (pool : List Fields) (a b : Voice) → IsLater a b → returning pool b ≤ returning pool a
-returning_later pool a b h = count_le (may_return pool a) (may_return pool b) pool (λ u is. returns_before pool a b h u is)
+returning_later pool a b h = count_le (may_return pool a) (may_return pool b) pool
+    (λ u is. returns_before pool a b h u is)
 
 -- after its withdrawal no advert of the register comes back
-back_gone : (a : Voice) (u w : Fields) → w.register ≡ u.register → u.register.originator ≡ a.address → comes_back (after_saying a u.register.key Withdrawn) w ≡ false
+back_gone : (a : Voice) (u w : Fields) → w.register ≡ u.register → u.register.originator ≡ a.address
+    → comes_back (after_saying a u.register.key Withdrawn) w ≡ false
 back_gone a u w same mine = stays_away (after_saying a u.register.key Withdrawn) w (λ c.
     let less : w.value.incarnation < a.incarnation = (let earlier = c.earlier in grind (arith, nat_tests)) in
     let newest = c.newest in
-    let at : value_at (after_saying a u.register.key Withdrawn).table w.register ≡ Some (next_value a Withdrawn) = ap (value_at (after_saying a u.register.key Withdrawn).table) (same ∙ named) ∙ own_same a u.register.key Withdrawn in
-    let none : is_newest (after_saying a u.register.key Withdrawn) w ≡ false = ap (λ o. is_news o w.value) at ∙ not_newer_earlier (next_value a Withdrawn) w.value less in
+    let at : value_at (after_saying a u.register.key Withdrawn).table w.register ≡ Some (next_value a Withdrawn) =
+    ap (value_at (after_saying a u.register.key Withdrawn).table) (same ∙ named)
+    ∙ own_same a u.register.key Withdrawn in
+    let none : is_newest (after_saying a u.register.key Withdrawn) w ≡ false = ap (λ o. is_news o w.value) at
+    ∙ not_newer_earlier (next_value a Withdrawn) w.value less in
     cc)
   where
     named : u.register ≡ own_register a u.register.key
@@ -285,16 +355,20 @@ marked_length rs r = go (list_any (eq_by_cmp register_cmp r) rs)
         more (x ∷ rs) = let h = more rs in omega (arith, h)
 
 -- what is advertised is learnt
-pub learnt : (c : Claims) (s : Station) → KeepsClaims c → is_some (own_advert c.voice (key_of s)) ≡ true → (x : Entry) × (entry_at c.learned s ≡ Some x)
+pub learnt : (c : Claims) (s : Station) → KeepsClaims c → is_some (own_advert c.voice (key_of s)) ≡ true
+    → (x : Entry) × (entry_at c.learned s ≡ Some x)
 learnt c s h some = go (entry_at c.learned s) refl (own_advert c.voice (key_of s)) refl
   where
-    go : (x : Option Entry) → entry_at c.learned s ≡ x → (y : Option Advert) → own_advert c.voice (key_of s) ≡ y → (x : Entry) × (entry_at c.learned s ≡ Some x)
+    go : (x : Option Entry) → entry_at c.learned s ≡ x → (y : Option Advert) → own_advert c.voice (key_of s) ≡ y
+        → (x : Entry) × (entry_at c.learned s ≡ Some x)
     go (Some x) p y q = (x, p)
     go None p None q = absurd (let no : is_some {T = Advert} None ≡ true = subst (λ o. is_some o ≡ true) q some in cc)
     go None p (Some y) q =
         let k = h.kinds s in
-        let left : option_map {U = Bool} (λ (x : Entry). x.pinned) (entry_at c.learned s) ≡ None = ap (option_map (λ (x : Entry). x.pinned)) p in
-        let right : option_map {U = Bool} (λ (a : Advert). a.is_static) (own_advert c.voice (key_of s)) ≡ Some y.is_static = ap (option_map (λ (a : Advert). a.is_static)) q in
+        let left : option_map {U = Bool} (λ (x : Entry). x.pinned) (entry_at c.learned s) ≡ None =
+        ap (option_map (λ (x : Entry). x.pinned)) p in
+        let right : option_map {U = Bool} (λ (a : Advert). a.is_static) (own_advert c.voice (key_of s))
+        ≡ Some y.is_static = ap (option_map (λ (a : Advert). a.is_static)) q in
         absurd (let bad : None ≡ Some y.is_static = sym left ∙ k ∙ right in cc)
 
 -- ---- what is still to be said never grows, and pays for each number and each announcement
@@ -303,19 +377,25 @@ pub record Pays (pool : List Fields) (a b : Claims) : Type 0 where
   pub announcements : unannounced pool b ≤ unannounced pool a
   pub returns : returning pool b.voice ≤ returning pool a.voice
 
-heard_pays_by : (pool : List Fields) (c : Claims) (u : Fields) (d : Claims) → KnowsOwn pool c.voice → Contains pool u → KeepsClaims c → KeepsNumbers c.voice → Accepts c.voice u → Heard c u d → Pays pool c d
+heard_pays_by : (pool : List Fields) (c : Claims) (u : Fields) (d : Claims) → KnowsOwn pool c.voice → Contains pool u
+    → KeepsClaims c → KeepsNumbers c.voice → Accepts c.voice u → Heard c u d → Pays pool c d
 heard_pays_by pool c u _ knows in' claims h ok (Back back) =
     let later = said_later c.voice u.register.key h in
     let n = counted pool c.voice u knows in' back in
     let gone = back_gone c.voice u n.update n.register (comes c.voice u back).mine in
-    let less : returning pool (after_saying c.voice u.register.key Withdrawn) + 1 ≤ returning pool c.voice = count_less (may_return pool c.voice) (may_return pool (after_saying c.voice u.register.key Withdrawn)) pool n.update (returns_before pool c.voice _ later) n.inside n.counts (ap (λ x. x && is_latest pool n.update) gone) in
+    let less : returning pool (after_saying c.voice u.register.key Withdrawn) + 1 ≤ returning pool c.voice =
+    count_less (may_return pool c.voice) (may_return pool (after_saying c.voice u.register.key Withdrawn)) pool
+    n.update (returns_before pool c.voice _ later) n.inside n.counts
+    (ap (λ x. x && is_latest pool n.update) gone) in
     let marks = marked_length c.voice.pending (own_register c.voice u.register.key) in
     record { numbers = omega (arith, less); announcements = omega (arith, less, marks); returns = omega (arith, less) }
 heard_pays_by pool c u _ knows in' claims h ok (Lost s other lost) =
     let later = heard_later_by c u (after_removal (after_update c u) s) h ok (Lost s other lost) in
     let fewer = returning_later pool c.voice _ later in
-    let some = first (is_some (own_advert (after_hearing c.voice u) (key_of s))) (is_at (owner (after_hearing c.voice u).table s.vni s.mac) c.voice.address) lost in
-    let there = learnt c s claims (ap (λ o. is_some (advert_of o)) (sym (own_stays c.voice u other (key_of s))) ∙ some) in
+    let some = first (is_some (own_advert (after_hearing c.voice u) (key_of s)))
+    (is_at (owner (after_hearing c.voice u).table s.vni s.mac) c.voice.address) lost in
+    let there = learnt c s claims (ap (λ o. is_some (advert_of o)) (sym (own_stays c.voice u other (key_of s)))
+    ∙ some) in
     let less = size_gone c.learned s there.0 there.1 in
     let marks = marked_length c.voice.pending (own_register c.voice (key_of s)) in
     record { numbers = omega (arith, less, fewer); announcements = omega (arith, less, fewer, marks); returns = fewer }
@@ -327,14 +407,16 @@ heard_pays_by pool c u _ knows in' claims h ok (Kept not) =
     let fewer = returning_later pool c.voice _ (kept_later c.voice u ok not) in
     record { numbers = omega (arith, fewer); announcements = omega (arith, fewer); returns = fewer }
 
-pub heard_pays : (pool : List Fields) (c : Claims) (u : Fields) → KnowsOwn pool c.voice → Contains pool u → KeepsClaims c → KeepsNumbers c.voice → Accepts c.voice u → Pays pool c (heard c u)
+pub heard_pays : (pool : List Fields) (c : Claims) (u : Fields) → KnowsOwn pool c.voice → Contains pool u
+    → KeepsClaims c → KeepsNumbers c.voice → Accepts c.voice u → Pays pool c (heard c u)
 heard_pays pool c u knows in' claims h ok = heard_pays_by pool c u (heard c u) knows in' claims h ok (hears c u)
 
 -- ---- after a delivery the update is no news
 updated_has : (t : Table) (u : Fields) → is_news (value_at (with_update t u) u.register) u.value ≡ false
 updated_has t u = go (is_news (value_at t u.register) u.value) refl
   where
-    go : (b : Bool) → is_news (value_at t u.register) u.value ≡ b → is_news (value_at (cond b (with_value t u.register u.value) t) u.register) u.value ≡ false
+    go : (b : Bool) → is_news (value_at t u.register) u.value ≡ b
+        → is_news (value_at (cond b (with_value t u.register u.value) t) u.register) u.value ≡ false
     go true e = ap (λ o. is_news o u.value) (at_same t u.register u.value) ∙ not_newer_itself u.value
     go false e = e
 
@@ -342,10 +424,13 @@ heard_has_by : (c : Claims) (u : Fields) (d : Claims) → KeepsNumbers c.voice �
 heard_has_by c u _ h (Back back) =
     let b = comes c.voice u back in
     let less : u.value.incarnation < c.voice.incarnation = (let earlier = b.earlier in grind (arith, nat_tests)) in
-    let named : u.register ≡ own_register c.voice u.register.key = (let mine = b.mine in λ i. register_of (mine i) u.register.key) in
-    ap (λ r. is_news (value_at (after_saying c.voice u.register.key Withdrawn).table r) u.value) named ∙ ap (λ o. is_news o u.value) (own_same c.voice u.register.key Withdrawn)
+    let named : u.register ≡ own_register c.voice u.register.key =
+    (let mine = b.mine in λ i. register_of (mine i) u.register.key) in
+    ap (λ r. is_news (value_at (after_saying c.voice u.register.key Withdrawn).table r) u.value) named
+    ∙ ap (λ o. is_news o u.value) (own_same c.voice u.register.key Withdrawn)
     ∙ not_newer_earlier (next_value c.voice Withdrawn) u.value less
-heard_has_by c u _ h (Lost s other lost) = (said_later (after_hearing c.voice u) (key_of s) (heard_numbers c.voice u other h)).news u.register u.value (updated_has c.voice.table u)
+heard_has_by c u _ h (Lost s other lost) = (said_later (after_hearing c.voice u) (key_of s)
+    (heard_numbers c.voice u other h)).news u.register u.value (updated_has c.voice.table u)
 heard_has_by c u _ h (Kept not) = updated_has c.voice.table u
 
 pub heard_has : (c : Claims) (u : Fields) → KeepsNumbers c.voice → is_newest (heard c u).voice u ≡ false

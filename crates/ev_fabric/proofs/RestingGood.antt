@@ -13,7 +13,8 @@ use Rattle.route_join.specs.declared.table.Taken.TheVariants.{Known}
 use Rattle.mac_arena.specs.declared.station.Station.{Station}
 use Rattle.mac_arena.specs.ListsName.{ListsName}
 use Rattle.ev_claims.specs.Voice.{Voice, KeepsNumbers, is_at, is_newest, own_advert, after_hearing, after_hearing_own}
-use Rattle.ev_claims.specs.Claims.{Claims, KeepsClaims, key_of, after_removal, after_update, after_own, is_lost, after_losing, after_take}
+use Rattle.ev_claims.specs.Claims.{Claims, KeepsClaims, key_of, after_removal, after_update, after_own, is_lost}
+use Rattle.ev_claims.specs.Claims.{after_losing, after_take}
 use Rattle.ev_claims.proofs.Numbers.{said_numbers, own_stays, heard_numbers}
 use Rattle.ev_claims.proofs.Hearing.{past_if_newest, earlier_numbers}
 use Rattle.ev_claims.proofs.Keeping.{spoken_claims, removal_claims, own_claims}
@@ -43,7 +44,13 @@ good_kept a h = (
     claims = h.claims.claims;
     numbers = h.claims.numbers;
     lists = h.claims.lists;
-    holds = record { owns = h.keeps.owns; latest = h.keeps.latest; individual = h.keeps.individual; served = h.keeps.served; buckets = h.keeps.buckets };
+    holds = record {
+      owns = h.keeps.owns;
+      latest = h.keeps.latest;
+      individual = h.keeps.individual;
+      served = h.keeps.served;
+      buckets = h.keeps.buckets;
+    };
   },
   record { ports = h.keeps.ports; early = h.keeps.early },
 )
@@ -52,32 +59,49 @@ good_kept a h = (
 unheard : (e : Voice) (u : Fields) → is_newest e u ≡ false → e ≡ after_hearing e u
 unheard e u none = sym (λ i. record e { table = cond (none i) (with_value e.table u.register u.value) e.table })
 
-kept_numbers : (e : Voice) (u : Fields) → KeepsNumbers e → Accepts e u → comes_back e u ≡ false → u.register.originator ≡ e.address → KeepsNumbers (after_hearing e u)
+kept_numbers : (e : Voice) (u : Fields) → KeepsNumbers e → Accepts e u → comes_back e u ≡ false
+    → u.register.originator ≡ e.address → KeepsNumbers (after_hearing e u)
 kept_numbers e u n ok not mine = go (is_newest e u) refl
   where
     go : (b : Bool) → is_newest e u ≡ b → KeepsNumbers (after_hearing e u)
-    go true newest = earlier_numbers e u n mine newest (past_if_newest e u (ok.ahead mine) newest) (silent e u ok not mine newest)
+    go true newest = earlier_numbers e u n mine newest (past_if_newest e u (ok.ahead mine) newest)
+        (silent e u ok not mine newest)
     go false none = subst KeepsNumbers (unheard e u none) n
 
-heard_numbers_by : (c : Claims) (u : Fields) (d : Claims) → KeepsNumbers c.voice → Accepts c.voice u → Heard c u d → KeepsNumbers d.voice
+heard_numbers_by : (c : Claims) (u : Fields) (d : Claims) → KeepsNumbers c.voice → Accepts c.voice u → Heard c u d
+    → KeepsNumbers d.voice
 heard_numbers_by c u _ n ok (Back back) = said_numbers c.voice u.register.key Withdrawn n
-heard_numbers_by c u _ n ok (Lost s other lost) = said_numbers (after_hearing c.voice u) (key_of s) Withdrawn (heard_numbers c.voice u other n)
+heard_numbers_by c u _ n ok (Lost s other lost) = said_numbers (after_hearing c.voice u) (key_of s) Withdrawn
+    (heard_numbers c.voice u other n)
 heard_numbers_by c u _ n ok (Kept not) = go (u.register.originator == c.voice.address) refl
   where
     go : (b : Bool) → (u.register.originator == c.voice.address) ≡ b → KeepsNumbers (after_hearing c.voice u)
-    go true t = let mine : u.register.originator ≡ c.voice.address = grind (arith, nat_tests) in kept_numbers c.voice u n ok not mine
-    go false t = let other : u.register.originator ≡ c.voice.address → ⊥ = grind (arith, nat_tests) in heard_numbers c.voice u other n
+    go true t = let mine : u.register.originator ≡ c.voice.address = grind (arith, nat_tests) in
+        kept_numbers c.voice u n ok not mine
+    go false t = let other : u.register.originator ≡ c.voice.address → ⊥ = grind (arith, nat_tests) in
+        heard_numbers c.voice u other n
 
 -- ---- the claims
-own_one : (c : Claims) (u : Fields) → u.register.originator ≡ c.voice.address → Accepts c.voice u → KeepsNumbers c.voice → KeepsClaims c → KeepsClaims (after_own c u)
-own_one c u mine ok n h = own_claims c (after_hearing_own c.voice u) u (Ok Known) mine n h refl tt ((λ q. absurd cc), (λ t. absurd (let bad : false ≡ true = sym (ok.ahead mine) ∙ t in cc))) ((λ q. absurd cc), (λ t. absurd (let bad : false ≡ true = sym (ok.spent mine) ∙ t in cc)))
+own_one : (c : Claims) (u : Fields) → u.register.originator ≡ c.voice.address → Accepts c.voice u → KeepsNumbers c.voice
+    → KeepsClaims c → KeepsClaims (after_own c u)
+own_one c u mine ok n h = own_claims c (after_hearing_own c.voice u) u (Ok Known) mine n h refl tt (
+  (λ q. absurd cc),
+  (λ t. absurd (let bad : false ≡ true = sym (ok.ahead mine) ∙ t in cc)),
+) (
+  (λ q. absurd cc),
+  (λ t. absurd (let bad : false ≡ true = sym (ok.spent mine) ∙ t in cc)),
+)
 
-other_one : (c : Claims) (u : Fields) → u.register.originator ≢ c.voice.address → KeepsClaims c → KeepsClaims (after_update c u)
-other_one c u other h = spoken_claims c (after_hearing c.voice u) h (λ k. ap advert_of (own_stays c.voice u other k)) h.left
+other_one : (c : Claims) (u : Fields) → u.register.originator ≢ c.voice.address → KeepsClaims c
+    → KeepsClaims (after_update c u)
+other_one c u other h = spoken_claims c (after_hearing c.voice u) h (λ k. ap advert_of (own_stays c.voice u other k))
+    h.left
 
-lost_one : (c : Claims) (u : Fields) (s : Station) → u.register.originator ≢ c.voice.address → is_lost (after_update c u) s ≡ true → KeepsClaims c → KeepsClaims (after_removal (after_update c u) s)
+lost_one : (c : Claims) (u : Fields) (s : Station) → u.register.originator ≢ c.voice.address
+    → is_lost (after_update c u) s ≡ true → KeepsClaims c → KeepsClaims (after_removal (after_update c u) s)
 lost_one c u s other lost h =
-    let some = first (is_some (own_advert (after_hearing c.voice u) (key_of s))) (is_at (owner (after_hearing c.voice u).table s.vni s.mac) c.voice.address) lost in
+    let some = first (is_some (own_advert (after_hearing c.voice u) (key_of s)))
+    (is_at (owner (after_hearing c.voice u).table s.vni s.mac) c.voice.address) lost in
     let there = learnt (after_update c u) s (other_one c u other h) some in
     removal_claims (after_update c u) s there.0 there.1 (other_one c u other h)
   where
@@ -85,16 +109,19 @@ lost_one c u s other lost h =
     first true y e = refl
     first false y e = cc
 
-other_claims : (c : Claims) (u : Fields) → u.register.originator ≢ c.voice.address → KeepsClaims c → KeepsClaims (after_take c u)
+other_claims : (c : Claims) (u : Fields) → u.register.originator ≢ c.voice.address → KeepsClaims c
+    → KeepsClaims (after_take c u)
 other_claims c u other h = losing u.register.key
   where
-    pick : (s : Station) (b : Bool) → is_lost (after_update c u) s ≡ b → KeepsClaims (cond b (after_removal (after_update c u) s) (after_update c u))
+    pick : (s : Station) (b : Bool) → is_lost (after_update c u) s ≡ b
+        → KeepsClaims (cond b (after_removal (after_update c u) s) (after_update c u))
     pick s true is = lost_one c u s other is h
     pick s false is = other_one c u other h
 
     losing : (k : Key) → KeepsClaims (after_losing (after_update c u) k)
     losing (Flood v) = other_one c u other h
-    losing (Mac v m ip) = pick (record { vni = v; mac = m }) (is_lost (after_update c u) (record { vni = v; mac = m })) refl
+    losing (Mac v m ip) = pick (record { vni = v; mac = m }) (is_lost (after_update c u) (record { vni = v; mac = m }))
+        refl
 
 -- ---- the lists and the ports
 heard_lists : (c : Claims) (u : Fields) (d : Claims) → Heard c u d → ListsName c.learned → ListsName d.learned
@@ -108,7 +135,11 @@ heard_ports c u _ (Lost s other lost) = refl
 heard_ports c u _ (Kept not) = refl
 
 pub heard_steady : (a : Edge) (u : Fields) → IsSteady a → IsSteady (record a { claims = heard a.claims u })
-heard_steady a u r = record { ports = r.ports ∙ ap length (sym (heard_ports a.claims u (heard a.claims u) (hears a.claims u))); early = r.early }
+heard_steady a u r = record {
+  ports = r.ports ∙ ap length
+      (sym (heard_ports a.claims u (heard a.claims u) (hears a.claims u)));
+  early = r.early;
+}
 
 -- ---- all of it
 pub heard_keeps : (c : Claims) (u : Fields) (second : ℕ) → Accepts c.voice u → Keeps c second → Keeps (heard c u) second
@@ -119,12 +150,17 @@ heard_keeps c u second ok h = record {
   holds = holds (u.register.originator == c.voice.address) refl;
 }
   where
-    claims : (b : Bool) → (u.register.originator == c.voice.address) ≡ b → KeepsClaims (cond b (after_own c u) (after_take c u))
-    claims true t = let mine : u.register.originator ≡ c.voice.address = grind (arith, nat_tests) in own_one c u mine ok h.numbers h.claims
-    claims false t = let other : u.register.originator ≡ c.voice.address → ⊥ = grind (arith, nat_tests) in other_claims c u other h.claims
+    claims : (b : Bool) → (u.register.originator == c.voice.address) ≡ b
+        → KeepsClaims (cond b (after_own c u) (after_take c u))
+    claims true t = let mine : u.register.originator ≡ c.voice.address = grind (arith, nat_tests) in
+        own_one c u mine ok h.numbers h.claims
+    claims false t = let other : u.register.originator ≡ c.voice.address → ⊥ = grind (arith, nat_tests) in
+        other_claims c u other h.claims
 
-    holds : (b : Bool) → (u.register.originator == c.voice.address) ≡ b → Holds (cond b (after_own c u) (after_take c u)) second
-    holds true t = let mine : u.register.originator ≡ c.voice.address = grind (arith, nat_tests) in own_holds c u second h.numbers mine (ok.ahead mine) h.holds
+    holds : (b : Bool) → (u.register.originator == c.voice.address) ≡ b
+        → Holds (cond b (after_own c u) (after_take c u)) second
+    holds true t = let mine : u.register.originator ≡ c.voice.address = grind (arith, nat_tests) in
+        own_holds c u second h.numbers mine (ok.ahead mine) h.holds
     holds false t = taken_holds c u second h.holds
 
 -- an announcement says and learns nothing
@@ -132,11 +168,28 @@ abbrev pub quieter : Claims → List Register → Claims
 quieter c rs = record c { voice = record c.voice { pending = rs } }
 
 announced_like : (c : Claims) (rs : List Register) (second : ℕ) → Holds c second → Holds (quieter c rs) second
-announced_like c rs second h = record { owns = h.owns; latest = h.latest; individual = h.individual; served = h.served; buckets = h.buckets }
+announced_like c rs second h = record {
+  owns = h.owns;
+  latest = h.latest;
+  individual = h.individual;
+  served = h.served;
+  buckets = h.buckets;
+}
 
-pub quieter_keeps : (c : Claims) (r : Register) (rs : List Register) (second : ℕ) → c.voice.pending ≡ r ∷ rs → Keeps c second → Keeps (quieter c rs) second
+pub quieter_keeps : (c : Claims) (r : Register) (rs : List Register) (second : ℕ) → c.voice.pending ≡ r ∷ rs
+    → Keeps c second → Keeps (quieter c rs) second
 quieter_keeps c r rs second pend h = record {
-  claims = record { kinds = h.claims.kinds; bare = h.claims.bare; ports = h.claims.ports; floods = h.claims.floods; fits = h.claims.fits; small = h.claims.small; left = h.claims.left; lists = h.claims.lists; few = h.claims.few };
+  claims = record {
+    kinds = h.claims.kinds;
+    bare = h.claims.bare;
+    ports = h.claims.ports;
+    floods = h.claims.floods;
+    fits = h.claims.fits;
+    small = h.claims.small;
+    left = h.claims.left;
+    lists = h.claims.lists;
+    few = h.claims.few;
+  };
   numbers = record {
     counted = h.numbers.counted;
     distinct = h.numbers.distinct;

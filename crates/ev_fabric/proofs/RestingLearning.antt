@@ -1,5 +1,6 @@
 -- What comes to an edge from outside, where the edge has learnt a station afterwards and hadn't before: it says so.
-use Rattle.std.proofs.Common.{◌≡◌, inl, inr, ℕ, ◌-◌, ◌==◌, ◌&&◌, Bool, true, false, cond, nat_le, Option, Some, None, Result, Ok, Err, List, [], ◌∷◌, refl, sym, ap, subst, ◌∙◌}
+use Rattle.std.proofs.Common.{◌≡◌, inl, inr, ℕ, ◌-◌, ◌==◌, ◌&&◌, Bool, true, false, cond, nat_le, Option, Some, None}
+use Rattle.std.proofs.Common.{Result, Ok, Err, List, [], ◌∷◌, refl, sym, ap, subst, ◌∙◌}
 use Rattle.std.specs.Prelude.{IsSome, not}
 use Rattle.std.specs.FinMap.{get}
 use Rattle.ether_wire.specs.Names.{is_group}
@@ -41,7 +42,8 @@ use Rattle.ev_edge.specs.Learning.{Does, case_of, case_at, new_case, numbered_ca
 use Rattle.ev_edge.specs.Pinning.{DoesPin, pin_case, pin_case_at, unpinned_case, is_static, refused_pin, after_unpin}
 use Rattle.ev_edge.specs.Steps.{Steps, FrameSteps, TunnelSteps, Bridges, BridgesAt, Seconds, LearnsIf, Pins}
 use Rattle.ev_fabric.specs.declared.step.LocalEvent.{LocalEvent}
-use Rattle.ev_fabric.specs.declared.step.LocalEvent.TheVariants.{Frame, TunnelFrame, Pin, Unpin, Thaw, Second, PortUp, PortDown, Mcheck}
+use Rattle.ev_fabric.specs.declared.step.LocalEvent.TheVariants.{Frame, TunnelFrame, Pin, Unpin, Thaw, Second, PortUp}
+use Rattle.ev_fabric.specs.declared.step.LocalEvent.TheVariants.{PortDown, Mcheck}
 use Rattle.ev_fabric.specs.Local.{event_of}
 
 -- it advertises the station under the next number, and nothing else that it says changes
@@ -66,7 +68,8 @@ new_refresh e s w = go (is_frozen w) (seq_for (table_of e) (address_of e) s.vni 
     moves n false true = refl
     moves n false false = refl
 
-    numbered : (n : ℕ) (x y : Bool) → is_refresh (cond x (Refuse CounterSpent) (cond y (Refuse TableFull) (move_case w e.clock n))) ≡ false
+    numbered : (n : ℕ) (x y : Bool) → is_refresh (cond x (Refuse CounterSpent)
+        (cond y (Refuse TableFull) (move_case w e.clock n))) ≡ false
     numbered n true y = refl
     numbered n false true = refl
     numbered n false false = moves n (n == 0) (is_fifth w e.clock)
@@ -84,9 +87,11 @@ is_shift (pins.Deny alert) = false
 is_shift pins.Pin = false
 
 new_shift : (e : Edge) (s : Station) → is_shift (unpinned_case e s false) ≡ false
-new_shift e s = go (is_static (seq_for (table_of e) (address_of e) s.vni s.mac)) (is_spent e.claims) (is_full e.claims.learned)
+new_shift e s = go (is_static (seq_for (table_of e) (address_of e) s.vni s.mac)) (is_spent e.claims)
+    (is_full e.claims.learned)
   where
-    go : (x y z : Bool) → is_shift (cond x (pins.Deny StaticElsewhere) (cond y (pins.Deny CounterSpent) (cond z (pins.Deny TableFull) pins.Pin))) ≡ false
+    go : (x y z : Bool) → is_shift (cond x (pins.Deny StaticElsewhere)
+        (cond y (pins.Deny CounterSpent) (cond z (pins.Deny TableFull) pins.Pin))) ≡ false
     go true y z = refl
     go false true z = refl
     go false false true = refl
@@ -95,21 +100,24 @@ new_shift e s = go (is_static (seq_for (table_of e) (address_of e) s.vni s.mac))
 -- ---- what goes
 
 -- what isn't learnt isn't after stations went
-removed_still : (c : Claims) (ss : List Station) (s : Station) → entry_at c.learned s ≡ None → entry_at (after_removals c ss).learned s ≡ None
+removed_still : (c : Claims) (ss : List Station) (s : Station) → entry_at c.learned s ≡ None
+    → entry_at (after_removals c ss).learned s ≡ None
 removed_still c ss s unknown = removals_entries c ss s ∙ taken_out (stands ss s) (entry_at c.learned s) unknown
   where
     taken_out : (b : Bool) (o : Option Entry) → o ≡ None → cond b None o ≡ None
     taken_out true o none = refl
     taken_out false o none = none
 
-aged_still : (c : Claims) (ageing clock : ℕ) (s : Station) → entry_at c.learned s ≡ None → entry_at (aged c ageing clock).learned s ≡ None
+aged_still : (c : Claims) (ageing clock : ℕ) (s : Station) → entry_at c.learned s ≡ None
+    → entry_at (aged c ageing clock).learned s ≡ None
 aged_still c ageing clock s unknown = go (nat_le ageing clock)
   where
     go : (b : Bool) → entry_at (cond b (after_ageing c (clock - ageing)) c).learned s ≡ None
     go true = removed_still c (due_in c.learned (clock - ageing)) s unknown
     go false = unknown
 
-unpinned_still : (e : Edge) (q s : Station) → entry_at e.claims.learned s ≡ None → entry_at (after_unpin e q).claims.learned s ≡ None
+unpinned_still : (e : Edge) (q s : Station) → entry_at e.claims.learned s ≡ None
+    → entry_at (after_unpin e q).claims.learned s ≡ None
 unpinned_still e q s unknown = go (is_pinned (entry_at e.claims.learned q))
   where
     go : (b : Bool) → entry_at (cond b (record e { claims = after_removal e.claims q }) e).claims.learned s ≡ None
@@ -117,7 +125,8 @@ unpinned_still e q s unknown = go (is_pinned (entry_at e.claims.learned q))
     go false = unknown
 
 -- ---- all events from outside
-module _ (b : Edge) (s : Station) (c : Edge) (unknown : entry_at b.claims.learned s ≡ None) (some : IsSome (entry_at c.claims.learned s)) where
+module _ (b : Edge) (s : Station) (c : Edge) (unknown : entry_at b.claims.learned s ≡ None)
+    (some : IsSome (entry_at c.claims.learned s)) where
   absent : entry_at c.claims.learned s ≡ None → LearnsIt b s c
   absent none = absurd (let no : IsSome {T = Entry} None = subst IsSome none some in cc)
 
@@ -129,35 +138,47 @@ module _ (b : Edge) (s : Station) (c : Edge) (unknown : entry_at b.claims.learne
   same is = without b is unknown
 
   bridged : (event : tree.Event) (answer : Result Reply edge.Refusal) → Bridges event b answer c → LearnsIt b s c
-  bridged event (Ok reply) h = without _ h.after (removed_still b.claims (flushed_in b.claims.learned h.flush) s unknown)
+  bridged event (Ok reply) h = without _ h.after (removed_still b.claims (flushed_in b.claims.learned h.flush) s
+      unknown)
   bridged event (Err r) h = absurd h
 
-  bridged_at : (o : Option ℕ) (event : tree.Event) (answer : Result Reply edge.Refusal) → BridgesAt o event b answer c → LearnsIt b s c
+  bridged_at : (o : Option ℕ) (event : tree.Event) (answer : Result Reply edge.Refusal) → BridgesAt o event b answer c
+      → LearnsIt b s c
   bridged_at None event answer h = same h.1
   bridged_at (Some vni) event answer h = bridged event answer h
 
   by_second : (answer : Result Reply edge.Refusal) → Seconds b answer c → LearnsIt b s c
-  by_second (Ok reply) h = without _ h.after (aged_still (after_flush b.claims h.flush) b.ageing (next_second b.clock) s (removed_still b.claims (flushed_in b.claims.learned h.flush) s unknown))
+  by_second (Ok reply) h = without _ h.after (aged_still (after_flush b.claims h.flush) b.ageing (next_second b.clock) s
+      (removed_still b.claims (flushed_in b.claims.learned h.flush) s unknown))
   by_second (Err r) h = absurd h
 
   no_refresh : (q : Station) → q ≡ s → case_of b q ≡ Refresh → ⊥
   no_refresh q is e =
-      let new : case_of b q ≡ new_case b q (get b.windows q) = ap (case_at b q) (subst (λ r. entry_at b.claims.learned r ≡ None) (sym is) unknown) in
+      let new : case_of b q ≡ new_case b q (get b.windows q) =
+      ap (case_at b q) (subst (λ r. entry_at b.claims.learned r ≡ None) (sym is) unknown) in
       let bad : true ≡ false = ap is_refresh (sym e ∙ new) ∙ new_refresh b q (get b.windows q) in
       cc
 
-  learns : (q : Station) (port : ℕ) (k : Case) → case_of b q ≡ k → (told : Option Alert) → Does k b q port told c → LearnsIt b s c
+  learns : (q : Station) (port : ℕ) (k : Case) → case_of b q ≡ k → (told : Option Alert) → Does k b q port told c
+      → LearnsIt b s c
   learns q port Leave e told h = same h.1
   learns q port Refresh e told h = elim (same_or_other q s) as (λ _. LearnsIt b s c) [
     | inl is ↦ absurd (no_refresh q is e)
-    | inr ne ↦ without _ h.1 ((learn_entry b.claims.learned q port b.clock (learnt_of b.claims.learned q port)).others s (λ is. ne (sym is)) ∙ unknown)
+    | inr ne ↦ without _ h.1 ((learn_entry b.claims.learned q port b.clock (learnt_of b.claims.learned q port)).others s
+        (λ is. ne (sym is)) ∙ unknown)
   ]
   learns q port (Refuse alert) e told h = same h.1
   learns q port Freeze e told h = without _ h.1 unknown
   learns q port (Learn n) e told h = elim h as (λ _. LearnsIt b s c) [
     | inl is ↦ elim (same_or_other q s) as (λ _. LearnsIt b s c) [
-      | inl this ↦ record { content = moving n; advert = refl; voice = ap (λ (e : Edge). e.claims.voice) is.1 ∙ ap (λ r. after_saying b.claims.voice (key_of r) (moving n)) this }
-      | inr ne ↦ without _ is.1 ((learn_entry b.claims.learned q port b.clock New).others s (λ is. ne (sym is)) ∙ unknown)
+      | inl this ↦ record {
+        content = moving n;
+        advert = refl;
+        voice = ap (λ (e : Edge). e.claims.voice) is.1
+            ∙ ap (λ r. after_saying b.claims.voice (key_of r) (moving n)) this;
+      }
+      | inr ne ↦ without _ is.1 ((learn_entry b.claims.learned q port b.clock New).others s (λ is. ne (sym is))
+          ∙ unknown)
     ]
     | inr refused ↦ same refused.1
   ]
@@ -166,14 +187,18 @@ module _ (b : Edge) (s : Station) (c : Edge) (unknown : entry_at b.claims.learne
   data_frame true q port told h = learns q port (case_of b q) refl told h
   data_frame false q port told h = same h.1
 
-  by_frame : (x : Result Arrival edge.Refusal) (port : ℕ) (answer : Result Reply edge.Refusal) → FrameSteps x b port answer c → LearnsIt b s c
+  by_frame : (x : Result Arrival edge.Refusal) (port : ℕ) (answer : Result Reply edge.Refusal)
+      → FrameSteps x b port answer c → LearnsIt b s c
   by_frame (Err r) port answer h = same h.1
   by_frame (Ok Dropped) port answer h = same h.1
   by_frame (Ok (Message m)) port answer h = bridged (tree_events.Bpdu port m) answer h
-  by_frame (Ok (Data vni destination source)) port (Ok reply) h = data_frame (h.learning.learns && not (is_group source)) (record { vni = vni; mac = source }) port reply.alert h.learning.learning
+  by_frame (Ok (Data vni destination source)) port (Ok reply) h =
+      data_frame (h.learning.learns && not (is_group source)) (record { vni = vni; mac = source }) port reply.alert
+      h.learning.learning
   by_frame (Ok (Data vni destination source)) port (Err r) h = absurd h
 
-  by_tunnel : (x : Result Arrival edge.Refusal) (answer : Result Reply edge.Refusal) → TunnelSteps x b answer c → LearnsIt b s c
+  by_tunnel : (x : Result Arrival edge.Refusal) (answer : Result Reply edge.Refusal) → TunnelSteps x b answer c
+      → LearnsIt b s c
   by_tunnel (Err r) answer h = same h.1
   by_tunnel (Ok Dropped) answer h = same h.1
   by_tunnel (Ok (Message m)) answer h = absurd h
@@ -182,11 +207,13 @@ module _ (b : Edge) (s : Station) (c : Edge) (unknown : entry_at b.claims.learne
 
   no_shift : (q : Station) (port : ℕ) → q ≡ s → pin_case b q port ≡ pins.Shift → ⊥
   no_shift q port is e =
-      let new : pin_case b q port ≡ unpinned_case b q false = ap (pin_case_at b q port) (subst (λ r. entry_at b.claims.learned r ≡ None) (sym is) unknown) in
+      let new : pin_case b q port ≡ unpinned_case b q false =
+      ap (pin_case_at b q port) (subst (λ r. entry_at b.claims.learned r ≡ None) (sym is) unknown) in
       let bad : true ≡ false = ap is_shift (sym e ∙ new) ∙ new_shift b q in
       cc
 
-  pinned : (q : Station) (port : ℕ) (k : PinCase) → pin_case b q port ≡ k → (told : Option Alert) → DoesPin k b q port told c → LearnsIt b s c
+  pinned : (q : Station) (port : ℕ) (k : PinCase) → pin_case b q port ≡ k → (told : Option Alert)
+      → DoesPin k b q port told c → LearnsIt b s c
   pinned q port pins.Keep e told h = same h.1
   pinned q port pins.Shift e told h = elim (same_or_other q s) as (λ _. LearnsIt b s c) [
     | inl is ↦ absurd (no_shift q port is e)
@@ -195,18 +222,24 @@ module _ (b : Edge) (s : Station) (c : Edge) (unknown : entry_at b.claims.learne
   pinned q port (pins.Deny alert) e told h = same h.1
   pinned q port pins.Pin e told h = elim h as (λ _. LearnsIt b s c) [
     | inl is ↦ elim (same_or_other q s) as (λ _. LearnsIt b s c) [
-      | inl this ↦ record { content = fixed; advert = refl; voice = ap (λ (e : Edge). e.claims.voice) is.1 ∙ ap (λ r. after_saying b.claims.voice (key_of r) fixed) this }
+      | inl this ↦ record {
+        content = fixed;
+        advert = refl;
+        voice = ap (λ (e : Edge). e.claims.voice) is.1 ∙ ap (λ r. after_saying b.claims.voice (key_of r) fixed) this;
+      }
       | inr ne ↦ without _ is.1 ((pin_entry b.claims.learned q port).others s (λ is. ne (sym is)) ∙ unknown)
     ]
     | inr refused ↦ same refused.1
   ]
 
-  by_pin : (o : Option EdgeRefusal) (q : Station) (port : ℕ) (answer : Result Reply edge.Refusal) → Pins o b q port answer c → LearnsIt b s c
+  by_pin : (o : Option EdgeRefusal) (q : Station) (port : ℕ) (answer : Result Reply edge.Refusal)
+      → Pins o b q port answer c → LearnsIt b s c
   by_pin (Some r) q port answer h = same h.1
   by_pin None q port (Ok reply) h = pinned q port (pin_case b q port) refl reply.alert h.0
   by_pin None q port (Err r) h = absurd h
 
-  pub learns_anew : (event : LocalEvent) (answer : Result Reply edge.Refusal) → Steps b (event_of event) answer c → LearnsIt b s c
+  pub learns_anew : (event : LocalEvent) (answer : Result Reply edge.Refusal) → Steps b (event_of event) answer c
+      → LearnsIt b s c
   learns_anew (Frame port octets) answer h = by_frame (frame_arrival b port octets.now) port answer h
   learns_anew (TunnelFrame from octets) answer h = by_tunnel (tunnel_arrival b from octets.now) answer h
   learns_anew (Pin q port) answer h = by_pin (refused_pin b q port) q port answer h

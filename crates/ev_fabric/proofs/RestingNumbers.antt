@@ -17,7 +17,8 @@ start_numbers configs f h i a at some =
     let none : returning f.pool a.claims.voice ≡ 0 = ap (λ us. returning us a.claims.voice) h.quiet in
     absurd (omega (arith, none, some))
 
-pub few_numbers : (f : Fabric) → IsSound f → ((i : ℕ) (a : Edge) → IsEdge f i a → a.claims.voice.counter + capacity a.claims + length f.pool ≤ 2 ^ 63) → HasNumbers f
+pub few_numbers : (f : Fabric) → IsSound f → ((i : ℕ) (a : Edge) → IsEdge f i a
+    → a.claims.voice.counter + capacity a.claims + length f.pool ≤ 2 ^ 63) → HasNumbers f
 few_numbers f h few i a at some =
     let fits = (h.good i a at).claims.claims.fits in
     let bound = few i a at in

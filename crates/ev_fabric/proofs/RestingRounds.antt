@@ -1,5 +1,7 @@
 -- Two rounds make a fabric that is left alone agree.
-use Rattle.std.proofs.Common.{◌≡◌, ◌⊎◌, inl, inr, ℕ, zero, suc, ◌<◌, ◌≤◌, ◌^◌, Bool, true, false, cond, nat_le, Option, Some, None, Result, Ok, Err, List, [], ◌∷◌, ◌++◌, length, refl, sym, ap, subst, ◌∙◌, arith}
+use Rattle.std.proofs.Common.{◌≡◌, ◌⊎◌, inl, inr, ℕ, zero, suc, ◌<◌, ◌≤◌, ◌^◌, Bool, true, false, cond, nat_le, Option}
+use Rattle.std.proofs.Common.{Some, None, Result, Ok, Err, List, [], ◌∷◌, ◌++◌, length, refl, sym, ap, subst, ◌∙◌}
+use Rattle.std.proofs.Common.{arith}
 use Rattle.std.proofs.lemmas.Bool.Decides.{nat_tests}
 use Rattle.std.proofs.lemmas.Bool.{cases_eq}
 use Rattle.std.proofs.lemmas.List.Elements.{Contains-append_cases, Contains-push_cases}
@@ -30,13 +32,15 @@ use Rattle.ev_fabric.specs.Steps.{with_edge, with_announced, of_edge, IsRefused,
 use Rattle.ev_fabric.specs.Sound.{update_of}
 use Rattle.ev_fabric.specs.Agreed.{AllAgree}
 use Rattle.ev_fabric.specs.RestEdge.{comes_back, unannounced}
-use Rattle.ev_fabric.specs.Rest.{IsQuiet, IsGranted, Rests, AllQuiet, full_pool, HasNumbers, announcing, taking, each, round, two_rounds, WasGiven, AllGiven, AllSilent}
+use Rattle.ev_fabric.specs.Rest.{IsQuiet, IsGranted, Rests, AllQuiet, full_pool, HasNumbers, announcing, taking, each}
+use Rattle.ev_fabric.specs.Rest.{round, two_rounds, WasGiven, AllGiven, AllSilent}
 use Rattle.ev_fabric.proofs.Places.{set_cases, set_same, contains_at, below_length}
 use Rattle.ev_fabric.proofs.RestingSums.{sum_has, count_some, place_of, later_one}
 use Rattle.ev_fabric.proofs.RestingEdge.{Accepts, heard, heard_has, may_return, counted}
 use Rattle.ev_fabric.proofs.RestingIdle.{idle_hearing, Mourns, heard_mourns}
 use Rattle.ev_fabric.proofs.RestingGood.{quieter}
-use Rattle.ev_fabric.proofs.RestingMoves.{Kept, Move, Stays, Tells, Takes, minus, moved, before, move_kept, rests_kept, rests_full, rests_before}
+use Rattle.ev_fabric.proofs.RestingMoves.{Kept, Move, Stays, Tells, Takes, minus, moved, before, move_kept, rests_kept}
+use Rattle.ev_fabric.proofs.RestingMoves.{rests_full, rests_before}
 
 -- ---- a fabric whose edges take each update of the pool
 pub record IsReady (f : Fabric) : Type 0 where
@@ -55,21 +59,26 @@ move_ready old new move h = record {
 }
 
 -- such an edge takes each update of the pool
-pub ready_accepted : (f : Fabric) → IsReady f → (i : ℕ) (a : Edge) (u : Fields) → IsEdge f i a → Contains f.pool u → Accepts a.claims.voice u
+pub ready_accepted : (f : Fabric) → IsReady f → (i : ℕ) (a : Edge) (u : Fields) → IsEdge f i a → Contains f.pool u
+    → Accepts a.claims.voice u
 ready_accepted f h i a u at in' = record {
-  listed = let source = h.kept.sources u in' in ap (is_listed (table_of a)) (sym source.3) ∙ h.kept.listed i source.0 a source.1 at source.2;
+  listed = let source = h.kept.sources u in' in ap (is_listed (table_of a)) (sym source.3)
+      ∙ h.kept.listed i source.0 a source.1 at source.2;
   ahead = λ mine. behind mine (is_newest a.claims.voice u) refl;
   spent = λ mine. rich mine (is_returning a.claims.voice u) refl;
 }
   where
-    behind : u.register.originator ≡ address_of a → (b : Bool) → is_newest a.claims.voice u ≡ b → is_ahead a.claims.voice u ≡ false
+    behind : u.register.originator ≡ address_of a → (b : Bool) → is_newest a.claims.voice u ≡ b
+        → is_ahead a.claims.voice u ≡ false
     behind mine false none = ap (λ b. b && nat_le a.claims.voice.incarnation u.value.incarnation) none
     behind mine true newest = elim (h.kept.knows i a at u in' mine) as (λ _. is_ahead a.claims.voice u ≡ false) [
-      | inl earlier ↦ let late : nat_le a.claims.voice.incarnation u.value.incarnation ≡ false = grind (arith, nat_tests) in rw (newest, late) refl
+      | inl earlier ↦ let late : nat_le a.claims.voice.incarnation u.value.incarnation ≡ false =
+          grind (arith, nat_tests) in rw (newest, late) refl
       | inr none ↦ absurd (let bad : false ≡ true = sym none ∙ newest in cc)
     ]
 
-    rich : u.register.originator ≡ address_of a → (b : Bool) → is_returning a.claims.voice u ≡ b → is_spent a.claims.voice u ≡ false
+    rich : u.register.originator ≡ address_of a → (b : Bool) → is_returning a.claims.voice u ≡ b
+        → is_spent a.claims.voice u ≡ false
     rich mine false none = ap (λ b. b && nat_le (2 ^ 63) a.claims.voice.counter) none
     rich mine true back =
         let test : (u.register.originator == address_of a) ≡ true = grind (arith, nat_tests) in
@@ -83,9 +92,11 @@ ready_accepted f h i a u at in' = record {
 
 pub rests_ready : (steps : List Step) (old new : Fabric) → Rests old steps new → IsReady old → IsReady new
 rests_ready [] old new h ready = subst IsReady (sym h) ready
-rests_ready (step ∷ steps) old new h ready = rests_ready steps h.0 new h.5 (move_ready old h.0 (moved old h.0 step h.1 ready.kept h.2 h.4) ready)
+rests_ready (step ∷ steps) old new h ready = rests_ready steps h.0 new h.5
+    (move_ready old h.0 (moved old h.0 step h.1 ready.kept h.2 h.4) ready)
 
-pub split : (xs ys : List Step) (old new : Fabric) → Rests old (xs ++ ys) new → (mid : Fabric) × Rests old xs mid × Rests mid ys new
+pub split : (xs ys : List Step) (old new : Fabric) → Rests old (xs ++ ys) new
+    → (mid : Fabric) × Rests old xs mid × Rests mid ys new
 split [] ys old new h = (old, refl, h)
 split (x ∷ xs) ys old new h = let rest = split xs ys h.0 new h.5 in (rest.0, (h.0, h.1, h.2, h.3, h.4, rest.1), rest.2)
 
@@ -95,30 +106,39 @@ split (x ∷ xs) ys old new h = let rest = split xs ys h.0 new h.5 in (rest.0, (
 abbrev pub Has : Fabric → ℕ → Fields → Type 0
 Has f i u = (a : Edge) → IsEdge f i a → is_newest a.claims.voice u ≡ false
 
-pub rests_has : (steps : List Step) (old new : Fabric) → Kept old → Rests old steps new → (i : ℕ) (u : Fields) → Has old i u → Has new i u
-rests_has steps old new kept h i u has b at = let x = rests_before steps old new kept h i b at in x.later.news u.register u.value (has x.was x.at)
+pub rests_has : (steps : List Step) (old new : Fabric) → Kept old → Rests old steps new → (i : ℕ) (u : Fields)
+    → Has old i u → Has new i u
+rests_has steps old new kept h i u has b at = let x = rests_before steps old new kept h i b at in
+    x.later.news u.register u.value (has x.was x.at)
 
-took : (old new : Fabric) (i : ℕ) (a b : Edge) (u : Fields) → Kept old → IsEdge old i a → b ≡ record a { claims = heard a.claims u } → new ≡ with_edge old (suc i) b → Has new i u
+took : (old new : Fabric) (i : ℕ) (a b : Edge) (u : Fields) → Kept old → IsEdge old i a
+    → b ≡ record a { claims = heard a.claims u } → new ≡ with_edge old (suc i) b → Has new i u
 took old new i a b u kept at same is c at_c =
-    let edges : new.edges ≡ slice_set old.edges i (record a { claims = heard a.claims u }) = ap (λ (f : Fabric). f.edges) is ∙ (λ j. slice_set old.edges (minus i j) (same j)) in
-    let here : slice_get new.edges i ≡ Some (record a { claims = heard a.claims u }) = ap (λ l. slice_get l i) edges ∙ set_same old.edges i a (record a { claims = heard a.claims u }) at in
+    let edges : new.edges ≡ slice_set old.edges i (record a { claims = heard a.claims u }) =
+    ap (λ (f : Fabric). f.edges) is ∙ (λ j. slice_set old.edges (minus i j) (same j)) in
+    let here : slice_get new.edges i ≡ Some (record a { claims = heard a.claims u }) = ap (λ l. slice_get l i) edges
+    ∙ set_same old.edges i a (record a { claims = heard a.claims u }) at in
     let both : Some (record a { claims = heard a.claims u }) ≡ Some c = sym here ∙ at_c in
     let c_is : record a { claims = heard a.claims u } ≡ c = cc in
     subst (λ (e : Edge). is_newest e.claims.voice u ≡ false) c_is (heard_has a.claims u (kept.keeps i a at).numbers)
 
 -- an answered delivery has made the edge hear the update
-answered : (a b : Edge) (u : Fields) (reply : Reply) → Steps a (events.Take u) (Ok reply) b → b ≡ record a { claims = heard a.claims u }
+answered : (a b : Edge) (u : Fields) (reply : Reply) → Steps a (events.Take u) (Ok reply) b
+    → b ≡ record a { claims = heard a.claims u }
 answered a b u reply h = choose (u.register.originator == address_of a) refl h
   where
-    choose : (x : Bool) → (u.register.originator == address_of a) ≡ x → TakesBy x a u (Ok reply) b → b ≡ record a { claims = heard a.claims u }
+    choose : (x : Bool) → (u.register.originator == address_of a) ≡ x → TakesBy x a u (Ok reply) b
+        → b ≡ record a { claims = heard a.claims u }
     choose true t h = h.3 ∙ (λ j. record a { claims = cond (sym t j) (after_own a.claims u) (after_take a.claims u) })
     choose false t h = h.2 ∙ (λ j. record a { claims = cond (sym t j) (after_own a.claims u) (after_take a.claims u) })
 
 -- an accepted update is refused for want of memory alone
-not_refused : (a b : Edge) (u : Fields) (why : edge.Refusal) → Accepts a.claims.voice u → Steps a (events.Take u) (Err why) b → why ≡ OfEdge EdgeNoMemory
+not_refused : (a b : Edge) (u : Fields) (why : edge.Refusal) → Accepts a.claims.voice u
+    → Steps a (events.Take u) (Err why) b → why ≡ OfEdge EdgeNoMemory
 not_refused a b u why ok h = choose (u.register.originator == address_of a) refl h
   where
-    choose : (x : Bool) → (u.register.originator == address_of a) ≡ x → TakesBy x a u (Err why) b → why ≡ OfEdge EdgeNoMemory
+    choose : (x : Bool) → (u.register.originator == address_of a) ≡ x → TakesBy x a u (Err why) b
+        → why ≡ OfEdge EdgeNoMemory
     choose true t h =
         let mine : u.register.originator ≡ address_of a = grind (arith, nat_tests) in
         elim h.0 as (λ _. why ≡ OfEdge EdgeNoMemory) [
@@ -138,28 +158,44 @@ ok_answer : (answer : Result Reply edge.Refusal) (reply : Reply) → Ok reply �
 ok_answer (Ok r) reply e = let same : reply ≡ r = cc in ap Ok (sym same)
 ok_answer (Err r) reply e = absurd cc
 
-given_ok : (old new : Fabric) (i k : ℕ) (reply : Reply) (u : Fields) → Kept old → FabricSteps old (Deliver (suc i) (suc k)) (Ok reply) new → slice_get old.pool k ≡ Some u → Has new i u
+given_ok : (old new : Fabric) (i k : ℕ) (reply : Reply) (u : Fields) → Kept old
+    → FabricSteps old (Deliver (suc i) (suc k)) (Ok reply) new → slice_get old.pool k ≡ Some u → Has new i u
 given_ok old new i k reply u kept h at_u = go (slice_get old.edges i) refl h
   where
-    go : (o : Option Edge) → slice_get old.edges i ≡ o → MatchOption o (IsRefused NoSuchEdge old (Ok reply) new) (λ a. MatchOption (slice_get old.pool k) (IsRefused NoSuchUpdate old (Ok reply) new) (λ u. StepsAt old (suc i) a (events.Take u) (Ok reply) new)) → Has new i u
+    go : (o : Option Edge) → slice_get old.edges i ≡ o → MatchOption o (IsRefused NoSuchEdge old (Ok reply) new)
+        (λ a. MatchOption (slice_get old.pool k) (IsRefused NoSuchUpdate old (Ok reply) new)
+        (λ u. StepsAt old (suc i) a (events.Take u) (Ok reply) new)) → Has new i u
     go None is h = absurd (let never = h.0 in cc)
     go (Some a) is h =
-        let s : StepsAt old (suc i) a (events.Take u) (Ok reply) new = subst (λ o. MatchOption o (IsRefused NoSuchUpdate old (Ok reply) new) (λ u. StepsAt old (suc i) a (events.Take u) (Ok reply) new)) at_u h in
-        took old new i a s.after u kept is (answered a s.after u reply (subst (λ x. Steps a (events.Take u) x s.after) (ok_answer s.answer reply s.result_is) s.steps)) s.new_is
+        let s : StepsAt old (suc i) a (events.Take u) (Ok reply) new =
+        subst (λ o. MatchOption o (IsRefused NoSuchUpdate old (Ok reply) new)
+        (λ u. StepsAt old (suc i) a (events.Take u) (Ok reply) new)) at_u h in
+        took old new i a s.after u kept is (answered a s.after u reply
+        (subst (λ x. Steps a (events.Take u) x s.after) (ok_answer s.answer reply s.result_is) s.steps)) s.new_is
 
-granted_take : (old new : Fabric) (i : ℕ) (a b : Edge) (u : Fields) (result : Result Reply Refusal) (answer : Result Reply edge.Refusal) → Kept old → Accepts a.claims.voice u → IsEdge old i a → IsGranted result → result ≡ of_edge answer → Steps a (events.Take u) answer b → new ≡ with_edge old (suc i) b → Has new i u
-granted_take old new i a b u result (Ok reply) kept ok at granted is h new_is = took old new i a b u kept at (answered a b u reply h) new_is
+granted_take : (old new : Fabric) (i : ℕ) (a b : Edge) (u : Fields) (result : Result Reply Refusal)
+    (answer : Result Reply edge.Refusal) → Kept old → Accepts a.claims.voice u → IsEdge old i a → IsGranted result
+    → result ≡ of_edge answer → Steps a (events.Take u) answer b → new ≡ with_edge old (suc i) b → Has new i u
+granted_take old new i a b u result (Ok reply) kept ok at granted is h new_is =
+    took old new i a b u kept at (answered a b u reply h) new_is
 granted_take old new i a b u result (Err why) kept ok at granted is h new_is =
     absurd ((subst IsGranted is granted).1 (ap OfAnEdge (not_refused a b u why ok h)))
 
-pub given : (old new : Fabric) (i k : ℕ) (result : Result Reply Refusal) (u : Fields) → IsReady old → IsGranted result → FabricSteps old (Deliver (suc i) (suc k)) result new → slice_get old.pool k ≡ Some u → Has new i u
+pub given : (old new : Fabric) (i k : ℕ) (result : Result Reply Refusal) (u : Fields) → IsReady old → IsGranted result
+    → FabricSteps old (Deliver (suc i) (suc k)) result new → slice_get old.pool k ≡ Some u → Has new i u
 given old new i k result u ready granted h at_u = go (slice_get old.edges i) refl h
   where
-    go : (o : Option Edge) → slice_get old.edges i ≡ o → MatchOption o (IsRefused NoSuchEdge old result new) (λ a. MatchOption (slice_get old.pool k) (IsRefused NoSuchUpdate old result new) (λ u. StepsAt old (suc i) a (events.Take u) result new)) → Has new i u
-    go None is h = λ a at. absurd (let at' : slice_get old.edges i ≡ Some a = subst (λ (f : Fabric). slice_get f.edges i ≡ Some a) h.1 at in let bad : None ≡ Some a = sym is ∙ at' in cc)
+    go : (o : Option Edge) → slice_get old.edges i ≡ o → MatchOption o (IsRefused NoSuchEdge old result new)
+        (λ a. MatchOption (slice_get old.pool k) (IsRefused NoSuchUpdate old result new)
+        (λ u. StepsAt old (suc i) a (events.Take u) result new)) → Has new i u
+    go None is h = λ a at. absurd (let at' : slice_get old.edges i ≡ Some a =
+        subst (λ (f : Fabric). slice_get f.edges i ≡ Some a) h.1 at in let bad : None ≡ Some a = sym is ∙ at' in cc)
     go (Some a) is h =
-        let s : StepsAt old (suc i) a (events.Take u) result new = subst (λ o. MatchOption o (IsRefused NoSuchUpdate old result new) (λ u. StepsAt old (suc i) a (events.Take u) result new)) at_u h in
-        granted_take old new i a s.after u result s.answer ready.kept (ready_accepted old ready i a u is (contains_at old.pool k u at_u)) is granted s.result_is s.steps s.new_is
+        let s : StepsAt old (suc i) a (events.Take u) result new =
+        subst (λ o. MatchOption o (IsRefused NoSuchUpdate old result new)
+        (λ u. StepsAt old (suc i) a (events.Take u) result new)) at_u h in
+        granted_take old new i a s.after u result s.answer ready.kept
+        (ready_accepted old ready i a u is (contains_at old.pool k u at_u)) is granted s.result_is s.steps s.new_is
 
 -- ---- deliveries leave the pool
 abbrev OnlyTakes : List Step → Type 0
@@ -169,14 +205,18 @@ OnlyTakes (Announce e ∷ steps) = ⊥
 OnlyTakes (Deliver e k ∷ steps) = OnlyTakes steps
 OnlyTakes (Restart e n ∷ steps) = ⊥
 
-pub deliver_pool : (old new : Fabric) (e k : ℕ) (result : Result Reply Refusal) → FabricSteps old (Deliver e k) result new → new.pool ≡ old.pool
+pub deliver_pool : (old new : Fabric) (e k : ℕ) (result : Result Reply Refusal)
+    → FabricSteps old (Deliver e k) result new → new.pool ≡ old.pool
 deliver_pool old new e k result h = go (nth old.edges e) h
   where
-    at : (a : Edge) (o : Option Fields) → MatchOption o (IsRefused NoSuchUpdate old result new) (λ u. StepsAt old e a (events.Take u) result new) → new.pool ≡ old.pool
+    at : (a : Edge) (o : Option Fields) → MatchOption o (IsRefused NoSuchUpdate old result new)
+        (λ u. StepsAt old e a (events.Take u) result new) → new.pool ≡ old.pool
     at a None h = ap (λ (f : Fabric). f.pool) h.1
     at a (Some u) h = ap (λ (f : Fabric). f.pool) h.new_is
 
-    go : (o : Option Edge) → MatchOption o (IsRefused NoSuchEdge old result new) (λ a. MatchOption (nth old.pool k) (IsRefused NoSuchUpdate old result new) (λ u. StepsAt old e a (events.Take u) result new)) → new.pool ≡ old.pool
+    go : (o : Option Edge) → MatchOption o (IsRefused NoSuchEdge old result new)
+        (λ a. MatchOption (nth old.pool k) (IsRefused NoSuchUpdate old result new)
+        (λ u. StepsAt old e a (events.Take u) result new)) → new.pool ≡ old.pool
     go None h = ap (λ (f : Fabric). f.pool) h.1
     go (Some a) h = at a (nth old.pool k) h
 
@@ -200,23 +240,30 @@ takes_taking e (suc n) = takes_taking e n
 
 takes_each : (m n : ℕ) → OnlyTakes (each (λ e. taking e n) m)
 takes_each zero n = tt
-takes_each (suc m) n = takes_append (taking (suc m) n) (each (λ e. taking e n) m) (takes_taking (suc m) n) (takes_each m n)
+takes_each (suc m) n = takes_append (taking (suc m) n) (each (λ e. taking e n) m) (takes_taking (suc m) n)
+    (takes_each m n)
 
-taking_has : (n i : ℕ) (old new : Fabric) → IsReady old → Rests old (taking (suc i) n) new → (k : ℕ) (u : Fields) → k < n → slice_get old.pool k ≡ Some u → Has new i u
+taking_has : (n i : ℕ) (old new : Fabric) → IsReady old → Rests old (taking (suc i) n) new → (k : ℕ) (u : Fields)
+    → k < n → slice_get old.pool k ≡ Some u → Has new i u
 taking_has zero i old new ready h k u lt at = absurd (omega (arith, lt))
 taking_has (suc n) i old new ready h k u lt at = elim (cases_eq k n) as (λ _. Has new i u) [
-  | inl same ↦ rests_has (taking (suc i) n) h.0 new mid.kept h.5 i u (given old h.0 i n h.1 u ready h.3 h.4 (subst (λ x. slice_get old.pool x ≡ Some u) same at))
-  | inr ne ↦ taking_has n i h.0 new mid h.5 k u (omega (arith, lt, ne)) (ap (λ l. slice_get l k) (deliver_pool old h.0 (suc i) (suc n) h.1 h.4) ∙ at)
+  | inl same ↦ rests_has (taking (suc i) n) h.0 new mid.kept h.5 i u
+      (given old h.0 i n h.1 u ready h.3 h.4 (subst (λ x. slice_get old.pool x ≡ Some u) same at))
+  | inr ne ↦ taking_has n i h.0 new mid h.5 k u (omega (arith, lt, ne))
+      (ap (λ l. slice_get l k) (deliver_pool old h.0 (suc i) (suc n) h.1 h.4) ∙ at)
 ]
   where
     mid : IsReady h.0
     mid = move_ready old h.0 (moved old h.0 (Deliver (suc i) (suc n)) h.1 ready.kept h.2 h.4) ready
 
-each_has : (m n : ℕ) (old new : Fabric) → IsReady old → Rests old (each (λ e. taking e n) m) new → (i : ℕ) → i < m → (k : ℕ) (u : Fields) → k < n → slice_get old.pool k ≡ Some u → Has new i u
+each_has : (m n : ℕ) (old new : Fabric) → IsReady old → Rests old (each (λ e. taking e n) m) new → (i : ℕ) → i < m
+    → (k : ℕ) (u : Fields) → k < n → slice_get old.pool k ≡ Some u → Has new i u
 each_has zero n old new ready h i i_lt k u lt at = absurd (omega (arith, i_lt))
 each_has (suc m) n old new ready h i i_lt k u lt at = elim (cases_eq i m) as (λ _. Has new i u) [
-  | inl same ↦ subst (λ x. Has new x u) (sym same) (rests_has (each (λ e. taking e n) m) s.0 new mid.kept s.2 m u (taking_has n m old s.0 ready s.1 k u lt at))
-  | inr ne ↦ each_has m n s.0 new mid s.2 i (omega (arith, i_lt, ne)) k u lt (ap (λ l. slice_get l k) (takes_pool (taking (suc m) n) old s.0 (takes_taking (suc m) n) s.1) ∙ at)
+  | inl same ↦ subst (λ x. Has new x u) (sym same) (rests_has (each (λ e. taking e n) m) s.0 new mid.kept s.2 m u
+      (taking_has n m old s.0 ready s.1 k u lt at))
+  | inr ne ↦ each_has m n s.0 new mid s.2 i (omega (arith, i_lt, ne)) k u lt
+      (ap (λ l. slice_get l k) (takes_pool (taking (suc m) n) old s.0 (takes_taking (suc m) n) s.1) ∙ at)
 ]
   where
     s : (mid : Fabric) × Rests old (taking (suc m) n) mid × Rests mid (each (λ e. taking e n) m) new
@@ -237,32 +284,43 @@ dropped_fewer : (rs : List Register) → length (drop 1 rs) ≤ length rs
 dropped_fewer [] = omega arith
 dropped_fewer (r ∷ rs) = omega arith
 
-pub announce_one : (old new : Fabric) (i n : ℕ) (result : Result Reply Refusal) → IsGranted result → FabricSteps old (Announce (suc i)) result new → Few old i (suc n) → Few new i n
+pub announce_one : (old new : Fabric) (i n : ℕ) (result : Result Reply Refusal) → IsGranted result
+    → FabricSteps old (Announce (suc i)) result new → Few old i (suc n) → Few new i n
 announce_one old new i n result granted h few c at_c = go (slice_get old.edges i) refl h
   where
-    at : (a : Edge) → IsEdge old i a → (result : Result Reply Refusal) → IsGranted result → AnnouncesAt old (suc i) a result new → length c.claims.voice.pending ≤ n
+    at : (a : Edge) → IsEdge old i a → (result : Result Reply Refusal) → IsGranted result
+        → AnnouncesAt old (suc i) a result new → length c.claims.voice.pending ≤ n
     at a is (Ok reply) granted h =
-        let edges : new.edges ≡ slice_set old.edges i h.0 = ap (λ (f : Fabric). f.edges) h.2 ∙ ap (λ x. slice_set old.edges x h.0) (minus i) in
+        let edges : new.edges ≡ slice_set old.edges i h.0 = ap (λ (f : Fabric). f.edges) h.2
+        ∙ ap (λ x. slice_set old.edges x h.0) (minus i) in
         let here : slice_get new.edges i ≡ Some h.0 = ap (λ l. slice_get l i) edges ∙ set_same old.edges i a h.0 is in
         let both : Some h.0 ≡ Some c = sym here ∙ at_c in
         let c_is : h.0 ≡ c = cc in
-        let pend : c.claims.voice.pending ≡ drop 1 a.claims.voice.pending = ap (λ (e : Edge). e.claims.voice.pending) (sym c_is ∙ h.1.1) in
+        let pend : c.claims.voice.pending ≡ drop 1 a.claims.voice.pending =
+        ap (λ (e : Edge). e.claims.voice.pending) (sym c_is ∙ h.1.1) in
         subst (λ l. length l ≤ n) (sym pend) (dropped_one a.claims.voice.pending n (few a is))
     at a is (Err why) granted h = absurd (granted.0 h.0.0)
 
-    go : (o : Option Edge) → slice_get old.edges i ≡ o → MatchOption o (IsRefused NoSuchEdge old result new) (λ a. AnnouncesAt old (suc i) a result new) → length c.claims.voice.pending ≤ n
-    go None is h = absurd (let at' : slice_get old.edges i ≡ Some c = subst (λ (f : Fabric). slice_get f.edges i ≡ Some c) h.1 at_c in let bad : None ≡ Some c = sym is ∙ at' in cc)
+    go : (o : Option Edge) → slice_get old.edges i ≡ o → MatchOption o (IsRefused NoSuchEdge old result new)
+        (λ a. AnnouncesAt old (suc i) a result new) → length c.claims.voice.pending ≤ n
+    go None is h = absurd (let at' : slice_get old.edges i ≡ Some c =
+        subst (λ (f : Fabric). slice_get f.edges i ≡ Some c) h.1 at_c in let bad : None ≡ Some c = sym is ∙ at' in cc)
     go (Some a) is h = at a is result granted h
 
-announce_few : (old new : Fabric) (e : ℕ) (result : Result Reply Refusal) → FabricSteps old (Announce e) result new → (i n : ℕ) → Few old i n → Few new i n
+announce_few : (old new : Fabric) (e : ℕ) (result : Result Reply Refusal) → FabricSteps old (Announce e) result new
+    → (i n : ℕ) → Few old i n → Few new i n
 announce_few old new e result h i n few c at_c = go e (nth old.edges e) refl h
   where
-    at : (j : ℕ) (a : Edge) → IsEdge old j a → (result : Result Reply Refusal) → AnnouncesAt old (suc j) a result new → length c.claims.voice.pending ≤ n
+    at : (j : ℕ) (a : Edge) → IsEdge old j a → (result : Result Reply Refusal) → AnnouncesAt old (suc j) a result new
+        → length c.claims.voice.pending ≤ n
     at j a is (Ok reply) h =
-        let edges : new.edges ≡ slice_set old.edges j h.0 = ap (λ (f : Fabric). f.edges) h.2 ∙ ap (λ x. slice_set old.edges x h.0) (minus j) in
-        elim (set_cases old.edges j h.0 i c (subst (λ l. slice_get l i ≡ Some c) edges at_c)) as (λ _. length c.claims.voice.pending ≤ n) [
+        let edges : new.edges ≡ slice_set old.edges j h.0 = ap (λ (f : Fabric). f.edges) h.2
+        ∙ ap (λ x. slice_set old.edges x h.0) (minus j) in
+        elim (set_cases old.edges j h.0 i c (subst (λ l. slice_get l i ≡ Some c) edges at_c)) as (λ _. length
+        c.claims.voice.pending ≤ n) [
           | inl p ↦
-              let pend : c.claims.voice.pending ≡ drop 1 a.claims.voice.pending = ap (λ (e : Edge). e.claims.voice.pending) (p.1 ∙ h.1.1) in
+              let pend : c.claims.voice.pending ≡ drop 1 a.claims.voice.pending =
+              ap (λ (e : Edge). e.claims.voice.pending) (p.1 ∙ h.1.1) in
               let less = dropped_fewer a.claims.voice.pending in
               let bound = few a (subst (λ x. IsEdge old x a) (sym p.0) is) in
               let same = ap length pend in
@@ -271,12 +329,15 @@ announce_few old new e result h i n few c at_c = go e (nth old.edges e) refl h
         ]
     at j a is (Err why) h = few c (subst (λ f. IsEdge f i c) h.1 at_c)
 
-    go : (e : ℕ) (o : Option Edge) → nth old.edges e ≡ o → MatchOption o (IsRefused NoSuchEdge old result new) (λ a. AnnouncesAt old e a result new) → length c.claims.voice.pending ≤ n
+    go : (e : ℕ) (o : Option Edge) → nth old.edges e ≡ o
+        → MatchOption o (IsRefused NoSuchEdge old result new) (λ a. AnnouncesAt old e a result new)
+        → length c.claims.voice.pending ≤ n
     go e None is h = few c (subst (λ f. IsEdge f i c) h.1 at_c)
     go zero (Some a) is h = cc
     go (suc j) (Some a) is h = at j a is result h
 
-pub announcing_few : (n e : ℕ) (old new : Fabric) → Rests old (announcing e n) new → (i m : ℕ) → Few old i m → Few new i m
+pub announcing_few : (n e : ℕ) (old new : Fabric) → Rests old (announcing e n) new → (i m : ℕ) → Few old i m
+    → Few new i m
 announcing_few zero e old new h i m few = subst (λ f. Few f i m) (sym h) few
 announcing_few (suc n) e old new h i m few = announcing_few n e h.0 new h.5 i m (announce_few old h.0 e h.1 h.4 i m few)
 
@@ -284,14 +345,18 @@ pub announcing_none : (n i : ℕ) (old new : Fabric) → Rests old (announcing (
 announcing_none zero i old new h few = subst (λ f. Few f i 0) (sym h) few
 announcing_none (suc n) i old new h few = announcing_none n i h.0 new h.5 (announce_one old h.0 i n h.1 h.3 h.4 few)
 
-each_few : (m n : ℕ) (old new : Fabric) → Rests old (each (λ e. announcing e n) m) new → (i x : ℕ) → Few old i x → Few new i x
+each_few : (m n : ℕ) (old new : Fabric) → Rests old (each (λ e. announcing e n) m) new → (i x : ℕ) → Few old i x
+    → Few new i x
 each_few zero n old new h i x few = subst (λ f. Few f i x) (sym h) few
-each_few (suc m) n old new h i x few = let s = split (announcing (suc m) n) (each (λ e. announcing e n) m) old new h in each_few m n s.0 new s.2 i x (announcing_few n (suc m) old s.0 s.1 i x few)
+each_few (suc m) n old new h i x few = let s = split (announcing (suc m) n) (each (λ e. announcing e n) m) old new h in
+    each_few m n s.0 new s.2 i x (announcing_few n (suc m) old s.0 s.1 i x few)
 
-each_none : (m n : ℕ) (old new : Fabric) → Rests old (each (λ e. announcing e n) m) new → (i : ℕ) → i < m → Few old i n → Few new i 0
+each_none : (m n : ℕ) (old new : Fabric) → Rests old (each (λ e. announcing e n) m) new → (i : ℕ) → i < m → Few old i n
+    → Few new i 0
 each_none zero n old new h i lt few = absurd (omega (arith, lt))
 each_none (suc m) n old new h i lt few = elim (cases_eq i m) as (λ _. Few new i 0) [
-  | inl same ↦ each_few m n s.0 new s.2 i 0 (subst (λ x. Few s.0 x 0) (sym same) (announcing_none n m old s.0 s.1 (subst (λ x. Few old x n) same few)))
+  | inl same ↦ each_few m n s.0 new s.2 i 0 (subst (λ x. Few s.0 x 0) (sym same)
+      (announcing_none n m old s.0 s.1 (subst (λ x. Few old x n) same few)))
   | inr ne ↦ each_none m n s.0 new s.2 i (omega (arith, lt, ne)) (announcing_few n (suc m) old s.0 s.1 i n few)
 ]
   where
@@ -301,23 +366,32 @@ each_none (suc m) n old new h i lt few = elim (cases_eq i m) as (λ _. Few new i
 -- ---- calm: what is pending is withdrawn, and what isn't everywhere is a withdrawal
 pub record IsCalm (f : Fabric) : Type 0 where
   pub mourns : (i : ℕ) (a : Edge) → IsEdge f i a → Mourns a.claims.voice
-  pub known : (i : ℕ) (a : Edge) (u : Fields) → IsEdge f i a → Contains f.pool u → (is_newest a.claims.voice u ≡ false) ⊎ (advert_in u.value.content ≡ None)
+  pub known : (i : ℕ) (a : Edge) (u : Fields) → IsEdge f i a → Contains f.pool u
+      → (is_newest a.claims.voice u ≡ false) ⊎ (advert_in u.value.content ≡ None)
 
-shorter_mourns : (c : Claims) (r : Register) (rs : List Register) → c.voice.pending ≡ r ∷ rs → Mourns c.voice → Mourns (quieter c rs).voice
+shorter_mourns : (c : Claims) (r : Register) (rs : List Register) → c.voice.pending ≡ r ∷ rs → Mourns c.voice
+    → Mourns (quieter c rs).voice
 shorter_mourns c r rs pend h q in' = h q (subst (λ l. Contains l q) (sym pend) (later_one r rs q in'))
 
-pub move_mourns : (old new : Fabric) → Move old new → Kept old → ((i : ℕ) (a : Edge) → IsEdge old i a → Mourns a.claims.voice) → (i : ℕ) (a : Edge) → IsEdge new i a → Mourns a.claims.voice
+pub move_mourns : (old new : Fabric) → Move old new → Kept old
+    → ((i : ℕ) (a : Edge) → IsEdge old i a → Mourns a.claims.voice) → (i : ℕ) (a : Edge) → IsEdge new i a
+    → Mourns a.claims.voice
 move_mourns old _ Stays kept h j b at_b = h j b at_b
-move_mourns old _ (Tells i a r rs v at pend is) kept h j b at_b = elim (set_cases old.edges i (record a { claims = quieter a.claims rs }) j b at_b) as (λ _. Mourns b.claims.voice) [
-  | inl p ↦ subst (λ (e : Edge). Mourns e.claims.voice) (sym p.1) (shorter_mourns a.claims r rs pend (h i a at))
-  | inr p ↦ h j b p.1
-]
-move_mourns old _ (Takes i a u at in' ok) kept h j b at_b = elim (set_cases old.edges i (record a { claims = heard a.claims u }) j b at_b) as (λ _. Mourns b.claims.voice) [
-  | inl p ↦ subst (λ (e : Edge). Mourns e.claims.voice) (sym p.1) (heard_mourns a.claims u (kept.keeps i a at).numbers ok (h i a at))
-  | inr p ↦ h j b p.1
-]
+move_mourns old _ (Tells i a r rs v at pend is) kept h j b at_b =
+    elim (set_cases old.edges i (record a { claims = quieter a.claims rs }) j b at_b) as (λ _. Mourns b.claims.voice) [
+      | inl p ↦ subst (λ (e : Edge). Mourns e.claims.voice) (sym p.1) (shorter_mourns a.claims r rs pend (h i a at))
+      | inr p ↦ h j b p.1
+    ]
+move_mourns old _ (Takes i a u at in' ok) kept h j b at_b =
+    elim (set_cases old.edges i (record a { claims = heard a.claims u }) j b at_b) as (λ _. Mourns b.claims.voice) [
+      | inl p ↦ subst (λ (e : Edge). Mourns e.claims.voice) (sym p.1)
+          (heard_mourns a.claims u (kept.keeps i a at).numbers ok (h i a at))
+      | inr p ↦ h j b p.1
+    ]
 
-pub rests_mourns : (steps : List Step) (old new : Fabric) → Rests old steps new → Kept old → ((i : ℕ) (a : Edge) → IsEdge old i a → Mourns a.claims.voice) → (i : ℕ) (a : Edge) → IsEdge new i a → Mourns a.claims.voice
+pub rests_mourns : (steps : List Step) (old new : Fabric) → Rests old steps new → Kept old
+    → ((i : ℕ) (a : Edge) → IsEdge old i a → Mourns a.claims.voice) → (i : ℕ) (a : Edge) → IsEdge new i a
+    → Mourns a.claims.voice
 rests_mourns [] old new h kept mourns = λ i a at. mourns i a (subst (λ f. IsEdge f i a) h at)
 rests_mourns (step ∷ steps) old new h kept mourns =
     let move = moved old h.0 step h.1 kept h.2 h.4 in
@@ -329,11 +403,13 @@ move_calm old _ (Tells i a r rs v at pend is) kept h = record {
   mourns = move_mourns old next move kept h.mourns;
   known = λ j b w at_b in'.
       let x = before old next move kept j b at_b in
-      elim (Contains-push_cases old.pool u w in') as (λ _. (is_newest b.claims.voice w ≡ false) ⊎ (advert_in w.value.content ≡ None)) [
-        | inl earlier ↦ elim (h.known j x.was w x.at earlier) as (λ _. (is_newest b.claims.voice w ≡ false) ⊎ (advert_in w.value.content ≡ None)) [
-          | inl old ↦ inl (x.later.news w.register w.value old)
-          | inr none ↦ inr none
-        ]
+      elim (Contains-push_cases old.pool u w in') as (λ _. (is_newest b.claims.voice w ≡ false)
+      ⊎ (advert_in w.value.content ≡ None)) [
+        | inl earlier ↦ elim (h.known j x.was w x.at earlier) as (λ _. (is_newest b.claims.voice w ≡ false)
+            ⊎ (advert_in w.value.content ≡ None)) [
+              | inl old ↦ inl (x.later.news w.register w.value old)
+              | inr none ↦ inr none
+            ]
         | inr now ↦ inr (ap (λ (y : Fields). advert_in y.value.content) (sym now) ∙ withdrawn)
       ];
 }
@@ -342,7 +418,10 @@ move_calm old _ (Tells i a r rs v at pend is) kept h = record {
     u = update_of r v
 
     next : Fabric
-    next = record old { edges = slice_set old.edges i (record a { claims = quieter a.claims rs }); pool = old.pool ++ u ∷ [] }
+    next = record old {
+      edges = slice_set old.edges i (record a { claims = quieter a.claims rs });
+      pool = old.pool ++ u ∷ [];
+    }
 
     move : Move old next
     move = Tells i a r rs v at pend is
@@ -353,7 +432,8 @@ move_calm old _ (Takes i a u at in' ok) kept h = record {
   mourns = move_mourns old next move kept h.mourns;
   known = λ j b w at_b in''.
       let x = before old next move kept j b at_b in
-      elim (h.known j x.was w x.at in'') as (λ _. (is_newest b.claims.voice w ≡ false) ⊎ (advert_in w.value.content ≡ None)) [
+      elim (h.known j x.was w x.at in'') as (λ _. (is_newest b.claims.voice w ≡ false)
+      ⊎ (advert_in w.value.content ≡ None)) [
         | inl old ↦ inl (x.later.news w.register w.value old)
         | inr none ↦ inr none
       ];
@@ -368,22 +448,27 @@ move_calm old _ (Takes i a u at in' ok) kept h = record {
 -- then nothing becomes pending
 move_few : (old new : Fabric) → Move old new → Kept old → IsCalm old → (j n : ℕ) → Few old j n → Few new j n
 move_few old _ Stays kept calm j n few = few
-move_few old _ (Tells i a r rs v at pend is) kept calm j n few = λ b at_b. elim (set_cases old.edges i (record a { claims = quieter a.claims rs }) j b at_b) as (λ _. length b.claims.voice.pending ≤ n) [
-  | inl p ↦
-      let bound = few a (subst (λ x. IsEdge old x a) (sym p.0) at) in
-      let more : length a.claims.voice.pending ≡ suc (length rs) = ap length pend in
-      let same : length b.claims.voice.pending ≡ length rs = ap (λ (e : Edge). length e.claims.voice.pending) p.1 in
-      omega (arith, bound, more, same)
-  | inr p ↦ few b p.1
-]
-move_few old _ (Takes i a u at in' ok) kept calm j n few = λ b at_b. elim (set_cases old.edges i (record a { claims = heard a.claims u }) j b at_b) as (λ _. length b.claims.voice.pending ≤ n) [
-  | inl p ↦
-      let bound = few a (subst (λ x. IsEdge old x a) (sym p.0) at) in
-      let idle = idle_hearing a.claims u (kept.keeps i a at).holds.owns (calm.known i a u at in') in
-      let same : length b.claims.voice.pending ≡ length a.claims.voice.pending = ap (λ (e : Edge). length e.claims.voice.pending) p.1 ∙ ap (λ (c : Claims). length c.voice.pending) idle in
-      omega (arith, bound, same)
-  | inr p ↦ few b p.1
-]
+move_few old _ (Tells i a r rs v at pend is) kept calm j n few =
+    λ b at_b. elim (set_cases old.edges i (record a { claims = quieter a.claims rs }) j b at_b) as (λ _. length
+    b.claims.voice.pending ≤ n) [
+      | inl p ↦
+          let bound = few a (subst (λ x. IsEdge old x a) (sym p.0) at) in
+          let more : length a.claims.voice.pending ≡ suc (length rs) = ap length pend in
+          let same : length b.claims.voice.pending ≡ length rs = ap (λ (e : Edge). length e.claims.voice.pending) p.1 in
+          omega (arith, bound, more, same)
+      | inr p ↦ few b p.1
+    ]
+move_few old _ (Takes i a u at in' ok) kept calm j n few =
+    λ b at_b. elim (set_cases old.edges i (record a { claims = heard a.claims u }) j b at_b) as (λ _. length
+    b.claims.voice.pending ≤ n) [
+      | inl p ↦
+          let bound = few a (subst (λ x. IsEdge old x a) (sym p.0) at) in
+          let idle = idle_hearing a.claims u (kept.keeps i a at).holds.owns (calm.known i a u at in') in
+          let same : length b.claims.voice.pending ≡ length a.claims.voice.pending =
+          ap (λ (e : Edge). length e.claims.voice.pending) p.1 ∙ ap (λ (c : Claims). length c.voice.pending) idle in
+          omega (arith, bound, same)
+      | inr p ↦ few b p.1
+    ]
 
 pub rests_calm : (steps : List Step) (old new : Fabric) → Rests old steps new → Kept old → IsCalm old → IsCalm new
 rests_calm [] old new h kept calm = subst IsCalm (sym h) calm
@@ -391,11 +476,13 @@ rests_calm (step ∷ steps) old new h kept calm =
     let move = moved old h.0 step h.1 kept h.2 h.4 in
     rests_calm steps h.0 new h.5 (move_kept old h.0 move kept) (move_calm old h.0 move kept calm)
 
-pub rests_few : (steps : List Step) (old new : Fabric) → Rests old steps new → Kept old → IsCalm old → (j n : ℕ) → Few old j n → Few new j n
+pub rests_few : (steps : List Step) (old new : Fabric) → Rests old steps new → Kept old → IsCalm old → (j n : ℕ)
+    → Few old j n → Few new j n
 rests_few [] old new h kept calm j n few = subst (λ f. Few f j n) (sym h) few
 rests_few (step ∷ steps) old new h kept calm j n few =
     let move = moved old h.0 step h.1 kept h.2 h.4 in
-    rests_few steps h.0 new h.5 (move_kept old h.0 move kept) (move_calm old h.0 move kept calm) j n (move_few old h.0 move kept calm j n few)
+    rests_few steps h.0 new h.5 (move_kept old h.0 move kept) (move_calm old h.0 move kept calm) j n
+    (move_few old h.0 move kept calm j n few)
 
 -- ---- a round
 
@@ -404,7 +491,8 @@ pub record IsEnough (m n : ℕ) (f : Fabric) : Type 0 where
   pub edges : (i : ℕ) (a : Edge) → IsEdge f i a → i < m
   pub updates : full_pool f ≤ n
 
-rests_enough : (m n : ℕ) (steps : List Step) (old new : Fabric) → Rests old steps new → Kept old → IsEnough m n old → IsEnough m n new
+rests_enough : (m n : ℕ) (steps : List Step) (old new : Fabric) → Rests old steps new → Kept old → IsEnough m n old
+    → IsEnough m n new
 rests_enough m n steps old new h kept enough = record {
   edges = λ i a at. let x = rests_before steps old new kept h i a at in enough.edges i x.was x.at;
   updates = let less = rests_full steps old new kept h in let bound = enough.updates in omega (arith, less, bound);
@@ -432,7 +520,8 @@ rounds : (m n : ℕ) (old new : Fabric) → IsReady old → IsEnough m n old →
 rounds m n old new ready enough h = record {
   mid = s.0;
   announced = s.1;
-  silent = λ i a at. no_length a.claims.voice.pending (each_none m n old s.0 s.1 i (between.edges i a at) (enough_few m n old enough i) a at);
+  silent = λ i a at. no_length a.claims.voice.pending (each_none m n old s.0 s.1 i (between.edges i a at)
+      (enough_few m n old enough i) a at);
   delivered = s.2;
   arrived = λ i a u at in'.
       let same : new.pool ≡ s.0.pool = takes_pool (each (λ e. taking e n) m) s.0 new (takes_each m n) s.2 in
@@ -440,7 +529,8 @@ rounds m n old new ready enough h = record {
       let place = place_of s.0.pool u (subst (λ l. Contains l u) same in') in
       let below = below_length s.0.pool place.0 u place.1 in
       let bound = between.updates in
-      each_has m n s.0 new mid_ready s.2 i (between.edges i x.was x.at) place.0 u (omega (arith, below, bound)) place.1 a at;
+      each_has m n s.0 new mid_ready s.2 i (between.edges i x.was x.at) place.0 u (omega (arith, below, bound)) place.1
+      a at;
 }
   where
     s : (mid : Fabric) × Rests old (each (λ e. announcing e n) m) mid × Rests mid (each (λ e. taking e n) m) new
@@ -458,21 +548,26 @@ no_register (x, lt, is) = omega (arith, lt)
 -- the first round leads to calm
 first_round : (m n : ℕ) (old new : Fabric) → IsReady old → IsEnough m n old → Rests old (round m n) new → IsCalm new
 first_round m n old new ready enough h = record {
-  mourns = rests_mourns (each (λ e. taking e n) m) r.mid new r.delivered (rests_ready (each (λ e. announcing e n) m) old r.mid r.announced ready).kept (λ i a at q in'. absurd (no_register (subst (λ l. Contains l q) (r.silent i a at) in')));
+  mourns = rests_mourns (each (λ e. taking e n) m) r.mid new r.delivered
+      (rests_ready (each (λ e. announcing e n) m) old r.mid r.announced ready).kept
+      (λ i a at q in'. absurd (no_register (subst (λ l. Contains l q) (r.silent i a at) in')));
   known = λ i a u at in'. inl (r.arrived i a u at in');
 }
   where
     r : Rounds m n old new
     r = rounds m n old new ready enough h
 
-pub arrived_value : (o : Option Value) (w : Value) → is_news o w ≡ false → (v : Value) × (o ≡ Some v) × (is_newer w v ≡ false)
+pub arrived_value : (o : Option Value) (w : Value) → is_news o w ≡ false
+    → (v : Value) × (o ≡ Some v) × (is_newer w v ≡ false)
 arrived_value None w h = cc
 arrived_value (Some v) w h = (v, refl, h)
 
 -- from calm one round leads to agreement
-pub second_round : (m n : ℕ) (old new : Fabric) → IsReady old → IsCalm old → IsEnough m n old → Rests old (round m n) new → AllAgree new
+pub second_round : (m n : ℕ) (old new : Fabric) → IsReady old → IsCalm old → IsEnough m n old
+    → Rests old (round m n) new → AllAgree new
 second_round m n old new ready calm enough h = record {
-  quiet = λ i a at. no_length a.claims.voice.pending (rests_few (each (λ e. taking e n) m) r.mid new r.delivered mid_ready.kept (rests_calm (each (λ e. announcing e n) m) old r.mid r.announced ready.kept calm) i 0
+  quiet = λ i a at. no_length a.claims.voice.pending (rests_few (each (λ e. taking e n) m) r.mid new r.delivered
+      mid_ready.kept (rests_calm (each (λ e. announcing e n) m) old r.mid r.announced ready.kept calm) i 0
       (λ b at_b. let none = ap length (r.silent i b at_b) in omega (arith, none)) a at);
   arrived = λ i a at u in'. arrived_value (value_at (table_of a) u.register) u.value (r.arrived i a u at in');
 }
@@ -483,16 +578,19 @@ second_round m n old new ready calm enough h = record {
     mid_ready : IsReady r.mid
     mid_ready = rests_ready (each (λ e. announcing e n) m) old r.mid r.announced ready
 
-pub two_rounds_agree : (m n : ℕ) (old new : Fabric) → IsReady old → IsEnough m n old → Rests old (round m n ++ round m n) new → AllAgree new
+pub two_rounds_agree : (m n : ℕ) (old new : Fabric) → IsReady old → IsEnough m n old
+    → Rests old (round m n ++ round m n) new → AllAgree new
 two_rounds_agree m n old new ready enough h =
     let s = split (round m n) (round m n) old new h in
-    second_round m n s.0 new (rests_ready (round m n) old s.0 s.1 ready) (first_round m n old s.0 ready enough s.1) (rests_enough m n (round m n) old s.0 s.1 ready.kept enough) s.2
+    second_round m n s.0 new (rests_ready (round m n) old s.0 s.1 ready) (first_round m n old s.0 ready enough s.1)
+    (rests_enough m n (round m n) old s.0 s.1 ready.kept enough) s.2
 
 pub enough_itself : (f : Fabric) → IsEnough (length f.edges) (full_pool f) f
 enough_itself f = record { edges = λ i a at. below_length f.edges i a at; updates = omega arith }
 
 -- ---- fairness
-pool_keeps : (old new : Fabric) → Move old new → (k : ℕ) (u : Fields) → slice_get old.pool k ≡ Some u → slice_get new.pool k ≡ Some u
+pool_keeps : (old new : Fabric) → Move old new → (k : ℕ) (u : Fields) → slice_get old.pool k ≡ Some u
+    → slice_get new.pool k ≡ Some u
 pool_keeps old _ Stays k u at = at
 pool_keeps old _ (Tells i a r rs v at_a pend is) k u at = front old.pool k at
   where
@@ -502,25 +600,32 @@ pool_keeps old _ (Tells i a r rs v at_a pend is) k u at = front old.pool k at
     front (x ∷ us) (suc k) at = front us k at
 pool_keeps old _ (Takes i a w at_a in' ok) k u at = at
 
-rests_pool : (steps : List Step) (old new : Fabric) → Kept old → Rests old steps new → (k : ℕ) (u : Fields) → slice_get old.pool k ≡ Some u → slice_get new.pool k ≡ Some u
+rests_pool : (steps : List Step) (old new : Fabric) → Kept old → Rests old steps new → (k : ℕ) (u : Fields)
+    → slice_get old.pool k ≡ Some u → slice_get new.pool k ≡ Some u
 rests_pool [] old new kept h k u at = subst (λ (f : Fabric). slice_get f.pool k ≡ Some u) (sym h) at
 rests_pool (step ∷ steps) old new kept h k u at =
     let move = moved old h.0 step h.1 kept h.2 h.4 in
     rests_pool steps h.0 new (move_kept old h.0 move kept) h.5 k u (pool_keeps old h.0 move k u at)
 
 -- what was answered was there
-was_there : (old new : Fabric) (i k : ℕ) (reply : Reply) → FabricSteps old (Deliver (suc i) (suc k)) (Ok reply) new → (u : Fields) × (slice_get old.pool k ≡ Some u)
+was_there : (old new : Fabric) (i k : ℕ) (reply : Reply) → FabricSteps old (Deliver (suc i) (suc k)) (Ok reply) new
+    → (u : Fields) × (slice_get old.pool k ≡ Some u)
 was_there old new i k reply h = go (slice_get old.edges i) h
   where
-    at : (a : Edge) (o : Option Fields) → slice_get old.pool k ≡ o → MatchOption o (IsRefused NoSuchUpdate old (Ok reply) new) (λ u. StepsAt old (suc i) a (events.Take u) (Ok reply) new) → (u : Fields) × (slice_get old.pool k ≡ Some u)
+    at : (a : Edge) (o : Option Fields) → slice_get old.pool k ≡ o
+        → MatchOption o (IsRefused NoSuchUpdate old (Ok reply) new)
+        (λ u. StepsAt old (suc i) a (events.Take u) (Ok reply) new) → (u : Fields) × (slice_get old.pool k ≡ Some u)
     at a None is h = absurd (let never = h.0 in cc)
     at a (Some u) is h = (u, is)
 
-    go : (o : Option Edge) → MatchOption o (IsRefused NoSuchEdge old (Ok reply) new) (λ a. MatchOption (slice_get old.pool k) (IsRefused NoSuchUpdate old (Ok reply) new) (λ u. StepsAt old (suc i) a (events.Take u) (Ok reply) new)) → (u : Fields) × (slice_get old.pool k ≡ Some u)
+    go : (o : Option Edge) → MatchOption o (IsRefused NoSuchEdge old (Ok reply) new)
+        (λ a. MatchOption (slice_get old.pool k) (IsRefused NoSuchUpdate old (Ok reply) new)
+        (λ u. StepsAt old (suc i) a (events.Take u) (Ok reply) new)) → (u : Fields) × (slice_get old.pool k ≡ Some u)
     go None h = absurd (let never = h.0 in cc)
     go (Some a) h = at a (slice_get old.pool k) refl h
 
-was_given : (old : Fabric) (steps : List Step) (new : Fabric) → Kept old → (i k : ℕ) (u : Fields) → slice_get new.pool k ≡ Some u → WasGiven old steps new (suc i) (suc k) → Has new i u
+was_given : (old : Fabric) (steps : List Step) (new : Fabric) → Kept old → (i k : ℕ) (u : Fields)
+    → slice_get new.pool k ≡ Some u → WasGiven old steps new (suc i) (suc k) → Has new i u
 was_given old steps new kept i k u at g =
     let mid = rests_kept g.earlier old g.mid g.before kept in
     let there = was_there g.mid g.next i k g.reply g.given in
@@ -529,56 +634,88 @@ was_given old steps new kept i k u at g =
     let now = rests_pool g.later g.next new next g.after k there.0 (pool_keeps g.mid g.next move k there.0 there.1) in
     let both : Some there.0 ≡ Some u = sym now ∙ at in
     let same : there.0 ≡ u = cc in
-    subst (Has new i) same (rests_has g.later g.next new next g.after i there.0 (given_ok g.mid g.next i k g.reply there.0 mid g.given there.1))
+    subst (Has new i) same (rests_has g.later g.next new next g.after i there.0
+    (given_ok g.mid g.next i k g.reply there.0 mid g.given there.1))
 
-pub fair_agrees : (old : Fabric) (steps : List Step) (new : Fabric) → Kept old → AllGiven old steps new → AllSilent new → AllAgree new
+pub fair_agrees : (old : Fabric) (steps : List Step) (new : Fabric) → Kept old → AllGiven old steps new → AllSilent new
+    → AllAgree new
 fair_agrees old steps new kept all quiet = record {
   quiet = quiet;
   arrived = λ i a at u in'.
       let place = place_of new.pool u in' in
-      arrived_value (value_at (table_of a) u.register) u.value (was_given old steps new kept i place.0 u place.1 (all i a place.0 u at place.1) a at);
+      arrived_value (value_at (table_of a) u.register) u.value
+      (was_given old steps new kept i place.0 u place.1 (all i a place.0 u at place.1) a at);
 }
 
 -- ---- such runs exist: no step of them needs to be refused
 abbrev pub MayStep : Fabric → Step → Type 0
 MayStep f step = (mid : Fabric) × (result : Result Reply Refusal) × IsGranted result × FabricSteps f step result mid
 
-taking_step : (a : Edge) (u : Fields) → Accepts a.claims.voice u → (reply : Reply) × (b : Edge) × Steps a (events.Take u) (Ok reply) b
+taking_step : (a : Edge) (u : Fields) → Accepts a.claims.voice u
+    → (reply : Reply) × (b : Edge) × Steps a (events.Take u) (Ok reply) b
 taking_step a u ok = choose (u.register.originator == address_of a) refl
   where
-    choose : (x : Bool) → (u.register.originator == address_of a) ≡ x → (reply : Reply) × (b : Edge) × TakesBy x a u (Ok reply) b
+    choose : (x : Bool) → (u.register.originator == address_of a) ≡ x
+        → (reply : Reply) × (b : Edge) × TakesBy x a u (Ok reply) b
     choose true t =
-        let mine : u.register.originator ≡ address_of a = grind (arith, nat_tests) in
-        (record nothing { taken = Some (taken_of (table_of a) u) }, record a { claims = after_own a.claims u }, (ok.ahead mine, ok.spent mine, refl, refl))
-    choose false t =
-        (record nothing { taken = Some (taken_of (table_of a) u); alert = lost_alert (loses_pinned a.claims u) }, record a { claims = after_take a.claims u }, (ok.listed, refl, refl))
+        let mine : u.register.originator ≡ address_of a = grind (arith, nat_tests) in (
+          record nothing { taken = Some (taken_of (table_of a) u) },
+          record a { claims = after_own a.claims u },
+          (ok.ahead mine, ok.spent mine, refl, refl),
+        )
+    choose false t = (
+      record nothing { taken = Some (taken_of (table_of a) u); alert = lost_alert (loses_pinned a.claims u) },
+      record a { claims = after_take a.claims u },
+      (ok.listed, refl, refl),
+    )
 
 pub quiet_step : (f : Fabric) (step : Step) → IsReady f → IsQuiet step → MayStep f step
 quiet_step f (Local e event) ready quiet = absurd quiet
 quiet_step f (Restart e n) ready quiet = absurd quiet
 quiet_step f (Announce e) ready quiet = go e (nth f.edges e) refl
   where
-    at : (i : ℕ) (a : Edge) → IsEdge f i a → (mid : Fabric) × (result : Result Reply Refusal) × IsGranted result × AnnouncesAt f (suc i) a result mid
+    at : (i : ℕ) (a : Edge) → IsEdge f i a → (mid : Fabric) × (result : Result Reply Refusal) × IsGranted result
+        × AnnouncesAt f (suc i) a result mid
     at i a is =
         let b : Edge = record a { claims = after_announcement a.claims } in
-        let reply : Reply = record nothing { announced = announced a.claims.voice } in
-        (record (with_edge f (suc i) b) { pool = with_announced f.pool reply.announced }, Ok reply, tt, (b, (refl, refl), refl))
+        let reply : Reply = record nothing { announced = announced a.claims.voice } in (
+          record (with_edge f (suc i) b) { pool = with_announced f.pool reply.announced },
+          Ok reply,
+          tt,
+          (b, (refl, refl), refl),
+        )
 
-    go : (e : ℕ) (o : Option Edge) → nth f.edges e ≡ o → (mid : Fabric) × (result : Result Reply Refusal) × IsGranted result × MatchOption o (IsRefused NoSuchEdge f result mid) (λ a. AnnouncesAt f e a result mid)
+    go : (e : ℕ) (o : Option Edge) → nth f.edges e ≡ o → (mid : Fabric) × (result : Result Reply Refusal)
+        × IsGranted result × MatchOption o (IsRefused NoSuchEdge f result mid) (λ a. AnnouncesAt f e a result mid)
     go e None is = (f, Err NoSuchEdge, ((λ q. cc), (λ q. cc)), (refl, refl))
     go zero (Some a) is = cc
     go (suc i) (Some a) is = at i a is
 quiet_step f (Deliver e k) ready quiet = go e (nth f.edges e) refl
   where
-    at : (i : ℕ) (a : Edge) → IsEdge f i a → (k : ℕ) (o : Option Fields) → nth f.pool k ≡ o → (mid : Fabric) × (result : Result Reply Refusal) × IsGranted result × MatchOption o (IsRefused NoSuchUpdate f result mid) (λ u. StepsAt f (suc i) a (events.Take u) result mid)
+    at : (i : ℕ) (a : Edge) → IsEdge f i a → (k : ℕ) (o : Option Fields) → nth f.pool k ≡ o
+        → (mid : Fabric) × (result : Result Reply Refusal) × IsGranted result
+        × MatchOption o (IsRefused NoSuchUpdate f result mid) (λ u. StepsAt f (suc i) a (events.Take u) result mid)
     at i a is k None there = (f, Err NoSuchUpdate, ((λ q. cc), (λ q. cc)), (refl, refl))
     at i a is zero (Some u) there = cc
     at i a is (suc k) (Some u) there =
         let ok = ready_accepted f ready i a u is (contains_at f.pool k u there) in
-        let t = taking_step a u ok in
-        (with_edge f (suc i) t.1, Ok t.0, tt, record { after = t.1; answer = Ok t.0; steps = t.2; result_is = refl; new_is = refl })
+        let t = taking_step a u ok in (
+          with_edge f (suc i) t.1,
+          Ok t.0,
+          tt,
+          record {
+            after = t.1;
+            answer = Ok t.0;
+            steps = t.2;
+            result_is = refl;
+            new_is = refl;
+          },
+        )
 
-    go : (e : ℕ) (o : Option Edge) → nth f.edges e ≡ o → (mid : Fabric) × (result : Result Reply Refusal) × IsGranted result × MatchOption o (IsRefused NoSuchEdge f result mid) (λ a. MatchOption (nth f.pool k) (IsRefused NoSuchUpdate f result mid) (λ u. StepsAt f e a (events.Take u) result mid))
+    go : (e : ℕ) (o : Option Edge) → nth f.edges e ≡ o → (mid : Fabric) × (result : Result Reply Refusal)
+        × IsGranted result × MatchOption o (IsRefused NoSuchEdge f result mid)
+        (λ a. MatchOption (nth f.pool k) (IsRefused NoSuchUpdate f result mid)
+        (λ u. StepsAt f e a (events.Take u) result mid))
     go e None is = (f, Err NoSuchEdge, ((λ q. cc), (λ q. cc)), (refl, refl))
     go zero (Some a) is = cc
     go (suc i) (Some a) is = at i a is k (nth f.pool k) refl
@@ -593,7 +730,10 @@ may_rest (step ∷ steps) f ready quiet =
     (rest.0, (s.0, s.1, is_quiet, s.2, s.3, rest.1))
 
 quiet_append : (xs ys : List Step) → AllQuiet xs → AllQuiet ys → AllQuiet (xs ++ ys)
-quiet_append xs ys p q step in' = elim (Contains-append_cases xs ys step in') as (λ _. IsQuiet step) [ inl h ↦ p step h | inr h ↦ q step h ]
+quiet_append xs ys p q step in' = elim (Contains-append_cases xs ys step in') as (λ _. IsQuiet step) [
+  | inl h ↦ p step h
+  | inr h ↦ q step h
+]
 
 quiet_first : (x : Step) (xs : List Step) → IsQuiet x → AllQuiet xs → AllQuiet (x ∷ xs)
 quiet_first x xs p q step (zero, lt, is) = subst IsQuiet is p
@@ -615,7 +755,10 @@ quiet_each f h zero = quiet_none
 quiet_each f h (suc m) = quiet_append (f (suc m)) (each f m) (h (suc m)) (quiet_each f h m)
 
 quiet_round : (m n : ℕ) → AllQuiet (round m n)
-quiet_round m n = quiet_append (each (λ e. announcing e n) m) (each (λ e. taking e n) m) (quiet_each (λ e. announcing e n) (λ e. quiet_announcing e n) m) (quiet_each (λ e. taking e n) (λ e. quiet_taking e n) m)
+quiet_round m n = quiet_append (each (λ e. announcing e n) m) (each (λ e. taking e n) m)
+    (quiet_each (λ e. announcing e n) (λ e. quiet_announcing e n) m)
+    (quiet_each (λ e. taking e n) (λ e. quiet_taking e n) m)
 
 pub quiet_rounds : (f : Fabric) → AllQuiet (two_rounds f)
-quiet_rounds f = quiet_append (round (length f.edges) (full_pool f)) (round (length f.edges) (full_pool f)) (quiet_round (length f.edges) (full_pool f)) (quiet_round (length f.edges) (full_pool f))
+quiet_rounds f = quiet_append (round (length f.edges) (full_pool f)) (round (length f.edges) (full_pool f))
+    (quiet_round (length f.edges) (full_pool f)) (quiet_round (length f.edges) (full_pool f))

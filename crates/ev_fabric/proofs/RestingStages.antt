@@ -1,5 +1,6 @@
 -- The stages of a move: the new place advertises, the old one hears that and withdraws.
-use Rattle.std.proofs.Common.{◌≡◌, ◌≢◌, ◌⊎◌, inl, inr, ℕ, zero, suc, Bool, true, false, cond, Option, Some, None, List, [], ◌∷◌, ◌++◌, refl, sym, ap, subst, ◌∙◌, arith}
+use Rattle.std.proofs.Common.{◌≡◌, ◌≢◌, ◌⊎◌, inl, inr, ℕ, zero, suc, Bool, true, false, cond, Option, Some, None, List}
+use Rattle.std.proofs.Common.{[], ◌∷◌, ◌++◌, refl, sym, ap, subst, ◌∙◌, arith}
 use Rattle.std.proofs.lemmas.List.Elements.{Contains-append_left, Contains-push, Contains-push_cases}
 use Rattle.std.proofs.lemmas.Bool.{cases_eq}
 use Rattle.std.specs.Prelude.{Contains, IsSome, is_some, not, slice_get, slice_set, ◌&&◌, ◌==◌}
@@ -16,8 +17,10 @@ use Rattle.route_join.specs.Owner.{advert_in, advert_of, owner}
 use Rattle.route_join.proofs.Tables.{not_newer_itself}
 use Rattle.mac_arena.specs.declared.station.Station.{Station}
 use Rattle.ev_claims.specs.Pending.{marked}
-use Rattle.ev_claims.specs.Voice.{Voice, own_register, own, own_advert, KeepsNumbers, is_at, is_newest, is_returning, after_saying, after_hearing}
-use Rattle.ev_claims.specs.Claims.{Claims, key_of, after_removal, after_update, after_own, after_losing, after_take, is_lost}
+use Rattle.ev_claims.specs.Voice.{Voice, own_register, own, own_advert, KeepsNumbers, is_at, is_newest, is_returning}
+use Rattle.ev_claims.specs.Voice.{after_saying, after_hearing}
+use Rattle.ev_claims.specs.Claims.{Claims, key_of, after_removal, after_update, after_own, after_losing, after_take}
+use Rattle.ev_claims.specs.Claims.{is_lost}
 use Rattle.ev_claims.proofs.Numbers.{own_same}
 use Rattle.ev_claims.proofs.Hearing.{past_if_newest, not_said}
 use Rattle.ev_edge.specs.Edge.{Edge, table_of, address_of}
@@ -27,7 +30,8 @@ use Rattle.ev_fabric.specs.declared.step.Step.{Step}
 use Rattle.ev_fabric.specs.RestEdge.{comes_back}
 use Rattle.ev_fabric.specs.Rest.{Rests}
 use Rattle.ev_fabric.proofs.Places.{set_cases, set_same, set_other}
-use Rattle.ev_fabric.proofs.RestingEdge.{update_cases, Accepts, heard, silent, known_stays_away, others_stay_away, stays_away}
+use Rattle.ev_fabric.proofs.RestingEdge.{update_cases, Accepts, heard, silent, known_stays_away, others_stay_away}
+use Rattle.ev_fabric.proofs.RestingEdge.{stays_away}
 use Rattle.ev_fabric.proofs.RestingIdle.{idle_hearing}
 use Rattle.ev_fabric.proofs.RestingGood.{quieter}
 use Rattle.ev_fabric.proofs.RestingMoves.{Kept, Move, Stays, Tells, Takes, before, moved, move_kept}
@@ -35,23 +39,30 @@ use Rattle.ev_fabric.proofs.RestingMoves.{Kept, Move, Stays, Tells, Takes, befor
 -- ---- an update that is heard and doesn't come back
 
 -- an own register that it changes says nothing before
-replaced_silent : (e : Voice) (u : Fields) (k : Key) → KeepsNumbers e → Accepts e u → own_register e k ≡ u.register → is_newest e u ≡ true → own_advert e k ≡ None
+replaced_silent : (e : Voice) (u : Fields) (k : Key) → KeepsNumbers e → Accepts e u → own_register e k ≡ u.register
+    → is_newest e u ≡ true → own_advert e k ≡ None
 replaced_silent e u k n ok same newest =
     let mine : u.register.originator ≡ e.address = ap (λ (r : Register). r.originator) (sym same) in
-    ap (own_advert e) (ap (λ (r : Register). r.key) same) ∙ not_said e u n mine newest (past_if_newest e u (ok.ahead mine) newest)
+    ap (own_advert e) (ap (λ (r : Register). r.key) same)
+    ∙ not_said e u n mine newest (past_if_newest e u (ok.ahead mine) newest)
 
 -- own adverts stay as they are
-pub advert_kept : (e : Voice) (u : Fields) (k : Key) → KeepsNumbers e → Accepts e u → comes_back e u ≡ false → own_advert (after_hearing e u) k ≡ own_advert e k
-advert_kept e u k n ok not = elim (update_cases e.table u (own_register e k)) as (λ _. own_advert (after_hearing e u) k ≡ own_advert e k) [
-  | inl c ↦ ap advert_of c.2 ∙ silent e u ok not (ap (λ (r : Register). r.originator) (sym c.0)) c.1 ∙ sym (replaced_silent e u k n ok c.0 c.1)
-  | inr kept ↦ ap advert_of kept
-]
+pub advert_kept : (e : Voice) (u : Fields) (k : Key) → KeepsNumbers e → Accepts e u → comes_back e u ≡ false
+    → own_advert (after_hearing e u) k ≡ own_advert e k
+advert_kept e u k n ok not = elim (update_cases e.table u (own_register e k)) as (λ _. own_advert (after_hearing e u) k
+    ≡ own_advert e k) [
+      | inl c ↦ ap advert_of c.2 ∙ silent e u ok not (ap (λ (r : Register). r.originator) (sym c.0)) c.1
+          ∙ sym (replaced_silent e u k n ok c.0 c.1)
+      | inr kept ↦ ap advert_of kept
+    ]
 
-pub advert_stays : (e : Voice) (u : Fields) (k : Key) (x : Advert) → KeepsNumbers e → Accepts e u → own_advert e k ≡ Some x → own (after_hearing e u) k ≡ own e k
-advert_stays e u k x n ok is = elim (update_cases e.table u (own_register e k)) as (λ _. own (after_hearing e u) k ≡ own e k) [
-  | inl c ↦ absurd (let bad : None ≡ Some x = sym (replaced_silent e u k n ok c.0 c.1) ∙ is in cc)
-  | inr kept ↦ kept
-]
+pub advert_stays : (e : Voice) (u : Fields) (k : Key) (x : Advert) → KeepsNumbers e → Accepts e u
+    → own_advert e k ≡ Some x → own (after_hearing e u) k ≡ own e k
+advert_stays e u k x n ok is = elim (update_cases e.table u (own_register e k)) as (λ _. own (after_hearing e u) k
+    ≡ own e k) [
+      | inl c ↦ absurd (let bad : None ≡ Some x = sym (replaced_silent e u k n ok c.0 c.1) ∙ is in cc)
+      | inr kept ↦ kept
+    ]
 
 pub record Loses (c : Claims) (u : Fields) : Type 0 where
   pub station : Station
@@ -63,38 +74,52 @@ pub record Loses (c : Claims) (u : Fields) : Type 0 where
 pub hear_cases : (c : Claims) (u : Fields) → comes_back c.voice u ≡ false → (heard c u ≡ after_update c u) ⊎ Loses c u
 hear_cases c u never = choose (u.register.originator == c.voice.address) refl
   where
-    pick : heard c u ≡ after_take c u → (v m : ℕ) (ip : Option Ip) → u.register.key ≡ Mac v m ip → (b : Bool) → is_lost (after_update c u) (record { vni = v; mac = m }) ≡ b → (heard c u ≡ after_update c u) ⊎ Loses c u
+    pick : heard c u ≡ after_take c u → (v m : ℕ) (ip : Option Ip) → u.register.key ≡ Mac v m ip → (b : Bool)
+        → is_lost (after_update c u) (record { vni = v; mac = m }) ≡ b → (heard c u ≡ after_update c u) ⊎ Loses c u
     pick taken v m ip key true e = inr (record {
       station = record { vni = v; mac = m };
       ip = ip;
       key = key;
       lost = e;
-      is = taken ∙ ap (after_losing (after_update c u)) key ∙ ap (λ b. cond b (after_removal (after_update c u) (record { vni = v; mac = m })) (after_update c u)) e;
+      is = taken ∙ ap (after_losing (after_update c u)) key
+          ∙ ap (λ b. cond b (after_removal (after_update c u) (record { vni = v; mac = m })) (after_update c u)) e;
     })
-    pick taken v m ip key false e = inl (taken ∙ ap (after_losing (after_update c u)) key ∙ ap (λ b. cond b (after_removal (after_update c u) (record { vni = v; mac = m })) (after_update c u)) e)
+    pick taken v m ip key false e = inl (taken ∙ ap (after_losing (after_update c u)) key
+        ∙ ap (λ b. cond b (after_removal (after_update c u) (record { vni = v; mac = m })) (after_update c u)) e)
 
     losing : heard c u ≡ after_take c u → (k : Key) → u.register.key ≡ k → (heard c u ≡ after_update c u) ⊎ Loses c u
     losing taken (Flood v) key = inl (taken ∙ ap (after_losing (after_update c u)) key)
-    losing taken (Mac v m ip) key = pick taken v m ip key (is_lost (after_update c u) (record { vni = v; mac = m })) refl
+    losing taken (Mac v m ip) key = pick taken v m ip key (is_lost (after_update c u) (record { vni = v; mac = m }))
+        refl
 
-    quiet : (b : Bool) → (u.register.originator == c.voice.address) ≡ true → is_returning c.voice u ≡ b → is_returning c.voice u ≡ false
+    quiet : (b : Bool) → (u.register.originator == c.voice.address) ≡ true → is_returning c.voice u ≡ b
+        → is_returning c.voice u ≡ false
     quiet false t e = e
-    quiet true t e = absurd (let back : comes_back c.voice u ≡ true = rw (t, e) refl in let bad : false ≡ true = sym never ∙ back in cc)
+    quiet true t e = absurd (let back : comes_back c.voice u ≡ true = rw (t, e) refl in
+        let bad : false ≡ true = sym never ∙ back in cc)
 
     choose : (b : Bool) → (u.register.originator == c.voice.address) ≡ b → (heard c u ≡ after_update c u) ⊎ Loses c u
-    choose true t = inl (ap (λ b. cond b (after_own c u) (after_take c u)) t ∙ ap (λ b. record c { voice = cond b (after_saying (after_hearing c.voice u) u.register.key Withdrawn) (after_hearing c.voice u) }) (quiet (is_returning c.voice u) t refl))
+    choose true t = inl (ap (λ b. cond b (after_own c u) (after_take c u)) t
+        ∙ ap (λ b. record c {
+          voice = cond b (after_saying (after_hearing c.voice u) u.register.key Withdrawn)
+              (after_hearing c.voice u);
+        }) (quiet (is_returning c.voice u) t refl))
     choose false t = losing (ap (λ b. cond b (after_own c u) (after_take c u)) t) u.register.key refl
 
 pub same_edge : (f : Fabric) (i j : ℕ) (a b : Edge) → i ≡ j → IsEdge f i a → IsEdge f j b → b ≡ a
-same_edge f i j a b place at_a at_b = let both : Some b ≡ Some a = sym at_b ∙ subst (λ n. slice_get f.edges n ≡ Some a) place at_a in cc
+same_edge f i j a b place at_a at_b = let both : Some b ≡ Some a = sym at_b
+    ∙ subst (λ n. slice_get f.edges n ≡ Some a) place at_a in cc
 
 -- ---- a stage
 
--- The pool has these updates more, and what an edge hasn't got is among them. The edge at place j says u of the station,
+-- The pool has these updates more, and what an edge hasn't got is among them. The edge at place j says u of the
+-- station,
 -- the one at place i, of the address o, says something of it or not; both have this pending, and the others nothing.
-pub record AtStage (pool extra : List Fields) (i j : ℕ) (s : Station) (o : ℕ) (u : Fields) (here there : List Register) (says : Bool) (f : Fabric) : Type 0 where
+pub record AtStage (pool extra : List Fields) (i j : ℕ) (s : Station) (o : ℕ) (u : Fields) (here there : List Register)
+    (says : Bool) (f : Fabric) : Type 0 where
   pub grown : f.pool ≡ pool ++ extra
-  pub known : (x : ℕ) (c : Edge) (w : Fields) → IsEdge f x c → Contains f.pool w → (is_newest c.claims.voice w ≡ false) ⊎ Contains extra w
+  pub known : (x : ℕ) (c : Edge) (w : Fields) → IsEdge f x c → Contains f.pool w
+      → (is_newest c.claims.voice w ≡ false) ⊎ Contains extra w
   pub to : Edge
   pub at_to : IsEdge f j to
   pub to_register : own_register to.claims.voice (key_of s) ≡ u.register
@@ -113,32 +138,40 @@ abbrev News : Fields → List Fields → Type 0
 News u extra = (w : Fields) → Contains extra w → (w ≡ u) ⊎ (advert_in w.value.content ≡ None)
 
 -- a delivery at a stage: the table grows, or the first edge loses the station
-record LosesIt (i : ℕ) (s : Station) (says : Bool) (u : Fields) (extra : List Fields) (x : ℕ) (a : Edge) (w : Fields) : Type 0 where
+record LosesIt (i : ℕ) (s : Station) (says : Bool) (u : Fields) (extra : List Fields) (x : ℕ) (a : Edge) (w : Fields) :
+    Type 0 where
   place : x ≡ i
   new : Contains extra u
   said : says ≡ true
   is : heard a.claims w ≡ after_removal (after_update a.claims w) s
 
 abbrev Outcome : ℕ → Station → Bool → Fields → List Fields → ℕ → Edge → Fields → Type 0
-Outcome i s says u extra x a w = ((comes_back a.claims.voice w ≡ false) × (heard a.claims w ≡ after_update a.claims w)) ⊎ LosesIt i s says u extra x a w
+Outcome i s says u extra x a w = ((comes_back a.claims.voice w ≡ false) × (heard a.claims w ≡ after_update a.claims w))
+    ⊎ LosesIt i s says u extra x a w
 
-stage_take : (pool extra : List Fields) (i j : ℕ) (s : Station) (o : ℕ) (u : Fields) (here there : List Register) (says : Bool) (f : Fabric) → AtStage pool extra i j s o u here there says f → Kept f → News u extra → u.register.key ≡ key_of s
-    → (x : ℕ) (a : Edge) (w : Fields) → IsEdge f x a → Contains f.pool w → Accepts a.claims.voice w → Outcome i s says u extra x a w
-stage_take pool extra i j s o u here there says f g kept news key x a w at in' ok = elim (g.known x a w at in') as (λ _. Outcome i s says u extra x a w) [
-  | inl old ↦ idle (inl old)
-  | inr new ↦ elim (news w new) as (λ _. Outcome i s says u extra x a w) [
-    | inl same ↦ elim (cases_eq x j) as (λ _. Outcome i s says u extra x a w) [
-      | inl mine ↦ idle (inl (known_there same mine))
-      | inr other ↦ foreign same new other
+stage_take : (pool extra : List Fields) (i j : ℕ) (s : Station) (o : ℕ) (u : Fields) (here there : List Register)
+    (says : Bool) (f : Fabric) → AtStage pool extra i j s o u here there says f → Kept f → News u extra
+    → u.register.key ≡ key_of s
+    → (x : ℕ) (a : Edge) (w : Fields) → IsEdge f x a → Contains f.pool w → Accepts a.claims.voice w
+    → Outcome i s says u extra x a w
+stage_take pool extra i j s o u here there says f g kept news key x a w at in' ok =
+    elim (g.known x a w at in') as (λ _. Outcome i s says u extra x a w) [
+      | inl old ↦ idle (inl old)
+      | inr new ↦ elim (news w new) as (λ _. Outcome i s says u extra x a w) [
+        | inl same ↦ elim (cases_eq x j) as (λ _. Outcome i s says u extra x a w) [
+          | inl mine ↦ idle (inl (known_there same mine))
+          | inr other ↦ foreign same new other
+        ]
+        | inr none ↦ idle (inr none)
+      ]
     ]
-    | inr none ↦ idle (inr none)
-  ]
-]
   where
-    never : (is_newest a.claims.voice w ≡ false) ⊎ (advert_in w.value.content ≡ None) → comes_back a.claims.voice w ≡ false
+    never : (is_newest a.claims.voice w ≡ false) ⊎ (advert_in w.value.content ≡ None)
+        → comes_back a.claims.voice w ≡ false
     never h = elim h as (λ _. comes_back a.claims.voice w ≡ false) [
       | inl old ↦ known_stays_away a.claims.voice w old
-      | inr none ↦ stays_away a.claims.voice w (λ b. let bad : false ≡ true = sym (ap (λ (c : Option Advert). is_some c) none) ∙ b.advert in cc)
+      | inr none ↦ stays_away a.claims.voice w (λ b. let bad : false ≡ true =
+          sym (ap (λ (c : Option Advert). is_some c) none) ∙ b.advert in cc)
     ]
 
     idle : (is_newest a.claims.voice w ≡ false) ⊎ (advert_in w.value.content ≡ None) → Outcome i s says u extra x a w
@@ -147,8 +180,11 @@ stage_take pool extra i j s o u here there says f g kept news key x a w at in' o
     known_there : w ≡ u → x ≡ j → is_newest a.claims.voice w ≡ false
     known_there same mine =
         let a_is = same_edge f x j a g.to mine at g.at_to in
-        let has : value_at (table_of a) u.register ≡ Some u.value = subst (λ (e : Edge). value_at (table_of e) u.register ≡ Some u.value) a_is (ap (value_at (table_of g.to)) (sym g.to_register) ∙ g.to_says) in
-        subst (λ (y : Fields). is_newest a.claims.voice y ≡ false) (sym same) (ap (λ v. is_news v u.value) has ∙ not_newer_itself u.value)
+        let has : value_at (table_of a) u.register ≡ Some u.value =
+        subst (λ (e : Edge). value_at (table_of e) u.register ≡ Some u.value) a_is
+        (ap (value_at (table_of g.to)) (sym g.to_register) ∙ g.to_says) in
+        subst (λ (y : Fields). is_newest a.claims.voice y ≡ false) (sym same) (ap (λ v. is_news v u.value) has
+        ∙ not_newer_itself u.value)
 
     first : (b c : Bool) → (b && not c) ≡ true → b ≡ true
     first true c e = refl
@@ -158,32 +194,54 @@ stage_take pool extra i j s o u here there says f g kept news key x a w at in' o
     foreign same new other = elim (hear_cases a.claims w no_back) as (λ _. Outcome i s says u extra x a w) [
       | inl stays ↦ inl (no_back, stays)
       | inr h ↦
-          let keys : Mac s.vni s.mac None ≡ Mac h.station.vni h.station.mac h.ip = sym key ∙ ap (λ (y : Fields). y.register.key) (sym same) ∙ h.key in
+          let keys : Mac s.vni s.mac None ≡ Mac h.station.vni h.station.mac h.ip = sym key
+          ∙ ap (λ (y : Fields). y.register.key) (sym same) ∙ h.key in
           let vnis : h.station.vni ≡ s.vni = cc in
           let macs : h.station.mac ≡ s.mac = cc in
           let station : h.station ≡ s = (λ n. record { vni = vnis n; mac = macs n }) in
-          let some : is_some (own_advert (after_hearing a.claims.voice w) (key_of h.station)) ≡ true = first (is_some (own_advert (after_hearing a.claims.voice w) (key_of h.station))) (is_at (owner (after_hearing a.claims.voice w).table h.station.vni h.station.mac) (address_of a)) h.lost in
-          let said : is_some (own_advert a.claims.voice (key_of s)) ≡ true = ap is_some (sym (advert_kept a.claims.voice w (key_of s) (kept.keeps x a at).numbers ok no_back)) ∙ subst (λ r. is_some (own_advert (after_hearing a.claims.voice w) (key_of r)) ≡ true) station some in
+          let some : is_some (own_advert (after_hearing a.claims.voice w) (key_of h.station)) ≡ true =
+          first (is_some (own_advert (after_hearing a.claims.voice w) (key_of h.station)))
+          (is_at (owner (after_hearing a.claims.voice w).table h.station.vni h.station.mac) (address_of a))
+          h.lost in
+          let said : is_some (own_advert a.claims.voice (key_of s)) ≡ true =
+          ap is_some (sym (advert_kept a.claims.voice w (key_of s) (kept.keeps x a at).numbers ok no_back))
+          ∙ subst (λ r. is_some (own_advert (after_hearing a.claims.voice w) (key_of r)) ≡ true) station some in
           at_first said (h.is ∙ ap (after_removal (after_update a.claims w)) station)
     ]
       where
         no_back : comes_back a.claims.voice w ≡ false
-        no_back = others_stay_away a.claims.voice w (λ mine. other (kept.apart x j a g.to at g.at_to (sym mine ∙ ap (λ (y : Fields). y.register.originator) same ∙ ap (λ (r : Register). r.originator) (sym g.to_register))))
+        no_back = others_stay_away a.claims.voice w (λ mine. other
+            (kept.apart x j a g.to at g.at_to (sym mine ∙ ap (λ (y : Fields). y.register.originator) same
+            ∙ ap (λ (r : Register). r.originator) (sym g.to_register))))
 
-        at_first : is_some (own_advert a.claims.voice (key_of s)) ≡ true → heard a.claims w ≡ after_removal (after_update a.claims w) s → Outcome i s says u extra x a w
+        at_first : is_some (own_advert a.claims.voice (key_of s)) ≡ true
+            → heard a.claims w ≡ after_removal (after_update a.claims w) s → Outcome i s says u extra x a w
         at_first said is = elim (cases_eq x i) as (λ _. Outcome i s says u extra x a w) [
           | inl place ↦
               let a_is = same_edge f x i a g.from place at g.at_from in
-              inr (record { place = place; new = subst (Contains extra) same new; said = sym g.from_says ∙ ap (λ (e : Edge). is_some (own_advert e.claims.voice (key_of s))) a_is ∙ said; is = is })
-          | inr ne ↦ absurd (let none : is_some (own_advert a.claims.voice (key_of s)) ≡ false = ap is_some (g.others_say x a ne other at) in let bad : false ≡ true = sym none ∙ said in cc)
+              inr (record {
+                place = place;
+                new = subst (Contains extra) same new;
+                said = sym g.from_says ∙ ap (λ (e : Edge). is_some (own_advert e.claims.voice (key_of s))) a_is
+                    ∙ said;
+                is = is;
+              })
+          | inr ne ↦ absurd (let none : is_some (own_advert a.claims.voice (key_of s)) ≡ false =
+              ap is_some (g.others_say x a ne other at) in let bad : false ≡ true = sym none ∙ said in cc)
         ]
 
 -- what is known at a stage stays so
-stage_known : (pool extra : List Fields) (i j : ℕ) (s : Station) (o : ℕ) (u : Fields) (here there : List Register) (says : Bool) (f : Fabric) → AtStage pool extra i j s o u here there says f → Kept f
+stage_known : (pool extra : List Fields) (i j : ℕ) (s : Station) (o : ℕ) (u : Fields) (here there : List Register)
+    (says : Bool) (f : Fabric) → AtStage pool extra i j s o u here there says f → Kept f
     → (x : ℕ) (a : Edge) (w : Fields) (at : IsEdge f x a) (in' : Contains f.pool w) (ok : Accepts a.claims.voice w)
-    → (y : ℕ) (c : Edge) (z : Fields) → IsEdge (record f { edges = slice_set f.edges x (record a { claims = heard a.claims w }) }) y c → Contains f.pool z → (is_newest c.claims.voice z ≡ false) ⊎ Contains extra z
+    → (y : ℕ) (c : Edge) (z : Fields) → IsEdge (record f {
+      edges =
+          slice_set f.edges x (record a { claims = heard a.claims w });
+    }) y c → Contains f.pool z
+    → (is_newest c.claims.voice z ≡ false) ⊎ Contains extra z
 stage_known pool extra i j s o u here there says f g kept x a w at in' ok y c z at_c in'' =
-    let b = before f (record f { edges = slice_set f.edges x (record a { claims = heard a.claims w }) }) (Takes x a w at in' ok) kept y c at_c in
+    let b = before f (record f { edges = slice_set f.edges x (record a { claims = heard a.claims w }) })
+    (Takes x a w at in' ok) kept y c at_c in
     elim (g.known y b.was z b.at in'') as (λ _. (is_newest c.claims.voice z ≡ false) ⊎ Contains extra z) [
       | inl old ↦ inl (b.later.news z.register z.value old)
       | inr new ↦ inr new
@@ -193,9 +251,15 @@ abbrev grew : Edge → Fields → Edge
 grew a w = record a { claims = after_update a.claims w }
 
 -- the stage stays where the table grows alone
-stage_grows : (pool extra : List Fields) (i j : ℕ) (s : Station) (o : ℕ) (u : Fields) (here there : List Register) (says : Bool) (f : Fabric) → AtStage pool extra i j s o u here there says f → Kept f → IsSome (advert_in u.value.content)
-    → (x : ℕ) (a : Edge) (w : Fields) (at : IsEdge f x a) (in' : Contains f.pool w) (ok : Accepts a.claims.voice w) → comes_back a.claims.voice w ≡ false → heard a.claims w ≡ after_update a.claims w
-    → AtStage pool extra i j s o u here there says (record f { edges = slice_set f.edges x (record a { claims = heard a.claims w }) })
+stage_grows : (pool extra : List Fields) (i j : ℕ) (s : Station) (o : ℕ) (u : Fields) (here there : List Register)
+    (says : Bool) (f : Fabric) → AtStage pool extra i j s o u here there says f → Kept f
+    → IsSome (advert_in u.value.content)
+    → (x : ℕ) (a : Edge) (w : Fields) (at : IsEdge f x a) (in' : Contains f.pool w) (ok : Accepts a.claims.voice w)
+    → comes_back a.claims.voice w ≡ false → heard a.claims w ≡ after_update a.claims w
+    → AtStage pool extra i j s o u here there says (record f {
+      edges =
+          slice_set f.edges x (record a { claims = heard a.claims w });
+    })
 stage_grows pool extra i j s o u here there says f g kept some x a w at in' ok never is = record {
   grown = g.grown;
   known = stage_known pool extra i j s o u here there says f g kept x a w at in' ok;
@@ -209,14 +273,18 @@ stage_grows pool extra i j s o u here there says f g kept some x a w at in' ok n
   from_name = from.2;
   from_says = from.3;
   from_pending = from.4;
-  others_say = λ y c ne_i ne_j at_c. elim (set_cases f.edges x took y c at_c) as (λ _. own_advert c.claims.voice (key_of s) ≡ None) [
-    | inl p ↦ subst (λ (e : Edge). own_advert e.claims.voice (key_of s) ≡ None) (sym (p.1 ∙ same)) (quiet ∙ g.others_say x a (λ q. ne_i (p.0 ∙ q)) (λ q. ne_j (p.0 ∙ q)) at)
-    | inr p ↦ g.others_say y c ne_i ne_j p.1
-  ];
-  others_pending = λ y c ne_i ne_j at_c. elim (set_cases f.edges x took y c at_c) as (λ _. c.claims.voice.pending ≡ []) [
-    | inl p ↦ ap (λ (e : Edge). e.claims.voice.pending) (p.1 ∙ same) ∙ g.others_pending x a (λ q. ne_i (p.0 ∙ q)) (λ q. ne_j (p.0 ∙ q)) at
-    | inr p ↦ g.others_pending y c ne_i ne_j p.1
-  ];
+  others_say = λ y c ne_i ne_j at_c. elim (set_cases f.edges x took y c at_c) as (λ _. own_advert c.claims.voice
+      (key_of s) ≡ None) [
+        | inl p ↦ subst (λ (e : Edge). own_advert e.claims.voice (key_of s) ≡ None) (sym (p.1 ∙ same)) (quiet
+            ∙ g.others_say x a (λ q. ne_i (p.0 ∙ q)) (λ q. ne_j (p.0 ∙ q)) at)
+        | inr p ↦ g.others_say y c ne_i ne_j p.1
+      ];
+  others_pending = λ y c ne_i ne_j at_c. elim (set_cases f.edges x took y c at_c) as (λ _. c.claims.voice.pending
+      ≡ []) [
+        | inl p ↦ ap (λ (e : Edge). e.claims.voice.pending) (p.1 ∙ same)
+            ∙ g.others_pending x a (λ q. ne_i (p.0 ∙ q)) (λ q. ne_j (p.0 ∙ q)) at
+        | inr p ↦ g.others_pending y c ne_i ne_j p.1
+      ];
 }
   where
     took : Edge
@@ -231,41 +299,65 @@ stage_grows pool extra i j s o u here there says f g kept some x a w at in' ok n
     quiet : own_advert (after_hearing a.claims.voice w) (key_of s) ≡ own_advert a.claims.voice (key_of s)
     quiet = advert_kept a.claims.voice w (key_of s) (kept.keeps x a at).numbers ok never
 
-    to : (c : Edge) × IsEdge next j c × (own_register c.claims.voice (key_of s) ≡ u.register) × (own c.claims.voice (key_of s) ≡ Some u.value) × (c.claims.voice.pending ≡ there)
-    to = elim (cases_eq x j) as (λ _. (c : Edge) × IsEdge next j c × (own_register c.claims.voice (key_of s) ≡ u.register) × (own c.claims.voice (key_of s) ≡ Some u.value) × (c.claims.voice.pending ≡ there)) [
-      | inl mine ↦
-          let a_is = same_edge f x j a g.to mine at g.at_to in
-          let says : own a.claims.voice (key_of s) ≡ Some u.value = subst (λ (e : Edge). own e.claims.voice (key_of s) ≡ Some u.value) a_is g.to_says in (
-            grew a w,
-            subst (λ n. IsEdge next n (grew a w)) mine (set_same f.edges x a took at ∙ ap Some same),
-            subst (λ (e : Edge). own_register e.claims.voice (key_of s) ≡ u.register) a_is g.to_register,
-            stays says (advert_in u.value.content) refl some,
-            subst (λ (e : Edge). e.claims.voice.pending ≡ there) a_is g.to_pending,
+    to : (c : Edge) × IsEdge next j c × (own_register c.claims.voice (key_of s) ≡ u.register)
+        × (own c.claims.voice (key_of s) ≡ Some u.value) × (c.claims.voice.pending ≡ there)
+    to = elim (cases_eq x j) as (λ _. (c : Edge) × IsEdge next j c
+        × (own_register c.claims.voice (key_of s) ≡ u.register) × (own c.claims.voice (key_of s) ≡ Some u.value)
+        × (c.claims.voice.pending ≡ there)) [
+          | inl mine ↦
+              let a_is = same_edge f x j a g.to mine at g.at_to in
+              let says : own a.claims.voice (key_of s) ≡ Some u.value =
+              subst (λ (e : Edge). own e.claims.voice (key_of s) ≡ Some u.value) a_is g.to_says in (
+                grew a w,
+                subst (λ n. IsEdge next n (grew a w)) mine (set_same f.edges x a took at ∙ ap Some same),
+                subst (λ (e : Edge). own_register e.claims.voice (key_of s) ≡ u.register) a_is g.to_register,
+                stays says (advert_in u.value.content) refl some,
+                subst (λ (e : Edge). e.claims.voice.pending ≡ there) a_is g.to_pending,
+              )
+          | inr ne ↦ (
+            g.to,
+            set_other f.edges x took j g.to (λ q. ne (sym q)) g.at_to,
+            g.to_register,
+            g.to_says,
+            g.to_pending,
           )
-      | inr ne ↦ (g.to, set_other f.edges x took j g.to (λ q. ne (sym q)) g.at_to, g.to_register, g.to_says, g.to_pending)
-    ]
+        ]
       where
-        stays : own a.claims.voice (key_of s) ≡ Some u.value → (c : Option Advert) → advert_in u.value.content ≡ c → IsSome (advert_in u.value.content) → own (after_hearing a.claims.voice w) (key_of s) ≡ Some u.value
-        stays says (Some y) p yes' = advert_stays a.claims.voice w (key_of s) y (kept.keeps x a at).numbers ok (ap advert_of says ∙ p) ∙ says
+        stays : own a.claims.voice (key_of s) ≡ Some u.value → (c : Option Advert) → advert_in u.value.content ≡ c
+            → IsSome (advert_in u.value.content) → own (after_hearing a.claims.voice w) (key_of s) ≡ Some u.value
+        stays says (Some y) p yes' = advert_stays a.claims.voice w (key_of s) y (kept.keeps x a at).numbers ok
+            (ap advert_of says ∙ p) ∙ says
         stays says None p yes' = absurd (let no : IsSome {T = Advert} None = subst IsSome p yes' in cc)
 
-    from : (c : Edge) × IsEdge next i c × (address_of c ≡ o) × (is_some (own_advert c.claims.voice (key_of s)) ≡ says) × (c.claims.voice.pending ≡ here)
-    from = elim (cases_eq x i) as (λ _. (c : Edge) × IsEdge next i c × (address_of c ≡ o) × (is_some (own_advert c.claims.voice (key_of s)) ≡ says) × (c.claims.voice.pending ≡ here)) [
-      | inl mine ↦
-          let a_is = same_edge f x i a g.from mine at g.at_from in (
-            grew a w,
-            subst (λ n. IsEdge next n (grew a w)) mine (set_same f.edges x a took at ∙ ap Some same),
-            subst (λ (e : Edge). address_of e ≡ o) a_is g.from_name,
-            ap is_some quiet ∙ subst (λ (e : Edge). is_some (own_advert e.claims.voice (key_of s)) ≡ says) a_is g.from_says,
-            subst (λ (e : Edge). e.claims.voice.pending ≡ here) a_is g.from_pending,
+    from : (c : Edge) × IsEdge next i c × (address_of c ≡ o) × (is_some (own_advert c.claims.voice (key_of s)) ≡ says)
+        × (c.claims.voice.pending ≡ here)
+    from = elim (cases_eq x i) as (λ _. (c : Edge) × IsEdge next i c × (address_of c ≡ o)
+        × (is_some (own_advert c.claims.voice (key_of s)) ≡ says) × (c.claims.voice.pending ≡ here)) [
+          | inl mine ↦
+              let a_is = same_edge f x i a g.from mine at g.at_from in (
+                grew a w,
+                subst (λ n. IsEdge next n (grew a w)) mine (set_same f.edges x a took at ∙ ap Some same),
+                subst (λ (e : Edge). address_of e ≡ o) a_is g.from_name,
+                ap is_some quiet ∙ subst (λ (e : Edge). is_some (own_advert e.claims.voice (key_of s)) ≡ says) a_is
+                    g.from_says,
+                subst (λ (e : Edge). e.claims.voice.pending ≡ here) a_is g.from_pending,
+              )
+          | inr ne ↦ (
+            g.from,
+            set_other f.edges x took i g.from (λ q. ne (sym q)) g.at_from,
+            g.from_name,
+            g.from_says,
+            g.from_pending,
           )
-      | inr ne ↦ (g.from, set_other f.edges x took i g.from (λ q. ne (sym q)) g.at_from, g.from_name, g.from_says, g.from_pending)
-    ]
+        ]
 
 -- the first edge loses the station
-stage_loses : (pool extra : List Fields) (i j : ℕ) (s : Station) (o : ℕ) (u : Fields) (there : List Register) (says : Bool) (f : Fabric) → i ≢ j → AtStage pool extra i j s o u [] there says f → Kept f
-    → (a : Edge) (w : Fields) (at : IsEdge f i a) (in' : Contains f.pool w) (ok : Accepts a.claims.voice w) → heard a.claims w ≡ after_removal (after_update a.claims w) s
-    → AtStage pool extra i j s o u (register_of o (key_of s) ∷ []) there false (record f { edges = slice_set f.edges i (record a { claims = heard a.claims w }) })
+stage_loses : (pool extra : List Fields) (i j : ℕ) (s : Station) (o : ℕ) (u : Fields) (there : List Register)
+    (says : Bool) (f : Fabric) → i ≢ j → AtStage pool extra i j s o u [] there says f → Kept f
+    → (a : Edge) (w : Fields) (at : IsEdge f i a) (in' : Contains f.pool w) (ok : Accepts a.claims.voice w)
+    → heard a.claims w ≡ after_removal (after_update a.claims w) s
+    → AtStage pool extra i j s o u (register_of o (key_of s) ∷ []) there false
+    (record f { edges = slice_set f.edges i (record a { claims = heard a.claims w }) })
 stage_loses pool extra i j s o u there says f apart g kept a w at in' ok is = record {
   grown = g.grown;
   known = stage_known pool extra i j s o u [] there says f g kept i a w at in' ok;
@@ -278,15 +370,19 @@ stage_loses pool extra i j s o u there says f apart g kept a w at in' ok is = re
   at_from = set_same f.edges i a took at ∙ ap Some (λ n. record a { claims = is n });
   from_name = name;
   from_says = ap (λ o. is_some (advert_of o)) (own_same (after_hearing a.claims.voice w) (key_of s) Withdrawn);
-  from_pending = ap (λ rs. marked rs (register_of (address_of a) (key_of s))) (subst (λ (e : Edge). e.claims.voice.pending ≡ []) a_is g.from_pending) ∙ ap (λ p. register_of p (key_of s) ∷ []) name;
-  others_say = λ y c ne_i ne_j at_c. elim (set_cases f.edges i took y c at_c) as (λ _. own_advert c.claims.voice (key_of s) ≡ None) [
-    | inl p ↦ absurd (ne_i p.0)
-    | inr p ↦ g.others_say y c ne_i ne_j p.1
-  ];
-  others_pending = λ y c ne_i ne_j at_c. elim (set_cases f.edges i took y c at_c) as (λ _. c.claims.voice.pending ≡ []) [
-    | inl p ↦ absurd (ne_i p.0)
-    | inr p ↦ g.others_pending y c ne_i ne_j p.1
-  ];
+  from_pending = ap (λ rs. marked rs (register_of (address_of a) (key_of s)))
+      (subst (λ (e : Edge). e.claims.voice.pending ≡ []) a_is g.from_pending)
+      ∙ ap (λ p. register_of p (key_of s) ∷ []) name;
+  others_say = λ y c ne_i ne_j at_c. elim (set_cases f.edges i took y c at_c) as (λ _. own_advert c.claims.voice
+      (key_of s) ≡ None) [
+        | inl p ↦ absurd (ne_i p.0)
+        | inr p ↦ g.others_say y c ne_i ne_j p.1
+      ];
+  others_pending = λ y c ne_i ne_j at_c. elim (set_cases f.edges i took y c at_c) as (λ _. c.claims.voice.pending
+      ≡ []) [
+        | inl p ↦ absurd (ne_i p.0)
+        | inr p ↦ g.others_pending y c ne_i ne_j p.1
+      ];
 }
   where
     took : Edge
@@ -306,40 +402,53 @@ push_after : (pool extra : List Fields) (w : Fields) → (pool ++ extra) ++ w �
 push_after [] extra w = refl
 push_after (x ∷ pool) extra w = ap (λ l. x ∷ l) (push_after pool extra w)
 
-stage_announces : (pool extra : List Fields) (i j : ℕ) (s : Station) (o : ℕ) (u : Fields) (here there : List Register) (says : Bool) (f : Fabric) → i ≢ j → AtStage pool extra i j s o u here there says f → Kept f
-    → (x : ℕ) (a : Edge) (r : Register) (rs : List Register) (v : Value) (at : IsEdge f x a) (pend : a.claims.voice.pending ≡ r ∷ rs) (is : value_at (table_of a) r ≡ Some v)
-    → (here' there' : List Register) → (x ≡ j → (here' ≡ here) × (there' ≡ rs)) → (x ≡ i → (here' ≡ rs) × (there' ≡ there))
-    → AtStage pool (extra ++ update_of r v ∷ []) i j s o u here' there' says (record f { edges = slice_set f.edges x (record a { claims = quieter a.claims rs }); pool = f.pool ++ update_of r v ∷ [] })
-stage_announces pool extra i j s o u here there says f apart g kept x a r rs v at pend is here' there' second first = record {
-  grown = ap (λ l. l ++ w ∷ []) g.grown ∙ push_after pool extra w;
-  known = λ y c z at_c in'.
-      let b = before f next (Tells x a r rs v at pend is) kept y c at_c in
-      elim (Contains-push_cases f.pool w z in') as (λ _. (is_newest c.claims.voice z ≡ false) ⊎ Contains (extra ++ w ∷ []) z) [
-        | inl earlier ↦ elim (g.known y b.was z b.at earlier) as (λ _. (is_newest c.claims.voice z ≡ false) ⊎ Contains (extra ++ w ∷ []) z) [
-          | inl old ↦ inl (b.later.news z.register z.value old)
-          | inr new ↦ inr (Contains-append_left extra (w ∷ []) z new)
-        ]
-        | inr now ↦ inr (subst (Contains (extra ++ w ∷ [])) now (Contains-push extra w))
-      ];
-  to = to.0;
-  at_to = to.1;
-  to_register = to.2;
-  to_says = to.3;
-  to_pending = to.4;
-  from = from.0;
-  at_from = from.1;
-  from_name = from.2;
-  from_says = from.3;
-  from_pending = from.4;
-  others_say = λ y c ne_i ne_j at_c. elim (set_cases f.edges x quiet y c at_c) as (λ _. own_advert c.claims.voice (key_of s) ≡ None) [
-    | inl p ↦ subst (λ (e : Edge). own_advert e.claims.voice (key_of s) ≡ None) (sym p.1) (g.others_say x a (λ q. ne_i (p.0 ∙ q)) (λ q. ne_j (p.0 ∙ q)) at)
-    | inr p ↦ g.others_say y c ne_i ne_j p.1
-  ];
-  others_pending = λ y c ne_i ne_j at_c. elim (set_cases f.edges x quiet y c at_c) as (λ _. c.claims.voice.pending ≡ []) [
-    | inl p ↦ absurd (neither (λ q. ne_i (p.0 ∙ q)) (λ q. ne_j (p.0 ∙ q)))
-    | inr p ↦ g.others_pending y c ne_i ne_j p.1
-  ];
-}
+stage_announces : (pool extra : List Fields) (i j : ℕ) (s : Station) (o : ℕ) (u : Fields) (here there : List Register)
+    (says : Bool) (f : Fabric) → i ≢ j → AtStage pool extra i j s o u here there says f → Kept f
+    → (x : ℕ) (a : Edge) (r : Register) (rs : List Register) (v : Value) (at : IsEdge f x a)
+    (pend : a.claims.voice.pending ≡ r ∷ rs) (is : value_at (table_of a) r ≡ Some v)
+    → (here' there' : List Register) → (x ≡ j → (here' ≡ here) × (there' ≡ rs))
+    → (x ≡ i → (here' ≡ rs) × (there' ≡ there))
+    → AtStage pool (extra ++ update_of r v ∷ []) i j s o u here' there' says
+    (record f {
+      edges = slice_set f.edges x (record a { claims = quieter a.claims rs });
+      pool = f.pool ++ update_of r v ∷ [];
+    })
+stage_announces pool extra i j s o u here there says f apart g kept x a r rs v at pend is here' there' second first =
+    record {
+      grown = ap (λ l. l ++ w ∷ []) g.grown ∙ push_after pool extra w;
+      known = λ y c z at_c in'.
+          let b = before f next (Tells x a r rs v at pend is) kept y c at_c in
+          elim (Contains-push_cases f.pool w z in') as (λ _. (is_newest c.claims.voice z ≡ false)
+          ⊎ Contains (extra ++ w ∷ []) z) [
+            | inl earlier ↦ elim (g.known y b.was z b.at earlier) as (λ _. (is_newest c.claims.voice z ≡ false)
+                ⊎ Contains (extra ++ w ∷ []) z) [
+                  | inl old ↦ inl (b.later.news z.register z.value old)
+                  | inr new ↦ inr (Contains-append_left extra (w ∷ []) z new)
+                ]
+            | inr now ↦ inr (subst (Contains (extra ++ w ∷ [])) now (Contains-push extra w))
+          ];
+      to = to.0;
+      at_to = to.1;
+      to_register = to.2;
+      to_says = to.3;
+      to_pending = to.4;
+      from = from.0;
+      at_from = from.1;
+      from_name = from.2;
+      from_says = from.3;
+      from_pending = from.4;
+      others_say = λ y c ne_i ne_j at_c. elim (set_cases f.edges x quiet y c at_c) as (λ _. own_advert c.claims.voice
+          (key_of s) ≡ None) [
+            | inl p ↦ subst (λ (e : Edge). own_advert e.claims.voice (key_of s) ≡ None) (sym p.1)
+                (g.others_say x a (λ q. ne_i (p.0 ∙ q)) (λ q. ne_j (p.0 ∙ q)) at)
+            | inr p ↦ g.others_say y c ne_i ne_j p.1
+          ];
+      others_pending = λ y c ne_i ne_j at_c. elim (set_cases f.edges x quiet y c at_c) as (λ _. c.claims.voice.pending
+          ≡ []) [
+            | inl p ↦ absurd (neither (λ q. ne_i (p.0 ∙ q)) (λ q. ne_j (p.0 ∙ q)))
+            | inr p ↦ g.others_pending y c ne_i ne_j p.1
+          ];
+    }
   where
     w : Fields
     w = update_of r v
@@ -353,34 +462,65 @@ stage_announces pool extra i j s o u here there says f apart g kept x a r rs v a
     neither : x ≢ i → x ≢ j → ⊥
     neither ne_i ne_j = let bad : [] ≡ r ∷ rs = sym (g.others_pending x a ne_i ne_j at) ∙ pend in cc
 
-    to : (c : Edge) × IsEdge next j c × (own_register c.claims.voice (key_of s) ≡ u.register) × (own c.claims.voice (key_of s) ≡ Some u.value) × (c.claims.voice.pending ≡ there')
-    to = elim (cases_eq x j) as (λ _. (c : Edge) × IsEdge next j c × (own_register c.claims.voice (key_of s) ≡ u.register) × (own c.claims.voice (key_of s) ≡ Some u.value) × (c.claims.voice.pending ≡ there')) [
-      | inl mine ↦
-          let a_is = same_edge f x j a g.to mine at g.at_to in
-          (quiet, subst (λ n. IsEdge next n quiet) mine (set_same f.edges x a quiet at), subst (λ (e : Edge). own_register e.claims.voice (key_of s) ≡ u.register) a_is g.to_register, subst (λ (e : Edge). own e.claims.voice (key_of s) ≡ Some u.value) a_is g.to_says, sym (second mine).1)
-      | inr ne ↦ elim (cases_eq x i) as (λ _. (c : Edge) × IsEdge next j c × (own_register c.claims.voice (key_of s) ≡ u.register) × (own c.claims.voice (key_of s) ≡ Some u.value) × (c.claims.voice.pending ≡ there')) [
-        | inl mine ↦ (g.to, set_other f.edges x quiet j g.to (λ q. ne (sym q)) g.at_to, g.to_register, g.to_says, g.to_pending ∙ sym (first mine).1)
-        | inr ne_i ↦ absurd (neither ne_i ne)
-      ]
-    ]
+    to : (c : Edge) × IsEdge next j c × (own_register c.claims.voice (key_of s) ≡ u.register)
+        × (own c.claims.voice (key_of s) ≡ Some u.value) × (c.claims.voice.pending ≡ there')
+    to = elim (cases_eq x j) as (λ _. (c : Edge) × IsEdge next j c
+        × (own_register c.claims.voice (key_of s) ≡ u.register) × (own c.claims.voice (key_of s) ≡ Some u.value)
+        × (c.claims.voice.pending ≡ there')) [
+          | inl mine ↦
+              let a_is = same_edge f x j a g.to mine at g.at_to in (
+                quiet,
+                subst (λ n. IsEdge next n quiet) mine (set_same f.edges x a quiet at),
+                subst (λ (e : Edge). own_register e.claims.voice (key_of s) ≡ u.register) a_is g.to_register,
+                subst (λ (e : Edge). own e.claims.voice (key_of s) ≡ Some u.value) a_is g.to_says,
+                sym (second mine).1,
+              )
+          | inr ne ↦ elim (cases_eq x i) as (λ _. (c : Edge) × IsEdge next j c
+              × (own_register c.claims.voice (key_of s) ≡ u.register) × (own c.claims.voice (key_of s) ≡ Some u.value)
+              × (c.claims.voice.pending ≡ there')) [
+                | inl mine ↦ (
+                  g.to,
+                  set_other f.edges x quiet j g.to (λ q. ne (sym q)) g.at_to,
+                  g.to_register,
+                  g.to_says,
+                  g.to_pending ∙ sym (first mine).1,
+                )
+                | inr ne_i ↦ absurd (neither ne_i ne)
+              ]
+        ]
 
-    from : (c : Edge) × IsEdge next i c × (address_of c ≡ o) × (is_some (own_advert c.claims.voice (key_of s)) ≡ says) × (c.claims.voice.pending ≡ here')
-    from = elim (cases_eq x i) as (λ _. (c : Edge) × IsEdge next i c × (address_of c ≡ o) × (is_some (own_advert c.claims.voice (key_of s)) ≡ says) × (c.claims.voice.pending ≡ here')) [
-      | inl mine ↦
-          let a_is = same_edge f x i a g.from mine at g.at_from in
-          (quiet, subst (λ n. IsEdge next n quiet) mine (set_same f.edges x a quiet at), subst (λ (e : Edge). address_of e ≡ o) a_is g.from_name, subst (λ (e : Edge). is_some (own_advert e.claims.voice (key_of s)) ≡ says) a_is g.from_says, sym (first mine).0)
-      | inr ne ↦ elim (cases_eq x j) as (λ _. (c : Edge) × IsEdge next i c × (address_of c ≡ o) × (is_some (own_advert c.claims.voice (key_of s)) ≡ says) × (c.claims.voice.pending ≡ here')) [
-        | inl mine ↦ (g.from, set_other f.edges x quiet i g.from (λ q. ne (sym q)) g.at_from, g.from_name, g.from_says, g.from_pending ∙ sym (second mine).0)
-        | inr ne_j ↦ absurd (neither ne ne_j)
-      ]
-    ]
+    from : (c : Edge) × IsEdge next i c × (address_of c ≡ o) × (is_some (own_advert c.claims.voice (key_of s)) ≡ says)
+        × (c.claims.voice.pending ≡ here')
+    from = elim (cases_eq x i) as (λ _. (c : Edge) × IsEdge next i c × (address_of c ≡ o)
+        × (is_some (own_advert c.claims.voice (key_of s)) ≡ says) × (c.claims.voice.pending ≡ here')) [
+          | inl mine ↦
+              let a_is = same_edge f x i a g.from mine at g.at_from in (
+                quiet,
+                subst (λ n. IsEdge next n quiet) mine (set_same f.edges x a quiet at),
+                subst (λ (e : Edge). address_of e ≡ o) a_is g.from_name,
+                subst (λ (e : Edge). is_some (own_advert e.claims.voice (key_of s)) ≡ says) a_is g.from_says,
+                sym (first mine).0,
+              )
+          | inr ne ↦ elim (cases_eq x j) as (λ _. (c : Edge) × IsEdge next i c × (address_of c ≡ o)
+              × (is_some (own_advert c.claims.voice (key_of s)) ≡ says) × (c.claims.voice.pending ≡ here')) [
+                | inl mine ↦ (
+                  g.from,
+                  set_other f.edges x quiet i g.from (λ q. ne (sym q)) g.at_from,
+                  g.from_name,
+                  g.from_says,
+                  g.from_pending ∙ sym (second mine).0,
+                )
+                | inr ne_j ↦ absurd (neither ne ne_j)
+              ]
+        ]
 
 -- ---- the four stages, one after another
 pub data Stage (pool : List Fields) (i j : ℕ) (s : Station) (o : ℕ) (u : Fields) (f : Fabric) : Type 0 where
   Learnt : AtStage pool [] i j s o u [] (u.register ∷ []) true f → Stage pool i j s o u f
   Told : AtStage pool (u ∷ []) i j s o u [] [] true f → Stage pool i j s o u f
   Lost : AtStage pool (u ∷ []) i j s o u (register_of o (key_of s) ∷ []) [] false f → Stage pool i j s o u f
-  Over : (w : Fields) → w.register ≡ register_of o (key_of s) → advert_in w.value.content ≡ None → AtStage pool (u ∷ w ∷ []) i j s o u [] [] false f → Stage pool i j s o u f
+  Over : (w : Fields) → w.register ≡ register_of o (key_of s) → advert_in w.value.content ≡ None
+      → AtStage pool (u ∷ w ∷ []) i j s o u [] [] false f → Stage pool i j s o u f
 
 no_update : {w : Fields} → Contains [] w → ⊥
 no_update (x, lt, is) = omega (arith, lt)
@@ -398,10 +538,14 @@ two_news u v none w (suc zero, lt, is) = inr (subst (λ (y : Fields). advert_in 
 two_news u v none w (suc (suc n), lt, is) = absurd (omega (arith, lt))
 
 -- who has nothing pending announces nothing
-idle_edge : (f : Fabric) (x y : ℕ) (a b : Edge) (r : Register) (rs : List Register) → IsEdge f x a → a.claims.voice.pending ≡ r ∷ rs → IsEdge f y b → b.claims.voice.pending ≡ [] → x ≢ y
-idle_edge f x y a b r rs at_a pend at_b none place = let b_is = same_edge f x y a b place at_a at_b in let bad : [] ≡ r ∷ rs = sym none ∙ ap (λ (e : Edge). e.claims.voice.pending) b_is ∙ pend in cc
+idle_edge : (f : Fabric) (x y : ℕ) (a b : Edge) (r : Register) (rs : List Register) → IsEdge f x a
+    → a.claims.voice.pending ≡ r ∷ rs → IsEdge f y b → b.claims.voice.pending ≡ [] → x ≢ y
+idle_edge f x y a b r rs at_a pend at_b none place = let b_is = same_edge f x y a b place at_a at_b in
+    let bad : [] ≡ r ∷ rs = sym none ∙ ap (λ (e : Edge). e.claims.voice.pending) b_is ∙ pend in cc
 
-pub stage_moves : (pool : List Fields) (i j : ℕ) (s : Station) (o : ℕ) (u : Fields) (old new : Fabric) → i ≢ j → u.register.key ≡ key_of s → IsSome (advert_in u.value.content) → Move old new → Kept old → Stage pool i j s o u old → Stage pool i j s o u new
+pub stage_moves : (pool : List Fields) (i j : ℕ) (s : Station) (o : ℕ) (u : Fields) (old new : Fabric) → i ≢ j
+    → u.register.key ≡ key_of s → IsSome (advert_in u.value.content) → Move old new → Kept old
+    → Stage pool i j s o u old → Stage pool i j s o u new
 stage_moves pool i j s o u old _ apart key some Stays kept stage = stage
 stage_moves pool i j s o u old _ apart key some (Tells x a r rs v at pend is) kept stage = go stage
   where
@@ -409,9 +553,13 @@ stage_moves pool i j s o u old _ apart key some (Tells x a r rs v at pend is) ke
     w = update_of r v
 
     next : Fabric
-    next = record old { edges = slice_set old.edges x (record a { claims = quieter a.claims rs }); pool = old.pool ++ w ∷ [] }
+    next = record old {
+      edges = slice_set old.edges x (record a { claims = quieter a.claims rs });
+      pool = old.pool ++ w ∷ [];
+    }
 
-    place : {extra : List Fields} {here there : List Register} {says : Bool} (g : AtStage pool extra i j s o u here there says old) → (x ≡ i) ⊎ (x ≡ j)
+    place : {extra : List Fields} {here there : List Register} {says : Bool}
+        (g : AtStage pool extra i j s o u here there says old) → (x ≡ i) ⊎ (x ≡ j)
     place g = elim (cases_eq x i) as (λ _. (x ≡ i) ⊎ (x ≡ j)) [
       | inl p ↦ inl p
       | inr ne_i ↦ elim (cases_eq x j) as (λ _. (x ≡ i) ⊎ (x ≡ j)) [
@@ -421,7 +569,9 @@ stage_moves pool i j s o u old _ apart key some (Tells x a r rs v at pend is) ke
     ]
 
     go : Stage pool i j s o u old → Stage pool i j s o u next
-    go (Learnt g) = Told (subst (λ (y : Fields). AtStage pool (y ∷ []) i j s o u [] [] true next) w_is (stage_announces pool [] i j s o u [] (u.register ∷ []) true old apart g kept x a r rs v at pend is [] [] (λ q. (refl, ends)) (λ q. absurd (not_first q))))
+    go (Learnt g) = Told (subst (λ (y : Fields). AtStage pool (y ∷ []) i j s o u [] [] true next) w_is
+        (stage_announces pool [] i j s o u [] (u.register ∷ []) true old apart g kept x a r rs v at pend is [] []
+        (λ q. (refl, ends)) (λ q. absurd (not_first q))))
       where
         not_first : x ≢ i
         not_first = idle_edge old x i a g.from r rs at pend g.at_from g.from_pending
@@ -443,7 +593,9 @@ stage_moves pool i j s o u old _ apart key some (Tells x a r rs v at pend is) ke
 
         value : v ≡ u.value
         value =
-            let says : value_at (table_of a) u.register ≡ Some u.value = subst (λ (e : Edge). value_at (table_of e) u.register ≡ Some u.value) a_is (ap (value_at (table_of g.to)) (sym g.to_register) ∙ g.to_says) in
+            let says : value_at (table_of a) u.register ≡ Some u.value =
+            subst (λ (e : Edge). value_at (table_of e) u.register ≡ Some u.value) a_is
+            (ap (value_at (table_of g.to)) (sym g.to_register) ∙ g.to_says) in
             let both : Some v ≡ Some u.value = sym is ∙ ap (value_at (table_of a)) register ∙ says in
             cc
 
@@ -453,7 +605,8 @@ stage_moves pool i j s o u old _ apart key some (Tells x a r rs v at pend is) ke
       | inl p ↦ idle_edge old x i a g.from r rs at pend g.at_from g.from_pending p
       | inr p ↦ idle_edge old x j a g.to r rs at pend g.at_to g.to_pending p
     ])
-    go (Lost g) = Over w register withdrawn (stage_announces pool (u ∷ []) i j s o u (register_of o (key_of s) ∷ []) [] false old apart g kept x a r rs v at pend is [] [] (λ q. absurd (not_second q)) (λ q. (ends, refl)))
+    go (Lost g) = Over w register withdrawn (stage_announces pool (u ∷ []) i j s o u (register_of o (key_of s) ∷ []) []
+        false old apart g kept x a r rs v at pend is [] [] (λ q. absurd (not_second q)) (λ q. (ends, refl)))
       where
         not_second : x ≢ j
         not_second = idle_edge old x j a g.to r rs at pend g.at_to g.to_pending
@@ -465,7 +618,8 @@ stage_moves pool i j s o u old _ apart key some (Tells x a r rs v at pend is) ke
         a_is = same_edge old x i a g.from mine at g.at_from
 
         pending : r ∷ rs ≡ register_of o (key_of s) ∷ []
-        pending = sym pend ∙ subst (λ (e : Edge). e.claims.voice.pending ≡ register_of o (key_of s) ∷ []) a_is g.from_pending
+        pending = sym pend ∙ subst (λ (e : Edge). e.claims.voice.pending ≡ register_of o (key_of s) ∷ []) a_is
+            g.from_pending
 
         register : r ≡ register_of o (key_of s)
         register = let p = pending in cc
@@ -477,7 +631,9 @@ stage_moves pool i j s o u old _ apart key some (Tells x a r rs v at pend is) ke
         own_is = ap (λ p. register_of p (key_of s)) (subst (λ (e : Edge). address_of e ≡ o) a_is g.from_name)
 
         withdrawn : advert_in v.content ≡ None
-        withdrawn = empty (advert_in v.content) (ap (λ o. is_some (advert_of o)) (sym is ∙ ap (value_at (table_of a)) (register ∙ sym own_is)) ∙ subst (λ (e : Edge). is_some (own_advert e.claims.voice (key_of s)) ≡ false) a_is g.from_says)
+        withdrawn = empty (advert_in v.content) (ap (λ o. is_some (advert_of o)) (sym is
+            ∙ ap (value_at (table_of a)) (register ∙ sym own_is))
+            ∙ subst (λ (e : Edge). is_some (own_advert e.claims.voice (key_of s)) ≡ false) a_is g.from_says)
           where
             empty : (c : Option Advert) → is_some c ≡ false → c ≡ None
             empty None e = refl
@@ -492,26 +648,41 @@ stage_moves pool i j s o u old _ apart key some (Takes x a w at in' ok) kept sta
     next = record old { edges = slice_set old.edges x (record a { claims = heard a.claims w }) }
 
     go : Stage pool i j s o u old → Stage pool i j s o u next
-    go (Learnt g) = elim (stage_take pool [] i j s o u [] (u.register ∷ []) true old g kept (no_news u) key x a w at in' ok) as (λ _. Stage pool i j s o u next) [
-      | inl h ↦ Learnt (stage_grows pool [] i j s o u [] (u.register ∷ []) true old g kept some x a w at in' ok h.0 h.1)
-      | inr h ↦ absurd (no_update h.new)
-    ]
-    go (Told g) = elim (stage_take pool (u ∷ []) i j s o u [] [] true old g kept (one_news u) key x a w at in' ok) as (λ _. Stage pool i j s o u next) [
-      | inl h ↦ Told (stage_grows pool (u ∷ []) i j s o u [] [] true old g kept some x a w at in' ok h.0 h.1)
-      | inr h ↦ Lost (subst (λ n. AtStage pool (u ∷ []) i j s o u (register_of o (key_of s) ∷ []) [] false (record old { edges = slice_set old.edges n (record a { claims = heard a.claims w }) })) (sym h.place)
-          (stage_loses pool (u ∷ []) i j s o u [] true old apart g kept a w (subst (λ n. IsEdge old n a) h.place at) in' ok h.is))
-    ]
-    go (Lost g) = elim (stage_take pool (u ∷ []) i j s o u (register_of o (key_of s) ∷ []) [] false old g kept (one_news u) key x a w at in' ok) as (λ _. Stage pool i j s o u next) [
-      | inl h ↦ Lost (stage_grows pool (u ∷ []) i j s o u (register_of o (key_of s) ∷ []) [] false old g kept some x a w at in' ok h.0 h.1)
-      | inr h ↦ absurd (let never = h.said in cc)
-    ]
-    go (Over v named none g) = elim (stage_take pool (u ∷ v ∷ []) i j s o u [] [] false old g kept (two_news u v none) key x a w at in' ok) as (λ _. Stage pool i j s o u next) [
-      | inl h ↦ Over v named none (stage_grows pool (u ∷ v ∷ []) i j s o u [] [] false old g kept some x a w at in' ok h.0 h.1)
-      | inr h ↦ absurd (let never = h.said in cc)
-    ]
+    go (Learnt g) = elim (stage_take pool [] i j s o u [] (u.register ∷ []) true old g kept (no_news u) key x a w at in'
+        ok) as (λ _. Stage pool i j s o u next) [
+          | inl h ↦ Learnt (stage_grows pool [] i j s o u [] (u.register ∷ []) true old g kept some x a w at in' ok h.0
+              h.1)
+          | inr h ↦ absurd (no_update h.new)
+        ]
+    go (Told g) = elim (stage_take pool (u ∷ []) i j s o u [] [] true old g kept (one_news u) key x a w at in'
+        ok) as (λ _. Stage pool i j s o u next) [
+          | inl h ↦ Told (stage_grows pool (u ∷ []) i j s o u [] [] true old g kept some x a w at in' ok h.0 h.1)
+          | inr h ↦ Lost (subst (λ n. AtStage pool (u ∷ []) i j s o u (register_of o (key_of s) ∷ []) [] false
+              (record old { edges = slice_set old.edges n (record a { claims = heard a.claims w }) })) (sym h.place)
+              (stage_loses pool (u ∷ []) i j s o u [] true old apart g kept a w (subst (λ n. IsEdge old n a) h.place at)
+              in'
+              ok h.is))
+        ]
+    go (Lost g) = elim (stage_take pool (u ∷ []) i j s o u (register_of o (key_of s) ∷ []) [] false old g kept
+        (one_news u) key x a w at in' ok) as (λ _. Stage pool i j s o u next) [
+          | inl h ↦ Lost (stage_grows pool (u ∷ []) i j s o u (register_of o (key_of s) ∷ []) [] false old g kept some x
+              a w
+              at in' ok h.0 h.1)
+          | inr h ↦ absurd (let never = h.said in cc)
+        ]
+    go (Over v named none g) = elim (stage_take pool (u ∷ v ∷ []) i j s o u [] [] false old g kept (two_news u v none)
+        key x a w at in' ok) as (λ _. Stage pool i j s o u next) [
+          | inl h ↦ Over v named none (stage_grows pool (u ∷ v ∷ []) i j s o u [] [] false old g kept some x a w at in'
+              ok
+              h.0 h.1)
+          | inr h ↦ absurd (let never = h.said in cc)
+        ]
 
-pub rests_stage : (pool : List Fields) (i j : ℕ) (s : Station) (o : ℕ) (u : Fields) (steps : List Step) (old new : Fabric) → i ≢ j → u.register.key ≡ key_of s → IsSome (advert_in u.value.content) → Rests old steps new → Kept old → Stage pool i j s o u old → Stage pool i j s o u new
+pub rests_stage : (pool : List Fields) (i j : ℕ) (s : Station) (o : ℕ) (u : Fields) (steps : List Step)
+    (old new : Fabric) → i ≢ j → u.register.key ≡ key_of s → IsSome (advert_in u.value.content) → Rests old steps new
+    → Kept old → Stage pool i j s o u old → Stage pool i j s o u new
 rests_stage pool i j s o u [] old new apart key some h kept stage = subst (Stage pool i j s o u) (sym h) stage
 rests_stage pool i j s o u (step ∷ steps) old new apart key some h kept stage =
     let move = moved old h.0 step h.1 kept h.2 h.4 in
-    rests_stage pool i j s o u steps h.0 new apart key some h.5 (move_kept old h.0 move kept) (stage_moves pool i j s o u old h.0 apart key some move kept stage)
+    rests_stage pool i j s o u steps h.0 new apart key some h.5 (move_kept old h.0 move kept)
+    (stage_moves pool i j s o u old h.0 apart key some move kept stage)

@@ -1,10 +1,12 @@
 -- Sums and counts over a list of which one element is replaced.
-use Rattle.std.proofs.Common.{◌≡◌, ◌≢◌, ℕ, zero, suc, ◌+◌, ◌≤◌, Bool, true, false, cond, Some, List, [], ◌∷◌, ◌++◌, refl, sym, ap, subst, ◌∙◌, arith}
+use Rattle.std.proofs.Common.{◌≡◌, ◌≢◌, ℕ, zero, suc, ◌+◌, ◌≤◌, Bool, true, false, cond, Some, List, [], ◌∷◌, ◌++◌}
+use Rattle.std.proofs.Common.{refl, sym, ap, subst, ◌∙◌, arith}
 use Rattle.std.proofs.lemmas.List.Sums.{sum_by-cons, sum_by_push}
 use Rattle.std.specs.Prelude.{Contains, slice_get, slice_set}
 use Rattle.std.specs.List.{count_by, sum_by}
 
-pub sum_le : {X : Type 0} (f g : X → ℕ) (xs : List X) → ((j : ℕ) (x : X) → slice_get xs j ≡ Some x → g x ≤ f x) → sum_by g xs ≤ sum_by f xs
+pub sum_le : {X : Type 0} (f g : X → ℕ) (xs : List X) → ((j : ℕ) (x : X) → slice_get xs j ≡ Some x → g x ≤ f x)
+    → sum_by g xs ≤ sum_by f xs
 sum_le f g [] le = omega arith
 sum_le f g (x ∷ xs) le =
     let head = le 0 x refl in
@@ -14,7 +16,9 @@ sum_le f g (x ∷ xs) le =
     omega (arith, head, tail, of_f, of_g)
 
 -- one element gives at least d less, and no other more
-pub sum_set : {X : Type 0} (f g : X → ℕ) (d : ℕ) (xs : List X) (i : ℕ) (a b : X) → slice_get xs i ≡ Some a → g b + d ≤ f a → ((j : ℕ) (x : X) → j ≢ i → slice_get xs j ≡ Some x → g x ≤ f x) → sum_by g (slice_set xs i b) + d ≤ sum_by f xs
+pub sum_set : {X : Type 0} (f g : X → ℕ) (d : ℕ) (xs : List X) (i : ℕ) (a b : X) → slice_get xs i ≡ Some a
+    → g b + d ≤ f a → ((j : ℕ) (x : X) → j ≢ i → slice_get xs j ≡ Some x → g x ≤ f x)
+    → sum_by g (slice_set xs i b) + d ≤ sum_by f xs
 sum_set f g d [] i a b at less le = cc
 sum_set f g d (x ∷ xs) zero a b at less le =
     let same : x ≡ a = cc in
@@ -41,11 +45,13 @@ one_le false true h = let never = h refl in cc
 one_le false false h = omega arith
 
 -- fewer pass another test
-pub count_le : {X : Type 0} (p q : X → Bool) (xs : List X) → ((x : X) → q x ≡ true → p x ≡ true) → count_by q xs ≤ count_by p xs
+pub count_le : {X : Type 0} (p q : X → Bool) (xs : List X) → ((x : X) → q x ≡ true → p x ≡ true)
+    → count_by q xs ≤ count_by p xs
 count_le p q xs h = sum_le (λ x. cond (p x) 1 0) (λ x. cond (q x) 1 0) xs (λ j x at. one_le (p x) (q x) (h x))
 
 -- and one that did doesn't
-pub count_less : {X : Type 0} (p q : X → Bool) (xs : List X) (u : X) → ((x : X) → q x ≡ true → p x ≡ true) → Contains xs u → p u ≡ true → q u ≡ false → count_by q xs + 1 ≤ count_by p xs
+pub count_less : {X : Type 0} (p q : X → Bool) (xs : List X) (u : X) → ((x : X) → q x ≡ true → p x ≡ true)
+    → Contains xs u → p u ≡ true → q u ≡ false → count_by q xs + 1 ≤ count_by p xs
 count_less p q [] u h (i, lt, is) is_so not = absurd (omega (arith, lt))
 count_less p q (x ∷ xs) u h (zero, lt, is) is_so not =
     let p_here : one (p x) ≡ 1 = ap (λ y. one (p y)) is ∙ ap one is_so in
@@ -61,7 +67,8 @@ count_less p q (x ∷ xs) u h (suc i, lt, is) is_so not =
     let of_q : count_by q (x ∷ xs) ≡ cond (q x) 1 0 + count_by q xs = sum_by-cons (λ y. cond (q y) 1 0) x xs in
     omega (arith, head, tail, of_p, of_q)
 
-pub count_push : {X : Type 0} (p : X → Bool) (xs : List X) (u : X) → p u ≡ false → count_by p (xs ++ u ∷ []) ≡ count_by p xs
+pub count_push : {X : Type 0} (p : X → Bool) (xs : List X) (u : X) → p u ≡ false
+    → count_by p (xs ++ u ∷ []) ≡ count_by p xs
 count_push p xs u not =
     let more : count_by p (xs ++ u ∷ []) ≡ count_by p xs + cond (p u) 1 0 = sum_by_push (λ y. cond (p y) 1 0) xs u in
     let none : one (p u) ≡ 0 = ap one not in
@@ -69,7 +76,8 @@ count_push p xs u not =
 
 -- one that passes is counted
 pub count_some : {X : Type 0} (p : X → Bool) (xs : List X) (u : X) → Contains xs u → p u ≡ true → 1 ≤ count_by p xs
-count_some p xs u in' is_so = let less = count_less p (λ x. false) xs u (λ x never. absurd cc) in' is_so refl in omega (arith, less)
+count_some p xs u in' is_so = let less = count_less p (λ x. false) xs u (λ x never. absurd cc) in' is_so refl in
+    omega (arith, less)
 
 pub sum_has : {X : Type 0} (f : X → ℕ) (xs : List X) (i : ℕ) (a : X) → slice_get xs i ≡ Some a → f a ≤ sum_by f xs
 sum_has f [] i a at = cc
@@ -78,7 +86,8 @@ sum_has f (x ∷ xs) zero a at =
     let of_f = sum_by-cons f x xs in
     let here = ap f same in
     omega (arith, of_f, here)
-sum_has f (x ∷ xs) (suc i) a at = let of_f = sum_by-cons f x xs in let tail = sum_has f xs i a at in omega (arith, of_f, tail)
+sum_has f (x ∷ xs) (suc i) a at = let of_f = sum_by-cons f x xs in let tail = sum_has f xs i a at in
+    omega (arith, of_f, tail)
 
 pub place_of : {X : Type 0} (xs : List X) (a : X) → Contains xs a → (k : ℕ) × (slice_get xs k ≡ Some a)
 place_of [] a (i, lt, is) = absurd (omega (arith, lt))
@@ -94,7 +103,8 @@ set_itself [] i a at = refl
 set_itself (x ∷ xs) zero a at = cc
 set_itself (x ∷ xs) (suc i) a at = ap (λ ys. x ∷ ys) (set_itself xs i a at)
 
-pub set_kept : {X : Type 0} (xs : List X) (i : ℕ) (b : X) (j : ℕ) (a : X) → slice_get xs j ≡ Some a → (c : X) × (slice_get (slice_set xs i b) j ≡ Some c)
+pub set_kept : {X : Type 0} (xs : List X) (i : ℕ) (b : X) (j : ℕ) (a : X) → slice_get xs j ≡ Some a
+    → (c : X) × (slice_get (slice_set xs i b) j ≡ Some c)
 set_kept [] i b j a at = cc
 set_kept (x ∷ xs) zero b zero a at = (b, refl)
 set_kept (x ∷ xs) zero b (suc j) a at = (a, at)

@@ -1,5 +1,7 @@
--- Each announcement or delivery that changes a fabric uses up some of a bounded amount of work, and when none is left all agree.
-use Rattle.std.proofs.Common.{◌≡◌, ◌⊎◌, inl, inr, ℕ, zero, suc, ◌+◌, ◌<◌, ◌≤◌, Bool, true, false, cond, Some, List, [], ◌∷◌, ◌++◌, length, refl, sym, ap, subst, ◌∙◌, arith}
+-- Each announcement or delivery that changes a fabric uses up some of a bounded amount of work, and when none is left
+-- all agree.
+use Rattle.std.proofs.Common.{◌≡◌, ◌⊎◌, inl, inr, ℕ, zero, suc, ◌+◌, ◌<◌, ◌≤◌, Bool, true, false, cond, Some, List, []}
+use Rattle.std.proofs.Common.{◌∷◌, ◌++◌, length, refl, sym, ap, subst, ◌∙◌, arith}
 use Rattle.std.proofs.lemmas.List.Sums.{sum_by_push}
 use Rattle.std.specs.Prelude.{slice_get, slice_set}
 use Rattle.std.specs.List.{sum_by}
@@ -19,7 +21,8 @@ use Rattle.ev_fabric.proofs.RestingSums.{sum_set, count_less, place_of}
 use Rattle.ev_fabric.proofs.RestingEdge.{heard, heard_later, heard_has}
 use Rattle.ev_fabric.proofs.RestingIdle.{known_hearing}
 use Rattle.ev_fabric.proofs.RestingGood.{quieter}
-use Rattle.ev_fabric.proofs.RestingMoves.{Kept, Move, Stays, Tells, Takes, same_edges, moved, announced_known, told_fewer, taken_fewer, move_kept}
+use Rattle.ev_fabric.proofs.RestingMoves.{Kept, Move, Stays, Tells, Takes, same_edges, moved, announced_known}
+use Rattle.ev_fabric.proofs.RestingMoves.{told_fewer, taken_fewer, move_kept}
 use Rattle.ev_fabric.proofs.RestingRounds.{IsReady, given, announce_one, quiet_step, arrived_value}
 
 abbrev one : Bool → ℕ
@@ -31,13 +34,16 @@ one_most false = omega arith
 
 missing_push : (pool : List Fields) (e : Voice) (u : Fields) → missing (pool ++ u ∷ []) e ≤ missing pool e + 1
 missing_push pool e u =
-    let sum : missing (pool ++ u ∷ []) e ≡ missing pool e + one (is_newest e u) = sum_by_push (λ w. one (is_newest e w)) pool u in
+    let sum : missing (pool ++ u ∷ []) e ≡ missing pool e + one (is_newest e u) =
+    sum_by_push (λ w. one (is_newest e w)) pool u in
     let most = one_most (is_newest e u) in
     omega (arith, sum, most)
 
-missing_none : (pool : List Fields) (e : Voice) (u : Fields) → is_newest e u ≡ false → missing (pool ++ u ∷ []) e ≡ missing pool e
+missing_none : (pool : List Fields) (e : Voice) (u : Fields) → is_newest e u ≡ false
+    → missing (pool ++ u ∷ []) e ≡ missing pool e
 missing_none pool e u none =
-    let sum : missing (pool ++ u ∷ []) e ≡ missing pool e + one (is_newest e u) = sum_by_push (λ w. one (is_newest e w)) pool u in
+    let sum : missing (pool ++ u ∷ []) e ≡ missing pool e + one (is_newest e u) =
+    sum_by_push (λ w. one (is_newest e w)) pool u in
     let here : one (is_newest e u) ≡ 0 = ap one none in
     omega (arith, sum, here)
 
@@ -49,7 +55,11 @@ later_missing a b h u is = go (is_newest a u) refl
     go false e = absurd (let bad : false ≡ true = sym (h.news u.register u.value e) ∙ is in cc)
 
 -- a delivery of what is no news leaves the fabric as it is
-same_take : (old : Fabric) (i : ℕ) (a : Edge) (u : Fields) → Kept old → IsEdge old i a → is_newest a.claims.voice u ≡ false → record old { edges = slice_set old.edges i (record a { claims = heard a.claims u }) } ≡ old
+same_take : (old : Fabric) (i : ℕ) (a : Edge) (u : Fields) → Kept old → IsEdge old i a
+    → is_newest a.claims.voice u ≡ false → record old {
+      edges =
+          slice_set old.edges i (record a { claims = heard a.claims u });
+    } ≡ old
 same_take old i a u kept at none =
     let is = known_hearing a.claims u (kept.keeps i a at).holds.owns none in
     (λ j. record old { edges = slice_set old.edges i (record a { claims = is j }) }) ∙ same_edges old i a at
@@ -70,11 +80,16 @@ move_works old _ (Tells i a r rs v at pend is) kept = inr (omega (arith, fewer, 
     fewer : to_come next + 1 ≤ to_come old
     fewer = told_fewer old i a r rs v kept at pend is
 
-    sums : sum_by (λ (e : Edge). missing next.pool e.claims.voice + to_come next) next.edges + 0 ≤ sum_by (λ (e : Edge). missing old.pool e.claims.voice + to_come old) old.edges
+    sums : sum_by (λ (e : Edge). missing next.pool e.claims.voice + to_come next) next.edges
+        + 0 ≤ sum_by (λ (e : Edge). missing old.pool e.claims.voice + to_come old) old.edges
     sums =
-        let mine : missing next.pool after.claims.voice ≡ missing old.pool after.claims.voice = missing_none old.pool after.claims.voice u (announced_known after.claims.voice r v is) in
-        let here : missing next.pool after.claims.voice + to_come next + 0 ≤ missing old.pool a.claims.voice + to_come old = omega (arith, mine, fewer) in
-        sum_set (λ (e : Edge). missing old.pool e.claims.voice + to_come old) (λ (e : Edge). missing next.pool e.claims.voice + to_come next) 0 old.edges i a after at here (λ j x ne at_x.
+        let mine : missing next.pool after.claims.voice ≡ missing old.pool after.claims.voice =
+        missing_none old.pool after.claims.voice u (announced_known after.claims.voice r v is) in
+        let here : missing next.pool after.claims.voice + to_come next + 0 ≤ missing old.pool a.claims.voice
+        + to_come old = omega (arith, mine, fewer) in
+        sum_set (λ (e : Edge). missing old.pool e.claims.voice + to_come old)
+        (λ (e : Edge). missing next.pool e.claims.voice + to_come next) 0 old.edges i a after at here
+        (λ j x ne at_x.
         let most = missing_push old.pool x.claims.voice u in omega (arith, most, fewer))
 move_works old _ (Takes i a u at in' ok) kept = go (is_newest a.claims.voice u) refl
   where
@@ -91,12 +106,21 @@ move_works old _ (Takes i a u at in' ok) kept = go (is_newest a.claims.voice u) 
     go false none = inl (same_take old i a u kept at none)
     go true news =
         let numbers = (kept.keeps i a at).numbers in
-        let less : missing old.pool after.claims.voice + 1 ≤ missing old.pool a.claims.voice = count_less (is_newest a.claims.voice) (is_newest after.claims.voice) old.pool u (later_missing a.claims.voice after.claims.voice (heard_later a.claims u numbers ok)) in' news (heard_has a.claims u numbers) in
-        let here : missing old.pool after.claims.voice + to_come next + 1 ≤ missing old.pool a.claims.voice + to_come old = omega (arith, less, fewer) in
-        let sums : sum_by (λ (e : Edge). missing old.pool e.claims.voice + to_come next) next.edges + 1 ≤ sum_by (λ (e : Edge). missing old.pool e.claims.voice + to_come old) old.edges = sum_set (λ (e : Edge). missing old.pool e.claims.voice + to_come old) (λ (e : Edge). missing old.pool e.claims.voice + to_come next) 1 old.edges i a after at here (λ j x ne at_x. omega (arith, fewer)) in
+        let less : missing old.pool after.claims.voice + 1 ≤ missing old.pool a.claims.voice =
+        count_less (is_newest a.claims.voice) (is_newest after.claims.voice) old.pool u
+        (later_missing a.claims.voice after.claims.voice (heard_later a.claims u numbers ok)) in' news
+        (heard_has a.claims u numbers) in
+        let here : missing old.pool after.claims.voice + to_come next + 1 ≤ missing old.pool a.claims.voice
+        + to_come old = omega (arith, less, fewer) in
+        let sums : sum_by (λ (e : Edge). missing old.pool e.claims.voice + to_come next) next.edges
+        + 1 ≤ sum_by (λ (e : Edge). missing old.pool e.claims.voice + to_come old) old.edges =
+        sum_set (λ (e : Edge). missing old.pool e.claims.voice + to_come old)
+        (λ (e : Edge). missing old.pool e.claims.voice + to_come next) 1 old.edges i a after at here
+        (λ j x ne at_x. omega (arith, fewer)) in
         inr (omega (arith, fewer, sums))
 
-pub works_bound : (steps : List Step) (old new : Fabric) → Kept old → Works old steps new → length steps + work new ≤ work old
+pub works_bound : (steps : List Step) (old new : Fabric) → Kept old → Works old steps new
+    → length steps + work new ≤ work old
 works_bound [] old new kept h = let same = ap work h in omega (arith, same)
 works_bound (step ∷ steps) old new kept h =
     let move = moved old h.0 step h.1 kept h.2 h.4 in
@@ -109,7 +133,8 @@ works_bound (step ∷ steps) old new kept h =
 -- ---- where all agree, no such step changes anything
 agreed_stays : (old new : Fabric) → Move old new → Kept old → AllAgree old → new ≡ old
 agreed_stays old _ Stays kept agree = refl
-agreed_stays old _ (Tells i a r rs v at pend is) kept agree = absurd (let bad : [] ≡ r ∷ rs = sym (agree.quiet i a at) ∙ pend in cc)
+agreed_stays old _ (Tells i a r rs v at pend is) kept agree =
+    absurd (let bad : [] ≡ r ∷ rs = sym (agree.quiet i a at) ∙ pend in cc)
 agreed_stays old _ (Takes i a u at in' ok) kept agree =
     let v = agree.arrived i a at u in' in
     same_take old i a u kept at (ap (λ o. is_news o u.value) v.1 ∙ v.2)
@@ -121,26 +146,32 @@ agreed_rests (step ∷ steps) old new kept agree h =
     agreed_rests steps h.0 new (subst Kept (sym same) kept) (subst AllAgree (sym same) agree) h.5 ∙ same
 
 -- ---- where not all agree, some step changes something
-find : {X : Type 0} (P Q : X → Type 0) (xs : List X) → ((x : X) → P x ⊎ Q x) → ((i : ℕ) (x : X) → slice_get xs i ≡ Some x → P x) ⊎ ((i : ℕ) × (x : X) × (slice_get xs i ≡ Some x) × Q x)
+find : {X : Type 0} (P Q : X → Type 0) (xs : List X) → ((x : X) → P x ⊎ Q x)
+    → ((i : ℕ) (x : X) → slice_get xs i ≡ Some x → P x) ⊎ ((i : ℕ) × (x : X) × (slice_get xs i ≡ Some x) × Q x)
 find P Q [] test = inl (λ i x at. absurd cc)
-find P Q (x ∷ xs) test = elim (test x) as (λ _. ((i : ℕ) (y : _) → slice_get (x ∷ xs) i ≡ Some y → P y) ⊎ ((i : ℕ) × (y : _) × (slice_get (x ∷ xs) i ≡ Some y) × Q y)) [
-  | inl here ↦ elim (find P Q xs test) as (λ _. ((i : ℕ) (y : _) → slice_get (x ∷ xs) i ≡ Some y → P y) ⊎ ((i : ℕ) × (y : _) × (slice_get (x ∷ xs) i ≡ Some y) × Q y)) [
-    | inl rest ↦ inl (all here rest)
-    | inr found ↦ inr (suc found.0, found.1, found.2, found.3)
-  ]
-  | inr found ↦ inr (0, x, refl, found)
-]
+find P Q (x ∷ xs) test = elim (test x) as (λ _. ((i : ℕ) (y : _) → slice_get (x ∷ xs) i ≡ Some y → P y)
+    ⊎ ((i : ℕ) × (y : _) × (slice_get (x ∷ xs) i ≡ Some y) × Q y)) [
+      | inl here ↦ elim (find P Q xs test) as (λ _. ((i : ℕ) (y : _) → slice_get (x ∷ xs) i ≡ Some y → P y)
+          ⊎ ((i : ℕ) × (y : _) × (slice_get (x ∷ xs) i ≡ Some y) × Q y)) [
+            | inl rest ↦ inl (all here rest)
+            | inr found ↦ inr (suc found.0, found.1, found.2, found.3)
+          ]
+      | inr found ↦ inr (0, x, refl, found)
+    ]
   where
-    all : P x → ((i : ℕ) (y : _) → slice_get xs i ≡ Some y → P y) → (i : ℕ) (y : _) → slice_get (x ∷ xs) i ≡ Some y → P y
+    all : P x → ((i : ℕ) (y : _) → slice_get xs i ≡ Some y → P y) → (i : ℕ) (y : _) → slice_get (x ∷ xs) i ≡ Some y
+        → P y
     all here rest zero y at = let same : x ≡ y = cc in subst P same here
     all here rest (suc i) y at = rest i y at
 
 -- an edge has something pending, or lacks an update of the pool, or neither
 abbrev IsBusy : List Fields → Edge → Type 0
-IsBusy pool a = ((r : Register) × (rs : List Register) × (a.claims.voice.pending ≡ r ∷ rs)) ⊎ ((n : ℕ) × (u : Fields) × (slice_get pool n ≡ Some u) × (is_newest a.claims.voice u ≡ true))
+IsBusy pool a = ((r : Register) × (rs : List Register) × (a.claims.voice.pending ≡ r ∷ rs))
+    ⊎ ((n : ℕ) × (u : Fields) × (slice_get pool n ≡ Some u) × (is_newest a.claims.voice u ≡ true))
 
 abbrev IsIdle : List Fields → Edge → Type 0
-IsIdle pool a = (a.claims.voice.pending ≡ []) × ((n : ℕ) (u : Fields) → slice_get pool n ≡ Some u → is_newest a.claims.voice u ≡ false)
+IsIdle pool a = (a.claims.voice.pending ≡ []) × ((n : ℕ) (u : Fields) → slice_get pool n ≡ Some u
+    → is_newest a.claims.voice u ≡ false)
 
 idle_or_busy : (pool : List Fields) (a : Edge) → IsIdle pool a ⊎ IsBusy pool a
 idle_or_busy pool a = go a.claims.voice.pending refl
@@ -148,30 +179,35 @@ idle_or_busy pool a = go a.claims.voice.pending refl
     either : (u : Fields) → (is_newest a.claims.voice u ≡ false) ⊎ (is_newest a.claims.voice u ≡ true)
     either u = pick (is_newest a.claims.voice u) refl
       where
-        pick : (b : Bool) → is_newest a.claims.voice u ≡ b → (is_newest a.claims.voice u ≡ false) ⊎ (is_newest a.claims.voice u ≡ true)
+        pick : (b : Bool) → is_newest a.claims.voice u ≡ b
+            → (is_newest a.claims.voice u ≡ false) ⊎ (is_newest a.claims.voice u ≡ true)
         pick false e = inl e
         pick true e = inr e
 
     go : (rs : List Register) → a.claims.voice.pending ≡ rs → IsIdle pool a ⊎ IsBusy pool a
-    go [] e = elim (find (λ u. is_newest a.claims.voice u ≡ false) (λ u. is_newest a.claims.voice u ≡ true) pool either) as (λ _. IsIdle pool a ⊎ IsBusy pool a) [
-      | inl none ↦ inl (e, none)
-      | inr found ↦ inr (inr found)
-    ]
+    go [] e = elim (find (λ u. is_newest a.claims.voice u ≡ false) (λ u. is_newest a.claims.voice u ≡ true) pool
+        either) as (λ _. IsIdle pool a ⊎ IsBusy pool a) [
+          | inl none ↦ inl (e, none)
+          | inr found ↦ inr (inr found)
+        ]
     go (r ∷ rs) e = inr (inl (r, rs, e))
 
 pub goes_on : (f : Fabric) → IsReady f → AllAgree f ⊎ ((step : Step) × (new : Fabric) × Works f (step ∷ []) new)
-goes_on f ready = elim (find (IsIdle f.pool) (IsBusy f.pool) f.edges (idle_or_busy f.pool)) as (λ _. AllAgree f ⊎ ((step : Step) × (new : Fabric) × Works f (step ∷ []) new)) [
-  | inl idle ↦ inl (record {
-    quiet = λ i a at. (idle i a at).0;
-    arrived = λ i a at u in'. let place = place_of f.pool u in' in arrived_value (value_at (table_of a) u.register) u.value ((idle i a at).1 place.0 u place.1);
-  })
-  | inr found ↦ inr (elim found.3 as (λ _. (step : Step) × (new : Fabric) × Works f (step ∷ []) new) [
-    | inl pending ↦ says found.0 found.1 found.2 pending.0 pending.1 pending.2
-    | inr missing ↦ takes found.0 found.1 found.2 missing.0 missing.1 missing.2 missing.3
-  ])
-]
+goes_on f ready = elim (find (IsIdle f.pool) (IsBusy f.pool) f.edges (idle_or_busy f.pool)) as (λ _. AllAgree f
+    ⊎ ((step : Step) × (new : Fabric) × Works f (step ∷ []) new)) [
+      | inl idle ↦ inl (record {
+        quiet = λ i a at. (idle i a at).0;
+        arrived = λ i a at u in'. let place = place_of f.pool u in' in
+            arrived_value (value_at (table_of a) u.register) u.value ((idle i a at).1 place.0 u place.1);
+      })
+      | inr found ↦ inr (elim found.3 as (λ _. (step : Step) × (new : Fabric) × Works f (step ∷ []) new) [
+        | inl pending ↦ says found.0 found.1 found.2 pending.0 pending.1 pending.2
+        | inr missing ↦ takes found.0 found.1 found.2 missing.0 missing.1 missing.2 missing.3
+      ])
+    ]
   where
-    says : (i : ℕ) (a : Edge) → IsEdge f i a → (r : Register) (rs : List Register) → a.claims.voice.pending ≡ r ∷ rs → (step : Step) × (new : Fabric) × Works f (step ∷ []) new
+    says : (i : ℕ) (a : Edge) → IsEdge f i a → (r : Register) (rs : List Register) → a.claims.voice.pending ≡ r ∷ rs
+        → (step : Step) × (new : Fabric) × Works f (step ∷ []) new
     says i a at r rs pend =
         let s = quiet_step f (Announce (suc i)) ready tt in (
           Announce (suc i),
@@ -183,7 +219,8 @@ goes_on f ready = elim (find (IsIdle f.pool) (IsBusy f.pool) f.edges (idle_or_bu
             s.2,
             s.3,
             (λ same.
-                let less = announce_one f s.0 i (length rs) s.1 s.2 s.3 few a (subst (λ g. IsEdge g i a) (sym same) at) in
+                let less = announce_one f s.0 i (length rs) s.1 s.2 s.3 few a
+                (subst (λ g. IsEdge g i a) (sym same) at) in
                 let long : length a.claims.voice.pending ≡ suc (length rs) = ap length pend in
                 omega (arith, less, long)),
             refl,
@@ -194,10 +231,12 @@ goes_on f ready = elim (find (IsIdle f.pool) (IsBusy f.pool) f.edges (idle_or_bu
         few b at_b =
             let both : Some a ≡ Some b = sym at ∙ at_b in
             let same : a ≡ b = cc in
-            let long : length b.claims.voice.pending ≡ suc (length rs) = ap (λ (e : Edge). length e.claims.voice.pending) (sym same) ∙ ap length pend in
+            let long : length b.claims.voice.pending ≡ suc (length rs) =
+            ap (λ (e : Edge). length e.claims.voice.pending) (sym same) ∙ ap length pend in
             omega (arith, long)
 
-    takes : (i : ℕ) (a : Edge) → IsEdge f i a → (n : ℕ) (u : Fields) → slice_get f.pool n ≡ Some u → is_newest a.claims.voice u ≡ true → (step : Step) × (new : Fabric) × Works f (step ∷ []) new
+    takes : (i : ℕ) (a : Edge) → IsEdge f i a → (n : ℕ) (u : Fields) → slice_get f.pool n ≡ Some u
+        → is_newest a.claims.voice u ≡ true → (step : Step) × (new : Fabric) × Works f (step ∷ []) new
     takes i a at n u there news =
         let s = quiet_step f (Deliver (suc i) (suc n)) ready tt in (
           Deliver (suc i) (suc n),

@@ -1,5 +1,6 @@
 -- Where an edge sends a frame for a station that some edge advertises.
-use Rattle.std.proofs.Common.{◌≡◌, ◌≢◌, inl, inr, ℕ, zero, suc, ◌≤◌, ◌==◌, ◌&&◌, Bool, true, false, cond, not, Option, Some, None, Result, Ok, List, [], ◌∷◌, length, refl, sym, ap, subst, ◌∙◌, arith}
+use Rattle.std.proofs.Common.{◌≡◌, ◌≢◌, inl, inr, ℕ, zero, suc, ◌≤◌, ◌==◌, ◌&&◌, Bool, true, false, cond, not, Option}
+use Rattle.std.proofs.Common.{Some, None, Result, Ok, List, [], ◌∷◌, length, refl, sym, ap, subst, ◌∙◌, arith}
 use Rattle.std.specs.Prelude.{IsTrue, ◌↔◌, ◌||◌}
 use Rattle.std.specs.Option.{MatchOption, option_map}
 use Rattle.std.proofs.lemmas.Bool.{eq-eqb}
@@ -40,7 +41,8 @@ use Rattle.ev_edge.specs.Sending.{port_of, IsDecision}
 use Rattle.ev_edge.specs.Steps.{LearnsIf, SendsIf, DataSteps, FrameSteps, TunnelSteps, Steps}
 use Rattle.ev_edge.proofs.Owning.{other_key, said_other}
 use Rattle.ev_fabric.specs.Agreed.{Advertises}
-use Rattle.ev_fabric.specs.Laws.{IsBehindPort, frame_in, tunnel_frame_in, IsFrameFor, IsTunnelFrameFor, FramesGo, FramesComeOut, TunnelFramesComeOut}
+use Rattle.ev_fabric.specs.Laws.{IsBehindPort, frame_in, tunnel_frame_in, IsFrameFor, IsTunnelFrameFor, FramesGo}
+use Rattle.ev_fabric.specs.Laws.{FramesComeOut, TunnelFramesComeOut}
 use Rattle.ev_fabric.proofs.Places.{below_length}
 use Rattle.ev_fabric.specs.Station.{StationFramesGo}
 use Rattle.ev_fabric.proofs.Agreements.{learnt, individual}
@@ -52,7 +54,8 @@ record LeavesBe (a b : Edge) (s : Station) : Type 0 where
   address : address_of b ≡ address_of a
   tree : b.tree ≡ a.tree
   entry : entry_at b.claims.learned s ≡ entry_at a.claims.learned s
-  adverts : (o : ℕ) (ip : Option Ip) → advert_at (table_of b) o (Mac s.vni s.mac ip) ≡ advert_at (table_of a) o (Mac s.vni s.mac ip)
+  adverts : (o : ℕ) (ip : Option Ip) → advert_at (table_of b) o (Mac s.vni s.mac ip)
+      ≡ advert_at (table_of a) o (Mac s.vni s.mac ip)
 
 leaves_itself : (a : Edge) (s : Station) → LeavesBe a a s
 leaves_itself a s = record { address = refl; tree = refl; entry = refl; adverts = λ o ip. refl }
@@ -73,16 +76,26 @@ either_leaves : (needs : Bool) (e after e' : Edge) (alert told : Option Alert) (
 either_leaves needs e after e' alert told s l (inl h) = subst (λ x. LeavesBe e x s) (sym h.1) l
 either_leaves needs e after e' alert told s l (inr h) = same_leaves e e' s h.1
 
-does_leave : (c : Case) (e : Edge) (q : Station) (port : ℕ) (told : Option Alert) (e' : Edge) (s : Station) → s ≢ q → Does c e q port told e' → LeavesBe e e' s
+does_leave : (c : Case) (e : Edge) (q : Station) (port : ℕ) (told : Option Alert) (e' : Edge) (s : Station) → s ≢ q
+    → Does c e q port told e' → LeavesBe e e' s
 does_leave Leave e q port told e' s ne h = same_leaves e e' s h.1
-does_leave Refresh e q port told e' s ne h = subst (λ x. LeavesBe e x s) (sym h.1) (record { address = refl; tree = refl; entry = (learn_entry e.claims.learned q port e.clock (learnt_of e.claims.learned q port)).others s ne; adverts = λ o ip. refl })
+does_leave Refresh e q port told e' s ne h = subst (λ x. LeavesBe e x s) (sym h.1)
+    (record {
+      address = refl;
+      tree = refl;
+      entry = (learn_entry e.claims.learned q port e.clock
+          (learnt_of e.claims.learned q port)).others s ne;
+      adverts = λ o ip. refl;
+    })
 does_leave (Refuse alert) e q port told e' s ne h = same_leaves e e' s h.1
 does_leave Freeze e q port told e' s ne h =
     subst (λ x. LeavesBe e x s) (sym h.1)
     (record { address = refl; tree = refl; entry = refl; adverts = λ o ip. refl })
-does_leave (Learn n) e q port told e' s ne h = either_leaves _ e (after_learning e q port n) e' _ told s (learning_leaves e q port n s ne) h
+does_leave (Learn n) e q port told e' s ne h = either_leaves _ e (after_learning e q port n) e' _ told s
+    (learning_leaves e q port n s ne) h
 
-learns_leave : (b : Bool) (e : Edge) (q : Station) (port : ℕ) (told : Option Alert) (e' : Edge) (s : Station) → s ≢ q → LearnsIf b e q port told e' → LeavesBe e e' s
+learns_leave : (b : Bool) (e : Edge) (q : Station) (port : ℕ) (told : Option Alert) (e' : Edge) (s : Station) → s ≢ q
+    → LearnsIf b e q port told e' → LeavesBe e e' s
 learns_leave true e q port told e' s ne h = does_leave (case_of e q) e q port told e' s ne h
 learns_leave false e q port told e' s ne h = same_leaves e e' s h.1
 
@@ -96,11 +109,14 @@ abbrev octets_or : Option (ℕ × List ℕ) → List ℕ → List ℕ
 octets_or None d = d
 octets_or (Some p) d = p.1
 
-frame_step : (a : Edge) (event : Event) (result : Result Reply Refusal) (b : Edge) (port : ℕ) (octets : List ℕ) → frame_in event ≡ Some (port, octets) → Steps a event result b → FrameSteps (frame_arrival a port octets) a port result b
+frame_step : (a : Edge) (event : Event) (result : Result Reply Refusal) (b : Edge) (port : ℕ) (octets : List ℕ)
+    → frame_in event ≡ Some (port, octets) → Steps a event result b
+    → FrameSteps (frame_arrival a port octets) a port result b
 frame_step a (events.Frame p bytes) result b port octets is h =
     let ports : p ≡ port = ap (λ o. port_or o p) is in
     let same : bytes.now ≡ octets = ap (λ o. octets_or o bytes.now) is in
-    subst (λ q. FrameSteps (frame_arrival a q octets) a q result b) ports (subst (λ l. FrameSteps (frame_arrival a p l) a p result b) same h)
+    subst (λ q. FrameSteps (frame_arrival a q octets) a q result b) ports
+    (subst (λ l. FrameSteps (frame_arrival a p l) a p result b) same h)
 frame_step a (events.TunnelFrame from bytes) result b port octets is h = absurd cc
 frame_step a (events.Take u) result b port octets is h = absurd cc
 frame_step a (events.Pin s p) result b port octets is h = absurd cc
@@ -112,11 +128,14 @@ frame_step a (events.PortDown p) result b port octets is h = absurd cc
 frame_step a (events.Mcheck p) result b port octets is h = absurd cc
 frame_step a events.Announce result b port octets is h = absurd cc
 
-pub tunnel_step : (a : Edge) (event : Event) (result : Result Reply Refusal) (b : Edge) (from : ℕ) (octets : List ℕ) → tunnel_frame_in event ≡ Some (from, octets) → Steps a event result b → TunnelSteps (tunnel_arrival a from octets) a result b
+pub tunnel_step : (a : Edge) (event : Event) (result : Result Reply Refusal) (b : Edge) (from : ℕ) (octets : List ℕ)
+    → tunnel_frame_in event ≡ Some (from, octets) → Steps a event result b
+    → TunnelSteps (tunnel_arrival a from octets) a result b
 tunnel_step a (events.TunnelFrame o bytes) result b from octets is h =
     let edges : o ≡ from = ap (λ p. port_or p o) is in
     let same : bytes.now ≡ octets = ap (λ p. octets_or p bytes.now) is in
-    subst (λ q. TunnelSteps (tunnel_arrival a q octets) a result b) edges (subst (λ l. TunnelSteps (tunnel_arrival a o l) a result b) same h)
+    subst (λ q. TunnelSteps (tunnel_arrival a q octets) a result b) edges
+    (subst (λ l. TunnelSteps (tunnel_arrival a o l) a result b) same h)
 tunnel_step a (events.Frame p bytes) result b from octets is h = absurd cc
 tunnel_step a (events.Take u) result b from octets is h = absurd cc
 tunnel_step a (events.Pin s p) result b from octets is h = absurd cc
@@ -135,29 +154,42 @@ record IsSent (a b : Edge) (s : Station) (from : Source) (reply : Reply) : Type 
   there : reply.decision ≡ Some decision
   is : IsDecision b s.vni s.mac from decision
 
-sent : (passes : Bool) (o : Option Decision) (b : Edge) (vni destination : ℕ) (from : Source) → IsTrue passes → SendsIf passes b vni destination from o → (d : Decision) × (o ≡ Some d) × IsDecision b vni destination from d
+sent : (passes : Bool) (o : Option Decision) (b : Edge) (vni destination : ℕ) (from : Source) → IsTrue passes
+    → SendsIf passes b vni destination from o → (d : Decision) × (o ≡ Some d) × IsDecision b vni destination from d
 sent passes None b vni destination from told h = absurd h
 sent true (Some d) b vni destination from told h = (d, refl, h)
 sent false (Some d) b vni destination from told h = absurd cc
 
-frame_sent : (a b : Edge) (event : Event) (port : ℕ) (s : Station) (reply : Reply) → IsFrameFor a event port s → Steps a event (Ok reply) b → IsSent a b s (Port port) reply
+frame_sent : (a b : Edge) (event : Event) (port : ℕ) (s : Station) (reply : Reply) → IsFrameFor a event port s
+    → Steps a event (Ok reply) b → IsSent a b s (Port port) reply
 frame_sent a b event port s reply frame steps =
-    let d = sent steps_are.passes reply.decision b s.vni s.mac (Port port) (steps_are.are_passed.1 frame.passes) steps_are.sending in
-    record { leaves = learns_leave (steps_are.learning.learns && not (is_group frame.source)) a (record { vni = s.vni; mac = frame.source }) port reply.alert b s other steps_are.learning.learning; decision = d.0; there = d.1; is = d.2 }
+    let d = sent steps_are.passes reply.decision b s.vni s.mac (Port port) (steps_are.are_passed.1 frame.passes)
+    steps_are.sending in
+    record {
+      leaves = learns_leave (steps_are.learning.learns && not (is_group frame.source)) a
+          (record { vni = s.vni; mac = frame.source }) port reply.alert b s other steps_are.learning.learning;
+      decision = d.0;
+      there = d.1;
+      is = d.2;
+    }
   where
     steps_are : DataSteps a port s.vni s.mac frame.source reply b
-    steps_are = subst (λ r. FrameSteps r a port (Ok reply) b) frame.arrives (frame_step a event (Ok reply) b port frame.octets frame.frame steps)
+    steps_are = subst (λ r. FrameSteps r a port (Ok reply) b) frame.arrives
+        (frame_step a event (Ok reply) b port frame.octets frame.frame steps)
 
     other : s ≢ record { vni = s.vni; mac = frame.source }
     other same = frame.other (ap (λ (q : Station). q.mac) (sym same))
 
-tunnel_sent : (a b : Edge) (event : Event) (s : Station) (reply : Reply) → IsTunnelFrameFor a event s → Steps a event (Ok reply) b → IsSent a b s Tunnel reply
+tunnel_sent : (a b : Edge) (event : Event) (s : Station) (reply : Reply) → IsTunnelFrameFor a event s
+    → Steps a event (Ok reply) b → IsSent a b s Tunnel reply
 tunnel_sent a b event s reply frame steps =
-    let d = sent true reply.decision b s.vni s.mac Tunnel refl (subst (λ e. SendsIf true e s.vni s.mac Tunnel reply.decision) (sym steps_are.2) steps_are.0) in
+    let d = sent true reply.decision b s.vni s.mac Tunnel refl
+    (subst (λ e. SendsIf true e s.vni s.mac Tunnel reply.decision) (sym steps_are.2) steps_are.0) in
     record { leaves = same_leaves a b s steps_are.2; decision = d.0; there = d.1; is = d.2 }
   where
     steps_are : TunnelSteps (Ok (Data s.vni s.mac frame.source)) a (Ok reply) b
-    steps_are = subst (λ r. TunnelSteps r a (Ok reply) b) frame.arrives (tunnel_step a event (Ok reply) b frame.from frame.octets frame.frame steps)
+    steps_are = subst (λ r. TunnelSteps r a (Ok reply) b) frame.arrives
+        (tunnel_step a event (Ok reply) b frame.from frame.octets frame.frame steps)
 
 -- ---- to another edge
 
@@ -173,19 +205,25 @@ owner_found t vni mac o h = go (owner t vni mac) (owner_is t vni mac)
 no_entry : (a : Edge) (s : Station) → IsGoodEdge a → (Advertises a s → ⊥) → entry_at a.claims.learned s ≡ None
 no_entry a s h none = go (entry_at a.claims.learned s) refl (own_advert a.claims.voice (key_of s)) refl
   where
-    go : (x : Option Entry) → entry_at a.claims.learned s ≡ x → (y : Option Advert) → own_advert a.claims.voice (key_of s) ≡ y → entry_at a.claims.learned s ≡ None
+    go : (x : Option Entry) → entry_at a.claims.learned s ≡ x → (y : Option Advert)
+        → own_advert a.claims.voice (key_of s) ≡ y → entry_at a.claims.learned s ≡ None
     go None e y q = e
     go (Some x) e (Some y) q = absurd (none (None, y, q))
     go (Some x) e None q =
         let k = h.claims.claims.kinds s in
-        let left : option_map {U = Bool} (λ (x : Entry). x.pinned) (entry_at a.claims.learned s) ≡ Some x.pinned = ap (option_map (λ (x : Entry). x.pinned)) e in
-        let right : option_map {U = Bool} (λ (x : Advert). x.is_static) (own_advert a.claims.voice (key_of s)) ≡ None = ap (option_map (λ (x : Advert). x.is_static)) q in
+        let left : option_map {U = Bool} (λ (x : Entry). x.pinned) (entry_at a.claims.learned s) ≡ Some x.pinned =
+        ap (option_map (λ (x : Entry). x.pinned)) e in
+        let right : option_map {U = Bool} (λ (x : Advert). x.is_static) (own_advert a.claims.voice (key_of s)) ≡ None =
+        ap (option_map (λ (x : Advert). x.is_static)) q in
         absurd (let bad : Some x.pinned ≡ None = sym left ∙ k ∙ right in cc)
 
-elsewhere_local : (t : Table) (vni m own o members passing port : ℕ) (entry : Option ℕ) → is_group m ≡ false → entry ≡ None → owner t vni m ≡ Some o → (o == own) ≡ false → local_for t vni m entry own (Port port) members passing ≡ 0
+elsewhere_local : (t : Table) (vni m own o members passing port : ℕ) (entry : Option ℕ) → is_group m ≡ false
+    → entry ≡ None → owner t vni m ≡ Some o → (o == own) ≡ false
+    → local_for t vni m entry own (Port port) members passing ≡ 0
 elsewhere_local t vni m own o members passing port entry group none is ne = rw (group, none, is, ne) refl
 
-elsewhere_remote : (t : Table) (vni m own o port : ℕ) (entry : Option ℕ) → is_group m ≡ false → entry ≡ None → owner t vni m ≡ Some o → (o == own) ≡ false → remote_for t vni m entry own (Port port) ≡ o ∷ []
+elsewhere_remote : (t : Table) (vni m own o port : ℕ) (entry : Option ℕ) → is_group m ≡ false → entry ≡ None
+    → owner t vni m ≡ Some o → (o == own) ≡ false → remote_for t vni m entry own (Port port) ≡ o ∷ []
 elsewhere_remote t vni m own o port entry group none is ne = rw (group, none, is, ne) refl
 
 pub station_frames_go : StationFramesGo
@@ -193,8 +231,10 @@ station_frames_go f s h agree i j o a b at_o at_a apart says event port reply fr
     record {
       decision = x.decision;
       there = x.there;
-      local = x.is.local ∙ elsewhere_local (table_of b) s.vni s.mac (address_of b) (address_of o) x.is.members x.is.passing port (port_of b s.vni s.mac) single none owned far;
-      remote = x.is.remote ∙ elsewhere_remote (table_of b) s.vni s.mac (address_of b) (address_of o) port (port_of b s.vni s.mac) single none owned far;
+      local = x.is.local ∙ elsewhere_local (table_of b) s.vni s.mac (address_of b) (address_of o) x.is.members
+          x.is.passing port (port_of b s.vni s.mac) single none owned far;
+      remote = x.is.remote ∙ elsewhere_remote (table_of b) s.vni s.mac (address_of b) (address_of o) port
+          (port_of b s.vni s.mac) single none owned far;
     }
   where
     x : IsSent a b s (Port port) reply
@@ -204,13 +244,17 @@ station_frames_go f s h agree i j o a b at_o at_a apart says event port reply fr
     single = individual o s (h.good i o at_o) says
 
     none : port_of b s.vni s.mac ≡ None
-    none = ap (option_map (λ (y : Entry). y.port)) (x.leaves.entry ∙ no_entry a s (h.good j a at_a) (λ y. apart (station_one f s h agree i j o a at_o at_a says y)))
+    none = ap (option_map (λ (y : Entry). y.port)) (x.leaves.entry
+        ∙ no_entry a s (h.good j a at_a) (λ y. apart (station_one f s h agree i j o a at_o at_a says y)))
 
     owned : owner (table_of b) s.vni s.mac ≡ Some (address_of o)
-    owned = owner_found (table_of b) s.vni s.mac (address_of o) (owner_along (table_of a) (table_of b) s.vni s.mac (address_of o) (λ p ip. sym (x.leaves.adverts p ip)) (station_owner f s h agree i j o a at_o at_a says))
+    owned = owner_found (table_of b) s.vni s.mac (address_of o)
+        (owner_along (table_of a) (table_of b) s.vni s.mac (address_of o) (λ p ip. sym (x.leaves.adverts p ip))
+        (station_owner f s h agree i j o a at_o at_a says))
 
     far : (address_of o == address_of b) ≡ false
-    far = let differs : address_of o ≢ address_of b = (λ q. apart (h.apart i j o a at_o at_a (q ∙ x.leaves.address))) in grind (arith, nat_tests)
+    far = let differs : address_of o ≢ address_of b = (λ q. apart (h.apart i j o a at_o at_a (q ∙ x.leaves.address))) in
+        grind (arith, nat_tests)
 
 -- who agree on everything agree on this station
 pub frames_go : FramesGo
@@ -218,18 +262,25 @@ frames_go f h agree i j o a b s = station_frames_go f s h ((agree_on_each f agre
 
 -- ---- at the edge itself
 
-home_local : (t : Table) (vni m own members passing port q : ℕ) (entry : Option ℕ) → is_group m ≡ false → entry ≡ Some q → local_for t vni m entry own (Port port) members passing ≡ cond (has_port passing q && not (port == q)) (with_port 0 q) 0
+home_local : (t : Table) (vni m own members passing port q : ℕ) (entry : Option ℕ) → is_group m ≡ false → entry ≡ Some q
+    → local_for t vni m entry own (Port port) members passing
+    ≡ cond (has_port passing q && not (port == q)) (with_port 0 q) 0
 home_local t vni m own members passing port q entry group some = rw (group, some) refl
 
-home_remote : (t : Table) (vni m own port q : ℕ) (entry : Option ℕ) → is_group m ≡ false → entry ≡ Some q → remote_for t vni m entry own (Port port) ≡ []
+home_remote : (t : Table) (vni m own port q : ℕ) (entry : Option ℕ) → is_group m ≡ false → entry ≡ Some q
+    → remote_for t vni m entry own (Port port) ≡ []
 home_remote t vni m own port q entry group some = rw (group, some) refl
 
-tunnel_local : (t : Table) (vni m own members passing q : ℕ) (entry : Option ℕ) → is_group m ≡ false → entry ≡ Some q → local_for t vni m entry own Tunnel members passing ≡ cond (has_port passing q && true) (with_port 0 q) 0
+tunnel_local : (t : Table) (vni m own members passing q : ℕ) (entry : Option ℕ) → is_group m ≡ false → entry ≡ Some q
+    → local_for t vni m entry own Tunnel members passing ≡ cond (has_port passing q && true) (with_port 0 q) 0
 tunnel_local t vni m own members passing q entry group some = rw (group, some) refl
 
 -- one port alone, or none
 alone : (c : Bool) (q p : ℕ) → IsPort q → (has_port (cond c (with_port 0 q) 0) p ≡ true) ↔ ((p ≡ q) × (c ≡ true))
-alone true q p is = (λ there. (grind (arith, nat_tests, has_port-with 0 q is p, has_port-none p, there), refl), λ h. has_port-with 0 q is p ∙ ap (λ b. b || has_port 0 p) (eq-eqb q p (sym h.0)))
+alone true q p is = (
+  λ there. (grind (arith, nat_tests, has_port-with 0 q is p, has_port-none p, there), refl),
+  λ h. has_port-with 0 q is p ∙ ap (λ b. b || has_port 0 p) (eq-eqb q p (sym h.0)),
+)
 alone false q p is = (λ there. absurd (let none = has_port-none p in cc), λ h. absurd (let bad = h.1 in cc))
 
 -- a port of a network is one of the bridge's
@@ -255,8 +306,17 @@ both_back : (x y : Bool) → x ≡ true → y ≡ true → (x && y) ≡ true
 both_back x y p q = ap (λ b. b && y) p ∙ q
 
 pub frames_come_out : FramesComeOut
-frames_come_out o b s good says event port reply frame steps =
-    (e.0, e.1, record { decision = x.decision; there = x.there; local = local; remote = x.is.remote ∙ home_remote (table_of b) s.vni s.mac (address_of b) port e.0.port (port_of b s.vni s.mac) (individual o s good says) some })
+frames_come_out o b s good says event port reply frame steps = (
+  e.0,
+  e.1,
+  record {
+    decision = x.decision;
+    there = x.there;
+    local = local;
+    remote = x.is.remote ∙ home_remote (table_of b) s.vni s.mac (address_of b) port e.0.port (port_of b s.vni s.mac)
+        (individual o s good says) some;
+  },
+)
   where
     x : IsSent o b s (Port port) reply
     x = frame_sent o b event port s reply frame steps
@@ -270,21 +330,33 @@ frames_come_out o b s good says event port reply frame steps =
     t : IsThere o e.0.port
     t = there o s.vni e.0.port good e.1.port
 
-    passes : (has_port x.is.passing e.0.port ≡ true) ↔ (((1 ≤ e.0.port) × (e.0.port ≤ length b.tree.ports)) × Passes b.tree e.0.port)
+    passes : (has_port x.is.passing e.0.port ≡ true) ↔ (((1 ≤ e.0.port) × (e.0.port ≤ length b.tree.ports))
+        × Passes b.tree e.0.port)
     passes = x.is.are_passing e.0.port
 
-    local : (p : ℕ) → (has_port x.decision.local p ≡ true) ↔ ((p ≡ e.0.port) × (Passes o.tree e.0.port × (e.0.port ≢ port)))
+    local : (p : ℕ) → (has_port x.decision.local p ≡ true)
+        ↔ ((p ≡ e.0.port) × (Passes o.tree e.0.port × (e.0.port ≢ port)))
     local p =
-        let is = x.is.local ∙ home_local (table_of b) s.vni s.mac (address_of b) x.is.members x.is.passing port e.0.port (port_of b s.vni s.mac) (individual o s good says) some in
-        let a = alone (has_port x.is.passing e.0.port && not (port == e.0.port)) e.0.port p (record { least = t.least; most = t.few }) in (
+        let is = x.is.local ∙ home_local (table_of b) s.vni s.mac (address_of b) x.is.members x.is.passing port e.0.port
+        (port_of b s.vni s.mac) (individual o s good says) some in
+        let a = alone (has_port x.is.passing e.0.port && not (port == e.0.port)) e.0.port p
+        (record { least = t.least; most = t.few }) in (
           λ there.
               let h = a.0 (ap (λ set. has_port set p) (sym is) ∙ there) in
-              let two = both (has_port x.is.passing e.0.port) (not (port == e.0.port)) h.1 in
-              (h.0, (subst (λ r. Passes r e.0.port) x.leaves.tree (passes.0 two.0).1, λ same. (let no = two.1 in grind (arith, nat_tests)))),
+              let two = both (has_port x.is.passing e.0.port) (not (port == e.0.port)) h.1 in (
+                h.0,
+                (
+                  subst (λ r. Passes r e.0.port) x.leaves.tree (passes.0 two.0).1,
+                  λ same. (let no = two.1 in grind (arith, nat_tests)),
+                ),
+              ),
           λ h. ap (λ set. has_port set p) is ∙ a.1 (
             h.0,
             both_back (has_port x.is.passing e.0.port) (not (port == e.0.port))
-                (passes.1 ((t.least, subst (λ r. e.0.port ≤ length r.ports) (sym x.leaves.tree) t.most), subst (λ r. Passes r e.0.port) (sym x.leaves.tree) h.1.0))
+                (passes.1 (
+                  (t.least, subst (λ r. e.0.port ≤ length r.ports) (sym x.leaves.tree) t.most),
+                  subst (λ r. Passes r e.0.port) (sym x.leaves.tree) h.1.0,
+                ))
                 (let ne = h.1.1 in grind (arith, nat_tests)),
           ),
         )
@@ -307,7 +379,8 @@ tunnel_frames_come_out o b s good says event reply frame steps =
 
     local : (p : ℕ) → (has_port x.decision.local p ≡ true) ↔ ((p ≡ e.0.port) × Passes o.tree e.0.port)
     local p =
-        let is = x.is.local ∙ tunnel_local (table_of b) s.vni s.mac (address_of b) x.is.members x.is.passing e.0.port (port_of b s.vni s.mac) (individual o s good says) some in
+        let is = x.is.local ∙ tunnel_local (table_of b) s.vni s.mac (address_of b) x.is.members x.is.passing e.0.port
+        (port_of b s.vni s.mac) (individual o s good says) some in
         let passes = x.is.are_passing e.0.port in
         let a = alone (has_port x.is.passing e.0.port && true) e.0.port p (record { least = t.least; most = t.few }) in (
           λ there.
@@ -317,6 +390,9 @@ tunnel_frames_come_out o b s good says event reply frame steps =
           λ h. ap (λ set. has_port set p) is ∙ a.1 (
             h.0,
             both_back (has_port x.is.passing e.0.port) true
-                (passes.1 ((t.least, subst (λ r. e.0.port ≤ length r.ports) (sym x.leaves.tree) t.most), subst (λ r. Passes r e.0.port) (sym x.leaves.tree) h.1)) refl,
+                (passes.1 (
+                  (t.least, subst (λ r. e.0.port ≤ length r.ports) (sym x.leaves.tree) t.most),
+                  subst (λ r. Passes r e.0.port) (sym x.leaves.tree) h.1,
+                )) refl,
           ),
         )

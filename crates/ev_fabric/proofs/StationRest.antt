@@ -1,5 +1,7 @@
 -- A station that is left alone: who agree on it go on agreeing, and what may still be announced of it never grows.
-use Rattle.std.proofs.Common.{◌≡◌, ◌≢◌, inl, inr, ℕ, zero, suc, ◌+◌, ◌≤◌, ◌&&◌, Bool, true, false, cond, nat_lt, Option, Some, None, Result, Ok, Err, List, [], ◌∷◌, ◌++◌, length, refl, sym, ap, subst, ◌∙◌, arith}
+use Rattle.std.proofs.Common.{◌≡◌, ◌≢◌, inl, inr, ℕ, zero, suc, ◌+◌, ◌≤◌, ◌&&◌, Bool, true, false, cond, nat_lt, Option}
+use Rattle.std.proofs.Common.{Some, None, Result, Ok, Err, List, [], ◌∷◌, ◌++◌, length, refl, sym, ap, subst, ◌∙◌}
+use Rattle.std.proofs.Common.{arith}
 use Rattle.std.proofs.lemmas.List.Elements.{Contains-push_cases}
 use Rattle.std.proofs.lemmas.List.Sums.{sum_by-cons}
 use Rattle.std.specs.Prelude.{Contains, is_some, slice_get, slice_set}
@@ -34,7 +36,8 @@ use Rattle.ev_fabric.specs.Sound.{update_of, IsSound}
 use Rattle.ev_fabric.specs.RestEdge.{comes_back, IsLater}
 use Rattle.ev_fabric.specs.Agreed.{AllAgree}
 use Rattle.ev_fabric.specs.Rest.{Rests, two_rounds, full_pool}
-use Rattle.ev_fabric.specs.Station.{is_of, AgreesOn, SaysTheSame, NeverAdvertised, updates_on, IsLeftAlone, StationLasts, StationReached, unannounced_on, to_come_on, StationSettles}
+use Rattle.ev_fabric.specs.Station.{is_of, AgreesOn, SaysTheSame, NeverAdvertised, updates_on, IsLeftAlone}
+use Rattle.ev_fabric.specs.Station.{StationLasts, StationReached, unannounced_on, to_come_on, StationSettles}
 use Rattle.ev_fabric.proofs.Agreements.{none_pending}
 use Rattle.ev_fabric.proofs.Stations.{agree_on_each}
 use Rattle.ev_fabric.proofs.Places.{set_cases, set_same, push_length}
@@ -42,14 +45,18 @@ use Rattle.ev_fabric.proofs.Events.{local_talks}
 use Rattle.ev_fabric.proofs.Fabrics.{step_sound, rests_sound}
 use Rattle.ev_fabric.proofs.Opened.{start_sound}
 use Rattle.ev_fabric.proofs.RestingSums.{sum_set, count_le, count_less, count_push, later_one}
-use Rattle.ev_fabric.proofs.RestingEdge.{comes, comes_when, Heard, Back, Lost, Kept as HeardKept, heard, hears, heard_later, heard_has, comes_before, others_stay_away, known_stays_away}
+use Rattle.ev_fabric.proofs.RestingEdge.{comes, comes_when, Heard, Back, Lost, Kept as HeardKept, heard, hears}
+use Rattle.ev_fabric.proofs.RestingEdge.{heard_later, heard_has, comes_before, others_stay_away, known_stays_away}
 use Rattle.ev_fabric.proofs.RestingIdle.{known_hearing}
 use Rattle.ev_fabric.proofs.RestingGood.{quieter}
-use Rattle.ev_fabric.proofs.RestingMoves.{Kept, Move, Stays, Tells, Takes, minus, moved, own_pending, announced_away, sound_kept}
+use Rattle.ev_fabric.proofs.RestingMoves.{Kept, Move, Stays, Tells, Takes, minus, moved, own_pending, announced_away}
+use Rattle.ev_fabric.proofs.RestingMoves.{sound_kept}
 use Rattle.ev_fabric.proofs.RestingRounds.{IsReady, two_rounds_agree, enough_itself, may_rest, quiet_rounds}
 use Rattle.ev_fabric.proofs.RestingNumbers.{start_numbers}
 use Rattle.ev_fabric.proofs.RestingStages.{hear_cases}
-use Rattle.ev_fabric.proofs.StationStages.{filter_has, filter_push, filter_past, waiting, SameOf, same_own, same_newest, same_itself, left_same, floods_same, silent_quiet, heard_other, Hears, loses_it}
+use Rattle.ev_fabric.proofs.StationStages.{filter_has, filter_push, filter_past, waiting, SameOf, same_own, same_newest}
+use Rattle.ev_fabric.proofs.StationStages.{same_itself, left_same, floods_same, silent_quiet, heard_other, Hears}
+use Rattle.ev_fabric.proofs.StationStages.{loses_it}
 use Rattle.ev_fabric.proofs.StationMotion.{agreed_known, agreed_waits}
 
 not_both : {b : Bool} → b ≡ true → b ≡ false → ⊥
@@ -58,17 +65,25 @@ not_both yes' no' = let bad : true ≡ false = sym yes' ∙ no' in cc
 -- ---- who agree go on agreeing
 
 -- the edge at one place has the same of the station, and the pool the same of it
-agrees_still : (s : Station) (old new : Fabric) (x : ℕ) (a b : Edge) → IsEdge old x a → new.edges ≡ slice_set old.edges x b → SameOf s a.claims.voice b.claims.voice
-    → ((u : Fields) → is_of s u.register ≡ true → Contains new.pool u → Contains old.pool u) → AgreesOn old s → AgreesOn new s
+agrees_still : (s : Station) (old new : Fabric) (x : ℕ) (a b : Edge) → IsEdge old x a
+    → new.edges ≡ slice_set old.edges x b → SameOf s a.claims.voice b.claims.voice
+    → ((u : Fields) → is_of s u.register ≡ true → Contains new.pool u → Contains old.pool u) → AgreesOn old s
+    → AgreesOn new s
 agrees_still s old new x a b at edges same pool agree = record {
-  quiet = λ y c r at_c of in'. elim (set_cases old.edges x b y c (subst (λ l. slice_get l y ≡ Some c) edges at_c)) as (λ _. ⊥) [
-    | inl p ↦ none_pending (subst (λ l. Contains l r) (same.waits ∙ agreed_waits old s agree x a at) (subst (λ (e : Edge). Contains (waiting s e.claims.voice) r) p.1 (filter_has (is_of s) c.claims.voice.pending r of in')))
-    | inr p ↦ agree.quiet y c r p.1 of in'
-  ];
-  arrived = λ y c u at_c of in'. elim (set_cases old.edges x b y c (subst (λ l. slice_get l y ≡ Some c) edges at_c)) as (λ _. (v : Value) × (value_at (table_of c) u.register ≡ Some v) × (is_newer u.value v ≡ false)) [
-    | inl p ↦ let h = agree.arrived x a u at of (pool u of in') in (h.0, ap (λ (e : Edge). value_at (table_of e) u.register) p.1 ∙ same.values u.register of ∙ h.1, h.2)
-    | inr p ↦ agree.arrived y c u p.1 of (pool u of in')
-  ];
+  quiet = λ y c r at_c of in'. elim (set_cases old.edges x b y c
+      (subst (λ l. slice_get l y ≡ Some c) edges at_c)) as (λ _. ⊥) [
+        | inl p ↦ none_pending (subst (λ l. Contains l r) (same.waits ∙ agreed_waits old s agree x a at)
+            (subst (λ (e : Edge). Contains (waiting s e.claims.voice) r) p.1
+            (filter_has (is_of s) c.claims.voice.pending r of in')))
+        | inr p ↦ agree.quiet y c r p.1 of in'
+      ];
+  arrived = λ y c u at_c of in'. elim (set_cases old.edges x b y c
+      (subst (λ l. slice_get l y ≡ Some c) edges at_c)) as (λ _. (v : Value)
+      × (value_at (table_of c) u.register ≡ Some v) × (is_newer u.value v ≡ false)) [
+        | inl p ↦ let h = agree.arrived x a u at of (pool u of in') in
+            (h.0, ap (λ (e : Edge). value_at (table_of e) u.register) p.1 ∙ same.values u.register of ∙ h.1, h.2)
+        | inr p ↦ agree.arrived y c u p.1 of (pool u of in')
+      ];
 }
 
 -- what goes on: agreement, and what the pool has of the station
@@ -78,7 +93,12 @@ GoesOn s old new = AgreesOn new s × (updates_on s new.pool ≡ updates_on s old
 lasts_move : (s : Station) (old new : Fabric) → Kept old → Move old new → AgreesOn old s → GoesOn s old new
 lasts_move s old _ kept Stays agree = (agree, refl)
 lasts_move s old _ kept (Tells x a r rs v at pend is) agree = (
-  agrees_still s old next x a hushed at refl (record { address = refl; incarnation = refl; values = λ q of. refl; waits = same other }) past agree,
+  agrees_still s old next x a hushed at refl (record {
+    address = refl;
+    incarnation = refl;
+    values = λ q of. refl;
+    waits = same other;
+  }) past agree,
   filter_past (λ (y : Fields). is_of s y.register) old.pool (update_of r v) other,
 )
   where
@@ -104,33 +124,51 @@ lasts_move s old _ kept (Tells x a r rs v at pend is) agree = (
       | inl before ↦ before
       | inr now ↦ absurd (not_both (ap (λ (y : Fields). is_of s y.register) now ∙ of) other)
     ]
-lasts_move s old _ kept (Takes x a w at in' ok) agree = (agrees_still s old (record old { edges = slice_set old.edges x took }) x a took at refl (go (is_of s w.register) refl) (λ u of there. there) agree, refl)
+lasts_move s old _ kept (Takes x a w at in' ok) agree = (
+  agrees_still s old (record old { edges = slice_set old.edges x took }) x a took at refl
+      (go (is_of s w.register) refl) (λ u of there. there) agree,
+  refl,
+)
   where
     took : Edge
     took = record a { claims = heard a.claims w }
 
     go : (b : Bool) → is_of s w.register ≡ b → SameOf s a.claims.voice took.claims.voice
     go false other = heard_other s a.claims w other
-    go true of = subst (λ (c : Claims). SameOf s a.claims.voice c.voice) (sym (known_hearing a.claims w (kept.keeps x a at).holds.owns (agreed_known old s agree x a w at in' of))) (same_itself s a.claims.voice)
+    go true of = subst (λ (c : Claims). SameOf s a.claims.voice c.voice)
+        (sym (known_hearing a.claims w (kept.keeps x a at).holds.owns (agreed_known old s agree x a w at in' of)))
+        (same_itself s a.claims.voice)
 
 -- an event from outside
-local_same : (s : Station) (old new : Fabric) (x : ℕ) (a : Edge) (event : LocalEvent) (result : Result Reply Refusal) → IsSound old → IsEdge old x a → (h : StepsAt old (suc x) a (event_of event) result new) → ((b : Edge) → IsEdge new x b → SaysTheSame s a b)
+local_same : (s : Station) (old new : Fabric) (x : ℕ) (a : Edge) (event : LocalEvent) (result : Result Reply Refusal)
+    → IsSound old → IsEdge old x a → (h : StepsAt old (suc x) a (event_of event) result new)
+    → ((b : Edge) → IsEdge new x b → SaysTheSame s a b)
     → (new ≡ record old { edges = slice_set old.edges x h.after }) × SameOf s a.claims.voice h.after.claims.voice
 local_same s old new x a event result sound at h same =
-    let whole : new ≡ record old { edges = slice_set old.edges x h.after } = h.new_is ∙ (λ n. record old { edges = slice_set old.edges (minus x n) h.after }) in
-    let here : IsEdge new x h.after = subst (λ f. IsEdge f x h.after) (sym whole) (set_same old.edges x a h.after at) in
-    (whole, left_same s a.claims.voice h.after.claims.voice (local_talks a event h.answer h.after h.steps) (sound.good x a at).claims.numbers (same h.after here))
+    let whole : new ≡ record old { edges = slice_set old.edges x h.after } = h.new_is
+    ∙ (λ n. record old { edges = slice_set old.edges (minus x n) h.after }) in
+    let here : IsEdge new x h.after = subst (λ f. IsEdge f x h.after) (sym whole) (set_same old.edges x a h.after at) in (
+      whole,
+      left_same s a.claims.voice h.after.claims.voice (local_talks a event h.answer h.after h.steps)
+          (sound.good x a at).claims.numbers (same h.after here),
+    )
 
 same_fabric : (s : Station) (old new : Fabric) → new ≡ old → AgreesOn old s → GoesOn s old new
 same_fabric s old new is agree = subst (λ f. GoesOn s old f) (sym is) (agree, refl)
 
-lasts_local : (s : Station) (old new : Fabric) (event : LocalEvent) (result : Result Reply Refusal) → IsSound old → AgreesOn old s → (e : ℕ) (c : Option Edge) → nth old.edges e ≡ c
-    → MatchOption c (IsRefused NoSuchEdge old result new) (λ a. StepsAt old e a (event_of event) result new) → ((x : ℕ) (a b : Edge) → e ≡ suc x → IsEdge old x a → IsEdge new x b → SaysTheSame s a b) → GoesOn s old new
+lasts_local : (s : Station) (old new : Fabric) (event : LocalEvent) (result : Result Reply Refusal) → IsSound old
+    → AgreesOn old s → (e : ℕ) (c : Option Edge) → nth old.edges e ≡ c
+    → MatchOption c (IsRefused NoSuchEdge old result new) (λ a. StepsAt old e a (event_of event) result new)
+    → ((x : ℕ) (a b : Edge) → e ≡ suc x → IsEdge old x a → IsEdge new x b → SaysTheSame s a b) → GoesOn s old new
 lasts_local s old new event result sound agree e None is h alone = same_fabric s old new h.1 agree
 lasts_local s old new event result sound agree zero (Some a) is h alone = cc
 lasts_local s old new event result sound agree (suc x) (Some a) is h alone =
     let l = local_same s old new x a event result sound is h (λ b. alone x a b refl is) in
-    subst (λ f. GoesOn s old f) (sym l.0) (agrees_still s old (record old { edges = slice_set old.edges x h.after }) x a h.after is refl l.1 (λ u of there. there) agree, refl)
+    subst (λ f. GoesOn s old f) (sym l.0) (
+      agrees_still s old (record old { edges = slice_set old.edges x h.after }) x a
+          h.after is refl l.1 (λ u of there. there) agree,
+      refl,
+    )
 
 pub station_lasts : StationLasts
 station_lasts s [] old new sound agree h none = same_fabric s old new h agree
@@ -151,7 +189,12 @@ station_lasts s (Deliver e k ∷ steps) old new sound agree h none =
 station_lasts s (Restart e n ∷ steps) old new sound agree h none = absurd none
 
 pub station_reached : StationReached
-station_reached configs f are start = (run.0, run.1, after, λ s steps new h none. (station_lasts s steps run.0 new after ((agree_on_each run.0 agree).stations s) h none).0)
+station_reached configs f are start = (
+  run.0,
+  run.1,
+  after,
+  λ s steps new h none. (station_lasts s steps run.0 new after ((agree_on_each run.0 agree).stations s) h none).0,
+)
   where
     sound : IsSound f
     sound = start_sound configs f are start
@@ -181,37 +224,46 @@ both_true false y e = absurd cc
 abbrev back_on : Station → Voice → Fields → Bool
 back_on s e u = is_of s u.register && comes_back e u
 
-marked_more : (s : Station) (rs : List Register) (r : Register) → length (filter (is_of s) (marked rs r)) ≤ length (filter (is_of s) rs) + 1
+marked_more : (s : Station) (rs : List Register) (r : Register)
+    → length (filter (is_of s) (marked rs r)) ≤ length (filter (is_of s) rs) + 1
 marked_more s rs r = go (list_any (eq_by_cmp register_cmp r) rs)
   where
     pick : (b : Bool) → is_of s r ≡ b → length (filter (is_of s) (rs ++ r ∷ [])) ≤ length (filter (is_of s) rs) + 1
-    pick true e = let same = ap length (filter_push (is_of s) rs r e) ∙ push_length (filter (is_of s) rs) r in omega (arith, same)
+    pick true e = let same = ap length (filter_push (is_of s) rs r e) ∙ push_length (filter (is_of s) rs) r in
+        omega (arith, same)
     pick false e = let same = ap length (filter_past (is_of s) rs r e) in omega (arith, same)
 
     go : (b : Bool) → length (filter (is_of s) (cond b rs (rs ++ r ∷ []))) ≤ length (filter (is_of s) rs) + 1
     go true = omega arith
     go false = pick (is_of s r) refl
 
-advert_less : (s : Station) (e v : Voice) → IsLater e v → one (is_some (own_advert v (key_of s))) ≤ one (is_some (own_advert e (key_of s)))
-advert_less s e v h = elim (h.fades (key_of s)) as (λ _. one (is_some (own_advert v (key_of s))) ≤ one (is_some (own_advert e (key_of s)))) [
-  | inl same ↦ let equal = ap (λ o. one (is_some (advert_of o))) same in omega (arith, equal)
-  | inr none ↦ let zero' : one (is_some (own_advert v (key_of s))) ≡ 0 = ap (λ (o : Option Advert). one (is_some o)) none in omega (arith, zero')
-]
+advert_less : (s : Station) (e v : Voice) → IsLater e v
+    → one (is_some (own_advert v (key_of s))) ≤ one (is_some (own_advert e (key_of s)))
+advert_less s e v h = elim (h.fades (key_of s)) as (λ _. one (is_some (own_advert v (key_of s))) ≤ one
+    (is_some (own_advert e (key_of s)))) [
+      | inl same ↦ let equal = ap (λ o. one (is_some (advert_of o))) same in omega (arith, equal)
+      | inr none ↦ let zero' : one (is_some (own_advert v (key_of s))) ≡ 0 =
+          ap (λ (o : Option Advert). one (is_some o)) none in omega (arith, zero')
+    ]
 
 back_before : (s : Station) (e v : Voice) → IsLater e v → (u : Fields) → back_on s v u ≡ true → back_on s e u ≡ true
-back_before s e v h u is = let t = both_true (is_of s u.register) (comes_back v u) is in let of = t.0 in let back = comes_before e v h u t.1 in rw (of, back) refl
+back_before s e v h u is = let t = both_true (is_of s u.register) (comes_back v u) is in let of = t.0 in
+    let back = comes_before e v h u t.1 in rw (of, back) refl
 
 -- an update of the station is heard
-heard_pays_on : (s : Station) (pool : List Fields) (c : Claims) (w : Fields) → Hears c w → Contains pool w → is_of s w.register ≡ true → unannounced_on s pool (heard c w).voice ≤ unannounced_on s pool c.voice
+heard_pays_on : (s : Station) (pool : List Fields) (c : Claims) (w : Fields) → Hears c w → Contains pool w
+    → is_of s w.register ≡ true → unannounced_on s pool (heard c w).voice ≤ unannounced_on s pool c.voice
 heard_pays_on s pool c w h in' of = go (comes_back c.voice w) refl
   where
     later : IsLater c.voice (heard c w).voice
     later = heard_later c w h.numbers h.accepts
 
     fewer : count_by (back_on s (heard c w).voice) pool ≤ count_by (back_on s c.voice) pool
-    fewer = count_le (back_on s c.voice) (back_on s (heard c w).voice) pool (back_before s c.voice (heard c w).voice later)
+    fewer = count_le (back_on s c.voice) (back_on s (heard c w).voice) pool
+        (back_before s c.voice (heard c w).voice later)
 
-    marks : (d : Claims) → Heard c w d → comes_back c.voice w ≡ true → length (waiting s d.voice) ≤ length (waiting s c.voice) + 1
+    marks : (d : Claims) → Heard c w d → comes_back c.voice w ≡ true
+        → length (waiting s d.voice) ≤ length (waiting s c.voice) + 1
     marks _ (Back b) is = marked_more s c.voice.pending (own_register c.voice w.register.key)
     marks _ (Lost st foreign lost) is = absurd (not_both is (others_stay_away c.voice w foreign))
     marks _ (HeardKept never) is = absurd (not_both is never)
@@ -222,33 +274,44 @@ heard_pays_on s pool c w h in' of = go (comes_back c.voice w) refl
 
     go : (b : Bool) → comes_back c.voice w ≡ b → unannounced_on s pool (heard c w).voice ≤ unannounced_on s pool c.voice
     go true back =
-        let gone : back_on s (heard c w).voice w ≡ false = ap (λ b. is_of s w.register && b) (known_stays_away (heard c w).voice w (heard_has c w h.numbers)) ∙ and_false (is_of s w.register) in
+        let gone : back_on s (heard c w).voice w ≡ false =
+        ap (λ b. is_of s w.register && b) (known_stays_away (heard c w).voice w (heard_has c w h.numbers))
+        ∙ and_false (is_of s w.register) in
         let counts : back_on s c.voice w ≡ true = rw (of, back) refl in
-        let less = count_less (back_on s c.voice) (back_on s (heard c w).voice) pool w (back_before s c.voice (heard c w).voice later) in' counts gone in
+        let less = count_less (back_on s c.voice) (back_on s (heard c w).voice) pool w
+        (back_before s c.voice (heard c w).voice later) in' counts gone in
         let more = marks (heard c w) (hears c w) back in
         let adverts = advert_less s c.voice (heard c w).voice later in
         omega (arith, less, more, adverts)
-    go false never = elim (hear_cases c w never) as (λ _. unannounced_on s pool (heard c w).voice ≤ unannounced_on s pool c.voice) [
-      | inl is ↦
-          let waits : length (waiting s (heard c w).voice) ≡ length (waiting s c.voice) = ap (λ (d : Claims). length (waiting s d.voice)) is in
-          let adverts = advert_less s c.voice (heard c w).voice later in
-          let less = fewer in
-          omega (arith, waits, adverts, less)
-      | inr l ↦
-          let it = loses_it s c w h of never l in
-          let said : one (is_some (own_advert c.voice (key_of s))) ≡ 1 = ap (λ b. one b) it.said in
-          let none : one (is_some (own_advert (heard c w).voice (key_of s))) ≡ 0 = ap (λ (d : Claims). one (is_some (own_advert d.voice (key_of s)))) it.is ∙ ap (λ o. one (is_some (advert_of o))) (own_same (after_hearing c.voice w) (key_of s) Withdrawn) in
-          let waits : length (waiting s (heard c w).voice) ≡ length (filter (is_of s) (marked c.voice.pending (own_register c.voice (key_of s)))) = ap (λ (d : Claims). length (waiting s d.voice)) it.is in
-          let more = marked_more s c.voice.pending (own_register c.voice (key_of s)) in
-          let less = fewer in
-          omega (arith, said, none, waits, more, less)
-    ]
+    go false never = elim (hear_cases c w never) as (λ _. unannounced_on s pool (heard c w).voice ≤ unannounced_on s
+        pool c.voice) [
+          | inl is ↦
+              let waits : length (waiting s (heard c w).voice) ≡ length (waiting s c.voice) =
+              ap (λ (d : Claims). length (waiting s d.voice)) is in
+              let adverts = advert_less s c.voice (heard c w).voice later in
+              let less = fewer in
+              omega (arith, waits, adverts, less)
+          | inr l ↦
+              let it = loses_it s c w h of never l in
+              let said : one (is_some (own_advert c.voice (key_of s))) ≡ 1 = ap (λ b. one b) it.said in
+              let none : one (is_some (own_advert (heard c w).voice (key_of s))) ≡ 0 =
+              ap (λ (d : Claims). one (is_some (own_advert d.voice (key_of s)))) it.is
+              ∙ ap (λ o. one (is_some (advert_of o))) (own_same (after_hearing c.voice w) (key_of s) Withdrawn) in
+              let waits : length (waiting s (heard c w).voice)
+              ≡ length (filter (is_of s) (marked c.voice.pending (own_register c.voice (key_of s)))) =
+              ap (λ (d : Claims). length (waiting s d.voice)) it.is in
+              let more = marked_more s c.voice.pending (own_register c.voice (key_of s)) in
+              let less = fewer in
+              omega (arith, said, none, waits, more, less)
+        ]
 
 -- what stays the same
-same_pays : (s : Station) (pool : List Fields) (e v : Voice) → SameOf s e v → unannounced_on s pool v ≤ unannounced_on s pool e
+same_pays : (s : Station) (pool : List Fields) (e v : Voice) → SameOf s e v
+    → unannounced_on s pool v ≤ unannounced_on s pool e
 same_pays s pool e v h =
     let waits : length (waiting s v) ≡ length (waiting s e) = ap length h.waits in
-    let adverts : one (is_some (own_advert v (key_of s))) ≡ one (is_some (own_advert e (key_of s))) = ap (λ o. one (is_some (advert_of o))) (same_own s e v h) in
+    let adverts : one (is_some (own_advert v (key_of s))) ≡ one (is_some (own_advert e (key_of s))) =
+    ap (λ o. one (is_some (advert_of o))) (same_own s e v h) in
     let backs = count_le (back_on s e) (back_on s v) pool back in
     omega (arith, waits, adverts, backs)
   where
@@ -257,12 +320,19 @@ same_pays s pool e v h =
         let t = both_true (is_of s u.register) (comes_back v u) is in
         let of = t.0 in
         let c = comes v u t.1 in
-        let so = comes_when e u (record { mine = c.mine ∙ h.address; newest = sym (same_newest s e v u h of) ∙ c.newest; earlier = ap (λ n. nat_lt u.value.incarnation n) (sym h.incarnation) ∙ c.earlier; advert = c.advert }) in
+        let so = comes_when e u (record {
+          mine = c.mine ∙ h.address;
+          newest = sym (same_newest s e v u h of) ∙ c.newest;
+          earlier = ap (λ n. nat_lt u.value.incarnation n) (sym h.incarnation) ∙ c.earlier;
+          advert = c.advert;
+        }) in
         rw (of, so) refl
 
 -- an update that isn't one's own, or is no news, leaves what may come back
-push_pays : (s : Station) (pool : List Fields) (e : Voice) (u : Fields) → comes_back e u ≡ false → unannounced_on s (pool ++ u ∷ []) e ≤ unannounced_on s pool e
-push_pays s pool e u none = let same = count_push (back_on s e) pool u (ap (λ b. is_of s u.register && b) none ∙ and_false (is_of s u.register)) in omega (arith, same)
+push_pays : (s : Station) (pool : List Fields) (e : Voice) (u : Fields) → comes_back e u ≡ false
+    → unannounced_on s (pool ++ u ∷ []) e ≤ unannounced_on s pool e
+push_pays s pool e u none = let same = count_push (back_on s e) pool u (ap (λ b. is_of s u.register && b) none
+    ∙ and_false (is_of s u.register)) in omega (arith, same)
   where
     and_false : (x : Bool) → (x && false) ≡ false
     and_false true = refl
@@ -273,17 +343,27 @@ abbrev total : Station → Fabric → ℕ
 total s f = length (updates_on s f.pool) + to_come_on s f
 
 -- one edge becomes another
-becomes_total : (s : Station) (old : Fabric) (x : ℕ) (a b : Edge) → IsEdge old x a → unannounced_on s old.pool b.claims.voice ≤ unannounced_on s old.pool a.claims.voice → total s (record old { edges = slice_set old.edges x b }) ≤ total s old
+becomes_total : (s : Station) (old : Fabric) (x : ℕ) (a b : Edge) → IsEdge old x a
+    → unannounced_on s old.pool b.claims.voice ≤ unannounced_on s old.pool a.claims.voice
+    → total s (record old { edges = slice_set old.edges x b }) ≤ total s old
 becomes_total s old x a b at less =
-    let sums = sum_set (λ (y : Edge). unannounced_on s old.pool y.claims.voice) (λ (y : Edge). unannounced_on s old.pool y.claims.voice) 0 old.edges x a b at (omega (arith, less)) (λ j y ne at_y. omega arith) in
+    let sums = sum_set (λ (y : Edge). unannounced_on s old.pool y.claims.voice)
+    (λ (y : Edge). unannounced_on s old.pool y.claims.voice) 0 old.edges x a b at (omega (arith, less))
+    (λ j y ne at_y. omega arith) in
     omega (arith, sums)
 
 move_total : (s : Station) (old new : Fabric) → Kept old → Move old new → total s new ≤ total s old
 move_total s old _ kept Stays = omega arith
-move_total s old _ kept (Takes x a w at in' ok) = becomes_total s old x a (record a { claims = heard a.claims w }) at (go (is_of s w.register) refl)
+move_total s old _ kept (Takes x a w at in' ok) = becomes_total s old x a (record a { claims = heard a.claims w }) at
+    (go (is_of s w.register) refl)
   where
-    go : (b : Bool) → is_of s w.register ≡ b → unannounced_on s old.pool (heard a.claims w).voice ≤ unannounced_on s old.pool a.claims.voice
-    go true of = heard_pays_on s old.pool a.claims w (record { numbers = (kept.keeps x a at).numbers; owns = (kept.keeps x a at).holds.owns; accepts = ok }) in' of
+    go : (b : Bool) → is_of s w.register ≡ b → unannounced_on s old.pool (heard a.claims w).voice ≤ unannounced_on s
+        old.pool a.claims.voice
+    go true of = heard_pays_on s old.pool a.claims w (record {
+      numbers = (kept.keeps x a at).numbers;
+      owns = (kept.keeps x a at).holds.owns;
+      accepts = ok;
+    }) in' of
     go false other = same_pays s old.pool a.claims.voice (heard a.claims w).voice (heard_other s a.claims w other)
 move_total s old _ kept (Tells x a r rs v at pend is) = go (is_of s r) refl
   where
@@ -296,24 +376,32 @@ move_total s old _ kept (Tells x a r rs v at pend is) = go (is_of s r) refl
     next : Fabric
     next = record old { edges = slice_set old.edges x hushed; pool = old.pool ++ u ∷ [] }
 
-    others : (j : ℕ) (y : Edge) → j ≢ x → IsEdge old j y → unannounced_on s (old.pool ++ u ∷ []) y.claims.voice ≤ unannounced_on s old.pool y.claims.voice
-    others j y ne at_y = push_pays s old.pool y.claims.voice u (others_stay_away y.claims.voice u (λ same. ne (kept.apart j x y a at_y at (sym same ∙ own_pending a.claims.voice r rs (kept.keeps x a at).numbers pend))))
+    others : (j : ℕ) (y : Edge) → j ≢ x → IsEdge old j y
+        → unannounced_on s (old.pool ++ u ∷ []) y.claims.voice ≤ unannounced_on s old.pool y.claims.voice
+    others j y ne at_y = push_pays s old.pool y.claims.voice u
+        (others_stay_away y.claims.voice u (λ same. ne (kept.apart j x y a at_y at (sym same
+        ∙ own_pending a.claims.voice r rs (kept.keeps x a at).numbers pend))))
 
     mine : unannounced_on s (old.pool ++ u ∷ []) hushed.claims.voice ≤ unannounced_on s old.pool hushed.claims.voice
     mine = push_pays s old.pool hushed.claims.voice u (announced_away hushed.claims.voice r v is)
 
-    summed : (d : ℕ) → unannounced_on s (old.pool ++ u ∷ []) hushed.claims.voice + d ≤ unannounced_on s old.pool a.claims.voice → to_come_on s next + d ≤ to_come_on s old
-    summed d less = sum_set (λ (y : Edge). unannounced_on s old.pool y.claims.voice) (λ (y : Edge). unannounced_on s (old.pool ++ u ∷ []) y.claims.voice) d old.edges x a hushed at less others
+    summed : (d : ℕ) → unannounced_on s (old.pool ++ u ∷ []) hushed.claims.voice
+        + d ≤ unannounced_on s old.pool a.claims.voice → to_come_on s next + d ≤ to_come_on s old
+    summed d less = sum_set (λ (y : Edge). unannounced_on s old.pool y.claims.voice)
+        (λ (y : Edge). unannounced_on s (old.pool ++ u ∷ []) y.claims.voice) d old.edges x a hushed at less others
 
-    waits : (b : Bool) → is_of s r ≡ b → length (waiting s a.claims.voice) ≡ length (cond b (r ∷ filter (is_of s) rs) (filter (is_of s) rs))
-    waits b e = ap (λ l. length (filter (is_of s) l)) pend ∙ ap (λ b. length (cond b (r ∷ filter (is_of s) rs) (filter (is_of s) rs))) e
+    waits : (b : Bool) → is_of s r ≡ b → length (waiting s a.claims.voice)
+        ≡ length (cond b (r ∷ filter (is_of s) rs) (filter (is_of s) rs))
+    waits b e = ap (λ l. length (filter (is_of s) l)) pend
+        ∙ ap (λ b. length (cond b (r ∷ filter (is_of s) rs) (filter (is_of s) rs))) e
 
     go : (b : Bool) → is_of s r ≡ b → total s next ≤ total s old
     go true of =
         let here = waits true of in
         let after = mine in
         let less = summed 1 (omega (arith, here, after)) in
-        let longer = ap length (filter_push (λ (y : Fields). is_of s y.register) old.pool u of) ∙ push_length (updates_on s old.pool) u in
+        let longer = ap length (filter_push (λ (y : Fields). is_of s y.register) old.pool u of)
+        ∙ push_length (updates_on s old.pool) u in
         omega (arith, less, longer)
     go false other =
         let here = waits false other in
@@ -331,11 +419,20 @@ count_none p (x ∷ xs) none =
     omega (arith, here, rest, sum)
 
 -- who restarts and has announced no advert of the station announces nothing of it
-opened_total : (s : Station) (old new : Fabric) (x : ℕ) (a : Edge) (n : ℕ) (reply : Reply) → IsSound old → IsEdge old x a → OpensAnew old (suc x) a n reply new → NeverAdvertised old.pool s (address_of a) → total s new ≤ total s old
+opened_total : (s : Station) (old new : Fabric) (x : ℕ) (a : Edge) (n : ℕ) (reply : Reply) → IsSound old
+    → IsEdge old x a → OpensAnew old (suc x) a n reply new → NeverAdvertised old.pool s (address_of a)
+    → total s new ≤ total s old
 opened_total s old new x a n reply sound at h never =
-    let whole : new ≡ record old { edges = slice_set old.edges x h.after; configs = slice_set old.configs x (in_life h.config n) } =
-    h.new_is ∙ (λ m. record old { edges = slice_set old.edges (minus x m) h.after; configs = slice_set old.configs (minus x m) (in_life h.config n) }) in
-    let same_total : total s new ≡ total s (record old { edges = slice_set old.edges x h.after }) = ap (total s) whole in
+    let whole : new ≡ record old {
+      edges = slice_set old.edges x h.after;
+      configs = slice_set old.configs x (in_life h.config n);
+    } =
+    h.new_is ∙ (λ m. record old {
+      edges = slice_set old.edges (minus x m) h.after;
+      configs = slice_set old.configs (minus x m) (in_life h.config n);
+    }) in
+    let same_total : total s new ≡ total s (record old { edges = slice_set old.edges x h.after }) =
+    ap (total s) whole in
     let none = nothing in
     let less = becomes_total s old x a h.after at (omega (arith, none)) in
     omega (arith, same_total, less)
@@ -366,19 +463,26 @@ opened_total s old new x a n reply sound at h never =
     nothing =
         let waits : length (waiting s h.after.claims.voice) ≡ 0 = ap length same.waits in
         let advert : one (is_some (own_advert h.after.claims.voice (key_of s))) ≡ 0 =
-        ap (λ o. one (is_some (advert_of o))) (same_own s start h.after.claims.voice same) ∙ ap (λ (o : Option Advert). one (is_some o)) (silent_quiet s config.address config.incarnation config.originators.items) in
+        ap (λ o. one (is_some (advert_of o))) (same_own s start h.after.claims.voice same)
+        ∙ ap (λ (o : Option Advert). one (is_some o))
+        (silent_quiet s config.address config.incarnation config.originators.items) in
         let backs = count_none (back_on s h.after.claims.voice) old.pool away in
         omega (arith, waits, advert, backs)
 
-restart_total : (s : Station) (old new : Fabric) (x : ℕ) (a : Edge) (n : ℕ) (result : Result Reply Refusal) → IsSound old → IsEdge old x a → RestartsAt old (suc x) a n result new → NeverAdvertised old.pool s (address_of a) → total s new ≤ total s old
+restart_total : (s : Station) (old new : Fabric) (x : ℕ) (a : Edge) (n : ℕ) (result : Result Reply Refusal)
+    → IsSound old → IsEdge old x a → RestartsAt old (suc x) a n result new → NeverAdvertised old.pool s (address_of a)
+    → total s new ≤ total s old
 restart_total s old new x a n (Ok reply) sound at h never = opened_total s old new x a n reply sound at h never
 restart_total s old new x a n (Err why) sound at h never = let same = ap (total s) h.1 in omega (arith, same)
 
-step_total : (s : Station) (old new : Fabric) (step : Step) (result : Result Reply Refusal) → IsSound old → FabricSteps old step result new → IsLeftAlone s old step new → total s new ≤ total s old
+step_total : (s : Station) (old new : Fabric) (step : Step) (result : Result Reply Refusal) → IsSound old
+    → FabricSteps old step result new → IsLeftAlone s old step new → total s new ≤ total s old
 step_total s old new (Local e event) result sound h alone = go e (nth old.edges e) refl h alone
   where
-    go : (e : ℕ) (c : Option Edge) → nth old.edges e ≡ c → MatchOption c (IsRefused NoSuchEdge old result new) (λ a. StepsAt old e a (event_of event) result new)
-        → ((x : ℕ) (a b : Edge) → e ≡ suc x → IsEdge old x a → IsEdge new x b → SaysTheSame s a b) → total s new ≤ total s old
+    go : (e : ℕ) (c : Option Edge) → nth old.edges e ≡ c
+        → MatchOption c (IsRefused NoSuchEdge old result new) (λ a. StepsAt old e a (event_of event) result new)
+        → ((x : ℕ) (a b : Edge) → e ≡ suc x → IsEdge old x a → IsEdge new x b → SaysTheSame s a b)
+        → total s new ≤ total s old
     go e None is h alone = let same = ap (total s) h.1 in omega (arith, same)
     go zero (Some a) is h alone = cc
     go (suc x) (Some a) is h alone =
@@ -386,14 +490,19 @@ step_total s old new (Local e event) result sound h alone = go e (nth old.edges 
         let same : total s new ≡ total s (record old { edges = slice_set old.edges x h.after }) = ap (total s) l.0 in
         let less = becomes_total s old x a h.after is (same_pays s old.pool a.claims.voice h.after.claims.voice l.1) in
         omega (arith, same, less)
-step_total s old new (Announce e) result sound h alone = let kept = sound_kept old sound in move_total s old new kept (moved old new (Announce e) result kept tt h)
-step_total s old new (Deliver e k) result sound h alone = let kept = sound_kept old sound in move_total s old new kept (moved old new (Deliver e k) result kept tt h)
+step_total s old new (Announce e) result sound h alone = let kept = sound_kept old sound in
+    move_total s old new kept (moved old new (Announce e) result kept tt h)
+step_total s old new (Deliver e k) result sound h alone = let kept = sound_kept old sound in
+    move_total s old new kept (moved old new (Deliver e k) result kept tt h)
 step_total s old new (Restart e n) result sound h alone = elim alone as (λ _. total s new ≤ total s old) [
   | inl is ↦ let same = ap (total s) is in omega (arith, same)
   | inr never ↦ go e (nth old.edges e) refl h never
 ]
   where
-    go : (e : ℕ) (c : Option Edge) → nth old.edges e ≡ c → MatchOption c (IsRefused NoSuchEdge old result new) (λ a. RestartsAt old e a n result new) → ((x : ℕ) (a : Edge) → e ≡ suc x → IsEdge old x a → NeverAdvertised old.pool s (address_of a)) → total s new ≤ total s old
+    go : (e : ℕ) (c : Option Edge) → nth old.edges e ≡ c
+        → MatchOption c (IsRefused NoSuchEdge old result new) (λ a. RestartsAt old e a n result new)
+        → ((x : ℕ) (a : Edge) → e ≡ suc x → IsEdge old x a → NeverAdvertised old.pool s (address_of a))
+        → total s new ≤ total s old
     go e None is h never = let same = ap (total s) h.1 in omega (arith, same)
     go zero (Some a) is h never = cc
     go (suc x) (Some a) is h never = restart_total s old new x a n result sound is h (never x a refl is)

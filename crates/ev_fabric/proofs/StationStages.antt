@@ -1,5 +1,6 @@
 -- What each step leaves of one station at an edge, and the stages of its move among all other steps.
-use Rattle.std.proofs.Common.{◌≡◌, ◌≢◌, ◌⊎◌, inl, inr, ℕ, zero, suc, ◌<◌, ◌≤◌, Bool, true, false, cond, Option, Some, None, List, [], ◌∷◌, ◌++◌, refl, sym, ap, subst, ◌∙◌, arith}
+use Rattle.std.proofs.Common.{◌≡◌, ◌≢◌, ◌⊎◌, inl, inr, ℕ, zero, suc, ◌<◌, ◌≤◌, Bool, true, false, cond, Option, Some}
+use Rattle.std.proofs.Common.{None, List, [], ◌∷◌, ◌++◌, refl, sym, ap, subst, ◌∙◌, arith}
 use Rattle.std.proofs.lemmas.Bool.{cases_eq}
 use Rattle.std.proofs.lemmas.List.Elements.{filter-append, Contains-push_cases}
 use Rattle.std.specs.Prelude.{Contains, IsSome, is_some, not, ◌&&◌}
@@ -22,7 +23,8 @@ use Rattle.route_join.proofs.Tables.{at_other}
 use Rattle.route_join.proofs.Joins.{update_other}
 use Rattle.mac_arena.specs.declared.station.Station.{Station}
 use Rattle.ev_claims.specs.Pending.{marked}
-use Rattle.ev_claims.specs.Voice.{Voice, KeepsNumbers, own_register, own, own_advert, is_at, is_newest, next_value, after_saying, after_hearing, silent}
+use Rattle.ev_claims.specs.Voice.{Voice, KeepsNumbers, own_register, own, own_advert, is_at, is_newest, next_value}
+use Rattle.ev_claims.specs.Voice.{after_saying, after_hearing, silent}
 use Rattle.ev_claims.specs.Claims.{Claims, key_of, after_update, after_removal}
 use Rattle.ev_claims.specs.Opening.{after_floods}
 use Rattle.ev_claims.proofs.Numbers.{own_same, own_other}
@@ -32,23 +34,28 @@ use Rattle.ev_fabric.specs.Station.{is_of}
 use Rattle.ev_fabric.proofs.Voices.{Talks, Quiet, Says, talks_one, found}
 use Rattle.ev_fabric.proofs.Stations.{about_station, station_key}
 use Rattle.ev_fabric.proofs.Agreements.{none_pending}
-use Rattle.ev_fabric.proofs.RestingEdge.{Accepts, Heard, Back, Lost, Kept, heard, hears, heard_later, stays_away, others_stay_away, known_stays_away}
+use Rattle.ev_fabric.proofs.RestingEdge.{Accepts, Heard, Back, Lost, Kept, heard, hears, heard_later, stays_away}
+use Rattle.ev_fabric.proofs.RestingEdge.{others_stay_away, known_stays_away}
 use Rattle.ev_fabric.proofs.RestingIdle.{idle_hearing}
 use Rattle.ev_fabric.proofs.RestingStages.{Loses, hear_cases, advert_kept, advert_stays}
 
 -- ---- the elements of a list that pass a test
 
-pub filter_none : {X : Type 0} (p : X → Bool) (xs : List X) → ((x : X) → Contains xs x → p x ≡ true → ⊥) → filter p xs ≡ []
+pub filter_none : {X : Type 0} (p : X → Bool) (xs : List X) → ((x : X) → Contains xs x → p x ≡ true → ⊥)
+    → filter p xs ≡ []
 filter_none p [] none = refl
-filter_none p (x ∷ xs) none = go (p x) refl (filter_none p xs (λ y in'. none y (suc in'.0, (let lt = in'.1 in omega (arith, lt)), in'.2)))
+filter_none p (x ∷ xs) none = go (p x) refl (filter_none p xs
+    (λ y in'. none y (suc in'.0, (let lt = in'.1 in omega (arith, lt)), in'.2)))
   where
     go : (b : Bool) → p x ≡ b → filter p xs ≡ [] → cond b (x ∷ filter p xs) (filter p xs) ≡ []
     go true e rest = absurd (none x (0, omega arith, refl) e)
     go false e rest = rest
 
-pub filter_has : {X : Type 0} (p : X → Bool) (xs : List X) (x : X) → p x ≡ true → Contains xs x → Contains (filter p xs) x
+pub filter_has : {X : Type 0} (p : X → Bool) (xs : List X) (x : X) → p x ≡ true → Contains xs x
+    → Contains (filter p xs) x
 filter_has p [] x yes' (k, lt, is) = absurd (omega (arith, lt))
-filter_has p (y ∷ ys) x yes' (zero, lt, is) = subst (λ b. Contains (cond b (y ∷ filter p ys) (filter p ys)) x) (sym (ap p is ∙ yes')) (0, omega arith, is)
+filter_has p (y ∷ ys) x yes' (zero, lt, is) = subst (λ b. Contains (cond b (y ∷ filter p ys) (filter p ys)) x)
+    (sym (ap p is ∙ yes')) (0, omega arith, is)
 filter_has p (y ∷ ys) x yes' (suc k, lt, is) = go (p y) (filter_has p ys x yes' (k, omega (arith, lt), is))
   where
     go : (b : Bool) → Contains (filter p ys) x → Contains (cond b (y ∷ filter p ys) (filter p ys)) x
@@ -59,25 +66,30 @@ pub no_push : {X : Type 0} (xs : List X) → xs ++ [] ≡ xs
 no_push [] = refl
 no_push (x ∷ xs) = ap (λ l. x ∷ l) (no_push xs)
 
-pub filter_push : {X : Type 0} (p : X → Bool) (xs : List X) (x : X) → p x ≡ true → filter p (xs ++ x ∷ []) ≡ filter p xs ++ x ∷ []
+pub filter_push : {X : Type 0} (p : X → Bool) (xs : List X) (x : X) → p x ≡ true
+    → filter p (xs ++ x ∷ []) ≡ filter p xs ++ x ∷ []
 filter_push p xs x e = filter-append p xs (x ∷ []) ∙ ap (λ b. filter p xs ++ cond b (x ∷ []) []) e
 
-pub filter_past : {X : Type 0} (p : X → Bool) (xs : List X) (x : X) → p x ≡ false → filter p (xs ++ x ∷ []) ≡ filter p xs
-filter_past p xs x e = filter-append p xs (x ∷ []) ∙ ap (λ b. filter p xs ++ cond b (x ∷ []) []) e ∙ no_push (filter p xs)
+pub filter_past : {X : Type 0} (p : X → Bool) (xs : List X) (x : X) → p x ≡ false
+    → filter p (xs ++ x ∷ []) ≡ filter p xs
+filter_past p xs x e = filter-append p xs (x ∷ []) ∙ ap (λ b. filter p xs ++ cond b (x ∷ []) []) e
+    ∙ no_push (filter p xs)
 
 -- ---- what waits of a station
 
 abbrev pub waiting : Station → Voice → List Register
 waiting s e = filter (is_of s) e.pending
 
-marked_other : (s : Station) (rs : List Register) (r : Register) → is_of s r ≡ false → filter (is_of s) (marked rs r) ≡ filter (is_of s) rs
+marked_other : (s : Station) (rs : List Register) (r : Register) → is_of s r ≡ false
+    → filter (is_of s) (marked rs r) ≡ filter (is_of s) rs
 marked_other s rs r other = go (list_any (eq_by_cmp register_cmp r) rs)
   where
     go : (b : Bool) → filter (is_of s) (cond b rs (rs ++ r ∷ [])) ≡ filter (is_of s) rs
     go true = refl
     go false = filter_past (is_of s) rs r other
 
-pub marked_first : (s : Station) (rs : List Register) (r : Register) → filter (is_of s) rs ≡ [] → is_of s r ≡ true → filter (is_of s) (marked rs r) ≡ r ∷ []
+pub marked_first : (s : Station) (rs : List Register) (r : Register) → filter (is_of s) rs ≡ [] → is_of s r ≡ true
+    → filter (is_of s) (marked rs r) ≡ r ∷ []
 marked_first s rs r none mine = go (list_any (eq_by_cmp register_cmp r) rs) refl
   where
     go : (b : Bool) → list_any (eq_by_cmp register_cmp r) rs ≡ b → filter (is_of s) (cond b rs (rs ++ r ∷ [])) ≡ r ∷ []
@@ -96,31 +108,42 @@ pub same_itself : (s : Station) (e : Voice) → SameOf s e e
 same_itself s e = record { address = refl; incarnation = refl; values = λ r of. refl; waits = refl }
 
 pub same_trans : (s : Station) (e v w : Voice) → SameOf s e v → SameOf s v w → SameOf s e w
-same_trans s e v w h g = record { address = g.address ∙ h.address; incarnation = g.incarnation ∙ h.incarnation; values = λ r of. g.values r of ∙ h.values r of; waits = g.waits ∙ h.waits }
+same_trans s e v w h g = record {
+  address = g.address ∙ h.address;
+  incarnation = g.incarnation ∙ h.incarnation;
+  values = λ r of. g.values r of ∙ h.values r of;
+  waits = g.waits ∙ h.waits;
+}
 
 not_both : {b : Bool} → b ≡ true → b ≡ false → ⊥
 not_both yes' no' = let bad : true ≡ false = sym yes' ∙ no' in cc
 
 pub same_own : (s : Station) (e v : Voice) → SameOf s e v → own v (key_of s) ≡ own e (key_of s)
-same_own s e v h = (λ n. value_at v.table (register_of (h.address n) (key_of s))) ∙ h.values (own_register e (key_of s)) (about_station s None)
+same_own s e v h = (λ n. value_at v.table (register_of (h.address n) (key_of s)))
+    ∙ h.values (own_register e (key_of s)) (about_station s None)
 
-pub same_newest : (s : Station) (e v : Voice) (w : Fields) → SameOf s e v → is_of s w.register ≡ true → is_newest v w ≡ is_newest e w
+pub same_newest : (s : Station) (e v : Voice) (w : Fields) → SameOf s e v → is_of s w.register ≡ true
+    → is_newest v w ≡ is_newest e w
 same_newest s e v w h of = ap (λ o. is_news o w.value) (h.values w.register of)
 
 -- what is said of something else
-pub says_other : (s : Station) (e : Voice) (k : Key) (c : Content) → is_about s.vni s.mac k ≡ false → SameOf s e (after_saying e k c)
+pub says_other : (s : Station) (e : Voice) (k : Key) (c : Content) → is_about s.vni s.mac k ≡ false
+    → SameOf s e (after_saying e k c)
 says_other s e k c other = record {
   address = refl;
   incarnation = refl;
-  values = λ r of. at_other e.table (own_register e k) (next_value e c) r (λ same. not_both (ap (is_of s) (sym same) ∙ of) other);
+  values = λ r of. at_other e.table (own_register e k) (next_value e c) r
+      (λ same. not_both (ap (is_of s) (sym same) ∙ of) other);
   waits = marked_other s e.pending (own_register e k) other;
 }
 
 pub floods_same : (s : Station) (e : Voice) (vs : List ℕ) → SameOf s e (after_floods e vs)
 floods_same s e [] = same_itself s e
 floods_same s e (v ∷ vs) =
-    same_trans s e (after_saying e (Flood v) (Advertised flood_advert)) (after_floods (after_saying e (Flood v) (Advertised flood_advert)) vs)
-    (says_other s e (Flood v) (Advertised flood_advert) refl) (floods_same s (after_saying e (Flood v) (Advertised flood_advert)) vs)
+    same_trans s e (after_saying e (Flood v) (Advertised flood_advert))
+    (after_floods (after_saying e (Flood v) (Advertised flood_advert)) vs)
+    (says_other s e (Flood v) (Advertised flood_advert) refl)
+    (floods_same s (after_saying e (Flood v) (Advertised flood_advert)) vs)
 
 -- ---- words of an edge
 
@@ -140,34 +163,51 @@ talks_of : (s : Station) (e v : Voice) → Talks e v → SameOf s e v ⊎ Change
 talks_of s e _ Quiet = inl (same_itself s e)
 talks_of s e _ (Says v k c t) = go (is_about s.vni s.mac k) refl (talks_of s e v t)
   where
-    go : (b : Bool) → is_about s.vni s.mac k ≡ b → SameOf s e v ⊎ Changed s e v → SameOf s e (after_saying v k c) ⊎ Changed s e (after_saying v k c)
+    go : (b : Bool) → is_about s.vni s.mac k ≡ b → SameOf s e v ⊎ Changed s e v
+        → SameOf s e (after_saying v k c) ⊎ Changed s e (after_saying v k c)
     go true mine before =
         let ip = station_key s k mine in
         let low = talk_counter e v t in
-        inr (record { ip = ip.0; value = next_value v c; there = ap (own (after_saying v k c)) (sym ip.1) ∙ own_same v k c; present = (talks_one e v t).incarnation; more = omega (arith, low) })
+        inr (record {
+          ip = ip.0;
+          value = next_value v c;
+          there = ap (own (after_saying v k c)) (sym ip.1) ∙ own_same v k c;
+          present = (talks_one e v t).incarnation;
+          more = omega (arith, low);
+        })
     go false other (inl h) = inl (same_trans s e v (after_saying v k c) h (says_other s v k c other))
     go false other (inr h) = inr (record {
       ip = h.ip;
       value = h.value;
-      there = own_other v k c (Mac s.vni s.mac h.ip) (λ same. not_both (ap (is_about s.vni s.mac) (sym same) ∙ about_station s h.ip) other) ∙ h.there;
+      there = own_other v k c (Mac s.vni s.mac h.ip) (λ same. not_both (ap (is_about s.vni s.mac) (sym same)
+          ∙ about_station s h.ip) other) ∙ h.there;
       present = h.present;
       more = h.more;
     })
 
 -- words that leave what the edge says of the station leave all of it
-pub left_same : (s : Station) (e v : Voice) → Talks e v → KeepsNumbers e → ((ip : Option Ip) → own v (Mac s.vni s.mac ip) ≡ own e (Mac s.vni s.mac ip)) → SameOf s e v
+pub left_same : (s : Station) (e v : Voice) → Talks e v → KeepsNumbers e
+    → ((ip : Option Ip) → own v (Mac s.vni s.mac ip) ≡ own e (Mac s.vni s.mac ip)) → SameOf s e v
 left_same s e v t n same = elim (talks_of s e v t) as (λ _. SameOf s e v) [
   | inl h ↦ h
-  | inr h ↦ let most = n.counted (Mac s.vni s.mac h.ip) h.value (sym (same h.ip) ∙ h.there) h.present in let more = h.more in absurd (omega (arith, most, more))
+  | inr h ↦ let most = n.counted (Mac s.vni s.mac h.ip) h.value (sym (same h.ip) ∙ h.there) h.present in
+      let more = h.more in absurd (omega (arith, most, more))
 ]
 
 -- ---- an update of something else
 
-pub heard_other : (s : Station) (c : Claims) (w : Fields) → is_of s w.register ≡ false → SameOf s c.voice (heard c w).voice
+pub heard_other : (s : Station) (c : Claims) (w : Fields) → is_of s w.register ≡ false
+    → SameOf s c.voice (heard c w).voice
 heard_other s c w other = go (comes_back c.voice w) refl
   where
     hearing : SameOf s c.voice (after_hearing c.voice w)
-    hearing = record { address = refl; incarnation = refl; values = λ r of. update_other c.voice.table w.register w.value r (λ same. not_both (ap (is_of s) (sym same) ∙ of) other); waits = refl }
+    hearing = record {
+      address = refl;
+      incarnation = refl;
+      values = λ r of. update_other c.voice.table w.register w.value r
+          (λ same. not_both (ap (is_of s) (sym same) ∙ of) other);
+      waits = refl;
+    }
 
     back : (d : Claims) → Heard c w d → comes_back c.voice w ≡ true → SameOf s c.voice d.voice
     back _ (Back b) is = says_other s c.voice w.register.key Withdrawn other
@@ -179,8 +219,10 @@ heard_other s c w other = go (comes_back c.voice w) refl
     go false is = elim (hear_cases c w is) as (λ _. SameOf s c.voice (heard c w).voice) [
       | inl h ↦ subst (λ (d : Claims). SameOf s c.voice d.voice) (sym h) hearing
       | inr h ↦ subst (λ (d : Claims). SameOf s c.voice d.voice) (sym h.is)
-          (same_trans s c.voice (after_hearing c.voice w) (after_saying (after_hearing c.voice w) (key_of h.station) Withdrawn) hearing
-          (says_other s (after_hearing c.voice w) (key_of h.station) Withdrawn (ap (is_about s.vni s.mac) (sym h.key) ∙ other)))
+          (same_trans s c.voice (after_hearing c.voice w)
+          (after_saying (after_hearing c.voice w) (key_of h.station) Withdrawn) hearing
+          (says_other s (after_hearing c.voice w) (key_of h.station) Withdrawn (ap (is_about s.vni s.mac) (sym h.key)
+          ∙ other)))
     ]
 
 -- ---- the edges of a move
@@ -193,7 +235,8 @@ pub record IsTo (pool extra : List Fields) (s : Station) (u : Fields) (there : L
   pub known : (w : Fields) → Contains pool w → is_of s w.register ≡ true → (is_newest e w ≡ false) ⊎ Contains extra w
 
 -- the edge of the address o, from which it came
-pub record IsFrom (pool extra : List Fields) (s : Station) (o : ℕ) (here : List Register) (says : Bool) (e : Voice) : Type 0 where
+pub record IsFrom (pool extra : List Fields) (s : Station) (o : ℕ) (here : List Register) (says : Bool) (e : Voice) :
+    Type 0 where
   pub name : e.address ≡ o
   pub said : is_some (own_advert e (key_of s)) ≡ says
   pub waits : waiting s e ≡ here
@@ -203,73 +246,90 @@ pub record IsFrom (pool extra : List Fields) (s : Station) (o : ℕ) (here : Lis
 pub record IsAside (pool : List Fields) (s : Station) (e : Voice) : Type 0 where
   pub quiet : own_advert e (key_of s) ≡ None
   pub waits : waiting s e ≡ []
-  pub away : (w : Fields) → Contains pool w → is_of s w.register ≡ true → w.register.originator ≡ e.address → (is_newest e w ≡ false) ⊎ (advert_in w.value.content ≡ None)
+  pub away : (w : Fields) → Contains pool w → is_of s w.register ≡ true → w.register.originator ≡ e.address
+      → (is_newest e w ≡ false) ⊎ (advert_in w.value.content ≡ None)
 
 -- what stays the same
-pub to_same : (pool extra : List Fields) (s : Station) (u : Fields) (there : List Register) (e v : Voice) → SameOf s e v → IsTo pool extra s u there e → IsTo pool extra s u there v
+pub to_same : (pool extra : List Fields) (s : Station) (u : Fields) (there : List Register) (e v : Voice) → SameOf s e v
+    → IsTo pool extra s u there e → IsTo pool extra s u there v
 to_same pool extra s u there e v h t = record {
   register = (λ n. register_of (h.address n) (key_of s)) ∙ t.register;
   says = same_own s e v h ∙ t.says;
   waits = h.waits ∙ t.waits;
-  known = λ w in' of. elim (t.known w in' of) as (λ _. (is_newest v w ≡ false) ⊎ Contains extra w) [ inl old ↦ inl (same_newest s e v w h of ∙ old) | inr new ↦ inr new ];
+  known = λ w in' of. elim (t.known w in' of) as (λ _. (is_newest v w ≡ false)
+      ⊎ Contains extra w) [ inl old ↦ inl (same_newest s e v w h of ∙ old) | inr new ↦ inr new ];
 }
 
-pub from_same : (pool extra : List Fields) (s : Station) (o : ℕ) (here : List Register) (says : Bool) (e v : Voice) → SameOf s e v → IsFrom pool extra s o here says e → IsFrom pool extra s o here says v
+pub from_same : (pool extra : List Fields) (s : Station) (o : ℕ) (here : List Register) (says : Bool) (e v : Voice)
+    → SameOf s e v → IsFrom pool extra s o here says e → IsFrom pool extra s o here says v
 from_same pool extra s o here says e v h t = record {
   name = h.address ∙ t.name;
   said = ap (λ x. is_some (advert_of x)) (same_own s e v h) ∙ t.said;
   waits = h.waits ∙ t.waits;
-  known = λ w in' of. elim (t.known w in' of) as (λ _. (is_newest v w ≡ false) ⊎ Contains extra w) [ inl old ↦ inl (same_newest s e v w h of ∙ old) | inr new ↦ inr new ];
+  known = λ w in' of. elim (t.known w in' of) as (λ _. (is_newest v w ≡ false)
+      ⊎ Contains extra w) [ inl old ↦ inl (same_newest s e v w h of ∙ old) | inr new ↦ inr new ];
 }
 
 pub aside_same : (pool : List Fields) (s : Station) (e v : Voice) → SameOf s e v → IsAside pool s e → IsAside pool s v
 aside_same pool s e v h t = record {
   quiet = ap advert_of (same_own s e v h) ∙ t.quiet;
   waits = h.waits ∙ t.waits;
-  away = λ w in' of mine. elim (t.away w in' of (mine ∙ h.address)) as (λ _. (is_newest v w ≡ false) ⊎ (advert_in w.value.content ≡ None)) [ inl old ↦ inl (same_newest s e v w h of ∙ old) | inr none ↦ inr none ];
+  away = λ w in' of mine. elim (t.away w in' of (mine ∙ h.address)) as (λ _. (is_newest v w ≡ false)
+      ⊎ (advert_in w.value.content ≡ None)) [ inl old ↦ inl (same_newest s e v w h of ∙ old) | inr none ↦ inr none ];
 }
 
 -- where the pool gets an update, which is new if it is of the station
-pub to_push : (pool extra extra' : List Fields) (s : Station) (u : Fields) (there : List Register) (e : Voice) (w : Fields) → (is_of s w.register ≡ true → Contains extra' w) → ((z : Fields) → Contains extra z → Contains extra' z) → IsTo pool extra s u there e
+pub to_push : (pool extra extra' : List Fields) (s : Station) (u : Fields) (there : List Register) (e : Voice)
+    (w : Fields) → (is_of s w.register ≡ true → Contains extra' w)
+    → ((z : Fields) → Contains extra z → Contains extra' z) → IsTo pool extra s u there e
     → IsTo (pool ++ w ∷ []) extra' s u there e
 to_push pool extra extra' s u there e w new more t = record {
   register = t.register;
   says = t.says;
   waits = t.waits;
   known = λ z in' of. elim (Contains-push_cases pool w z in') as (λ _. (is_newest e z ≡ false) ⊎ Contains extra' z) [
-    | inl earlier ↦ elim (t.known z earlier of) as (λ _. (is_newest e z ≡ false) ⊎ Contains extra' z) [ inl old ↦ inl old | inr here ↦ inr (more z here) ]
+    | inl earlier ↦ elim (t.known z earlier of) as (λ _. (is_newest e z ≡ false)
+        ⊎ Contains extra' z) [ inl old ↦ inl old | inr here ↦ inr (more z here) ]
     | inr now ↦ inr (subst (Contains extra') now (new (ap (λ (y : Fields). is_of s y.register) now ∙ of)))
   ];
 }
 
-pub from_push : (pool extra extra' : List Fields) (s : Station) (o : ℕ) (here : List Register) (says : Bool) (e : Voice) (w : Fields) → (is_of s w.register ≡ true → Contains extra' w) → ((z : Fields) → Contains extra z → Contains extra' z) → IsFrom pool extra s o here says e
+pub from_push : (pool extra extra' : List Fields) (s : Station) (o : ℕ) (here : List Register) (says : Bool) (e : Voice)
+    (w : Fields) → (is_of s w.register ≡ true → Contains extra' w)
+    → ((z : Fields) → Contains extra z → Contains extra' z) → IsFrom pool extra s o here says e
     → IsFrom (pool ++ w ∷ []) extra' s o here says e
 from_push pool extra extra' s o here says e w new more t = record {
   name = t.name;
   said = t.said;
   waits = t.waits;
   known = λ z in' of. elim (Contains-push_cases pool w z in') as (λ _. (is_newest e z ≡ false) ⊎ Contains extra' z) [
-    | inl earlier ↦ elim (t.known z earlier of) as (λ _. (is_newest e z ≡ false) ⊎ Contains extra' z) [ inl old ↦ inl old | inr there ↦ inr (more z there) ]
+    | inl earlier ↦ elim (t.known z earlier of) as (λ _. (is_newest e z ≡ false)
+        ⊎ Contains extra' z) [ inl old ↦ inl old | inr there ↦ inr (more z there) ]
     | inr now ↦ inr (subst (Contains extra') now (new (ap (λ (y : Fields). is_of s y.register) now ∙ of)))
   ];
 }
 
-pub aside_push : (pool : List Fields) (s : Station) (e : Voice) (w : Fields) → (is_of s w.register ≡ true → w.register.originator ≢ e.address) → IsAside pool s e → IsAside (pool ++ w ∷ []) s e
+pub aside_push : (pool : List Fields) (s : Station) (e : Voice) (w : Fields)
+    → (is_of s w.register ≡ true → w.register.originator ≢ e.address) → IsAside pool s e → IsAside (pool ++ w ∷ []) s e
 aside_push pool s e w other t = record {
   quiet = t.quiet;
   waits = t.waits;
-  away = λ z in' of mine. elim (Contains-push_cases pool w z in') as (λ _. (is_newest e z ≡ false) ⊎ (advert_in z.value.content ≡ None)) [
-    | inl earlier ↦ t.away z earlier of mine
-    | inr now ↦ absurd (other (ap (λ (y : Fields). is_of s y.register) now ∙ of) (ap (λ (y : Fields). y.register.originator) now ∙ mine))
-  ];
+  away = λ z in' of mine. elim (Contains-push_cases pool w z in') as (λ _. (is_newest e z ≡ false)
+      ⊎ (advert_in z.value.content ≡ None)) [
+        | inl earlier ↦ t.away z earlier of mine
+        | inr now ↦ absurd (other (ap (λ (y : Fields). is_of s y.register) now ∙ of)
+            (ap (λ (y : Fields). y.register.originator) now ∙ mine))
+      ];
 }
 
 -- ---- an update of the station is heard
 
-idle_away : (e : Voice) (w : Fields) → (is_newest e w ≡ false) ⊎ (advert_in w.value.content ≡ None) → comes_back e w ≡ false
+idle_away : (e : Voice) (w : Fields) → (is_newest e w ≡ false) ⊎ (advert_in w.value.content ≡ None)
+    → comes_back e w ≡ false
 idle_away e w h = elim h as (λ _. comes_back e w ≡ false) [
   | inl old ↦ known_stays_away e w old
-  | inr none ↦ stays_away e w (λ b. let bad : false ≡ true = sym (ap (λ (c : Option Advert). is_some c) none) ∙ b.advert in cc)
+  | inr none ↦ stays_away e w (λ b. let bad : false ≡ true = sym (ap (λ (c : Option Advert). is_some c) none)
+      ∙ b.advert in cc)
 ]
 
 -- what is known of an edge that hears an update
@@ -282,37 +342,54 @@ pub record Hears (c : Claims) (w : Fields) : Type 0 where
 abbrev pub Grows : Claims → Fields → Type 0
 Grows c w = (comes_back c.voice w ≡ false) × (heard c w ≡ after_update c w)
 
-pub idle_grows : (c : Claims) (w : Fields) → Hears c w → (is_newest c.voice w ≡ false) ⊎ (advert_in w.value.content ≡ None) → Grows c w
+pub idle_grows : (c : Claims) (w : Fields) → Hears c w → (is_newest c.voice w ≡ false)
+    ⊎ (advert_in w.value.content ≡ None) → Grows c w
 idle_grows c w h idle = (idle_away c.voice w idle, idle_hearing c w h.owns idle)
 
-still_known : (c : Claims) (w z : Fields) → Hears c w → is_newest c.voice z ≡ false → is_newest (heard c w).voice z ≡ false
+still_known : (c : Claims) (w z : Fields) → Hears c w → is_newest c.voice z ≡ false
+    → is_newest (heard c w).voice z ≡ false
 still_known c w z h old = (heard_later c w h.numbers h.accepts).news z.register z.value old
 
-pub to_grows : (pool extra : List Fields) (s : Station) (u : Fields) (there : List Register) (c : Claims) (w : Fields) → IsSome (advert_in u.value.content) → Hears c w → Grows c w → IsTo pool extra s u there c.voice → IsTo pool extra s u there (heard c w).voice
+pub to_grows : (pool extra : List Fields) (s : Station) (u : Fields) (there : List Register) (c : Claims) (w : Fields)
+    → IsSome (advert_in u.value.content) → Hears c w → Grows c w → IsTo pool extra s u there c.voice
+    → IsTo pool extra s u there (heard c w).voice
 to_grows pool extra s u there c w some h g t = record {
   register = ap (λ (d : Claims). own_register d.voice (key_of s)) g.1 ∙ t.register;
   says = ap (λ (d : Claims). own d.voice (key_of s)) g.1 ∙ stays (advert_in u.value.content) refl some;
   waits = ap (λ (d : Claims). waiting s d.voice) g.1 ∙ t.waits;
-  known = λ z in' of. elim (t.known z in' of) as (λ _. (is_newest (heard c w).voice z ≡ false) ⊎ Contains extra z) [ inl old ↦ inl (still_known c w z h old) | inr new ↦ inr new ];
+  known = λ z in' of. elim (t.known z in' of) as (λ _. (is_newest (heard c w).voice z ≡ false)
+      ⊎ Contains extra z) [ inl old ↦ inl (still_known c w z h old) | inr new ↦ inr new ];
 }
   where
-    stays : (x : Option Advert) → advert_in u.value.content ≡ x → IsSome x → own (after_hearing c.voice w) (key_of s) ≡ Some u.value
+    stays : (x : Option Advert) → advert_in u.value.content ≡ x → IsSome x
+        → own (after_hearing c.voice w) (key_of s) ≡ Some u.value
     stays (Some y) p yes' = advert_stays c.voice w (key_of s) y h.numbers h.accepts (ap advert_of t.says ∙ p) ∙ t.says
     stays None p yes' = absurd (let no' : IsSome {T = Advert} None = yes' in cc)
 
-pub from_grows : (pool extra : List Fields) (s : Station) (o : ℕ) (here : List Register) (says : Bool) (c : Claims) (w : Fields) → Hears c w → Grows c w → IsFrom pool extra s o here says c.voice → IsFrom pool extra s o here says (heard c w).voice
+pub from_grows : (pool extra : List Fields) (s : Station) (o : ℕ) (here : List Register) (says : Bool) (c : Claims)
+    (w : Fields) → Hears c w → Grows c w → IsFrom pool extra s o here says c.voice
+    → IsFrom pool extra s o here says (heard c w).voice
 from_grows pool extra s o here says c w h g t = record {
   name = ap (λ (d : Claims). d.voice.address) g.1 ∙ t.name;
-  said = ap (λ (d : Claims). is_some (own_advert d.voice (key_of s))) g.1 ∙ ap is_some (advert_kept c.voice w (key_of s) h.numbers h.accepts g.0) ∙ t.said;
+  said = ap (λ (d : Claims). is_some (own_advert d.voice (key_of s))) g.1
+      ∙ ap is_some (advert_kept c.voice w (key_of s) h.numbers h.accepts g.0) ∙ t.said;
   waits = ap (λ (d : Claims). waiting s d.voice) g.1 ∙ t.waits;
-  known = λ z in' of. elim (t.known z in' of) as (λ _. (is_newest (heard c w).voice z ≡ false) ⊎ Contains extra z) [ inl old ↦ inl (still_known c w z h old) | inr new ↦ inr new ];
+  known = λ z in' of. elim (t.known z in' of) as (λ _. (is_newest (heard c w).voice z ≡ false)
+      ⊎ Contains extra z) [ inl old ↦ inl (still_known c w z h old) | inr new ↦ inr new ];
 }
 
-pub aside_grows : (pool : List Fields) (s : Station) (c : Claims) (w : Fields) → Hears c w → Grows c w → IsAside pool s c.voice → IsAside pool s (heard c w).voice
+pub aside_grows : (pool : List Fields) (s : Station) (c : Claims) (w : Fields) → Hears c w → Grows c w
+    → IsAside pool s c.voice → IsAside pool s (heard c w).voice
 aside_grows pool s c w h g t = record {
-  quiet = ap (λ (d : Claims). own_advert d.voice (key_of s)) g.1 ∙ advert_kept c.voice w (key_of s) h.numbers h.accepts g.0 ∙ t.quiet;
+  quiet = ap (λ (d : Claims). own_advert d.voice (key_of s)) g.1
+      ∙ advert_kept c.voice w (key_of s) h.numbers h.accepts g.0 ∙ t.quiet;
   waits = ap (λ (d : Claims). waiting s d.voice) g.1 ∙ t.waits;
-  away = λ z in' of mine. elim (t.away z in' of (mine ∙ ap (λ (d : Claims). d.voice.address) g.1)) as (λ _. (is_newest (heard c w).voice z ≡ false) ⊎ (advert_in z.value.content ≡ None)) [ inl old ↦ inl (still_known c w z h old) | inr none ↦ inr none ];
+  away = λ z in' of mine. elim (t.away z in' of (mine ∙ ap (λ (d : Claims). d.voice.address) g.1)) as (λ _.
+      (is_newest (heard c w).voice z ≡ false) ⊎ (advert_in z.value.content ≡ None)) [
+        | inl old ↦
+            inl (still_known c w z h old)
+        | inr none ↦ inr none
+      ];
 }
 
 -- who loses a station to an update of another one's registers loses that station, and has advertised it
@@ -320,9 +397,11 @@ pub record LosesIt (s : Station) (c : Claims) (w : Fields) : Type 0 where
   pub said : is_some (own_advert c.voice (key_of s)) ≡ true
   pub is : heard c w ≡ after_removal (after_update c w) s
 
-pub loses_it : (s : Station) (c : Claims) (w : Fields) → Hears c w → is_of s w.register ≡ true → comes_back c.voice w ≡ false → Loses c w → LosesIt s c w
+pub loses_it : (s : Station) (c : Claims) (w : Fields) → Hears c w → is_of s w.register ≡ true
+    → comes_back c.voice w ≡ false → Loses c w → LosesIt s c w
 loses_it s c w h of never l = record {
-  said = ap is_some (sym (advert_kept c.voice w (key_of s) h.numbers h.accepts never)) ∙ subst (λ r. is_some (own_advert (after_hearing c.voice w) (key_of r)) ≡ true) station some;
+  said = ap is_some (sym (advert_kept c.voice w (key_of s) h.numbers h.accepts never))
+      ∙ subst (λ r. is_some (own_advert (after_hearing c.voice w) (key_of r)) ≡ true) station some;
   is = l.is ∙ ap (after_removal (after_update c w)) station;
 }
   where
@@ -331,7 +410,8 @@ loses_it s c w h of never l = record {
     first false y e = cc
 
     some : is_some (own_advert (after_hearing c.voice w) (key_of l.station)) ≡ true
-    some = first (is_some (own_advert (after_hearing c.voice w) (key_of l.station))) (is_at (owner (after_hearing c.voice w).table l.station.vni l.station.mac) c.voice.address) l.lost
+    some = first (is_some (own_advert (after_hearing c.voice w) (key_of l.station)))
+        (is_at (owner (after_hearing c.voice w).table l.station.vni l.station.mac) c.voice.address) l.lost
 
     ip : (j : Option Ip) × (w.register.key ≡ Mac s.vni s.mac j)
     ip = station_key s w.register.key of
@@ -344,7 +424,8 @@ loses_it s c w h of never l = record {
         λ n. record { vni = vnis n; mac = macs n }
 
 -- another edge that hears an update of the station says nothing of it
-pub aside_hears : (pool : List Fields) (s : Station) (c : Claims) (w : Fields) → Contains pool w → is_of s w.register ≡ true → Hears c w → IsAside pool s c.voice → IsAside pool s (heard c w).voice
+pub aside_hears : (pool : List Fields) (s : Station) (c : Claims) (w : Fields) → Contains pool w
+    → is_of s w.register ≡ true → Hears c w → IsAside pool s c.voice → IsAside pool s (heard c w).voice
 aside_hears pool s c w in' of h t = aside_grows pool s c w h grows t
   where
     grows : Grows c w
@@ -360,10 +441,15 @@ aside_hears pool s c w in' of h t = aside_grows pool s c w h grows t
         ]
 
 -- what the edge from which the station came makes of the new advert: it stays, or it withdraws the station
-pub from_hears : (pool extra : List Fields) (s : Station) (o : ℕ) (here : List Register) (says : Bool) (c : Claims) (w : Fields) → is_of s w.register ≡ true → w.register.originator ≢ c.voice.address → Hears c w → IsFrom pool extra s o here says c.voice
-    → IsFrom pool extra s o here says (heard c w).voice ⊎ ((says ≡ true) × (here ≡ [] → IsFrom pool extra s o (register_of o (key_of s) ∷ []) false (heard c w).voice))
+pub from_hears : (pool extra : List Fields) (s : Station) (o : ℕ) (here : List Register) (says : Bool) (c : Claims)
+    (w : Fields) → is_of s w.register ≡ true → w.register.originator ≢ c.voice.address → Hears c w
+    → IsFrom pool extra s o here says c.voice
+    → IsFrom pool extra s o here says (heard c w).voice
+    ⊎ ((says ≡ true) × (here ≡ [] → IsFrom pool extra s o (register_of o (key_of s) ∷ []) false (heard c w).voice))
 from_hears pool extra s o here says c w of other h t =
-    elim (hear_cases c w never) as (λ _. IsFrom pool extra s o here says (heard c w).voice ⊎ ((says ≡ true) × (here ≡ [] → IsFrom pool extra s o (register_of o (key_of s) ∷ []) false (heard c w).voice))) [
+    elim (hear_cases c w never) as (λ _. IsFrom pool extra s o here says (heard c w).voice
+    ⊎ ((says ≡ true) × (here ≡ [] → IsFrom pool extra s o (register_of o (key_of s) ∷ []) false
+    (heard c w).voice))) [
       | inl is ↦ inl (from_grows pool extra s o here says c w h (never, is) t)
       | inr l ↦ let it = loses_it s c w h of never l in inr (sym t.said ∙ it.said, lost it.is)
     ]
@@ -371,14 +457,21 @@ from_hears pool extra s o here says c w of other h t =
     never : comes_back c.voice w ≡ false
     never = others_stay_away c.voice w other
 
-    lost : heard c w ≡ after_removal (after_update c w) s → here ≡ [] → IsFrom pool extra s o (register_of o (key_of s) ∷ []) false (heard c w).voice
+    lost : heard c w ≡ after_removal (after_update c w) s → here ≡ []
+        → IsFrom pool extra s o (register_of o (key_of s) ∷ []) false (heard c w).voice
     lost is none = record {
       name = ap (λ (d : Claims). d.voice.address) is ∙ t.name;
-      said = ap (λ (d : Claims). is_some (own_advert d.voice (key_of s))) is ∙ ap (λ x. is_some (advert_of x)) (own_same (after_hearing c.voice w) (key_of s) Withdrawn);
-      waits = ap (λ (d : Claims). waiting s d.voice) is ∙ marked_first s c.voice.pending (own_register c.voice (key_of s)) (t.waits ∙ none) (about_station s None) ∙ ap (λ p. register_of p (key_of s) ∷ []) t.name;
-      known = λ z in' of'. elim (t.known z in' of') as (λ _. (is_newest (heard c w).voice z ≡ false) ⊎ Contains extra z) [ inl old ↦ inl (still_known c w z h old) | inr new ↦ inr new ];
+      said = ap (λ (d : Claims). is_some (own_advert d.voice (key_of s))) is
+          ∙ ap (λ x. is_some (advert_of x)) (own_same (after_hearing c.voice w) (key_of s) Withdrawn);
+      waits = ap (λ (d : Claims). waiting s d.voice) is
+          ∙ marked_first s c.voice.pending (own_register c.voice (key_of s)) (t.waits ∙ none) (about_station s None)
+          ∙ ap (λ p. register_of p (key_of s) ∷ []) t.name;
+      known = λ z in' of'. elim (t.known z in' of') as (λ _. (is_newest (heard c w).voice z ≡ false)
+          ⊎ Contains extra z) [ inl old ↦ inl (still_known c w z h old) | inr new ↦ inr new ];
     }
 
 -- ---- who has said nothing says nothing of a station
-pub silent_quiet : (s : Station) (address incarnation : ℕ) (originators : List ℕ) → own_advert (silent address incarnation originators) (key_of s) ≡ None
-silent_quiet s address incarnation originators = ap advert_of (get-empty {X = Value} register_cmp (register_of address (key_of s)))
+pub silent_quiet : (s : Station) (address incarnation : ℕ) (originators : List ℕ)
+    → own_advert (silent address incarnation originators) (key_of s) ≡ None
+silent_quiet s address incarnation originators = ap advert_of
+    (get-empty {X = Value} register_cmp (register_of address (key_of s)))

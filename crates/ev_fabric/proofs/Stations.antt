@@ -1,5 +1,6 @@
 -- What follows for one station of a sound fabric on which the edges agree.
-use Rattle.std.proofs.Common.{◌≡◌, ℕ, ◌==◌, ◌&&◌, Bool, true, false, Option, Some, None, List, [], ◌∷◌, refl, sym, ap, subst, ◌∙◌, arith}
+use Rattle.std.proofs.Common.{◌≡◌, ℕ, ◌==◌, ◌&&◌, Bool, true, false, Option, Some, None, List, [], ◌∷◌, refl, sym, ap}
+use Rattle.std.proofs.Common.{subst, ◌∙◌, arith}
 use Rattle.std.proofs.lemmas.Bool.Decides.{nat_tests}
 use Rattle.std.specs.Prelude.{Contains, IsSome}
 use Rattle.route_wire.specs.declared.update.Ip.{Ip}
@@ -19,7 +20,8 @@ use Rattle.ev_fabric.specs.Fabric.{Fabric, IsEdge}
 use Rattle.ev_fabric.specs.Sound.{update_of, IsSound}
 use Rattle.ev_fabric.specs.Agreed.{AllAgree, Advertises}
 use Rattle.ev_fabric.specs.Laws.{OneOfAll, OwnerOfAll}
-use Rattle.ev_fabric.specs.Station.{is_of, is_flood_list, is_flood, AgreesAbout, AgreesOn, AgreesOnEach, IsOfPresentLife, AgreedStation}
+use Rattle.ev_fabric.specs.Station.{is_of, is_flood_list, is_flood, AgreesAbout, AgreesOn, AgreesOnEach}
+use Rattle.ev_fabric.specs.Station.{IsOfPresentLife, AgreedStation}
 use Rattle.ev_fabric.proofs.Agreements.{announced, owns, learnt, none_pending}
 
 -- ---- registers of a station
@@ -66,60 +68,87 @@ each_agree f h = record {
   arrived = λ i a at u in'. got i a at u in' u.register.key refl;
 }
   where
-    waits : (i : ℕ) (a : Edge) → IsEdge f i a → (r : Register) → Contains a.claims.voice.pending r → (k : Key) → r.key ≡ k → ⊥
+    waits : (i : ℕ) (a : Edge) → IsEdge f i a → (r : Register) → Contains a.claims.voice.pending r → (k : Key)
+        → r.key ≡ k → ⊥
     waits i a at r in' (Flood v) key = (h.floods v).quiet i a r at (ap (is_flood_list v) key ∙ same_number v) in'
-    waits i a at r in' (Mac v m ip) key = let s : Station = record { vni = v; mac = m } in (h.stations s).quiet i a r at (of_station s r ip key) in'
+    waits i a at r in' (Mac v m ip) key = let s : Station = record { vni = v; mac = m } in
+        (h.stations s).quiet i a r at (of_station s r ip key) in'
 
-    empty : (i : ℕ) (a : Edge) → IsEdge f i a → (rs : List Register) → a.claims.voice.pending ≡ rs → a.claims.voice.pending ≡ []
+    empty : (i : ℕ) (a : Edge) → IsEdge f i a → (rs : List Register) → a.claims.voice.pending ≡ rs
+        → a.claims.voice.pending ≡ []
     empty i a at [] is = is
-    empty i a at (r ∷ rs) is = absurd (waits i a at r (subst (λ l. Contains l r) (sym is) (0, omega arith, refl)) r.key refl)
+    empty i a at (r ∷ rs) is = absurd (waits i a at r (subst (λ l. Contains l r) (sym is) (0, omega arith, refl)) r.key
+        refl)
 
-    got : (i : ℕ) (a : Edge) → IsEdge f i a → (u : Fields) → Contains f.pool u → (k : Key) → u.register.key ≡ k → (v : Value) × (value_at (table_of a) u.register ≡ Some v) × (is_newer u.value v ≡ false)
+    got : (i : ℕ) (a : Edge) → IsEdge f i a → (u : Fields) → Contains f.pool u → (k : Key) → u.register.key ≡ k
+        → (v : Value) × (value_at (table_of a) u.register ≡ Some v) × (is_newer u.value v ≡ false)
     got i a at u in' (Flood v) key = (h.floods v).arrived i a u at (ap (is_flood_list v) key ∙ same_number v) in'
-    got i a at u in' (Mac v m ip) key = let s : Station = record { vni = v; mac = m } in (h.stations s).arrived i a u at (of_station s u.register ip key) in'
+    got i a at u in' (Mac v m ip) key = let s : Station = record { vni = v; mac = m } in
+        (h.stations s).arrived i a u at (of_station s u.register ip key) in'
 
 -- ---- agreement on one station
 
 module _ (f : Fabric) (s : Station) (h : IsSound f) (agree : AgreesOn f s) where
   -- what an edge has of the station is in the pool
-  pub station_from : (i : ℕ) (a : Edge) (r : Register) (v : Value) → IsEdge f i a → is_of s r ≡ true → value_at (table_of a) r ≡ Some v → Contains f.pool (update_of r v)
+  pub station_from : (i : ℕ) (a : Edge) (r : Register) (v : Value) → IsEdge f i a → is_of s r ≡ true
+      → value_at (table_of a) r ≡ Some v → Contains f.pool (update_of r v)
   station_from i a r v at of is = announced f h i a at r v is (λ mine in'. agree.quiet i a r at of in')
 
   -- and the pool has nothing newer
-  pub station_newest : (i : ℕ) (a : Edge) (u : Fields) (v : Value) → IsEdge f i a → is_of s u.register ≡ true → Contains f.pool u → value_at (table_of a) u.register ≡ Some v → is_newer u.value v ≡ false
+  pub station_newest : (i : ℕ) (a : Edge) (u : Fields) (v : Value) → IsEdge f i a → is_of s u.register ≡ true
+      → Contains f.pool u → value_at (table_of a) u.register ≡ Some v → is_newer u.value v ≡ false
   station_newest i a u v at of in' is =
       let n = agree.arrived i a u at of in' in
       let same : n.0 ≡ v = (let there = n.1 in cc) in
       ap (λ w. is_newer u.value w) (sym same) ∙ n.2
 
-  pub station_equal : (i j : ℕ) (a b : Edge) (r : Register) → IsEdge f i a → IsEdge f j b → is_of s r ≡ true → value_at (table_of a) r ≡ value_at (table_of b) r
+  pub station_equal : (i j : ℕ) (a b : Edge) (r : Register) → IsEdge f i a → IsEdge f j b → is_of s r ≡ true
+      → value_at (table_of a) r ≡ value_at (table_of b) r
   station_equal i j a b r at_a at_b of = go (value_at (table_of a) r) refl (value_at (table_of b) r) refl
     where
-      go : (x : Option Value) → value_at (table_of a) r ≡ x → (y : Option Value) → value_at (table_of b) r ≡ y → value_at (table_of a) r ≡ value_at (table_of b) r
+      go : (x : Option Value) → value_at (table_of a) r ≡ x → (y : Option Value) → value_at (table_of b) r ≡ y
+          → value_at (table_of a) r ≡ value_at (table_of b) r
       go None p None q = p ∙ sym q
-      go None p (Some w) q = let n = agree.arrived i a (update_of r w) at_a of (station_from j b r w at_b of q) in absurd (let bad : None ≡ Some n.0 = sym p ∙ n.1 in cc)
-      go (Some v) p None q = let n = agree.arrived j b (update_of r v) at_b of (station_from i a r v at_a of p) in absurd (let bad : None ≡ Some n.0 = sym q ∙ n.1 in cc)
+      go None p (Some w) q = let n = agree.arrived i a (update_of r w) at_a of (station_from j b r w at_b of q) in
+          absurd (let bad : None ≡ Some n.0 = sym p ∙ n.1 in cc)
+      go (Some v) p None q = let n = agree.arrived j b (update_of r v) at_b of (station_from i a r v at_a of p) in
+          absurd (let bad : None ≡ Some n.0 = sym q ∙ n.1 in cc)
       go (Some v) p (Some w) q =
           let back = station_newest j b (update_of r v) w at_b of (station_from i a r v at_a of p) q in
           let there = station_newest i a (update_of r w) v at_a of (station_from j b r w at_b of q) p in
           p ∙ ap Some (neither_newer v w back there) ∙ sym q
 
   -- so all see the same adverts of it, and the same owner
-  station_adverts : (i j : ℕ) (a b : Edge) → IsEdge f i a → IsEdge f j b → (o : ℕ) (ip : Option Ip) → advert_at (table_of a) o (Mac s.vni s.mac ip) ≡ advert_at (table_of b) o (Mac s.vni s.mac ip)
-  station_adverts i j a b at_a at_b o ip = ap advert_of (station_equal i j a b (register_of o (Mac s.vni s.mac ip)) at_a at_b (about_station s ip))
+  station_adverts : (i j : ℕ) (a b : Edge) → IsEdge f i a → IsEdge f j b → (o : ℕ) (ip : Option Ip)
+      → advert_at (table_of a) o (Mac s.vni s.mac ip) ≡ advert_at (table_of b) o (Mac s.vni s.mac ip)
+  station_adverts i j a b at_a at_b o ip = ap advert_of
+      (station_equal i j a b (register_of o (Mac s.vni s.mac ip)) at_a at_b (about_station s ip))
 
-  pub station_owner : (i j : ℕ) (a b : Edge) → IsEdge f i a → IsEdge f j b → Advertises a s → IsOwner (table_of b) s.vni s.mac (address_of a)
-  station_owner i j a b at_a at_b x = owner_along (table_of a) (table_of b) s.vni s.mac (address_of a) (station_adverts i j a b at_a at_b) (owns a s (h.good i a at_a) x)
+  pub station_owner : (i j : ℕ) (a b : Edge) → IsEdge f i a → IsEdge f j b → Advertises a s
+      → IsOwner (table_of b) s.vni s.mac (address_of a)
+  station_owner i j a b at_a at_b x = owner_along (table_of a) (table_of b) s.vni s.mac (address_of a)
+      (station_adverts i j a b at_a at_b) (owns a s (h.good i a at_a) x)
 
   pub station_one : (i j : ℕ) (a b : Edge) → IsEdge f i a → IsEdge f j b → Advertises a s → Advertises b s → i ≡ j
-  station_one i j a b at_a at_b x y = h.apart i j a b at_a at_b (one_owner (table_of a) s.vni s.mac (address_of a) (address_of b) (owns a s (h.good i a at_a) x) (station_owner j i b a at_b at_a y))
+  station_one i j a b at_a at_b x y = h.apart i j a b at_a at_b
+      (one_owner (table_of a) s.vni s.mac (address_of a) (address_of b) (owns a s (h.good i a at_a) x)
+      (station_owner j i b a at_b at_a y))
 
   -- an advert is of the present life of an edge of the fabric
-  pub station_present : (i : ℕ) (a : Edge) (r : Register) (v : Value) → IsEdge f i a → is_of s r ≡ true → value_at (table_of a) r ≡ Some v → IsSome (advert_in v.content) → IsOfPresentLife f r.originator v.incarnation
+  pub station_present : (i : ℕ) (a : Edge) (r : Register) (v : Value) → IsEdge f i a → is_of s r ≡ true
+      → value_at (table_of a) r ≡ Some v → IsSome (advert_in v.content) → IsOfPresentLife f r.originator v.incarnation
   station_present i a r v at of is some = go (h.sources (update_of r v) (station_from i a r v at of is))
     where
-      go : ((j : ℕ) × (b : Edge) × IsEdge f j b × (address_of b ≡ r.originator)) → IsOfPresentLife f r.originator v.incarnation
-      go (j, b, at_b, names) = record { place = j; edge = b; there = at_b; address = names; present = (h.good j b at_b).claims.numbers.alive r.key v (ap (value_at (table_of b)) (sym named) ∙ station_equal j i b a r at_b at of ∙ is) some }
+      go : ((j : ℕ) × (b : Edge) × IsEdge f j b × (address_of b ≡ r.originator))
+          → IsOfPresentLife f r.originator v.incarnation
+      go (j, b, at_b, names) = record {
+        place = j;
+        edge = b;
+        there = at_b;
+        address = names;
+        present = (h.good j b at_b).claims.numbers.alive r.key v (ap (value_at (table_of b)) (sym named)
+            ∙ station_equal j i b a r at_b at of ∙ is) some;
+      }
         where
           named : r ≡ register_of (address_of b) r.key
           named = λ k. register_of (sym names k) r.key

@@ -1,5 +1,6 @@
 -- What an edge says and the pool still know of each other when the edge says, hears or announces something.
-use Rattle.std.proofs.Common.{◌≡◌, ◌≢◌, ◌⊎◌, inl, inr, ℕ, zero, suc, ◌+◌, ◌<◌, Bool, true, false, cond, Option, Some, None, List, [], ◌∷◌, ◌++◌, refl, sym, ap, subst, ◌∙◌, arith}
+use Rattle.std.proofs.Common.{◌≡◌, ◌≢◌, ◌⊎◌, inl, inr, ℕ, zero, suc, ◌+◌, ◌<◌, Bool, true, false, cond, Option, Some}
+use Rattle.std.proofs.Common.{None, List, [], ◌∷◌, ◌++◌, refl, sym, ap, subst, ◌∙◌, arith}
 use Rattle.std.proofs.lemmas.List.Elements.{Contains-append_left, Contains-push, Contains-push_cases}
 use Rattle.std.specs.Prelude.{Contains, ◌||◌}
 use Rattle.std.specs.List.{list_any}
@@ -16,7 +17,8 @@ use Rattle.route_join.proofs.Tables.{same_or_other, same_register, at_same, at_o
 use Rattle.route_join.proofs.Joins.{update_other}
 use Rattle.route_join.proofs.Merging.{same_listeners}
 use Rattle.ev_claims.specs.Pending.{marked}
-use Rattle.ev_claims.specs.Voice.{Voice, KeepsNumbers, own_register, next_value, after_saying, after_hearing, after_hearing_own, after_announcing, is_newest, is_ahead, is_returning}
+use Rattle.ev_claims.specs.Voice.{Voice, KeepsNumbers, own_register, next_value, after_saying, after_hearing}
+use Rattle.ev_claims.specs.Voice.{after_hearing_own, after_announcing, is_newest, is_ahead, is_returning}
 use Rattle.ev_claims.proofs.Numbers.{said_numbers}
 use Rattle.ev_claims.proofs.Hearing.{not_present, past_if_newest, refuted_is}
 use Rattle.ev_fabric.specs.Sound.{update_of, IsBehind, IsTold}
@@ -33,7 +35,8 @@ pub found : (rs : List Register) (r : Register) → list_any (eq_by_cmp register
 found [] r e = cc
 found (x ∷ rs) r e = go (eq_by_cmp register_cmp r x) refl e (found rs r)
   where
-    go : (b : Bool) → eq_by_cmp register_cmp r x ≡ b → (b || list_any (eq_by_cmp register_cmp r) rs) ≡ true → (list_any (eq_by_cmp register_cmp r) rs ≡ true → Contains rs r) → Contains (x ∷ rs) r
+    go : (b : Bool) → eq_by_cmp register_cmp r x ≡ b → (b || list_any (eq_by_cmp register_cmp r) rs) ≡ true
+        → (list_any (eq_by_cmp register_cmp r) rs ≡ true → Contains rs r) → Contains (x ∷ rs) r
     go true t e later = (0, omega arith, sym (same_register r x t))
     go false t e later = let h = later e in (suc h.0, omega (arith, h.1), h.2)
 
@@ -45,59 +48,80 @@ marked_has rs r = go (list_any (eq_by_cmp register_cmp r) rs) refl
     go false e = Contains-push rs r
 
 -- ---- an own register says something
-said_behind : (e : Voice) (k : Key) (c : Content) → KeepsNumbers e → (u : Fields) → u.register.originator ≡ e.address → IsBehind e.incarnation e.table u → IsBehind e.incarnation (after_saying e k c).table u
-said_behind e k c h u mine b = elim (same_or_other u.register (own_register e k)) as (λ _. IsBehind e.incarnation (after_saying e k c).table u) [
-  | inl same ↦ record {
-    present = b.present;
-    says = next_value e c;
-    there = ap (value_at (after_saying e k c).table) same ∙ at_same e.table (own_register e k) (next_value e c);
-    alive = refl;
-    order = inr (lower b.order);
-  }
-  | inr ne ↦ record { present = b.present; says = b.says; there = at_other e.table (own_register e k) (next_value e c) u.register ne ∙ b.there; alive = b.alive; order = b.order }
-]
+said_behind : (e : Voice) (k : Key) (c : Content) → KeepsNumbers e → (u : Fields) → u.register.originator ≡ e.address
+    → IsBehind e.incarnation e.table u → IsBehind e.incarnation (after_saying e k c).table u
+said_behind e k c h u mine b = elim (same_or_other u.register (own_register e k)) as (λ _. IsBehind e.incarnation
+    (after_saying e k c).table u) [
+      | inl same ↦ record {
+        present = b.present;
+        says = next_value e c;
+        there = ap (value_at (after_saying e k c).table) same ∙ at_same e.table (own_register e k) (next_value e c);
+        alive = refl;
+        order = inr (lower b.order);
+      }
+      | inr ne ↦ record {
+        present = b.present;
+        says = b.says;
+        there = at_other e.table (own_register e k) (next_value e c) u.register ne ∙ b.there;
+        alive = b.alive;
+        order = b.order;
+      }
+    ]
   where
     named : u.register ≡ own_register e u.register.key
     named = λ i. let q : Register = record { originator = mine i; key = u.register.key } in q
 
     bound : b.says.counter < e.counter + 1
-    bound = let less = h.counted u.register.key b.says (ap (value_at e.table) (sym named) ∙ b.there) b.alive in omega (arith, less)
+    bound = let less = h.counted u.register.key b.says (ap (value_at e.table) (sym named) ∙ b.there) b.alive in
+        omega (arith, less)
 
     lower : (u.value ≡ b.says) ⊎ (u.value.counter < b.says.counter) → u.value.counter < e.counter + 1
     lower (inl same) = let equal = ap (λ (w : Value). w.counter) same in let less = bound in omega (arith, less, equal)
     lower (inr less) = let more = bound in omega (arith, more, less)
 
-pub said_told : (pool : List Fields) (e : Voice) (k : Key) (c : Content) → KeepsNumbers e → IsTold pool e → IsTold pool (after_saying e k c)
+pub said_told : (pool : List Fields) (e : Voice) (k : Key) (c : Content) → KeepsNumbers e → IsTold pool e
+    → IsTold pool (after_saying e k c)
 said_told pool e k c h told = record {
-  foreign = λ r v other is. told.foreign r v other (sym (at_other e.table (own_register e k) (next_value e c) r (λ same. other (ap (λ (q : Register). q.originator) same))) ∙ is);
+  foreign = λ r v other is. told.foreign r v other (sym
+      (at_other e.table (own_register e k) (next_value e c) r
+      (λ same. other (ap (λ (q : Register). q.originator) same))) ∙ is);
   own = λ r v mine is quiet. elim (same_or_other r (own_register e k)) as (λ _. Contains pool (update_of r v)) [
-    | inl same ↦ absurd (quiet (subst (Contains (marked e.pending (own_register e k))) (sym same) (marked_has e.pending (own_register e k))))
-    | inr ne ↦ told.own r v mine (sym (at_other e.table (own_register e k) (next_value e c) r ne) ∙ is) (λ in'. quiet (marked_keeps e.pending (own_register e k) r in'))
+    | inl same ↦ absurd (quiet (subst (Contains (marked e.pending (own_register e k))) (sym same)
+        (marked_has e.pending (own_register e k))))
+    | inr ne ↦ told.own r v mine (sym (at_other e.table (own_register e k) (next_value e c) r ne) ∙ is)
+        (λ in'. quiet (marked_keeps e.pending (own_register e k) r in'))
   ];
-  behind = λ u in' mine. elim (told.behind u in' mine) as (λ _. (u.value.incarnation < e.incarnation) ⊎ IsBehind e.incarnation (after_saying e k c).table u) [
-    | inl earlier ↦ inl earlier
-    | inr b ↦ inr (said_behind e k c h u mine b)
-  ];
+  behind = λ u in' mine. elim (told.behind u in' mine) as (λ _. (u.value.incarnation < e.incarnation)
+      ⊎ IsBehind e.incarnation (after_saying e k c).table u) [
+        | inl earlier ↦ inl earlier
+        | inr b ↦ inr (said_behind e k c h u mine b)
+      ];
 }
 
 -- ---- an update of the pool is heard
-heard_cases : (t : Table) (u : Fields) (r : Register) (v : Value) → value_at (with_update t u) r ≡ Some v → (value_at t r ≡ Some v) ⊎ ((r ≡ u.register) × (v ≡ u.value))
-heard_cases t u r v is = elim (same_or_other r u.register) as (λ _. (value_at t r ≡ Some v) ⊎ ((r ≡ u.register) × (v ≡ u.value))) [
-  | inl same ↦ here same (is_news (value_at t u.register) u.value) is
-  | inr ne ↦ inl (sym (update_other t u.register u.value r ne) ∙ is)
-]
+heard_cases : (t : Table) (u : Fields) (r : Register) (v : Value) → value_at (with_update t u) r ≡ Some v
+    → (value_at t r ≡ Some v) ⊎ ((r ≡ u.register) × (v ≡ u.value))
+heard_cases t u r v is = elim (same_or_other r u.register) as (λ _. (value_at t r ≡ Some v)
+    ⊎ ((r ≡ u.register) × (v ≡ u.value))) [
+      | inl same ↦ here same (is_news (value_at t u.register) u.value) is
+      | inr ne ↦ inl (sym (update_other t u.register u.value r ne) ∙ is)
+    ]
   where
-    here : r ≡ u.register → (b : Bool) → value_at (cond b (with_value t u.register u.value) t) r ≡ Some v → (value_at t r ≡ Some v) ⊎ ((r ≡ u.register) × (v ≡ u.value))
+    here : r ≡ u.register → (b : Bool) → value_at (cond b (with_value t u.register u.value) t) r ≡ Some v
+        → (value_at t r ≡ Some v) ⊎ ((r ≡ u.register) × (v ≡ u.value))
     here same false is = inl is
     here same true is =
-        let both : Some u.value ≡ Some v = sym (at_same t u.register u.value) ∙ ap (value_at (with_value t u.register u.value)) (sym same) ∙ is in
+        let both : Some u.value ≡ Some v = sym (at_same t u.register u.value)
+        ∙ ap (value_at (with_value t u.register u.value)) (sym same) ∙ is in
         inr (same, (let equal : u.value ≡ v = cc in sym equal))
 
-was_announced : (pool : List Fields) (u : Fields) (r : Register) (v : Value) → Contains pool u → r ≡ u.register → v ≡ u.value → Contains pool (update_of r v)
+was_announced : (pool : List Fields) (u : Fields) (r : Register) (v : Value) → Contains pool u → r ≡ u.register
+    → v ≡ u.value → Contains pool (update_of r v)
 was_announced pool u r v in' same equal = subst (Contains pool) (λ i. update_of (sym same i) (sym equal i)) in'
 
 -- another's
-pub heard_told : (pool : List Fields) (e : Voice) (u : Fields) → Contains pool u → u.register.originator ≢ e.address → IsTold pool e → IsTold pool (after_hearing e u)
+pub heard_told : (pool : List Fields) (e : Voice) (u : Fields) → Contains pool u → u.register.originator ≢ e.address
+    → IsTold pool e → IsTold pool (after_hearing e u)
 heard_told pool e u in' other told = record {
   foreign = λ r v ne is. elim (heard_cases e.table u r v is) as (λ _. Contains pool (update_of r v)) [
     | inl before ↦ told.foreign r v ne before
@@ -107,14 +131,23 @@ heard_told pool e u in' other told = record {
     | inl before ↦ told.own r v mine before quiet
     | inr new ↦ was_announced pool u r v in' new.0 new.1
   ];
-  behind = λ w there mine. elim (told.behind w there mine) as (λ _. (w.value.incarnation < e.incarnation) ⊎ IsBehind e.incarnation (after_hearing e u).table w) [
-    | inl earlier ↦ inl earlier
-    | inr b ↦ inr (record { present = b.present; says = b.says; there = update_other e.table u.register u.value w.register (λ same. other (ap (λ (r : Register). r.originator) (sym same) ∙ mine)) ∙ b.there; alive = b.alive; order = b.order })
-  ];
+  behind = λ w there mine. elim (told.behind w there mine) as (λ _. (w.value.incarnation < e.incarnation)
+      ⊎ IsBehind e.incarnation (after_hearing e u).table w) [
+        | inl earlier ↦ inl earlier
+        | inr b ↦ inr (record {
+          present = b.present;
+          says = b.says;
+          there = update_other e.table u.register u.value w.register
+              (λ same. other (ap (λ (r : Register). r.originator) (sym same) ∙ mine)) ∙ b.there;
+          alive = b.alive;
+          order = b.order;
+        })
+      ];
 }
 
 -- one under the edge's own name, of an earlier life
-pub earlier_told : (pool : List Fields) (e : Voice) (u : Fields) → Contains pool u → is_newest e u ≡ true → u.value.incarnation < e.incarnation → IsTold pool e → IsTold pool (after_hearing e u)
+pub earlier_told : (pool : List Fields) (e : Voice) (u : Fields) → Contains pool u → is_newest e u ≡ true
+    → u.value.incarnation < e.incarnation → IsTold pool e → IsTold pool (after_hearing e u)
 earlier_told pool e u in' newest past told = record {
   foreign = λ r v ne is. elim (heard_cases e.table u r v is) as (λ _. Contains pool (update_of r v)) [
     | inl before ↦ told.foreign r v ne before
@@ -124,62 +157,83 @@ earlier_told pool e u in' newest past told = record {
     | inl before ↦ told.own r v mine before quiet
     | inr new ↦ was_announced pool u r v in' new.0 new.1
   ];
-  behind = λ w there mine. elim (told.behind w there mine) as (λ _. (w.value.incarnation < e.incarnation) ⊎ IsBehind e.incarnation (after_hearing e u).table w) [
-    | inl earlier ↦ inl earlier
-    | inr b ↦ inr (record { present = b.present; says = b.says; there = update_other e.table u.register u.value w.register (λ same. not_present e u b.says newest past (ap (value_at e.table) (sym same) ∙ b.there) b.alive) ∙ b.there; alive = b.alive; order = b.order })
-  ];
+  behind = λ w there mine. elim (told.behind w there mine) as (λ _. (w.value.incarnation < e.incarnation)
+      ⊎ IsBehind e.incarnation (after_hearing e u).table w) [
+        | inl earlier ↦ inl earlier
+        | inr b ↦ inr (record {
+          present = b.present;
+          says = b.says;
+          there = update_other e.table u.register u.value w.register
+              (λ same. not_present e u b.says newest past (ap (value_at e.table) (sym same) ∙ b.there) b.alive)
+              ∙ b.there;
+          alive = b.alive;
+          order = b.order;
+        })
+      ];
 }
 
 -- where the update isn't news, nothing changes
-pub known_told : (pool : List Fields) (e : Voice) (u : Fields) → is_newest e u ≡ false → IsTold pool e → IsTold pool (after_hearing e u)
-known_told pool e u known told = subst (λ t. IsTold pool (record e { table = t })) (ap (λ b. cond b (with_value e.table u.register u.value) e.table) (sym known)) told
+pub known_told : (pool : List Fields) (e : Voice) (u : Fields) → is_newest e u ≡ false → IsTold pool e
+    → IsTold pool (after_hearing e u)
+known_told pool e u known told = subst (λ t. IsTold pool (record e { table = t }))
+    (ap (λ b. cond b (with_value e.table u.register u.value) e.table) (sym known)) told
 
-pub own_told : (pool : List Fields) (e : Voice) (u : Fields) → Contains pool u → KeepsNumbers e → u.register.originator ≡ e.address → is_ahead e u ≡ false → IsTold pool e → IsTold pool (after_hearing_own e u)
+pub own_told : (pool : List Fields) (e : Voice) (u : Fields) → Contains pool u → KeepsNumbers e
+    → u.register.originator ≡ e.address → is_ahead e u ≡ false → IsTold pool e → IsTold pool (after_hearing_own e u)
 own_told pool e u in' h mine ahead told = go (is_returning e u)
   where
     heard : (b : Bool) → is_newest e u ≡ b → IsTold pool (after_hearing e u)
     heard true newest = earlier_told pool e u in' newest (past_if_newest e u ahead newest) told
     heard false known = known_told pool e u known told
 
-    go : (b : Bool) → IsTold pool (cond b (after_saying (after_hearing e u) u.register.key Withdrawn) (after_hearing e u))
-    go true = subst (IsTold pool) (sym (refuted_is e u Withdrawn mine)) (said_told pool e u.register.key Withdrawn h told)
+    go : (b : Bool) → IsTold pool (cond b (after_saying (after_hearing e u) u.register.key Withdrawn)
+        (after_hearing e u))
+    go true = subst (IsTold pool) (sym (refuted_is e u Withdrawn mine))
+        (said_told pool e u.register.key Withdrawn h told)
     go false = heard (is_newest e u) refl
 
 -- ---- announcing
 
 -- the pool grows by another's update
-pub grown_told : (pool : List Fields) (u : Fields) (e : Voice) → u.register.originator ≢ e.address → IsTold pool e → IsTold (pool ++ u ∷ []) e
+pub grown_told : (pool : List Fields) (u : Fields) (e : Voice) → u.register.originator ≢ e.address → IsTold pool e
+    → IsTold (pool ++ u ∷ []) e
 grown_told pool u e other told = record {
   foreign = λ r v ne is. Contains-append_left pool (u ∷ []) _ (told.foreign r v ne is);
   own = λ r v mine is quiet. Contains-append_left pool (u ∷ []) _ (told.own r v mine is quiet);
-  behind = λ w in' mine. elim (Contains-push_cases pool u w in') as (λ _. (w.value.incarnation < e.incarnation) ⊎ IsBehind e.incarnation e.table w) [
-    | inl before ↦ told.behind w before mine
-    | inr same ↦ absurd (other (ap (λ (x : Fields). x.register.originator) same ∙ mine))
-  ];
+  behind = λ w in' mine. elim (Contains-push_cases pool u w in') as (λ _. (w.value.incarnation < e.incarnation)
+      ⊎ IsBehind e.incarnation e.table w) [
+        | inl before ↦ told.behind w before mine
+        | inr same ↦ absurd (other (ap (λ (x : Fields). x.register.originator) same ∙ mine))
+      ];
 }
 
 -- the edge itself announces: its first pending register, with what it says
-pub announced_told : (pool : List Fields) (e : Voice) (r : Register) (rs : List Register) (v : Value) → e.pending ≡ r ∷ rs → value_at e.table r ≡ Some v → v.incarnation ≡ e.incarnation → IsTold pool e
+pub announced_told : (pool : List Fields) (e : Voice) (r : Register) (rs : List Register) (v : Value)
+    → e.pending ≡ r ∷ rs → value_at e.table r ≡ Some v → v.incarnation ≡ e.incarnation → IsTold pool e
     → IsTold (pool ++ update_of r v ∷ []) (record e { pending = rs })
 announced_told pool e r rs v at is present told = record {
   foreign = λ q w ne here. Contains-append_left pool _ _ (told.foreign q w ne here);
-  own = λ q w mine here quiet. elim (same_or_other q r) as (λ _. Contains (pool ++ update_of r v ∷ []) (update_of q w)) [
-    | inl same ↦
-        let at_r : value_at e.table r ≡ Some w = subst (λ x. value_at e.table x ≡ Some w) same here in
-        let equal : v ≡ w = cc in
-        subst (Contains (pool ++ update_of r v ∷ [])) (λ i. update_of (sym same i) (equal i)) (Contains-push pool (update_of r v))
-    | inr ne ↦ Contains-append_left pool _ _ (told.own q w mine here (λ in'. quiet (first_gone q ne (subst (λ l. Contains l q) at in'))))
-  ];
-  behind = λ w in' mine. elim (Contains-push_cases pool (update_of r v) w in') as (λ _. (w.value.incarnation < e.incarnation) ⊎ IsBehind e.incarnation e.table w) [
-    | inl before ↦ told.behind w before mine
-    | inr same ↦ inr (record {
-      present = ap (λ (x : Fields). x.value.incarnation) (sym same) ∙ present;
-      says = v;
-      there = ap (λ (x : Fields). value_at e.table x.register) (sym same) ∙ is;
-      alive = present;
-      order = inl (ap (λ (x : Fields). x.value) (sym same));
-    })
-  ];
+  own = λ q w mine here quiet. elim (same_or_other q r) as (λ _. Contains (pool ++ update_of r v ∷ [])
+      (update_of q w)) [
+        | inl same ↦
+            let at_r : value_at e.table r ≡ Some w = subst (λ x. value_at e.table x ≡ Some w) same here in
+            let equal : v ≡ w = cc in
+            subst (Contains (pool ++ update_of r v ∷ [])) (λ i. update_of (sym same i) (equal i))
+            (Contains-push pool (update_of r v))
+        | inr ne ↦ Contains-append_left pool _ _ (told.own q w mine here
+            (λ in'. quiet (first_gone q ne (subst (λ l. Contains l q) at in'))))
+      ];
+  behind = λ w in' mine. elim (Contains-push_cases pool (update_of r v) w in') as (λ _.
+      (w.value.incarnation < e.incarnation) ⊎ IsBehind e.incarnation e.table w) [
+        | inl before ↦ told.behind w before mine
+        | inr same ↦ inr (record {
+          present = ap (λ (x : Fields). x.value.incarnation) (sym same) ∙ present;
+          says = v;
+          there = ap (λ (x : Fields). value_at e.table x.register) (sym same) ∙ is;
+          alive = present;
+          order = inl (ap (λ (x : Fields). x.value) (sym same));
+        })
+      ];
 }
   where
     first_gone : (q : Register) → q ≢ r → Contains (r ∷ rs) q → Contains rs q
@@ -214,7 +268,8 @@ one_itself e = record { address = refl; incarnation = refl; originators = refl }
 
 pub talks_one : (e v : Voice) → Talks e v → AreOne e v
 talks_one e _ Quiet = one_itself e
-talks_one e _ (Says v k c t) = let h = talks_one e v t in record { address = h.address; incarnation = h.incarnation; originators = h.originators }
+talks_one e _ (Says v k c t) = let h = talks_one e v t in
+    record { address = h.address; incarnation = h.incarnation; originators = h.originators }
 
 pub heard_one : (e : Voice) (u : Fields) → AreOne e (after_hearing e u)
 heard_one e u = record { address = refl; incarnation = refl; originators = same_listeners e.table u }
@@ -227,4 +282,8 @@ own_one e u = go (is_returning e u)
     go false = heard_one e u
 
 pub one_further : (e v w : Voice) → AreOne e v → AreOne v w → AreOne e w
-one_further e v w h g = record { address = g.address ∙ h.address; incarnation = g.incarnation ∙ h.incarnation; originators = g.originators ∙ h.originators }
+one_further e v w h g = record {
+  address = g.address ∙ h.address;
+  incarnation = g.incarnation ∙ h.incarnation;
+  originators = g.originators ∙ h.originators;
+}

@@ -15,7 +15,8 @@ use Rattle.ev_fabric.specs.Fabric.{Fabric, IsEdge}
 -- Nothing is pending, and each edge has each update of the pool, or a newer one of its register.
 pub record AllAgree (f : Fabric) : Type 0 where
   pub quiet : (i : ℕ) (a : Edge) → IsEdge f i a → a.claims.voice.pending ≡ []
-  pub arrived : (i : ℕ) (a : Edge) → IsEdge f i a → (u : Fields) → Contains f.pool u → (v : Value) × (value_at (table_of a) u.register ≡ Some v) × (is_newer u.value v ≡ false)
+  pub arrived : (i : ℕ) (a : Edge) → IsEdge f i a → (u : Fields) → Contains f.pool u
+      → (v : Value) × (value_at (table_of a) u.register ≡ Some v) × (is_newer u.value v ≡ false)
 
 -- the edge advertises the station, with some IP address or with none
 abbrev pub Advertises : Edge → Station → Type 0

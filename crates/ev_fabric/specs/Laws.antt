@@ -1,5 +1,6 @@
 -- What holds of every run of a fabric.
-use Rattle.std.specs.Prelude.{◌≡◌, ◌≢◌, ◌⊎◌, ◌↔◌, ℕ, ◌<◌, ◌^◌, true, false, Option, Some, None, IsSome, Result, Ok, List, [], ◌∷◌, ◌++◌, Contains}
+use Rattle.std.specs.Prelude.{◌≡◌, ◌≢◌, ◌⊎◌, ◌↔◌, ℕ, ◌<◌, ◌^◌, true, false, Option, Some, None, IsSome, Result, Ok}
+use Rattle.std.specs.Prelude.{List, [], ◌∷◌, ◌++◌, Contains}
 use Rattle.ether_wire.specs.Ports.{has_port, no_ports}
 use Rattle.route_wire.specs.declared.update.Register.{Register}
 use Rattle.route_wire.specs.declared.update.Value.{Value}
@@ -46,25 +47,30 @@ EveryRun = (steps : List Step) (old new : Fabric) → Runs old steps new → IsS
 
 -- the value is of an earlier life of the edge b, or isn't newer than what b says of the register itself
 abbrev pub IsNotAhead : Edge → Register → Value → Type 0
-IsNotAhead b r v = (v.incarnation < life_of b) ⊎ ((w : Value) × (value_at (table_of b) r ≡ Some w) × (is_newer v w ≡ false))
+IsNotAhead b r v = (v.incarnation < life_of b) ⊎ ((w : Value) × (value_at (table_of b) r ≡ Some w)
+    × (is_newer v w ≡ false))
 
 abbrev pub NoneAhead : Type 0
-NoneAhead = (f : Fabric) → IsSound f → (i j : ℕ) (a b : Edge) → IsEdge f i a → IsEdge f j b → (r : Register) (v : Value) → r.originator ≡ address_of b → value_at (table_of a) r ≡ Some v → IsNotAhead b r v
+NoneAhead = (f : Fabric) → IsSound f → (i j : ℕ) (a b : Edge) → IsEdge f i a → IsEdge f j b → (r : Register) (v : Value)
+    → r.originator ≡ address_of b → value_at (table_of a) r ≡ Some v → IsNotAhead b r v
 
 -- what the edge at place i has is in the pool, but for what it still has to announce
 abbrev pub Announced : Type 0
-Announced = (f : Fabric) → IsSound f → (i : ℕ) (a : Edge) → IsEdge f i a → (r : Register) (v : Value) → value_at (table_of a) r ≡ Some v
+Announced = (f : Fabric) → IsSound f → (i : ℕ) (a : Edge) → IsEdge f i a → (r : Register) (v : Value)
+    → value_at (table_of a) r ≡ Some v
     → (r.originator ≡ address_of a → Contains a.claims.voice.pending r → ⊥) → Contains f.pool (update_of r v)
 
 -- two updates of one register, life and number are one
 abbrev pub SaidOnce : Type 0
-SaidOnce = (f : Fabric) → IsSound f → (u w : Fields) → Contains f.pool u → Contains f.pool w → u.register ≡ w.register → u.value.incarnation ≡ w.value.incarnation → u.value.counter ≡ w.value.counter → u ≡ w
+SaidOnce = (f : Fabric) → IsSound f → (u w : Fields) → Contains f.pool u → Contains f.pool w → u.register ≡ w.register
+    → u.value.incarnation ≡ w.value.incarnation → u.value.counter ≡ w.value.counter → u ≡ w
 
 -- ---- equal tables
 
 -- of two good edges with equal registers one advertises a station at most, whatever they have come through
 abbrev pub OneOfTwo : Type 0
-OneOfTwo = (a b : Edge) (s : Station) → IsGoodEdge a → IsGoodEdge b → (table_of a).registers ≡ (table_of b).registers → Advertises a s → Advertises b s → address_of a ≡ address_of b
+OneOfTwo = (a b : Edge) (s : Station) → IsGoodEdge a → IsGoodEdge b → (table_of a).registers ≡ (table_of b).registers
+    → Advertises a s → Advertises b s → address_of a ≡ address_of b
 
 -- ---- where all agree
 
@@ -72,11 +78,13 @@ abbrev pub AgreedTables : Type 0
 AgreedTables = (f : Fabric) → IsSound f → AllAgree f → (i : ℕ) (a : Edge) → IsEdge f i a → IsTableOf f.pool (table_of a)
 
 abbrev pub AgreedReports : Type 0
-AgreedReports = (f : Fabric) → IsSound f → AllAgree f → (i j : ℕ) (a b : Edge) → IsEdge f i a → IsEdge f j b → report_of (table_of a) ≡ report_of (table_of b)
+AgreedReports = (f : Fabric) → IsSound f → AllAgree f → (i j : ℕ) (a b : Edge) → IsEdge f i a → IsEdge f j b
+    → report_of (table_of a) ≡ report_of (table_of b)
 
 -- one edge advertises a station at most
 abbrev pub OneOfAll : Type 0
-OneOfAll = (f : Fabric) → IsSound f → AllAgree f → (i j : ℕ) (a b : Edge) (s : Station) → IsEdge f i a → IsEdge f j b → Advertises a s → Advertises b s → i ≡ j
+OneOfAll = (f : Fabric) → IsSound f → AllAgree f → (i j : ℕ) (a b : Edge) (s : Station) → IsEdge f i a → IsEdge f j b
+    → Advertises a s → Advertises b s → i ≡ j
 
 -- it has learnt it, behind a port of the station's network
 pub record IsBehindPort (a : Edge) (s : Station) (x : Entry) : Type 0 where
@@ -88,11 +96,13 @@ Learnt = (a : Edge) (s : Station) → IsGoodEdge a → Advertises a s → (x : E
 
 -- and every edge takes it for the owner
 abbrev pub OwnerOfAll : Type 0
-OwnerOfAll = (f : Fabric) → IsSound f → AllAgree f → (i j : ℕ) (a b : Edge) (s : Station) → IsEdge f i a → IsEdge f j b → Advertises a s → IsOwner (table_of b) s.vni s.mac (address_of a)
+OwnerOfAll = (f : Fabric) → IsSound f → AllAgree f → (i j : ℕ) (a b : Edge) (s : Station) → IsEdge f i a → IsEdge f j b
+    → Advertises a s → IsOwner (table_of b) s.vni s.mac (address_of a)
 
 -- no table has an advert of an earlier life of its originator
 abbrev pub NoneBack : Type 0
-NoneBack = (f : Fabric) → IsSound f → AllAgree f → (i j : ℕ) (a b : Edge) → IsEdge f i a → IsEdge f j b → (r : Register) (v : Value) → r.originator ≡ address_of b → value_at (table_of a) r ≡ Some v
+NoneBack = (f : Fabric) → IsSound f → AllAgree f → (i j : ℕ) (a b : Edge) → IsEdge f i a → IsEdge f j b
+    → (r : Register) (v : Value) → r.originator ≡ address_of b → value_at (table_of a) r ≡ Some v
     → IsSome (advert_in v.content) → v.incarnation ≡ life_of b
 
 -- ---- where frames go
@@ -158,25 +168,31 @@ pub record GoesOut (q : ℕ) (May : Type 0) (reply : Reply) : Type 0 where
 
 -- where all agree, a frame for a station that another edge advertises goes to that edge alone
 abbrev pub FramesGo : Type 0
-FramesGo = (f : Fabric) → IsSound f → AllAgree f → (i j : ℕ) (o a b : Edge) (s : Station) → IsEdge f i o → IsEdge f j a → i ≢ j → Advertises o s
-    → (event : Event) (port : ℕ) (reply : Reply) → IsFrameFor a event port s → Steps a event (Ok reply) b → GoesTo (address_of o) reply
+FramesGo = (f : Fabric) → IsSound f → AllAgree f → (i j : ℕ) (o a b : Edge) (s : Station) → IsEdge f i o → IsEdge f j a
+    → i ≢ j → Advertises o s
+    → (event : Event) (port : ℕ) (reply : Reply) → IsFrameFor a event port s → Steps a event (Ok reply) b
+    → GoesTo (address_of o) reply
 
 -- at the edge that advertises the station, it goes to the port behind which it is learnt
 abbrev pub FramesComeOut : Type 0
-FramesComeOut = (o b : Edge) (s : Station) → IsGoodEdge o → Advertises o s → (event : Event) (port : ℕ) (reply : Reply) → IsFrameFor o event port s → Steps o event (Ok reply) b
+FramesComeOut = (o b : Edge) (s : Station) → IsGoodEdge o → Advertises o s → (event : Event) (port : ℕ) (reply : Reply)
+    → IsFrameFor o event port s → Steps o event (Ok reply) b
     → (x : Entry) × IsBehindPort o s x × GoesOut x.port (Passes o.tree x.port × (x.port ≢ port)) reply
 
 -- and so does one that comes from another edge
 abbrev pub TunnelFramesComeOut : Type 0
-TunnelFramesComeOut = (o b : Edge) (s : Station) → IsGoodEdge o → Advertises o s → (event : Event) (reply : Reply) → IsTunnelFrameFor o event s → Steps o event (Ok reply) b
+TunnelFramesComeOut = (o b : Edge) (s : Station) → IsGoodEdge o → Advertises o s → (event : Event) (reply : Reply)
+    → IsTunnelFrameFor o event s → Steps o event (Ok reply) b
     → (x : Entry) × IsBehindPort o s x × GoesOut x.port (Passes o.tree x.port) reply
 
--- The datagram, entered at the edge o as one from this address, isn't refused, and its frame is given to the port behind
+-- The datagram, entered at the edge o as one from this address, isn't refused, and its frame is given to the port
+-- behind
 -- which the station is alone, if that passes; else to nothing.
 pub record ComesOut (o : Edge) (from : ℕ) (datagram : List ℕ) (s : Station) : Type 0 where
   pub entry : Entry
   pub behind : IsBehindPort o s entry
-  pub out : (event : Event) (result : Result Reply Refusal) (after : Edge) → tunnel_frame_in event ≡ Some (from, datagram) → Steps o event result after
+  pub out : (event : Event) (result : Result Reply Refusal) (after : Edge)
+      → tunnel_frame_in event ≡ Some (from, datagram) → Steps o event result after
       → (reply : Reply) × (result ≡ Ok reply) × GoesOut entry.port (Passes o.tree entry.port) reply
 
 -- From port to port, where all agree: a frame at a port of edge a for a station that edge o advertises is given to o
@@ -184,8 +200,10 @@ pub record ComesOut (o : Edge) (from : ℕ) (datagram : List ℕ) (s : Station) 
 -- has three octets, as each VNI has by its type.
 abbrev pub FromPortToPort : Type 0
 FromPortToPort =
-    (f : Fabric) → IsSound f → AllAgree f → (i j : ℕ) (o a b : Edge) (s : Station) → IsEdge f i o → IsEdge f j a → i ≢ j → Advertises o s
-    → s.vni < 2 ^ 24 → (event : Event) (port : ℕ) (reply : Reply) → (frame : IsFrameFor a event port s) → Steps a event (Ok reply) b
+    (f : Fabric) → IsSound f → AllAgree f → (i j : ℕ) (o a b : Edge) (s : Station) → IsEdge f i o → IsEdge f j a → i ≢ j
+    → Advertises o s
+    → s.vni < 2 ^ 24 → (event : Event) (port : ℕ) (reply : Reply) → (frame : IsFrameFor a event port s)
+    → Steps a event (Ok reply) b
     → GoesTo (address_of o) reply × ComesOut o (address_of a) (datagram_of s.vni frame.octets) s
 
 -- ---- tables of edges
@@ -205,4 +223,5 @@ TablesJoin = (a b c : Edge) → AreJoined a b c
 
 -- the join of two edges' tables is the table of both sets of updates
 abbrev pub SetsJoin : Type 0
-SetsJoin = (us vs : List Fields) (a b : Edge) → IsTableOf us (table_of a) → IsTableOf vs (table_of b) → IsTableOf (us ++ vs) (joined a b)
+SetsJoin = (us vs : List Fields) (a b : Edge) → IsTableOf us (table_of a) → IsTableOf vs (table_of b)
+    → IsTableOf (us ++ vs) (joined a b)

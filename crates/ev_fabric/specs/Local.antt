@@ -2,7 +2,8 @@
 use Rattle.ev_edge.specs.declared.event.Event.{Event}
 use Rattle.ev_edge.specs.declared.event.Event.TheVariants as events
 use Rattle.ev_fabric.specs.declared.step.LocalEvent.{LocalEvent}
-use Rattle.ev_fabric.specs.declared.step.LocalEvent.TheVariants.{Frame, TunnelFrame, Pin, Unpin, Thaw, Second, PortUp, PortDown, Mcheck}
+use Rattle.ev_fabric.specs.declared.step.LocalEvent.TheVariants.{Frame, TunnelFrame, Pin, Unpin, Thaw, Second, PortUp}
+use Rattle.ev_fabric.specs.declared.step.LocalEvent.TheVariants.{PortDown, Mcheck}
 
 -- the same as an event of an edge
 abbrev pub event_of : LocalEvent → Event

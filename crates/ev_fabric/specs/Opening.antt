@@ -22,7 +22,8 @@ pub record AreConfigs (cs : List EdgeConfig) : Type 0 where
 -- each edge is as it is opened, and good, as its type says
 pub record AreOpened (cs : List EdgeConfig) (edges : List Edge) : Type 0 where
   pub count : length edges ≡ length cs
-  pub opened : (i : ℕ) (c : EdgeConfig) (a : Edge) → slice_get cs i ≡ Some c → slice_get edges i ≡ Some a → IsOpening c a
+  pub opened : (i : ℕ) (c : EdgeConfig) (a : Edge) → slice_get cs i ≡ Some c → slice_get edges i ≡ Some a
+      → IsOpening c a
   pub good : (i : ℕ) (a : Edge) → slice_get edges i ≡ Some a → IsGoodEdge a
 
 -- the edges are opened, and nothing is announced

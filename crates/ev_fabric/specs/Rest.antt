@@ -1,5 +1,6 @@
 -- A fabric that is left alone: announcements and deliveries, and nothing else.
-use Rattle.std.specs.Prelude.{◌≡◌, ◌≢◌, ℕ, zero, suc, ◌+◌, ◌<◌, ◌≤◌, ◌^◌, Some, Result, Ok, Err, List, [], ◌∷◌, ◌++◌, length, Contains, slice_get}
+use Rattle.std.specs.Prelude.{◌≡◌, ◌≢◌, ℕ, zero, suc, ◌+◌, ◌<◌, ◌≤◌, ◌^◌, Some, Result, Ok, Err, List, [], ◌∷◌, ◌++◌}
+use Rattle.std.specs.Prelude.{length, Contains, slice_get}
 use Rattle.std.specs.List.{sum_by}
 use Rattle.route_wire.specs.Fields.{Fields}
 use Rattle.ev_edge.specs.declared.refusal.Refusal.TheVariants.{Edge as OfEdge}
@@ -30,12 +31,14 @@ IsGranted (Err why) = (why ≢ NoMemory) × (why ≢ OfAnEdge (OfEdge EdgeNoMemo
 -- a list of announcements and deliveries, with no growth refused
 abbrev pub Rests : Fabric → List Step → Fabric → Type 0
 Rests old [] new = new ≡ old
-Rests old (step ∷ steps) new = (mid : Fabric) × (result : Result Reply Refusal) × IsQuiet step × IsGranted result × FabricSteps old step result mid × Rests mid steps new
+Rests old (step ∷ steps) new = (mid : Fabric) × (result : Result Reply Refusal) × IsQuiet step × IsGranted result
+    × FabricSteps old step result mid × Rests mid steps new
 
 -- the same, and each step changes the fabric
 abbrev pub Works : Fabric → List Step → Fabric → Type 0
 Works old [] new = new ≡ old
-Works old (step ∷ steps) new = (mid : Fabric) × (result : Result Reply Refusal) × IsQuiet step × IsGranted result × FabricSteps old step result mid × (mid ≢ old) × Works mid steps new
+Works old (step ∷ steps) new = (mid : Fabric) × (result : Result Reply Refusal) × IsQuiet step × IsGranted result
+    × FabricSteps old step result mid × (mid ≢ old) × Works mid steps new
 
 abbrev pub AllQuiet : List Step → Type 0
 AllQuiet steps = (step : Step) → Contains steps step → IsQuiet step
@@ -57,7 +60,8 @@ work f = to_come f + sum_by (λ (a : Edge). missing f.pool a.claims.voice + to_c
 
 -- an edge to which an own advert of an earlier life may come back has a number left for each of its withdrawals
 abbrev pub HasNumbers : Fabric → Type 0
-HasNumbers f = (i : ℕ) (a : Edge) → IsEdge f i a → 0 < returning f.pool a.claims.voice → a.claims.voice.counter + unsaid f.pool a.claims ≤ 2 ^ 63
+HasNumbers f = (i : ℕ) (a : Edge) → IsEdge f i a → 0 < returning f.pool a.claims.voice
+    → a.claims.voice.counter + unsaid f.pool a.claims ≤ 2 ^ 63
 
 -- ---- rounds
 
@@ -99,7 +103,8 @@ pub record WasGiven (old : Fabric) (steps : List Step) (new : Fabric) (e k : ℕ
 
 -- each edge took each update of the pool that there is in the end
 abbrev pub AllGiven : Fabric → List Step → Fabric → Type 0
-AllGiven old steps new = (i : ℕ) (a : Edge) (k : ℕ) (u : Fields) → IsEdge new i a → slice_get new.pool k ≡ Some u → WasGiven old steps new (suc i) (suc k)
+AllGiven old steps new = (i : ℕ) (a : Edge) (k : ℕ) (u : Fields) → IsEdge new i a → slice_get new.pool k ≡ Some u
+    → WasGiven old steps new (suc i) (suc k)
 
 -- nothing is pending
 abbrev pub AllSilent : Fabric → Type 0

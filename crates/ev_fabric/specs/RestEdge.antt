@@ -16,7 +16,8 @@ use Rattle.ev_claims.specs.Claims.{Claims, entries}
 
 -- w is a newer advert of u's register
 abbrev pub is_over : Fields → Fields → Bool
-is_over u w = eq_by_cmp register_cmp w.register u.register && (is_some (advert_in w.value.content) && is_newer w.value u.value)
+is_over u w = eq_by_cmp register_cmp w.register u.register
+    && (is_some (advert_in w.value.content) && is_newer w.value u.value)
 
 -- the pool has no newer advert of its register
 abbrev pub is_latest : List Fields → Fields → Bool
@@ -54,5 +55,6 @@ pub record IsLater (a b : Voice) : Type 0 where
   pub address : b.address ≡ a.address
   pub incarnation : b.incarnation ≡ a.incarnation
   pub originators : b.table.originators ≡ a.table.originators
-  pub news : (r : Register) (w : Value) → is_news (value_at a.table r) w ≡ false → is_news (value_at b.table r) w ≡ false
+  pub news : (r : Register) (w : Value) → is_news (value_at a.table r) w ≡ false
+      → is_news (value_at b.table r) w ≡ false
   pub fades : (k : Key) → (own b k ≡ own a k) ⊎ (own_advert b k ≡ None)

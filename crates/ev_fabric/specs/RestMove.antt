@@ -40,4 +40,5 @@ pub record IsMoved (old : List Fields) (s : Station) (from to : ℕ) (new : List
   pub withdrawal : Value
   pub is_advert : IsSome (advert_in advert.content)
   pub is_withdrawal : advert_in withdrawal.content ≡ None
-  pub is : new ≡ old ++ update_of (register_of to (key_of s)) advert ∷ update_of (register_of from (key_of s)) withdrawal ∷ []
+  pub is : new ≡ old
+      ++ update_of (register_of to (key_of s)) advert ∷ update_of (register_of from (key_of s)) withdrawal ∷ []

@@ -9,4 +9,5 @@ use Rattle.ev_fabric.specs.Steps.{FabricSteps}
 -- a list of steps, each from where the one before has led, with whatever answers
 abbrev pub Runs : Fabric → List Step → Fabric → Type 0
 Runs old [] new = new ≡ old
-Runs old (step ∷ steps) new = (mid : Fabric) × (result : Result Reply Refusal) × FabricSteps old step result mid × Runs mid steps new
+Runs old (step ∷ steps) new = (mid : Fabric) × (result : Result Reply Refusal) × FabricSteps old step result mid
+    × Runs mid steps new

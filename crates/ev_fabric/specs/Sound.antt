@@ -25,13 +25,17 @@ pub record IsBehind (n : ℕ) (t : Table) (u : Fields) : Type 0 where
 -- What the pool and what an edge says know of each other: what the edge has of others was announced; what it says
 -- itself was announced or is pending; what it announced in this life is what it says, or has a lower number.
 pub record IsTold (pool : List Fields) (e : Voice) : Type 0 where
-  pub foreign : (r : Register) (v : Value) → r.originator ≢ e.address → value_at e.table r ≡ Some v → Contains pool (update_of r v)
-  pub own : (r : Register) (v : Value) → r.originator ≡ e.address → value_at e.table r ≡ Some v → (Contains e.pending r → ⊥) → Contains pool (update_of r v)
-  pub behind : (u : Fields) → Contains pool u → u.register.originator ≡ e.address → (u.value.incarnation < e.incarnation) ⊎ IsBehind e.incarnation e.table u
+  pub foreign : (r : Register) (v : Value) → r.originator ≢ e.address → value_at e.table r ≡ Some v
+      → Contains pool (update_of r v)
+  pub own : (r : Register) (v : Value) → r.originator ≡ e.address → value_at e.table r ≡ Some v
+      → (Contains e.pending r → ⊥) → Contains pool (update_of r v)
+  pub behind : (u : Fields) → Contains pool u → u.register.originator ≡ e.address
+      → (u.value.incarnation < e.incarnation) ⊎ IsBehind e.incarnation e.table u
 
 -- of one register, life and number there is one update
 abbrev pub SaidOnce : List Fields → Type 0
-SaidOnce pool = (u w : Fields) → Contains pool u → Contains pool w → u.register ≡ w.register → u.value.incarnation ≡ w.value.incarnation → u.value.counter ≡ w.value.counter → u ≡ w
+SaidOnce pool = (u w : Fields) → Contains pool u → Contains pool w → u.register ≡ w.register
+    → u.value.incarnation ≡ w.value.incarnation → u.value.counter ≡ w.value.counter → u ≡ w
 
 -- the edge was opened with c
 pub record IsOf (c : EdgeConfig) (a : Edge) : Type 0 where
@@ -45,7 +49,8 @@ pub record IsSound (f : Fabric) : Type 0 where
   pub good : (i : ℕ) (a : Edge) → IsEdge f i a → IsGoodEdge a
   pub told : (i : ℕ) (a : Edge) → IsEdge f i a → IsTold f.pool a.claims.voice
   pub once : SaidOnce f.pool
-  pub sources : (u : Fields) → Contains f.pool u → (i : ℕ) × (a : Edge) × IsEdge f i a × (address_of a ≡ u.register.originator)
+  pub sources : (u : Fields) → Contains f.pool u → (i : ℕ) × (a : Edge) × IsEdge f i a
+      × (address_of a ≡ u.register.originator)
   pub listed : (i j : ℕ) (a b : Edge) → IsEdge f i a → IsEdge f j b → is_listed (table_of a) (address_of b) ≡ true
   pub count : length f.configs ≡ length f.edges
   pub configs : (i : ℕ) (c : EdgeConfig) (a : Edge) → slice_get f.configs i ≡ Some c → IsEdge f i a → IsOf c a

@@ -1,6 +1,7 @@
 -- One station of a fabric: when all edges agree on it, and what becomes of it when it moves, whatever else is pending,
 -- missing or under way.
-use Rattle.std.specs.Prelude.{◌≡◌, ◌≢◌, ◌⊎◌, ℕ, suc, ◌+◌, ◌^◌, ◌≤◌, ◌<◌, ◌==◌, ◌&&◌, Bool, true, false, if◌then◌else◌, Option, Some, None, IsSome, is_some, Result, Ok, List, [], ◌∷◌, length, Contains}
+use Rattle.std.specs.Prelude.{◌≡◌, ◌≢◌, ◌⊎◌, ℕ, suc, ◌+◌, ◌^◌, ◌≤◌, ◌<◌, ◌==◌, ◌&&◌, Bool, true, false, if◌then◌else◌}
+use Rattle.std.specs.Prelude.{Option, Some, None, IsSome, is_some, Result, Ok, List, [], ◌∷◌, length, Contains}
 use Rattle.std.specs.List.{filter, count_by, sum_by}
 use Rattle.route_wire.specs.declared.update.Ip.{Ip}
 use Rattle.route_wire.specs.declared.update.Key.{Key}
@@ -84,34 +85,44 @@ pub record IsOfPresentLife (f : Fabric) (o life : ℕ) : Type 0 where
 
 pub record IsAgreedStation (f : Fabric) (s : Station) : Type 0 where
   -- each edge has the same values of the station's registers
-  pub equal : (i j : ℕ) (a b : Edge) (r : Register) → IsEdge f i a → IsEdge f j b → is_of s r ≡ true → value_at (table_of a) r ≡ value_at (table_of b) r
+  pub equal : (i j : ℕ) (a b : Edge) (r : Register) → IsEdge f i a → IsEdge f j b → is_of s r ≡ true
+      → value_at (table_of a) r ≡ value_at (table_of b) r
   -- they are in the pool
-  pub from : (i : ℕ) (a : Edge) (r : Register) (v : Value) → IsEdge f i a → is_of s r ≡ true → value_at (table_of a) r ≡ Some v → Contains f.pool (update_of r v)
+  pub from : (i : ℕ) (a : Edge) (r : Register) (v : Value) → IsEdge f i a → is_of s r ≡ true
+      → value_at (table_of a) r ≡ Some v → Contains f.pool (update_of r v)
   -- and the pool has no newer one of the register
-  pub newest : (i : ℕ) (a : Edge) (u : Fields) (v : Value) → IsEdge f i a → is_of s u.register ≡ true → Contains f.pool u → value_at (table_of a) u.register ≡ Some v → is_newer u.value v ≡ false
+  pub newest : (i : ℕ) (a : Edge) (u : Fields) (v : Value) → IsEdge f i a → is_of s u.register ≡ true
+      → Contains f.pool u → value_at (table_of a) u.register ≡ Some v → is_newer u.value v ≡ false
   -- at most one edge of all advertises the station
   pub one : (i j : ℕ) (a b : Edge) → IsEdge f i a → IsEdge f j b → Advertises a s → Advertises b s → i ≡ j
   -- that edge has learnt it behind a port of its network
   pub learnt : (i : ℕ) (a : Edge) → IsEdge f i a → Advertises a s → (x : Entry) × IsBehindPort a s x
   -- every edge takes it for the owner
-  pub owner : (i j : ℕ) (a b : Edge) → IsEdge f i a → IsEdge f j b → Advertises a s → IsOwner (table_of b) s.vni s.mac (address_of a)
+  pub owner : (i j : ℕ) (a b : Edge) → IsEdge f i a → IsEdge f j b → Advertises a s
+      → IsOwner (table_of b) s.vni s.mac (address_of a)
   -- none has an advert of an earlier life of any originator
-  pub present : (i : ℕ) (a : Edge) (r : Register) (v : Value) → IsEdge f i a → is_of s r ≡ true → value_at (table_of a) r ≡ Some v → IsSome (advert_in v.content) → IsOfPresentLife f r.originator v.incarnation
+  pub present : (i : ℕ) (a : Edge) (r : Register) (v : Value) → IsEdge f i a → is_of s r ≡ true
+      → value_at (table_of a) r ≡ Some v → IsSome (advert_in v.content) → IsOfPresentLife f r.originator v.incarnation
 
 abbrev pub AgreedStation : Type 0
 AgreedStation = (f : Fabric) (s : Station) → IsSound f → AgreesOn f s → IsAgreedStation f s
 
 -- where all agree on a station, a frame for it goes from another edge to the one that advertises it, and to it alone
 abbrev pub StationFramesGo : Type 0
-StationFramesGo = (f : Fabric) (s : Station) → IsSound f → AgreesOn f s → (i j : ℕ) (o a b : Edge) → IsEdge f i o → IsEdge f j a → i ≢ j → Advertises o s
-    → (event : Event) (port : ℕ) (reply : Reply) → IsFrameFor a event port s → Steps a event (Ok reply) b → GoesTo (address_of o) reply
+StationFramesGo = (f : Fabric) (s : Station) → IsSound f → AgreesOn f s → (i j : ℕ) (o a b : Edge) → IsEdge f i o
+    → IsEdge f j a → i ≢ j → Advertises o s
+    → (event : Event) (port : ℕ) (reply : Reply) → IsFrameFor a event port s → Steps a event (Ok reply) b
+    → GoesTo (address_of o) reply
 
--- From port to port, whatever else the fabric does: a frame at a port of edge a, for a station that edge o advertises, is given to
--- o alone; and the datagram of its network and octets, entered at o, comes out at the station's port. A network's number has
+-- From port to port, whatever else the fabric does: a frame at a port of edge a, for a station that edge o advertises,
+-- is given to
+-- o alone; and the datagram of its network and octets, entered at o, comes out at the station's port. A network's
+-- number has
 -- three octets, as each VNI has by its type.
 abbrev pub StationFromPortToPort : Type 0
 StationFromPortToPort =
-    (f : Fabric) (s : Station) → IsSound f → AgreesOn f s → (i j : ℕ) (o a b : Edge) → IsEdge f i o → IsEdge f j a → i ≢ j
+    (f : Fabric) (s : Station) → IsSound f → AgreesOn f s → (i j : ℕ) (o a b : Edge) → IsEdge f i o → IsEdge f j a
+    → i ≢ j
     → Advertises o s → s.vni < 2 ^ 24 → (event : Event) (port : ℕ) (reply : Reply) → (frame : IsFrameFor a event port s)
     → Steps a event (Ok reply) b
     → GoesTo (address_of o) reply × ComesOut o (address_of a) (datagram_of s.vni frame.octets) s
@@ -141,7 +152,8 @@ SaysTheSame s a b = (ip : Option Ip) → own b.claims.voice (Mac s.vni s.mac ip)
 
 -- the pool has no advert of the station by this originator
 abbrev pub NeverAdvertised : List Fields → Station → ℕ → Type 0
-NeverAdvertised pool s o = (u : Fields) → Contains pool u → u.register.originator ≡ o → is_of s u.register ≡ true → advert_in u.value.content ≡ None
+NeverAdvertised pool s o = (u : Fields) → Contains pool u → u.register.originator ≡ o → is_of s u.register ≡ true
+    → advert_in u.value.content ≡ None
 
 -- It is another edge than the two of the move that restarts, and it announced no advert of the station before.
 pub record RestartsElsewhere (i j : ℕ) (s : Station) (old : Fabric) (x : ℕ) : Type 0 where
@@ -150,9 +162,11 @@ pub record RestartsElsewhere (i j : ℕ) (s : Station) (old : Fabric) (x : ℕ) 
   pub never : (a : Edge) → IsEdge old x a → NeverAdvertised old.pool s (address_of a)
 
 -- No event from outside changes what any edge says of the station; and who restarts is neither of the two edges of the
--- move, and has announced no advert of the station. Every announcement and delivery is allowed, and what changes nothing.
+-- move, and has announced no advert of the station. Every announcement and delivery is allowed, and what changes
+-- nothing.
 abbrev pub LeavesStation : ℕ → ℕ → Station → Fabric → Step → Fabric → Type 0
-LeavesStation i j s old (Local e event) new = (x : ℕ) (a b : Edge) → e ≡ suc x → IsEdge old x a → IsEdge new x b → SaysTheSame s a b
+LeavesStation i j s old (Local e event) new = (x : ℕ) (a b : Edge) → e ≡ suc x → IsEdge old x a → IsEdge new x b
+    → SaysTheSame s a b
 LeavesStation i j s old (Announce e) new = Unit {0}
 LeavesStation i j s old (Deliver e k) new = Unit {0}
 LeavesStation i j s old (Restart e n) new = (new ≡ old) ⊎ ((x : ℕ) → e ≡ suc x → RestartsElsewhere i j s old x)
@@ -160,21 +174,24 @@ LeavesStation i j s old (Restart e n) new = (new ≡ old) ⊎ ((x : ℕ) → e �
 -- any list of steps, with whatever answers, each of which leaves the station so
 abbrev pub RunsBeside : ℕ → ℕ → Station → Fabric → List Step → Fabric → Type 0
 RunsBeside i j s old [] new = new ≡ old
-RunsBeside i j s old (step ∷ steps) new = (mid : Fabric) × (result : Result Reply Refusal) × FabricSteps old step result mid × LeavesStation i j s old step mid × RunsBeside i j s mid steps new
+RunsBeside i j s old (step ∷ steps) new = (mid : Fabric) × (result : Result Reply Refusal)
+    × FabricSteps old step result mid × LeavesStation i j s old step mid × RunsBeside i j s mid steps new
 
 -- the updates of registers of the station, in their order
 abbrev pub updates_on : Station → List Fields → List Fields
 updates_on s us = filter (λ u. is_of s u.register) us
 
 -- What becomes of a move: of the station's registers the pool has got two updates, an advert of the new place and then
--- a withdrawal of the old one; every edge takes the new place for the owner; the old one advertises the station no more.
+-- a withdrawal of the old one; every edge takes the new place for the owner; the old one advertises the station no
+-- more.
 pub record StationMoved (old : Fabric) (i : ℕ) (s : Station) (from to : ℕ) (new : Fabric) : Type 0 where
   pub pool : IsMoved (updates_on s old.pool) s from to (updates_on s new.pool)
   pub owner : (x : ℕ) (c : Edge) → IsEdge new x c → IsOwner (table_of c) s.vni s.mac to
   pub gone : (c : Edge) → IsEdge new i c → Advertises c s → ⊥
 
 abbrev pub StationMoves : Type 0
-StationMoves = (i j : ℕ) (s : Station) (old mid new : Fabric) (steps : List Step) → IsSound old → (m : StationComes old i j s mid) → RunsBeside i j s mid steps new → AgreesOn new s
+StationMoves = (i j : ℕ) (s : Station) (old mid new : Fabric) (steps : List Step) → IsSound old
+    → (m : StationComes old i j s mid) → RunsBeside i j s mid steps new → AgreesOn new s
     → StationMoved old i s (address_of m.from) (address_of m.to) new
 
 -- ---- how far a move is from its end
@@ -187,23 +204,28 @@ all_take m k = each (λ e. Deliver e k ∷ []) m
 -- then the old place announces what was pending there, and one update more; then there is another one, and once each
 -- edge has taken it they agree on the station again.
 abbrev pub StationArrives : Type 0
-StationArrives = (i j : ℕ) (s : Station) (old mid told : Fabric) → IsSound old → HasNumbers mid → (m : StationComes old i j s mid) → Rests mid (announcing (suc j) (length m.to.claims.voice.pending + 1)) told
-    → (k : ℕ) × ((heard left : Fabric) → Rests told (all_take (length mid.edges) (suc k)) heard → Rests heard (announcing (suc i) (length m.from.claims.voice.pending + 1)) left
+StationArrives = (i j : ℕ) (s : Station) (old mid told : Fabric) → IsSound old → HasNumbers mid
+    → (m : StationComes old i j s mid) → Rests mid (announcing (suc j) (length m.to.claims.voice.pending + 1)) told
+    → (k : ℕ) × ((heard left : Fabric) → Rests told (all_take (length mid.edges) (suc k)) heard
+    → Rests heard (announcing (suc i) (length m.from.claims.voice.pending + 1)) left
     → (l : ℕ) × ((new : Fabric) → Rests left (all_take (length mid.edges) (suc l)) new → AgreesOn new s))
 
 -- ---- a station that is left alone
 
 -- No event from outside changes what any edge says of the station; and who restarts has announced no advert of it.
 abbrev pub IsLeftAlone : Station → Fabric → Step → Fabric → Type 0
-IsLeftAlone s old (Local e event) new = (x : ℕ) (a b : Edge) → e ≡ suc x → IsEdge old x a → IsEdge new x b → SaysTheSame s a b
+IsLeftAlone s old (Local e event) new = (x : ℕ) (a b : Edge) → e ≡ suc x → IsEdge old x a → IsEdge new x b
+    → SaysTheSame s a b
 IsLeftAlone s old (Announce e) new = Unit {0}
 IsLeftAlone s old (Deliver e k) new = Unit {0}
-IsLeftAlone s old (Restart e n) new = (new ≡ old) ⊎ ((x : ℕ) (a : Edge) → e ≡ suc x → IsEdge old x a → NeverAdvertised old.pool s (address_of a))
+IsLeftAlone s old (Restart e n) new = (new ≡ old) ⊎ ((x : ℕ) (a : Edge) → e ≡ suc x → IsEdge old x a
+    → NeverAdvertised old.pool s (address_of a))
 
 -- any list of steps, with whatever answers, each of which leaves the station alone
 abbrev pub RunsAlone : Station → Fabric → List Step → Fabric → Type 0
 RunsAlone s old [] new = new ≡ old
-RunsAlone s old (step ∷ steps) new = (mid : Fabric) × (result : Result Reply Refusal) × FabricSteps old step result mid × IsLeftAlone s old step mid × RunsAlone s mid steps new
+RunsAlone s old (step ∷ steps) new = (mid : Fabric) × (result : Result Reply Refusal) × FabricSteps old step result mid
+    × IsLeftAlone s old step mid × RunsAlone s mid steps new
 
 -- no edge restarts
 abbrev pub NoneRestarts : List Step → Type 0
@@ -215,22 +237,28 @@ NoneRestarts (Restart e n ∷ steps) = ⊥
 
 -- who agree on a station that is left alone go on agreeing on it, and nothing more of it is announced
 abbrev pub StationLasts : Type 0
-StationLasts = (s : Station) (steps : List Step) (old new : Fabric) → IsSound old → AgreesOn old s → RunsAlone s old steps new → NoneRestarts steps → AgreesOn new s × (updates_on s new.pool ≡ updates_on s old.pool)
+StationLasts = (s : Station) (steps : List Step) (old new : Fabric) → IsSound old → AgreesOn old s
+    → RunsAlone s old steps new → NoneRestarts steps → AgreesOn new s × (updates_on s new.pool ≡ updates_on s old.pool)
 
--- an opened fabric comes so far by two rounds that all agree on each station, and go on agreeing on it while others come
+-- an opened fabric comes so far by two rounds that all agree on each station, and go on agreeing on it while others
+-- come
 -- and go
 abbrev pub StationReached : Type 0
 StationReached = (configs : List EdgeConfig) (f : Fabric) → AreConfigs configs → IsStart configs f
-    → (mid : Fabric) × Rests f (two_rounds f) mid × IsSound mid × ((s : Station) (steps : List Step) (new : Fabric) → RunsAlone s mid steps new → NoneRestarts steps → AgreesOn new s)
+    → (mid : Fabric) × Rests f (two_rounds f) mid × IsSound mid
+    × ((s : Station) (steps : List Step) (new : Fabric) → RunsAlone s mid steps new → NoneRestarts steps
+    → AgreesOn new s)
 
 -- How many updates of the station the edge may still announce: those that wait, one if it advertises the station, and
 -- one for each own advert of an earlier life that would come back from the pool.
 abbrev pub unannounced_on : Station → List Fields → Voice → ℕ
-unannounced_on s pool e = length (filter (is_of s) e.pending) + (if is_some (own_advert e (key_of s)) then 1 else 0) + count_by (λ (u : Fields). is_of s u.register && comes_back e u) pool
+unannounced_on s pool e = length (filter (is_of s) e.pending) + (if is_some (own_advert e (key_of s)) then 1 else 0)
+    + count_by (λ (u : Fields). is_of s u.register && comes_back e u) pool
 
 abbrev pub to_come_on : Station → Fabric → ℕ
 to_come_on s f = sum_by (λ (a : Edge). unannounced_on s f.pool a.claims.voice) f.edges
 
 -- what the pool has of a station that is left alone, with what it may still get, never grows
 abbrev pub StationSettles : Type 0
-StationSettles = (s : Station) (steps : List Step) (old new : Fabric) → IsSound old → RunsAlone s old steps new → length (updates_on s new.pool) + to_come_on s new ≤ length (updates_on s old.pool) + to_come_on s old
+StationSettles = (s : Station) (steps : List Step) (old new : Fabric) → IsSound old → RunsAlone s old steps new
+    → length (updates_on s new.pool) + to_come_on s new ≤ length (updates_on s old.pool) + to_come_on s old

@@ -1,5 +1,6 @@
 -- One step of a fabric: of the named edge, and of no other.
-use Rattle.std.specs.Prelude.{◌≡◌, ◌≢◌, ◌⊎◌, ℕ, ◌-◌, ◌<◌, ◌≤◌, Option, Some, None, Result, Ok, Err, List, [], ◌∷◌, ◌++◌, slice_set}
+use Rattle.std.specs.Prelude.{◌≡◌, ◌≢◌, ◌⊎◌, ℕ, ◌-◌, ◌<◌, ◌≤◌, Option, Some, None, Result, Ok, Err, List, [], ◌∷◌, ◌++◌}
+use Rattle.std.specs.Prelude.{slice_set}
 use Rattle.std.specs.Option.{MatchOption}
 use Rattle.route_wire.specs.Fields.{Fields}
 use Rattle.ev_edge.specs.declared.config.EdgeConfig.{EdgeConfig}
@@ -11,7 +12,8 @@ use Rattle.ev_edge.specs.Edge.{Edge, IsGoodEdge}
 use Rattle.ev_edge.specs.Opening.{IsOpening}
 use Rattle.ev_edge.specs.Steps.{Steps, nothing}
 use Rattle.ev_fabric.specs.declared.refusal.Refusal.{Refusal}
-use Rattle.ev_fabric.specs.declared.refusal.Refusal.TheVariants.{NoSuchEdge, NoSuchUpdate, NoHigher, NoMemory, Edge as OfEdge}
+use Rattle.ev_fabric.specs.declared.refusal.Refusal.TheVariants.{NoSuchEdge, NoSuchUpdate, NoHigher, NoMemory}
+use Rattle.ev_fabric.specs.declared.refusal.Refusal.TheVariants.{Edge as OfEdge}
 use Rattle.ev_fabric.specs.declared.step.Step.{Step}
 use Rattle.ev_fabric.specs.declared.step.Step.TheVariants.{Local, Announce, Deliver, Restart}
 use Rattle.ev_fabric.specs.Fabric.{Fabric, nth, life_of}
@@ -36,7 +38,8 @@ abbrev pub IsRefused : Refusal → Fabric → Result Reply Refusal → Fabric �
 IsRefused why old result new = (result ≡ Err why) × (new ≡ old)
 
 -- the edge at place e of a list steps by the event; the others stay
-pub record OneSteps (old : List Edge) (e : ℕ) (event : Event) (result : Result Reply Refusal) (new : List Edge) : Type 0 where
+pub record OneSteps (old : List Edge) (e : ℕ) (event : Event) (result : Result Reply Refusal) (new : List Edge) :
+    Type 0 where
   pub before : Edge
   pub there : nth old e ≡ Some before
   pub after : Edge
@@ -46,18 +49,21 @@ pub record OneSteps (old : List Edge) (e : ℕ) (event : Event) (result : Result
   pub new_is : new ≡ slice_set old (e - 1) after
 
 -- the edge a at place e steps by the event, and answers; all else stays
-pub record StepsAt (old : Fabric) (e : ℕ) (a : Edge) (event : Event) (result : Result Reply Refusal) (new : Fabric) : Type 0 where
+pub record StepsAt (old : Fabric) (e : ℕ) (a : Edge) (event : Event) (result : Result Reply Refusal) (new : Fabric) :
+    Type 0 where
   pub after : Edge
   pub answer : Result Reply edge.Refusal
   pub steps : Steps a event answer after
   pub result_is : result ≡ of_edge answer
   pub new_is : new ≡ with_edge old e after
 
--- The edge a at place e announces, and what it announces is put at the pool's end. Where something is pending, and there is
+-- The edge a at place e announces, and what it announces is put at the pool's end. Where something is pending, and
+-- there is
 -- no memory for that, it is still pending.
 abbrev pub AnnouncesAt : Fabric → ℕ → Edge → Result Reply Refusal → Fabric → Type 0
 AnnouncesAt old e a (Ok reply) new =
-    (b : Edge) × Steps a events.Announce (Ok reply) b × (new ≡ record (with_edge old e b) { pool = with_announced old.pool reply.announced })
+    (b : Edge) × Steps a events.Announce (Ok reply) b × (new
+    ≡ record (with_edge old e b) { pool = with_announced old.pool reply.announced })
 AnnouncesAt old e a (Err why) new = ((why ≡ NoMemory) × (a.claims.voice.pending ≢ [])) × (new ≡ old)
 
 -- what an edge is opened with in the life n
@@ -83,16 +89,19 @@ pub record OpensAnew (old : Fabric) (e : ℕ) (a : Edge) (n : ℕ) (reply : Repl
 -- where there is no memory for a new edge, the old one stays
 abbrev pub RestartsAt : Fabric → ℕ → Edge → ℕ → Result Reply Refusal → Fabric → Type 0
 RestartsAt old e a n (Ok reply) new = OpensAnew old e a n reply new
-RestartsAt old e a n (Err why) new = (((why ≡ NoHigher) × (n ≤ life_of a)) ⊎ ((why ≡ NoMemory) × (life_of a < n))) × (new ≡ old)
+RestartsAt old e a n (Err why) new = (((why ≡ NoHigher) × (n ≤ life_of a)) ⊎ ((why ≡ NoMemory) × (life_of a < n)))
+    × (new ≡ old)
 
 -- a step of the fabric; the edge and the update that it names are counted from 1
 abbrev pub FabricSteps : Fabric → Step → Result Reply Refusal → Fabric → Type 0
 FabricSteps old (Local e event) result new =
-    MatchOption (nth old.edges e) (IsRefused NoSuchEdge old result new) (λ a. StepsAt old e a (event_of event) result new)
+    MatchOption (nth old.edges e) (IsRefused NoSuchEdge old result new)
+    (λ a. StepsAt old e a (event_of event) result new)
 FabricSteps old (Announce e) result new =
     MatchOption (nth old.edges e) (IsRefused NoSuchEdge old result new) (λ a. AnnouncesAt old e a result new)
 FabricSteps old (Deliver e k) result new =
     MatchOption (nth old.edges e) (IsRefused NoSuchEdge old result new) (λ a.
-    MatchOption (nth old.pool k) (IsRefused NoSuchUpdate old result new) (λ u. StepsAt old e a (events.Take u) result new))
+    MatchOption (nth old.pool k) (IsRefused NoSuchUpdate old result new)
+    (λ u. StepsAt old e a (events.Take u) result new))
 FabricSteps old (Restart e n) result new =
     MatchOption (nth old.edges e) (IsRefused NoSuchEdge old result new) (λ a. RestartsAt old e a n result new)

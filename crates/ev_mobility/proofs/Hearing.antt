@@ -1,5 +1,6 @@
 -- What is heard of all updates of an address is what others advertise of it.
-use Rattle.std.proofs.Common.{◌≡◌, ◌≢◌, ◌⊎◌, inl, inr, ℕ, zero, suc, ◌+◌, ◌<◌, ◌≤◌, ◌^◌, Bool, true, false, cond, eqb, Option, Some, None, List, [], ◌∷◌, length, Contains, refl, sym, ap, subst, ◌∙◌, arith}
+use Rattle.std.proofs.Common.{◌≡◌, ◌≢◌, ◌⊎◌, inl, inr, ℕ, zero, suc, ◌+◌, ◌<◌, ◌≤◌, ◌^◌, Bool, true, false, cond, eqb}
+use Rattle.std.proofs.Common.{Option, Some, None, List, [], ◌∷◌, length, Contains, refl, sym, ap, subst, ◌∙◌, arith}
 use Rattle.std.specs.Prelude.{◌||◌, nat_lt, slice_index_or}
 use Rattle.std.proofs.lemmas.Bool.{eq-eqb, ne_eqb}
 use Rattle.std.proofs.lemmas.Bool.Decides.{nat_tests}
@@ -13,7 +14,8 @@ use Rattle.route_join.specs.Table.{Table, value_at, register_of}
 use Rattle.route_join.specs.Owner.{advert_in, advert_of}
 use Rattle.route_join.specs.Updates.{AreUpdatesOf}
 use Rattle.route_join.proofs.Subjects.{address_key, about_address, about_itself}
-use Rattle.ev_mobility.specs.Seq.{Elsewhere, EveryElsewhere, IsSeqFor, foreign_in, greater_of, heard, heard_all, nothing_heard, seq_above, seq_of}
+use Rattle.ev_mobility.specs.Seq.{Elsewhere, EveryElsewhere, IsSeqFor, foreign_in, greater_of, heard, heard_all}
+use Rattle.ev_mobility.specs.Seq.{nothing_heard, seq_above, seq_of}
 
 -- one of the updates is another's, and says so
 pub record Among (own : ℕ) (us : List Fields) (P : Advert → Type 0) : Type 0 where
@@ -47,14 +49,23 @@ parts u w us c = go c.0 c.1 c.2
     go (suc k) less is = inr (k, omega (arith, less), is)
 
 more : (own : ℕ) (u : Fields) (us : List Fields) (P : Advert → Type 0) → Among own us P → Among own (u ∷ us) P
-more own u us P m = record { update = m.update; there = later u m.update us m.there; advert = m.advert; is = m.is; so = m.so }
+more own u us P m = record {
+  update = m.update;
+  there = later u m.update us m.there;
+  advert = m.advert;
+  is = m.is;
+  so = m.so;
+}
 
 -- one more update, that says nothing or an advert
-pub says_more : (own : ℕ) (u : Fields) (us : List Fields) (h k : Heard) (o : Option Advert) → foreign_in own u ≡ o → Says own us (heard h o) k → Says own (u ∷ us) h k
+pub says_more : (own : ℕ) (u : Fields) (us : List Fields) (h k : Heard) (o : Option Advert) → foreign_in own u ≡ o
+    → Says own us (heard h o) k → Says own (u ∷ us) h k
 says_more own u us h k None is s = record {
-  fixed = λ e. elim (s.fixed e) as (λ _. (h.is_static ≡ true) ⊎ Among own (u ∷ us) (λ a. a.is_static ≡ true)) [ inl x ↦ inl x | inr m ↦ inr (more own u us _ m) ];
+  fixed = λ e. elim (s.fixed e) as (λ _. (h.is_static ≡ true)
+      ⊎ Among own (u ∷ us) (λ a. a.is_static ≡ true)) [ inl x ↦ inl x | inr m ↦ inr (more own u us _ m) ];
   loose = λ e. ((s.loose e).0, each (λ a. a.is_static ≡ false) (s.loose e).1);
-  from = λ g e. elim (s.from g e) as (λ _. (h.greatest ≡ Some g) ⊎ Among own (u ∷ us) (λ a. a.sequence ≡ g)) [ inl x ↦ inl x | inr m ↦ inr (more own u us _ m) ];
+  from = λ g e. elim (s.from g e) as (λ _. (h.greatest ≡ Some g)
+      ⊎ Among own (u ∷ us) (λ a. a.sequence ≡ g)) [ inl x ↦ inl x | inr m ↦ inr (more own u us _ m) ];
   most = λ g e. ((s.most g e).0, each (λ a. a.sequence ≤ g) (s.most g e).1);
   silent = λ e. ((s.silent e).0, each (λ a. ⊥) (s.silent e).1);
 }
@@ -69,7 +80,8 @@ says_more own u us h k (Some b) is s = record {
     | inl x ↦ either h.is_static refl x
     | inr m ↦ inr (more own u us _ m)
   ];
-  loose = λ e. let n = neither h.is_static b.is_static (s.loose e).0 in (n.0, each (λ a. a.is_static ≡ false) n.1 (s.loose e).1);
+  loose = λ e. let n = neither h.is_static b.is_static (s.loose e).0 in
+      (n.0, each (λ a. a.is_static ≡ false) n.1 (s.loose e).1);
   from = λ g e. elim (s.from g e) as (λ _. (h.greatest ≡ Some g) ⊎ Among own (u ∷ us) (λ a. a.sequence ≡ g)) [
     | inl x ↦ pick h.greatest g x
     | inr m ↦ inr (more own u us _ m)
@@ -85,11 +97,13 @@ says_more own u us h k (Some b) is s = record {
 
     each : (P : Advert → Type 0) → P b → Each own us P → Each own (u ∷ us) P
     each P here rest w a c at = elim (parts u w us c) as (λ _. P a) [
-      | inl same ↦ (let equal : b ≡ a = (let h : Some b ≡ Some a = sym is ∙ ap (foreign_in own) same ∙ at in cc) in subst P equal here)
+      | inl same ↦ (let equal : b ≡ a = (let h : Some b ≡ Some a = sym is ∙ ap (foreign_in own) same ∙ at in cc) in
+          subst P equal here)
       | inr there ↦ rest w a there at
     ]
 
-    either : (x : Bool) → h.is_static ≡ x → x || b.is_static ≡ true → (h.is_static ≡ true) ⊎ Among own (u ∷ us) (λ a. a.is_static ≡ true)
+    either : (x : Bool) → h.is_static ≡ x → x || b.is_static ≡ true
+        → (h.is_static ≡ true) ⊎ Among own (u ∷ us) (λ a. a.is_static ≡ true)
     either true p e = inl p
     either false p e = inr (this (λ a. a.is_static ≡ true) e)
 
@@ -98,11 +112,13 @@ says_more own u us h k (Some b) is s = record {
     neither true y e = cc
     neither false true e = cc
 
-    pick : (o : Option ℕ) (g : ℕ) → Some (greater_of o b.sequence) ≡ Some g → (o ≡ Some g) ⊎ Among own (u ∷ us) (λ a. a.sequence ≡ g)
+    pick : (o : Option ℕ) (g : ℕ) → Some (greater_of o b.sequence) ≡ Some g
+        → (o ≡ Some g) ⊎ Among own (u ∷ us) (λ a. a.sequence ≡ g)
     pick None g e = inr (this (λ a. a.sequence ≡ g) cc)
     pick (Some m) g e = go (nat_lt m b.sequence) e
       where
-        go : (t : Bool) → Some (cond t b.sequence m) ≡ Some g → (Some m ≡ Some g) ⊎ Among own (u ∷ us) (λ a. a.sequence ≡ g)
+        go : (t : Bool) → Some (cond t b.sequence m) ≡ Some g
+            → (Some m ≡ Some g) ⊎ Among own (u ∷ us) (λ a. a.sequence ≡ g)
         go true e = inr (this (λ a. a.sequence ≡ g) cc)
         go false e = inl e
 
@@ -127,16 +143,23 @@ says own [] h = record {
   fixed = λ e. inl e;
   loose = λ e. (e, λ u a c. let less = c.1 in absurd (omega (arith, less)));
   from = λ g e. inl e;
-  most = λ g e. (λ m at. (let same : m ≡ g = cc in omega (arith, same)), λ u a c. let less = c.1 in absurd (omega (arith, less)));
+  most = λ g e. (
+    λ m at. (let same : m ≡ g = cc in omega (arith, same)),
+    λ u a c. let less = c.1 in
+        absurd (omega (arith, less)),
+  );
   silent = λ e. (e, λ u a c. let less = c.1 in absurd (omega (arith, less)));
 }
-says own (u ∷ us) h = says_more own u us h (heard_all own (u ∷ us) h) (foreign_in own u) refl (says own us (heard h (foreign_in own u)))
+says own (u ∷ us) h = says_more own u us h (heard_all own (u ∷ us) h) (foreign_in own u) refl
+    (says own us (heard h (foreign_in own u)))
 
 -- ---- so it is what others advertise
-foreign_is : (own : ℕ) (u : Fields) (a : Advert) → foreign_in own u ≡ Some a → (u.register.originator ≢ own) × (advert_in u.value.content ≡ Some a)
+foreign_is : (own : ℕ) (u : Fields) (a : Advert) → foreign_in own u ≡ Some a
+    → (u.register.originator ≢ own) × (advert_in u.value.content ≡ Some a)
 foreign_is own u a e = go (eqb u.register.originator own) refl e
   where
-    go : (b : Bool) → eqb u.register.originator own ≡ b → cond b None (advert_in u.value.content) ≡ Some a → (u.register.originator ≢ own) × (advert_in u.value.content ≡ Some a)
+    go : (b : Bool) → eqb u.register.originator own ≡ b → cond b None (advert_in u.value.content) ≡ Some a
+        → (u.register.originator ≢ own) × (advert_in u.value.content ≡ Some a)
     go true t e = cc
     go false t e = (λ same. let yes = eq-eqb u.register.originator own same in cc, e)
 
@@ -146,7 +169,8 @@ module _ (t : Table) (own vni mac : ℕ) (us : List Fields) (are : AreUpdatesOf 
       let u = m.update in
       let key = address_key vni mac u.register.key (about_address vni mac u.register.key (are.about u m.there)) in
       let foreign = foreign_is own u m.advert m.is in
-      let named : u.register ≡ register_of u.register.originator (Mac vni mac key.0) = (λ i. register_of u.register.originator (key.1 i)) in
+      let named : u.register ≡ register_of u.register.originator (Mac vni mac key.0) =
+      (λ i. register_of u.register.originator (key.1 i)) in
       record {
         originator = u.register.originator;
         ip = key.0;
@@ -163,7 +187,8 @@ module _ (t : Table) (own vni mac : ℕ) (us : List Fields) (are : AreUpdatesOf 
       go None at is = cc
       go (Some v) at is =
           let u : Fields = record { register = register_of o (Mac vni mac ip); value = v } in
-          let said : foreign_in own u ≡ Some a = ap (λ b. cond b None (advert_in v.content)) (ne_eqb o own other) ∙ is in
+          let said : foreign_in own u ≡ Some a = ap (λ b. cond b None (advert_in v.content)) (ne_eqb o own other)
+          ∙ is in
           each u a (are.all (register_of o (Mac vni mac ip)) v (about_itself vni mac (Mac vni mac ip) refl) at) said
 
   abbrev all : Heard
@@ -173,24 +198,54 @@ module _ (t : Table) (own vni mac : ℕ) (us : List Fields) (are : AreUpdatesOf 
   loose e = every (λ a. a.is_static ≡ false) ((says own us nothing_heard).loose e).1
 
   fixed : all.is_static ≡ true → Elsewhere t own vni mac (λ a. a.is_static ≡ true)
-  fixed e = elim ((says own us nothing_heard).fixed e) as (λ _. Elsewhere t own vni mac (λ a. a.is_static ≡ true)) [ inl x ↦ absurd (let no : false ≡ true = x in cc) | inr m ↦ elsewhere (λ a. a.is_static ≡ true) m ]
+  fixed e = elim ((says own us nothing_heard).fixed e) as (λ _. Elsewhere t own vni mac (λ a. a.is_static ≡ true)) [
+    | inl
+        x ↦ absurd (let no : false ≡ true = x in cc)
+    | inr m ↦ elsewhere (λ a. a.is_static ≡ true) m
+  ]
 
   greatest : (g : ℕ) → all.greatest ≡ Some g → Elsewhere t own vni mac (λ a. a.sequence ≡ g)
-  greatest g e = elim ((says own us nothing_heard).from g e) as (λ _. Elsewhere t own vni mac (λ a. a.sequence ≡ g)) [ inl x ↦ absurd (let no : None ≡ Some g = x in cc) | inr m ↦ elsewhere (λ a. a.sequence ≡ g) m ]
+  greatest g e = elim ((says own us nothing_heard).from g e) as (λ _. Elsewhere t own vni mac
+      (λ a. a.sequence ≡ g)) [
+        | inl x ↦ absurd (let no : None ≡ Some g = x in cc)
+        | inr m ↦ elsewhere (λ a. a.sequence ≡ g) m
+      ]
 
-  one_more : (g n : ℕ) → g + 1 ≡ n → Elsewhere t own vni mac (λ a. a.sequence ≡ g) → Elsewhere t own vni mac (λ a. a.sequence + 1 ≡ n)
-  one_more g n up w = record { originator = w.originator; ip = w.ip; advert = w.advert; other = w.other; is = w.is; so = (let same = w.so in omega (arith, same, up)) }
+  one_more : (g n : ℕ) → g + 1 ≡ n → Elsewhere t own vni mac (λ a. a.sequence ≡ g)
+      → Elsewhere t own vni mac (λ a. a.sequence + 1 ≡ n)
+  one_more g n up w = record {
+    originator = w.originator;
+    ip = w.ip;
+    advert = w.advert;
+    other = w.other;
+    is = w.is;
+    so = (let same = w.so in omega (arith, same, up));
+  }
 
   by_greatest : all.is_static ≡ false → (o : Option ℕ) → all.greatest ≡ o → IsSeqFor t own vni mac (seq_above o)
-  by_greatest e None p = (loose e, every (λ a. a.sequence < 0) (λ u a c is. absurd (((says own us nothing_heard).silent p).1 u a c is)), inl refl)
+  by_greatest e None p = (
+    loose e,
+    every (λ a. a.sequence < 0)
+        (λ u a c is. absurd (((says own us nothing_heard).silent p).1 u a c is)),
+    inl refl,
+  )
   by_greatest e (Some g) p = go (eqb g 4294967295) refl
     where
       below : (a : Advert) → a.sequence ≤ g → a.sequence < g + 1
       below a h = omega (arith, h)
 
       go : (b : Bool) → eqb g 4294967295 ≡ b → IsSeqFor t own vni mac (cond b Spent (Next (g + 1)))
-      go true q = (loose e, one_more g (2 ^ 32) (let top : g ≡ 4294967295 = grind (arith, nat_tests) in omega (arith, top)) (greatest g p))
-      go false q = (loose e, every (λ a. a.sequence < g + 1) (λ u a c is. below a (((says own us nothing_heard).most g p).1 u a c is)), inr (one_more g (g + 1) refl (greatest g p)))
+      go true q = (
+        loose e,
+        one_more g (2 ^ 32) (let top : g ≡ 4294967295 = grind (arith, nat_tests) in
+            omega (arith, top)) (greatest g p),
+      )
+      go false q = (
+        loose e,
+        every (λ a. a.sequence < g + 1)
+            (λ u a c is. below a (((says own us nothing_heard).most g p).1 u a c is)),
+        inr (one_more g (g + 1) refl (greatest g p)),
+      )
 
   pub seq_is : IsSeqFor t own vni mac (seq_of all)
   seq_is = go all.is_static refl

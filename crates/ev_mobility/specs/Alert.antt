@@ -1,7 +1,8 @@
 -- The numbers of alerts.
 use Rattle.std.specs.Prelude.{ℕ}
 use Rattle.ev_mobility.specs.declared.alert.Alert.{Alert}
-use Rattle.ev_mobility.specs.declared.alert.Alert.TheVariants.{StaticElsewhere, SequenceSpent, Duplicate, LostStatic, CounterSpent, TableFull, NoMemory}
+use Rattle.ev_mobility.specs.declared.alert.Alert.TheVariants.{StaticElsewhere, SequenceSpent, Duplicate, LostStatic}
+use Rattle.ev_mobility.specs.declared.alert.Alert.TheVariants.{CounterSpent, TableFull, NoMemory}
 
 abbrev pub number_of : Alert → ℕ
 number_of StaticElsewhere = 1

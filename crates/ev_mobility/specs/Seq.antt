@@ -1,5 +1,6 @@
 -- The sequence number of the next own advert of an address (RFC 7432, section 15).
-use Rattle.std.specs.Prelude.{◌≡◌, ◌≢◌, ◌⊎◌, ℕ, ◌+◌, ◌<◌, ◌^◌, ◌||◌, ◌==◌, nat_lt, true, false, Option, Some, None, List, [], ◌∷◌, if◌then◌else◌}
+use Rattle.std.specs.Prelude.{◌≡◌, ◌≢◌, ◌⊎◌, ℕ, ◌+◌, ◌<◌, ◌^◌, ◌||◌, ◌==◌, nat_lt, true, false, Option, Some, None}
+use Rattle.std.specs.Prelude.{List, [], ◌∷◌, if◌then◌else◌}
 use Rattle.ev_mobility.specs.declared.seq.Seq.{Seq}
 use Rattle.ev_mobility.specs.declared.seq.Seq.TheVariants.{Next, Static, Spent}
 use Rattle.ev_mobility.specs.declared.seq.Heard.{Heard}
@@ -22,13 +23,15 @@ pub record Elsewhere (t : Table) (own vni mac : ℕ) (P : Advert → Type 0) : T
 
 -- every other edge that advertises the address does it so
 abbrev pub EveryElsewhere : Table → ℕ → ℕ → ℕ → (Advert → Type 0) → Type 0
-EveryElsewhere t own vni mac P = (o : ℕ) (ip : Option Ip) (a : Advert) → o ≢ own → advert_at t o (Mac vni mac ip) ≡ Some a → P a
+EveryElsewhere t own vni mac P = (o : ℕ) (ip : Option Ip) (a : Advert) → o ≢ own
+    → advert_at t o (Mac vni mac ip) ≡ Some a → P a
 
 -- Another's advert is static; or none is, and the greatest sequence number of others is spent; or n is the number above
 -- all others', 0 if there are none.
 abbrev pub IsSeqFor : Table → ℕ → ℕ → ℕ → Seq → Type 0
 IsSeqFor t own vni mac Static = Elsewhere t own vni mac (λ a. a.is_static ≡ true)
-IsSeqFor t own vni mac Spent = EveryElsewhere t own vni mac (λ a. a.is_static ≡ false) × Elsewhere t own vni mac (λ a. a.sequence + 1 ≡ 2 ^ 32)
+IsSeqFor t own vni mac Spent = EveryElsewhere t own vni mac (λ a. a.is_static ≡ false)
+    × Elsewhere t own vni mac (λ a. a.sequence + 1 ≡ 2 ^ 32)
 IsSeqFor t own vni mac (Next n) =
     EveryElsewhere t own vni mac (λ a. a.is_static ≡ false) × EveryElsewhere t own vni mac (λ a. a.sequence < n)
     × ((n ≡ 0) ⊎ Elsewhere t own vni mac (λ a. a.sequence + 1 ≡ n))

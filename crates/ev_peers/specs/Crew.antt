@@ -10,7 +10,8 @@ pub record EdgeSetup : Type 0 where
 abbrev pub setup_of : EdgeConfig → ℕ → EdgeSetup
 setup_of config ports = record { config = config; ports = ports }
 
--- Nothing is there yet, and there is room for a thread for each task and each output, and for the passes of all tasks and
+-- Nothing is there yet, and there is room for a thread for each task and each output, and for the passes of all tasks
+-- and
 -- one more.
 pub record HasRoom (tasks outputs entering entering_room sending sending_room passes passes_room : ℕ) : Type 0 where
   pub no_entering : entering ≡ 0
@@ -21,7 +22,8 @@ pub record HasRoom (tasks outputs entering entering_room sending sending_room pa
   pub for_passes : tasks + 1 ≤ passes_room
 
 -- There is that room, a word for each thread that there may not be, a line for each output, and a pass for each task.
-pub record IsReady (tasks outputs entering entering_room sending sending_room passes passes_room no_entering no_sending lines fresh : ℕ) : Type 0 where
+pub record IsReady (tasks outputs entering entering_room sending sending_room passes passes_room no_entering no_sending
+    lines fresh : ℕ) : Type 0 where
   pub room : HasRoom tasks outputs entering entering_room sending sending_room passes passes_room
   pub entering_words : tasks ≤ no_entering
   pub sending_words : outputs ≤ no_sending

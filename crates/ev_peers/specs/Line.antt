@@ -1,5 +1,6 @@
 -- What waits to be sent over a link, and how much found no room there.
-use Rattle.std.specs.Prelude.{◌≡◌, ℕ, ◌+◌, ◌-◌, ◌^◌, ◌≤◌, min, ◌&&◌, Bool, false, true, nat_lt, nat_le, if◌then◌else◌, List, [], ◌∷◌, ◌++◌, length, take, drop, Option, Some, None}
+use Rattle.std.specs.Prelude.{◌≡◌, ℕ, ◌+◌, ◌-◌, ◌^◌, ◌≤◌, min, ◌&&◌, Bool, false, true, nat_lt, nat_le, if◌then◌else◌}
+use Rattle.std.specs.Prelude.{List, [], ◌∷◌, ◌++◌, length, take, drop, Option, Some, None}
 use Rattle.ev_peers.specs.Links.{Packet, packet}
 use Rattle.ev_peers.specs.declared.line.Head.{Head}
 
@@ -11,7 +12,12 @@ pub record Waiting : Type 0 where
   pub has_ended : Bool
 
 abbrev pub waiting_of : List (List ℕ) → List Packet → ℕ → Bool → Waiting
-waiting_of bpdus frames dropped has_ended = record { bpdus = bpdus; frames = frames; dropped = dropped; has_ended = has_ended }
+waiting_of bpdus frames dropped has_ended = record {
+  bpdus = bpdus;
+  frames = frames;
+  dropped = dropped;
+  has_ended = has_ended;
+}
 
 -- nothing waits
 abbrev pub nothing_waits : Waiting
@@ -46,7 +52,8 @@ without_oldest w = waiting_of (drop 1 w.bpdus) w.frames w.dropped w.has_ended
 
 -- the oldest of 16 BPDUs is dropped for a new one
 abbrev pub after_bpdu : List ℕ → Waiting → Waiting
-after_bpdu bpdu w = if nat_lt (length w.bpdus) 16 then with_bpdu bpdu w else with_bpdu bpdu (one_dropped (without_oldest w))
+after_bpdu bpdu w = if nat_lt (length w.bpdus) 16 then with_bpdu bpdu w else with_bpdu bpdu
+    (one_dropped (without_oldest w))
 
 -- the first BPDU goes first, and frames where there is none
 abbrev pub first_in : List (List ℕ) → List Packet → Option Packet

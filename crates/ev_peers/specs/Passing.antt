@@ -34,7 +34,8 @@ AskedEach p [] p' = p' ≡ p
 AskedEach p (u ∷ us) p' = (middle : PassState) × AskedEach p us middle × Asked middle (Some u) p'
 
 -- It asked until there was none or a call was refused, and gave each to the other edges, in their order.
-pub record Announces (p : PassState) (old : Option (List Fields)) (p' : PassState) (new : Option (List Fields)) : Type 0 where
+pub record Announces (p : PassState) (old : Option (List Fields)) (p' : PassState) (new : Option (List Fields)) :
+    Type 0 where
   pub middle : PassState
   pub got : List Fields
   pub asked : AskedEach p got middle
@@ -49,7 +50,9 @@ given_by bridge vni frame (Ok reply) = parcels_of bridge vni frame reply
 given_by bridge vni frame (Err refusal) = []
 
 -- It entered the event once, gave what the answer gives to the links, and then announced.
-pub record PassesOn (bridge vni : ℕ) (frame : List ℕ) (p : PassState) (event : Event) (given : Option (List Parcel)) (records : Option (List Fields)) (p' : PassState) (given' : Option (List Parcel)) (records' : Option (List Fields)) : Type 0 where
+pub record PassesOn (bridge vni : ℕ) (frame : List ℕ) (p : PassState) (event : Event) (given : Option (List Parcel))
+    (records : Option (List Fields)) (p' : PassState) (given' : Option (List Parcel))
+    (records' : Option (List Fields)) : Type 0 where
   pub answer : Result Reply BookRefusal
   pub middle : PassState
   pub entered : Entered p event answer middle

@@ -1,5 +1,6 @@
 -- What a worker makes of what comes to it.
-use Rattle.std.specs.Prelude.{◌≡◌, ◌≢◌, ◌⊎◌, ℕ, ◌-◌, ◌^◌, nat_lt, if◌then◌else◌, List, [], ◌∷◌, length, Option, Some, None, Result, Ok, Err}
+use Rattle.std.specs.Prelude.{◌≡◌, ◌≢◌, ◌⊎◌, ℕ, ◌-◌, ◌^◌, nat_lt, if◌then◌else◌, List, [], ◌∷◌, length, Option, Some}
+use Rattle.std.specs.Prelude.{None, Result, Ok, Err}
 use Rattle.vxlan_wire.specs.Vxlan.{instance_of}
 use Rattle.vxlan_wire.specs.declared.vxlan.Refusal.{Refusal}
 use Rattle.route_wire.specs.Fields.{Fields}
@@ -62,7 +63,8 @@ standing pass parcels records = record { pass = pass; parcels = parcels; records
 -- an event is entered once and passed on; where there is none, nothing is done
 abbrev pub Does : ℕ → ℕ × List ℕ → Standing → Option Event → Standing → Type 0
 Does bridge carried s None s' = s' ≡ s
-Does bridge carried s (Some event) s' = PassesOn bridge carried.0 carried.1 s.pass event s.parcels s.records s'.pass s'.parcels s'.records
+Does bridge carried s (Some event) s' = PassesOn bridge carried.0 carried.1 s.pass event s.parcels s.records s'.pass
+    s'.parcels s'.records
 
 -- so it is done with what a datagram is
 pub record Handles (bridge : ℕ) (source : Source) (s : Standing) (a : Arrival) (s' : Standing) : Type 0 where
@@ -78,7 +80,8 @@ Takes bridge s u s' = Does bridge (0, []) s (Some (events.Take u)) s'
 
 -- one turn of a worker: what came over its link was handled; if it ends there, nothing more came, or a call failed.
 -- Refused memory ends none
-abbrev pub Turns : Option Ended → ℕ → Source → Option (List (Option Arrival)) → Standing → Option (List (Option Arrival)) → Standing → Type 0
+abbrev pub Turns : Option Ended → ℕ → Source → Option (List (Option Arrival)) → Standing
+    → Option (List (Option Arrival)) → Standing → Type 0
 Turns None bridge source came s came' s' = DoesOne (Handles bridge source) came s came' s'
 Turns (Some End) bridge source came s came' s' = (came' ≡ behind came (None ∷ [])) × (s' ≡ s)
 Turns (Some Failed) bridge source came s came' s' = (came' ≡ behind came []) × (s' ≡ s)
@@ -90,7 +93,8 @@ most_failures = 2 ^ 64 - 1
 
 -- it handled all that came over its link: to the link's end, unless the link had failed as often as it can, or up to a
 -- failure
-abbrev pub Ends : Ended → ℕ → Source → ℕ → Option (List (Option Arrival)) → Standing → Option (List (Option Arrival)) → Standing → Type 0
+abbrev pub Ends : Ended → ℕ → Source → ℕ → Option (List (Option Arrival)) → Standing → Option (List (Option Arrival))
+    → Standing → Type 0
 Ends End bridge source failed came s came' s' =
     DoesAllToTheEnd (Handles bridge source) came s came' s'
     ⊎ (DoesAll (Handles bridge source) came s came' s' × (failed ≡ most_failures))
@@ -113,7 +117,8 @@ pub record PortEnds (ended : Ended) (bridge port vni failed : ℕ) (came : Optio
   pub leaves : Leaves ended bridge port vni last s'
 
 -- a worker of other edges' updates took all that came, to the end; it has no link
-abbrev pub PeerEnds : Ended → ℕ → Option (List (Option Fields)) → Standing → Option (List (Option Fields)) → Standing → Type 0
+abbrev pub PeerEnds : Ended → ℕ → Option (List (Option Fields)) → Standing → Option (List (Option Fields)) → Standing
+    → Type 0
 PeerEnds End bridge came s came' s' = DoesAllToTheEnd (Takes bridge) came s came' s'
 PeerEnds Failed bridge came s came' s' = ⊥
 PeerEnds NoMemory bridge came s came' s' = ⊥

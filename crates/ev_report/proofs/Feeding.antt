@@ -1,5 +1,6 @@
 -- A stream that a feed takes piece by piece, and its end.
-use Rattle.std.proofs.Common.{◌≡◌, ℕ, ◌<◌, ◌⊎◌, inl, inr, Bool, true, false, nat_lt, List, ◌++◌, take, length, Some, None, Option, refl, sym, ap, ◌∙◌, arith}
+use Rattle.std.proofs.Common.{◌≡◌, ℕ, ◌<◌, ◌⊎◌, inl, inr, Bool, true, false, nat_lt, List, ◌++◌, take, length, Some}
+use Rattle.std.proofs.Common.{None, Option, refl, sym, ap, ◌∙◌, arith}
 use Rattle.std.proofs.lemmas.List.{append-nil}
 use Rattle.std.proofs.lemmas.Bool.Decides.{nat_tests}
 use Rattle.std.specs.Bool.{OnTrue, OnFalse}
@@ -17,13 +18,15 @@ use Rattle.ev_report.specs.Ends.{fault_in, fault_told}
 
 -- ---- a step of a feed
 
-by_shown : (w : Whole) (A B : Type 0) → is_length w ≡ false → OnTrue (is_fault w) A × OnFalse (is_fault w) B → ((w ≡ Rest) × B) ⊎ A
+by_shown : (w : Whole) (A B : Type 0) → is_length w ≡ false → OnTrue (is_fault w) A × OnFalse (is_fault w) B
+    → ((w ≡ Rest) × B) ⊎ A
 by_shown Rest A B e f = inl (refl, f.1)
 by_shown (Fault n) A B e f = inr f.0
 by_shown (Length n) A B e f = cc
 
 -- a feed that holds no whole record takes some octets
-pub feeds_some : (h m : Held) (piece : List ℕ) (n : ℕ) → Feeds h m piece n → is_length (shown h) ≡ false → 0 < length piece → 0 < n
+pub feeds_some : (h m : Held) (piece : List ℕ) (n : ℕ) → Feeds h m piece n → is_length (shown h) ≡ false
+    → 0 < length piece → 0 < n
 feeds_some h m piece n f e some = go (by_shown (shown h) (Skips h m piece n) (Takes h m piece n) e f)
   where
     taking : (b : Bool) → nat_lt 0 n ≡ b → shown h ≡ Rest → Takes h m piece n → 0 < n
@@ -31,7 +34,8 @@ feeds_some h m piece n f e some = go (by_shown (shown h) (Skips h m piece n) (Ta
     taking false g w t =
         let none : n ≡ 0 = grind (arith, nat_tests) in
         let same : m.rest ≡ h.rest = t.taken ∙ ap (λ k. h.rest ++ take k piece) none ∙ append-nil h.rest in
-        let shows : is_rest (shown m) ≡ true = ap (λ v. is_rest (whole_up_to v m.rest)) t.version ∙ ap (λ r. is_rest (whole_up_to h.newest r)) same ∙ ap is_rest w in
+        let shows : is_rest (shown m) ≡ true = ap (λ v. is_rest (whole_up_to v m.rest)) t.version
+        ∙ ap (λ r. is_rest (whole_up_to h.newest r)) same ∙ ap is_rest w in
         let all = t.ended shows in
         omega arith
 
@@ -39,7 +43,8 @@ feeds_some h m piece n f e some = go (by_shown (shown h) (Skips h m piece n) (Ta
     go (inl t) = taking (nat_lt 0 n) refl t.0 t.1
     go (inr s) = let all = s.all in omega arith
 
-pub feeds_version : (h m : Held) (piece : List ℕ) (n : ℕ) → Feeds h m piece n → is_length (shown h) ≡ false → m.newest ≡ h.newest
+pub feeds_version : (h m : Held) (piece : List ℕ) (n : ℕ) → Feeds h m piece n → is_length (shown h) ≡ false
+    → m.newest ≡ h.newest
 feeds_version h m piece n f e = go (by_shown (shown h) (Skips h m piece n) (Takes h m piece n) e f)
   where
     go : ((shown h ≡ Rest) × Takes h m piece n) ⊎ Skips h m piece n → m.newest ≡ h.newest
@@ -63,7 +68,8 @@ fault_next (Record u) = None
 fault_next (Refused refusal) = None
 fault_next (Faulty fault) = Some fault
 
-pub none_next : (w : Whole) (rest : List ℕ) (x : Next) → is_length w ≡ false → x ≡ next_by w rest → fault_next x ≡ fault_in w
+pub none_next : (w : Whole) (rest : List ℕ) (x : Next) → is_length w ≡ false → x ≡ next_by w rest
+    → fault_next x ≡ fault_in w
 none_next Rest rest x e h = ap fault_next h
 none_next (Fault f) rest x e h = ap fault_next h
 none_next (Length n) rest x e h = cc
@@ -84,8 +90,10 @@ rest_shown (Fault f) e h = cc
 rest_shown (Length n) e h = cc
 
 -- what is held makes the same note as the stream's rest
-module _ (w : Whole) (rest held : List ℕ) (none_held : is_length w ≡ false) (same : is_rest w ≡ true → rest ≡ held) where
-  pub same_note : (ending : Ending) (n : ℕ) → fault_told ending ≡ fault_in w → end_note ending n held ≡ end_note ending n rest
+module _ (w : Whole) (rest held : List ℕ) (none_held : is_length w ≡ false) (same : is_rest w ≡ true
+    → rest ≡ held) where
+  pub same_note : (ending : Ending) (n : ℕ) → fault_told ending ≡ fault_in w
+      → end_note ending n held ≡ end_note ending n rest
   same_note Ended n h = ap (end_note Ended n) (sym (same (rest_shown w none_held h)))
   same_note Failed n h = refl
   same_note (Faults fault) n h = refl

@@ -1,5 +1,6 @@
 -- What the devices of a report hold at its end, and its status.
-use Rattle.std.proofs.Common.{◌≡◌, ◌≢◌, ◌⊎◌, inl, inr, ℕ, ◌+◌, Bool, true, false, cond, not, ◌&&◌, ◌||◌, List, [], length, Result, Ok, Err, is_ok, refl, sym, ap, subst, ◌∙◌, arith}
+use Rattle.std.proofs.Common.{◌≡◌, ◌≢◌, ◌⊎◌, inl, inr, ℕ, ◌+◌, Bool, true, false, cond, not, ◌&&◌, ◌||◌, List, []}
+use Rattle.std.proofs.Common.{length, Result, Ok, Err, is_ok, refl, sym, ap, subst, ◌∙◌, arith}
 use Rattle.std.proofs.lemmas.Bool.Decides.{nat_tests}
 use Rattle.ether_wire.specs.declared.ends.Device.{Device}
 use Rattle.ether_wire.specs.Ends.{End, Source, Puts}
@@ -20,47 +21,65 @@ use Rattle.ev_report.proofs.Feeding.{same_note, same_broken}
 -- ---- one call after the other
 
 tells_holds : (a b : End) (q : Bool) (t : List ℕ) → Tells a b true q t → Holds a b t
-tells_holds a b true t h = record { written = λ _. h.written refl; failures = inl (ap (λ (x : End). x.failures) (h.written refl)) }
-tells_holds a b false t h = let one = h.failed refl refl in record { written = λ e. absurd (omega arith); failures = inr one }
+tells_holds a b true t h = record {
+  written = λ _. h.written refl;
+  failures = inl (ap (λ (x : End). x.failures) (h.written refl));
+}
+tells_holds a b false t h = let one = h.failed refl refl in
+    record { written = λ e. absurd (omega arith); failures = inr one }
 
 tells_failed : (a b : End) (q : Bool) (t : List ℕ) → Tells a b true q t → has_failed a b ≡ not q
-tells_failed a b true t h = let none : b.failures ≡ a.failures = ap (λ (x : End). x.failures) (h.written refl) in grind (arith, nat_tests)
+tells_failed a b true t h = let none : b.failures ≡ a.failures = ap (λ (x : End). x.failures) (h.written refl) in
+    grind (arith, nat_tests)
 tells_failed a b false t h = let one = h.failed refl refl in grind (arith, nat_tests)
 
 pub put_holds : (a b : End) (r : Result (Unit {0}) Device) (text : List ℕ) → Puts a b text r → Holds a b text
 put_holds a b (Ok x) text h = record { written = λ _. h; failures = inl (ap (λ (x : End). x.failures) h) }
 put_holds a b (Err e) text h = record { written = λ same. absurd (omega arith); failures = inr h }
 
-pub put_failed : (a b : End) (r : Result (Unit {0}) Device) (text : List ℕ) → Puts a b text r → has_failed a b ≡ not (is_ok r)
-put_failed a b (Ok x) text h = let same : b.failures ≡ a.failures = ap (λ (x : End). x.failures) h in grind (arith, nat_tests)
+pub put_failed : (a b : End) (r : Result (Unit {0}) Device) (text : List ℕ) → Puts a b text r
+    → has_failed a b ≡ not (is_ok r)
+put_failed a b (Ok x) text h = let same : b.failures ≡ a.failures = ap (λ (x : End). x.failures) h in
+    grind (arith, nat_tests)
 put_failed a b (Err e) text h = grind (arith, nat_tests)
 
 -- ---- the whole stream
 
-same_status : (e p q x y s t k l : Bool) → x ≡ not p → y ≡ not q → s ≡ t → k ≡ l → status_of (e || (not p || not q)) s k ≡ status_of (e || (x || y)) t l
+same_status : (e p q x y s t k l : Bool) → x ≡ not p → y ≡ not q → s ≡ t → k ≡ l
+    → status_of (e || (not p || not q)) s k ≡ status_of (e || (x || y)) t l
 same_status e p q x y s t k l hx hy hs hk =
     ap (λ z. status_of (e || (z || not q)) s k) (sym hx) ∙ ap (λ z. status_of (e || (x || z)) s k) (sym hy)
     ∙ ap (λ z. status_of (e || (x || y)) z k) hs ∙ ap (λ z. status_of (e || (x || y)) t z) hk
 
 -- the records of a reader were taken, the end was noted, and what is made of them written
-module _ (newest : ℕ) (output : Output) (originators : List ℕ) (reader reader' : Source) (out out' notes mid notes' : End) (intake last : Intake) (ending : Ending) where
-  pub renders : (i : TakesInput newest ending reader reader' (state (new_intake newest originators) notes) (state intake mid)) → last ≡ record intake { is_told = last.is_told }
-      → Tells mid notes' intake.is_told last.is_told (end_note ending (intake.count + 1) intake.feed.rest) → (r : Result (Unit {0}) Device) → (text : List ℕ) → Puts out out' text r
-      → text ≡ output ending i.octets.taken.outcomes last.table → (status : ℕ) → status ≡ status_of (has_stopped ending || (not (is_ok r) || not last.is_told)) last.is_starved (is_broken ending intake.feed.rest)
+module _ (newest : ℕ) (output : Output) (originators : List ℕ) (reader reader' : Source)
+    (out out' notes mid notes' : End) (intake last : Intake) (ending : Ending) where
+  pub renders : (i : TakesInput newest ending reader reader' (state (new_intake newest originators) notes)
+      (state intake mid)) → last ≡ record intake { is_told = last.is_told }
+      → Tells mid notes' intake.is_told last.is_told (end_note ending (intake.count + 1) intake.feed.rest)
+      → (r : Result (Unit {0}) Device) → (text : List ℕ) → Puts out out' text r
+      → text ≡ output ending i.octets.taken.outcomes last.table → (status : ℕ)
+      → status ≡ status_of (has_stopped ending || (not (is_ok r) || not last.is_told)) last.is_starved
+      (is_broken ending intake.feed.rest)
       → Renders newest output originators (devices reader out notes) (devices reader' out' notes') status
   renders i kept told r text put makes status is =
       let o = i.octets in
       let outcomes = o.taken.outcomes in
-      let first : HasRead (new_intake newest originators).feed [] [] = record { skipped = []; reads = refl; faulty = λ _. refl } in
+      let first : HasRead (new_intake newest originators).feed [] [] =
+      record { skipped = []; reads = refl; faulty = λ _. refl } in
       let found = read_whole_stream intake.feed i.input o.answers (o.read [] [] first) i.none_held in
       let rest = found.0 in
-      let shows : whole_up_to newest rest ≡ shown intake.feed = ap (λ v. whole_up_to v rest) (sym o.version) ∙ found.2 in
+      let shows : whole_up_to newest rest ≡ shown intake.feed = ap (λ v. whole_up_to v rest) (sym o.version)
+      ∙ found.2 in
       let number : intake.count ≡ length outcomes = o.taken.counts.count ∙ grind arith in
-      let same = same_note (shown intake.feed) rest intake.feed.rest i.none_held found.3 ending (length outcomes + 1) i.shows in
+      let same = same_note (shown intake.feed) rest intake.feed.rest i.none_held found.3 ending (length outcomes + 1)
+      i.shows in
       let all : Tells notes notes' true last.is_told (notes_of outcomes ending rest) =
-      tells_more notes mid notes' true intake.is_told last.is_told (refusals_from 1 outcomes) (end_note ending (length outcomes + 1) rest) o.taken.counts.told
+      tells_more notes mid notes' true intake.is_told last.is_told (refusals_from 1 outcomes)
+      (end_note ending (length outcomes + 1) rest) o.taken.counts.told
       (subst (λ text. Tells mid notes' intake.is_told last.is_told text) same
-      (subst (λ n. Tells mid notes' intake.is_told last.is_told (end_note ending (n + 1) intake.feed.rest)) number told)) in
+      (subst (λ n. Tells mid notes' intake.is_told last.is_told (end_note ending (n + 1) intake.feed.rest)) number
+      told)) in
       let table_is : last.table ≡ intake.table = ap (λ (x : Intake). x.table) kept in
       record {
         input = i.input;
@@ -74,30 +93,39 @@ module _ (newest : ℕ) (output : Output) (originators : List ℕ) (reader reade
           answers = o.answers;
           answered = subst (λ v. AnswersUpTo v i.input o.answers rest) o.version found.1;
           became = o.taken.became;
-          table_of = subst (λ (x : Table). IsTableOf (taken_of outcomes) x) (sym (table_is ∙ o.taken.table_is)) (table_of_all originators outcomes);
+          table_of = subst (λ (x : Table). IsTableOf (taken_of outcomes) x) (sym (table_is ∙ o.taken.table_is))
+              (table_of_all originators outcomes);
         };
         written = subst (λ (x : List ℕ). Holds out out' x) makes (put_holds out out' r text put);
         noted = tells_holds notes notes' last.is_told (notes_of outcomes ending rest) all;
-        status_is = is ∙ same_status (has_stopped ending) (is_ok r) last.is_told (has_failed out out') (has_failed notes notes') last.is_starved (has_starved outcomes) (is_broken ending intake.feed.rest) (is_broken ending rest)
-            (put_failed out out' r text put) (tells_failed notes notes' last.is_told (notes_of outcomes ending rest) all)
-            (ap (λ (x : Intake). x.is_starved) kept ∙ o.taken.counts.starved) (same_broken (shown intake.feed) rest intake.feed.rest i.none_held found.3 ending i.shows);
+        status_is = is ∙ same_status (has_stopped ending) (is_ok r) last.is_told (has_failed out out')
+            (has_failed notes notes') last.is_starved (has_starved outcomes) (is_broken ending intake.feed.rest)
+            (is_broken ending rest)
+            (put_failed out out' r text put) (tells_failed notes notes' last.is_told (notes_of outcomes ending rest)
+            all)
+            (ap (λ (x : Intake). x.is_starved) kept ∙ o.taken.counts.starved)
+            (same_broken (shown intake.feed) rest intake.feed.rest i.none_held found.3 ending i.shows);
       }
 
 -- ---- writers that are given more at once
 
 pub finish_holds : (a b c : End) (q : Bool) (t : List ℕ) → Holds a b t → Finishes a.failures b c q → Holds a c t
-finish_holds a b c true t h f = let p = f.passed refl in record { written = λ _. p.0 ∙ h.written p.1; failures = inl (ap (λ (x : End). x.failures) p.0 ∙ p.1) }
+finish_holds a b c true t h f = let p = f.passed refl in
+    record { written = λ _. p.0 ∙ h.written p.1; failures = inl (ap (λ (x : End). x.failures) p.0 ∙ p.1) }
 finish_holds a b c false t h f = go (f.failed refl) h.failures
   where
     late : c.failures ≡ a.failures + 1 → Holds a c t
     late e = record { written = λ same. absurd (omega arith); failures = inr e }
 
-    go : ((b.failures ≢ a.failures) × (c.failures ≡ b.failures)) ⊎ ((b.failures ≡ a.failures) × (c.failures ≡ a.failures + 1)) → (b.failures ≡ a.failures) ⊎ (b.failures ≡ a.failures + 1) → Holds a c t
+    go : ((b.failures ≢ a.failures) × (c.failures ≡ b.failures))
+        ⊎ ((b.failures ≡ a.failures) × (c.failures ≡ a.failures + 1))
+        → (b.failures ≡ a.failures) ⊎ (b.failures ≡ a.failures + 1) → Holds a c t
     go (inl p) (inl e) = absurd (p.0 e)
     go (inl p) (inr e) = late (p.1 ∙ e)
     go (inr p) e = late p.1
 
-pub finish_failed : (a b c : End) (q : Bool) (t : List ℕ) → Holds a b t → Finishes a.failures b c q → has_failed a c ≡ not q
+pub finish_failed : (a b c : End) (q : Bool) (t : List ℕ) → Holds a b t → Finishes a.failures b c q
+    → has_failed a c ≡ not q
 finish_failed a b c true t h f =
     let p = f.passed refl in
     let same : c.failures ≡ a.failures = ap (λ (x : End). x.failures) p.0 ∙ p.1 in
@@ -107,7 +135,9 @@ finish_failed a b c false t h f = go (f.failed refl) h.failures
     late : c.failures ≡ a.failures + 1 → has_failed a c ≡ true
     late e = grind (arith, nat_tests)
 
-    go : ((b.failures ≢ a.failures) × (c.failures ≡ b.failures)) ⊎ ((b.failures ≡ a.failures) × (c.failures ≡ a.failures + 1)) → (b.failures ≡ a.failures) ⊎ (b.failures ≡ a.failures + 1) → has_failed a c ≡ true
+    go : ((b.failures ≢ a.failures) × (c.failures ≡ b.failures))
+        ⊎ ((b.failures ≡ a.failures) × (c.failures ≡ a.failures + 1))
+        → (b.failures ≡ a.failures) ⊎ (b.failures ≡ a.failures + 1) → has_failed a c ≡ true
     go (inl p) (inl e) = absurd (p.0 e)
     go (inl p) (inr e) = late (p.1 ∙ e)
     go (inr p) e = late p.1
@@ -115,16 +145,19 @@ finish_failed a b c false t h f = go (f.failed refl) h.failures
 pub finish_unfailed : (a b c : End) (q : Bool) → Finishes a.failures b c q → q ≡ true → has_failed a b ≡ false
 finish_unfailed a b c q f e = let p = (f.passed e).1 in grind (arith, nat_tests)
 
-pub last_status : (e p q s k x y : Bool) (status last : ℕ) → status ≡ status_of (e || (x || y)) s k → last ≡ cond (p && q) status 4 → (p ≡ true → x ≡ false) → (q ≡ true → y ≡ false)
+pub last_status : (e p q s k x y : Bool) (status last : ℕ) → status ≡ status_of (e || (x || y)) s k
+    → last ≡ cond (p && q) status 4 → (p ≡ true → x ≡ false) → (q ≡ true → y ≡ false)
     → last ≡ status_of (e || (not p || not q)) s k
 last_status false false q s k x y status last h l f g = l
 last_status false true false s k x y status last h l f g = l
-last_status false true true s k x y status last h l f g = l ∙ h ∙ ap (λ b. status_of (b || y) s k) (f refl) ∙ ap (λ b. status_of b s k) (g refl)
+last_status false true true s k x y status last h l f g = l ∙ h ∙ ap (λ b. status_of (b || y) s k) (f refl)
+    ∙ ap (λ b. status_of b s k) (g refl)
 last_status true true true s k x y status last h l f g = l ∙ h
 last_status true false q s k x y status last h l f g = l
 last_status true true false s k x y status last h l f g = l
 
-module _ (before held after : Devices) (status last : ℕ) (p : Passes before.out.failures before.notes.failures held after status last) where
+module _ (before held after : Devices) (status last : ℕ)
+    (p : Passes before.out.failures before.notes.failures held after status last) where
   -- what was written before is written at the end, or a call has failed
   pub passed_out : (text : List ℕ) → Holds before.out held.out text → Holds before.out after.out text
   passed_out text h = finish_holds before.out held.out after.out p.is_written text h p.out
@@ -133,22 +166,27 @@ module _ (before held after : Devices) (status last : ℕ) (p : Passes before.ou
   passed_notes text h = finish_holds before.notes held.notes after.notes p.is_noted text h p.notes
 
   -- the status, of what else may have failed
-  pub passed_status : (e starved broken : Bool) → has_failed before.out after.out ≡ not p.is_written → has_failed before.notes after.notes ≡ not p.is_noted
+  pub passed_status : (e starved broken : Bool) → has_failed before.out after.out ≡ not p.is_written
+      → has_failed before.notes after.notes ≡ not p.is_noted
       → status ≡ status_of (e || (has_failed before.out held.out || has_failed before.notes held.notes)) starved broken
       → last ≡ status_of (e || (has_failed before.out after.out || has_failed before.notes after.notes)) starved broken
   passed_status e starved broken a b is =
-      last_status e p.is_written p.is_noted starved broken (has_failed before.out held.out) (has_failed before.notes held.notes) status last is p.status_is
-      (finish_unfailed before.out held.out after.out p.is_written p.out) (finish_unfailed before.notes held.notes after.notes p.is_noted p.notes)
+      last_status e p.is_written p.is_noted starved broken (has_failed before.out held.out)
+      (has_failed before.notes held.notes) status last is p.status_is
+      (finish_unfailed before.out held.out after.out p.is_written p.out)
+      (finish_unfailed before.notes held.notes after.notes p.is_noted p.notes)
       ∙ ap (λ x. status_of (e || (x || not p.is_noted)) starved broken) (sym a)
       ∙ ap (λ x. status_of (e || (has_failed before.out after.out || x)) starved broken) (sym b)
 
   pub failed_out : (text : List ℕ) → Holds before.out held.out text → has_failed before.out after.out ≡ not p.is_written
   failed_out text h = finish_failed before.out held.out after.out p.is_written text h p.out
 
-  pub failed_notes : (text : List ℕ) → Holds before.notes held.notes text → has_failed before.notes after.notes ≡ not p.is_noted
+  pub failed_notes : (text : List ℕ) → Holds before.notes held.notes text
+      → has_failed before.notes after.notes ≡ not p.is_noted
   failed_notes text h = finish_failed before.notes held.notes after.notes p.is_noted text h p.notes
 
-  pub passed_renders : (newest : ℕ) (output : Output) (originators : List ℕ) → Renders newest output originators before held status
+  pub passed_renders : (newest : ℕ) (output : Output) (originators : List ℕ)
+      → Renders newest output originators before held status
       → Renders newest output originators before after last
   passed_renders newest output originators r =
       let text = output r.ending r.outcomes r.table in
@@ -164,15 +202,20 @@ module _ (before held after : Devices) (status last : ℕ) (p : Passes before.ou
         taken = r.taken;
         written = passed_out text r.written;
         noted = passed_notes lines r.noted;
-        status_is = passed_status (has_stopped r.ending) (has_starved r.outcomes) (is_broken r.ending r.rest) (failed_out text r.written) (failed_notes lines r.noted) r.status_is;
+        status_is = passed_status (has_stopped r.ending) (has_starved r.outcomes) (is_broken r.ending r.rest)
+            (failed_out text r.written) (failed_notes lines r.noted) r.status_is;
       }
 
 -- what is done with devices that hold octets for others is done with the others, in the end
 module _ (does : Devices → Devices → ℕ → Type 0)
-    (lasts : (before held after : Devices) (status last : ℕ) → Passes before.out.failures before.notes.failures held after status last → does before held status → does before after last) where
-  pub buffered : (before opened held after : Devices) (status last m n : ℕ) → before ≡ opened → m ≡ before.out.failures → n ≡ before.notes.failures → does opened held status
+    (lasts : (before held after : Devices) (status last : ℕ)
+    → Passes before.out.failures before.notes.failures held after status last → does before held status
+    → does before after last) where
+  pub buffered : (before opened held after : Devices) (status last m n : ℕ) → before ≡ opened → m ≡ before.out.failures
+      → n ≡ before.notes.failures → does opened held status
       → Passes m n held after status last → does before after last
   buffered before opened held after status last m n opens out notes done p =
       lasts before held after status last
-      (subst (λ x. Passes x before.notes.failures held after status last) out (subst (λ y. Passes m y held after status last) notes p))
+      (subst (λ x. Passes x before.notes.failures held after status last) out
+      (subst (λ y. Passes m y held after status last) notes p))
       (subst (λ d. does d held status) (sym opens) done)

@@ -1,10 +1,12 @@
 -- An input that is read whole.
-use Rattle.std.proofs.Common.{◌≡◌, inl, inr, ℕ, ◌+◌, ◌<◌, ◌^◌, List, [], ◌∷◌, ◌++◌, take, length, length-append, Ok, Err, refl, sym, ap, ◌∙◌, arith}
+use Rattle.std.proofs.Common.{◌≡◌, inl, inr, ℕ, ◌+◌, ◌<◌, ◌^◌, List, [], ◌∷◌, ◌++◌, take, length, length-append, Ok}
+use Rattle.std.proofs.Common.{Err, refl, sym, ap, ◌∙◌, arith}
 use Rattle.ether_wire.specs.declared.ends.Device as device
 use Rattle.ether_wire.specs.Ends.{Source, Gets}
 use Rattle.ev_report.specs.declared.input.Unread.TheVariants.{Device, NoMemory}
 use Rattle.ev_report.specs.Input.{ReadsWhole, Gathers}
-use Rattle.ev_report.proofs.Reading.{prepend_known_none, at_end, same_source, concat_more, gives_none, gives_one, gives_more}
+use Rattle.ev_report.proofs.Reading.{prepend_known_none, at_end, same_source, concat_more, gives_none, gives_one}
+use Rattle.ev_report.proofs.Reading.{gives_more}
 
 pub gathers_none : (s : Source) (input : List ℕ) → input ≡ [] → Gathers 0 s s input
 gathers_none s input e = record { pieces = []; gives = gives_none s; many = refl; is = e }
@@ -24,16 +26,26 @@ module _ (turn : ℕ) (s mid last : Source) (input buffer : List ℕ) (g : Gathe
     pieces = g.pieces;
     behind = mid;
     gives = g.gives;
-    stops = (at_end mid.octets (got.takes.ends room refl), same_source last (record mid { reads = mid.reads + 1 }) (sym (got.takes.next ∙ prepend_known_none last.octets)) (got.failures ∙ grind arith) got.reads, g.is);
+    stops = (
+      at_end mid.octets (got.takes.ends room refl),
+      same_source last (record mid { reads = mid.reads + 1 }) (sym (got.takes.next ∙ prepend_known_none last.octets))
+          (got.failures ∙ grind arith) got.reads,
+      g.is,
+    );
     few = let a = g.gives.reads in let b = got.reads in let k = g.many in omega arith;
   }
 
-  pub whole_failed : (failed : device.Device) → turn < 2 ^ 40 → Gets mid last buffer (Err failed) → ReadsWhole s last (Err Device)
+  pub whole_failed : (failed : device.Device) → turn < 2 ^ 40 → Gets mid last buffer (Err failed)
+      → ReadsWhole s last (Err Device)
   whole_failed failed turns got = record {
     pieces = g.pieces;
     behind = mid;
     gives = g.gives;
-    stops = inl (same_source last (record mid { failures = mid.failures + 1; reads = mid.reads + 1 }) got.keeps got.failures got.reads, refl);
+    stops = inl (
+      same_source last (record mid { failures = mid.failures + 1; reads = mid.reads + 1 }) got.keeps
+          got.failures got.reads,
+      refl,
+    );
     few = let a = g.gives.reads in let b = got.reads in let k = g.many in omega arith;
   }
 

@@ -1,5 +1,6 @@
 -- The walk over a table's updates makes the migration of the set that the table is of.
-use Rattle.std.proofs.Common.{◌≡◌, ◌⊎◌, inl, inr, ℕ, zero, suc, ◌≤◌, ◌<◌, Bool, true, false, cond, ◌&&◌, ◌==◌, List, [], ◌∷◌, length, drop, Contains, nat_cmp, refl, sym, ap, subst, ◌∙◌, arith}
+use Rattle.std.proofs.Common.{◌≡◌, ◌⊎◌, inl, inr, ℕ, zero, suc, ◌≤◌, ◌<◌, Bool, true, false, cond, ◌&&◌, ◌==◌, List, []}
+use Rattle.std.proofs.Common.{◌∷◌, length, drop, Contains, nat_cmp, refl, sym, ap, subst, ◌∙◌, arith}
 use Rattle.std.specs.Prelude.{slice_index_or}
 use Rattle.std.proofs.lemmas.Bool.Decides.{nat_tests}
 use Rattle.std.proofs.lemmas.Cmp.{on_total, then_total, ranked}
@@ -14,7 +15,8 @@ use Rattle.route_wire.specs.declared.update.Key.TheVariants.{Flood, Mac}
 use Rattle.route_wire.specs.declared.update.Register.{Register}
 use Rattle.route_wire.specs.declared.update.Value.{Value}
 use Rattle.route_wire.specs.Fields.{Fields}
-use Rattle.route_wire.specs.Order.{ip_cmp, ip_of, vni_of, place_of, rank_of, sequence_of, label2_of, is_newer, register_cmp}
+use Rattle.route_wire.specs.Order.{ip_cmp, ip_of, vni_of, place_of, rank_of, sequence_of, label2_of, is_newer}
+use Rattle.route_wire.specs.Order.{register_cmp}
 use Rattle.route_wire.specs.Totals.{ip_total}
 use Rattle.route_join.specs.Table.{Table, IsOrdered, IsTableOf, entries_of}
 use Rattle.route_join.specs.Updates.{all_updates, AreAllUpdates}
@@ -25,7 +27,9 @@ use Rattle.ev_report.specs.Ends.{Devices, Passes}
 use Rattle.ev_report.specs.Runs.{taken_of}
 use Rattle.ev_report.specs.Migrations.{migration, Migrates}
 use Rattle.ev_report.proofs.Finishing.{passed_renders}
-use Rattle.ev_report.specs.Migrated.{is_same_subject, is_same_old, old_cmp, is_newer_old, IsNewest, withdrawn_for, migrated_at, AreMigrated, newer_old, newest_along, behind, entering, migrated_along, migrated_all, migrated_of}
+use Rattle.ev_report.specs.Migrated.{is_same_subject, is_same_old, old_cmp, is_newer_old, IsNewest, withdrawn_for}
+use Rattle.ev_report.specs.Migrated.{migrated_at, AreMigrated, newer_old, newest_along, behind, entering}
+use Rattle.ev_report.specs.Migrated.{migrated_along, migrated_all, migrated_of}
 
 -- ---- old registers
 
@@ -66,7 +70,11 @@ pub same_itself : (r : Register) → is_same_old r r ≡ true
 same_itself r = shared r r (record { originator = refl; vni = refl; place = refl })
 
 pub same_back : (r q : Register) → is_same_old r q ≡ true → is_same_old q r ≡ true
-same_back r q e = let s = shares r q e in shared q r (record { originator = sym s.originator; vni = sym s.vni; place = sym s.place })
+same_back r q e = let s = shares r q e in shared q r (record {
+  originator = sym s.originator;
+  vni = sym s.vni;
+  place = sym s.place;
+})
 
 pub same_on : (r q p : Register) → is_same_old r q ≡ true → is_same_old q p ≡ true → is_same_old r p ≡ true
 same_on r q p e f =
@@ -87,7 +95,8 @@ lex_less m n o e = go (nat_cmp m n) refl e
     go Equal p h = let l = ranked m n Equal (sym p) in (omega arith, λ s. h)
     go Greater p h = cc
 
-pub between : (a b c : Register) → register_cmp a b ≡ Less → register_cmp b c ≡ Less → is_same_old a c ≡ true → is_same_old a b ≡ true
+pub between : (a b c : Register) → register_cmp a b ≡ Less → register_cmp b c ≡ Less → is_same_old a c ≡ true
+    → is_same_old a b ≡ true
 between a b c e f h =
     let s = shares a c h in
     let sv = s.vni in
@@ -115,9 +124,12 @@ between a b c e f h =
 
 pub old_total : IsTotalOrder old_cmp
 old_total =
-    then_total (on_total (λ (u : Fields). u.value.incarnation) nat_cmp_total) (then_total (on_total (λ (u : Fields). u.value.counter) nat_cmp_total)
-    (then_total (on_total (λ (u : Fields). rank_of u.value.content) nat_cmp_total) (then_total (on_total (λ (u : Fields). sequence_of u.value.content) nat_cmp_total)
-    (then_total (on_total (λ (u : Fields). ip_of u.register.key) ip_total) (on_total (λ (u : Fields). label2_of u.value.content) (options_total nat_cmp_total))))))
+    then_total (on_total (λ (u : Fields). u.value.incarnation) nat_cmp_total)
+    (then_total (on_total (λ (u : Fields). u.value.counter) nat_cmp_total)
+    (then_total (on_total (λ (u : Fields). rank_of u.value.content) nat_cmp_total)
+    (then_total (on_total (λ (u : Fields). sequence_of u.value.content) nat_cmp_total)
+    (then_total (on_total (λ (u : Fields). ip_of u.register.key) ip_total)
+    (on_total (λ (u : Fields). label2_of u.value.content) (options_total nat_cmp_total))))))
 
 pub newest_on : (u v w : Fields) → is_newer_old u v ≡ false → is_newer_old v w ≡ false → is_newer_old u w ≡ false
 newest_on u v w e f = go (old_cmp w v) refl (is_lt (old_cmp w u)) refl
@@ -139,7 +151,8 @@ not_newer_itself u = ap is_lt (tied_itself old_total u)
 
 -- ---- where an old register ends, which depends on nothing but the old register
 
-newer_same : (best u : Fields) → is_same_old best.register u.register ≡ true → is_same_old best.register (newer_old best u).register ≡ true
+newer_same : (best u : Fields) → is_same_old best.register u.register ≡ true
+    → is_same_old best.register (newer_old best u).register ≡ true
 newer_same best u e = go (is_newer_old u best)
   where
     go : (b : Bool) → is_same_old best.register (cond b u best).register ≡ true
@@ -150,30 +163,42 @@ newest_same : (best : Fields) (us : List Fields) → is_same_old best.register (
 newest_same best [] = same_itself best.register
 newest_same best (u ∷ us) = go (newest_same (newer_old best u) us) (is_same_old best.register u.register) refl
   where
-    go : is_same_old (newer_old best u).register (newest_along (newer_old best u) us).register ≡ true → (b : Bool) → is_same_old best.register u.register ≡ b → is_same_old best.register (cond b (newest_along (newer_old best u) us) best).register ≡ true
-    go rest true e = same_on best.register (newer_old best u).register (newest_along (newer_old best u) us).register (newer_same best u e) rest
+    go : is_same_old (newer_old best u).register (newest_along (newer_old best u) us).register ≡ true → (b : Bool)
+        → is_same_old best.register u.register ≡ b → is_same_old best.register
+        (cond b (newest_along (newer_old best u) us) best).register ≡ true
+    go rest true e = same_on best.register (newer_old best u).register (newest_along (newer_old best u) us).register
+        (newer_same best u e) rest
     go rest false e = same_itself best.register
 
 behind_same : (a b : Fields) (us : List Fields) → is_same_old a.register b.register ≡ true → behind a us ≡ behind b us
 behind_same a b [] e = refl
-behind_same a b (u ∷ us) e = go (behind_same (newer_old a u) (newer_old b u) us) (is_same_old a.register u.register) refl
+behind_same a b (u ∷ us) e = go (behind_same (newer_old a u) (newer_old b u) us) (is_same_old a.register u.register)
+    refl
   where
-    go : (is_same_old (newer_old a u).register (newer_old b u).register ≡ true → behind (newer_old a u) us ≡ behind (newer_old b u) us) → (x : Bool) → is_same_old a.register u.register ≡ x → behind a (u ∷ us) ≡ behind b (u ∷ us)
+    go : (is_same_old (newer_old a u).register (newer_old b u).register ≡ true
+        → behind (newer_old a u) us ≡ behind (newer_old b u) us) → (x : Bool) → is_same_old a.register u.register ≡ x
+        → behind a (u ∷ us) ≡ behind b (u ∷ us)
     go rest true h =
         let k : is_same_old b.register u.register ≡ true = sym (same_left a.register b.register u.register e) ∙ h in
         ap (λ x. cond x (behind (newer_old a u) us) (u ∷ us)) h
         ∙ rest
-        (same_on (newer_old a u).register a.register (newer_old b u).register (same_back a.register (newer_old a u).register (newer_same a u h)) (same_on a.register b.register (newer_old b u).register e (newer_same b u k)))
+        (same_on (newer_old a u).register a.register (newer_old b u).register
+        (same_back a.register (newer_old a u).register (newer_same a u h))
+        (same_on a.register b.register (newer_old b u).register e (newer_same b u k)))
         ∙ ap (λ x. cond x (behind (newer_old b u) us) (u ∷ us)) (sym k)
     go rest false h =
         let k : is_same_old b.register u.register ≡ false = sym (same_left a.register b.register u.register e) ∙ h in
-        ap (λ x. cond x (behind (newer_old a u) us) (u ∷ us)) h ∙ ap (λ x. cond x (behind (newer_old b u) us) (u ∷ us)) (sym k)
+        ap (λ x. cond x (behind (newer_old a u) us) (u ∷ us)) h
+        ∙ ap (λ x. cond x (behind (newer_old b u) us) (u ∷ us)) (sym k)
 
 behind_itself : (u : Fields) (us : List Fields) → behind u (u ∷ us) ≡ behind u us
-behind_itself u us = ap (λ x. cond x (behind (newer_old u u) us) (u ∷ us)) (same_itself u.register) ∙ behind_same (newer_old u u) u us (same_back u.register (newer_old u u).register (newer_same u u (same_itself u.register)))
+behind_itself u us = ap (λ x. cond x (behind (newer_old u u) us) (u ∷ us)) (same_itself u.register)
+    ∙ behind_same (newer_old u u) u us (same_back u.register (newer_old u u).register
+    (newer_same u u (same_itself u.register)))
 
 pub behind_first : (u : Fields) (us : List Fields) → behind (newest_along u us) (u ∷ us) ≡ behind u us
-behind_first u us = behind_same (newest_along u us) u (u ∷ us) (same_back u.register (newest_along u us).register (newest_same u us)) ∙ behind_itself u us
+behind_first u us = behind_same (newest_along u us) u (u ∷ us)
+    (same_back u.register (newest_along u us).register (newest_same u us)) ∙ behind_itself u us
 
 -- the iterator that goes ahead, where the one behind it goes on by an update
 pub entered_is : (newest u n : Fields) (us ahead ahead' : List Fields) → ahead ≡ drop 1 (behind newest (u ∷ us))
@@ -182,17 +207,25 @@ pub entered_is : (newest u n : Fields) (us ahead ahead' : List Fields) → ahead
     → (n ≡ entering newest u us) × (ahead' ≡ drop 1 (behind n us))
 entered_is newest u n us ahead ahead' is same other = go (is_same_old newest.register u.register) refl
   where
-    go : (b : Bool) → is_same_old newest.register u.register ≡ b → (n ≡ entering newest u us) × (ahead' ≡ drop 1 (behind n us))
+    go : (b : Bool) → is_same_old newest.register u.register ≡ b
+        → (n ≡ entering newest u us) × (ahead' ≡ drop 1 (behind n us))
     go true e =
         let h = same e in
-        let on : behind newest (u ∷ us) ≡ behind newest us = ap (λ x. cond x (behind (newer_old newest u) us) (u ∷ us)) e ∙ behind_same (newer_old newest u) newest us (same_back newest.register (newer_old newest u).register (newer_same newest u e)) in
-        (h.0 ∙ ap (λ x. cond x newest (newest_along u us)) (sym e), h.1 ∙ is ∙ ap (drop 1) on ∙ ap (λ (x : Fields). drop 1 (behind x us)) (sym h.0))
+        let on : behind newest (u ∷ us) ≡ behind newest us =
+        ap (λ x. cond x (behind (newer_old newest u) us) (u ∷ us)) e
+        ∙ behind_same (newer_old newest u) newest us
+        (same_back newest.register (newer_old newest u).register (newer_same newest u e)) in (
+          h.0 ∙ ap (λ x. cond x newest (newest_along u us)) (sym e),
+          h.1 ∙ is ∙ ap (drop 1) on ∙ ap (λ (x : Fields). drop 1 (behind x us)) (sym h.0),
+        )
     go false e =
         let h = other e in
         let rest : ahead ≡ us = is ∙ ap (λ x. drop 1 (cond x (behind (newer_old newest u) us) (u ∷ us))) e in
         let first : n ≡ newest_along u us = h.0 ∙ ap (newest_along u) rest in (
           first ∙ ap (λ x. cond x newest (newest_along u us)) (sym e),
-          h.1 ∙ ap (λ x. drop 1 (behind u x)) rest ∙ ap (drop 1) (behind_same u (newest_along u us) us (newest_same u us)) ∙ ap (λ (x : Fields). drop 1 (behind x us)) (sym first),
+          h.1 ∙ ap (λ x. drop 1 (behind u x)) rest ∙ ap (drop 1)
+              (behind_same u (newest_along u us) us (newest_same u us))
+              ∙ ap (λ (x : Fields). drop 1 (behind x us)) (sym first),
         )
 
 -- ---- lists in order
@@ -208,11 +241,13 @@ Rising (u ∷ us) = Above u.register us × Rising us
 
 above_is : (r : Register) (us : List Fields) → below_all register_cmp r (entries_of us) ≡ true → Above r us
 above_is r [] e = tt
-above_is r (u ∷ us) e = let p = both (is_lt (register_cmp r u.register)) (below_all register_cmp r (entries_of us)) e in (less (register_cmp r u.register) p.0, above_is r us p.1)
+above_is r (u ∷ us) e = let p = both (is_lt (register_cmp r u.register)) (below_all register_cmp r (entries_of us)) e in
+    (less (register_cmp r u.register) p.0, above_is r us p.1)
 
 rising_is : (us : List Fields) → IsOrdered us → Rising us
 rising_is [] e = tt
-rising_is (u ∷ us) e = let p = both (below_all register_cmp u.register (entries_of us)) (is_sorted register_cmp (entries_of us)) e in (above_is u.register us p.0, rising_is us p.1)
+rising_is (u ∷ us) e = let p = both (below_all register_cmp u.register (entries_of us))
+    (is_sorted register_cmp (entries_of us)) e in (above_is u.register us p.0, rising_is us p.1)
 
 -- none of them is of r's old register
 abbrev Apart : Register → List Fields → Type 0
@@ -224,7 +259,8 @@ abbrev Side : Register → List Fields → Type 0
 Side r [] = Unit {0}
 Side r (u ∷ us) = (is_same_old r u.register ≡ true → Side r us) × (is_same_old r u.register ≡ false → Apart r us)
 
-apart_above : (r q : Register) (us : List Fields) → register_cmp r q ≡ Less → is_same_old r q ≡ false → Above q us → Apart r us
+apart_above : (r q : Register) (us : List Fields) → register_cmp r q ≡ Less → is_same_old r q ≡ false → Above q us
+    → Apart r us
 apart_above r q [] l n a = tt
 apart_above r q (u ∷ us) l n a = (go (is_same_old r u.register) refl, apart_above r q us l n a.1)
   where
@@ -261,7 +297,8 @@ at_first u us = (0, omega arith, refl)
 in_rest : (u : Fields) (us : List Fields) (w : Fields) → Contains us w → Contains (u ∷ us) w
 in_rest u us w c = (suc c.0, omega (arith, c.1), c.2)
 
-apart_none : (r : Register) (us : List Fields) (w : Fields) → Apart r us → Contains us w → is_same_old r w.register ≡ false
+apart_none : (r : Register) (us : List Fields) (w : Fields) → Apart r us → Contains us w
+    → is_same_old r w.register ≡ false
 apart_none r [] w a c = absurd (omega (arith, c.1))
 apart_none r (u ∷ us) w a c = go (apart_none r us w a.1) (first_or_rest u us w c)
   where
@@ -286,7 +323,8 @@ leads_alone best us a = record {
   newest = λ w c e. let n = apart_none best.register us w a c in cc;
 }
 
-leads_over : (best u : Fields) (us : List Fields) (n : Fields) → is_same_old best.register u.register ≡ true → is_newer_old u best ≡ true → Leads u us n → Leads best (u ∷ us) n
+leads_over : (best u : Fields) (us : List Fields) (n : Fields) → is_same_old best.register u.register ≡ true
+    → is_newer_old u best ≡ true → Leads u us n → Leads best (u ∷ us) n
 leads_over best u us n s e l = record {
   own = inr (go l.own);
   same = same_on best.register u.register n.register s l.same;
@@ -298,11 +336,13 @@ leads_over best u us n s e l = record {
     go (inl h) = subst (Contains (u ∷ us)) (sym h) (at_first u us)
     go (inr c) = in_rest u us n c
 
-    those : (w : Fields) → is_same_old best.register w.register ≡ true → (u ≡ w) ⊎ Contains us w → is_newer_old w n ≡ false
+    those : (w : Fields) → is_same_old best.register w.register ≡ true → (u ≡ w) ⊎ Contains us w
+        → is_newer_old w n ≡ false
     those w t (inl h) = ap (λ x. is_newer_old x n) (sym h) ∙ l.first
     those w t (inr c) = l.newest w c (sym (same_left best.register u.register w.register s) ∙ t)
 
-leads_still : (best u : Fields) (us : List Fields) (n : Fields) → is_newer_old u best ≡ false → Leads best us n → Leads best (u ∷ us) n
+leads_still : (best u : Fields) (us : List Fields) (n : Fields) → is_newer_old u best ≡ false → Leads best us n
+    → Leads best (u ∷ us) n
 leads_still best u us n e l = record {
   own = go l.own;
   same = l.same;
@@ -314,17 +354,22 @@ leads_still best u us n e l = record {
     go (inl h) = inl h
     go (inr c) = inr (in_rest u us n c)
 
-    those : (w : Fields) → is_same_old best.register w.register ≡ true → (u ≡ w) ⊎ Contains us w → is_newer_old w n ≡ false
+    those : (w : Fields) → is_same_old best.register w.register ≡ true → (u ≡ w) ⊎ Contains us w
+        → is_newer_old w n ≡ false
     those w t (inl h) = ap (λ x. is_newer_old x n) (sym h) ∙ newest_on u best n e l.first
     those w t (inr c) = l.newest w c t
 
 newest_leads : (best : Fields) (us : List Fields) → Side best.register us → Leads best us (newest_along best us)
 newest_leads best [] s = leads_alone best [] tt
-newest_leads best (u ∷ us) s = go (λ b. newest_leads b us) (is_same_old best.register u.register) refl (is_newer_old u best) refl
+newest_leads best (u ∷ us) s = go (λ b. newest_leads b us) (is_same_old best.register u.register) refl
+    (is_newer_old u best) refl
   where
-    go : ((b : Fields) → Side b.register us → Leads b us (newest_along b us)) → (b : Bool) → is_same_old best.register u.register ≡ b → (c : Bool) → is_newer_old u best ≡ c → Leads best (u ∷ us) (cond b (newest_along (cond c u best) us) best)
+    go : ((b : Fields) → Side b.register us → Leads b us (newest_along b us)) → (b : Bool)
+        → is_same_old best.register u.register ≡ b → (c : Bool) → is_newer_old u best ≡ c
+        → Leads best (u ∷ us) (cond b (newest_along (cond c u best) us) best)
     go rest false e c f = leads_alone best (u ∷ us) (e, s.1 e)
-    go rest true e true f = leads_over best u us (newest_along u us) e f (rest u (side_same best.register u.register us e (s.0 e)))
+    go rest true e true f = leads_over best u us (newest_along u us) e f
+        (rest u (side_same best.register u.register us e (s.0 e)))
     go rest true e false f = leads_still best u us (newest_along best us) f (rest best (s.0 e))
 
 -- ---- the walk
@@ -341,12 +386,14 @@ module _ (all : List Fields) where
   record Walks (best : Fields) (us : List Fields) : Type 0 where
     best_is : (u : Fields) → Contains us u → is_same_old best.register u.register ≡ true → IsNewest all u.register best
     among : (u : Fields) → Contains us u → Contains all u
-    whole : (w u : Fields) → Contains all w → Contains us u → is_same_old best.register u.register ≡ false → is_same_old w.register u.register ≡ true → Contains us w
+    whole : (w u : Fields) → Contains all w → Contains us u → is_same_old best.register u.register ≡ false
+        → is_same_old w.register u.register ≡ true → Contains us w
     side : Side best.register us
     rising : Rising us
 
   -- goes on behind an update of the same old register
-  goes_on : (best u : Fields) (us : List Fields) → Walks best (u ∷ us) → is_same_old best.register u.register ≡ true → Walks best us
+  goes_on : (best u : Fields) (us : List Fields) → Walks best (u ∷ us) → is_same_old best.register u.register ≡ true
+      → Walks best us
   goes_on best u us h e = record {
     best_is = λ x c s. h.best_is x (in_rest u us x c) s;
     among = λ x c. h.among x (in_rest u us x c);
@@ -355,12 +402,16 @@ module _ (all : List Fields) where
     rising = h.rising.1;
   }
     where
-      there : (w x : Fields) → is_same_old best.register x.register ≡ false → is_same_old w.register x.register ≡ true → (u ≡ w) ⊎ Contains us w → Contains us w
+      there : (w x : Fields) → is_same_old best.register x.register ≡ false → is_same_old w.register x.register ≡ true
+          → (u ≡ w) ⊎ Contains us w → Contains us w
       there w x n s (inr c) = c
-      there w x n s (inl p) = let t = same_on best.register u.register x.register e (subst (λ (y : Fields). is_same_old y.register x.register ≡ true) (sym p) s) in absurd (let no : true ≡ false = sym t ∙ n in cc)
+      there w x n s (inl p) = let t = same_on best.register u.register x.register e
+          (subst (λ (y : Fields). is_same_old y.register x.register ≡ true) (sym p) s) in
+          absurd (let no : true ≡ false = sym t ∙ n in cc)
 
   -- enters the next old register
-  entered : (best u : Fields) (us : List Fields) → Walks best (u ∷ us) → is_same_old best.register u.register ≡ false → IsNewest all u.register (newest_along u us)
+  entered : (best u : Fields) (us : List Fields) → Walks best (u ∷ us) → is_same_old best.register u.register ≡ false
+      → IsNewest all u.register (newest_along u us)
   entered best u us h e = record {
     own = go l.own;
     same = same_back u.register (newest_along u us).register l.same;
@@ -374,16 +425,26 @@ module _ (all : List Fields) where
       go (inl p) = h.among (newest_along u us) (subst (Contains (u ∷ us)) (sym p) (at_first u us))
       go (inr c) = h.among (newest_along u us) (in_rest u us (newest_along u us) c)
 
-      those : (w : Fields) → is_same_old w.register u.register ≡ true → (u ≡ w) ⊎ Contains us w → is_newer_old w (newest_along u us) ≡ false
+      those : (w : Fields) → is_same_old w.register u.register ≡ true → (u ≡ w) ⊎ Contains us w
+          → is_newer_old w (newest_along u us) ≡ false
       those w s (inl p) = ap (λ x. is_newer_old x (newest_along u us)) (sym p) ∙ l.first
       those w s (inr c) = l.newest w c (same_back w.register u.register s)
 
-  enters : (best u : Fields) (us : List Fields) → Walks best (u ∷ us) → is_same_old best.register u.register ≡ false → Walks (newest_along u us) us
+  enters : (best u : Fields) (us : List Fields) → Walks best (u ∷ us) → is_same_old best.register u.register ≡ false
+      → Walks (newest_along u us) us
   enters best u us h e = record {
-    best_is = λ x c s. record { own = i.own; same = s; newest = λ w d t. i.newest w d (same_on w.register x.register u.register t (same_on x.register n.register u.register (same_back n.register x.register s) i.same)) };
+    best_is = λ x c s. record {
+      own = i.own;
+      same = s;
+      newest =
+          λ w d t. i.newest w d (same_on w.register x.register u.register t
+          (same_on x.register n.register u.register (same_back n.register x.register s) i.same));
+    };
     among = λ x c. h.among x (in_rest u us x c);
-    whole = λ w x d c m s. there w x c m s (first_or_rest u us w (h.whole w x d (in_rest u us x c) (apart_none best.register us x (h.side.1 e) c) s));
-    side = side_same u.register n.register us (same_back n.register u.register i.same) (side_above u.register us h.rising.0 h.rising.1);
+    whole = λ w x d c m s. there w x c m s (first_or_rest u us w
+        (h.whole w x d (in_rest u us x c) (apart_none best.register us x (h.side.1 e) c) s));
+    side = side_same u.register n.register us (same_back n.register u.register i.same)
+        (side_above u.register us h.rising.0 h.rising.1);
     rising = h.rising.1;
   }
     where
@@ -393,19 +454,27 @@ module _ (all : List Fields) where
       i : IsNewest all u.register n
       i = entered best u us h e
 
-      there : (w x : Fields) → Contains us x → is_same_old n.register x.register ≡ false → is_same_old w.register x.register ≡ true → (u ≡ w) ⊎ Contains us w → Contains us w
+      there : (w x : Fields) → Contains us x → is_same_old n.register x.register ≡ false
+          → is_same_old w.register x.register ≡ true → (u ≡ w) ⊎ Contains us w → Contains us w
       there w x c m s (inr d) = d
       there w x c m s (inl p) =
-          let t = same_on n.register u.register x.register i.same (subst (λ (y : Fields). is_same_old y.register x.register ≡ true) (sym p) s) in
+          let t = same_on n.register u.register x.register i.same
+          (subst (λ (y : Fields). is_same_old y.register x.register ≡ true) (sym p) s) in
           absurd (let no : true ≡ false = sym t ∙ m in cc)
 
   walked : (best : Fields) (us : List Fields) → Walks best us → Each us (migrated_along best us)
   walked best [] h = tt
   walked best (u ∷ us) h = go (λ b. walked b us) (is_same_old best.register u.register) refl
     where
-      go : ((b : Fields) → Walks b us → Each us (migrated_along b us)) → (b : Bool) → is_same_old best.register u.register ≡ b → Each (u ∷ us) (migrated_at (cond b best (newest_along u us)) u.register ∷ migrated_along (cond b best (newest_along u us)) us)
+      go : ((b : Fields) → Walks b us → Each us (migrated_along b us)) → (b : Bool)
+          → is_same_old best.register u.register ≡ b → Each (u ∷ us)
+          (migrated_at (cond b best (newest_along u us)) u.register
+          ∷ migrated_along (cond b best (newest_along u us)) us)
       go rest true e = ((best, h.best_is u (at_first u us) e, refl), rest best (goes_on best u us h e))
-      go rest false e = ((newest_along u us, entered best u us h e, refl), rest (newest_along u us) (enters best u us h e))
+      go rest false e = (
+        (newest_along u us, entered best u us h e, refl),
+        rest (newest_along u us) (enters best u us h e),
+      )
 
 -- ---- what is written
 
@@ -418,53 +487,79 @@ at_register n r = go (is_eq (register_cmp n.register r)) refl
     go false e = refl
 
 module _ (all : List Fields) where
-  made_in : (us ws : List Fields) → Each all us ws → (w : Fields) → Contains ws w → (u : Fields) × Contains us u × (u.register ≡ w.register) × (n : Fields) × IsNewest all w.register n × (w ≡ migrated_at n w.register)
+  made_in : (us ws : List Fields) → Each all us ws → (w : Fields) → Contains ws w
+      → (u : Fields) × Contains us u × (u.register ≡ w.register) × (n : Fields) × IsNewest all w.register n
+      × (w ≡ migrated_at n w.register)
   made_in [] [] e w c = absurd (omega (arith, c.1))
   made_in [] (x ∷ ws) e w c = absurd e
   made_in (u ∷ us) [] e w c = absurd e
   made_in (u ∷ us) (x ∷ ws) e w c = go (made_in us ws e.1 w) (first_or_rest x ws w c)
     where
-      go : (Contains ws w → (v : Fields) × Contains us v × (v.register ≡ w.register) × (n : Fields) × IsNewest all w.register n × (w ≡ migrated_at n w.register)) → (x ≡ w) ⊎ Contains ws w → (v : Fields) × Contains (u ∷ us) v × (v.register ≡ w.register) × (n : Fields) × IsNewest all w.register n × (w ≡ migrated_at n w.register)
+      go : (Contains ws w → (v : Fields) × Contains us v × (v.register ≡ w.register) × (n : Fields)
+          × IsNewest all w.register n × (w ≡ migrated_at n w.register)) → (x ≡ w) ⊎ Contains ws w
+          → (v : Fields) × Contains (u ∷ us) v × (v.register ≡ w.register) × (n : Fields) × IsNewest all w.register n
+          × (w ≡ migrated_at n w.register)
       go rest (inl p) =
           let n = e.0.0 in
-          let r : u.register ≡ w.register = sym (at_register n u.register) ∙ ap (λ (y : Fields). y.register) (sym e.0.2 ∙ p) in
+          let r : u.register ≡ w.register = sym (at_register n u.register)
+          ∙ ap (λ (y : Fields). y.register) (sym e.0.2 ∙ p) in
           (u, at_first u us, r, n, subst (λ q. IsNewest all q n) r e.0.1, sym p ∙ e.0.2 ∙ ap (migrated_at n) r)
       go rest (inr d) = let h = rest d in (h.0, in_rest u us h.0 h.1, h.2, h.3, h.4, h.5)
 
-  each_made : (us ws : List Fields) → Each all us ws → (u : Fields) → Contains us u → (n : Fields) × IsNewest all u.register n × Contains ws (migrated_at n u.register)
+  each_made : (us ws : List Fields) → Each all us ws → (u : Fields) → Contains us u
+      → (n : Fields) × IsNewest all u.register n × Contains ws (migrated_at n u.register)
   each_made [] [] e u c = absurd (omega (arith, c.1))
   each_made [] (x ∷ ws) e u c = absurd e
   each_made (v ∷ us) [] e u c = absurd e
   each_made (v ∷ us) (x ∷ ws) e u c = go (each_made us ws e.1 u) (first_or_rest v us u c)
     where
-      go : (Contains us u → (n : Fields) × IsNewest all u.register n × Contains ws (migrated_at n u.register)) → (v ≡ u) ⊎ Contains us u → (n : Fields) × IsNewest all u.register n × Contains (x ∷ ws) (migrated_at n u.register)
-      go rest (inl p) = (e.0.0, subst (λ (y : Fields). IsNewest all y.register e.0.0) p e.0.1, subst (λ (y : Fields). Contains (x ∷ ws) (migrated_at e.0.0 y.register)) p (subst (Contains (x ∷ ws)) e.0.2 (at_first x ws)))
+      go : (Contains us u → (n : Fields) × IsNewest all u.register n × Contains ws (migrated_at n u.register))
+          → (v ≡ u) ⊎ Contains us u → (n : Fields) × IsNewest all u.register n
+          × Contains (x ∷ ws) (migrated_at n u.register)
+      go rest (inl p) = (
+        e.0.0,
+        subst (λ (y : Fields). IsNewest all y.register e.0.0) p e.0.1,
+        subst (λ (y : Fields). Contains (x ∷ ws) (migrated_at e.0.0 y.register)) p
+            (subst (Contains (x ∷ ws)) e.0.2 (at_first x ws)),
+      )
       go rest (inr d) = let h = rest d in (h.0, h.1, in_rest x ws (migrated_at h.0 u.register) h.2)
 
-  same_places : (r : Register) (us ws : List Fields) → Each all us ws → below_all register_cmp r (entries_of ws) ≡ below_all register_cmp r (entries_of us)
+  same_places : (r : Register) (us ws : List Fields) → Each all us ws
+      → below_all register_cmp r (entries_of ws) ≡ below_all register_cmp r (entries_of us)
   same_places r [] [] e = refl
   same_places r [] (x ∷ ws) e = absurd e
   same_places r (u ∷ us) [] e = absurd e
   same_places r (u ∷ us) (x ∷ ws) e =
       let q : x.register ≡ u.register = ap (λ (y : Fields). y.register) e.0.2 ∙ at_register e.0.0 u.register in
-      ap (λ (k : Register). is_lt (register_cmp r k) && below_all register_cmp r (entries_of ws)) q ∙ ap (λ b. is_lt (register_cmp r u.register) && b) (same_places r us ws e.1)
+      ap (λ (k : Register). is_lt (register_cmp r k) && below_all register_cmp r (entries_of ws)) q
+      ∙ ap (λ b. is_lt (register_cmp r u.register) && b) (same_places r us ws e.1)
 
-  same_order : (us ws : List Fields) → Each all us ws → is_sorted register_cmp (entries_of ws) ≡ is_sorted register_cmp (entries_of us)
+  same_order : (us ws : List Fields) → Each all us ws → is_sorted register_cmp (entries_of ws)
+      ≡ is_sorted register_cmp (entries_of us)
   same_order [] [] e = refl
   same_order [] (x ∷ ws) e = absurd e
   same_order (u ∷ us) [] e = absurd e
   same_order (u ∷ us) (x ∷ ws) e =
       let q : x.register ≡ u.register = ap (λ (y : Fields). y.register) e.0.2 ∙ at_register e.0.0 u.register in
       ap (λ (k : Register). below_all register_cmp k (entries_of ws) && is_sorted register_cmp (entries_of ws)) q
-      ∙ ap (λ b. b && is_sorted register_cmp (entries_of ws)) (same_places u.register us ws e.1) ∙ ap (λ b. below_all register_cmp u.register (entries_of us) && b) (same_order us ws e.1)
+      ∙ ap (λ b. b && is_sorted register_cmp (entries_of ws)) (same_places u.register us ws e.1)
+      ∙ ap (λ b. below_all register_cmp u.register (entries_of us) && b) (same_order us ws e.1)
 
 -- the walk makes the migration of the updates that it goes along
 begins : (u : Fields) (us : List Fields) → Rising (u ∷ us) → Walks (u ∷ us) (newest_along u us) (u ∷ us)
 begins u us r = record {
-  best_is = λ x c s. record { own = go l.own; same = s; newest = λ w d t. those w (same_on u.register n.register w.register l.same (same_on n.register x.register w.register s (same_back w.register x.register t))) (first_or_rest u us w d) };
+  best_is = λ x c s. record {
+    own = go l.own;
+    same = s;
+    newest = λ w d t. those w (same_on u.register n.register w.register l.same
+        (same_on n.register x.register w.register s (same_back w.register x.register t))) (first_or_rest u us w d);
+  };
   among = λ x c. c;
   whole = λ w x d c m s. d;
-  side = side_same u.register n.register (u ∷ us) l.same (λ e. side_above u.register us r.0 r.1, λ e. absurd (let no : true ≡ false = sym (same_itself u.register) ∙ e in cc));
+  side = side_same u.register n.register (u ∷ us) l.same (
+    λ e. side_above u.register us r.0 r.1,
+    λ e. absurd (let no : true ≡ false = sym (same_itself u.register) ∙ e in cc),
+  );
   rising = r;
 }
   where
@@ -488,7 +583,8 @@ each_walked (u ∷ us) o = walked (u ∷ us) (newest_along u us) (u ∷ us) (beg
 
 -- ---- a table's updates and the set that it is of
 
-lex_first : (m n : ℕ) (o p : Ordering) → (m ≡ n → is_lt o ≡ false → is_lt p ≡ false) → is_lt (ordering_then (nat_cmp m n) o) ≡ false → is_lt (ordering_then (nat_cmp m n) p) ≡ false
+lex_first : (m n : ℕ) (o p : Ordering) → (m ≡ n → is_lt o ≡ false → is_lt p ≡ false)
+    → is_lt (ordering_then (nat_cmp m n) o) ≡ false → is_lt (ordering_then (nat_cmp m n) p) ≡ false
 lex_first m n o p f e = go (nat_cmp m n) refl e
   where
     go : (x : Ordering) → nat_cmp m n ≡ x → is_lt (ordering_then x o) ≡ false → is_lt (ordering_then x p) ≡ false
@@ -500,9 +596,12 @@ then_itself : (o p : Ordering) → o ≡ Equal → is_lt p ≡ false → is_lt (
 then_itself o p e h = ap (λ x. is_lt (ordering_then x p)) e ∙ h
 
 -- where the register is the same, what is no newer is no newer by the old order
-same_newer : (r : Register) (v w : Value) → is_newer v w ≡ false → is_newer_old (record { register = r; value = v }) (record { register = r; value = w }) ≡ false
+same_newer : (r : Register) (v w : Value) → is_newer v w ≡ false
+    → is_newer_old (record { register = r; value = v }) (record { register = r; value = w }) ≡ false
 same_newer r v w e =
-    lex_first w.incarnation v.incarnation _ _ (λ _. lex_first w.counter v.counter _ _ (λ _. lex_first (rank_of w.content) (rank_of v.content) _ _ (λ _. lex_first (sequence_of w.content) (sequence_of v.content) _ _
+    lex_first w.incarnation v.incarnation _ _ (λ _. lex_first w.counter v.counter _ _
+    (λ _. lex_first (rank_of w.content) (rank_of v.content) _ _
+    (λ _. lex_first (sequence_of w.content) (sequence_of v.content) _ _
     (λ _ h. then_itself (ip_cmp (ip_of r.key) (ip_of r.key)) _ (tied_itself ip_total (ip_of r.key)) h)))) e
 
 module _ (us : List Fields) (t : Table) (h : IsTableOf us t) where
@@ -528,7 +627,8 @@ module _ (us : List Fields) (t : Table) (h : IsTableOf us t) where
     made = λ w c. let m = made_in all all' all'' each w c in (m.3, newest_in w.register m.3 m.4, m.5);
     all = λ v c.
         let x = h.newest v c in
-        let m = each_made all all' all'' each (record { register = v.register; value = x.0 }) (own_are.all v.register x.0 x.1) in
+        let m = each_made all all' all'' each (record { register = v.register; value = x.0 })
+        (own_are.all v.register x.0 x.1) in
         (m.0, newest_in v.register m.0 m.1, m.2);
     ordered = same_order all all' all'' each ∙ own_are.ordered;
   }
@@ -546,7 +646,8 @@ module _ (us : List Fields) (t : Table) (h : IsTableOf us t) where
       each = each_walked (all_updates t) own_are.ordered
 
 -- a migration that octets were held for
-pub passed_migrates : (originators : List ℕ) (before held after : Devices) (status last : ℕ) → Passes before.out.failures before.notes.failures held after status last
+pub passed_migrates : (originators : List ℕ) (before held after : Devices) (status last : ℕ)
+    → Passes before.out.failures before.notes.failures held after status last
     → Migrates originators before held status → Migrates originators before after last
 passed_migrates originators before held after status last p m =
     let run = passed_renders before held after status last p 2 migration originators m.run in

@@ -1,5 +1,7 @@
 -- What a reader gave, read after read, and how its reading ended.
-use Rattle.std.proofs.Common.{◌≡◌, ℕ, ◌+◌, ◌<◌, ◌^◌, false, List, [], ◌∷◌, ◌++◌, take, length, length-append, length-take-le, Option, Some, None, Ok, Err, refl, sym, ap, subst, ◌∙◌, append_assoc, arith}
+use Rattle.std.proofs.Common.{◌≡◌, ℕ, ◌+◌, ◌<◌, ◌^◌, false, List, [], ◌∷◌, ◌++◌, take, length, length-append}
+use Rattle.std.proofs.Common.{length-take-le, Option, Some, None, Ok, Err, refl, sym, ap, subst, ◌∙◌, append_assoc}
+use Rattle.std.proofs.Common.{arith}
 use Rattle.std.proofs.lemmas.List.{append-nil}
 use Rattle.std.specs.Prelude.{IfSome}
 use Rattle.std.specs.List.{concat}
@@ -15,7 +17,8 @@ use Rattle.ev_report.specs.Ends.{fault_in, IsFaultless, AreSome, Gives}
 use Rattle.ev_report.specs.Progressing.{State, TakesOctets, TakesReads, TakesInput}
 use Rattle.ev_report.proofs.Taking.{octets_none, octets_both}
 
-prepend_known_twice : (k : Option (List ℕ)) (a b : List ℕ) → prepend_known a (prepend_known b k) ≡ prepend_known (a ++ b) k
+prepend_known_twice : (k : Option (List ℕ)) (a b : List ℕ)
+    → prepend_known a (prepend_known b k) ≡ prepend_known (a ++ b) k
 prepend_known_twice None a b = refl
 prepend_known_twice (Some xs) a b = ap Some (sym (append_assoc a b xs))
 
@@ -42,15 +45,21 @@ all_more (q ∷ ps) p h k = (h.0, all_more ps p h.1 k)
 pub gives_none : (s : Source) → Gives s s []
 gives_none s = record { given = sym (prepend_known_none s.octets); some = tt; reads = grind arith; unfailed = refl }
 
-pub gives_one : (s t : Source) (buffer : List ℕ) (n : ℕ) → Gets s t buffer (Ok n) → 0 < n → Gives s t (take n buffer ∷ [])
+pub gives_one : (s t : Source) (buffer : List ℕ) (n : ℕ) → Gets s t buffer (Ok n) → 0 < n
+    → Gives s t (take n buffer ∷ [])
 gives_one s t buffer n g some = record {
   given = g.takes.next ∙ ap (λ x. prepend_known x t.octets) (sym (append-nil (take n buffer)));
-  some = (let k : length (take n buffer) ≡ n = length-take-le n buffer g.takes.fits in let x : 0 < length (take n buffer) = omega arith in x, tt);
+  some = (
+    let k : length (take n buffer) ≡ n = length-take-le n buffer g.takes.fits in
+        let x : 0 < length (take n buffer) = omega arith in x,
+    tt,
+  );
   reads = g.reads;
   unfailed = g.failures ∙ grind arith;
 }
 
-pub gives_more : (s t u : Source) (ps : List (List ℕ)) (p : List ℕ) → Gives s t ps → Gives t u (p ∷ []) → Gives s u (ps ++ p ∷ [])
+pub gives_more : (s t u : Source) (ps : List (List ℕ)) (p : List ℕ) → Gives s t ps → Gives t u (p ∷ [])
+    → Gives s u (ps ++ p ∷ [])
 gives_more s t u ps p h k = record {
   given = h.given ∙ ap (prepend_known (concat ps)) k.given ∙ prepend_known_twice u.octets (concat ps) (p ++ [])
       ∙ ap (λ x. prepend_known x u.octets) (ap (λ x. concat ps ++ x) (append-nil p) ∙ sym (concat_more ps p));
@@ -64,10 +73,12 @@ pub reads_none : (reader : Source) (s : State) → TakesReads 0 reader reader s 
 reads_none reader s = record { pieces = []; gives = gives_none reader; many = refl; octets = octets_none s }
 
 -- what was taken so far shows no fault
-faultless_octets : (newest : ℕ) (octets : List ℕ) (s t : State) → s.intake.feed ≡ record { newest = newest; rest = [] } → TakesOctets octets s t → is_length (shown t.intake.feed) ≡ false → fault_in (shown t.intake.feed) ≡ None
+faultless_octets : (newest : ℕ) (octets : List ℕ) (s t : State) → s.intake.feed ≡ record { newest = newest; rest = [] }
+    → TakesOctets octets s t → is_length (shown t.intake.feed) ≡ false → fault_in (shown t.intake.feed) ≡ None
     → IsFaultless newest octets
 faultless_octets newest octets s t new o whole none =
-    let first : HasRead s.intake.feed [] [] = subst (λ (h : Held). HasRead h [] []) (sym new) (record { skipped = []; reads = refl; faulty = λ _. refl }) in
+    let first : HasRead s.intake.feed [] [] = subst (λ (h : Held). HasRead h [] []) (sym new)
+    (record { skipped = []; reads = refl; faulty = λ _. refl }) in
     let found = read_whole_stream t.intake.feed octets o.answers (o.read [] [] first) whole in
     let version : t.intake.feed.newest ≡ newest = o.version ∙ ap (λ (h : Held). h.newest) new in
     record {
@@ -79,16 +90,20 @@ faultless_octets newest octets s t new o whole none =
 
 module _ (turn : ℕ) (reader mid : Source) (s t : State) (r : TakesReads turn reader mid s t) where
   -- a read that gave octets, which were taken
-  pub reads_more : (last : Source) (u : State) (buffer : List ℕ) (n : ℕ) → Gets mid last buffer (Ok n) → 0 < n → TakesOctets (take n buffer) t u → TakesReads (turn + 1) reader last s u
+  pub reads_more : (last : Source) (u : State) (buffer : List ℕ) (n : ℕ) → Gets mid last buffer (Ok n) → 0 < n
+      → TakesOctets (take n buffer) t u → TakesReads (turn + 1) reader last s u
   reads_more last u buffer n g some o = record {
     pieces = r.pieces ++ take n buffer ∷ [];
     gives = gives_more reader mid last r.pieces (take n buffer) r.gives (gives_one mid last buffer n g some);
     many = let k = r.many in let l = length-append r.pieces (take n buffer ∷ []) in omega arith;
-    octets = subst (λ x. TakesOctets x s u) (sym (concat_more r.pieces (take n buffer))) (octets_both (concat r.pieces) (take n buffer) s t u r.octets o);
+    octets = subst (λ x. TakesOctets x s u) (sym (concat_more r.pieces (take n buffer)))
+        (octets_both (concat r.pieces) (take n buffer) s t u r.octets o);
   }
 
-  module _ (newest : ℕ) (new : s.intake.feed ≡ record { newest = newest; rest = [] }) (whole : is_length (shown t.intake.feed) ≡ false) (none : fault_in (shown t.intake.feed) ≡ None) where
-    pub input_ended : (last : Source) (buffer : List ℕ) → turn < 2 ^ 40 → 0 < length buffer → Gets mid last buffer (Ok 0) → TakesInput newest Ended reader last s t
+  module _ (newest : ℕ) (new : s.intake.feed ≡ record { newest = newest; rest = [] })
+      (whole : is_length (shown t.intake.feed) ≡ false) (none : fault_in (shown t.intake.feed) ≡ None) where
+    pub input_ended : (last : Source) (buffer : List ℕ) → turn < 2 ^ 40 → 0 < length buffer
+        → Gets mid last buffer (Ok 0) → TakesInput newest Ended reader last s t
     input_ended last buffer turns room g = record {
       input = concat r.pieces;
       gave = record {
@@ -96,7 +111,12 @@ module _ (turn : ℕ) (reader mid : Source) (s t : State) (r : TakesReads turn r
         behind = mid;
         gives = r.gives;
         faultless = faultless_octets newest (concat r.pieces) s t new r.octets whole none;
-        ends = (at_end mid.octets (g.takes.ends room refl), same_source last (record mid { reads = mid.reads + 1 }) (sym (g.takes.next ∙ prepend_known_none last.octets)) (g.failures ∙ grind arith) g.reads, refl);
+        ends = (
+          at_end mid.octets (g.takes.ends room refl),
+          same_source last (record mid { reads = mid.reads + 1 })
+              (sym (g.takes.next ∙ prepend_known_none last.octets)) (g.failures ∙ grind arith) g.reads,
+          refl,
+        );
         few = let a = r.gives.reads in let b = g.reads in let k = r.many in omega arith;
       };
       octets = r.octets;
@@ -104,7 +124,8 @@ module _ (turn : ℕ) (reader mid : Source) (s t : State) (r : TakesReads turn r
       none_held = whole;
     }
 
-    pub input_failed : (last : Source) (buffer : List ℕ) (device : Device) → turn < 2 ^ 40 → Gets mid last buffer (Err device) → TakesInput newest Failed reader last s t
+    pub input_failed : (last : Source) (buffer : List ℕ) (device : Device) → turn < 2 ^ 40
+        → Gets mid last buffer (Err device) → TakesInput newest Failed reader last s t
     input_failed last buffer device turns g = record {
       input = concat r.pieces;
       gave = record {
@@ -112,7 +133,11 @@ module _ (turn : ℕ) (reader mid : Source) (s t : State) (r : TakesReads turn r
         behind = mid;
         gives = r.gives;
         faultless = faultless_octets newest (concat r.pieces) s t new r.octets whole none;
-        ends = (same_source last (record mid { failures = mid.failures + 1; reads = mid.reads + 1 }) g.keeps g.failures g.reads, refl);
+        ends = (
+          same_source last (record mid { failures = mid.failures + 1; reads = mid.reads + 1 }) g.keeps g.failures
+              g.reads,
+          refl,
+        );
         few = let a = r.gives.reads in let b = g.reads in let k = r.many in omega arith;
       };
       octets = r.octets;
@@ -136,8 +161,10 @@ module _ (turn : ℕ) (reader mid : Source) (s t : State) (r : TakesReads turn r
       none_held = whole;
     }
 
-    pub input_faulty : (last : Source) (u : State) (buffer : List ℕ) (n fault : ℕ) → turn < 2 ^ 40 → Gets mid last buffer (Ok n) → 0 < n → TakesOctets (take n buffer) t u
-        → is_length (shown u.intake.feed) ≡ false → Some fault ≡ fault_in (shown u.intake.feed) → TakesInput newest (Faulty fault) reader last s u
+    pub input_faulty : (last : Source) (u : State) (buffer : List ℕ) (n fault : ℕ) → turn < 2 ^ 40
+        → Gets mid last buffer (Ok n) → 0 < n → TakesOctets (take n buffer) t u
+        → is_length (shown u.intake.feed) ≡ false → Some fault ≡ fault_in (shown u.intake.feed)
+        → TakesInput newest (Faulty fault) reader last s u
     input_faulty last u buffer n fault turns g some o held shows = record {
       input = concat r.pieces ++ take n buffer;
       gave = record {

@@ -1,5 +1,6 @@
 -- No whole record is refused for memory: only a table refuses an update so.
-use Rattle.std.proofs.Common.{◌≡◌, ℕ, Bool, true, false, ◌==◌, List, [], ◌∷◌, Option, Some, None, Result, Ok, Err, refl, sym, ap, ◌∙◌}
+use Rattle.std.proofs.Common.{◌≡◌, ℕ, Bool, true, false, ◌==◌, List, [], ◌∷◌, Option, Some, None, Result, Ok, Err, refl}
+use Rattle.std.proofs.Common.{sym, ap, ◌∙◌}
 use Rattle.route_wire.specs.declared.stream.Whole.{Whole}
 use Rattle.route_wire.specs.declared.stream.Whole.TheVariants.{Rest, Fault, Length}
 use Rattle.route_wire.specs.declared.stream.Next.TheVariants.{Refused}
@@ -9,7 +10,8 @@ use Rattle.route_wire.specs.Refusal.{refusal_of}
 use Rattle.route_wire.specs.Record.{reading, header_in, route_of, update_in, unless_refused}
 use Rattle.route_wire.specs.Feed.{next_by, answer_of}
 
-other : (a b c d e f g h : Bool) (r : ℕ) → first_of ((a, 5) ∷ (b, 6) ∷ (c, 7) ∷ (d, 8) ∷ (e, 9) ∷ (f, 10) ∷ (g, 11) ∷ (h, 14) ∷ []) ≡ Some r → (r == 15) ≡ false
+other : (a b c d e f g h : Bool) (r : ℕ) → first_of ((a, 5) ∷ (b, 6) ∷ (c, 7) ∷ (d, 8) ∷ (e, 9) ∷ (f, 10) ∷ (g, 11)
+    ∷ (h, 14) ∷ []) ≡ Some r → (r == 15) ≡ false
 other true b c d e f g h r k = let is : 5 ≡ r = cc in ap (λ n. n == 15) (sym is)
 other false true c d e f g h r k = let is : 6 ≡ r = cc in ap (λ n. n == 15) (sym is)
 other false false true d e f g h r k = let is : 7 ≡ r = cc in ap (λ n. n == 15) (sym is)
@@ -26,7 +28,8 @@ refused (Some x) u r k = cc
 
 not_memory : (bytes : List ℕ) (r : ℕ) → reading bytes ≡ Err r → (r == 15) ≡ false
 unfolding reading
-not_memory bytes r k = other _ _ _ _ _ _ _ _ r (refused (refusal_of (header_in bytes) (route_of bytes)) (update_in (header_in bytes) (route_of bytes)) r k)
+not_memory bytes r k = other _ _ _ _ _ _ _ _ r (refused (refusal_of (header_in bytes) (route_of bytes))
+    (update_in (header_in bytes) (route_of bytes)) r k)
 
 pub refused_otherwise : (w : Whole) (rest : List ℕ) (r : ℕ) → Refused r ≡ next_by w rest → (r == 15) ≡ false
 refused_otherwise Rest rest r k = cc

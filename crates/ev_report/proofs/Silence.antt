@@ -9,7 +9,8 @@ use Rattle.ev_report.specs.Silence.{IsSilent, IsRefusedMemory}
 use Rattle.ev_report.proofs.Finishing.{passed_out, passed_notes, passed_status, failed_out, failed_notes}
 
 pub status_as : (a b c d s t k : Bool) → a ≡ c → b ≡ d → s ≡ t → status_of (a || b) s k ≡ status_of (c || d) t k
-status_as a b c d s t k ac bd st = ap (λ x. status_of (x || b) s k) ac ∙ ap (λ x. status_of (c || x) s k) bd ∙ ap (λ x. status_of (c || d) x k) st
+status_as a b c d s t k ac bd st = ap (λ x. status_of (x || b) s k) ac ∙ ap (λ x. status_of (c || x) s k) bd
+    ∙ ap (λ x. status_of (c || d) x k) st
 
 pub holds_none : (e : End) → Holds e e []
 holds_none e = record { written = λ _. sym (with_text_none e); failures = inl refl }
@@ -21,22 +22,29 @@ unfailed : (e : End) → has_failed e e ≡ false
 unfailed e = grind (arith, nat_tests)
 
 pub refused_memory : (out notes : End) (status : ℕ) → status ≡ 3 → IsRefusedMemory out out notes notes status
-refused_memory out notes status is =
-    (is_silent out notes, is ∙ status_as false false (has_failed out out) (has_failed notes notes) true true false (sym (unfailed out)) (sym (unfailed notes)) refl)
+refused_memory out notes status is = (
+  is_silent out notes,
+  is ∙ status_as false false (has_failed out out) (has_failed notes notes) true true false
+      (sym (unfailed out)) (sym (unfailed notes)) refl,
+)
 
 -- ---- writers that are given more at once
 
-module _ (before held after : Devices) (status last : ℕ) (p : Passes before.out.failures before.notes.failures held after status last) where
-  pub passed_silent : IsSilent before.out held.out before.notes held.notes → IsSilent before.out after.out before.notes after.notes
+module _ (before held after : Devices) (status last : ℕ)
+    (p : Passes before.out.failures before.notes.failures held after status last) where
+  pub passed_silent : IsSilent before.out held.out before.notes held.notes
+      → IsSilent before.out after.out before.notes after.notes
   passed_silent s = record {
     out_kept = passed_out before held after status last p [] s.out_kept;
     notes_kept = passed_notes before held after status last p [] s.notes_kept;
   }
 
-  pub passed_refused : IsRefusedMemory before.out held.out before.notes held.notes status → IsRefusedMemory before.out after.out before.notes after.notes last
+  pub passed_refused : IsRefusedMemory before.out held.out before.notes held.notes status
+      → IsRefusedMemory before.out after.out before.notes after.notes last
   passed_refused h = (
     passed_silent h.0,
-    passed_status before held after status last p false true false (failed_out before held after status last p [] h.0.out_kept)
+    passed_status before held after status last p false true false
+        (failed_out before held after status last p [] h.0.out_kept)
         (failed_notes before held after status last p [] h.0.notes_kept) h.1,
   )
 

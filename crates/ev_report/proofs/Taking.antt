@@ -1,5 +1,7 @@
 -- Records one after the other, the octets that spell them, and the table of all that were taken.
-use Rattle.std.proofs.Common.{◌≡◌, ◌↔◌, ◌⊎◌, inl, inr, ℕ, ◌+◌, Bool, true, false, ◌||◌, ◌==◌, List, [], ◌∷◌, ◌++◌, take, drop, length, length-append, None, Result, Ok, Err, refl, sym, ap, subst, ◌∙◌, append_assoc, arith}
+use Rattle.std.proofs.Common.{◌≡◌, ◌↔◌, ◌⊎◌, inl, inr, ℕ, ◌+◌, Bool, true, false, ◌||◌, ◌==◌, List, [], ◌∷◌, ◌++◌, take}
+use Rattle.std.proofs.Common.{drop, length, length-append, None, Result, Ok, Err, refl, sym, ap, subst, ◌∙◌}
+use Rattle.std.proofs.Common.{append_assoc, arith}
 use Rattle.std.proofs.lemmas.List.{append-nil, nil_from_length, take-append-drop}
 use Rattle.std.specs.Prelude.{MatchBool}
 use Rattle.ether_wire.specs.Ends.{End, with_text}
@@ -17,13 +19,19 @@ use Rattle.route_join.proofs.Joins.{all_taken, none_taken}
 use Rattle.ev_report.specs.Notes.{refused_line, refusals_from, has_starved}
 use Rattle.ev_report.specs.Ends.{Tells}
 use Rattle.ev_report.specs.Runs.{Becomes, BecomeAll, table_after, table_after_all, taken_of, fresh}
-use Rattle.ev_report.specs.Progressing.{State, state, outcome_of, Refuses, Counts, TakesAnswers, TakesOctets, TakesFront}
+use Rattle.ev_report.specs.Progressing.{State, state, outcome_of, Refuses, Counts, TakesAnswers, TakesOctets}
+use Rattle.ev_report.specs.Progressing.{TakesFront}
 
 -- ---- notes
 
 -- one text after the other
-pub tells_more : (a b c : End) (p q r : Bool) (s t : List ℕ) → Tells a b p q s → Tells b c q r t → Tells a c p r (s ++ t)
-tells_more a b c p q r s t h k = record { kept = λ e. kept e; written = written q h k; failed = λ e f. failed q e f h k }
+pub tells_more : (a b c : End) (p q r : Bool) (s t : List ℕ) → Tells a b p q s → Tells b c q r t
+    → Tells a c p r (s ++ t)
+tells_more a b c p q r s t h k = record {
+  kept = λ e. kept e;
+  written = written q h k;
+  failed = λ e f. failed q e f h k;
+}
   where
     kept : p ≡ false → (r ≡ false) × (c ≡ a)
     kept e =
@@ -48,13 +56,15 @@ tells_none a p = record { kept = λ e. (e, refl); written = λ _. sym (with_text
     failed false e f = cc
 
 -- ---- records
-become_both : (t : Table) (xs os ys ps : List (Result Fields ℕ)) → BecomeAll t xs os → BecomeAll (table_after_all t os) ys ps → BecomeAll t (xs ++ ys) (os ++ ps)
+become_both : (t : Table) (xs os ys ps : List (Result Fields ℕ)) → BecomeAll t xs os
+    → BecomeAll (table_after_all t os) ys ps → BecomeAll t (xs ++ ys) (os ++ ps)
 become_both t [] [] ys ps h k = k
 become_both t [] (o ∷ os) ys ps h k = absurd h
 become_both t (x ∷ xs) [] ys ps h k = absurd h
 become_both t (x ∷ xs) (o ∷ os) ys ps h k = (h.0, become_both (table_after t o) xs os ys ps h.1 k)
 
-after_both : (t : Table) (os ps : List (Result Fields ℕ)) → table_after_all t (os ++ ps) ≡ table_after_all (table_after_all t os) ps
+after_both : (t : Table) (os ps : List (Result Fields ℕ))
+    → table_after_all t (os ++ ps) ≡ table_after_all (table_after_all t os) ps
 after_both t [] ps = refl
 after_both t (o ∷ os) ps = after_both (table_after t o) os ps
 
@@ -73,14 +83,17 @@ or_true false = refl
 starved_both : (os ps : List (Result Fields ℕ)) → has_starved (os ++ ps) ≡ (has_starved os || has_starved ps)
 starved_both [] ps = refl
 starved_both (Ok u ∷ os) ps = starved_both os ps
-starved_both (Err e ∷ os) ps = ap (λ b. (e == number_of NoMemory) || b) (starved_both os ps) ∙ or_assoc (e == number_of NoMemory) (has_starved os) (has_starved ps)
+starved_both (Err e ∷ os) ps = ap (λ b. (e == number_of NoMemory) || b) (starved_both os ps)
+    ∙ or_assoc (e == number_of NoMemory) (has_starved os) (has_starved ps)
 
 next_number : (n : ℕ) (o : Result Fields ℕ) (os : List (Result Fields ℕ)) → (n + 1) + length os ≡ n + length (o ∷ os)
 next_number n o os = omega arith
 
-refusals_both : (n : ℕ) (os ps : List (Result Fields ℕ)) → refusals_from n (os ++ ps) ≡ refusals_from n os ++ refusals_from (n + length os) ps
+refusals_both : (n : ℕ) (os ps : List (Result Fields ℕ))
+    → refusals_from n (os ++ ps) ≡ refusals_from n os ++ refusals_from (n + length os) ps
 refusals_both n [] ps = ap (λ k. refusals_from k ps) (let e : n ≡ n + 0 = omega arith in e)
-refusals_both n (Ok u ∷ os) ps = refusals_both (n + 1) os ps ∙ ap (λ k. refusals_from (n + 1) os ++ refusals_from k ps) (next_number n (Ok u) os)
+refusals_both n (Ok u ∷ os) ps = refusals_both (n + 1) os ps
+    ∙ ap (λ k. refusals_from (n + 1) os ++ refusals_from k ps) (next_number n (Ok u) os)
 refusals_both n (Err e ∷ os) ps =
     ap (λ t. refused_line n e ++ t) (refusals_both (n + 1) os ps)
     ∙ sym (append_assoc (refused_line n e) (refusals_from (n + 1) os) (refusals_from ((n + 1) + length os) ps))
@@ -89,10 +102,13 @@ refusals_both n (Err e ∷ os) ps =
 counts_both : (os ps : List (Result Fields ℕ)) (s t u : State) → Counts os s t → Counts ps t u → Counts (os ++ ps) s u
 counts_both os ps s t u h k = record {
   count = let x = h.count in let y = k.count in let l = length-append os ps in omega arith;
-  starved = k.starved ∙ ap (λ x. x || has_starved ps) h.starved ∙ sym (or_assoc s.intake.is_starved (has_starved os) (has_starved ps))
+  starved = k.starved ∙ ap (λ x. x || has_starved ps) h.starved
+      ∙ sym (or_assoc s.intake.is_starved (has_starved os) (has_starved ps))
       ∙ ap (λ x. s.intake.is_starved || x) (sym (starved_both os ps));
-  told = subst (λ text. Tells s.notes u.notes s.intake.is_told u.intake.is_told text) (sym (refusals_both (s.intake.count + 1) os ps))
-      (tells_more s.notes t.notes u.notes s.intake.is_told t.intake.is_told u.intake.is_told (refusals_from (s.intake.count + 1) os)
+  told = subst (λ text. Tells s.notes u.notes s.intake.is_told u.intake.is_told text)
+      (sym (refusals_both (s.intake.count + 1) os ps))
+      (tells_more s.notes t.notes u.notes s.intake.is_told t.intake.is_told u.intake.is_told
+      (refusals_from (s.intake.count + 1) os)
       (refusals_from ((s.intake.count + 1) + length os) ps) h.told
       (subst (λ x. Tells t.notes u.notes t.intake.is_told u.intake.is_told (refusals_from x ps)) number k.told));
 }
@@ -100,16 +116,20 @@ counts_both os ps s t u h k = record {
     number : t.intake.count + 1 ≡ (s.intake.count + 1) + length os
     number = let x = h.count in omega arith
 
-answers_both : (xs ys : List (Result Fields ℕ)) (s t u : State) → TakesAnswers xs s t → TakesAnswers ys t u → TakesAnswers (xs ++ ys) s u
+answers_both : (xs ys : List (Result Fields ℕ)) (s t u : State) → TakesAnswers xs s t → TakesAnswers ys t u
+    → TakesAnswers (xs ++ ys) s u
 answers_both xs ys s t u h k = record {
   outcomes = h.outcomes ++ k.outcomes;
-  became = become_both s.intake.table xs h.outcomes ys k.outcomes h.became (subst (λ x. BecomeAll x ys k.outcomes) h.table_is k.became);
-  table_is = k.table_is ∙ ap (λ x. table_after_all x k.outcomes) h.table_is ∙ sym (after_both s.intake.table h.outcomes k.outcomes);
+  became = become_both s.intake.table xs h.outcomes ys k.outcomes h.became
+      (subst (λ x. BecomeAll x ys k.outcomes) h.table_is k.became);
+  table_is = k.table_is ∙ ap (λ x. table_after_all x k.outcomes) h.table_is
+      ∙ sym (after_both s.intake.table h.outcomes k.outcomes);
   counts = counts_both h.outcomes k.outcomes s t u h.counts k.counts;
 }
 
 -- no record, although the feed may have changed, and nothing but whether a note failed
-pub answers_none : (s t : State) → t.intake.table ≡ s.intake.table → t.intake.count ≡ s.intake.count → t.intake.is_starved ≡ s.intake.is_starved
+pub answers_none : (s t : State) → t.intake.table ≡ s.intake.table → t.intake.count ≡ s.intake.count
+    → t.intake.is_starved ≡ s.intake.is_starved
     → Tells s.notes t.notes s.intake.is_told t.intake.is_told [] → TakesAnswers [] s t
 answers_none s t table count starved told = record {
   outcomes = [];
@@ -119,7 +139,8 @@ answers_none s t table count starved told = record {
 }
 
 -- the feed makes no difference
-pub answers_fed : (answers : List (Result Fields ℕ)) (s t : State) (h : Held) → TakesAnswers answers (state (record s.intake { feed = h }) s.notes) t → TakesAnswers answers s t
+pub answers_fed : (answers : List (Result Fields ℕ)) (s t : State) (h : Held)
+    → TakesAnswers answers (state (record s.intake { feed = h }) s.notes) t → TakesAnswers answers s t
 answers_fed answers s t h k = record {
   outcomes = k.outcomes;
   became = k.became;
@@ -128,8 +149,10 @@ answers_fed answers s t h k = record {
 }
 
 -- a record that was taken
-pub answers_taken : (u : Fields) (s t : State) → Becomes s.intake.table (Ok u) (Ok u) → t.intake.table ≡ with_update s.intake.table u → t.intake.count ≡ s.intake.count + 1
-    → t.intake.is_starved ≡ s.intake.is_starved → t.intake.is_told ≡ s.intake.is_told → t.notes ≡ s.notes → TakesAnswers (Ok u ∷ []) s t
+pub answers_taken : (u : Fields) (s t : State) → Becomes s.intake.table (Ok u) (Ok u)
+    → t.intake.table ≡ with_update s.intake.table u → t.intake.count ≡ s.intake.count + 1
+    → t.intake.is_starved ≡ s.intake.is_starved → t.intake.is_told ≡ s.intake.is_told → t.notes ≡ s.notes
+    → TakesAnswers (Ok u ∷ []) s t
 answers_taken u s t became table count starved told notes = record {
   outcomes = Ok u ∷ [];
   became = (became, tt);
@@ -137,34 +160,49 @@ answers_taken u s t became table count starved told notes = record {
   counts = record {
     count = count;
     starved = starved ∙ or_false s.intake.is_starved;
-    told = subst (λ b. Tells s.notes t.notes s.intake.is_told b []) (sym told) (subst (λ x. Tells s.notes x s.intake.is_told s.intake.is_told []) (sym notes) (tells_none s.notes s.intake.is_told));
+    told = subst (λ b. Tells s.notes t.notes s.intake.is_told b []) (sym told)
+        (subst (λ x. Tells s.notes x s.intake.is_told s.intake.is_told []) (sym notes)
+        (tells_none s.notes s.intake.is_told));
   };
 }
 
 -- a record that wasn't, where what went before may have said that memory was refused
-pub answers_refused : (answer : Result Fields ℕ) (refusal : ℕ) (s m t : State) → Becomes s.intake.table answer (Err refusal) → Refuses refusal m t
-    → m.intake ≡ record s.intake { is_starved = m.intake.is_starved } → m.notes ≡ s.notes → m.intake.is_starved ≡ (s.intake.is_starved || (refusal == number_of NoMemory)) → TakesAnswers (answer ∷ []) s t
+pub answers_refused : (answer : Result Fields ℕ) (refusal : ℕ) (s m t : State)
+    → Becomes s.intake.table answer (Err refusal) → Refuses refusal m t
+    → m.intake ≡ record s.intake { is_starved = m.intake.is_starved } → m.notes ≡ s.notes
+    → m.intake.is_starved ≡ (s.intake.is_starved || (refusal == number_of NoMemory))
+    → TakesAnswers (answer ∷ []) s t
 answers_refused answer refusal s m t became r kept notes starved = record {
   outcomes = Err refusal ∷ [];
   became = (became, tt);
   table_is = ap (λ x. x.table) r.kept ∙ ap (λ x. x.table) kept;
   counts = record {
     count = ap (λ x. x.count) r.kept ∙ ap (λ x. x.count + 1) kept;
-    starved = ap (λ x. x.is_starved) r.kept ∙ starved ∙ ap (λ b. s.intake.is_starved || b) (or_false (refusal == number_of NoMemory));
-    told = subst (λ text. Tells s.notes t.notes s.intake.is_told t.intake.is_told text) (sym (append-nil (refused_line (s.intake.count + 1) refusal)))
-        (subst (λ n. Tells s.notes t.notes s.intake.is_told t.intake.is_told (refused_line (n + 1) refusal)) (ap (λ x. x.count) kept)
-        (subst (λ b. Tells s.notes t.notes b t.intake.is_told (refused_line (m.intake.count + 1) refusal)) (ap (λ x. x.is_told) kept)
-        (subst (λ e. Tells e t.notes m.intake.is_told t.intake.is_told (refused_line (m.intake.count + 1) refusal)) notes r.told)));
+    starved = ap (λ x. x.is_starved) r.kept ∙ starved ∙ ap (λ b. s.intake.is_starved || b)
+        (or_false (refusal == number_of NoMemory));
+    told = subst (λ text. Tells s.notes t.notes s.intake.is_told t.intake.is_told text)
+        (sym (append-nil (refused_line (s.intake.count + 1) refusal)))
+        (subst (λ n. Tells s.notes t.notes s.intake.is_told t.intake.is_told (refused_line (n + 1) refusal))
+        (ap (λ x. x.count) kept)
+        (subst (λ b. Tells s.notes t.notes b t.intake.is_told (refused_line (m.intake.count + 1) refusal))
+        (ap (λ x. x.is_told) kept)
+        (subst (λ e. Tells e t.notes m.intake.is_told t.intake.is_told (refused_line (m.intake.count + 1) refusal))
+        notes r.told)));
   };
 }
 
 -- what a table's answer makes of a record
 module _ (t : Table) (u : Fields) where
-  pub becomes : (r : Result Taken TakeError) → ((r ≡ Err UnknownOriginator) ↔ (is_listed t u.register.originator ≡ false)) → (r ≡ Err NoMemory → value_at t u.register ≡ None) → Becomes t (Ok u) (outcome_of u r)
+  pub becomes : (r : Result Taken TakeError) → ((r ≡ Err UnknownOriginator)
+      ↔ (is_listed t u.register.originator ≡ false)) → (r ≡ Err NoMemory → value_at t u.register ≡ None)
+      → Becomes t (Ok u) (outcome_of u r)
   becomes r unknown memory = go (is_listed t u.register.originator) r refl unknown memory
     where
-      go : (b : Bool) (r : Result Taken TakeError) → is_listed t u.register.originator ≡ b → ((r ≡ Err UnknownOriginator) ↔ (is_listed t u.register.originator ≡ false)) → (r ≡ Err NoMemory → value_at t u.register ≡ None)
-          → MatchBool b ((outcome_of u r ≡ Ok u) ⊎ ((outcome_of u r ≡ Err (number_of NoMemory)) × (value_at t u.register ≡ None))) (outcome_of u r ≡ Err (number_of UnknownOriginator))
+      go : (b : Bool) (r : Result Taken TakeError) → is_listed t u.register.originator ≡ b
+          → ((r ≡ Err UnknownOriginator) ↔ (is_listed t u.register.originator ≡ false))
+          → (r ≡ Err NoMemory → value_at t u.register ≡ None)
+          → MatchBool b ((outcome_of u r ≡ Ok u) ⊎ ((outcome_of u r ≡ Err (number_of NoMemory))
+          × (value_at t u.register ≡ None))) (outcome_of u r ≡ Err (number_of UnknownOriginator))
       go true (Ok x) e unknown memory = inl refl
       go false (Ok x) e unknown memory = let no = unknown.1 e in cc
       go true (Err UnknownOriginator) e unknown memory = let no = unknown.0 refl in cc
@@ -176,26 +214,33 @@ module _ (t : Table) (u : Fields) where
 pub octets_none : (s : State) → TakesOctets [] s s
 octets_none s = record {
   answers = [];
-  read = λ stream earlier r. subst (λ x. HasRead s.intake.feed x (earlier ++ [])) (sym (append-nil stream)) (subst (λ x. HasRead s.intake.feed stream x) (sym (append-nil earlier)) r);
+  read = λ stream earlier r. subst (λ x. HasRead s.intake.feed x (earlier ++ [])) (sym (append-nil stream))
+      (subst (λ x. HasRead s.intake.feed stream x) (sym (append-nil earlier)) r);
   version = refl;
   taken = answers_none s s refl refl refl (tells_none s.notes s.intake.is_told);
 }
 
-pub octets_both : (xs ys : List ℕ) (s t u : State) → TakesOctets xs s t → TakesOctets ys t u → TakesOctets (xs ++ ys) s u
+pub octets_both : (xs ys : List ℕ) (s t u : State) → TakesOctets xs s t → TakesOctets ys t u
+    → TakesOctets (xs ++ ys) s u
 octets_both xs ys s t u f g = record {
   answers = f.answers ++ g.answers;
-  read = λ stream earlier r. subst (λ x. HasRead u.intake.feed x (earlier ++ (f.answers ++ g.answers))) (append_assoc stream xs ys)
-      (subst (λ x. HasRead u.intake.feed ((stream ++ xs) ++ ys) x) (append_assoc earlier f.answers g.answers) (g.read (stream ++ xs) (earlier ++ f.answers) (f.read stream earlier r)));
+  read = λ stream earlier r. subst (λ x. HasRead u.intake.feed x (earlier ++ (f.answers ++ g.answers)))
+      (append_assoc stream xs ys)
+      (subst (λ x. HasRead u.intake.feed ((stream ++ xs) ++ ys) x) (append_assoc earlier f.answers g.answers)
+      (g.read (stream ++ xs) (earlier ++ f.answers) (f.read stream earlier r)));
   version = g.version ∙ f.version;
   taken = answers_both f.answers g.answers s t u f.taken g.taken;
 }
 
 -- octets that a feed took, and what it has next then
-pub octets_next : (octets : List ℕ) (s t : State) (after : Held) (x : Next) → ((stream : List ℕ) (answers : List (Result Fields ℕ)) → HasRead s.intake.feed stream answers → HasRead after (stream ++ octets) (answers ++ added x))
+pub octets_next : (octets : List ℕ) (s t : State) (after : Held) (x : Next)
+    → ((stream : List ℕ) (answers : List (Result Fields ℕ)) → HasRead s.intake.feed stream answers
+    → HasRead after (stream ++ octets) (answers ++ added x))
     → after.newest ≡ s.intake.feed.newest → t.intake.feed ≡ after → TakesAnswers (added x) s t → TakesOctets octets s t
 octets_next octets s t after x took version same taken = record {
   answers = added x;
-  read = λ stream earlier r. subst (λ (h : Held). HasRead h (stream ++ octets) (earlier ++ added x)) (sym same) (took stream earlier r);
+  read = λ stream earlier r. subst (λ (h : Held). HasRead h (stream ++ octets) (earlier ++ added x)) (sym same)
+      (took stream earlier r);
   version = ap (λ (h : Held). h.newest) same ∙ version;
   taken = taken;
 }
@@ -204,23 +249,30 @@ octets_next octets s t after x took version same taken = record {
 pub front_none : (piece : List ℕ) (s : State) → TakesFront piece piece s s
 front_none piece s = record { front = []; split = refl; octets = octets_none s }
 
-pub front_more : (piece rest : List ℕ) (n : ℕ) (s t u : State) → TakesFront piece rest s t → TakesOctets (take n rest) t u → TakesFront piece (drop n rest) s u
+pub front_more : (piece rest : List ℕ) (n : ℕ) (s t u : State) → TakesFront piece rest s t
+    → TakesOctets (take n rest) t u → TakesFront piece (drop n rest) s u
 front_more piece rest n s t u f g = record {
   front = f.front ++ take n rest;
-  split = f.split ∙ ap (λ x. f.front ++ x) (sym (take-append-drop n rest)) ∙ sym (append_assoc f.front (take n rest) (drop n rest));
+  split = f.split ∙ ap (λ x. f.front ++ x) (sym (take-append-drop n rest))
+      ∙ sym (append_assoc f.front (take n rest) (drop n rest));
   octets = octets_both f.front (take n rest) s t u f.octets g;
 }
 
-pub front_all : (piece rest : List ℕ) (s t : State) → TakesFront piece rest s t → length rest ≡ 0 → TakesOctets piece s t
-front_all piece rest s t f none = subst (λ x. TakesOctets x s t) (sym (f.split ∙ ap (λ x. f.front ++ x) (nil_from_length rest none) ∙ append-nil f.front)) f.octets
+pub front_all : (piece rest : List ℕ) (s t : State) → TakesFront piece rest s t → length rest ≡ 0
+    → TakesOctets piece s t
+front_all piece rest s t f none = subst (λ x. TakesOctets x s t)
+    (sym (f.split ∙ ap (λ x. f.front ++ x) (nil_from_length rest none) ∙ append-nil f.front)) f.octets
 
 -- ---- the table of all that were taken
-with_all : (t : Table) (outcomes : List (Result Fields ℕ)) → table_after_all t outcomes ≡ with_updates t (taken_of outcomes)
+with_all : (t : Table) (outcomes : List (Result Fields ℕ))
+    → table_after_all t outcomes ≡ with_updates t (taken_of outcomes)
 with_all t [] = refl
 with_all t (Ok u ∷ outcomes) = with_all (with_update t u) outcomes
 with_all t (Err e ∷ outcomes) = with_all t outcomes
 
-pub table_of_all : (originators : List ℕ) (outcomes : List (Result Fields ℕ)) → IsTableOf (taken_of outcomes) (table_after_all (fresh originators) outcomes)
+pub table_of_all : (originators : List ℕ) (outcomes : List (Result Fields ℕ))
+    → IsTableOf (taken_of outcomes) (table_after_all (fresh originators) outcomes)
 table_of_all originators outcomes =
     subst (λ t. IsTableOf (taken_of outcomes) t) (sym (with_all (fresh originators) outcomes))
-    (all_taken [] (taken_of outcomes) (fresh originators) (subst (λ t. IsTableOf [] t) (new_table originators) (none_taken originators)))
+    (all_taken [] (taken_of outcomes) (fresh originators)
+    (subst (λ t. IsTableOf [] t) (new_table originators) (none_taken originators)))

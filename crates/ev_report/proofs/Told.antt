@@ -1,5 +1,6 @@
 -- What is told of the words.
-use Rattle.std.proofs.Common.{◌≡◌, inl, inr, ℕ, Bool, true, false, cond, List, Result, Ok, Err, MatchResult, is_ok, refl, ap, subst, ◌∙◌, arith}
+use Rattle.std.proofs.Common.{◌≡◌, inl, inr, ℕ, Bool, true, false, cond, List, Result, Ok, Err, MatchResult, is_ok}
+use Rattle.std.proofs.Common.{refl, ap, subst, ◌∙◌, arith}
 use Rattle.std.proofs.lemmas.Bool.Decides.{nat_tests}
 use Rattle.ether_wire.specs.declared.ends.Device.{Device}
 use Rattle.ether_wire.specs.Ends.{End, Source, Puts}
@@ -8,7 +9,8 @@ use Rattle.ev_report.specs.Originators.{Text, list_text}
 use Rattle.ev_report.specs.Ends.{devices, has_failed}
 use Rattle.ev_report.specs.Telling.{IsTold, TellsUsage}
 
-pub failed_put : (a b : End) (r : Result (Unit {0}) Device) (text : Text) (n : ℕ) → Puts a b text r → (if_ok : Bool) → if_ok ≡ is_ok r → ◌≡◌ {A = ℕ} (cond if_ok n 4) (cond (has_failed a b) 4 n)
+pub failed_put : (a b : End) (r : Result (Unit {0}) Device) (text : Text) (n : ℕ) → Puts a b text r → (if_ok : Bool)
+    → if_ok ≡ is_ok r → ◌≡◌ {A = ℕ} (cond if_ok n 4) (cond (has_failed a b) 4 n)
 failed_put a b (Ok x) text n h true e =
     let same : b.failures ≡ a.failures = ap (λ (y : End). y.failures) h in
     let none : has_failed a b ≡ false = grind (arith, nat_tests) in
@@ -19,7 +21,8 @@ failed_put a b (Err d) text n h false e =
     let one : has_failed a b ≡ true = grind (arith, nat_tests) in
     rw one refl
 
-pub told_put : (a b : End) (r : Result (Unit {0}) Device) (text : Text) (status : ℕ) → Puts a b text r → ◌≡◌ {A = ℕ} status (cond (is_ok r) 2 4) → IsTold text a b status
+pub told_put : (a b : End) (r : Result (Unit {0}) Device) (text : Text) (status : ℕ) → Puts a b text r
+    → ◌≡◌ {A = ℕ} status (cond (is_ok r) 2 4) → IsTold text a b status
 told_put a b (Ok x) text status h is =
     record {
       noted = record { written = λ _. h; failures = inl (ap (λ (y : End). y.failures) h) };
@@ -31,13 +34,16 @@ told_put a b (Err d) text status h is =
       status_is = is ∙ failed_put a b (Err d) text 2 h false refl;
     }
 
-pub tells_usage : (input : Source) (out notes notes' : End) (text : Text) (status : ℕ) → IsTold text notes notes' status → TellsUsage text (devices input out notes) (devices input out notes') status
+pub tells_usage : (input : Source) (out notes notes' : End) (text : Text) (status : ℕ) → IsTold text notes notes' status
+    → TellsUsage text (devices input out notes) (devices input out notes') status
 tells_usage input out notes notes' text status told = record { input = refl; out = refl; told = told }
 
 -- a list that is wrong is told
-pub tells_list : (input : Source) (out notes notes' : End) (P : List ℕ → Type 0) (list : Result (List ℕ) (Text × ListFault)) (wrong : Text × ListFault) (status : ℕ) → Err wrong ≡ list
+pub tells_list : (input : Source) (out notes notes' : End) (P : List ℕ
+    → Type 0) (list : Result (List ℕ) (Text × ListFault)) (wrong : Text × ListFault) (status : ℕ) → Err wrong ≡ list
     → IsTold (list_text wrong) notes notes' status
     → MatchResult list P (λ w. TellsUsage (list_text w) (devices input out notes) (devices input out notes') status)
 tells_list input out notes notes' P list wrong status is told =
-    subst (λ (l : Result (List ℕ) (Text × ListFault)). MatchResult l P (λ w. TellsUsage (list_text w) (devices input out notes) (devices input out notes') status)) is
+    subst (λ (l : Result (List ℕ) (Text × ListFault)). MatchResult l P
+    (λ w. TellsUsage (list_text w) (devices input out notes) (devices input out notes') status)) is
     (tells_usage input out notes notes' (list_text wrong) status told)

@@ -1,5 +1,6 @@
 -- What became of the program's devices: a reader and two writers.
-use Rattle.std.specs.Prelude.{◌≡◌, ◌≢◌, ℕ, ◌+◌, ◌^◌, ◌≤◌, ◌<◌, Bool, true, false, ◌⊎◌, ◌&&◌, if◌then◌else◌, nat_lt, List, [], ◌∷◌, ◌++◌, length, Option, Some, None}
+use Rattle.std.specs.Prelude.{◌≡◌, ◌≢◌, ℕ, ◌+◌, ◌^◌, ◌≤◌, ◌<◌, Bool, true, false, ◌⊎◌, ◌&&◌, if◌then◌else◌, nat_lt}
+use Rattle.std.specs.Prelude.{List, [], ◌∷◌, ◌++◌, length, Option, Some, None}
 use Rattle.std.specs.List.{concat}
 use Rattle.std.specs.Io.KnownBytes.{prepend_known, IsAtEnd}
 use Rattle.ether_wire.specs.Ends.{End, Source, Allows, IsOpen, with_text}
@@ -63,12 +64,16 @@ pub record Gives (old new : Source) (pieces : List (List ℕ)) : Type 0 where
 
 -- Behind those pieces a read came to the end or failed, or the piece of one shows a fault, or there were 2^40.
 abbrev pub EndsBy : Ending → Source → Source → List (List ℕ) → List ℕ → Type 0
-EndsBy Ended old new pieces input = IsAtEnd old.octets × (new ≡ record old { reads = old.reads + 1 }) × (input ≡ concat pieces)
-EndsBy Failed old new pieces input = (new ≡ record old { failures = old.failures + 1; reads = old.reads + 1 }) × (input ≡ concat pieces)
-EndsBy (Faulty fault) old new pieces input = (last : List ℕ) × Gives old new (last ∷ []) × (input ≡ concat pieces ++ last)
+EndsBy Ended old new pieces input = IsAtEnd old.octets × (new ≡ record old { reads = old.reads + 1 })
+    × (input ≡ concat pieces)
+EndsBy Failed old new pieces input = (new ≡ record old { failures = old.failures + 1; reads = old.reads + 1 })
+    × (input ≡ concat pieces)
+EndsBy (Faulty fault) old new pieces input = (last : List ℕ) × Gives old new (last ∷ [])
+    × (input ≡ concat pieces ++ last)
 EndsBy Unended old new pieces input = (new ≡ old) × (length pieces ≡ 2 ^ 40) × (input ≡ concat pieces)
 
--- The reader gave these octets, in at most 2^40 reads: pieces that show no fault in records up to a version, and then it
+-- The reader gave these octets, in at most 2^40 reads: pieces that show no fault in records up to a version, and then
+-- it
 -- ended so.
 pub record Gave (newest : ℕ) (old new : Source) (input : List ℕ) (ending : Ending) : Type 0 where
   pub pieces : List (List ℕ)
@@ -88,20 +93,24 @@ pub record Holds (old new : End) (octets : List ℕ) : Type 0 where
   pub written : new.failures ≡ old.failures → new ≡ with_text old octets
   pub failures : (new.failures ≡ old.failures) ⊎ (new.failures ≡ old.failures + 1)
 
--- The writer took this text, or a call failed and `after` is false. Where `before` is false a call has failed already, and
+-- The writer took this text, or a call failed and `after` is false. Where `before` is false a call has failed already,
+-- and
 -- none was made.
 pub record Tells (old new : End) (before after : Bool) (text : List ℕ) : Type 0 where
   pub kept : before ≡ false → (after ≡ false) × (new ≡ old)
   pub written : after ≡ true → new ≡ with_text old text
   pub failed : before ≡ true → after ≡ false → new.failures ≡ old.failures + 1
 
--- A writer was given all that was held for it, or a call of it has failed since it had this many failures. After a failed
+-- A writer was given all that was held for it, or a call of it has failed since it had this many failures. After a
+-- failed
 -- call none was made.
 pub record Finishes (failures : ℕ) (held end : End) (is_told : Bool) : Type 0 where
   pub passed : is_told ≡ true → (end ≡ held) × (held.failures ≡ failures)
-  pub failed : is_told ≡ false → ((held.failures ≢ failures) × (end.failures ≡ held.failures)) ⊎ ((held.failures ≡ failures) × (end.failures ≡ failures + 1))
+  pub failed : is_told ≡ false → ((held.failures ≢ failures) × (end.failures ≡ held.failures))
+      ⊎ ((held.failures ≡ failures) × (end.failures ≡ failures + 1))
 
--- Devices were given all that was held for them, or a call of a writer has failed since they had these many failures: then
+-- Devices were given all that was held for them, or a call of a writer has failed since they had these many failures:
+-- then
 -- the status is 4.
 pub record Passes (out_failures notes_failures : ℕ) (held after : Devices) (status last : ℕ) : Type 0 where
   pub is_written : Bool

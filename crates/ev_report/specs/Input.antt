@@ -16,7 +16,8 @@ input_of (Err unread) = Err unread
 -- behind those pieces: the end; or a read failed, or there were 2^40; or there was no memory for the last piece
 abbrev pub StopsBy : Source → Source → List (List ℕ) → Result (List ℕ) Unread → Type 0
 StopsBy old new pieces (Ok input) = EndsBy Ended old new pieces input
-StopsBy old new pieces (Err Device) = EndsBy Failed old new pieces (concat pieces) ⊎ EndsBy Unended old new pieces (concat pieces)
+StopsBy old new pieces (Err Device) = EndsBy Failed old new pieces (concat pieces)
+    ⊎ EndsBy Unended old new pieces (concat pieces)
 StopsBy old new pieces (Err NoMemory) = new ≡ old
 
 -- A reader was read up to its end, in at most 2^40 reads, or not.

@@ -1,4 +1,5 @@
--- What a migration makes of updates of versions 1 and 2, in which a register was an originator's network and MAC address,
+-- What a migration makes of updates of versions 1 and 2, in which a register was an originator's network and MAC
+-- address,
 -- and the IP address a part of what was said.
 use Rattle.std.specs.Prelude.{◌≡◌, ℕ, ◌&&◌, ◌==◌, Bool, true, false, if◌then◌else◌, List, [], ◌∷◌, ◌++◌, Contains}
 use Rattle.std.specs.declared.cmp.Ordering.{Ordering}
@@ -27,13 +28,17 @@ is_same_subject (Mac v m i) (Mac w n j) = v == w && m == n
 abbrev pub is_same_old : Register → Register → Bool
 is_same_old r q = r.originator == q.originator && is_same_subject r.key q.key
 
--- Of two updates of an old register: incarnation, then counter, then content, which was withdrawn, dynamic or static, then
+-- Of two updates of an old register: incarnation, then counter, then content, which was withdrawn, dynamic or static,
+-- then
 -- the sequence number, then the IP address, then the second label.
 abbrev pub old_cmp : Fields → Fields → Ordering
 old_cmp u w =
-    ordering_then (nat_cmp u.value.incarnation w.value.incarnation) (ordering_then (nat_cmp u.value.counter w.value.counter)
-    (ordering_then (nat_cmp (rank_of u.value.content) (rank_of w.value.content)) (ordering_then (nat_cmp (sequence_of u.value.content) (sequence_of w.value.content))
-    (ordering_then (ip_cmp (ip_of u.register.key) (ip_of w.register.key)) (option_cmp nat_cmp (label2_of u.value.content) (label2_of w.value.content))))))
+    ordering_then (nat_cmp u.value.incarnation w.value.incarnation)
+    (ordering_then (nat_cmp u.value.counter w.value.counter)
+    (ordering_then (nat_cmp (rank_of u.value.content) (rank_of w.value.content))
+    (ordering_then (nat_cmp (sequence_of u.value.content) (sequence_of w.value.content))
+    (ordering_then (ip_cmp (ip_of u.register.key) (ip_of w.register.key))
+    (option_cmp nat_cmp (label2_of u.value.content) (label2_of w.value.content))))))
 
 -- u is newer than w
 abbrev pub is_newer_old : Fields → Fields → Bool
@@ -49,7 +54,14 @@ pub record IsNewest (us : List Fields) (r : Register) (u : Fields) : Type 0 wher
 
 -- the register is withdrawn in the update's place
 abbrev pub withdrawn_for : Fields → Register → Fields
-withdrawn_for u r = record { register = r; value = record { counter = u.value.counter; incarnation = u.value.incarnation; content = Withdrawn } }
+withdrawn_for u r = record {
+  register = r;
+  value = record {
+    counter = u.value.counter;
+    incarnation = u.value.incarnation;
+    content = Withdrawn;
+  };
+}
 
 -- what becomes of a register, where u is the newest update of its old register
 abbrev pub migrated_at : Fields → Register → Fields
@@ -59,8 +71,10 @@ migrated_at u r = if is_eq (register_cmp u.register r) then u else withdrawn_for
 -- order of a report.
 pub record AreMigrated (us written : List Fields) : Type 0 where
   pub named : (w : Fields) → Contains written w → (v : Fields) × Contains us v × (v.register ≡ w.register)
-  pub made : (w : Fields) → Contains written w → (u : Fields) × IsNewest us w.register u × (w ≡ migrated_at u w.register)
-  pub all : (v : Fields) → Contains us v → (u : Fields) × IsNewest us v.register u × Contains written (migrated_at u v.register)
+  pub made : (w : Fields) → Contains written w → (u : Fields) × IsNewest us w.register u
+      × (w ≡ migrated_at u w.register)
+  pub all : (v : Fields) → Contains us v → (u : Fields) × IsNewest us v.register u
+      × Contains written (migrated_at u v.register)
   pub ordered : IsOrdered written
 
 -- ---- the same by a walk over a table's updates, where those of an old register stand side by side

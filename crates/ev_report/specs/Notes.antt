@@ -1,5 +1,6 @@
 -- What is noted of a stream of records: each record that wasn't taken, and what ended the stream.
-use Rattle.std.specs.Prelude.{ℕ, ◌+◌, Bool, true, false, not, ◌||◌, ◌==◌, if◌then◌else◌, List, [], ◌∷◌, ◌++◌, length, codes, decimal, Result, Ok, Err}
+use Rattle.std.specs.Prelude.{ℕ, ◌+◌, Bool, true, false, not, ◌||◌, ◌==◌, if◌then◌else◌, List, [], ◌∷◌, ◌++◌, length}
+use Rattle.std.specs.Prelude.{codes, decimal, Result, Ok, Err}
 use Rattle.route_wire.specs.Fields.{Fields}
 use Rattle.route_join.specs.declared.table.TakeError.TheVariants.{NoMemory}
 use Rattle.route_join.specs.Taken.{number_of}
@@ -67,4 +68,5 @@ has_starved (Err refusal ∷ outcomes) = refusal == number_of NoMemory || has_st
 
 -- the greatest that applies: 4 where a device failed, 3 where memory was refused, 1 for a broken stream, else 0
 abbrev pub status_of : Bool → Bool → Bool → ℕ
-status_of has_failed is_starved is_broken = if has_failed then 4 else if is_starved then 3 else if is_broken then 1 else 0
+status_of has_failed is_starved is_broken =
+    if has_failed then 4 else if is_starved then 3 else if is_broken then 1 else 0

@@ -1,5 +1,6 @@
 -- The originators that a command line lists.
-use Rattle.std.specs.Prelude.{ℕ, Bool, false, ◌&&◌, ◌==◌, nat_lt, if◌then◌else◌, List, [], ◌∷◌, ◌++◌, length, codes, eqb, Option, Some, None, Result, Ok, Err}
+use Rattle.std.specs.Prelude.{ℕ, Bool, false, ◌&&◌, ◌==◌, nat_lt, if◌then◌else◌, List, [], ◌∷◌, ◌++◌, length, codes}
+use Rattle.std.specs.Prelude.{eqb, Option, Some, None, Result, Ok, Err}
 use Rattle.std.specs.List.{list_any, slice_split}
 use Rattle.ether_wire.specs.Spelling.{addr_of_text}
 use Rattle.ev_report.specs.declared.originators.ListFault.{ListFault}
@@ -31,7 +32,8 @@ spelling_fault text = if has_leading_zero text then LeadingZero else NotAnAddres
 -- one originator more, of at most 64 that all differ
 abbrev pub with_originator : List ℕ → ℕ → Result (List ℕ) ListFault
 with_originator before o =
-    if list_any (λ x. eqb x o) before then Err Twice else if nat_lt (length before) 64 then Ok (before ++ o ∷ []) else Err TooMany
+    if list_any (λ x. eqb x o) before then Err Twice else if nat_lt (length before) 64 then Ok
+    (before ++ o ∷ []) else Err TooMany
 
 -- one part more
 abbrev pub with_address : List ℕ → Text → Option ℕ → Result (List ℕ) ListFault
@@ -47,13 +49,15 @@ abbrev pub with_part : List ℕ → Text → Result (List ℕ) (Text × ListFaul
 with_part before text = at_part text (with_address before text (addr_of_text text))
 
 -- each part is an address that stands in none before it; or the first that isn't, and why
-abbrev pub and_then : Result (List ℕ) (Text × ListFault) → (List ℕ → Result (List ℕ) (Text × ListFault)) → Result (List ℕ) (Text × ListFault)
+abbrev pub and_then : Result (List ℕ) (Text × ListFault) → (List ℕ → Result (List ℕ) (Text × ListFault))
+    → Result (List ℕ) (Text × ListFault)
 and_then (Ok originators) next = next originators
 and_then (Err wrong) next = Err wrong
 
 abbrev pub originators_from : List ℕ → List Text → Result (List ℕ) (Text × ListFault)
 originators_from before [] = Ok before
-originators_from before (text ∷ texts) = and_then (with_part before text) (λ originators. originators_from originators texts)
+originators_from before (text ∷ texts) = and_then (with_part before text)
+    (λ originators. originators_from originators texts)
 
 -- 1 to 64 addresses that all differ, with commas (44); or the first part that is wrong, and why
 abbrev pub originators_of_text : Text → Result (List ℕ) (Text × ListFault)

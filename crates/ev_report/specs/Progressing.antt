@@ -24,7 +24,13 @@ state intake notes = record { intake = intake; notes = notes }
 
 -- nothing was taken yet of records up to a version
 abbrev pub new_intake : ℕ → List ℕ → Intake
-new_intake newest originators = record { feed = record { newest = newest; rest = [] }; table = fresh originators; count = 0; is_starved = false; is_told = true }
+new_intake newest originators = record {
+  feed = record { newest = newest; rest = [] };
+  table = fresh originators;
+  count = 0;
+  is_starved = false;
+  is_told = true;
+}
 
 -- ---- records
 
@@ -36,13 +42,15 @@ outcome_of u (Err error) = Err (number_of error)
 -- a record more that wasn't taken, and its note
 pub record Refuses (refusal : ℕ) (old new : State) : Type 0 where
   pub kept : new.intake ≡ record old.intake { count = old.intake.count + 1; is_told = new.intake.is_told }
-  pub told : Tells old.notes new.notes old.intake.is_told new.intake.is_told (refused_line (old.intake.count + 1) refusal)
+  pub told : Tells old.notes new.notes old.intake.is_told new.intake.is_told
+      (refused_line (old.intake.count + 1) refusal)
 
 -- records more of which this became
 pub record Counts (outcomes : List (Result Fields ℕ)) (old new : State) : Type 0 where
   pub count : new.intake.count ≡ old.intake.count + length outcomes
   pub starved : new.intake.is_starved ≡ (old.intake.is_starved || has_starved outcomes)
-  pub told : Tells old.notes new.notes old.intake.is_told new.intake.is_told (refusals_from (old.intake.count + 1) outcomes)
+  pub told : Tells old.notes new.notes old.intake.is_told new.intake.is_told
+      (refusals_from (old.intake.count + 1) outcomes)
 
 -- records of these answers more, one after the other
 pub record TakesAnswers (answers : List (Result Fields ℕ)) (old new : State) : Type 0 where
@@ -56,7 +64,8 @@ pub record TakesAnswers (answers : List (Result Fields ℕ)) (old new : State) :
 -- octets more, of which the feed gives answers
 pub record TakesOctets (octets : List ℕ) (old new : State) : Type 0 where
   pub answers : List (Result Fields ℕ)
-  pub read : (stream : List ℕ) (earlier : List (Result Fields ℕ)) → HasRead old.intake.feed stream earlier → HasRead new.intake.feed (stream ++ octets) (earlier ++ answers)
+  pub read : (stream : List ℕ) (earlier : List (Result Fields ℕ)) → HasRead old.intake.feed stream earlier
+      → HasRead new.intake.feed (stream ++ octets) (earlier ++ answers)
   pub version : new.intake.feed.newest ≡ old.intake.feed.newest
   pub taken : TakesAnswers answers old new
 

@@ -12,12 +12,14 @@ use Rattle.ev_report.specs.declared.ending.Ending.{Ending}
 use Rattle.ev_report.specs.Notes.{notes_of, has_stopped, is_broken, has_starved, status_of}
 use Rattle.ev_report.specs.Ends.{Devices, has_failed, fault_in, fault_told, Gave, Holds}
 
--- A record's update is taken by the table, or there is no memory, which only a new register needs, or its originator isn't
+-- A record's update is taken by the table, or there is no memory, which only a new register needs, or its originator
+-- isn't
 -- listed. A refused record stays refused.
 abbrev pub Becomes : Table → Result Fields ℕ → Result Fields ℕ → Type 0
 Becomes t (Err refusal) outcome = outcome ≡ Err refusal
 Becomes t (Ok u) outcome =
-    MatchBool (is_listed t u.register.originator) ((outcome ≡ Ok u) ⊎ ((outcome ≡ Err (number_of NoMemory)) × (value_at t u.register ≡ None)))
+    MatchBool (is_listed t u.register.originator) ((outcome ≡ Ok u)
+    ⊎ ((outcome ≡ Err (number_of NoMemory)) × (value_at t u.register ≡ None)))
     (outcome ≡ Err (number_of UnknownOriginator))
 
 -- the table behind a record
@@ -34,7 +36,8 @@ abbrev pub BecomeAll : Table → List (Result Fields ℕ) → List (Result Field
 BecomeAll t [] [] = Unit {0}
 BecomeAll t [] (outcome ∷ outcomes) = ⊥
 BecomeAll t (answer ∷ answers) [] = ⊥
-BecomeAll t (answer ∷ answers) (outcome ∷ outcomes) = Becomes t answer outcome × BecomeAll (table_after t outcome) answers outcomes
+BecomeAll t (answer ∷ answers) (outcome ∷ outcomes) = Becomes t answer outcome
+    × BecomeAll (table_after t outcome) answers outcomes
 
 -- the updates that were taken
 abbrev pub taken_of : List (Result Fields ℕ) → List Fields
@@ -48,7 +51,8 @@ fresh originators = record { originators = originators; registers = empty }
 
 -- The answers of the input's records up to a version, up to its rest; what became of each; and the table of the updates
 -- that were taken.
-pub record IsTaken (newest : ℕ) (originators input : List ℕ) (outcomes : List (Result Fields ℕ)) (rest : List ℕ) (t : Table) : Type 0 where
+pub record IsTaken (newest : ℕ) (originators input : List ℕ) (outcomes : List (Result Fields ℕ)) (rest : List ℕ)
+    (t : Table) : Type 0 where
   pub answers : List (Result Fields ℕ)
   pub answered : AnswersUpTo newest input answers rest
   pub became : BecomeAll (fresh originators) answers outcomes
@@ -58,9 +62,11 @@ pub record IsTaken (newest : ℕ) (originators input : List ℕ) (outcomes : Lis
 abbrev pub Output : Type 0
 Output = Ending → List (Result Fields ℕ) → Table → List ℕ
 
--- The input was read and its records, up to a version, were taken; the output is what is made of them, the notes tell of
+-- The input was read and its records, up to a version, were taken; the output is what is made of them, the notes tell
+-- of
 -- every other record and of the end, and the status is the greatest that applies.
-pub record Renders (newest : ℕ) (output : Output) (originators : List ℕ) (before after : Devices) (status : ℕ) : Type 0 where
+pub record Renders (newest : ℕ) (output : Output) (originators : List ℕ) (before after : Devices) (status : ℕ) :
+    Type 0 where
   pub input : List ℕ
   pub ending : Ending
   pub outcomes : List (Result Fields ℕ)
@@ -71,7 +77,8 @@ pub record Renders (newest : ℕ) (output : Output) (originators : List ℕ) (be
   pub taken : IsTaken newest originators input outcomes rest table
   pub written : Holds before.out after.out (output ending outcomes table)
   pub noted : Holds before.notes after.notes (notes_of outcomes ending rest)
-  pub status_is : status ≡ status_of (has_stopped ending || (has_failed before.out after.out || has_failed before.notes after.notes))
+  pub status_is : status ≡ status_of (has_stopped ending ||
+      (has_failed before.out after.out || has_failed before.notes after.notes))
       (has_starved outcomes) (is_broken ending rest)
 
 -- A report is that of the table, of records of all versions, up to 3.

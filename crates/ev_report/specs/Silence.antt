@@ -11,4 +11,5 @@ pub record IsSilent (out out' notes notes' : End) : Type 0 where
 
 -- memory was refused before anything was run
 abbrev pub IsRefusedMemory : End → End → End → End → ℕ → Type 0
-IsRefusedMemory out out' notes notes' status = IsSilent out out' notes notes' × (status ≡ status_of (has_failed out out' || has_failed notes notes') true false)
+IsRefusedMemory out out' notes notes' status = IsSilent out out' notes notes'
+    × (status ≡ status_of (has_failed out out' || has_failed notes notes') true false)

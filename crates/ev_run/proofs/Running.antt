@@ -1,5 +1,7 @@
 -- A run of edges: the input that is read out, and what is told at the end.
-use Rattle.std.proofs.Common.{◌≡◌, inl, inr, ℕ, ◌+◌, ◌-◌, ◌<◌, ◌^◌, min, Bool, false, not, ◌||◌, nat_lt, List, [], ◌∷◌, ◌++◌, take, length, get_or, append-nil, append_assoc, Result, Ok, Err, is_ok, refl, sym, ap, subst, ◌∙◌, arith}
+use Rattle.std.proofs.Common.{◌≡◌, inl, inr, ℕ, ◌+◌, ◌-◌, ◌<◌, ◌^◌, min, Bool, false, not, ◌||◌, nat_lt, List, [], ◌∷◌}
+use Rattle.std.proofs.Common.{◌++◌, take, length, get_or, append-nil, append_assoc, Result, Ok, Err, is_ok, refl, sym}
+use Rattle.std.proofs.Common.{ap, subst, ◌∙◌, arith}
 use Rattle.std.proofs.lemmas.List.{take_more, length-take-le}
 use Rattle.std.proofs.lemmas.List.Sums.{sum_by_push}
 use Rattle.std.specs.List.{sum_by, list_any}
@@ -15,8 +17,11 @@ use Rattle.ev_report.specs.Ends.{Devices, devices, has_failed, Passes}
 use Rattle.ev_report.specs.declared.input.Unread.TheVariants.{Device}
 use Rattle.ev_report.specs.Input.{ReadsWhole, Gathers}
 use Rattle.ev_report.specs.Notes.{status_of}
-use Rattle.ev_run.specs.RunEdges.{EachConfig, unbound_text, Ended, texts_from, reports_from, noted_text, sends_failed, link_failed, was_starved, all_lost, Drains, IsReadOut, ReadsOut, TellsEnded, IsUnbound, TellsUnbound, RunsEdges}
-use Rattle.ev_report.proofs.Finishing.{put_holds, put_failed, passed_out, passed_notes, passed_status, failed_out, failed_notes}
+use Rattle.ev_run.specs.RunEdges.{EachConfig, unbound_text, Ended, texts_from, reports_from, noted_text, sends_failed}
+use Rattle.ev_run.specs.RunEdges.{link_failed, was_starved, all_lost, Drains, IsReadOut, ReadsOut, TellsEnded}
+use Rattle.ev_run.specs.RunEdges.{IsUnbound, TellsUnbound, RunsEdges}
+use Rattle.ev_report.proofs.Finishing.{put_holds, put_failed, passed_out, passed_notes, passed_status, failed_out}
+use Rattle.ev_report.proofs.Finishing.{failed_notes}
 use Rattle.ev_report.proofs.Gathering.{gathers_more, whole_ended, whole_failed, whole_unended}
 use Rattle.ev_report.proofs.Reading.{gives_none}
 use Rattle.ev_report.proofs.Silence.{passed_refused, passed_four, holds_none, refused_memory}
@@ -36,38 +41,52 @@ module _ (turn : ℕ) (s mid last : Source) (buffer : List ℕ) (d : Drains turn
       record { pieces = more.pieces; gives = more.gives; many = more.many }
 
   pub drained_ended : turn < 2 ^ 40 → 0 < length buffer → Gets mid last buffer (Ok 0) → IsReadOut s last
-  drained_ended turns room got = record { input = concat d.pieces; read = whole_ended turn s mid last (concat d.pieces) buffer (gathered turn s mid d) turns room got }
+  drained_ended turns room got = record {
+    input = concat d.pieces;
+    read = whole_ended turn s mid last (concat d.pieces) buffer (gathered turn s mid d) turns room got;
+  }
 
-  pub drained_failed : (failed : device.Device) → turn < 2 ^ 40 → Gets mid last buffer (Err failed) → ReadsWhole s last (Err Device)
-  drained_failed failed turns got = whole_failed turn s mid last (concat d.pieces) buffer (gathered turn s mid d) failed turns got
+  pub drained_failed : (failed : device.Device) → turn < 2 ^ 40 → Gets mid last buffer (Err failed)
+      → ReadsWhole s last (Err Device)
+  drained_failed failed turns got = whole_failed turn s mid last (concat d.pieces) buffer (gathered turn s mid d) failed
+      turns got
 
 pub drained_unended : (turn : ℕ) (s mid : Source) → Drains turn s mid → turn ≡ 2 ^ 40 → ReadsWhole s mid (Err Device)
 drained_unended turn s mid d turns = whole_unended turn s mid mid (concat d.pieces) [] (gathered turn s mid d) turns
 
 -- ---- configurations, taken from behind
 
-module _ (all left : List EdgeConfig) (config : EdgeConfig) (same : all ≡ left ++ config ∷ []) (each : EachConfig all) where
+module _ (all left : List EdgeConfig) (config : EdgeConfig) (same : all ≡ left ++ config ∷ [])
+    (each : EachConfig all) where
   pub last_config : IsConfig config
-  last_config = each config (subst (λ (cs : List EdgeConfig). Contains cs config) (sym same) (Contains-append_right left (config ∷ []) config (0, omega arith, refl)))
+  last_config = each config (subst (λ (cs : List EdgeConfig). Contains cs config) (sym same)
+      (Contains-append_right left (config ∷ []) config (0, omega arith, refl)))
 
   pub each_left : EachConfig left
-  each_left = λ c k. each c (subst (λ (cs : List EdgeConfig). Contains cs c) (sym same) (Contains-append_left left (config ∷ []) c k))
+  each_left = λ c k. each c (subst (λ (cs : List EdgeConfig). Contains cs c) (sym same)
+      (Contains-append_left left (config ∷ []) c k))
 
 -- ---- what is told
 
-texts_both : {A : Type 0} (text : ℕ → A → List ℕ) (number : ℕ) (xs ys : List A) → texts_from text number (xs ++ ys) ≡ texts_from text number xs ++ texts_from text (number + length xs) ys
+texts_both : {A : Type 0} (text : ℕ → A → List ℕ) (number : ℕ) (xs ys : List A)
+    → texts_from text number (xs ++ ys) ≡ texts_from text number xs ++ texts_from text (number + length xs) ys
 texts_both text number [] ys = ap (λ n. texts_from text n ys) (grind arith)
 texts_both text number (x ∷ xs) ys =
-    ap (λ more. text number x ++ more) (texts_both text (number + 1) xs ys ∙ ap (λ n. texts_from text (number + 1) xs ++ texts_from text n ys) (grind arith))
-    ∙ sym (append_assoc (text number x) (texts_from text (number + 1) xs) (texts_from text (number + length (x ∷ xs)) ys))
+    ap (λ more. text number x ++ more) (texts_both text (number + 1) xs ys
+    ∙ ap (λ n. texts_from text (number + 1) xs ++ texts_from text n ys) (grind arith))
+    ∙ sym (append_assoc (text number x) (texts_from text (number + 1) xs)
+    (texts_from text (number + length (x ∷ xs)) ys))
 
 -- one more
-pub texts_more : {A : Type 0} (text : ℕ → A → List ℕ) (number : ℕ) (all : List A) (place : ℕ) (d : A) → place < length all
-    → texts_from text number (take (place + 1) all) ≡ texts_from text number (take place all) ++ text (number + place) (get_or all place d)
+pub texts_more : {A : Type 0} (text : ℕ → A → List ℕ) (number : ℕ) (all : List A) (place : ℕ) (d : A)
+    → place < length all
+    → texts_from text number (take (place + 1) all) ≡ texts_from text number (take place all)
+    ++ text (number + place) (get_or all place d)
 texts_more text number all place d within =
     let before = take place all in
     let one = get_or all place d in
-    let count : number + length before ≡ number + place = ap (λ n. number + n) (length-take-le place all (omega arith)) in
+    let count : number + length before ≡ number + place =
+    ap (λ n. number + n) (length-take-le place all (omega arith)) in
     ap (texts_from text number) (take_more all place d within) ∙ texts_both text number before (one ∷ [])
     ∙ ap (λ n. texts_from text number before ++ texts_from text n (one ∷ [])) count
     ∙ ap (λ t. texts_from text number before ++ t) (append-nil (text (number + place) one))
@@ -77,7 +96,8 @@ min_twice a b m = grind arith
 
 -- one edge's sends more
 pub lost_more : (ended : List Ended) (place : ℕ) (d : Ended) → place < length ended
-    → all_lost (take (place + 1) ended) ≡ min (all_lost (take place ended) + sends_failed (get_or ended place d)) (2 ^ 64 - 1)
+    → all_lost (take (place + 1) ended) ≡ min (all_lost (take place ended) + sends_failed (get_or ended place d))
+    (2 ^ 64 - 1)
 lost_more ended place d within =
     let before = take place ended in
     let one = get_or ended place d in
@@ -85,9 +105,12 @@ lost_more ended place d within =
     ∙ ap (λ n. min n (2 ^ 64 - 1)) (sum_by_push sends_failed before one)
     ∙ sym (min_twice (sum_by sends_failed before) (sends_failed one) (2 ^ 64 - 1))
 
-module _ (ended : List Ended) (is_read : Bool) (out out' notes notes' : End) (r s : Result (Unit {0}) device.Device) where
-  pub tells_ended : (status : ℕ) → Puts out out' (reports_from 1 ended) r → Puts notes notes' (noted_text ended (all_lost ended)) s
-      → status ≡ status_of (((not is_read || list_any link_failed ended) || nat_lt 0 (all_lost ended)) || (not (is_ok r) || not (is_ok s))) (list_any was_starved ended) false
+module _ (ended : List Ended) (is_read : Bool) (out out' notes notes' : End)
+    (r s : Result (Unit {0}) device.Device) where
+  pub tells_ended : (status : ℕ) → Puts out out' (reports_from 1 ended) r
+      → Puts notes notes' (noted_text ended (all_lost ended)) s
+      → status ≡ status_of (((not is_read || list_any link_failed ended) || nat_lt 0 (all_lost ended)) ||
+      (not (is_ok r) || not (is_ok s))) (list_any was_starved ended) false
       → TellsEnded ended is_read out out' notes notes' status
   tells_ended status told put is =
       let e = (not is_read || list_any link_failed ended) || nat_lt 0 (all_lost ended) in
@@ -95,32 +118,44 @@ module _ (ended : List Ended) (is_read : Bool) (out out' notes notes' : End) (r 
       record {
         written = put_holds out out' r (reports_from 1 ended) told;
         noted = put_holds notes notes' s (noted_text ended (all_lost ended)) put;
-        status_is = is ∙ ap (λ x. status_of (e || (x || not (is_ok s))) starved false) (sym (put_failed out out' r (reports_from 1 ended) told))
-            ∙ ap (λ x. status_of (e || (has_failed out out' || x)) starved false) (sym (put_failed notes notes' s (noted_text ended (all_lost ended)) put));
+        status_is = is ∙ ap (λ x. status_of (e || (x || not (is_ok s))) starved false)
+            (sym (put_failed out out' r (reports_from 1 ended) told))
+            ∙ ap (λ x. status_of (e || (has_failed out out' || x)) starved false)
+            (sym (put_failed notes notes' s (noted_text ended (all_lost ended)) put));
       }
 
 -- an address is told
-pub tells_address : (notes notes' : End) (r : Result (Unit {0}) device.Device) (at : Endpoint) (why : Hindrance) → Puts notes notes' (unbound_text at why) r → TellsUnbound notes notes' 4
+pub tells_address : (notes notes' : End) (r : Result (Unit {0}) device.Device) (at : Endpoint) (why : Hindrance)
+    → Puts notes notes' (unbound_text at why) r → TellsUnbound notes notes' 4
 tells_address notes notes' r at why put =
-    inl (record { text = unbound_text at why; is_text = inr (at, why, refl); noted = put_holds notes notes' r (unbound_text at why) put; status_is = refl })
+    inl (record {
+      text = unbound_text at why;
+      is_text = inr (at, why, refl);
+      noted = put_holds notes notes' r (unbound_text at why) put;
+      status_is = refl;
+    })
 
 -- no address is told
 pub tells_nothing : (notes : End) → TellsUnbound notes notes 4
 tells_nothing notes = inl (record { text = []; is_text = inl refl; noted = holds_none notes; status_is = refl })
 
 -- no edge began
-pub runs_none : (many : ℕ) (input : Source) (out notes notes' : End) (status : ℕ) → TellsUnbound notes notes' status → RunsEdges many (devices input out notes) (devices input out notes') status
+pub runs_none : (many : ℕ) (input : Source) (out notes notes' : End) (status : ℕ) → TellsUnbound notes notes' status
+    → RunsEdges many (devices input out notes) (devices input out notes') status
 runs_none many input out notes notes' status (inl u) = inr (inl (refl, holds_none out, u))
 runs_none many input out notes notes' status (inr p) = rw p.0 (inr (inr (refused_memory out notes status p.1)))
 
 -- memory was refused to what the edges begin with
-pub runs_refused : (many : ℕ) (input input' : Source) (out out' notes notes' : End) → out' ≡ out → notes' ≡ notes → RunsEdges many (devices input out notes) (devices input' out' notes') 3
+pub runs_refused : (many : ℕ) (input input' : Source) (out out' notes notes' : End) → out' ≡ out → notes' ≡ notes
+    → RunsEdges many (devices input out notes) (devices input' out' notes') 3
 runs_refused many input input' out out' notes notes' a b = rw (a, b) (inr (inr (refused_memory out notes 3 refl)))
 
 -- ---- writers that are given more at once
 
-module _ (many : ℕ) (before held after : Devices) (status last : ℕ) (p : Passes before.out.failures before.notes.failures held after status last) where
-  passed_ended : (ended : List Ended) (is_read : Bool) → TellsEnded ended is_read before.out held.out before.notes held.notes status
+module _ (many : ℕ) (before held after : Devices) (status last : ℕ)
+    (p : Passes before.out.failures before.notes.failures held after status last) where
+  passed_ended : (ended : List Ended) (is_read : Bool) → TellsEnded ended is_read before.out held.out before.notes
+      held.notes status
       → TellsEnded ended is_read before.out after.out before.notes after.notes last
   passed_ended ended is_read t =
       let text = reports_from 1 ended in
@@ -128,8 +163,10 @@ module _ (many : ℕ) (before held after : Devices) (status last : ℕ) (p : Pas
       record {
         written = passed_out before held after status last p text t.written;
         noted = passed_notes before held after status last p lost t.noted;
-        status_is = passed_status before held after status last p ((not is_read || list_any link_failed ended) || nat_lt 0 (all_lost ended))
-            (list_any was_starved ended) false (failed_out before held after status last p text t.written) (failed_notes before held after status last p lost t.noted) t.status_is;
+        status_is = passed_status before held after status last p
+            ((not is_read || list_any link_failed ended) || nat_lt 0 (all_lost ended))
+            (list_any was_starved ended) false (failed_out before held after status last p text t.written)
+            (failed_notes before held after status last p lost t.noted) t.status_is;
       }
 
   passed_unbound : IsUnbound before.notes held.notes status → IsUnbound before.notes after.notes last
@@ -148,5 +185,9 @@ module _ (many : ℕ) (before held after : Devices) (status last : ℕ) (p : Pas
     all = r.all;
     told = passed_ended r.ended r.is_read r.told;
   })
-  passed_runs (inr (inl h)) = inr (inl (p.input ∙ h.0, passed_out before held after status last p [] h.1, passed_unbound h.2))
+  passed_runs (inr (inl h)) = inr (inl (
+    p.input ∙ h.0,
+    passed_out before held after status last p [] h.1,
+    passed_unbound h.2,
+  ))
   passed_runs (inr (inr h)) = inr (inr (passed_refused before held after status last p h))

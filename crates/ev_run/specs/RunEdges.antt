@@ -1,5 +1,6 @@
 -- What a run of edges over sockets leaves.
-use Rattle.std.specs.Prelude.{◌≡◌, ℕ, ◌+◌, ◌-◌, ◌^◌, min, ◌⊎◌, ◌||◌, Bool, true, false, not, ◌==◌, nat_lt, if◌then◌else◌, List, [], ◌∷◌, ◌++◌, length, Contains, codes, Result, Ok, Err}
+use Rattle.std.specs.Prelude.{◌≡◌, ℕ, ◌+◌, ◌-◌, ◌^◌, min, ◌⊎◌, ◌||◌, Bool, true, false, not, ◌==◌, nat_lt}
+use Rattle.std.specs.Prelude.{if◌then◌else◌, List, [], ◌∷◌, ◌++◌, length, Contains, codes, Result, Ok, Err}
 use Rattle.std.specs.Fmt.{decimal}
 use Rattle.std.specs.List.{sum_by, list_any}
 use Rattle.std.specs.declared.alloc.AllocError.{AllocError}
@@ -91,7 +92,8 @@ link_text place = if place == 0 then codes "tunnel" else codes "port " ++ decima
 -- `edge E port P: N frames dropped: no room`, where there are any
 abbrev pub dropped_text : ℕ → ℕ → ℕ → Text
 dropped_text number place dropped =
-    if nat_lt 0 dropped then (codes "edge " ++ decimal number ++ codes " ") ++ link_text place ++ (codes ": " ++ decimal dropped ++ codes " frames dropped: no room\n")
+    if nat_lt 0 dropped then (codes "edge " ++ decimal number ++ codes " ") ++ link_text place
+    ++ (codes ": " ++ decimal dropped ++ codes " frames dropped: no room\n")
     else []
 
 -- so of each line of an edge that ran
@@ -126,12 +128,14 @@ all_lost ended = min (sum_by sends_failed ended) (2 ^ 64 - 1)
 abbrev pub noted_text : List Ended → ℕ → Text
 noted_text ended lost = texts_from drops_text 1 ended ++ lost_text lost
 
--- The reports of the edges that ran are written. What their lines had no room for is noted, and `lost N` where sends failed. The
+-- The reports of the edges that ran are written. What their lines had no room for is noted, and `lost N` where sends
+-- failed. The
 -- status is 4 where a device failed, 3 where memory or a thread was refused, else 0.
 pub record TellsEnded (ended : List Ended) (is_read : Bool) (out out' notes notes' : End) (status : ℕ) : Type 0 where
   pub written : Holds out out' (reports_from 1 ended)
   pub noted : Holds notes notes' (noted_text ended (all_lost ended))
-  pub status_is : status ≡ status_of (((not is_read || list_any link_failed ended) || nat_lt 0 (all_lost ended)) || (has_failed out out' || has_failed notes notes')) (list_any was_starved ended) false
+  pub status_is : status ≡ status_of (((not is_read || list_any link_failed ended) || nat_lt 0 (all_lost ended)) ||
+      (has_failed out out' || has_failed notes notes')) (list_any was_starved ended) false
 
 -- ---- a run
 
@@ -154,7 +158,8 @@ pub record IsUnbound (notes notes' : End) (status : ℕ) : Type 0 where
 abbrev pub TellsUnbound : End → End → ℕ → Type 0
 TellsUnbound notes notes' status = IsUnbound notes notes' status ⊎ ((notes' ≡ notes) × (status ≡ 3))
 
--- So many edges were run; or no edge began and nothing was read, nothing but that written; or memory was refused to what they
+-- So many edges were run; or no edge began and nothing was read, nothing but that written; or memory was refused to
+-- what they
 -- begin with.
 abbrev pub RunsEdges : ℕ → Devices → Devices → ℕ → Type 0
 RunsEdges many before after status =

@@ -1,5 +1,6 @@
 -- Steps that are made one after the other, and the lines that ask for them.
-use Rattle.std.proofs.Common.{◌≡◌, ℕ, ◌+◌, ◌<◌, Bool, ◌||◌, List, [], ◌∷◌, ◌++◌, length, length-append, append_assoc, Option, Some, None, option_map, Result, true, false, refl, sym, ap, subst, ◌∙◌, arith}
+use Rattle.std.proofs.Common.{◌≡◌, ℕ, ◌+◌, ◌<◌, Bool, ◌||◌, List, [], ◌∷◌, ◌++◌, length, length-append, append_assoc}
+use Rattle.std.proofs.Common.{Option, Some, None, option_map, Result, true, false, refl, sym, ap, subst, ◌∙◌, arith}
 use Rattle.std.proofs.lemmas.List.{append-nil}
 use Rattle.std.proofs.lemmas.List.Elements.{All-nil, All-push}
 use Rattle.ev_edge.specs.declared.reply.Reply.{Reply}
@@ -24,11 +25,16 @@ goes_both a b c (x ∷ m) n g h = (g.0, g.1, goes_both g.0 b c m n g.2 h)
 
 starved_both : (m n : List Made) → has_starved (m ++ n) ≡ (has_starved m || has_starved n)
 starved_both [] n = refl
-starved_both (x ∷ m) n = ap (λ b. is_starved x.1 || b) (starved_both m n) ∙ or_assoc (is_starved x.1) (has_starved m) (has_starved n)
+starved_both (x ∷ m) n = ap (λ b. is_starved x.1 || b) (starved_both m n)
+    ∙ or_assoc (is_starved x.1) (has_starved m) (has_starved n)
 
-pub one_made : (p q : Player) (step : Step) (answer : Result Reply Refusal) → FabricSteps p.fabric step answer q.fabric → q.is_starved ≡ (p.is_starved || is_starved answer)
+pub one_made : (p q : Player) (step : Step) (answer : Result Reply Refusal) → FabricSteps p.fabric step answer q.fabric
+    → q.is_starved ≡ (p.is_starved || is_starved answer)
     → Makes ((step, answer) ∷ []) p q
-one_made p q step answer s e = record { goes = (q.fabric, s, refl); starved = e ∙ ap (λ b. p.is_starved || b) (or_false (is_starved answer)) }
+one_made p q step answer s e = record {
+  goes = (q.fabric, s, refl);
+  starved = e ∙ ap (λ b. p.is_starved || b) (or_false (is_starved answer));
+}
 
 pub makes_none : (p q : Player) → q.fabric ≡ p.fabric → q.is_starved ≡ p.is_starved → Makes [] p q
 makes_none p q f s = record { goes = f; starved = s ∙ or_false p.is_starved }
@@ -36,7 +42,9 @@ makes_none p q f s = record { goes = f; starved = s ∙ or_false p.is_starved }
 pub makes_both : (p q r : Player) (m n : List Made) → Makes m p q → Makes n q r → Makes (m ++ n) p r
 makes_both p q r m n h k = record {
   goes = goes_both p.fabric q.fabric r.fabric m n h.goes k.goes;
-  starved = k.starved ∙ ap (λ b. b || has_starved n) h.starved ∙ sym (or_assoc p.is_starved (has_starved m) (has_starved n)) ∙ ap (λ b. p.is_starved || b) (sym (starved_both m n));
+  starved = k.starved ∙ ap (λ b. b || has_starved n) h.starved
+      ∙ sym (or_assoc p.is_starved (has_starved m) (has_starved n))
+      ∙ ap (λ b. p.is_starved || b) (sym (starved_both m n));
 }
 
 -- whether text was lost doesn't matter
@@ -46,7 +54,8 @@ retold p q made b h = record { goes = h.goes; starved = h.starved }
 pub performs_none : (p q : Player) → Makes [] p q → (made : List Made) × (made ≡ []) × Makes made p q
 performs_none p q h = ([], refl, h)
 
-pub performs_one : (p q : Player) (step : Step) → MakesOne step p q → (made : List Made) × IsOne step made × Makes made p q
+pub performs_one : (p q : Player) (step : Step) → MakesOne step p q
+    → (made : List Made) × IsOne step made × Makes made p q
 performs_one p q step h = ((step, h.0) ∷ [], (h.0, refl), h.1)
 
 -- ---- seconds
@@ -54,7 +63,8 @@ performs_one p q step h = ((step, h.0) ∷ [], (h.0, refl), h.1)
 pub no_seconds : (p : Player) (e : ℕ) → Performs e (second 0) p p
 no_seconds p e = ([], (refl, All-nil _), makes_none p p refl refl)
 
-pub second_more : (p q r : Player) (e n : ℕ) → Performs e (second n) p q → MakesOne (steps.Local e events.Second) q r → Performs e (second (n + 1)) p r
+pub second_more : (p q r : Player) (e n : ℕ) → Performs e (second n) p q → MakesOne (steps.Local e events.Second) q r
+    → Performs e (second (n + 1)) p r
 second_more p q r e n h k =
     let one : List Made = (steps.Local e events.Second, k.0) ∷ [] in (
       h.0 ++ one,

@@ -1,5 +1,6 @@
 -- A simulation's status and notes at its end.
-use Rattle.std.proofs.Common.{◌≡◌, ◌≢◌, ◌⊎◌, inl, inr, ℕ, ◌+◌, Bool, true, false, not, ◌||◌, List, [], length, Option, Some, None, is_some, Result, Ok, Err, is_ok, refl, sym, ap, subst, ◌∙◌, arith}
+use Rattle.std.proofs.Common.{◌≡◌, ◌≢◌, ◌⊎◌, inl, inr, ℕ, ◌+◌, Bool, true, false, not, ◌||◌, List, [], length, Option}
+use Rattle.std.proofs.Common.{Some, None, is_some, Result, Ok, Err, is_ok, refl, sym, ap, subst, ◌∙◌, arith}
 use Rattle.std.proofs.lemmas.Bool.Decides.{nat_tests}
 use Rattle.ether_wire.specs.declared.ends.Device as device
 use Rattle.ether_wire.specs.Ends.{End, Source, Puts}
@@ -13,7 +14,8 @@ use Rattle.ev_report.specs.Ends.{Devices, has_failed, Holds, Finishes, Passes}
 use Rattle.ev_report.specs.Input.{ReadsWhole}
 use Rattle.ev_report.specs.Notes.{status_of}
 use Rattle.ev_report.proofs.Silence.{status_as, is_silent, refused_memory, passed_silent, passed_refused, passed_four}
-use Rattle.ev_script.specs.Simulation.{Goes, joined, has_starved, bad_line, note_of, note_of_line, CountsFailure, PlaysOn, PlaysRead, unread_status, Simulates}
+use Rattle.ev_script.specs.Simulation.{Goes, joined, has_starved, bad_line, note_of, note_of_line, CountsFailure}
+use Rattle.ev_script.specs.Simulation.{PlaysOn, PlaysRead, unread_status, Simulates}
 use Rattle.ev_script.specs.Printing.{Minds}
 use Rattle.ev_script.specs.Playing.{PlaysTo}
 use Rattle.ev_report.proofs.Finishing.{put_holds, put_failed, passed_notes, passed_status, failed_notes}
@@ -24,11 +26,15 @@ use Rattle.ev_script.proofs.Minding.{minds_failed, minds_counts}
 module _ (mode : Mode) (start : Fabric) (script : List ℕ) (p final : Player) (out out' notes notes' : End)
     (r : Result (Unit {0}) device.Device) (status : ℕ)
     (from : p.fabric ≡ start) (fed : p.is_starved ≡ false) (told : Minds out out' true final.is_told) where
-  status_played : (bad : Option ℕ) (starved : Bool) → Puts notes notes' (note_of_line bad) r → final.is_starved ≡ (p.is_starved || starved)
-      → status ≡ status_of (not final.is_told || not (is_ok r)) final.is_starved (is_some bad) → status ≡ status_of (has_failed out out' || has_failed notes notes') starved (is_some bad)
+  status_played : (bad : Option ℕ) (starved : Bool) → Puts notes notes' (note_of_line bad) r
+      → final.is_starved ≡ (p.is_starved || starved)
+      → status ≡ status_of (not final.is_told || not (is_ok r)) final.is_starved (is_some bad)
+      → status ≡ status_of (has_failed out out' || has_failed notes notes') starved (is_some bad)
   status_played bad starved put s is =
-      is ∙ status_as (not final.is_told) (not (is_ok r)) (has_failed out out') (has_failed notes notes') final.is_starved starved (is_some bad)
-      (sym (minds_failed out out' final.is_told told)) (sym (put_failed notes notes' r (note_of_line bad) put)) (s ∙ ap (λ b. b || starved) fed)
+      is ∙ status_as (not final.is_told) (not (is_ok r)) (has_failed out out') (has_failed notes notes')
+      final.is_starved starved (is_some bad)
+      (sym (minds_failed out out' final.is_told told)) (sym (put_failed notes notes' r (note_of_line bad) put)) (s
+      ∙ ap (λ b. b || starved) fed)
 
   pub plays_on : (bad : Option ℕ) → PlaysTo mode script p final bad → Puts notes notes' (note_of_line bad) r
       → status ≡ status_of (not final.is_told || not (is_ok r)) final.is_starved (is_some bad)
@@ -84,7 +90,9 @@ module _ (a b c : End) (q : Bool) (counts : CountsFailure a b) (f : Finishes a.f
   pub finish_late : q ≡ false → c.failures ≡ a.failures + 1
   finish_late e = go (f.failed e) counts
     where
-      go : ((b.failures ≢ a.failures) × (c.failures ≡ b.failures)) ⊎ ((b.failures ≡ a.failures) × (c.failures ≡ a.failures + 1)) → CountsFailure a b → c.failures ≡ a.failures + 1
+      go : ((b.failures ≢ a.failures) × (c.failures ≡ b.failures))
+          ⊎ ((b.failures ≡ a.failures) × (c.failures ≡ a.failures + 1)) → CountsFailure a b
+          → c.failures ≡ a.failures + 1
       go (inl p) (inl e) = absurd (p.0 e)
       go (inl p) (inr e) = p.1 ∙ e
       go (inr p) e = p.1
@@ -120,7 +128,8 @@ module _ (mode : Mode) (configs : List EdgeConfig) (before held after : Devices)
         written = finish_counts before.out held.out after.out p.is_written r.written p.out;
         noted = passed_notes before held after status last p note r.noted;
         status_is = passed_status before held after status last p false (has_starved (joined r.made)) r.is_bad
-            (finish_told before.out held.out after.out p.is_written r.written p.out) (failed_notes before held after status last p note r.noted) r.status_is;
+            (finish_told before.out held.out after.out p.is_written r.written p.out)
+            (failed_notes before held after status last p note r.noted) r.status_is;
       }
 
   passed_read : (script : Result (List ℕ) Unread)
@@ -128,7 +137,10 @@ module _ (mode : Mode) (configs : List EdgeConfig) (before held after : Devices)
       → PlaysRead mode configs script before.out after.out before.notes after.notes last
   passed_read (Ok script) (inl h) = inl (h.0, h.1, passed_plays h.0 script h.2)
   passed_read (Ok script) (inr h) = inr (passed_refused before held after status last p h)
-  passed_read (Err Device) h = (passed_silent before held after status last p h.0, passed_four before held after status last p h.1)
+  passed_read (Err Device) h = (
+    passed_silent before held after status last p h.0,
+    passed_four before held after status last p h.1,
+  )
   passed_read (Err NoMemory) h = passed_refused before held after status last p h
 
   pub passed_simulates : Simulates mode configs before held status → Simulates mode configs before after last

@@ -1,5 +1,6 @@
 -- What is told of the lines of a script that are no command.
-use Rattle.std.specs.Prelude.{◌≡◌, ℕ, ◌+◌, Bool, true, nat_le, if◌then◌else◌, List, [], ◌∷◌, ◌++◌, length, codes, decimal, Option, Some, None, is_some}
+use Rattle.std.specs.Prelude.{◌≡◌, ℕ, ◌+◌, Bool, true, nat_le, if◌then◌else◌, List, [], ◌∷◌, ◌++◌, length, codes}
+use Rattle.std.specs.Prelude.{decimal, Option, Some, None, is_some}
 use Rattle.std.specs.List.{list_all}
 use Rattle.ether_wire.specs.Ends.{End}
 use Rattle.ether_wire.specs.Spelling.{parted}
@@ -8,7 +9,9 @@ use Rattle.ev_script.specs.declared.checking.Found.{Found}
 use Rattle.ev_script.specs.declared.script.fault.LineFault.{LineFault}
 use Rattle.ev_script.specs.declared.script.fault.LineFault.TheVariants.{Remark, Long, NoEdge, NoVerb, Misspelt}
 use Rattle.ev_script.specs.declared.script.command.Verb.{Verb}
-use Rattle.ev_script.specs.declared.script.command.Verb.TheVariants.{Up, Down, Mcheck, Second, Frame, Tunnel, Pin, Unpin, Thaw, Announce, Deliver, Port, Report, Restart}
+use Rattle.ev_script.specs.declared.script.command.Verb.TheVariants.{Up, Down, Mcheck, Second, Frame, Tunnel, Pin}
+use Rattle.ev_script.specs.declared.script.command.Verb.TheVariants.{Unpin, Thaw, Announce, Deliver, Port, Report}
+use Rattle.ev_script.specs.declared.script.command.Verb.TheVariants.{Restart}
 use Rattle.ev_script.specs.Script.{number, verbs, verb_in, line_of, is_remark, Follows}
 
 -- ---- why a line is none
@@ -70,7 +73,8 @@ abbrev pub why_text : LineFault → List ℕ
 why_text Remark = codes ": an empty line or a remark, which only evpnd play skips\n"
 why_text Long = codes ": longer than 20000 octets\n"
 why_text NoEdge = codes ": expected the number of an edge, a space and a command\n"
-why_text NoVerb = codes ": expected up, down, mcheck, second, frame, tunnel, pin, unpin, thaw, announce, deliver, port, report or restart behind the edge\n"
+why_text NoVerb =
+    codes ": expected up, down, mcheck, second, frame, tunnel, pin, unpin, thaw, announce, deliver, port, report or restart behind the edge\n"
 why_text (Misspelt verb) = form_of verb
 
 -- `NAME:N: WHY`
@@ -86,7 +90,8 @@ abbrev pub faults_text : List ℕ → ℕ → List (List ℕ) → List ℕ
 faults_text name number [] = []
 faults_text name number (line ∷ lines) = told_text name number line ++ faults_text name (number + 1) lines
 
--- Lines at the front of a script were looked at: they were counted, each is good or not, and each bad one is told with its
+-- Lines at the front of a script were looked at: they were counted, each is good or not, and each bad one is told with
+-- its
 -- place and why, or a note failed.
 pub record LooksAt (name script rest : List ℕ) (old new : End) (found : Found) : Type 0 where
   pub lines : List (List ℕ)

@@ -1,11 +1,15 @@
 -- A script: one command a line.
-use Rattle.std.specs.Prelude.{◌≡◌, ℕ, ◌+◌, ◌*◌, slice_get, ◌%◌, ◌^◌, ◌-◌, Bool, true, false, ◌&&◌, ◌==◌, ◌<◌, nat_lt, nat_le, if◌then◌else◌, List, [], ◌∷◌, length, codes, Option, Some, None, is_some, option_map, option_and_then}
+use Rattle.std.specs.Prelude.{◌≡◌, ℕ, ◌+◌, ◌*◌, slice_get, ◌%◌, ◌^◌, ◌-◌, Bool, true, false, ◌&&◌, ◌==◌, ◌<◌, nat_lt}
+use Rattle.std.specs.Prelude.{nat_le, if◌then◌else◌, List, [], ◌∷◌, length, codes, Option, Some, None, is_some}
+use Rattle.std.specs.Prelude.{option_map, option_and_then}
 use Rattle.std.specs.List.{list_all}
 use Rattle.std.specs.Str.{bytes_eq}
 use Rattle.ether_wire.specs.Spelling.{◌>>=◌, parted, decimal_of_text, hex_value, vni_of_text, mac_of_text, addr_of_text}
 use Rattle.mac_arena.specs.declared.station.Station.{Station}
 use Rattle.ev_script.specs.declared.script.command.Verb.{Verb}
-use Rattle.ev_script.specs.declared.script.command.Verb.TheVariants.{Up, Down, Mcheck, Second, Frame, Tunnel, Pin, Unpin, Thaw, Announce, Deliver, Port, Report, Restart}
+use Rattle.ev_script.specs.declared.script.command.Verb.TheVariants.{Up, Down, Mcheck, Second, Frame, Tunnel, Pin}
+use Rattle.ev_script.specs.declared.script.command.Verb.TheVariants.{Unpin, Thaw, Announce, Deliver, Port, Report}
+use Rattle.ev_script.specs.declared.script.command.Verb.TheVariants.{Restart}
 use Rattle.ev_script.specs.declared.script.mode.Mode.{Mode}
 use Rattle.ev_script.specs.declared.script.mode.Mode.TheVariants.{Simulate, Play}
 use Rattle.ev_script.specs.declared.script.command.Command as read
@@ -81,12 +85,14 @@ station s = do
 
 abbrev pub later_verbs : List (List ℕ × Verb)
 later_verbs =
-    (codes "unpin", Unpin) ∷ (codes "thaw", Thaw) ∷ (codes "announce", Announce) ∷ (codes "deliver", Deliver) ∷ (codes "port", Port)
+    (codes "unpin", Unpin) ∷ (codes "thaw", Thaw) ∷ (codes "announce", Announce) ∷ (codes "deliver", Deliver)
+    ∷ (codes "port", Port)
     ∷ (codes "report", Report) ∷ (codes "restart", Restart) ∷ []
 
 abbrev pub verbs : List (List ℕ × Verb)
 verbs =
-    (codes "up", Up) ∷ (codes "down", Down) ∷ (codes "mcheck", Mcheck) ∷ (codes "second", Second) ∷ (codes "frame", Frame)
+    (codes "up", Up) ∷ (codes "down", Down) ∷ (codes "mcheck", Mcheck) ∷ (codes "second", Second)
+    ∷ (codes "frame", Frame)
     ∷ (codes "tunnel", Tunnel) ∷ (codes "pin", Pin) ∷ later_verbs
 
 abbrev pub verb_in : List (List ℕ × Verb) → List ℕ → Option Verb

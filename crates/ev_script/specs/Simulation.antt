@@ -1,5 +1,6 @@
 -- What a simulation does: the steps that its lines ask for, from an opened fabric on.
-use Rattle.std.specs.Prelude.{◌≡◌, ℕ, ◌⊎◌, ◌+◌, ◌||◌, ◌==◌, Bool, false, nat_le, if◌then◌else◌, List, [], ◌∷◌, ◌++◌, length, codes, decimal, Result, Ok, Err, Option, Some, None}
+use Rattle.std.specs.Prelude.{◌≡◌, ℕ, ◌⊎◌, ◌+◌, ◌||◌, ◌==◌, Bool, false, nat_le, if◌then◌else◌, List, [], ◌∷◌, ◌++◌}
+use Rattle.std.specs.Prelude.{length, codes, decimal, Result, Ok, Err, Option, Some, None}
 use Rattle.std.specs.Borrow.{Bor}
 use Rattle.std.specs.List.{All}
 use Rattle.ether_wire.specs.Ends.{End}
@@ -20,7 +21,8 @@ use Rattle.ev_report.specs.Notes.{status_of}
 use Rattle.ev_report.specs.Input.{ReadsWhole}
 use Rattle.ev_report.specs.Silence.{IsSilent, IsRefusedMemory}
 use Rattle.ev_script.specs.declared.script.mode.Mode.{Mode}
-use Rattle.ev_script.specs.Script.{Command, Item, item_of, up, down, mcheck, second, frame, tunnel, pin, unpin, thaw, announce, deliver, port, report, restart, Follows, Ends}
+use Rattle.ev_script.specs.Script.{Command, Item, item_of, up, down, mcheck, second, frame, tunnel, pin, unpin, thaw}
+use Rattle.ev_script.specs.Script.{announce, deliver, port, report, restart, Follows, Ends}
 
 -- ---- steps
 
@@ -42,8 +44,10 @@ Asked e (up p) made = IsOne (steps.Local e (events.PortUp (port_number p))) made
 Asked e (down p) made = IsOne (steps.Local e (events.PortDown (port_number p))) made
 Asked e (mcheck p) made = IsOne (steps.Local e (events.Mcheck (port_number p))) made
 Asked e (second n) made = (length made ≡ n) × All (λ (m : Made). m.0 ≡ steps.Local e events.Second) made
-Asked e (frame p octets) made = (b : Bor (List ℕ)) × (b.now ≡ octets) × IsOne (steps.Local e (events.Frame (port_number p) b)) made
-Asked e (tunnel from octets) made = (b : Bor (List ℕ)) × (b.now ≡ octets) × IsOne (steps.Local e (events.TunnelFrame from b)) made
+Asked e (frame p octets) made = (b : Bor (List ℕ)) × (b.now ≡ octets)
+    × IsOne (steps.Local e (events.Frame (port_number p) b)) made
+Asked e (tunnel from octets) made = (b : Bor (List ℕ)) × (b.now ≡ octets)
+    × IsOne (steps.Local e (events.TunnelFrame from b)) made
 Asked e (pin s p) made = IsOne (steps.Local e (events.Pin s (port_number p))) made
 Asked e (unpin s) made = IsOne (steps.Local e (events.Unpin s)) made
 Asked e (thaw s) made = IsOne (steps.Local e (events.Thaw s)) made

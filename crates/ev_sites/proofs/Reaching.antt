@@ -207,7 +207,8 @@ reopened old new i a n reply s h j c x at_c at_x =
     elim (set_cases old.edges i s.after j x (subst (λ l. slice_get l j ≡ Some x) edges at_x)) as (λ _. CanBe c.tree
     (settings_of c.ports.items) x.tree) [
       | inl p ↦ elim (set_cases old.configs i (in_life s.config n) j c
-          (subst (λ l. slice_get l j ≡ Some c) configs at_c)) as (λ _. CanBe c.tree (settings_of c.ports.items) x.tree) [
+          (subst (λ l. slice_get l j ≡ Some c) configs at_c)) as (λ _. CanBe c.tree (settings_of c.ports.items)
+          x.tree) [
             | inl q ↦
                 subst (λ (d : EdgeConfig). CanBe d.tree (settings_of d.ports.items) x.tree) (sym q.1)
                 (subst (λ (y : Edge). CanBe s.config.tree (settings_of s.config.ports.items) y.tree) (sym p.1)
@@ -215,7 +216,8 @@ reopened old new i a n reply s h j c x at_c at_x =
             | inr q ↦ absurd (q.0 p.0)
           ]
       | inr p ↦ elim (set_cases old.configs i (in_life s.config n) j c
-          (subst (λ l. slice_get l j ≡ Some c) configs at_c)) as (λ _. CanBe c.tree (settings_of c.ports.items) x.tree) [
+          (subst (λ l. slice_get l j ≡ Some c) configs at_c)) as (λ _. CanBe c.tree (settings_of c.ports.items)
+          x.tree) [
             | inl q ↦ absurd (p.0 q.0)
             | inr q ↦ h j c x q.1 p.1
           ]

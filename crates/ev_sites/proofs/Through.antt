@@ -111,10 +111,12 @@ module _ (law : NoCircle) (sites : List Site) (rest : AreAtRest sites) where
       elim (hop_is sites z v goes.0) [
         | inl h ↦ (
             let one : h.site ≡ s = some_same h.site s (sym h.at ∙ at) in
-            let crosses : Crosses s.net z.spot v.spot = subst (λ (t : Site). Crosses t.net z.spot v.spot) one h.crosses in
+            let crosses : Crosses s.net z.spot v.spot =
+            subst (λ (t : Site). Crosses t.net z.spot v.spot) one h.crosses in
             let further = longer s.net before y z.spot v.spot way crosses in
             let at_v : IsSiteAt sites v.site s = ap (λ i. slice_get sites i) h.same ∙ at in
-            after_tunnel later v w s o y (further.first ∷ further.later) at_v here leaves arrives segment apart further.way
+            after_tunnel later v w s o y (further.first ∷ further.later) at_v here leaves arrives segment apart
+            further.way
             goes.1 ∙ h.same)
         | inr h ↦ (
             let one : h.near ≡ s = some_same h.near s (sym h.at_near ∙ at) in

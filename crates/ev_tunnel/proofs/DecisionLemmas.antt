@@ -1,5 +1,6 @@
 -- What holds of each decision.
-use Rattle.std.proofs.Common.{◌≡◌, ◌≢◌, ℕ, ◌<◌, ◌≤◌, ◌^◌, zero, suc, inl, inr, Bool, true, false, not, cond, ◌==◌, ◌&&◌, Option, Some, None, List, [], ◌∷◌, length, Contains, refl, sym, ap, subst, ◌∙◌, arith}
+use Rattle.std.proofs.Common.{◌≡◌, ◌≢◌, ℕ, ◌<◌, ◌≤◌, ◌^◌, zero, suc, inl, inr, Bool, true, false, not, cond, ◌==◌, ◌&&◌}
+use Rattle.std.proofs.Common.{Option, Some, None, List, [], ◌∷◌, length, Contains, refl, sym, ap, subst, ◌∙◌, arith}
 use Rattle.std.proofs.lemmas.Bool.{eq-eqb, eqb-true, or_cases, false_from_ne_true, true≢false}
 use Rattle.std.proofs.lemmas.Bool.Decides.{nat_tests}
 use Rattle.std.proofs.lemmas.Nat.{and_le_l}
@@ -13,7 +14,8 @@ use Rattle.ev_tunnel.specs.declared.decision.Source.TheVariants.{Port, Tunnel}
 use Rattle.ev_tunnel.specs.declared.place.Place.{Place}
 use Rattle.ev_tunnel.specs.declared.place.Place.TheVariants.{Everywhere, AtPort, AtEdge}
 use Rattle.ether_wire.specs.Ports.{IsPort, has_port, no_ports, with_port, common_ports}
-use Rattle.ether_wire.proofs.PortLemmas.{has_port-common, has_port-with, has_port-without, has_port-less, has_port-none, is_port, Contains-filter, in_filter}
+use Rattle.ether_wire.proofs.PortLemmas.{has_port-common, has_port-with, has_port-without, has_port-less, has_port-none}
+use Rattle.ether_wire.proofs.PortLemmas.{is_port, Contains-filter, in_filter}
 use Rattle.ev_tunnel.specs.declared.decision.Ports.{Ports}
 use Rattle.ev_tunnel.specs.Place.{place_of, learnt_place, owned_place}
 use Rattle.ev_tunnel.specs.Decision.{IsPlace, is_from, open_ports, port_alone, local_of, others_of, remote_of}
@@ -32,11 +34,14 @@ not_true true h = absurd (true≢false (sym h))
 not_true false h = refl
 
 -- a port among the open ones is a member, and passes
-open_is : (from : Source) (ports : Ports) (q : ℕ) → has_port (open_ports from ports) q ≡ true → (has_port ports.members q ≡ true) × (has_port ports.passing q ≡ true)
+open_is : (from : Source) (ports : Ports) (q : ℕ) → has_port (open_ports from ports) q ≡ true
+    → (has_port ports.members q ≡ true) × (has_port ports.passing q ≡ true)
 open_is (Port p) ports q there =
     let left = has_port-less (common_ports ports.members ports.passing) p q there in
-    both (has_port ports.members q) (has_port ports.passing q) (sym (has_port-common ports.members ports.passing q) ∙ left)
-open_is Tunnel ports q there = both (has_port ports.members q) (has_port ports.passing q) (sym (has_port-common ports.members ports.passing q) ∙ there)
+    both (has_port ports.members q) (has_port ports.passing q) (sym (has_port-common ports.members ports.passing q)
+    ∙ left)
+open_is Tunnel ports q there = both (has_port ports.members q) (has_port ports.passing q)
+    (sym (has_port-common ports.members ports.passing q) ∙ there)
 
 -- the port alone
 record IsAlone (port : ℕ) (from : Source) (ports : Ports) (q : ℕ) : Type 0 where
@@ -44,10 +49,12 @@ record IsAlone (port : ℕ) (from : Source) (ports : Ports) (q : ℕ) : Type 0 w
   pub passes : has_port ports.passing port ≡ true
   pub other : is_from from port ≡ false
 
-alone_is : (port : ℕ) (from : Source) (ports : Ports) (q : ℕ) → ports.passing < 2 ^ 64 → has_port (port_alone port from ports) q ≡ true → IsAlone port from ports q
+alone_is : (port : ℕ) (from : Source) (ports : Ports) (q : ℕ) → ports.passing < 2 ^ 64
+    → has_port (port_alone port from ports) q ≡ true → IsAlone port from ports q
 alone_is port from ports q small there = go (has_port ports.passing port && not (is_from from port)) refl there
   where
-    go : (b : Bool) → (has_port ports.passing port && not (is_from from port)) ≡ b → has_port (cond b (with_port no_ports port) no_ports) q ≡ true → IsAlone port from ports q
+    go : (b : Bool) → (has_port ports.passing port && not (is_from from port)) ≡ b
+        → has_port (cond b (with_port no_ports port) no_ports) q ≡ true → IsAlone port from ports q
     go true is there =
         let parts = both (has_port ports.passing port) (not (is_from from port)) is in
         let a_port = is_port ports.passing port small parts.0 in
@@ -66,10 +73,12 @@ common_small : (members passing : ℕ) → members < 2 ^ 64 → common_ports mem
 unfolding common_ports
 common_small members passing small = omega (arith, small, and_le_l members passing)
 
-pub never_back : (place : Place) (p : ℕ) (ports : Ports) → ports.members < 2 ^ 64 → ports.passing < 2 ^ 64 → IsPort p → has_port (local_of place (Port p) ports) p ≡ false
+pub never_back : (place : Place) (p : ℕ) (ports : Ports) → ports.members < 2 ^ 64 → ports.passing < 2 ^ 64 → IsPort p
+    → has_port (local_of place (Port p) ports) p ≡ false
 never_back Everywhere p ports members passing h =
     let common : ℕ = common_ports ports.members ports.passing in
-    has_port-without common p (common_small ports.members ports.passing members) h p ∙ ap (λ b. not b && has_port common p) (eq-eqb p p refl)
+    has_port-without common p (common_small ports.members ports.passing members) h p
+    ∙ ap (λ b. not b && has_port common p) (eq-eqb p p refl)
 never_back (AtPort q) p ports members passing h = false_from_ne_true _ (λ is.
     let alone = alone_is q (Port p) ports p passing is in
     true≢false (sym (eq-eqb p q (sym alone.same)) ∙ alone.other))
@@ -81,20 +90,26 @@ IsMember Everywhere members = Unit {0}
 IsMember (AtPort p) members = has_port members p ≡ true
 IsMember (AtEdge o) members = Unit {0}
 
-pub member_is : (destination : ℕ) (entry owner : Option ℕ) (own members : ℕ) → ForSome entry (λ q. has_port members q ≡ true) → IsMember (place_of destination entry owner own) members
+pub member_is : (destination : ℕ) (entry owner : Option ℕ) (own members : ℕ)
+    → ForSome entry (λ q. has_port members q ≡ true) → IsMember (place_of destination entry owner own) members
 member_is destination entry owner own members h = go (is_group destination) entry owner h
   where
     owned : (owner : Option ℕ) → IsMember (owned_place owner own) members
     owned None = tt
-    owned (Some o) = elim (o == own) as (λ b. IsMember (cond b Everywhere (AtEdge o)) members) [ true ↦ tt | false ↦ tt ]
+    owned (Some o) = elim (o == own) as (λ b. IsMember (cond b Everywhere (AtEdge o)) members) [
+      | true ↦ tt
+      | false ↦ tt
+    ]
 
-    go : (b : Bool) (entry owner : Option ℕ) → ForSome entry (λ q. has_port members q ≡ true) → IsMember (cond b Everywhere (learnt_place entry owner own)) members
+    go : (b : Bool) (entry owner : Option ℕ) → ForSome entry (λ q. has_port members q ≡ true)
+        → IsMember (cond b Everywhere (learnt_place entry owner own)) members
     go true entry owner h = tt
     go false None owner h = owned owner
     go false (Some q) owner h = h q refl
 
 -- the ports that get a frame for a port where it was learnt, or for everywhere, are members that pass
-pub local_passes : (place : Place) (from : Source) (ports : Ports) → ports.passing < 2 ^ 64 → IsMember place ports.members → ArePassing ports.members ports.passing (local_of place from ports)
+pub local_passes : (place : Place) (from : Source) (ports : Ports) → ports.passing < 2 ^ 64
+    → IsMember place ports.members → ArePassing ports.members ports.passing (local_of place from ports)
 local_passes Everywhere from ports small member q port there = open_is from ports q there
 local_passes (AtPort p) from ports small member q port there =
     let alone = alone_is p from ports q small there in
@@ -102,14 +117,16 @@ local_passes (AtPort p) from ports small member q port there =
 local_passes (AtEdge o) from ports small member q port there = none_there q there
 
 -- a place is a port where the entry is
-pub place_is : (destination : ℕ) (entry owner : Option ℕ) (own : ℕ) → ForSome entry IsPort → IsPlace (place_of destination entry owner own)
+pub place_is : (destination : ℕ) (entry owner : Option ℕ) (own : ℕ) → ForSome entry IsPort
+    → IsPlace (place_of destination entry owner own)
 place_is destination entry owner own h = go (is_group destination) entry owner h
   where
     owned : (owner : Option ℕ) → IsPlace (owned_place owner own)
     owned None = tt
     owned (Some o) = elim (o == own) as (λ b. IsPlace (cond b Everywhere (AtEdge o))) [ true ↦ tt | false ↦ tt ]
 
-    go : (b : Bool) (entry owner : Option ℕ) → ForSome entry IsPort → IsPlace (cond b Everywhere (learnt_place entry owner own))
+    go : (b : Bool) (entry owner : Option ℕ) → ForSome entry IsPort
+        → IsPlace (cond b Everywhere (learnt_place entry owner own))
     go true entry owner h = tt
     go false None owner h = owned owner
     go false (Some q) owner h = h q refl
@@ -120,12 +137,16 @@ IsWhere entry owner Everywhere = Unit {0}
 IsWhere entry owner (AtPort p) = entry ≡ Some p
 IsWhere entry owner (AtEdge o) = owner ≡ Some o
 
-pub where_is : (destination : ℕ) (entry owner : Option ℕ) (own : ℕ) → IsWhere entry owner (place_of destination entry owner own)
+pub where_is : (destination : ℕ) (entry owner : Option ℕ) (own : ℕ)
+    → IsWhere entry owner (place_of destination entry owner own)
 where_is destination entry owner own = go (is_group destination) entry owner
   where
     owned : (entry owner : Option ℕ) → IsWhere entry owner (owned_place owner own)
     owned entry None = tt
-    owned entry (Some o) = elim (o == own) as (λ b. IsWhere entry (Some o) (cond b Everywhere (AtEdge o))) [ true ↦ tt | false ↦ refl ]
+    owned entry (Some o) = elim (o == own) as (λ b. IsWhere entry (Some o) (cond b Everywhere (AtEdge o))) [
+      | true ↦ tt
+      | false ↦ refl
+    ]
 
     go : (b : Bool) (entry owner : Option ℕ) → IsWhere entry owner (cond b Everywhere (learnt_place entry owner own))
     go true entry owner = tt
@@ -133,9 +154,11 @@ where_is destination entry owner own = go (is_group destination) entry owner
     go false (Some q) owner = refl
 
 -- the ports that get a frame for a known place: the port where it was learnt
-pub at_port : (entry owner : Option ℕ) (place : Place) (from : Source) (ports : Ports) (q : ℕ) → ports.passing < 2 ^ 64 → IsWhere entry owner place → place ≢ Everywhere → has_port (local_of place from ports) q ≡ true → entry ≡ Some q
+pub at_port : (entry owner : Option ℕ) (place : Place) (from : Source) (ports : Ports) (q : ℕ) → ports.passing < 2 ^ 64
+    → IsWhere entry owner place → place ≢ Everywhere → has_port (local_of place from ports) q ≡ true → entry ≡ Some q
 at_port entry owner Everywhere from ports q small is known there = absurd (known refl)
-at_port entry owner (AtPort p) from ports q small is known there = is ∙ ap Some (alone_is p from ports q small there).same
+at_port entry owner (AtPort p) from ports q small is known there = is
+    ∙ ap Some (alone_is p from ports q small there).same
 at_port entry owner (AtEdge o) from ports q small is known there = none_there q there
 
 one_of : (x o : ℕ) → Contains (x ∷ []) o → x ≡ o
@@ -146,18 +169,21 @@ none_of : {P : Type 0} (o : ℕ) → Contains [] o → P
 none_of o (k, below, at) = absurd (omega arith)
 
 -- the edges that get it: its owner
-pub at_edge : (entry owner : Option ℕ) (place : Place) (from : Source) (flood : List ℕ) (own o : ℕ) → IsWhere entry owner place → place ≢ Everywhere → Contains (remote_of place from flood own) o → owner ≡ Some o
+pub at_edge : (entry owner : Option ℕ) (place : Place) (from : Source) (flood : List ℕ) (own o : ℕ)
+    → IsWhere entry owner place → place ≢ Everywhere → Contains (remote_of place from flood own) o → owner ≡ Some o
 at_edge entry owner Everywhere from flood own o is known there = absurd (known refl)
 at_edge entry owner (AtPort q) (Port p) flood own o is known there = none_of o there
 at_edge entry owner (AtPort q) Tunnel flood own o is known there = none_of o there
 at_edge entry owner (AtEdge e) (Port p) flood own o is known there = is ∙ ap Some (one_of e o there)
 at_edge entry owner (AtEdge e) Tunnel flood own o is known there = none_of o there
 
-pub one_copy : (place : Place) (from : Source) (flood : List ℕ) (own : ℕ) (ports : Ports) → ports.passing < 2 ^ 64 → place ≢ Everywhere
+pub one_copy : (place : Place) (from : Source) (flood : List ℕ) (own : ℕ) (ports : Ports) → ports.passing < 2 ^ 64
+    → place ≢ Everywhere
     → IsOneCopy (local_of place from ports) (remote_of place from flood own)
 one_copy Everywhere from flood own ports small known = absurd (known refl)
 one_copy (AtPort q) from flood own ports small known = record {
-  one_port = λ a b ha hb in_a in_b. sym (alone_is q from ports a small in_a).same ∙ (alone_is q from ports b small in_b).same;
+  one_port = λ a b ha hb in_a in_b. sym (alone_is q from ports a small in_a).same
+      ∙ (alone_is q from ports b small in_b).same;
   one_edge = subst (λ (xs : List ℕ). length xs ≤ 1) (sym (nowhere from)) (omega arith);
   not_both = λ a ha in_a. nowhere from;
 }
@@ -175,7 +201,8 @@ one_copy (AtEdge o) from flood own ports small known = record {
     few (Port p) = omega arith
     few Tunnel = omega arith
 
-pub others_advertise : (t : Table) (vni own : ℕ) (flood : List ℕ) → IsFloodList t vni flood → AreOthers t vni own (others_of own flood)
+pub others_advertise : (t : Table) (vni own : ℕ) (flood : List ℕ) → IsFloodList t vni flood
+    → AreOthers t vni own (others_of own flood)
 others_advertise t vni own flood list =
     let other : ℕ → Bool = λ edge. not (edge == own) in
     record {

@@ -35,7 +35,8 @@ open_ports Tunnel ports = common_ports ports.members ports.passing
 
 -- the port alone, if it passes and the frame didn't come from it
 abbrev pub port_alone : ℕ → Source → Ports → ℕ
-port_alone port from ports = if has_port ports.passing port && not (is_from from port) then with_port no_ports port else no_ports
+port_alone port from ports = if has_port ports.passing port
+    && not (is_from from port) then with_port no_ports port else no_ports
 
 -- the access ports that get the frame
 abbrev pub local_of : Place → Source → Ports → ℕ
@@ -57,7 +58,8 @@ remote_of (AtEdge edge) (Port p) flood own = edge ∷ []
 -- the same for a frame of this network and destination, at this edge with this table
 abbrev pub local_for : Table → ℕ → ℕ → Option ℕ → ℕ → Source → ℕ → ℕ → ℕ
 local_for t vni destination entry own from members passing =
-    local_of (place_of destination entry (owner t vni destination) own) from (record { members = members; passing = passing })
+    local_of (place_of destination entry (owner t vni destination) own) from
+    (record { members = members; passing = passing })
 
 abbrev pub remote_for : Table → ℕ → ℕ → Option ℕ → ℕ → Source → List ℕ
 remote_for t vni destination entry own from =

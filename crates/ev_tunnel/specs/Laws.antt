@@ -14,7 +14,8 @@ pub record IsOneCopy (local : ℕ) (remote : List ℕ) : Type 0 where
 
 -- each port of the set is a member that passes
 abbrev pub ArePassing : ℕ → ℕ → ℕ → Type 0
-ArePassing members passing local = (p : ℕ) → IsPort p → has_port local p ≡ true → (has_port members p ≡ true) × (has_port passing p ≡ true)
+ArePassing members passing local = (p : ℕ) → IsPort p → has_port local p ≡ true
+    → (has_port members p ≡ true) × (has_port passing p ≡ true)
 
 -- the other edges that advertise the network's flood list, ascending, and no more
 pub record AreOthers (t : Table) (vni own : ℕ) (remote : List ℕ) : Type 0 where

@@ -1,5 +1,7 @@
 -- Where the words have no fault, the subcommand's required option has a value.
-use Rattle.std.proofs.Common.{◌≡◌, ℕ, zero, suc, ◌&&◌, ◌||◌, ◌==◌, Bool, cond, true, false, not, nat_lt, true≢false, List, [], ◌∷◌, ◌++◌, map, length, drop, codes, Option, Some, None, option_map, is_some, refl, sym, ap, subst, ◌∙◌}
+use Rattle.std.proofs.Common.{◌≡◌, ℕ, zero, suc, ◌&&◌, ◌||◌, ◌==◌, Bool, cond, true, false, not, nat_lt, true≢false}
+use Rattle.std.proofs.Common.{List, [], ◌∷◌, ◌++◌, map, length, drop, codes, Option, Some, None, option_map, is_some}
+use Rattle.std.proofs.Common.{refl, sym, ap, subst, ◌∙◌}
 use Rattle.std.specs.Prelude.{encode_utf8, slice_get, find, fold, unwrap_or, option_and_then}
 use Rattle.std.specs.List.{list_all}
 use Rattle.std.specs.Option.{option_map_or}
@@ -8,11 +10,23 @@ use Rattle.std.proofs.lemmas.List.{append-nil}
 use Rattle.std.proofs.lemmas.Slice.Eq.{bytes_eq-Decides}
 use Rattle.clap.specs.Facts.{explicit_source, unwrap_or_range}
 use Rattle.clap.specs.Lexer.{long_of, short_of}
-use Rattle.clap.specs.Walk.{Held, Names, Outcome, Row, Rule, Step, Text, Waiting, Walk, action_of, after_flag, after_step, answers_to, arg_by_id, arg_by_index, arg_by_long, arg_by_short, at_row, attached_value, bundle_met, bundle_step, default_rows, done, finished, first_of, flag_met, has_row, idle, is_pending, long_met, long_or_other, more_values, most_values, next, nothing_held, option, option_met, option_word, plain, plain_word, positional, reacted, reading_by, refused, rows_after, settled, settled_rows, short_met, short_or_plain, stop_after, subcommand, subcommand_met, subcommand_or_other, takes_several, takes_values, to_positional, trailing, used, used_as, used_by_id, value, waits, walk, walk_from, walked, walked_from, with_default, with_values, without, word_met}
-use Rattle.clap.specs.Simple.{App, Shape, new_app, argument_words, built, built_leaf, entered, help_shape, inherited, label_of, marked_built, names_of, rows_at, subcommand_of, with_leaf_noted}
+use Rattle.clap.specs.Walk.{Held, Names, Outcome, Row, Rule, Step, Text, Waiting, Walk, action_of, after_flag}
+use Rattle.clap.specs.Walk.{after_step, answers_to, arg_by_id, arg_by_index, arg_by_long, arg_by_short, at_row}
+use Rattle.clap.specs.Walk.{attached_value, bundle_met, bundle_step, default_rows, done, finished, first_of, flag_met}
+use Rattle.clap.specs.Walk.{has_row, idle, is_pending, long_met, long_or_other, more_values, most_values, next}
+use Rattle.clap.specs.Walk.{nothing_held, option, option_met, option_word, plain, plain_word, positional, reacted}
+use Rattle.clap.specs.Walk.{reading_by, refused, rows_after, settled, settled_rows, short_met, short_or_plain}
+use Rattle.clap.specs.Walk.{stop_after, subcommand, subcommand_met, subcommand_or_other, takes_several, takes_values}
+use Rattle.clap.specs.Walk.{to_positional, trailing, used, used_as, used_by_id, value, waits, walk, walk_from, walked}
+use Rattle.clap.specs.Walk.{walked_from, with_default, with_values, without, word_met}
+use Rattle.clap.specs.Simple.{App, Shape, new_app, argument_words, built, built_leaf, entered, help_shape, inherited}
+use Rattle.clap.specs.Simple.{label_of, marked_built, names_of, rows_at, subcommand_of, with_leaf_noted}
 use Rattle.clap.specs.Takes.{is_given}
 use Rattle.clap.specs.Kinds.{Kinds, check_kinds, or_else, range_kinds}
-use Rattle.clap.specs.Faults.{bundle_fault, bundle_step_fault, check_fault, entered_fault, fault_of, flag_word_fault, flags_fault, level_fault, long_fault, option_fault, other_fault, positional_fault, react_fault, settle_fault, short_fault, step_fault, stray_fault, turn_fault, use_fault, walk_fault, word_fault}
+use Rattle.clap.specs.Faults.{bundle_fault, bundle_step_fault, check_fault, entered_fault, fault_of, flag_word_fault}
+use Rattle.clap.specs.Faults.{flags_fault, level_fault, long_fault, option_fault, other_fault, positional_fault}
+use Rattle.clap.specs.Faults.{react_fault, settle_fault, short_fault, step_fault, stray_fault, turn_fault, use_fault}
+use Rattle.clap.specs.Faults.{walk_fault, word_fault}
 use Rattle.clap.specs.declared.builder.action.ArgAction.{ArgAction}
 use Rattle.clap.specs.declared.builder.action.ArgAction.TheVariants as action
 use Rattle.clap.specs.declared.error.kind.ErrorKind.TheVariants as kind
@@ -22,7 +36,8 @@ use Rattle.ev_words.specs.declared.words.Subcommand.{Subcommand}
 use Rattle.ev_words.specs.declared.words.Subcommand.TheVariants.{Report, Migrate, Check, Simulate, Play, Run, Version}
 use Rattle.ev_words.specs.declared.words.Given.{Given}
 use Rattle.ev_words.specs.declared.words.Given.TheVariants.{Originators, Config}
-use Rattle.ev_words.specs.Words.{Parts, subcommands, name_of, option_name, needs_of, takes_of, with_option, order_app, program, named, needed_in, given_in, order_in}
+use Rattle.ev_words.specs.Words.{Parts, subcommands, name_of, option_name, needs_of, takes_of, with_option, order_app}
+use Rattle.ev_words.specs.Words.{program, named, needed_in, given_in, order_in}
 
 -- ---- options
 
@@ -62,18 +77,28 @@ full_append (x ∷ xs) ys a b =
     let p = both (has_value x.values) (are_full xs) a in
     joined (has_value x.values) (are_full (xs ++ ys)) p.0 (full_append xs ys p.1 b)
 
-at_full : (id : Text) (change : Row → List Row) (missing rows : List Row) → ((r : Row) → has_value r.values ≡ true → AreFull (change r)) → AreFull missing → AreFull rows
+at_full : (id : Text) (change : Row → List Row) (missing rows : List Row)
+    → ((r : Row) → has_value r.values ≡ true → AreFull (change r)) → AreFull missing → AreFull rows
     → AreFull (at_row id change missing rows)
 at_full id change missing [] h m e = m
-at_full id change missing (r ∷ rs) h m e = go (bytes_eq r.id id) (both (has_value r.values) (are_full rs) e) (at_full id change missing rs h m (both (has_value r.values) (are_full rs) e).1)
+at_full id change missing (r ∷ rs) h m e = go (bytes_eq r.id id) (both (has_value r.values) (are_full rs) e)
+    (at_full id change missing rs h m (both (has_value r.values) (are_full rs) e).1)
   where
-    go : (b : Bool) → (has_value r.values ≡ true) × AreFull rs → AreFull (at_row id change missing rs) → AreFull (cond b (change r ++ rs) (r ∷ at_row id change missing rs))
+    go : (b : Bool) → (has_value r.values ≡ true) × AreFull rs → AreFull (at_row id change missing rs)
+        → AreFull (cond b (change r ++ rs) (r ∷ at_row id change missing rs))
     go true p rest = full_append (change r) rs (h r p.0) p.1
     go false p rest = joined (has_value r.values) (are_full (at_row id change missing rs)) p.0 rest
 
-with_full : (id : Text) (how : _) (source : _) (values : List Text) (rows : List Row) → has_value values ≡ true → AreFull rows → AreFull (with_values id how source values rows)
+with_full : (id : Text) (how : _) (source : _) (values : List Text) (rows : List Row) → has_value values ≡ true
+    → AreFull rows → AreFull (with_values id how source values rows)
 with_full id how source values rows v e =
-    at_full id (more_values source values) (record { id = id; values = values; count = None; source = Some source; reading = how } ∷ []) rows
+    at_full id (more_values source values) (record {
+      id = id;
+      values = values;
+      count = None;
+      source = Some source;
+      reading = how;
+    } ∷ []) rows
     (λ r has. joined (has_value (r.values ++ values)) true (value_more r.values values has) refl)
     (joined (has_value values) true v refl) e
 
@@ -102,12 +127,15 @@ wants : (least most : ℕ) → nat_lt 0 least ≡ true → range_kinds least mos
 wants least most lt e = go (nat_lt 0 least) lt e
   where
     go : (b : Bool) → b ≡ true
-        → cond (b && true) (kind.InvalidValue ∷ []) (cond (least == most) (cond (least == 0) [] (kind.WrongNumberOfValues ∷ [])) (cond (nat_lt 0 least) (kind.TooFewValues ∷ []) (cond (nat_lt most 0) (kind.TooManyValues ∷ []) [])))
+        → cond (b && true) (kind.InvalidValue ∷ []) (cond (least == most)
+        (cond (least == 0) [] (kind.WrongNumberOfValues ∷ []))
+        (cond (nat_lt 0 least) (kind.TooFewValues ∷ []) (cond (nat_lt most 0) (kind.TooManyValues ∷ []) [])))
         ≡ [] → ⊥
     go true t e = cc
     go false t e = true≢false (sym t)
 
-used_full : (again : Bool) (a : Rule) (values : List Text) (rows : List Row) → is_sure a ≡ true → use_fault again a values rows ≡ [] → AreFull rows → AreFull (used a values rows)
+used_full : (again : Bool) (a : Rule) (values : List Text) (rows : List Row) → is_sure a ≡ true
+    → use_fault again a values rows ≡ [] → AreFull rows → AreFull (used a values rows)
 used_full again a [] rows s f e = go (action_of a) s
   where
     go : (x : ArgAction) → is_sure_as x a ≡ true → AreFull (used_as x a.id (reading_by a) a.missing rows)
@@ -123,7 +151,8 @@ used_full again a [] rows s f e = go (action_of a) s
 used_full again a (v ∷ vs) rows s f e = go (action_of a) s
   where
     go : (x : ArgAction) → is_sure_as x a ≡ true → AreFull (used_as x a.id (reading_by a) (v ∷ vs) rows)
-    go action.Set s = with_full a.id (reading_by a) CommandLine (v ∷ vs) (without a.id rows) refl (without_full a.id rows e)
+    go action.Set s = with_full a.id (reading_by a) CommandLine (v ∷ vs) (without a.id rows) refl
+        (without_full a.id rows e)
     go action.Append s = absurd (true≢false (sym s))
     go action.SetTrue s = absurd (true≢false (sym s))
     go action.SetFalse s = absurd (true≢false (sym s))
@@ -133,7 +162,8 @@ used_full again a (v ∷ vs) rows s f e = go (action_of a) s
     go action.HelpLong s = e
     go action.Version s = e
 
-sure_found : (p : Rule → Bool) (c : List Rule) (a : Rule) → list_all is_sure c ≡ true → find p c ≡ Some a → is_sure a ≡ true
+sure_found : (p : Rule → Bool) (c : List Rule) (a : Rule) → list_all is_sure c ≡ true → find p c ≡ Some a
+    → is_sure a ≡ true
 sure_found p [] a s e = cc
 sure_found p (x ∷ xs) a s e = go (p x) e (λ f. sure_found p xs a (both (is_sure x) (list_all is_sure xs) s).1 f)
   where
@@ -146,44 +176,53 @@ sure_found p (x ∷ xs) a s e = go (p x) e (λ f. sure_found p xs a (both (is_su
 -- ---- a walk over the words
 
 module _ (s : Shape) (sure : list_all is_sure s.rules ≡ true) where
-  settled_full : (h : Held) → settle_fault s.rules s.args_override_self h ≡ [] → AreFull h.rows → AreFull (settled s.rules h).rows
+  settled_full : (h : Held) → settle_fault s.rules s.args_override_self h ≡ [] → AreFull h.rows
+      → AreFull (settled s.rules h).rows
   settled_full h f e = go h.pending f
     where
       at : (o : Option Rule) (values : List Text) → ((a : Rule) → o ≡ Some a → is_sure a ≡ true)
-          → option_map_or (λ a. use_fault s.args_override_self a values h.rows) o [] ≡ [] → AreFull (used_by_id o values h.rows)
+          → option_map_or (λ a. use_fault s.args_override_self a values h.rows) o [] ≡ []
+          → AreFull (used_by_id o values h.rows)
       at None values known f = e
       at (Some a) values known f = used_full s.args_override_self a values h.rows (known a refl) f e
 
-      go : (p : Option (Text × List Text)) → option_map_or (λ p. option_map_or (λ a. use_fault s.args_override_self a p.1 h.rows) (arg_by_id s.rules p.0) []) p [] ≡ []
+      go : (p : Option (Text × List Text)) → option_map_or
+          (λ p. option_map_or (λ a. use_fault s.args_override_self a p.1 h.rows) (arg_by_id s.rules p.0) []) p [] ≡ []
           → AreFull (settled_rows s.rules p h.rows)
       go None f = e
       go (Some p) f = at (arg_by_id s.rules p.0) p.1 (λ a is. sure_found _ s.rules a sure is) f
 
-  reacted_full : (a : Rule) (values : List Text) (h : Held) → is_sure a ≡ true → react_fault s.rules s.args_override_self a values h ≡ [] → AreFull h.rows
+  reacted_full : (a : Rule) (values : List Text) (h : Held) → is_sure a ≡ true
+      → react_fault s.rules s.args_override_self a values h ≡ [] → AreFull h.rows
       → AreFull (reacted s.rules a values h).rows
   reacted_full a values h sa f e =
       let p = or_nil _ _ f in
       used_full s.args_override_self a values (settled s.rules h).rows sa p.1 (settled_full h p.0 e)
 
-  option_full : (a : Rule) (v : Option Text) (h : Held) → is_sure a ≡ true → option_fault s.rules s.args_override_self a v h ≡ [] → AreFull h.rows
+  option_full : (a : Rule) (v : Option Text) (h : Held) → is_sure a ≡ true
+      → option_fault s.rules s.args_override_self a v h ≡ [] → AreFull h.rows
       → AreFull (option_met s.rules a v h).0.rows
   option_full a (Some v) h sa f e = reacted_full a (v ∷ []) h sa f e
   option_full a None h sa f e = settled_full h f e
 
-  long_full : (o : Option Rule) (v : Option Text) (h : Held) → ((a : Rule) → o ≡ Some a → is_sure a ≡ true) → long_fault s.rules s.args_override_self o v h ≡ []
+  long_full : (o : Option Rule) (v : Option Text) (h : Held) → ((a : Rule) → o ≡ Some a → is_sure a ≡ true)
+      → long_fault s.rules s.args_override_self o v h ≡ []
       → AreFull h.rows → AreFull (long_met s.rules o v h).0.rows
   long_full None v h known f e = e
   long_full (Some a) v h known f e = go (takes_values a) v f
     where
       go : (b : Bool) (v : Option Text)
-          → cond b (option_fault s.rules s.args_override_self a v h) (cond (is_some v) (kind.TooManyValues ∷ []) (react_fault s.rules s.args_override_self a [] h)) ≡ []
+          → cond b (option_fault s.rules s.args_override_self a v h)
+          (cond (is_some v) (kind.TooManyValues ∷ []) (react_fault s.rules s.args_override_self a [] h)) ≡ []
           → AreFull (cond b (option_met s.rules a v h) (flag_met s.rules a v h)).0.rows
       go true v f = option_full a v h (known a refl) f e
       go false (Some v) f = e
       go false None f = reacted_full a [] h (known a refl) f e
 
-  short_full : (o : Option Rule) (rest : Text) (h : Held) (fault : Held → Kinds) (later : Held → Held × Outcome) → ((a : Rule) → o ≡ Some a → is_sure a ≡ true)
-      → ((g : Held) → fault g ≡ [] → AreFull g.rows → AreFull (later g).0.rows) → short_fault s.rules s.args_override_self o rest h fault ≡ [] → AreFull h.rows
+  short_full : (o : Option Rule) (rest : Text) (h : Held) (fault : Held → Kinds) (later : Held → Held × Outcome)
+      → ((a : Rule) → o ≡ Some a → is_sure a ≡ true)
+      → ((g : Held) → fault g ≡ [] → AreFull g.rows → AreFull (later g).0.rows)
+      → short_fault s.rules s.args_override_self o rest h fault ≡ [] → AreFull h.rows
       → AreFull (short_met s.rules o rest h later).0.rows
   short_full None rest h fault later known more f e = e
   short_full (Some a) rest h fault later known more f e = go (takes_values a) f
@@ -196,21 +235,28 @@ module _ (s : Shape) (sure : list_all is_sure s.rules ≡ true) where
           let p = or_nil _ _ f in
           more (reacted s.rules a [] h) p.1 (reacted_full a [] h (known a refl) p.0 e)
 
-  bundle_full : (o : Option ℕ) (flags : Text) (skip : ℕ) (so_far : Outcome) (h : Held) (fault : Text → ℕ → Held → Kinds) (later : Text → ℕ → Outcome → Held → Held × Outcome)
-      → ((rest : Text) (n : ℕ) (x : Outcome) (g : Held) → fault rest n g ≡ [] → AreFull g.rows → AreFull (later rest n x g).0.rows)
-      → bundle_step_fault s.rules s.args_override_self o flags skip h fault ≡ [] → AreFull h.rows → AreFull (bundle_step s.rules o flags skip so_far h later).0.rows
+  bundle_full : (o : Option ℕ) (flags : Text) (skip : ℕ) (so_far : Outcome) (h : Held) (fault : Text → ℕ → Held
+      → Kinds) (later : Text → ℕ → Outcome → Held → Held × Outcome)
+      → ((rest : Text) (n : ℕ) (x : Outcome) (g : Held) → fault rest n g ≡ [] → AreFull g.rows
+      → AreFull (later rest n x g).0.rows)
+      → bundle_step_fault s.rules s.args_override_self o flags skip h fault ≡ [] → AreFull h.rows
+      → AreFull (bundle_step s.rules o flags skip so_far h later).0.rows
   bundle_full None flags skip so_far h fault later more f e = e
   bundle_full (Some x) flags zero so_far h fault later more f e =
       let rest = drop (length (encode_utf8 x)) flags in
-      short_full (arg_by_short s.rules x) rest h (fault rest 0) (later rest 0 done) (λ a is. sure_found _ s.rules a sure is) (λ g. more rest 0 done g) f e
-  bundle_full (Some x) flags (suc skip) so_far h fault later more f e = more (drop (length (encode_utf8 x)) flags) skip so_far h f e
+      short_full (arg_by_short s.rules x) rest h (fault rest 0) (later rest 0 done)
+      (λ a is. sure_found _ s.rules a sure is) (λ g. more rest 0 done g) f e
+  bundle_full (Some x) flags (suc skip) so_far h fault later more f e =
+      more (drop (length (encode_utf8 x)) flags) skip so_far h f e
 
-  flags_full : (k : ℕ) (flags : Text) (skip : ℕ) (so_far : Outcome) (h : Held) → flags_fault s.rules s.args_override_self k flags skip h ≡ [] → AreFull h.rows
+  flags_full : (k : ℕ) (flags : Text) (skip : ℕ) (so_far : Outcome) (h : Held)
+      → flags_fault s.rules s.args_override_self k flags skip h ≡ [] → AreFull h.rows
       → AreFull (bundle_met s.rules k flags skip so_far h).0.rows
   unfolding flags_fault bundle_met
   flags_full zero flags skip so_far h f e = e
   flags_full (suc k) flags skip so_far h f e =
-      bundle_full (slice_get (chars flags) 0) flags skip so_far h (flags_fault s.rules s.args_override_self k) (bundle_met s.rules k) (λ rest n x g. flags_full k rest n x g) f e
+      bundle_full (slice_get (chars flags) 0) flags skip so_far h (flags_fault s.rules s.args_override_self k)
+      (bundle_met s.rules k) (λ rest n x g. flags_full k rest n x g) f e
 
   -- ---- one word
 
@@ -224,7 +270,8 @@ module _ (s : Shape) (sure : list_all is_sure s.rules ≡ true) where
   abbrev IsFine : Held × Step → Type 0
   IsFine p = AreFull p.0.rows × (passes p.1 ≡ true)
 
-  plain_fine : (waiting : Waiting) (word : Text) (h : Held) → AreFull h.rows → IsFine (plain_word s.rules waiting word h)
+  plain_fine : (waiting : Waiting) (word : Text) (h : Held) → AreFull h.rows
+      → IsFine (plain_word s.rules waiting word h)
   plain_fine idle word h e = (e, refl)
   plain_fine positional word h e = (e, refl)
   plain_fine (option id) word h e = (go (arg_by_id s.rules id), refl)
@@ -233,29 +280,37 @@ module _ (s : Shape) (sure : list_all is_sure s.rules ≡ true) where
       go None = e
       go (Some a) = e
 
-  after_fine : (waiting : Waiting) (word : Text) (h : Held) (x : Outcome) → AreFull h.rows → IsFine (after_flag s.rules waiting word h x)
+  after_fine : (waiting : Waiting) (word : Text) (h : Held) (x : Outcome) → AreFull h.rows
+      → IsFine (after_flag s.rules waiting word h x)
   after_fine waiting word h done e = (e, refl)
   after_fine waiting word h (waits id) e = (e, refl)
   after_fine waiting word h plain e = plain_fine waiting word h e
   after_fine waiting word h refused e = plain_fine waiting word h e
 
-  short_fine : (o : Option Text) (waiting : Waiting) (word : Text) (h : Held) → option_map_or (λ flags. bundle_fault s.rules s.args_override_self flags h) o [] ≡ []
+  short_fine : (o : Option Text) (waiting : Waiting) (word : Text) (h : Held)
+      → option_map_or (λ flags. bundle_fault s.rules s.args_override_self flags h) o [] ≡ []
       → AreFull h.rows → IsFine (short_or_plain s.rules waiting word o h)
   short_fine None waiting word h f e = plain_fine waiting word h e
   short_fine (Some flags) waiting word h f e =
       let met = bundle_met s.rules (length flags) flags h.skip plain (record h { skip = 0 }) in
       after_fine waiting word met.0 met.1 (flags_full (length flags) flags h.skip plain (record h { skip = 0 }) f e)
 
-  flag_fine : (o : Option (Text × Option Text)) (waiting : Waiting) (word : Text) (h : Held) → flag_word_fault s.rules s.args_override_self o word h ≡ []
+  flag_fine : (o : Option (Text × Option Text)) (waiting : Waiting) (word : Text) (h : Held)
+      → flag_word_fault s.rules s.args_override_self o word h ≡ []
       → AreFull h.rows → IsFine (long_or_other s.rules waiting word o h)
   flag_fine None waiting word h f e = short_fine (short_of word) waiting word h f e
   flag_fine (Some p) waiting word h f e =
       let met = long_met s.rules (arg_by_long s.rules p.0) p.1 h in
-      after_fine waiting word met.0 met.1 (long_full (arg_by_long s.rules p.0) p.1 h (λ a is. sure_found _ s.rules a sure is) f e)
+      after_fine waiting word met.0 met.1 (long_full (arg_by_long s.rules p.0) p.1 h
+      (λ a is. sure_found _ s.rules a sure is) f e)
 
-  other_fine : (o : Option Text) (waiting : Waiting) (position : ℕ) (word : Text) (h : Held) → other_fault s o word h ≡ [] → AreFull h.rows
+  other_fine : (o : Option Text) (waiting : Waiting) (position : ℕ) (word : Text) (h : Held)
+      → other_fault s o word h ≡ [] → AreFull h.rows
       → IsFine (subcommand_or_other s.rules o waiting position word h)
-  other_fine (Some name) waiting position word h f e = (e, go (bytes_eq name (codes "help") && not s.disable_help_subcommand) f)
+  other_fine (Some name) waiting position word h f e = (
+    e,
+    go (bytes_eq name (codes "help") && not s.disable_help_subcommand) f,
+  )
     where
       go : (b : Bool) → cond b (kind.DisplayHelp ∷ kind.InvalidSubcommand ∷ []) [] ≡ [] → not b ≡ true
       go true f = cc
@@ -267,10 +322,12 @@ module _ (s : Shape) (sure : list_all is_sure s.rules ≡ true) where
       go true f = (e, refl)
       go false f = flag_fine (long_of word) waiting word h f e
 
-  word_fine : (names : Names) (is_trailing : Bool) (waiting : Waiting) (position : ℕ) (word : Text) (h : Held) → word_fault s names is_trailing waiting word h ≡ []
+  word_fine : (names : Names) (is_trailing : Bool) (waiting : Waiting) (position : ℕ) (word : Text) (h : Held)
+      → word_fault s names is_trailing waiting word h ≡ []
       → AreFull h.rows → IsFine (word_met s.rules names is_trailing waiting position word h)
   word_fine names true waiting position word h f e = (e, refl)
-  word_fine names false waiting position word h f e = other_fine (subcommand_met names waiting word) waiting position word h f e
+  word_fine names false waiting position word h f e = other_fine (subcommand_met names waiting word) waiting position
+      word h f e
 
   -- ---- all words
 
@@ -282,37 +339,44 @@ module _ (s : Shape) (sure : list_all is_sure s.rules ≡ true) where
   IsFineWalk w = AreFull w.held.rows × (stops w.stopped ≡ true)
 
   positional_fine : (o : Option Rule) (word : Text) (w : Walk) (h : Held)
-      → option_map_or (λ a. positional_fault s.rules s.args_override_self a h) o (stray_fault s) ≡ [] → AreFull h.rows → stops w.stopped ≡ true
+      → option_map_or (λ a. positional_fault s.rules s.args_override_self a h) o (stray_fault s) ≡ [] → AreFull h.rows
+      → stops w.stopped ≡ true
       → IsFineWalk (to_positional s.rules o word w h)
   positional_fine None word w h f e t = (e, t)
   positional_fine (Some a) word w h f e t = (go (is_pending a h.pending && takes_several a) f, refl)
     where
-      go : (b : Bool) → cond b [] (settle_fault s.rules s.args_override_self h) ≡ [] → AreFull (cond b h (settled s.rules h)).rows
+      go : (b : Bool) → cond b [] (settle_fault s.rules s.args_override_self h) ≡ []
+          → AreFull (cond b h (settled s.rules h)).rows
       go true f = e
       go false f = settled_full h f e
 
-  step_fine : (word : Text) (w : Walk) (h : Held) (x : Step) → step_fault s w.position h x ≡ [] → IsFine (h, x) → stops w.stopped ≡ true
+  step_fine : (word : Text) (w : Walk) (h : Held) (x : Step) → step_fault s w.position h x ≡ [] → IsFine (h, x)
+      → stops w.stopped ≡ true
       → IsFineWalk (after_step s.rules word w h x)
   step_fine word w h (next waiting) f e t = (e.0, t)
   step_fine word w h (trailing position) f e t = (e.0, t)
   step_fine word w h (subcommand name) f e t = e
   step_fine word w h value f e t = positional_fine (arg_by_index s.rules w.position) word w h f e.0 t
 
-  turn_fine : (names : Names) (w : Walk) (word : Text) → turn_fault s names w word ≡ [] → IsFineWalk w → IsFineWalk (walked s.rules names w word)
+  turn_fine : (names : Names) (w : Walk) (word : Text) → turn_fault s names w word ≡ [] → IsFineWalk w
+      → IsFineWalk (walked s.rules names w word)
   unfolding walked
   turn_fine names w word f fine = go w.stopped f fine.1
     where
       go : (o : Option (Text × List Text))
           → cond (is_some o) [] (or_else (word_fault s names w.is_trailing w.waiting word w.held)
-          (step_fault s w.position (word_met s.rules names w.is_trailing w.waiting w.position word w.held).0 (word_met s.rules names w.is_trailing w.waiting w.position word w.held).1))
+          (step_fault s w.position (word_met s.rules names w.is_trailing w.waiting w.position word w.held).0
+          (word_met s.rules names w.is_trailing w.waiting w.position word w.held).1))
           ≡ [] → stops o ≡ true → IsFineWalk (walked_from s.rules names o w word)
       go (Some p) f t = (fine.0, t)
       go None f t =
           let p = or_nil _ _ f in
           let met = word_met s.rules names w.is_trailing w.waiting w.position word w.held in
-          step_fine word w met.0 met.1 p.1 (word_fine names w.is_trailing w.waiting w.position word w.held p.0 fine.0) fine.1
+          step_fine word w met.0 met.1 p.1 (word_fine names w.is_trailing w.waiting w.position word w.held p.0 fine.0)
+          fine.1
 
-  walk_fine : (names : Names) (words : List Text) (w : Walk) → walk_fault s names w words ≡ [] → IsFineWalk w → IsFineWalk (fold (walked s.rules names) w words)
+  walk_fine : (names : Names) (words : List Text) (w : Walk) → walk_fault s names w words ≡ [] → IsFineWalk w
+      → IsFineWalk (fold (walked s.rules names) w words)
   unfolding walk_fault
   walk_fine names [] w f fine = fine
   walk_fine names (x ∷ xs) w f fine =
@@ -334,15 +398,18 @@ defaults_full (a ∷ c) rows e = defaults_full c (with_default rows a) (default_
 -- an argument that was given has a first value
 given_first : (id : Text) (rows : List Row) → is_given id rows ≡ true → AreFull rows → is_some (first_of id rows) ≡ true
 given_first id [] g e = absurd (true≢false (sym g))
-given_first id (r ∷ rs) g e = go (bytes_eq r.id id) g (both (has_value r.values) (are_full rs) e).0 (λ h. given_first id rs h (both (has_value r.values) (are_full rs) e).1)
+given_first id (r ∷ rs) g e = go (bytes_eq r.id id) g (both (has_value r.values) (are_full rs) e).0
+    (λ h. given_first id rs h (both (has_value r.values) (are_full rs) e).1)
   where
     first : (vs : List Text) → has_value vs ≡ true → is_some (slice_get vs 0) ≡ true
     first [] h = absurd (true≢false (sym h))
     first (v ∷ vs) h = refl
 
-    go : (b : Bool) → option_map_or (λ (x : Row). explicit_source x.source) (cond b (Some r) (find (λ x. bytes_eq x.id id) rs)) false ≡ true → has_value r.values ≡ true
+    go : (b : Bool) → option_map_or (λ (x : Row). explicit_source x.source)
+        (cond b (Some r) (find (λ x. bytes_eq x.id id) rs)) false ≡ true → has_value r.values ≡ true
         → (is_given id rs ≡ true → is_some (first_of id rs) ≡ true)
-        → is_some (option_and_then (λ (x : Row). slice_get x.values 0) (cond b (Some r) (find (λ x. bytes_eq x.id id) rs))) ≡ true
+        → is_some (option_and_then (λ (x : Row). slice_get x.values 0)
+        (cond b (Some r) (find (λ x. bytes_eq x.id id) rs))) ≡ true
     go true g has rest = first r.values has
     go false g has rest = rest g
 
@@ -351,10 +418,12 @@ given_first id (r ∷ rs) g e = go (bytes_eq r.id id) g (both (has_value r.value
 -- each step of a level without a fault
 abbrev Passes : Shape → Names → List Text → Bool → Kinds → Type 0
 Passes s names words has below =
-    (walk_fault s names (walk_from nothing_held) words ≡ []) × (below ≡ []) × (settle_fault s.rules s.args_override_self (walk s.rules names nothing_held words).held ≡ [])
+    (walk_fault s names (walk_from nothing_held) words ≡ []) × (below ≡ [])
+    × (settle_fault s.rules s.args_override_self (walk s.rules names nothing_held words).held ≡ [])
     × (check_fault s (finished s.rules (walk s.rules names nothing_held words).held) has ≡ [])
 
-level_passes : (s : Shape) (names : Names) (words : List Text) (has : Bool) (below : Kinds) → level_fault s names nothing_held words has below ≡ [] → Passes s names words has below
+level_passes : (s : Shape) (names : Names) (words : List Text) (has : Bool) (below : Kinds)
+    → level_fault s names nothing_held words has below ≡ [] → Passes s names words has below
 level_passes s names words has below f =
     let a = or_nil _ _ f in
     let b = or_nil _ _ a.1 in
@@ -452,17 +521,24 @@ order_is_there x rows has = rw (names_it x) (go (needed_in (needs_of x) rows) ha
 abbrev answers : Text → Shape → Bool
 answers name s = answers_to name (label_of s)
 
-entered_order : (xs : List Subcommand) (name : Text) (words : List Text) → is_some (option_map (λ s. rows_at s words) (find (answers name) (map leaf xs ++ help_leaf ∷ []))) ≡ true
-    → option_map_or (λ s. level_fault s [] nothing_held words false []) (find (answers name) (map leaf xs ++ help_leaf ∷ [])) [] ≡ []
-    → not (bytes_eq name (codes "help") && true) ≡ true → is_some (order_in (option_map (λ s. rows_at s words) (find (answers name) (map leaf xs ++ help_leaf ∷ [])))) ≡ true
+entered_order : (xs : List Subcommand) (name : Text) (words : List Text)
+    → is_some (option_map (λ s. rows_at s words) (find (answers name) (map leaf xs ++ help_leaf ∷ []))) ≡ true
+    → option_map_or (λ s. level_fault s [] nothing_held words false [])
+    (find (answers name) (map leaf xs ++ help_leaf ∷ [])) [] ≡ []
+    → not (bytes_eq name (codes "help") && true) ≡ true
+    → is_some (order_in (option_map (λ s. rows_at s words) (find (answers name) (map leaf xs ++ help_leaf ∷ []))))
+    ≡ true
 entered_order [] name words has f no_help = go (bytes_eq (codes "help") name) refl has
   where
-    go : (b : Bool) → bytes_eq (codes "help") name ≡ b → is_some (option_map (λ s. rows_at s words) (cond (b || false) (Some help_leaf) None)) ≡ true
+    go : (b : Bool) → bytes_eq (codes "help") name ≡ b → is_some
+        (option_map (λ s. rows_at s words) (cond (b || false) (Some help_leaf) None)) ≡ true
         → is_some (order_in (option_map (λ s. rows_at s words) (cond (b || false) (Some help_leaf) None))) ≡ true
     go false e has = absurd (true≢false (sym has))
     go true e has =
         let is : codes "help" ≡ name = (bytes_eq-Decides (codes "help") name).0 e in
-        let back : bytes_eq name (codes "help") ≡ true = subst (λ (t : Text). bytes_eq t t ≡ true → bytes_eq t (codes "help") ≡ true) is (λ h. h) (subst (λ (t : Text). bytes_eq t t ≡ true) is refl) in
+        let back : bytes_eq name (codes "help") ≡ true =
+        subst (λ (t : Text). bytes_eq t t ≡ true → bytes_eq t (codes "help") ≡ true) is (λ h. h)
+        (subst (λ (t : Text). bytes_eq t t ≡ true) is refl) in
         absurd (true≢false (sym (rw back at no_help)))
 entered_order (x ∷ xs) name words has f no_help = go (bytes_eq (name_of x) name) has f (entered_order xs name words)
   where
@@ -470,15 +546,19 @@ entered_order (x ∷ xs) name words has f no_help = go (bytes_eq (name_of x) nam
     rest = find (answers name) (map leaf xs ++ help_leaf ∷ [])
 
     go : (b : Bool) → is_some (option_map (λ s. rows_at s words) (cond (b || false) (Some (leaf x)) rest)) ≡ true
-        → option_map_or (λ s. level_fault s [] nothing_held words false []) (cond (b || false) (Some (leaf x)) rest) [] ≡ []
-        → (is_some (option_map (λ s. rows_at s words) rest) ≡ true → option_map_or (λ s. level_fault s [] nothing_held words false []) rest [] ≡ []
-        → not (bytes_eq name (codes "help") && true) ≡ true → is_some (order_in (option_map (λ s. rows_at s words) rest)) ≡ true)
+        → option_map_or (λ s. level_fault s [] nothing_held words false []) (cond (b || false) (Some (leaf x)) rest) []
+        ≡ []
+        → (is_some (option_map (λ s. rows_at s words) rest) ≡ true
+        → option_map_or (λ s. level_fault s [] nothing_held words false []) rest [] ≡ []
+        → not (bytes_eq name (codes "help") && true) ≡ true
+        → is_some (order_in (option_map (λ s. rows_at s words) rest)) ≡ true)
         → is_some (order_in (option_map (λ s. rows_at s words) (cond (b || false) (Some (leaf x)) rest))) ≡ true
     go true has f more = order_is_there x (rows_after (leaf x).rules [] words) (option_given x words f)
     go false has f more = more has f no_help
 
 -- Where the words have no fault, they are an order.
-pub order_given : (words : List Text) → fault_of program words ≡ [] → is_some (order_in (subcommand_of program words)) ≡ true
+pub order_given : (words : List Text) → fault_of program words ≡ []
+    → is_some (order_in (subcommand_of program words)) ≡ true
 order_given words f =
     let a = built program in
     let ws = argument_words program words in
@@ -491,12 +571,14 @@ order_given words f =
     enters true f = refl
     enters false f = cc
 
-    go : (stop : Option (Text × List Text)) → is_some (entered (built program) stop) ≡ true → entered_fault (built program) stop ≡ [] → stops (built program).top refl stop ≡ true
+    go : (stop : Option (Text × List Text)) → is_some (entered (built program) stop) ≡ true
+        → entered_fault (built program) stop ≡ [] → stops (built program).top refl stop ≡ true
         → is_some (order_in (entered (built program) stop)) ≡ true
     go None has f t = absurd (true≢false (sym has))
     go (Some q) has f t = entered_order subcommands q.0 q.1 has f t
 
-pub not_none : (words : List Text) (found : Option (Text × List Row)) → fault_of program words ≡ [] → found ≡ subcommand_of program words → None ≡ order_in found → ⊥
+pub not_none : (words : List Text) (found : Option (Text × List Row)) → fault_of program words ≡ []
+    → found ≡ subcommand_of program words → None ≡ order_in found → ⊥
 not_none words found f same none =
     let some = order_given words f in
     let is : None ≡ order_in (subcommand_of program words) = none ∙ ap order_in same in

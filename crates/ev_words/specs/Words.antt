@@ -1,8 +1,10 @@
 -- The program's words, as `clap` reads them.
-use Rattle.std.specs.Prelude.{◌≡◌, ◌≢◌, ℕ, ◌+◌, ◌⊎◌, Bool, true, false, List, [], ◌∷◌, ◌++◌, codes, find, Option, Some, None, option_map, Result, Ok, Err, OnOk, IfErr}
+use Rattle.std.specs.Prelude.{◌≡◌, ◌≢◌, ℕ, ◌+◌, ◌⊎◌, Bool, true, false, List, [], ◌∷◌, ◌++◌, codes, find, Option, Some}
+use Rattle.std.specs.Prelude.{None, option_map, Result, Ok, Err, OnOk, IfErr}
 use Rattle.std.specs.Str.{bytes_eq}
 use Rattle.ether_wire.specs.Spelling.{◌>>=◌}
-use Rattle.clap.specs.Words.{App, Row, Rule, Text, first_of, new_app, new_rule, subcommand_of, subcommand_rows_of, with_subcommand, fault_of, IsAmong, kind_of}
+use Rattle.clap.specs.Words.{App, Row, Rule, Text, first_of, new_app, new_rule, subcommand_of, subcommand_rows_of}
+use Rattle.clap.specs.Words.{with_subcommand, fault_of, IsAmong, kind_of}
 use Rattle.clap.specs.declared.builder.ArgAction.TheVariants.{Set}
 use Rattle.clap.specs.declared.error.Error.{Error}
 use Rattle.clap.specs.declared.error.kind.ErrorKind.TheVariants.{OutOfMemory}
@@ -120,12 +122,14 @@ Spells words order = (fault_of program words ≡ []) × (order_in (subcommand_of
 
 -- ---- reading
 
--- what `clap` makes of the words: their matches where they have no fault; else it was refused memory, or it tells their fault
+-- what `clap` makes of the words: their matches where they have no fault; else it was refused memory, or it tells their
+-- fault
 abbrev pub IsAnswer : List Text → Result ArgMatches Error → Type 0
 IsAnswer words (Ok m) = (fault_of program words ≡ []) × (subcommand_rows_of m ≡ subcommand_of program words)
 IsAnswer words (Err e) = (kind_of e ≡ OutOfMemory) ⊎ IsAmong (kind_of e) (fault_of program words)
 
--- A parser's answer, and how often it was refused memory before and after: once more exactly where the error's kind says so.
+-- A parser's answer, and how often it was refused memory before and after: once more exactly where the error's kind
+-- says so.
 pub record Parses (words : List Text) (before after : ℕ) (answer : Result ArgMatches Error) : Type 0 where
   pub is_answer : IsAnswer words answer
   pub kept : OnOk answer (after ≡ before)

@@ -22,12 +22,15 @@ holds_put a b (Ok x) text h = record { written = λ _. h; failures = inl (ap (λ
 holds_put a b (Err d) text h = record { written = λ same. absurd (omega arith); failures = inr h }
 
 -- there was no memory for the text
-pub of_refused : (for_run : Bool) (uses : Uses) (path : Text) (s s' : Shelf) (d : Devices) (status : ℕ) → s' ≡ record s { refusals = s.refusals + 1 } → status ≡ 3
+pub of_refused : (for_run : Bool) (uses : Uses) (path : Text) (s s' : Shelf) (d : Devices) (status : ℕ)
+    → s' ≡ record s { refusals = s.refusals + 1 } → status ≡ 3
     → OfFile for_run uses path (desk s d) (desk s' d) status
-of_refused for_run uses path s s' d status more is = inl (record { refused = more; devices_kept = refl; status_is = is })
+of_refused for_run uses path s s' d status more is = inl
+    (record { refused = more; devices_kept = refl; status_is = is })
 
 -- the file has no text
-pub of_unread : (for_run : Bool) (uses : Uses) (path : Text) (s s' : Shelf) (input : Source) (out a b : End) (r : Result (Unit {0}) Device) (why : Unread) (status : ℕ)
+pub of_unread : (for_run : Bool) (uses : Uses) (path : Text) (s s' : Shelf) (input : Source) (out a b : End)
+    (r : Result (Unit {0}) Device) (why : Unread) (status : ℕ)
     → s' ≡ record s { failures = s.failures + 1 } → Puts a b (unread_text named.Config path why) r → status ≡ 4
     → OfFile for_run uses path (desk s (devices input out a)) (desk s' (devices input out b)) status
 of_unread for_run uses path s s' input out a b r why status more put is =
@@ -35,24 +38,35 @@ of_unread for_run uses path s s' input out a b r why status more put is =
     inr (inl (record { failed = more; why = why; input = refl; out = refl; noted = noted; status_is = is }))
 
 -- the file has this text
-pub of_read : (for_run : Bool) (uses : Uses) (path text : Text) (s s' : Shelf) (d d' : Devices) (status : ℕ) → (s' ≡ s) × IsTextOf s path text
-    → (found : Result Config ConfigRefusal) × ConfigOf for_run text found × uses found d d' status → OfFile for_run uses path (desk s d) (desk s' d') status
+pub of_read : (for_run : Bool) (uses : Uses) (path text : Text) (s s' : Shelf) (d d' : Devices) (status : ℕ)
+    → (s' ≡ s) × IsTextOf s path text
+    → (found : Result Config ConfigRefusal) × ConfigOf for_run text found × uses found d d' status
+    → OfFile for_run uses path (desk s d) (desk s' d') status
 of_read for_run uses path text s s' d d' status gives used =
-    inr (inr (record { shelf_kept = gives.0; text = text; read = gives.1; found = used.0; is_found = used.1; used = used.2 }))
+    inr (inr (record {
+      shelf_kept = gives.0;
+      text = text;
+      read = gives.1;
+      found = used.0;
+      is_found = used.1;
+      used = used.2;
+    }))
 
 -- ---- a configuration that is used
 
 abbrev pub UsesConfig : Type 1
 UsesConfig = Config → Devices → Devices → ℕ → Type 0
 
-found_never : (uses : UsesConfig) (found : Result Config ConfigRefusal) (d d' : Devices) (status : ℕ) → OfFound Never found d d' status → OfFound uses found d d' status
+found_never : (uses : UsesConfig) (found : Result Config ConfigRefusal) (d d' : Devices) (status : ℕ)
+    → OfFound Never found d d' status → OfFound uses found d d' status
 found_never uses (Ok config) d d' status h = absurd h
 found_never uses (Err (refusal.Key key)) d d' status h = h
 found_never uses (Err refusal.Text) d d' status h = h
 found_never uses (Err refusal.NoMemory) d d' status h = h
 
 -- where none is used, it doesn't matter for what
-pub of_never : (uses : UsesConfig) (for_run : Bool) (path : Text) (b a : Desk) (status : ℕ) → OfFile for_run (OfFound Never) path b a status → OfFile for_run (OfFound uses) path b a status
+pub of_never : (uses : UsesConfig) (for_run : Bool) (path : Text) (b a : Desk) (status : ℕ)
+    → OfFile for_run (OfFound Never) path b a status → OfFile for_run (OfFound uses) path b a status
 of_never uses for_run path b a status (inl h) = inl h
 of_never uses for_run path b a status (inr (inl h)) = inr (inl h)
 of_never uses for_run path b a status (inr (inr r)) =
@@ -66,8 +80,10 @@ of_never uses for_run path b a status (inr (inr r)) =
     }))
 
 -- the configuration is used
-pub of_used : (uses : UsesConfig) (for_run : Bool) (path : Text) (s s' : Shelf) (before mid after : Devices) (config : Config) (status : ℕ)
-    → FileGives for_run path s s' before.notes mid.notes (Ok config) → mid ≡ record before { notes = mid.notes } → uses config mid after status
+pub of_used : (uses : UsesConfig) (for_run : Bool) (path : Text) (s s' : Shelf) (before mid after : Devices)
+    (config : Config) (status : ℕ)
+    → FileGives for_run path s s' before.notes mid.notes (Ok config) → mid ≡ record before { notes = mid.notes }
+    → uses config mid after status
     → OfFile for_run (OfFound uses) path (desk s before) (desk s' after) status
 of_used uses for_run path s s' before mid after config status gives kept used =
     let same : mid ≡ before = kept ∙ ap (λ (e : End). record before { notes = e }) gives.1 in
@@ -75,8 +91,10 @@ of_used uses for_run path s s' before mid after config status gives kept used =
     (Ok config, gives.2.2, subst (λ (d : Devices). uses config d after status) same used)
 
 -- the text of the file gives a configuration or none
-pub file_gives : (for_run : Bool) (path text : Text) (s s' : Shelf) (notes notes' : End) (result : Result Config ℕ) → (s' ≡ s) × IsTextOf s path text
+pub file_gives : (for_run : Bool) (path text : Text) (s s' : Shelf) (notes notes' : End) (result : Result Config ℕ)
+    → (s' ≡ s) × IsTextOf s path text
     → TextGives for_run text notes notes' result → FileGives for_run path s s' notes notes' result
 file_gives for_run path text s s' notes notes' (Ok config) from gives = (from.0, gives.0, (text, from.1, gives.1))
 file_gives for_run path text s s' notes notes' (Err status) from gives = λ input out.
-    of_read for_run (OfFound Never) path text s s' (devices input out notes) (devices input out notes') status from (gives.0, gives.1, gives.2 input out)
+    of_read for_run (OfFound Never) path text s s' (devices input out notes) (devices input out notes') status from
+    (gives.0, gives.1, gives.2 input out)

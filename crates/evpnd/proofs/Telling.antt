@@ -1,5 +1,6 @@
 -- What is told of the words.
-use Rattle.std.proofs.Common.{◌≡◌, ◌≢◌, inl, inr, ℕ, ◌+◌, true, false, cond, List, [], ◌∷◌, Result, Ok, Err, is_ok, refl, ap, ◌∙◌, arith}
+use Rattle.std.proofs.Common.{◌≡◌, ◌≢◌, inl, inr, ℕ, ◌+◌, true, false, cond, List, [], ◌∷◌, Result, Ok, Err, is_ok}
+use Rattle.std.proofs.Common.{refl, ap, ◌∙◌, arith}
 use Rattle.ether_wire.specs.declared.ends.Device.{Device}
 use Rattle.ether_wire.specs.Ends.{End, Puts}
 use Rattle.clap.specs.Words.{IsAmong, fault_of}
@@ -14,19 +15,28 @@ use Rattle.evpnd.specs.Checks.{desk, Sums}
 use Rattle.evpnd.specs.Program.{world, TellsFault, RunsWords}
 
 -- a text was put on the output
-pub sums_put : (a b : End) (r : Result (Unit {0}) Device) (text : Text) (status : ℕ) → Puts a b text r → ◌≡◌ {A = ℕ} status (cond (is_ok r) 0 4) → Sums a b status
-sums_put a b (Ok x) text status h is =
-    (text, record { written = λ _. h; failures = inl (ap (λ (y : End). y.failures) h) }, is ∙ failed_put a b (Ok x) text 0 h true refl)
-sums_put a b (Err d) text status h is =
-    (text, record { written = λ same. absurd (omega arith); failures = inr h }, is ∙ failed_put a b (Err d) text 0 h false refl)
+pub sums_put : (a b : End) (r : Result (Unit {0}) Device) (text : Text) (status : ℕ) → Puts a b text r
+    → ◌≡◌ {A = ℕ} status (cond (is_ok r) 0 4) → Sums a b status
+sums_put a b (Ok x) text status h is = (
+  text,
+  record { written = λ _. h; failures = inl (ap (λ (y : End). y.failures) h) },
+  is ∙ failed_put a b (Ok x) text 0 h true refl,
+)
+sums_put a b (Err d) text status h is = (
+  text,
+  record { written = λ same. absurd (omega arith); failures = inr h },
+  is ∙ failed_put a b (Err d) text 0 h false refl,
+)
 
 among_some : (k : ErrorKind) (ks : Kinds) → IsAmong k ks → ks ≢ []
 among_some k [] among none = among
 among_some k (x ∷ xs) among none = cc
 
 -- words with a fault
-pub runs_refused : (words : List Text) (k : ErrorKind) (before middle after : ℕ) (shelf : Shelf) (d d' : Devices) (status : ℕ) → IsAmong k (fault_of program words) → middle ≡ before
-    → d' ≡ record d { notes = d'.notes } → TellsFault middle after d.notes d'.notes status → RunsWords words (world before shelf d) (world after shelf d') status
+pub runs_refused : (words : List Text) (k : ErrorKind) (before middle after : ℕ) (shelf : Shelf) (d d' : Devices)
+    (status : ℕ) → IsAmong k (fault_of program words) → middle ≡ before
+    → d' ≡ record d { notes = d'.notes } → TellsFault middle after d.notes d'.notes status
+    → RunsWords words (world before shelf d) (world after shelf d') status
 runs_refused words k before middle after shelf d d' status among same kept (inl starved) =
     inl (record {
       refused = starved.0 ∙ ap (λ (n : ℕ). n + 1) same;
@@ -39,5 +49,9 @@ runs_refused words k before middle after shelf d d' status among same kept (inr 
       refusals_kept = told.0 ∙ same;
       shelf_kept = refl;
       text = told.1.0;
-      told = record { input = ap (λ (x : Devices). x.input) kept; out = ap (λ (x : Devices). x.out) kept; told = told.1.1 };
+      told = record {
+        input = ap (λ (x : Devices). x.input) kept;
+        out = ap (λ (x : Devices). x.out) kept;
+        told = told.1.1;
+      };
     }))

@@ -38,7 +38,8 @@ pub record IsUnread (option : Named) (path : Text) (before after : Desk) (status
   pub status_is : status ≡ 4
 
 -- the file has this text, and what it gives for a configuration is used so
-pub record IsRead (for_run : Bool) (uses : Result Config ConfigRefusal → Devices → Devices → ℕ → Type 0) (path : Text) (before after : Desk) (status : ℕ) : Type 0 where
+pub record IsRead (for_run : Bool) (uses : Result Config ConfigRefusal → Devices → Devices → ℕ
+    → Type 0) (path : Text) (before after : Desk) (status : ℕ) : Type 0 where
   pub shelf_kept : after.shelf ≡ before.shelf
   pub text : Text
   pub read : IsTextOf before.shelf path text
@@ -47,7 +48,8 @@ pub record IsRead (for_run : Bool) (uses : Result Config ConfigRefusal → Devic
   pub used : uses found before.devices after.devices status
 
 -- what is done with what a file gives for a configuration
-abbrev pub OfFile : Bool → (Result Config ConfigRefusal → Devices → Devices → ℕ → Type 0) → Text → Desk → Desk → ℕ → Type 0
+abbrev pub OfFile : Bool → (Result Config ConfigRefusal → Devices → Devices → ℕ → Type 0) → Text → Desk → Desk → ℕ
+    → Type 0
 OfFile for_run uses path before after status = IsRefusedText before after status
     ⊎ (IsUnread named.Config path before after status ⊎ IsRead for_run uses path before after status)
 
@@ -55,21 +57,27 @@ OfFile for_run uses path before after status = IsRefusedText before after status
 
 -- a line was written on the output, or a call of it failed
 abbrev pub Sums : End → End → ℕ → Type 0
-Sums before after status = (text : Text) × Holds before after text × (status ≡ (if has_failed before after then 4 else 0))
+Sums before after status = (text : Text) × Holds before after text
+    × (status ≡ (if has_failed before after then 4 else 0))
 
 -- a line is told, or a call of the notes failed
 abbrev pub TellsLine : End → End → ℕ → Type 0
 TellsLine before after status = (text : Text) × IsTold text before after status
 
--- A configuration is summed up on the output (0), what is wrong with it is told on the notes (2), or there was no memory (3);
+-- A configuration is summed up on the output (0), what is wrong with it is told on the notes (2), or there was no
+-- memory (3);
 -- nothing was read, nothing else written.
 abbrev pub Checks : Result Config ConfigRefusal → Devices → Devices → ℕ → Type 0
-Checks (Ok config) before after status = (after.input ≡ before.input) × (after.notes ≡ before.notes) × Sums before.out after.out status
-Checks (Err (refusal.Key key)) before after status = (after.input ≡ before.input) × (after.out ≡ before.out) × TellsLine before.notes after.notes status
-Checks (Err refusal.Text) before after status = (after.input ≡ before.input) × (after.out ≡ before.out) × TellsLine before.notes after.notes status
+Checks (Ok config) before after status = (after.input ≡ before.input) × (after.notes ≡ before.notes)
+    × Sums before.out after.out status
+Checks (Err (refusal.Key key)) before after status = (after.input ≡ before.input) × (after.out ≡ before.out)
+    × TellsLine before.notes after.notes status
+Checks (Err refusal.Text) before after status = (after.input ≡ before.input) × (after.out ≡ before.out)
+    × TellsLine before.notes after.notes status
 Checks (Err refusal.NoMemory) before after status = (after ≡ before) × (status ≡ 3)
 
 -- what a text gives for a configuration is so checked, whatever the reader has
 abbrev pub ChecksText : Text → End → End → End → End → ℕ → Type 0
 ChecksText text out notes out' notes' status =
-    (found : Result Config ConfigRefusal) × ConfigOf false text found × ((input : Source) → Checks found (devices input out notes) (devices input out' notes') status)
+    (found : Result Config ConfigRefusal) × ConfigOf false text found
+    × ((input : Source) → Checks found (devices input out notes) (devices input out' notes') status)

@@ -32,7 +32,8 @@ world refusals shelf devices = record { refusals = refusals; desk = desk shelf d
 -- what became of telling a fault of the words: memory was refused once more for the text, or it was told
 abbrev pub TellsFault : ℕ → ℕ → End → End → ℕ → Type 0
 TellsFault refusals refusals' notes notes' status =
-    ((refusals' ≡ refusals + 1) × (notes' ≡ notes) × (status ≡ 3)) ⊎ ((refusals' ≡ refusals) × ((text : Text) × IsTold text notes notes' status))
+    ((refusals' ≡ refusals + 1) × (notes' ≡ notes) × (status ≡ 3))
+    ⊎ ((refusals' ≡ refusals) × ((text : Text) × IsTold text notes notes' status))
 
 -- what is told where a word isn't UTF-8
 abbrev pub not_text : Text
@@ -80,11 +81,13 @@ pub record IsFollowed (words : List Text) (before after : World) (status : ℕ) 
   pub follows : Follows order before.desk after.desk status
 
 abbrev pub RunsWords : List Text → World → World → ℕ → Type 0
-RunsWords words before after status = IsStarved before after status ⊎ (IsRefused words before after status ⊎ IsFollowed words before after status)
+RunsWords words before after status = IsStarved before after status
+    ⊎ (IsRefused words before after status ⊎ IsFollowed words before after status)
 
 -- A run, on what the system gives as words.
 abbrev pub RunsProgram : Line → World → World → ℕ → Type 0
 RunsProgram NoMemory before after status = (after ≡ before) × (status ≡ 3)
 RunsProgram NotText before after status =
-    (after.refusals ≡ before.refusals) × (after.desk.shelf ≡ before.desk.shelf) × TellsUsage not_text before.desk.devices after.desk.devices status
+    (after.refusals ≡ before.refusals) × (after.desk.shelf ≡ before.desk.shelf)
+    × TellsUsage not_text before.desk.devices after.desk.devices status
 RunsProgram (Words words) before after status = RunsWords (map string_bytes words.items) before after status

@@ -1,5 +1,6 @@
 -- What becomes of a script that is looked at, and not run.
-use Rattle.std.specs.Prelude.{◌≡◌, ℕ, ◌⊎◌, Bool, false, not, ◌||◌, ◌==◌, if◌then◌else◌, List, [], ◌++◌, length, codes, decimal, Option, Some, None, MatchBool}
+use Rattle.std.specs.Prelude.{◌≡◌, ℕ, ◌⊎◌, Bool, false, not, ◌||◌, ◌==◌, if◌then◌else◌, List, [], ◌++◌, length, codes}
+use Rattle.std.specs.Prelude.{decimal, Option, Some, None, MatchBool}
 use Rattle.std.specs.List.{list_all}
 use Rattle.ether_wire.specs.Ends.{End}
 use Rattle.ev_report.specs.Ends.{has_failed, Holds}

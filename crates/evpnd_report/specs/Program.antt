@@ -15,7 +15,8 @@ usage = codes "usage: evpnd_report LIST\n"
 abbrev pub not_text : Text
 not_text = codes "error: a word isn't UTF-8\n"
 
--- The records are reported with the originators of the list, or it is told what is wrong with the list or with the words.
+-- The records are reported with the originators of the list, or it is told what is wrong with the list or with the
+-- words.
 abbrev pub ReportsWords : List Text → Devices → Devices → ℕ → Type 0
 ReportsWords [] before after status = TellsUsage usage before after status
 ReportsWords (name ∷ []) before after status = TellsUsage usage before after status

@@ -1,5 +1,6 @@
 -- The links of all places, one column for each kind.
-use Rattle.std.specs.Prelude.{ℕ, ◌+◌, ◌-◌, ◌<◌, ◌≤◌, ◌^◌, ◌==◌, ◌++◌, if◌then◌else◌, Option, Some, None, List, map, drop, replicate}
+use Rattle.std.specs.Prelude.{ℕ, ◌+◌, ◌-◌, ◌<◌, ◌≤◌, ◌^◌, ◌==◌, ◌++◌, if◌then◌else◌, Option, Some, None, List, map}
+use Rattle.std.specs.Prelude.{drop, replicate}
 
 pub record Columns : Type 0 where
   pub next : List ℕ

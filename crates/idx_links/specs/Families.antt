@@ -1,5 +1,6 @@
 -- what callers see of several families of lists over one arena of nodes
-use Rattle.std.specs.Prelude.{ℕ, ◌+◌, ◌-◌, ◌*◌, ◌/◌, ◌%◌, ◌<◌, ◌≤◌, ◌≡◌, ◌^◌, true, List, [], length, map, slice_index_or}
+use Rattle.std.specs.Prelude.{ℕ, ◌+◌, ◌-◌, ◌*◌, ◌/◌, ◌%◌, ◌<◌, ◌≤◌, ◌≡◌, ◌^◌, true, List, [], length, map}
+use Rattle.std.specs.Prelude.{slice_index_or}
 use Rattle.std.specs.List.{range_with_len}
 use Rattle.idx_links.specs.Links.{Links, has, list_at}
 
@@ -26,12 +27,17 @@ abbrev pub nodes_in : ℕ → List ℕ → List (List ℕ) → ℕ → ℕ → L
 nodes_in families starts lists k l = map (λ m. m / families) (list_at lists (start starts k + l))
 
 abbrev pub family_in : ℕ → List ℕ → List (List ℕ) → ℕ → List (List ℕ)
-family_in families starts lists k = map (nodes_in families starts lists k) (range_with_len 0 (start starts (k + 1) - start starts k))
+family_in families starts lists k = map (nodes_in families starts lists k)
+    (range_with_len 0 (start starts (k + 1) - start starts k))
 
 abbrev pub families_of : ℕ → ℕ → List ℕ → Links → Families
-families_of families nodes starts links = record { nodes = nodes; families = map (family_in families starts links.lists) (range_with_len 0 families) }
+families_of families nodes starts links = record {
+  nodes = nodes;
+  families = map (family_in families starts links.lists) (range_with_len 0 families);
+}
 
--- so many families with places for so many nodes each; on a family's lists are only its own nodes, each below their number
+-- so many families with places for so many nodes each; on a family's lists are only its own nodes, each below their
+-- number
 pub record IsFamily (families nodes : ℕ) (starts : List ℕ) (links : Links) : Type 0 where
   pub counted : length starts ≡ families + 1
   pub rises : (k : ℕ) → k < families → start starts k ≤ start starts (k + 1)
@@ -39,7 +45,8 @@ pub record IsFamily (families nodes : ℕ) (starts : List ℕ) (links : Links) :
   pub few : start starts families < 2 ^ 64
   pub enough : nodes * families ≤ links.nodes
   pub small : nodes * families < 2 ^ 64
-  pub own : (l m : ℕ) → has (list_at links.lists l) m ≡ true → (start starts (m % families) ≤ l) × (l < start starts (m % families + 1))
+  pub own : (l m : ℕ) → has (list_at links.lists l) m ≡ true
+      → (start starts (m % families) ≤ l) × (l < start starts (m % families + 1))
   pub below : (l m : ℕ) → has (list_at links.lists l) m ≡ true → m < nodes * families
 
 -- each family starts where the lists of the one before end

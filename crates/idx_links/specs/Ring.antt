@@ -1,5 +1,6 @@
 -- Rings of places: a list is a ring through its own place, its sentinel, and then its nodes.
-use Rattle.std.specs.Prelude.{ℕ, zero, suc, ◌+◌, ◌-◌, ◌<◌, ◌≤◌, ◌≡◌, Bool, false, ◌==◌, Option, Some, None, List, [], ◌∷◌, length, map, get_or, sum}
+use Rattle.std.specs.Prelude.{ℕ, zero, suc, ◌+◌, ◌-◌, ◌<◌, ◌≤◌, ◌≡◌, Bool, false, ◌==◌, Option, Some, None, List, []}
+use Rattle.std.specs.Prelude.{◌∷◌, length, map, get_or, sum}
 use Rattle.std.specs.List.{range_with_len, count_by}
 use Rattle.std.specs.Option.{is_none}
 use Rattle.idx_links.specs.Links.{Links, has, Apart}

@@ -1,11 +1,13 @@
 -- stations told apart, and the map that the nodes hold
-use Rattle.std.proofs.Common.{ℕ, zero, suc, ◌+◌, ◌-◌, ◌<◌, ◌≡◌, ◌≢◌, ◌⊎◌, inl, inr, Bool, true, false, cond, eqb, ◌&&◌, Option, Some, None, List, [], ◌∷◌, length, set, nat_cmp, refl, ap, sym, ◌∙◌, arith}
+use Rattle.std.proofs.Common.{ℕ, zero, suc, ◌+◌, ◌-◌, ◌<◌, ◌≡◌, ◌≢◌, ◌⊎◌, inl, inr, Bool, true, false, cond, eqb, ◌&&◌}
+use Rattle.std.proofs.Common.{Option, Some, None, List, [], ◌∷◌, length, set, nat_cmp, refl, ap, sym, ◌∙◌, arith}
 use Rattle.std.specs.Option.{is_some}
 use Rattle.std.specs.Cmp.{IsTotalOrder, nat_cmp_total, tied_itself}
 use Rattle.std.specs.Ordering.{is_eq}
 use Rattle.std.specs.declared.cmp.Ordering.{Ordering}
 use Rattle.std.specs.declared.cmp.Ordering.TheVariants.{Less, Equal, Greater}
-use Rattle.std.specs.FinMap.{FinMap, get, insert, remove, len, IsAntisymmetric, get-empty, get-insert, get-remove, same_map, len-insert, len-remove}
+use Rattle.std.specs.FinMap.{FinMap, get, insert, remove, len, IsAntisymmetric, get-empty, get-insert, get-remove}
+use Rattle.std.specs.FinMap.{same_map, len-insert, len-remove}
 use Rattle.std.proofs.lemmas.Cmp.{on_total, then_total}
 use Rattle.std.proofs.lemmas.Map.Lookups.{exact_pairs, exact_unsigned}
 use Rattle.std.proofs.lemmas.List.{get_or_past, get_or-set_same, get_or-set_other}
@@ -20,7 +22,8 @@ pub station_total : IsTotalOrder station_cmp
 station_total = then_total (on_total (λ s. s.vni) nat_cmp_total) (on_total (λ s. s.mac) nat_cmp_total)
 
 pub station_exact : IsAntisymmetric station_cmp
-station_exact a b h = ap (λ (p : ℕ × ℕ). record { vni = p.0; mac = p.1 }) (exact_pairs nat_cmp nat_cmp exact_unsigned exact_unsigned (a.vni, a.mac) (b.vni, b.mac) h)
+station_exact a b h = ap (λ (p : ℕ × ℕ). record { vni = p.0; mac = p.1 })
+    (exact_pairs nat_cmp nat_cmp exact_unsigned exact_unsigned (a.vni, a.mac) (b.vni, b.mac) h)
 
 equal_from : (o : Ordering) → is_eq o ≡ true → o ≡ Equal
 equal_from Less e = cc
@@ -52,7 +55,8 @@ same_or_other a b = go (is_same a b) refl
 
 -- what the derived test of two stations says where it fails
 pub differs : (a b : Station) → false ≡ (eqb a.vni b.vni && eqb a.mac b.mac) → a ≢ b
-differs a b h e = false≢true (h ∙ (λ i. eqb (e i).vni b.vni && eqb (e i).mac b.mac) ∙ rw (eq-eqb b.vni b.vni refl, eq-eqb b.mac b.mac refl) refl)
+differs a b h e = false≢true (h ∙ (λ i. eqb (e i).vni b.vni && eqb (e i).mac b.mac)
+    ∙ rw (eq-eqb b.vni b.vni refl, eq-eqb b.mac b.mac refl) refl)
 
 -- ---- one entry of a map
 
@@ -109,7 +113,8 @@ Slots = List (Option Learned)
 
 -- no two nodes hold one station
 abbrev pub AreAlone : Slots → Type 0
-AreAlone slots = (n m : ℕ) (x y : Learned) → slot_at slots n ≡ Some x → slot_at slots m ≡ Some y → x.station ≡ y.station → n ≡ m
+AreAlone slots = (n m : ℕ) (x y : Learned) → slot_at slots n ≡ Some x → slot_at slots m ≡ Some y → x.station ≡ y.station
+    → n ≡ m
 
 abbrev pub IsOff : Option Learned → Station → Type 0
 IsOff v s = (x : Learned) → v ≡ Some x → x.station ≢ s
@@ -118,10 +123,12 @@ IsOff v s = (x : Learned) → v ≡ Some x → x.station ≢ s
 pub entry_none : (slots : Slots) (s : Station) → ((n : ℕ) → IsOff (slot_at slots n) s) → get (entries_of slots) s ≡ None
 entry_none [] s off = get-empty station_cmp s
 entry_none (None ∷ slots) s off = entry_none slots s (λ n. off (suc n))
-entry_none (Some x ∷ slots) s off = get_there (entries_of slots) x.station x.entry s (λ e. off 0 x refl (sym e)) ∙ entry_none slots s (λ n. off (suc n))
+entry_none (Some x ∷ slots) s off = get_there (entries_of slots) x.station x.entry s (λ e. off 0 x refl (sym e))
+    ∙ entry_none slots s (λ n. off (suc n))
 
 -- the first node that holds the station decides
-entry_first : (slots : Slots) (n : ℕ) (x : Learned) → slot_at slots n ≡ Some x → ((m : ℕ) → m < n → IsOff (slot_at slots m) x.station) → get (entries_of slots) x.station ≡ Some x.entry
+entry_first : (slots : Slots) (n : ℕ) (x : Learned) → slot_at slots n ≡ Some x
+    → ((m : ℕ) → m < n → IsOff (slot_at slots m) x.station) → get (entries_of slots) x.station ≡ Some x.entry
 entry_first [] n x is off = absurd (let e : None ≡ Some x = is in cc)
 entry_first (None ∷ slots) zero x is off = absurd (let e : None ≡ Some x = is in cc)
 entry_first (None ∷ slots) (suc n) x is off = entry_first slots n x is (λ m h. off (suc m) (omega arith))
@@ -129,33 +136,43 @@ entry_first (Some y ∷ slots) zero x is off =
     let e : y ≡ x = cc in
     rw e (get_here (entries_of slots) x.station x.entry)
 entry_first (Some y ∷ slots) (suc n) x is off =
-    get_there (entries_of slots) y.station y.entry x.station (λ e. off 0 (omega arith) y refl (sym e)) ∙ entry_first slots n x is (λ m h. off (suc m) (omega arith))
+    get_there (entries_of slots) y.station y.entry x.station (λ e. off 0 (omega arith) y refl (sym e))
+    ∙ entry_first slots n x is (λ m h. off (suc m) (omega arith))
 
-pub entry_is : (slots : Slots) → AreAlone slots → (n : ℕ) (x : Learned) → slot_at slots n ≡ Some x → get (entries_of slots) x.station ≡ Some x.entry
-entry_is slots alone n x is = entry_first slots n x is (λ m h y at e. absurd (let same = alone m n y x at is e in omega (arith, same, h)))
+pub entry_is : (slots : Slots) → AreAlone slots → (n : ℕ) (x : Learned) → slot_at slots n ≡ Some x
+    → get (entries_of slots) x.station ≡ Some x.entry
+entry_is slots alone n x is = entry_first slots n x is (λ m h y at e. absurd (let same = alone m n y x at is e in
+    omega (arith, same, h)))
 
 -- a station of the map is at a node
-pub node_of : (slots : Slots) (s : Station) (e : Entry) → get (entries_of slots) s ≡ Some e → (n : ℕ) × (slot_at slots n ≡ Some (record { station = s; entry = e }))
+pub node_of : (slots : Slots) (s : Station) (e : Entry) → get (entries_of slots) s ≡ Some e
+    → (n : ℕ) × (slot_at slots n ≡ Some (record { station = s; entry = e }))
 node_of [] s e is = absurd (let none = get-empty {X = Entry} station_cmp s in cc)
 node_of (None ∷ slots) s e is = let r = node_of slots s e is in (suc r.0, r.1)
 node_of (Some x ∷ slots) s e is =
     elim (same_or_other s x.station) [
       | inl same ↦ (
         0,
-        (let at : Some x.entry ≡ Some e = sym (get_here (entries_of slots) x.station x.entry) ∙ ap (get (insert (entries_of slots) x.station x.entry)) (sym same) ∙ is in
+        (let at : Some x.entry ≡ Some e = sym (get_here (entries_of slots) x.station x.entry)
+            ∙ ap (get (insert (entries_of slots) x.station x.entry)) (sym same) ∙ is in
             let same_entry : x.entry ≡ e = cc in
             λ i. Some (record { station = sym same i; entry = same_entry i })),
       )
-      | inr ne ↦ (let r = node_of slots s e (sym (get_there (entries_of slots) x.station x.entry s ne) ∙ is) in (suc r.0, r.1))
+      | inr ne ↦ (let r = node_of slots s e (sym (get_there (entries_of slots) x.station x.entry s ne) ∙ is) in
+          (suc r.0, r.1))
     ]
 
 -- a change of a node that holds another station, before and after
-pub entry_kept : (slots : Slots) (n : ℕ) (v : Option Learned) (s : Station) → IsOff (slot_at slots n) s → IsOff v s → get (entries_of (set slots n v)) s ≡ get (entries_of slots) s
+pub entry_kept : (slots : Slots) (n : ℕ) (v : Option Learned) (s : Station) → IsOff (slot_at slots n) s → IsOff v s
+    → get (entries_of (set slots n v)) s ≡ get (entries_of slots) s
 entry_kept [] n v s off off' = refl
 entry_kept (None ∷ slots) zero None s off off' = refl
-entry_kept (None ∷ slots) zero (Some y) s off off' = get_there (entries_of slots) y.station y.entry s (λ e. off' y refl (sym e))
-entry_kept (Some x ∷ slots) zero None s off off' = sym (get_there (entries_of slots) x.station x.entry s (λ e. off x refl (sym e)))
-entry_kept (Some x ∷ slots) zero (Some y) s off off' = get_there (entries_of slots) y.station y.entry s (λ e. off' y refl (sym e)) ∙ sym (get_there (entries_of slots) x.station x.entry s (λ e. off x refl (sym e)))
+entry_kept (None ∷ slots) zero (Some y) s off off' = get_there (entries_of slots) y.station y.entry s
+    (λ e. off' y refl (sym e))
+entry_kept (Some x ∷ slots) zero None s off off' = sym (get_there (entries_of slots) x.station x.entry s
+    (λ e. off x refl (sym e)))
+entry_kept (Some x ∷ slots) zero (Some y) s off off' = get_there (entries_of slots) y.station y.entry s
+    (λ e. off' y refl (sym e)) ∙ sym (get_there (entries_of slots) x.station x.entry s (λ e. off x refl (sym e)))
 entry_kept (None ∷ slots) (suc n) v s off off' = entry_kept slots n v s off off'
 entry_kept (Some x ∷ slots) (suc n) v s off off' =
     get-insert station_total (entries_of (set slots n v)) x.station x.entry s
@@ -163,7 +180,10 @@ entry_kept (Some x ∷ slots) (suc n) v s off off' =
     ∙ sym (get-insert station_total (entries_of slots) x.station x.entry s)
 
 pub slot_below : (slots : Slots) (n : ℕ) (x : Learned) → slot_at slots n ≡ Some x → n < length slots
-slot_below slots n x is = elim (cases_lt n (length slots)) [ inl h ↦ h | inr h ↦ absurd (let none : slot_at slots n ≡ None = get_or_past slots n None h in cc) ]
+slot_below slots n x is = elim (cases_lt n (length slots)) [
+  | inl h ↦ h
+  | inr h ↦ absurd (let none : slot_at slots n ≡ None = get_or_past slots n None h in cc)
+]
 
 pub slot_here : (slots : Slots) (n : ℕ) (v : Option Learned) → n < length slots → slot_at (set slots n v) n ≡ v
 slot_here slots n v h = get_or-set_same slots n v None h
@@ -173,23 +193,33 @@ slot_there slots n m v ne = get_or-set_other slots n m v None ne
 
 -- ---- the map after a change of one node
 
-pub entries_set : (slots : Slots) (n : ℕ) (x : Learned) → n < length slots → AreAlone (set slots n (Some x)) → ((q : Station) → q ≢ x.station → IsOff (slot_at slots n) q)
+pub entries_set : (slots : Slots) (n : ℕ) (x : Learned) → n < length slots → AreAlone (set slots n (Some x))
+    → ((q : Station) → q ≢ x.station → IsOff (slot_at slots n) q)
     → entries_of (set slots n (Some x)) ≡ insert (entries_of slots) x.station x.entry
-entries_set slots n x h alone off = same_map station_total station_exact (entries_of (set slots n (Some x))) (insert (entries_of slots) x.station x.entry) (λ q.
+entries_set slots n x h alone off = same_map station_total station_exact (entries_of (set slots n (Some x)))
+    (insert (entries_of slots) x.station x.entry) (λ q.
     elim (same_or_other q x.station) [
-      | inl e ↦ rw e (entry_is (set slots n (Some x)) alone n x (slot_here slots n (Some x) h) ∙ sym (get_here (entries_of slots) x.station x.entry))
-      | inr ne ↦ entry_kept slots n (Some x) q (off q ne) (λ y is e. ne (let same : x ≡ y = cc in sym e ∙ ap (λ (z : Learned). z.station) (sym same)))
+      | inl e ↦ rw e (entry_is (set slots n (Some x)) alone n x (slot_here slots n (Some x) h)
+          ∙ sym (get_here (entries_of slots) x.station x.entry))
+      | inr ne ↦ entry_kept slots n (Some x) q (off q ne)
+          (λ y is e. ne (let same : x ≡ y = cc in sym e ∙ ap (λ (z : Learned). z.station) (sym same)))
           ∙ sym (get_there (entries_of slots) x.station x.entry q ne)
     ])
 
-pub entries_unset : (slots : Slots) (n : ℕ) (x : Learned) → AreAlone slots → slot_at slots n ≡ Some x → entries_of (set slots n None) ≡ remove (entries_of slots) x.station
-entries_unset slots n x alone is = same_map station_total station_exact (entries_of (set slots n None)) (remove (entries_of slots) x.station) (λ q.
+pub entries_unset : (slots : Slots) (n : ℕ) (x : Learned) → AreAlone slots → slot_at slots n ≡ Some x
+    → entries_of (set slots n None) ≡ remove (entries_of slots) x.station
+entries_unset slots n x alone is = same_map station_total station_exact (entries_of (set slots n None))
+    (remove (entries_of slots) x.station) (λ q.
     elim (same_or_other q x.station) [
       | inl e ↦ rw e (entry_none (set slots n None) x.station (λ m y at same.
           elim (cases_eq m n) [
-            | inl m_n ↦ (let none : slot_at (set slots n None) n ≡ None = slot_here slots n None (slot_below slots n x is) in let at' : slot_at (set slots n None) n ≡ Some y = ap (slot_at (set slots n None)) (sym m_n) ∙ at in let bad : None ≡ Some y = sym none ∙ at' in cc)
+            | inl m_n ↦ (let none : slot_at (set slots n None) n ≡ None =
+                slot_here slots n None (slot_below slots n x is) in
+                let at' : slot_at (set slots n None) n ≡ Some y = ap (slot_at (set slots n None)) (sym m_n) ∙ at in
+                let bad : None ≡ Some y = sym none ∙ at' in cc)
             | inr ne ↦ ne (alone m n y x (sym (slot_there slots n m None ne) ∙ at) is same)
           ]) ∙ sym (gone_here (entries_of slots) x.station))
-      | inr ne ↦ entry_kept slots n None q (λ y at e. ne (let same : x ≡ y = cc in sym e ∙ ap (λ (z : Learned). z.station) (sym same))) (λ y at e. absurd (let bad : None ≡ Some y = at in cc))
+      | inr ne ↦ entry_kept slots n None q (λ y at e. ne (let same : x ≡ y = cc in
+          sym e ∙ ap (λ (z : Learned). z.station) (sym same))) (λ y at e. absurd (let bad : None ≡ Some y = at in cc))
           ∙ sym (gone_there (entries_of slots) x.station q ne)
     ])

@@ -1,5 +1,6 @@
 -- What the changes of a table do to its entries, and that no list is longer than they are many.
-use Rattle.std.proofs.Common.{ℕ, ◌+◌, ◌≤◌, ◌≡◌, ◌≢◌, inl, inr, Bool, true, false, cond, eqb, ◌&&◌, Option, Some, None, List, [], ◌∷◌, length, refl, ap, sym, ◌∙◌, arith}
+use Rattle.std.proofs.Common.{ℕ, ◌+◌, ◌≤◌, ◌≡◌, ◌≢◌, inl, inr, Bool, true, false, cond, eqb, ◌&&◌, Option, Some, None}
+use Rattle.std.proofs.Common.{List, [], ◌∷◌, length, refl, ap, sym, ◌∙◌, arith}
 use Rattle.std.specs.Prelude.{is_some, ◌||◌}
 use Rattle.std.specs.FinMap.{get, insert, remove, len, same_map}
 use Rattle.std.proofs.lemmas.Bool.{false≢true, or_right}
@@ -9,14 +10,18 @@ use Rattle.mac_arena.specs.declared.table.Learnt.{Learnt}
 use Rattle.mac_arena.specs.declared.table.Learnt.TheVariants.{New, Moved, Refreshed, Pinned, Full}
 use Rattle.mac_arena.specs.Station.{is_same}
 use Rattle.mac_arena.specs.Entry.{pinned_at, heard_at}
-use Rattle.mac_arena.specs.Learning.{Learning, entry_at, is_full, stations_at, learnt_of, answer_of, after_learn, entered, after_pin, after_pin_at, after_removal, after_removal_at}
+use Rattle.mac_arena.specs.Learning.{Learning, entry_at, is_full, stations_at, learnt_of, answer_of, after_learn}
+use Rattle.mac_arena.specs.Learning.{entered, after_pin, after_pin_at, after_removal, after_removal_at}
 use Rattle.mac_arena.specs.ListsName.{ListsName, stands, AreOnce, is_on, ages}
-use Rattle.mac_arena.specs.Laws.{ChangesEntry, entry_learnt, entry_pinned, known, more_learnt, more_pinned, fewer, AreFew}
-use Rattle.mac_arena.proofs.Entries.{Map, station_total, station_exact, same_or_other, same_self, get_here, get_there, gone_here, gone_there, len_new, len_known}
+use Rattle.mac_arena.specs.Laws.{ChangesEntry, entry_learnt, entry_pinned, known, more_learnt, more_pinned, fewer}
+use Rattle.mac_arena.specs.Laws.{AreFew}
+use Rattle.mac_arena.proofs.Entries.{Map, station_total, station_exact, same_or_other, same_self, get_here, get_there}
+use Rattle.mac_arena.proofs.Entries.{gone_here, gone_there, len_new, len_known}
 
 -- ---- one entry
 
-set_entry : (t t' : Learning) (s : Station) (e : Entry) → t'.entries ≡ insert t.entries s e → ChangesEntry t t' s (Some e)
+set_entry : (t t' : Learning) (s : Station) (e : Entry) → t'.entries ≡ insert t.entries s e
+    → ChangesEntry t t' s (Some e)
 set_entry t t' s e is = record {
   here = ap (λ m. get m s) is ∙ get_here t.entries s e;
   others = λ q ne. ap (λ m. get m q) is ∙ get_there t.entries s e q ne;
@@ -25,10 +30,12 @@ set_entry t t' s e is = record {
 kept_entry : (t : Learning) (s : Station) → ChangesEntry t t s (entry_at t s)
 kept_entry t s = record { here = refl; others = λ q ne. refl }
 
-pub learn_entry : (t : Learning) (s : Station) (port second : ℕ) (answer : Learnt) → ChangesEntry t (after_learn t s port second answer) s (entry_learnt (entry_at t s) port second answer)
+pub learn_entry : (t : Learning) (s : Station) (port second : ℕ) (answer : Learnt)
+    → ChangesEntry t (after_learn t s port second answer) s (entry_learnt (entry_at t s) port second answer)
 learn_entry t s port second New = set_entry t (after_learn t s port second New) s (heard_at port second) refl
 learn_entry t s port second Moved = set_entry t (after_learn t s port second Moved) s (heard_at port second) refl
-learn_entry t s port second Refreshed = set_entry t (after_learn t s port second Refreshed) s (heard_at port second) refl
+learn_entry t s port second Refreshed = set_entry t (after_learn t s port second Refreshed) s (heard_at port second)
+    refl
 learn_entry t s port second Pinned = kept_entry t s
 learn_entry t s port second Full = kept_entry t s
 
@@ -38,11 +45,13 @@ pin_entry t s port = go (entry_at t s) refl
     pinned : Option Entry → Bool → Option Entry
     pinned o full = cond (cond (is_some o) true (cond full false true)) (Some (pinned_at port)) None
 
-    new : (full : Bool) → entry_at t s ≡ None → ChangesEntry t (cond full t (entered t s port)) s (cond (cond full false true) (Some (pinned_at port)) None)
+    new : (full : Bool) → entry_at t s ≡ None → ChangesEntry t (cond full t (entered t s port)) s
+        (cond (cond full false true) (Some (pinned_at port)) None)
     new true none = record { here = none; others = λ q ne. refl }
     new false none = set_entry t (entered t s port) s (pinned_at port) refl
 
-    go : (o : Option Entry) → entry_at t s ≡ o → ChangesEntry t (after_pin_at t s port o) s (cond (cond (is_some o) true (cond (is_full t) false true)) (Some (pinned_at port)) None)
+    go : (o : Option Entry) → entry_at t s ≡ o → ChangesEntry t (after_pin_at t s port o) s
+        (cond (cond (is_some o) true (cond (is_full t) false true)) (Some (pinned_at port)) None)
     go None is = new (is_full t) is
     go (Some e) is = set_entry t (after_pin_at t s port (Some e)) s (pinned_at port) refl
 
@@ -62,7 +71,8 @@ len_less m s some = go (get m s) refl some
     go : (o : Option Entry) → get m s ≡ o → is_some o ≡ true → len (remove m s) + 1 ≡ len m
     go None is h = absurd (false≢true h)
     go (Some e) is h =
-        let back : insert (remove m s) s e ≡ m = same_map station_total station_exact (insert (remove m s) s e) m (λ q. elim (same_or_other q s) [
+        let back : insert (remove m s) s e ≡ m = same_map station_total station_exact (insert (remove m s) s e) m
+        (λ q. elim (same_or_other q s) [
           | inl same ↦ rw same (get_here (remove m s) s e ∙ sym is)
           | inr ne ↦ get_there (remove m s) s e q ne ∙ gone_there m s q ne
         ]) in
@@ -81,7 +91,8 @@ known_new true here e = cc
 known_new false true e = cc
 known_new false false e = cc
 
-pub learn_size : (t : Learning) (s : Station) (port second : ℕ) (answer : Learnt) → answer ≡ learnt_of t s port → known (after_learn t s port second answer) ≡ known t + more_learnt answer
+pub learn_size : (t : Learning) (s : Station) (port second : ℕ) (answer : Learnt) → answer ≡ learnt_of t s port
+    → known (after_learn t s port second answer) ≡ known t + more_learnt answer
 learn_size t s port second answer is = go (entry_at t s) refl answer is
   where
     none : known t ≡ known t + 0
@@ -90,7 +101,8 @@ learn_size t s port second answer is = go (entry_at t s) refl answer is
     heard_again : (e : Entry) → entry_at t s ≡ Some e → len (insert t.entries s (heard_at port second)) ≡ known t + 0
     heard_again e at = len_known t.entries s (heard_at port second) e at ∙ none
 
-    go : (o : Option Entry) → entry_at t s ≡ o → (answer : Learnt) → answer ≡ answer_of o (is_full t) port → known (after_learn t s port second answer) ≡ known t + more_learnt answer
+    go : (o : Option Entry) → entry_at t s ≡ o → (answer : Learnt) → answer ≡ answer_of o (is_full t) port
+        → known (after_learn t s port second answer) ≡ known t + more_learnt answer
     go None at New is = len_new t.entries s (heard_at port second) at
     go None at Moved is = absurd (unknown_moves (is_full t) is)
     go None at Refreshed is = absurd (unknown_refreshed (is_full t) is)
@@ -109,7 +121,8 @@ pin_size t s port = go (entry_at t s) refl
     new true at = omega arith
     new false at = len_new t.entries s (pinned_at port) at
 
-    go : (o : Option Entry) → entry_at t s ≡ o → known (after_pin_at t s port o) ≡ known t + cond (is_some o) 0 (cond (is_full t) 0 1)
+    go : (o : Option Entry) → entry_at t s ≡ o → known (after_pin_at t s port o) ≡ known t
+        + cond (is_some o) 0 (cond (is_full t) 0 1)
     go None at = new (is_full t) at
     go (Some e) at = len_known t.entries s (pinned_at port) e at ∙ omega arith
 
@@ -125,11 +138,13 @@ removal_size t s = go (entry_at t s) refl
 stands_apart : (xs : List Station) (x s : Station) → stands xs x ≡ false → stands xs s ≡ true → s ≢ x
 stands_apart xs x s off on same = false≢true (sym off ∙ ap (stands xs) (sym same) ∙ on)
 
-pub short : (xs : List Station) (m : Map) → AreOnce xs → ((s : Station) → stands xs s ≡ true → is_some (get m s) ≡ true) → length xs ≤ len m
+pub short : (xs : List Station) (m : Map) → AreOnce xs → ((s : Station) → stands xs s ≡ true → is_some (get m s) ≡ true)
+    → length xs ≤ len m
 short [] m once names = omega arith
 short (x ∷ xs) m once names =
     let first : is_some (get m x) ≡ true = names x (ap (λ b. b || stands xs x) (same_self x)) in
-    let rest = short xs (remove m x) once.1 (λ s on. ap is_some (gone_there m x s (stands_apart xs x s once.0 on)) ∙ names s (or_right (is_same x s) (stands xs s) on)) in
+    let rest = short xs (remove m x) once.1 (λ s on. ap is_some (gone_there m x s (stands_apart xs x s once.0 on))
+    ∙ names s (or_right (is_same x s) (stands xs s) on)) in
     let less = len_less m x first in
     omega (arith, rest, less)
 
@@ -148,6 +163,8 @@ ages_known (Some e) h = refl
 pub few : (t : Learning) → ListsName t → AreFew t
 few t lists = record {
   ageing = short t.ageing t.entries lists.ageing_once (λ s on. ages_known (entry_at t s) (sym (lists.ageing s) ∙ on));
-  ports = λ l. short (stations_at t.ports l) t.entries (lists.ports_once l) (λ s on. on_known (entry_at t s) (l + 1) (sym (lists.ports l s) ∙ on));
-  chains = λ b. short (stations_at t.chains b) t.entries (lists.chains_once b) (λ s on. and_first (is_some (entry_at t s)) _ (sym (lists.chains b s) ∙ on));
+  ports = λ l. short (stations_at t.ports l) t.entries (lists.ports_once l)
+      (λ s on. on_known (entry_at t s) (l + 1) (sym (lists.ports l s) ∙ on));
+  chains = λ b. short (stations_at t.chains b) t.entries (lists.chains_once b)
+      (λ s on. and_first (is_some (entry_at t s)) _ (sym (lists.chains b s) ∙ on));
 }

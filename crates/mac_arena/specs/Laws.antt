@@ -1,5 +1,7 @@
--- What the changes of a table do to the entries and to how many there are, and whom ageing and the flush of a port take.
-use Rattle.std.specs.Prelude.{◌≡◌, ◌≢◌, ℕ, ◌≤◌, Bool, false, Option, Some, None, IsSome, is_some, List, [], ◌∷◌, length, nat_le, if◌then◌else◌}
+-- What the changes of a table do to the entries and to how many there are, and whom ageing and the flush of a port
+-- take.
+use Rattle.std.specs.Prelude.{◌≡◌, ◌≢◌, ℕ, ◌≤◌, Bool, false, Option, Some, None, IsSome, is_some, List, [], ◌∷◌, length}
+use Rattle.std.specs.Prelude.{nat_le, if◌then◌else◌}
 use Rattle.std.specs.FinMap.{len}
 use Rattle.ether_wire.specs.Ports.{place_of_port}
 use Rattle.mac_arena.specs.declared.station.Station.{Station}

@@ -1,5 +1,7 @@
 -- The learning table as callers see it (IEEE 802.1D-2004, 7.8 and 7.9), and what each call does to it.
-use Rattle.std.specs.Prelude.{ℕ, suc, ◌≤◌, ◌≡◌, ◌==◌, Bool, true, false, Option, Some, None, List, [], ◌∷◌, ◌++◌, length, map, drop, replicate, slice_set, slice_index, slice_index_or, if◌then◌else◌, is_some}
+use Rattle.std.specs.Prelude.{ℕ, suc, ◌≤◌, ◌≡◌, ◌==◌, Bool, true, false, Option, Some, None, List, [], ◌∷◌, ◌++◌}
+use Rattle.std.specs.Prelude.{length, map, drop, replicate, slice_set, slice_index, slice_index_or, if◌then◌else◌}
+use Rattle.std.specs.Prelude.{is_some}
 use Rattle.std.specs.List.{range_with_len}
 use Rattle.std.specs.Option.{option_map}
 use Rattle.std.specs.FinMap.{FinMap, empty, get, insert, remove, len}
@@ -121,7 +123,10 @@ held t s port = record t { entries = insert t.entries s (pinned_at port); ageing
 
 -- it goes to another port
 abbrev pub shifted : Learning → Station → Entry → ℕ → Learning
-shifted t s e port = record t { entries = insert t.entries s (record e { port = port }); ports = joined_by (place_of_port port) s (map (left s) t.ports) }
+shifted t s e port = record t {
+  entries = insert t.entries s (record e { port = port });
+  ports = joined_by (place_of_port port) s (map (left s) t.ports);
+}
 
 -- a pinned one leaves the table
 abbrev pub dropped : Learning → Station → Learning

@@ -1,5 +1,6 @@
 -- That the table's lists name exactly its stations.
-use Rattle.std.specs.Prelude.{ℕ, ◌+◌, ◌≤◌, ◌≡◌, ◌==◌, ◌&&◌, ◌||◌, Bool, true, false, not, Option, Some, None, List, [], ◌∷◌, length, nat_lt, slice_index_or, is_some, is_none}
+use Rattle.std.specs.Prelude.{ℕ, ◌+◌, ◌≤◌, ◌≡◌, ◌==◌, ◌&&◌, ◌||◌, Bool, true, false, not, Option, Some, None, List, []}
+use Rattle.std.specs.Prelude.{◌∷◌, length, nat_lt, slice_index_or, is_some, is_none}
 use Rattle.idx_links.specs.Links.{has, Apart}
 use Rattle.mac_arena.specs.declared.station.Station.{Station}
 use Rattle.mac_arena.specs.declared.station.Entry.{Entry}
@@ -37,7 +38,8 @@ Rises t (x ∷ xs) = ((s : Station) → stands xs s ≡ true → last_at (entry_
 -- the ageing list exactly the unpinned ones, with last seconds that never fall; each once. Each station stands at one
 -- node, and every other node is free, once.
 pub record ListsName (t : Learning) : Type 0 where
-  pub chains : (b : ℕ) (s : Station) → stands (stations_at t.chains b) s ≡ (is_some (entry_at t s) && (bucket_in t s == b))
+  pub chains : (b : ℕ) (s : Station) → stands (stations_at t.chains b) s
+      ≡ (is_some (entry_at t s) && (bucket_in t s == b))
   pub chains_once : (b : ℕ) → AreOnce (stations_at t.chains b)
   pub ports : (l : ℕ) (s : Station) → stands (stations_at t.ports l) s ≡ is_on (entry_at t s) (l + 1)
   pub ports_once : (l : ℕ) → AreOnce (stations_at t.ports l)
@@ -47,6 +49,7 @@ pub record ListsName (t : Learning) : Type 0 where
   pub pinned_at_zero : (s : Station) (e : Entry) → entry_at t s ≡ Some e → e.pinned ≡ true → e.last ≡ 0
   pub placed : (s : Station) (e : Entry) → entry_at t s ≡ Some e → (n : ℕ) × (slice_index_or t.places n None ≡ Some s)
   pub known : (n : ℕ) (s : Station) → slice_index_or t.places n None ≡ Some s → is_some (entry_at t s) ≡ true
-  pub one_place : (n m : ℕ) (s : Station) → slice_index_or t.places n None ≡ Some s → slice_index_or t.places m None ≡ Some s → n ≡ m
+  pub one_place : (n m : ℕ) (s : Station) → slice_index_or t.places n None ≡ Some s
+      → slice_index_or t.places m None ≡ Some s → n ≡ m
   pub free : (n : ℕ) → has t.free n ≡ (nat_lt n (length t.places) && is_none (slice_index_or t.places n None))
   pub free_once : Apart t.free

@@ -1,5 +1,6 @@
 -- What the nodes hold, and that each stands where its station belongs.
-use Rattle.std.specs.Prelude.{ℕ, ◌+◌, ◌<◌, ◌≤◌, ◌≡◌, ◌==◌, ◌&&◌, Bool, true, false, not, Option, Some, None, List, [], ◌∷◌, length, map, nat_lt, slice_index_or, is_some, is_none, count_by}
+use Rattle.std.specs.Prelude.{ℕ, ◌+◌, ◌<◌, ◌≤◌, ◌≡◌, ◌==◌, ◌&&◌, Bool, true, false, not, Option, Some, None, List, []}
+use Rattle.std.specs.Prelude.{◌∷◌, length, map, nat_lt, slice_index_or, is_some, is_none, count_by}
 use Rattle.std.specs.Option.{option_map}
 use Rattle.std.specs.FinMap.{FinMap, empty, insert, len}
 use Rattle.idx_links.specs.Links.{has, Apart, list_at}
@@ -59,7 +60,8 @@ in_ageing (Some x) = not x.entry.pinned
 -- from front to back the seconds never fall
 abbrev pub NeverFalls : List (Option Learned) → List ℕ → Type 0
 NeverFalls slots [] = Unit {0}
-NeverFalls slots (n ∷ rest) = ((m : ℕ) → has rest m ≡ true → last_of (slot_at slots n) ≤ last_of (slot_at slots m)) × NeverFalls slots rest
+NeverFalls slots (n ∷ rest) = ((m : ℕ) → has rest m ≡ true → last_of (slot_at slots n) ≤ last_of (slot_at slots m))
+    × NeverFalls slots rest
 
 pub record IsTable (o : Orders) (slots : List (Option Learned)) (count buckets salt : ℕ) : Type 0 where
   pub nodes : o.nodes ≡ length slots
@@ -73,7 +75,8 @@ pub record IsTable (o : Orders) (slots : List (Option Learned)) (count buckets s
   pub ports_apart : (l : ℕ) → Apart (list_at o.ports l)
   pub ageing_apart : Apart o.ageing
   pub free_apart : Apart o.free
-  pub alone : (n m : ℕ) (x y : Learned) → slot_at slots n ≡ Some x → slot_at slots m ≡ Some y → x.station ≡ y.station → n ≡ m
+  pub alone : (n m : ℕ) (x y : Learned) → slot_at slots n ≡ Some x → slot_at slots m ≡ Some y → x.station ≡ y.station
+      → n ≡ m
   pub timeless : (n : ℕ) (x : Learned) → slot_at slots n ≡ Some x → x.entry.pinned ≡ true → x.entry.last ≡ 0
   pub based : (n : ℕ) (x : Learned) → slot_at slots n ≡ Some x → 0 < x.entry.port
   pub rising : NeverFalls slots o.ageing

@@ -1,5 +1,6 @@
 -- A table's updates, and those of an address: what is in them, and where groups keep them.
-use Rattle.std.proofs.Common.{◌≡◌, ◌≢◌, ℕ, zero, suc, ◌<◌, Bool, true, false, cond, Option, Some, None, List, [], ◌∷◌, ◌++◌, map, length, Contains, append-nil, refl, sym, ap, ◌∙◌, arith}
+use Rattle.std.proofs.Common.{◌≡◌, ◌≢◌, ℕ, zero, suc, ◌<◌, Bool, true, false, cond, Option, Some, None, List, [], ◌∷◌}
+use Rattle.std.proofs.Common.{◌++◌, map, length, Contains, append-nil, refl, sym, ap, ◌∙◌, arith}
 use Rattle.std.specs.Prelude.{slice_get, slice_index_or}
 use Rattle.std.specs.declared.cmp.Ordering.TheVariants.{Less, Equal, Greater}
 use Rattle.std.specs.Ordering.{eq_by_cmp}
@@ -21,7 +22,8 @@ use Rattle.route_join.proofs.Orders.{from_T}
 use Rattle.route_join.proofs.Tables.{same_register}
 use Rattle.route_join.proofs.Edits.{listed_as}
 use Rattle.route_join.proofs.Merging.{find_at, updates_back}
-use Rattle.route_join.proofs.Groupings.{Groups, Entries, entries_in, entries_in_all, about_there as group_about, before_rest, same_rest, not_before, first_is, later_is, not_first}
+use Rattle.route_join.proofs.Groupings.{Groups, Entries, entries_in, entries_in_all, about_there as group_about}
+use Rattle.route_join.proofs.Groupings.{before_rest, same_rest, not_before, first_is, later_is, not_first}
 use Rattle.route_join.specs.Groups.{group_at}
 use Rattle.route_join.proofs.Holding.{differs}
 use Rattle.route_join.proofs.Subjects.{address, about_address, about_itself}
@@ -37,25 +39,31 @@ to_get (x ∷ us) zero u l h = ap Some h
 to_get (x ∷ us) (suc k) u l h = to_get us k u (omega (arith, l)) h
 
 -- among updates in order, one is contained exactly where its register has its value
-pub found_contains : (us : List Fields) (r : Register) (v : Value) → find register_cmp r (entries_of us) ≡ Some v → Contains us (record { register = r; value = v })
+pub found_contains : (us : List Fields) (r : Register) (v : Value) → find register_cmp r (entries_of us) ≡ Some v
+    → Contains us (record { register = r; value = v })
 found_contains [] r v e = cc
 found_contains (x ∷ us) r v e = go (found_contains us r v) (eq_by_cmp register_cmp r x.register) refl e
   where
-    go : (find register_cmp r (entries_of us) ≡ Some v → Contains us (record { register = r; value = v })) → (b : Bool) → eq_by_cmp register_cmp r x.register ≡ b → cond b (Some x.value) (find register_cmp r (entries_of us)) ≡ Some v → Contains (x ∷ us) (record { register = r; value = v })
+    go : (find register_cmp r (entries_of us) ≡ Some v → Contains us (record { register = r; value = v })) → (b : Bool)
+        → eq_by_cmp register_cmp r x.register ≡ b → cond b (Some x.value) (find register_cmp r (entries_of us)) ≡ Some v
+        → Contains (x ∷ us) (record { register = r; value = v })
     go rest true t is =
         let same = same_register r x.register t in
         let value : x.value ≡ v = cc in
         (0, omega arith, λ i. record { register = sym same i; value = value i })
     go rest false t is = let h = rest is in (suc h.0, omega (arith, h.1), h.2)
 
-pub contains_found : (us : List Fields) (u : Fields) → IsOrdered us → Contains us u → find register_cmp u.register (entries_of us) ≡ Some u.value
+pub contains_found : (us : List Fields) (u : Fields) → IsOrdered us → Contains us u
+    → find register_cmp u.register (entries_of us) ≡ Some u.value
 contains_found us u s c = find_at us c.0 u s (to_get us c.0 u c.1 c.2)
 
 -- ---- the updates of a table
 pub all_updates_are : (t : Table) → AreAllUpdates t (all_updates t)
 all_updates_are t = record {
-  own = λ u c. get-entries t.registers u.register ∙ ap (find register_cmp u.register) (sym (entries_back (entries t.registers))) ∙ contains_found (all_updates t) u in_order c;
-  all = λ r v at. found_contains (all_updates t) r v (ap (find register_cmp r) (entries_back (entries t.registers)) ∙ sym (get-entries t.registers r) ∙ at);
+  own = λ u c. get-entries t.registers u.register ∙ ap (find register_cmp u.register)
+      (sym (entries_back (entries t.registers))) ∙ contains_found (all_updates t) u in_order c;
+  all = λ r v at. found_contains (all_updates t) r v (ap (find register_cmp r) (entries_back (entries t.registers))
+      ∙ sym (get-entries t.registers r) ∙ at);
   ordered = in_order;
 }
   where
@@ -67,27 +75,34 @@ module _ (t : Table) (vni mac : ℕ) where
   own_entries = about vni mac (entries t.registers)
 
   -- a look-up among them is one in the table, of a register of the address
-  found_about : (r : Register) → find register_cmp r (entries_of (updates_of t vni mac)) ≡ cond (is_about vni mac r.key) (value_at t r) None
+  found_about : (r : Register) → find register_cmp r (entries_of (updates_of t vni mac))
+      ≡ cond (is_about vni mac r.key) (value_at t r) None
   found_about r =
       ap (find register_cmp r) (entries_back own_entries)
-      ∙ find-where_key register_cmp (λ (q : Register). is_about vni mac q.key) r (λ q e. ap (λ (x : Register). is_about vni mac x.key) (sym (register_exact r q e))) (entries t.registers)
+      ∙ find-where_key register_cmp (λ (q : Register). is_about vni mac q.key) r
+      (λ q e. ap (λ (x : Register). is_about vni mac x.key) (sym (register_exact r q e))) (entries t.registers)
       ∙ ap (λ o. cond (is_about vni mac r.key) o None) (sym (get-entries t.registers r))
 
   ordered_about : IsOrdered (updates_of t vni mac)
-  ordered_about = ap (is_sorted register_cmp) (entries_back own_entries) ∙ from_T _ (is_sorted-where_key register_cmp (λ (q : Register). is_about vni mac q.key) (entries t.registers) (entries_sorted t.registers))
+  ordered_about = ap (is_sorted register_cmp) (entries_back own_entries)
+      ∙ from_T _ (is_sorted-where_key register_cmp (λ (q : Register). is_about vni mac q.key) (entries t.registers)
+      (entries_sorted t.registers))
 
   both_told : (b : Bool) (o : Option Value) (v : Value) → cond b o None ≡ Some v → (b ≡ true) × (o ≡ Some v)
   both_told true o v h = (refl, h)
   both_told false o v h = cc
 
-  told_of : (u : Fields) → Contains (updates_of t vni mac) u → (is_about vni mac u.register.key ≡ true) × (value_at t u.register ≡ Some u.value)
-  told_of u c = both_told (is_about vni mac u.register.key) (value_at t u.register) u.value (sym (found_about u.register) ∙ contains_found (updates_of t vni mac) u ordered_about c)
+  told_of : (u : Fields) → Contains (updates_of t vni mac) u
+      → (is_about vni mac u.register.key ≡ true) × (value_at t u.register ≡ Some u.value)
+  told_of u c = both_told (is_about vni mac u.register.key) (value_at t u.register) u.value
+      (sym (found_about u.register) ∙ contains_found (updates_of t vni mac) u ordered_about c)
 
   pub updates_of_are : AreUpdatesOf t vni mac (updates_of t vni mac)
   updates_of_are = record {
     about = λ u c. (told_of u c).0;
     own = λ u c. (told_of u c).1;
-    all = λ r v is at. found_contains (updates_of t vni mac) r v (found_about r ∙ ap (λ b. cond b (value_at t r) None) is ∙ at);
+    all = λ r v is at. found_contains (updates_of t vni mac) r v (found_about r
+        ∙ ap (λ b. cond b (value_at t r) None) is ∙ at);
     ordered = ordered_about;
   }
 
@@ -95,7 +110,8 @@ module _ (t : Table) (vni mac : ℕ) where
 module _ (vni mac : ℕ) where
   all_about : (es : Entries) → AreAbout (address vni mac) es → about vni mac es ≡ es
   all_about [] k = refl
-  all_about (e ∷ es) k = ap (λ b. cond b (e ∷ about vni mac es) (about vni mac es)) (about_itself vni mac e.0.key k.0) ∙ ap (λ x. e ∷ x) (all_about es k.1)
+  all_about (e ∷ es) k = ap (λ b. cond b (e ∷ about vni mac es) (about vni mac es)) (about_itself vni mac e.0.key k.0)
+      ∙ ap (λ x. e ∷ x) (all_about es k.1)
 
   none_about : (s : Subject) (es : Entries) → AreAbout s es → s ≢ address vni mac → about vni mac es ≡ []
   none_about s [] k ne = refl
@@ -112,33 +128,43 @@ module _ (vni mac : ℕ) where
   later_about [] k b = refl
   later_about (g ∷ gs) k b =
       append_about (entries_of g.1) (entries_in gs)
-      ∙ ap (λ x. x ++ about vni mac (entries_in gs)) (none_about g.0 (entries_of g.1) k.0 (differs (address vni mac) g.0 Less b.0 refl))
+      ∙ ap (λ x. x ++ about vni mac (entries_in gs)) (none_about g.0 (entries_of g.1) k.0
+      (differs (address vni mac) g.0 Less b.0 refl))
       ∙ later_about gs k.3 b.1
 
-  about_there : (gs : Groups) (us : List Fields) → AreGroups gs → group_at (address vni mac) gs ≡ Some us → about vni mac (entries_in gs) ≡ entries_of us
+  about_there : (gs : Groups) (us : List Fields) → AreGroups gs → group_at (address vni mac) gs ≡ Some us
+      → about vni mac (entries_in gs) ≡ entries_of us
   about_there [] us k h = cc
   about_there (g ∷ gs) us k h =
       let s : Subject = address vni mac in
-      elim (subject_cmp s g.0) as (λ o. subject_cmp s g.0 ≡ o → about vni mac (entries_of g.1 ++ entries_in gs) ≡ entries_of us) [
+      elim (subject_cmp s g.0) as (λ o. subject_cmp s g.0 ≡ o
+      → about vni mac (entries_of g.1 ++ entries_in gs) ≡ entries_of us) [
         | Less ↦ λ e. absurd (not_before s g gs k us h e)
-        | Equal ↦ λ e. append_about (entries_of g.1) (entries_in gs) ∙ ap (λ x. about vni mac (entries_of g.1) ++ x) (later_about gs k.3 (same_rest s g gs k e))
-            ∙ append-nil (about vni mac (entries_of g.1)) ∙ ap (λ x. about vni mac (entries_of x)) (first_is s g gs k us h e)
+        | Equal ↦ λ e. append_about (entries_of g.1) (entries_in gs)
+            ∙ ap (λ x. about vni mac (entries_of g.1) ++ x) (later_about gs k.3 (same_rest s g gs k e))
+            ∙ append-nil (about vni mac (entries_of g.1))
+            ∙ ap (λ x. about vni mac (entries_of x)) (first_is s g gs k us h e)
             ∙ all_about (entries_of us) (in_group e)
-        | Greater ↦ λ e. append_about (entries_of g.1) (entries_in gs) ∙ ap (λ x. x ++ about vni mac (entries_in gs)) (none_about g.0 (entries_of g.1) k.0 (differs s g.0 Greater e refl))
+        | Greater ↦ λ e. append_about (entries_of g.1) (entries_in gs)
+            ∙ ap (λ x. x ++ about vni mac (entries_in gs))
+            (none_about g.0 (entries_of g.1) k.0 (differs s g.0 Greater e refl))
             ∙ about_there gs us k.3 (later_is s g gs k (Some us) h e)
       ] refl
     where
       in_group : subject_cmp (address vni mac) g.0 ≡ Equal → AreAbout (address vni mac) (entries_of us)
       in_group e = group_about (address vni mac) (g ∷ gs) us k h
 
-  about_nowhere : (gs : Groups) → AreGroups gs → group_at (address vni mac) gs ≡ None → about vni mac (entries_in gs) ≡ []
+  about_nowhere : (gs : Groups) → AreGroups gs → group_at (address vni mac) gs ≡ None
+      → about vni mac (entries_in gs) ≡ []
   about_nowhere [] k h = refl
   about_nowhere (g ∷ gs) k h =
       let s : Subject = address vni mac in
       elim (subject_cmp s g.0) as (λ o. subject_cmp s g.0 ≡ o → about vni mac (entries_of g.1 ++ entries_in gs) ≡ []) [
         | Less ↦ λ e. later_about (g ∷ gs) k (e, before_rest s g gs k e)
         | Equal ↦ λ e. absurd (not_first s g gs k h e)
-        | Greater ↦ λ e. append_about (entries_of g.1) (entries_in gs) ∙ ap (λ x. x ++ about vni mac (entries_in gs)) (none_about g.0 (entries_of g.1) k.0 (differs s g.0 Greater e refl))
+        | Greater ↦ λ e. append_about (entries_of g.1) (entries_in gs)
+            ∙ ap (λ x. x ++ about vni mac (entries_in gs))
+            (none_about g.0 (entries_of g.1) k.0 (differs s g.0 Greater e refl))
             ∙ about_nowhere gs k.3 (later_is s g gs k None h e)
       ] refl
 
@@ -147,11 +173,15 @@ module _ (os : List ℕ) (gs : Groups) (k : IsGrouped os gs) where
   entries_are = listed_as os (updates_in gs) k.kept.ordered ∙ entries_in_all gs
 
   pub updates_are : updates_in gs ≡ all_updates (table_from os (updates_in gs))
-  updates_are = sym (updates_back (updates_in gs)) ∙ ap (map update_from) (sym (listed_as os (updates_in gs) k.kept.ordered))
+  updates_are = sym (updates_back (updates_in gs)) ∙ ap (map update_from)
+      (sym (listed_as os (updates_in gs) k.kept.ordered))
 
   module _ (vni mac : ℕ) where
-    pub updates_there : (us : List Fields) → group_at (address vni mac) gs ≡ Some us → us ≡ updates_of (table_from os (updates_in gs)) vni mac
-    updates_there us h = sym (updates_back us) ∙ ap (map update_from) (sym (about_there vni mac gs us k.groups h) ∙ ap (about vni mac) (sym entries_are))
+    pub updates_there : (us : List Fields) → group_at (address vni mac) gs ≡ Some us
+        → us ≡ updates_of (table_from os (updates_in gs)) vni mac
+    updates_there us h = sym (updates_back us) ∙ ap (map update_from) (sym (about_there vni mac gs us k.groups h)
+        ∙ ap (about vni mac) (sym entries_are))
 
     pub updates_nowhere : group_at (address vni mac) gs ≡ None → [] ≡ updates_of (table_from os (updates_in gs)) vni mac
-    updates_nowhere h = ap (map update_from) (sym (about_nowhere vni mac gs k.groups h) ∙ ap (about vni mac) (sym entries_are))
+    updates_nowhere h = ap (map update_from) (sym (about_nowhere vni mac gs k.groups h)
+        ∙ ap (about vni mac) (sym entries_are))

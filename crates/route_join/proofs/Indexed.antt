@@ -1,6 +1,7 @@
 -- Groups behind an index are groups in the order of their subjects: a look-up, a change and
 -- a new group there are the same here.
-use Rattle.std.proofs.Common.{◌≡◌, ℕ, ◌<◌, Bool, true, false, cond, is_some, Option, Some, None, IsSome, Result, Ok, Err, OnErr, List, [], ◌∷◌, ◌||◌, ◌&&◌, refl, sym, ap, subst, ◌∙◌, arith}
+use Rattle.std.proofs.Common.{◌≡◌, ℕ, ◌<◌, Bool, true, false, cond, is_some, Option, Some, None, IsSome, Result, Ok}
+use Rattle.std.proofs.Common.{Err, OnErr, List, [], ◌∷◌, ◌||◌, ◌&&◌, refl, sym, ap, subst, ◌∙◌, arith}
 use Rattle.std.specs.Prelude.{◌==◌}
 use Rattle.std.proofs.lemmas.Bool.Decides.{nat_tests}
 use Rattle.std.specs.declared.cmp.Ordering.{Ordering}
@@ -41,7 +42,8 @@ eq_then Equal p = refl
 eq_then Greater p = refl
 
 pub eq_at : (s t : Subject) → subject_eq s t ≡ is_at (subject_cmp s) t
-eq_at s t = (λ i. eq_nat s.vni t.vni i && eq_mac s.mac t.mac i) ∙ eq_then (nat_cmp s.vni t.vni) (option_cmp nat_cmp s.mac t.mac)
+eq_at s t = (λ i. eq_nat s.vni t.vni i && eq_mac s.mac t.mac i)
+    ∙ eq_then (nat_cmp s.vni t.vni) (option_cmp nat_cmp s.mac t.mac)
 
 equal : (o : Ordering) → is_eq o ≡ true → o ≡ Equal
 equal Less h = cc
@@ -60,10 +62,13 @@ pub itself : (s : Subject) → is_at (subject_cmp s) s ≡ true
 itself s = tied (subject_cmp s s) (subject_total.antisymm s s)
 
 -- ---- a look-up
-found_along : (s : Subject) (ss : List Subject) (gs : Groups) → group_at s (groups_along ss gs) ≡ cond (is_among ss s) (Some (unwrap_or (group_in gs s) [])) None
+found_along : (s : Subject) (ss : List Subject) (gs : Groups)
+    → group_at s (groups_along ss gs) ≡ cond (is_among ss s) (Some (unwrap_or (group_in gs s) [])) None
 found_along s [] gs = refl
 found_along s (t ∷ ss) gs =
-    elim (is_at (subject_cmp s) t) as (λ b. is_at (subject_cmp s) t ≡ b → cond b (Some (unwrap_or (group_in gs t) [])) (group_at s (groups_along ss gs)) ≡ cond (b || is_among ss s) (Some (unwrap_or (group_in gs s) [])) None) [
+    elim (is_at (subject_cmp s) t) as (λ b. is_at (subject_cmp s) t ≡ b
+    → cond b (Some (unwrap_or (group_in gs t) [])) (group_at s (groups_along ss gs))
+    ≡ cond (b || is_among ss s) (Some (unwrap_or (group_in gs s) [])) None) [
       | true ↦ λ e. ap (λ x. Some (unwrap_or (group_in gs x) [])) (sym (exact_at s t e))
       | false ↦ λ e. found_along s ss gs
     ] refl
@@ -72,16 +77,20 @@ there : (o : Option (List Fields)) → cond (is_some o) (Some (unwrap_or o [])) 
 there None = refl
 there (Some us) = refl
 
-pub found : (s : Subject) (ss : List Subject) (gs : Groups) → AreIndexed ss gs → group_in gs s ≡ group_at s (groups_along ss gs)
-found s ss gs k = sym (found_along s ss gs ∙ ap (λ b. cond b (Some (unwrap_or (group_in gs s) [])) None) (k.same s) ∙ there (group_in gs s))
+pub found : (s : Subject) (ss : List Subject) (gs : Groups) → AreIndexed ss gs
+    → group_in gs s ≡ group_at s (groups_along ss gs)
+found s ss gs k = sym (found_along s ss gs ∙ ap (λ b. cond b (Some (unwrap_or (group_in gs s) [])) None) (k.same s)
+    ∙ there (group_in gs s))
 
 -- ---- groups in another order in the index
-pub same_along : (ss : List Subject) (gs hs : Groups) → ((q : Subject) → group_in hs q ≡ group_in gs q) → groups_along ss hs ≡ groups_along ss gs
+pub same_along : (ss : List Subject) (gs hs : Groups) → ((q : Subject) → group_in hs q ≡ group_in gs q)
+    → groups_along ss hs ≡ groups_along ss gs
 same_along [] gs hs h = refl
 same_along (t ∷ ss) gs hs h = λ i. (t, unwrap_or (h t i) []) ∷ same_along ss gs hs h i
 
 -- ---- the subject has another group now
-module _ (s : Subject) (w : List Fields) (gs hs : Groups) (h : (q : Subject) → group_in hs q ≡ cond (subject_eq s q) (Some w) (group_in gs q)) where
+module _ (s : Subject) (w : List Fields) (gs hs : Groups) (h : (q : Subject)
+    → group_in hs q ≡ cond (subject_eq s q) (Some w) (group_in gs q)) where
   has_it : (t : Subject) → is_at (subject_cmp s) t ≡ true → group_in hs t ≡ Some w
   has_it t e = h t ∙ ap (λ b. cond b (Some w) (group_in gs t)) (eq_at s t ∙ e)
 
@@ -103,46 +112,66 @@ module _ (s : Subject) (w : List Fields) (gs hs : Groups) (h : (q : Subject) →
   none_behind [] a = refl
   none_behind (y ∷ ss) a = ap (λ o. is_eq o || is_among ss s) a.0 ∙ none_behind ss a.1
 
-  pub written : (ss : List Subject) → IsStrictlySortedBy subject_cmp ss → groups_along ss hs ≡ set_value (is_at (subject_cmp s)) (groups_along ss gs) w
+  pub written : (ss : List Subject) → IsStrictlySortedBy subject_cmp ss
+      → groups_along ss hs ≡ set_value (is_at (subject_cmp s)) (groups_along ss gs) w
   unfolding IsStrictlySortedBy
   written [] a = refl
   written (t ∷ ss) a =
-      elim (is_at (subject_cmp s) t) as (λ b. is_at (subject_cmp s) t ≡ b → (t, unwrap_or (group_in hs t) []) ∷ groups_along ss hs ≡ cond b ((t, w) ∷ groups_along ss gs) ((t, unwrap_or (group_in gs t) []) ∷ set_value (is_at (subject_cmp s)) (groups_along ss gs) w)) [
-        | true ↦ λ e. let rest = others_along ss (none_behind ss (subst (λ x. AllByRecursion (λ y. subject_cmp x y ≡ Less) ss) (sym (exact_at s t e)) a.0)) in λ i. (t, unwrap_or (has_it t e i) []) ∷ rest i
+      elim (is_at (subject_cmp s) t) as (λ b. is_at (subject_cmp s) t ≡ b
+      → (t, unwrap_or (group_in hs t) []) ∷ groups_along ss hs
+      ≡ cond b ((t, w) ∷ groups_along ss gs) ((t, unwrap_or (group_in gs t) [])
+      ∷ set_value (is_at (subject_cmp s)) (groups_along ss gs) w)) [
+        | true ↦ λ e. let rest = others_along ss (none_behind ss
+            (subst (λ x. AllByRecursion (λ y. subject_cmp x y ≡ Less) ss) (sym (exact_at s t e)) a.0)) in
+            λ i. (t, unwrap_or (has_it t e i) []) ∷ rest i
         | false ↦ λ e. λ i. (t, unwrap_or (keeps_it t e i) []) ∷ written ss a.1 i
       ] refl
 
-  pub entered : (ss : List Subject) → is_among ss s ≡ false → groups_along (insert_key subject_cmp ss s) hs ≡ insert_entry subject_cmp (groups_along ss gs) s w
+  pub entered : (ss : List Subject) → is_among ss s ≡ false
+      → groups_along (insert_key subject_cmp ss s) hs ≡ insert_entry subject_cmp (groups_along ss gs) s w
   entered [] e = λ i. (s, unwrap_or (has_it s (itself s) i) []) ∷ []
   entered (t ∷ ss) e =
-      elim (subject_cmp s t) as (λ o. subject_cmp s t ≡ o → groups_along (match_ordering o (s ∷ t ∷ ss) (t ∷ ss) (t ∷ insert_key subject_cmp ss s)) hs
-      ≡ match_ordering o ((s, w) ∷ (t, unwrap_or (group_in gs t) []) ∷ groups_along ss gs) ((t, w) ∷ groups_along ss gs) ((t, unwrap_or (group_in gs t) []) ∷ insert_entry subject_cmp (groups_along ss gs) s w)) [
+      elim (subject_cmp s t) as (λ o. subject_cmp s t ≡ o
+      → groups_along (match_ordering o (s ∷ t ∷ ss) (t ∷ ss) (t ∷ insert_key subject_cmp ss s)) hs
+      ≡ match_ordering o ((s, w) ∷ (t, unwrap_or (group_in gs t) []) ∷ groups_along ss gs) ((t, w) ∷ groups_along ss gs)
+      ((t, unwrap_or (group_in gs t) []) ∷ insert_entry subject_cmp (groups_along ss gs) s w)) [
         | Less ↦ λ o. λ i. (s, unwrap_or (has_it s (itself s) i) []) ∷ others_along (t ∷ ss) e i
-        | Equal ↦ λ o. let parts = neither (is_at (subject_cmp s) t) (is_among ss s) e in let no = sym parts.0 ∙ ap is_eq o in cc
-        | Greater ↦ λ o. let parts = neither (is_at (subject_cmp s) t) (is_among ss s) e in λ i. (t, unwrap_or (keeps_it t parts.0 i) []) ∷ entered ss parts.1 i
+        | Equal ↦ λ o. let parts = neither (is_at (subject_cmp s) t) (is_among ss s) e in
+            let no = sym parts.0 ∙ ap is_eq o in cc
+        | Greater ↦ λ o. let parts = neither (is_at (subject_cmp s) t) (is_among ss s) e in
+            λ i. (t, unwrap_or (keeps_it t parts.0 i) []) ∷ entered ss parts.1 i
       ] refl
 
 -- ---- what an index keeps
-pub same_indexed : (ss : List Subject) (gs hs : Groups) → ((q : Subject) → group_in hs q ≡ group_in gs q) → AreIndexed ss gs → AreIndexed ss hs
+pub same_indexed : (ss : List Subject) (gs hs : Groups) → ((q : Subject) → group_in hs q ≡ group_in gs q)
+    → AreIndexed ss gs → AreIndexed ss hs
 same_indexed ss gs hs h k = record { ascend = k.ascend; same = λ q. k.same q ∙ ap is_some (sym (h q)) }
 
-module _ (s : Subject) (w : List Fields) (gs hs : Groups) (h : (q : Subject) → group_in hs q ≡ cond (subject_eq s q) (Some w) (group_in gs q)) where
-  pub set_indexed : (ss : List Subject) (us : List Fields) → Some us ≡ group_in gs s → AreIndexed ss gs → AreIndexed ss hs
+module _ (s : Subject) (w : List Fields) (gs hs : Groups) (h : (q : Subject)
+    → group_in hs q ≡ cond (subject_eq s q) (Some w) (group_in gs q)) where
+  pub set_indexed : (ss : List Subject) (us : List Fields) → Some us ≡ group_in gs s → AreIndexed ss gs
+      → AreIndexed ss hs
   set_indexed ss us is k = record {
     ascend = k.ascend;
-    same = λ q. elim (is_at (subject_cmp s) q) as (λ b. is_at (subject_cmp s) q ≡ b → is_among ss q ≡ is_some (group_in hs q)) [
-      | true ↦ λ e. ap (is_among ss) (sym (exact_at s q e)) ∙ k.same s ∙ ap is_some (sym is) ∙ ap is_some (sym (has_it s w gs hs h q e))
-      | false ↦ λ e. k.same q ∙ ap is_some (sym (keeps_it s w gs hs h q e))
-    ] refl;
+    same = λ q. elim (is_at (subject_cmp s) q) as (λ b. is_at (subject_cmp s) q ≡ b
+        → is_among ss q ≡ is_some (group_in hs q)) [
+          | true ↦ λ e. ap (is_among ss) (sym (exact_at s q e)) ∙ k.same s ∙ ap is_some (sym is)
+              ∙ ap is_some (sym (has_it s w gs hs h q e))
+          | false ↦ λ e. k.same q ∙ ap is_some (sym (keeps_it s w gs hs h q e))
+        ] refl;
   }
 
-  pub new_indexed : (ss ts : List Subject) → IsStrictlySortedBy subject_cmp ts → ((q : Subject) → is_among ts q ≡ cond (is_at (subject_cmp s) q) true (is_among ss q)) → AreIndexed ss gs → AreIndexed ts hs
+  pub new_indexed : (ss ts : List Subject) → IsStrictlySortedBy subject_cmp ts
+      → ((q : Subject) → is_among ts q ≡ cond (is_at (subject_cmp s) q) true (is_among ss q)) → AreIndexed ss gs
+      → AreIndexed ts hs
   new_indexed ss ts a n k = record {
     ascend = a;
-    same = λ q. elim (is_at (subject_cmp s) q) as (λ b. is_at (subject_cmp s) q ≡ b → is_among ts q ≡ is_some (group_in hs q)) [
-      | true ↦ λ e. n q ∙ ap (λ b. cond b true (is_among ss q)) e ∙ ap is_some (sym (has_it s w gs hs h q e))
-      | false ↦ λ e. n q ∙ ap (λ b. cond b true (is_among ss q)) e ∙ k.same q ∙ ap is_some (sym (keeps_it s w gs hs h q e))
-    ] refl;
+    same = λ q. elim (is_at (subject_cmp s) q) as (λ b. is_at (subject_cmp s) q ≡ b
+        → is_among ts q ≡ is_some (group_in hs q)) [
+          | true ↦ λ e. n q ∙ ap (λ b. cond b true (is_among ss q)) e ∙ ap is_some (sym (has_it s w gs hs h q e))
+          | false ↦ λ e. n q ∙ ap (λ b. cond b true (is_among ss q)) e ∙ k.same q
+              ∙ ap is_some (sym (keeps_it s w gs hs h q e))
+        ] refl;
   }
 
 -- ---- seen from the groups in their order
@@ -153,9 +182,11 @@ module _ (ss : List Subject) (gs now : Groups) (k : AreIndexed ss gs) (is : grou
   pub not_among : (s : Subject) → group_at s now ≡ None → is_among ss s ≡ false
   not_among s none = k.same s ∙ ap is_some (found s ss gs k ∙ ap (group_at s) is ∙ none)
 
-  pub written_as : (s t : Subject) (w : List Fields) (hs : Groups) → s ≡ t → ((q : Subject) → group_in hs q ≡ cond (subject_eq s q) (Some w) (group_in gs q))
+  pub written_as : (s t : Subject) (w : List Fields) (hs : Groups) → s ≡ t
+      → ((q : Subject) → group_in hs q ≡ cond (subject_eq s q) (Some w) (group_in gs q))
       → groups_along ss hs ≡ set_value (is_at (subject_cmp t)) now w
-  written_as s t w hs same h = written s w gs hs h ss k.ascend ∙ (λ i. set_value (is_at (subject_cmp (same i))) (is i) w)
+  written_as s t w hs same h = written s w gs hs h ss k.ascend
+      ∙ (λ i. set_value (is_at (subject_cmp (same i))) (is i) w)
 
 pub some_is : (us : List Fields) (o : Option (List Fields)) → Some us ≡ o → IsSome o
 some_is us o h = subst IsSome h refl
@@ -171,7 +202,8 @@ among_first t ss = ap (λ b. b || is_among ss t) (itself t)
 among_rest : (t : Subject) (ss : List Subject) (q : Subject) → is_among ss q ≡ true → is_among (t ∷ ss) q ≡ true
 among_rest t ss q h = elim (is_at (subject_cmp q) t) as (λ b. b || is_among ss q ≡ true) [ true ↦ refl | false ↦ h ]
 
-all_there : (ss : List Subject) (gs : Groups) → ((q : Subject) → is_among ss q ≡ true → is_some (group_in gs q) ≡ true) → AreThere ss gs
+all_there : (ss : List Subject) (gs : Groups) → ((q : Subject) → is_among ss q ≡ true → is_some (group_in gs q) ≡ true)
+    → AreThere ss gs
 all_there [] gs h = tt
 all_there (t ∷ ss) gs h = (h t (among_first t ss), all_there ss gs (λ q a. h q (among_rest t ss q a)))
 

@@ -1,5 +1,7 @@
 -- The walk over a table's registers finds the owner of an address, and there is at most one.
-use Rattle.std.proofs.Common.{◌≡◌, ◌≢◌, inl, inr, ℕ, ◌≤◌, Bool, true, false, cond, ◌&&◌, ◌||◌, Option, Some, None, MatchOption, List, [], ◌∷◌, ◌++◌, refl, sym, ap, subst, ◌∙◌, append_assoc, append-nil, arith}
+use Rattle.std.proofs.Common.{◌≡◌, ◌≢◌, inl, inr, ℕ, ◌≤◌, Bool, true, false, cond, ◌&&◌, ◌||◌, Option, Some, None}
+use Rattle.std.proofs.Common.{MatchOption, List, [], ◌∷◌, ◌++◌, refl, sym, ap, subst, ◌∙◌, append_assoc, append-nil}
+use Rattle.std.proofs.Common.{arith}
 use Rattle.std.proofs.lemmas.Bool.Decides.{nat_tests}
 use Rattle.std.specs.Prelude.{nat_lt, ◌==◌}
 use Rattle.std.specs.declared.cmp.Ordering.{Ordering}
@@ -17,22 +19,31 @@ use Rattle.route_wire.specs.declared.update.Value.{Value}
 use Rattle.route_wire.specs.Order.{register_cmp}
 use Rattle.route_wire.specs.Totals.{register_total, register_exact}
 use Rattle.route_join.specs.Table.{Table, register_of, value_at}
-use Rattle.route_join.specs.Owner.{advert_in, advert_of, IsBetterBy, IsBetter, IsOwner, IsUnowned, is_better_by, is_better, is_about, said_of, better_of, best_among, owner}
+use Rattle.route_join.specs.Owner.{advert_in, advert_of, IsBetterBy, IsBetter, IsOwner, IsUnowned, is_better_by}
+use Rattle.route_join.specs.Owner.{is_better, is_about, said_of, better_of, best_among, owner}
 use Rattle.route_join.specs.Laws.{OneOwner, OwnerAlong}
 use Rattle.route_join.proofs.Orders.{less, both, from_T}
 use Rattle.route_join.proofs.Tables.{itself_register, same_or_other, other_register}
 
 -- ---- better is a strict order, and of two registers one is better
-better_trans_by : (f g h : Bool) (m n k : ℕ) (o p q : Ordering) → (o ≡ Less → p ≡ Less → q ≡ Less) → IsBetterBy f g m n o → IsBetterBy g h n k p → IsBetterBy f h m k q
-better_trans_by true true true m n k o p q t a b = (omega (arith, a.0, b.0), λ e. t (a.1 (omega (arith, a.0, b.0, e))) (b.1 (omega (arith, a.0, b.0, e))))
+better_trans_by : (f g h : Bool) (m n k : ℕ) (o p q : Ordering) → (o ≡ Less → p ≡ Less → q ≡ Less)
+    → IsBetterBy f g m n o → IsBetterBy g h n k p → IsBetterBy f h m k q
+better_trans_by true true true m n k o p q t a b = (
+  omega (arith, a.0, b.0),
+  λ e. t (a.1 (omega (arith, a.0, b.0, e))) (b.1 (omega (arith, a.0, b.0, e))),
+)
 better_trans_by true true false m n k o p q t a b = tt
 better_trans_by true false true m n k o p q t a b = absurd b
 better_trans_by true false false m n k o p q t a b = tt
 better_trans_by false true h m n k o p q t a b = absurd a
 better_trans_by false false true m n k o p q t a b = absurd b
-better_trans_by false false false m n k o p q t a b = (omega (arith, a.0, b.0), λ e. t (a.1 (omega (arith, a.0, b.0, e))) (b.1 (omega (arith, a.0, b.0, e))))
+better_trans_by false false false m n k o p q t a b = (
+  omega (arith, a.0, b.0),
+  λ e. t (a.1 (omega (arith, a.0, b.0, e))) (b.1 (omega (arith, a.0, b.0, e))),
+)
 
-better_not_back_by : (f g : Bool) (m n : ℕ) (o p : Ordering) → (o ≡ Less → p ≡ Less → ⊥) → IsBetterBy f g m n o → IsBetterBy g f n m p → ⊥
+better_not_back_by : (f g : Bool) (m n : ℕ) (o p : Ordering) → (o ≡ Less → p ≡ Less → ⊥) → IsBetterBy f g m n o
+    → IsBetterBy g f n m p → ⊥
 better_not_back_by true true m n o p t a b = t (a.1 (omega (arith, a.0, b.0))) (b.1 (omega (arith, a.0, b.0)))
 better_not_back_by true false m n o p t a b = b
 better_not_back_by false true m n o p t a b = a
@@ -57,7 +68,8 @@ turned Less ne e = cc
 turned Equal ne e = absurd (ne refl)
 turned Greater ne e = refl
 
-untested_by : (f g : Bool) (m n : ℕ) (o : Ordering) → o ≢ Equal → is_better_by f g m n o ≡ false → IsBetterBy g f n m (ordering_reverse o)
+untested_by : (f g : Bool) (m n : ℕ) (o : Ordering) → o ≢ Equal → is_better_by f g m n o ≡ false
+    → IsBetterBy g f n m (ordering_reverse o)
 untested_by true true m n o ne e = let t = untested m n (is_lt o) e in (t.0, λ h. turned o ne (t.1 h))
 untested_by true false m n o ne e = cc
 untested_by false true m n o ne e = tt
@@ -67,38 +79,50 @@ less_not_back : (q r : Register) → register_cmp q r ≡ Less → register_cmp 
 less_not_back q r a b = let e : register_cmp r q ≡ Greater = register_total.antisymm r q ∙ ap ordering_reverse a in cc
 
 pub better_not_back : (a : Advert) (r : Register) (b : Advert) (q : Register) → IsBetter a r b q → IsBetter b q a r → ⊥
-better_not_back a r b q = better_not_back_by a.is_static b.is_static a.sequence b.sequence (register_cmp r q) (register_cmp q r) (less_not_back r q)
+better_not_back a r b q = better_not_back_by a.is_static b.is_static a.sequence b.sequence (register_cmp r q)
+    (register_cmp q r) (less_not_back r q)
 
-pub better_trans : (a : Advert) (r : Register) (b : Advert) (q : Register) (c : Advert) (p : Register) → IsBetter a r b q → IsBetter b q c p → IsBetter a r c p
-better_trans a r b q c p = better_trans_by a.is_static b.is_static c.is_static a.sequence b.sequence c.sequence (register_cmp r q) (register_cmp q p) (register_cmp r p) (register_total.trans r q p)
+pub better_trans : (a : Advert) (r : Register) (b : Advert) (q : Register) (c : Advert) (p : Register)
+    → IsBetter a r b q → IsBetter b q c p → IsBetter a r c p
+better_trans a r b q c p = better_trans_by a.is_static b.is_static c.is_static a.sequence b.sequence c.sequence
+    (register_cmp r q) (register_cmp q p) (register_cmp r p) (register_total.trans r q p)
 
 pub is_better_is : (a : Advert) (r : Register) (b : Advert) (q : Register) → is_better a r b q ≡ true → IsBetter a r b q
 is_better_is a r b q = tested_by a.is_static b.is_static a.sequence b.sequence (register_cmp r q)
 
-pub not_better_is : (a : Advert) (r : Register) (b : Advert) (q : Register) → r ≢ q → is_better a r b q ≡ false → IsBetter b q a r
+pub not_better_is : (a : Advert) (r : Register) (b : Advert) (q : Register) → r ≢ q → is_better a r b q ≡ false
+    → IsBetter b q a r
 not_better_is a r b q ne e =
     subst (IsBetterBy b.is_static a.is_static b.sequence a.sequence) (sym (register_total.antisymm q r))
     (untested_by a.is_static b.is_static a.sequence b.sequence (register_cmp r q) (λ t. ne (register_exact r q t)) e)
 
 -- what is no worse than an advert of the same register is better than all that this is better than
-as_good_by : (f g h : Bool) (m n k : ℕ) (o p : Ordering) → is_better_by f g m n p ≡ false → IsBetterBy f h m k o → IsBetterBy g h n k o
-as_good_by true true true m n k o p e a = let t = untested m n (is_lt p) e in (omega (arith, a.0, t.0), λ s. a.1 (omega (arith, a.0, t.0, s)))
+as_good_by : (f g h : Bool) (m n k : ℕ) (o p : Ordering) → is_better_by f g m n p ≡ false → IsBetterBy f h m k o
+    → IsBetterBy g h n k o
+as_good_by true true true m n k o p e a = let t = untested m n (is_lt p) e in
+    (omega (arith, a.0, t.0), λ s. a.1 (omega (arith, a.0, t.0, s)))
 as_good_by true true false m n k o p e a = tt
 as_good_by true false h m n k o p e a = cc
 as_good_by false true true m n k o p e a = absurd a
 as_good_by false true false m n k o p e a = tt
 as_good_by false false true m n k o p e a = absurd a
-as_good_by false false false m n k o p e a = let t = untested m n (is_lt p) e in (omega (arith, a.0, t.0), λ s. a.1 (omega (arith, a.0, t.0, s)))
+as_good_by false false false m n k o p e a = let t = untested m n (is_lt p) e in
+    (omega (arith, a.0, t.0), λ s. a.1 (omega (arith, a.0, t.0, s)))
 
-pub as_good : (a now : Advert) (r : Register) (b : Advert) (q : Register) → is_better a r now r ≡ false → IsBetter a r b q → IsBetter now r b q
-as_good a now r b q e h = as_good_by a.is_static now.is_static b.is_static a.sequence now.sequence b.sequence (register_cmp r q) (register_cmp r r) e h
+pub as_good : (a now : Advert) (r : Register) (b : Advert) (q : Register) → is_better a r now r ≡ false
+    → IsBetter a r b q → IsBetter now r b q
+as_good a now r b q e h = as_good_by a.is_static now.is_static b.is_static a.sequence now.sequence b.sequence
+    (register_cmp r q) (register_cmp r r) e h
 
 -- ---- there is at most one owner
 pub one_owner : OneOwner
-one_owner t vni mac o p a b = elim (same_or_other (register_of o (Mac vni mac a.ip)) (register_of p (Mac vni mac b.ip))) as (λ _. o ≡ p) [
-  | inl same ↦ ap (λ (r : Register). r.originator) same
-  | inr ne ↦ absurd (better_not_back a.advert (register_of o (Mac vni mac a.ip)) b.advert (register_of p (Mac vni mac b.ip)) (a.best p b.ip b.advert (λ h. ne (sym h)) b.own) (b.best o a.ip a.advert ne a.own))
-]
+one_owner t vni mac o p a b = elim (same_or_other (register_of o (Mac vni mac a.ip))
+    (register_of p (Mac vni mac b.ip))) as (λ _. o ≡ p) [
+      | inl same ↦ ap (λ (r : Register). r.originator) same
+      | inr ne ↦ absurd (better_not_back a.advert (register_of o (Mac vni mac a.ip)) b.advert
+          (register_of p (Mac vni mac b.ip)) (a.best p b.ip b.advert (λ h. ne (sym h)) b.own)
+          (b.best o a.ip a.advert ne a.own))
+    ]
 
 -- ---- registers of an address
 abbrev IsAbout : ℕ → ℕ → Key → Type 0
@@ -118,27 +142,35 @@ itself : (n : ℕ) → (n == n) ≡ true
 itself n = grind (arith, nat_tests)
 
 about_test : (vni mac : ℕ) (k : Key) → IsAbout vni mac k → is_about vni mac k ≡ true
-about_test vni mac k h = subst (λ x. is_about vni mac x ≡ true) (sym h.1) (ap (λ b. b && (mac == mac)) (itself vni) ∙ itself mac)
+about_test vni mac k h = subst (λ x. is_about vni mac x ≡ true) (sym h.1) (ap (λ b. b && (mac == mac)) (itself vni)
+    ∙ itself mac)
 
-said_some : (vni mac : ℕ) (r : Register) (v : Value) (b : Advert) → said_of vni mac r v ≡ Some b → IsAbout vni mac r.key × (advert_in v.content ≡ Some b)
+said_some : (vni mac : ℕ) (r : Register) (v : Value) (b : Advert) → said_of vni mac r v ≡ Some b
+    → IsAbout vni mac r.key × (advert_in v.content ≡ Some b)
 said_some vni mac r v b e = go (is_about vni mac r.key) refl e
   where
-    go : (c : Bool) → is_about vni mac r.key ≡ c → cond c (advert_in v.content) None ≡ Some b → IsAbout vni mac r.key × (advert_in v.content ≡ Some b)
+    go : (c : Bool) → is_about vni mac r.key ≡ c → cond c (advert_in v.content) None ≡ Some b
+        → IsAbout vni mac r.key × (advert_in v.content ≡ Some b)
     go true t e = (about_is vni mac r.key t, e)
     go false t e = cc
 
-said_none : (vni mac : ℕ) (r : Register) (v : Value) → said_of vni mac r v ≡ None → IsAbout vni mac r.key → advert_in v.content ≡ None
+said_none : (vni mac : ℕ) (r : Register) (v : Value) → said_of vni mac r v ≡ None → IsAbout vni mac r.key
+    → advert_in v.content ≡ None
 said_none vni mac r v e h = ap (λ c. cond c (advert_in v.content) None) (sym (about_test vni mac r.key h)) ∙ e
 
 -- ---- the walk, register by register
 abbrev pub in_list : List (Register × Value) → Register → Option Advert
 in_list es q = advert_of (find register_cmp q es)
 
-pub at_last : (es : List (Register × Value)) (e : Register × Value) → find register_cmp e.0 es ≡ None → in_list (es ++ e ∷ []) e.0 ≡ advert_in e.1.content
-at_last es e absent = ap advert_of (find-append register_cmp register_total es e.0 e.1 e.0 absent ∙ ap (λ b. cond b (Some e.1) (find register_cmp e.0 es)) (itself_register e.0))
+pub at_last : (es : List (Register × Value)) (e : Register × Value) → find register_cmp e.0 es ≡ None
+    → in_list (es ++ e ∷ []) e.0 ≡ advert_in e.1.content
+at_last es e absent = ap advert_of (find-append register_cmp register_total es e.0 e.1 e.0 absent
+    ∙ ap (λ b. cond b (Some e.1) (find register_cmp e.0 es)) (itself_register e.0))
 
-pub at_before : (es : List (Register × Value)) (e : Register × Value) (q : Register) → find register_cmp e.0 es ≡ None → q ≢ e.0 → in_list (es ++ e ∷ []) q ≡ in_list es q
-at_before es e q absent ne = ap advert_of (find-append register_cmp register_total es e.0 e.1 q absent ∙ ap (λ b. cond b (Some e.1) (find register_cmp q es)) (other_register q e.0 ne))
+pub at_before : (es : List (Register × Value)) (e : Register × Value) (q : Register) → find register_cmp e.0 es ≡ None
+    → q ≢ e.0 → in_list (es ++ e ∷ []) q ≡ in_list es q
+at_before es e q absent ne = ap advert_of (find-append register_cmp register_total es e.0 e.1 q absent
+    ∙ ap (λ b. cond b (Some e.1) (find register_cmp q es)) (other_register q e.0 ne))
 
 -- r says a of the address, and that is better than what each other register says
 record IsBestAmong (vni mac : ℕ) (es : List (Register × Value)) (r : Register) (a : Advert) : Type 0 where
@@ -155,7 +187,8 @@ abbrev IsBest : ℕ → ℕ → List (Register × Value) → Option (Register ×
 IsBest vni mac es None = AllSilent vni mac es
 IsBest vni mac es (Some best) = IsBestAmong vni mac es best.0 best.1
 
-module _ (vni mac : ℕ) (es : List (Register × Value)) (e : Register × Value) (absent : find register_cmp e.0 es ≡ None) where
+module _ (vni mac : ℕ) (es : List (Register × Value)) (e : Register × Value)
+    (absent : find register_cmp e.0 es ≡ None) where
   -- what the list has is not at the new register
   not_last : (r : Register) (a : Advert) → in_list es r ≡ Some a → r ≢ e.0
   not_last r a is same =
@@ -164,98 +197,134 @@ module _ (vni mac : ℕ) (es : List (Register × Value)) (e : Register × Value)
       cc
 
   -- the new register is passed over
-  kept : (r : Register) (a : Advert) → IsBestAmong vni mac es r a → ((b : Advert) → IsAbout vni mac e.0.key → advert_in e.1.content ≡ Some b → IsBetter a r b e.0) → IsBestAmong vni mac (es ++ e ∷ []) r a
+  kept : (r : Register) (a : Advert) → IsBestAmong vni mac es r a
+      → ((b : Advert) → IsAbout vni mac e.0.key → advert_in e.1.content ≡ Some b → IsBetter a r b e.0)
+      → IsBestAmong vni mac (es ++ e ∷ []) r a
   kept r a h beats = record {
     about = h.about;
     own = at_before es e r absent (not_last r a h.own) ∙ h.own;
     best = λ q b about ne is. elim (same_or_other q e.0) as (λ _. IsBetter a r b q) [
-      | inl same ↦ subst (λ x. IsBetter a r b x) (sym same) (beats b (subst (λ (x : Register). IsAbout vni mac x.key) same about) (sym (at_last es e absent) ∙ subst (λ x. in_list (es ++ e ∷ []) x ≡ Some b) same is))
+      | inl same ↦ subst (λ x. IsBetter a r b x) (sym same)
+          (beats b (subst (λ (x : Register). IsAbout vni mac x.key) same about) (sym (at_last es e absent)
+          ∙ subst (λ x. in_list (es ++ e ∷ []) x ≡ Some b) same is))
       | inr other ↦ h.best q b about ne (sym (at_before es e q absent other) ∙ is)
     ];
   }
 
   silent : AllSilent vni mac es → said_of vni mac e.0 e.1 ≡ None → AllSilent vni mac (es ++ e ∷ [])
   silent h says q about = elim (same_or_other q e.0) as (λ _. in_list (es ++ e ∷ []) q ≡ None) [
-    | inl same ↦ ap (in_list (es ++ e ∷ [])) same ∙ at_last es e absent ∙ said_none vni mac e.0 e.1 says (subst (λ (x : Register). IsAbout vni mac x.key) same about)
+    | inl same ↦ ap (in_list (es ++ e ∷ [])) same ∙ at_last es e absent
+        ∙ said_none vni mac e.0 e.1 says (subst (λ (x : Register). IsAbout vni mac x.key) same about)
     | inr ne ↦ at_before es e q absent ne ∙ h q about
   ]
 
-  first : (b : Advert) → AllSilent vni mac es → said_of vni mac e.0 e.1 ≡ Some b → IsBestAmong vni mac (es ++ e ∷ []) e.0 b
+  first : (b : Advert) → AllSilent vni mac es → said_of vni mac e.0 e.1 ≡ Some b
+      → IsBestAmong vni mac (es ++ e ∷ []) e.0 b
   first b h says = let s = said_some vni mac e.0 e.1 b says in record {
     about = s.0;
     own = at_last es e absent ∙ s.1;
-    best = λ q d about ne at. let none = h q about in let there : in_list es q ≡ Some d = sym (at_before es e q absent ne) ∙ at in cc;
+    best = λ q d about ne at. let none = h q about in let there : in_list es q ≡ Some d =
+        sym (at_before es e q absent ne) ∙ at in cc;
   }
 
-  replaced : (r : Register) (a b : Advert) → IsBestAmong vni mac es r a → said_of vni mac e.0 e.1 ≡ Some b → IsBetter b e.0 a r → IsBestAmong vni mac (es ++ e ∷ []) e.0 b
+  replaced : (r : Register) (a b : Advert) → IsBestAmong vni mac es r a → said_of vni mac e.0 e.1 ≡ Some b
+      → IsBetter b e.0 a r → IsBestAmong vni mac (es ++ e ∷ []) e.0 b
   replaced r a b h says better = let s = said_some vni mac e.0 e.1 b says in record {
     about = s.0;
     own = at_last es e absent ∙ s.1;
-    best = λ q d about ne at. let there : in_list es q ≡ Some d = sym (at_before es e q absent ne) ∙ at in elim (same_or_other q r) as (λ _. IsBetter b e.0 d q) [
-      | inl same ↦
-          let here : in_list es r ≡ Some d = subst (λ y. in_list es y ≡ Some d) same there in
-          let own = h.own in
-          let equal : a ≡ d = cc in
-          subst (λ y. IsBetter b e.0 d y) (sym same) (subst (λ y. IsBetter b e.0 y r) equal better)
-      | inr other ↦ better_trans b e.0 a r d q better (h.best q d about other there)
-    ];
+    best = λ q d about ne at. let there : in_list es q ≡ Some d = sym (at_before es e q absent ne) ∙ at in
+        elim (same_or_other q r) as (λ _. IsBetter b e.0 d q) [
+          | inl same ↦
+              let here : in_list es r ≡ Some d = subst (λ y. in_list es y ≡ Some d) same there in
+              let own = h.own in
+              let equal : a ≡ d = cc in
+              subst (λ y. IsBetter b e.0 d y) (sym same) (subst (λ y. IsBetter b e.0 y r) equal better)
+          | inr other ↦ better_trans b e.0 a r d q better (h.best q d about other there)
+        ];
   }
 
-  step : (best : Option (Register × Advert)) → IsBest vni mac es best → IsBest vni mac (es ++ e ∷ []) (better_of e.0 (said_of vni mac e.0 e.1) best)
+  step : (best : Option (Register × Advert)) → IsBest vni mac es best
+      → IsBest vni mac (es ++ e ∷ []) (better_of e.0 (said_of vni mac e.0 e.1) best)
   step best h = go (said_of vni mac e.0 e.1) refl best h
     where
-      pick : (b : Advert) (best : Register × Advert) → IsBestAmong vni mac es best.0 best.1 → said_of vni mac e.0 e.1 ≡ Some b → (c : Bool) → is_better b e.0 best.1 best.0 ≡ c
+      pick : (b : Advert) (best : Register × Advert) → IsBestAmong vni mac es best.0 best.1
+          → said_of vni mac e.0 e.1 ≡ Some b → (c : Bool) → is_better b e.0 best.1 best.0 ≡ c
           → IsBest vni mac (es ++ e ∷ []) (cond c (Some (e.0, b)) (Some best))
       pick b best h says true t = replaced best.0 best.1 b h says (is_better_is b e.0 best.1 best.0 t)
       pick b best h says false t = kept best.0 best.1 h (λ d about is.
           let s = said_some vni mac e.0 e.1 b says in
           let own = s.1 in
           let equal : b ≡ d = cc in
-          subst (λ y. IsBetter best.1 best.0 y e.0) equal (not_better_is b e.0 best.1 best.0 (λ same. not_last best.0 best.1 h.own (sym same)) t))
+          subst (λ y. IsBetter best.1 best.0 y e.0) equal
+          (not_better_is b e.0 best.1 best.0 (λ same. not_last best.0 best.1 h.own (sym same)) t))
 
-      go : (here : Option Advert) → said_of vni mac e.0 e.1 ≡ here → (best : Option (Register × Advert)) → IsBest vni mac es best → IsBest vni mac (es ++ e ∷ []) (better_of e.0 here best)
+      go : (here : Option Advert) → said_of vni mac e.0 e.1 ≡ here → (best : Option (Register × Advert))
+          → IsBest vni mac es best → IsBest vni mac (es ++ e ∷ []) (better_of e.0 here best)
       go None says None h = silent h says
-      go None says (Some best) h = kept best.0 best.1 h (λ b about is. let none = said_none vni mac e.0 e.1 says about in cc)
+      go None says (Some best) h = kept best.0 best.1 h (λ b about is. let none =
+          said_none vni mac e.0 e.1 says about in cc)
       go (Some b) says None h = first b h says
       go (Some b) says (Some best) h = pick b best h says (is_better b e.0 best.1 best.0) refl
 
 -- in a list in order, a later register is not among those before it
-pub fresh : (ps es : List (Register × Value)) (e : Register × Value) → is_sorted register_cmp (ps ++ e ∷ es) ≡ true → find register_cmp e.0 ps ≡ None
+pub fresh : (ps es : List (Register × Value)) (e : Register × Value) → is_sorted register_cmp (ps ++ e ∷ es) ≡ true
+    → find register_cmp e.0 ps ≡ None
 fresh [] es e s = refl
 fresh (p ∷ ps) es e s =
     let parts = both (below_all register_cmp p.0 (ps ++ e ∷ es)) (is_sorted register_cmp (ps ++ e ∷ es)) s in
-    ap (λ b. cond b (Some p.1) (find register_cmp e.0 ps)) (other_register e.0 p.0 (λ same. let l = above ps parts.0 in let e : register_cmp p.0 p.0 ≡ Less = subst (λ x. register_cmp p.0 x ≡ Less) same l in less_not_back p.0 p.0 e e)) ∙ fresh ps es e parts.1
+    ap (λ b. cond b (Some p.1) (find register_cmp e.0 ps))
+    (other_register e.0 p.0 (λ same. let l = above ps parts.0 in
+    let e : register_cmp p.0 p.0 ≡ Less = subst (λ x. register_cmp p.0 x ≡ Less) same l in
+    less_not_back p.0 p.0 e e)) ∙ fresh ps es e parts.1
   where
-    above : (qs : List (Register × Value)) → below_all register_cmp p.0 (qs ++ e ∷ es) ≡ true → register_cmp p.0 e.0 ≡ Less
+    above : (qs : List (Register × Value)) → below_all register_cmp p.0 (qs ++ e ∷ es) ≡ true
+        → register_cmp p.0 e.0 ≡ Less
     above [] h = less (register_cmp p.0 e.0) (both (is_lt (register_cmp p.0 e.0)) (below_all register_cmp p.0 es) h).0
     above (q ∷ qs) h = above qs (both (is_lt (register_cmp p.0 q.0)) (below_all register_cmp p.0 (qs ++ e ∷ es)) h).1
 
-walk : (vni mac : ℕ) (ps es : List (Register × Value)) (best : Option (Register × Advert)) → is_sorted register_cmp (ps ++ es) ≡ true → IsBest vni mac ps best → IsBest vni mac (ps ++ es) (best_among vni mac es best)
+walk : (vni mac : ℕ) (ps es : List (Register × Value)) (best : Option (Register × Advert))
+    → is_sorted register_cmp (ps ++ es) ≡ true → IsBest vni mac ps best
+    → IsBest vni mac (ps ++ es) (best_among vni mac es best)
 walk vni mac ps [] best s h = subst (λ x. IsBest vni mac x best) (sym (append-nil ps)) h
 walk vni mac ps (e ∷ es) best s h =
     let moved : (ps ++ e ∷ []) ++ es ≡ ps ++ e ∷ es = append_assoc ps (e ∷ []) es in
     let next = better_of e.0 (said_of vni mac e.0 e.1) best in
     subst (λ x. IsBest vni mac x (best_among vni mac es next)) moved
-    (walk vni mac (ps ++ e ∷ []) es next (ap (is_sorted register_cmp) moved ∙ s) (step vni mac ps e (fresh ps es e s) best h))
+    (walk vni mac (ps ++ e ∷ []) es next (ap (is_sorted register_cmp) moved ∙ s)
+    (step vni mac ps e (fresh ps es e s) best h))
 
 pub in_table : (t : Table) (r : Register) → in_list (entries t.registers) r ≡ advert_of (value_at t r)
 in_table t r = ap advert_of (sym (get-entries t.registers r))
 
 -- the walk answers the owner, none where nobody advertises the address
 pub owner_is : (t : Table) (vni mac : ℕ) → MatchOption (owner t vni mac) (IsUnowned t vni mac) (IsOwner t vni mac)
-owner_is t vni mac = go (best_among vni mac (entries t.registers) None) (walk vni mac [] (entries t.registers) None (from_T _ (entries_sorted t.registers)) (λ q about. refl))
+owner_is t vni mac = go (best_among vni mac (entries t.registers) None)
+    (walk vni mac [] (entries t.registers) None (from_T _ (entries_sorted t.registers)) (λ q about. refl))
   where
-    go : (best : Option (Register × Advert)) → IsBest vni mac (entries t.registers) best → MatchOption (option_map (λ (best : Register × Advert). best.0.originator) best) (IsUnowned t vni mac) (IsOwner t vni mac)
-    go None h = λ o ip. sym (in_table t (register_of o (Mac vni mac ip))) ∙ h (register_of o (Mac vni mac ip)) (ip, refl)
+    go : (best : Option (Register × Advert)) → IsBest vni mac (entries t.registers) best
+        → MatchOption (option_map (λ (best : Register × Advert). best.0.originator) best) (IsUnowned t vni mac)
+        (IsOwner t vni mac)
+    go None h = λ o ip. sym (in_table t (register_of o (Mac vni mac ip)))
+        ∙ h (register_of o (Mac vni mac ip)) (ip, refl)
     go (Some best) h =
-        let named : best.0 ≡ register_of best.0.originator (Mac vni mac h.about.0) = λ i. register_of best.0.originator (h.about.1 i) in
+        let named : best.0 ≡ register_of best.0.originator (Mac vni mac h.about.0) =
+        λ i. register_of best.0.originator (h.about.1 i) in
         record {
           ip = h.about.0;
           advert = best.1;
           own = ap (λ q. advert_of (value_at t q)) (sym named) ∙ sym (in_table t best.0) ∙ h.own;
-          best = λ p j b ne at. subst (λ q. IsBetter best.1 q b (register_of p (Mac vni mac j))) named (h.best (register_of p (Mac vni mac j)) b (j, refl) (λ q. ne (q ∙ named)) (in_table t (register_of p (Mac vni mac j)) ∙ at));
+          best = λ p j b ne at. subst (λ q. IsBetter best.1 q b (register_of p (Mac vni mac j))) named
+              (h.best (register_of p (Mac vni mac j)) b (
+                j,
+                refl,
+              ) (λ q. ne (q ∙ named)) (in_table t (register_of p (Mac vni mac j)) ∙ at));
         }
 
 -- equal adverts keep the owner
 pub owner_along : OwnerAlong
-owner_along s t vni mac o same h = record { ip = h.ip; advert = h.advert; own = sym (same o h.ip) ∙ h.own; best = λ p j b ne is. h.best p j b ne (same p j ∙ is) }
+owner_along s t vni mac o same h = record {
+  ip = h.ip;
+  advert = h.advert;
+  own = sym (same o h.ip) ∙ h.own;
+  best = λ p j b ne is. h.best p j b ne (same p j ∙ is);
+}

@@ -24,8 +24,10 @@ same_labels (Some m) None e = cc
 same_labels (Some m) (Some n) e = ap Some (exact_unsigned_eq m n e)
 
 same_adverts : (f g : Bool) (m n : ℕ) (k l : Option ℕ)
-    → advert.eq-value.it (record { is_static = f; sequence = m; label2 = k }) (record { is_static = g; sequence = n; label2 = l }) ≡ true
-    → record { is_static = f; sequence = m; label2 = k } ≡ (let a : Advert = record { is_static = g; sequence = n; label2 = l } in a)
+    → advert.eq-value.it (record { is_static = f; sequence = m; label2 = k })
+    (record { is_static = g; sequence = n; label2 = l }) ≡ true
+    → record { is_static = f; sequence = m; label2 = k }
+    ≡ (let a : Advert = record { is_static = g; sequence = n; label2 = l } in a)
 same_adverts true false m n k l e = cc
 same_adverts false true m n k l e = cc
 same_adverts true true m n k l e =
@@ -43,11 +45,13 @@ same_contents : (c d : Content) → content.eq-value.it c d ≡ true → c ≡ d
 same_contents Withdrawn Withdrawn e = refl
 same_contents Withdrawn (Advertised b) e = cc
 same_contents (Advertised a) Withdrawn e = cc
-same_contents (Advertised a) (Advertised b) e = ap Advertised (same_adverts a.is_static b.is_static a.sequence b.sequence a.label2 b.label2 e)
+same_contents (Advertised a) (Advertised b) e = ap Advertised
+    (same_adverts a.is_static b.is_static a.sequence b.sequence a.label2 b.label2 e)
 
 same_values : (v w : Value) → value.eq-value.it v w ≡ true → v ≡ w
 same_values v w e =
-    let h = both (v.counter == w.counter) (v.incarnation == w.incarnation && content.eq-value.it v.content w.content) e in
+    let h = both (v.counter == w.counter) (v.incarnation == w.incarnation && content.eq-value.it v.content w.content)
+    e in
     let g = both (v.incarnation == w.incarnation) (content.eq-value.it v.content w.content) h.1 in
     let counters = exact_unsigned_eq v.counter w.counter h.0 in
     let lives = exact_unsigned_eq v.incarnation w.incarnation g.0 in
@@ -57,7 +61,8 @@ same_values v w e =
 same_updates : (u v : Fields) → update.eq-value.it u v ≡ true → u ≡ v
 same_updates u v e =
     let h = both (register.eq-value.it u.register v.register) (value.eq-value.it u.value v.value) e in
-    let registers = register_exact u.register v.register (equal_from (register_cmp u.register v.register) (sym (tied_registers u.register v.register) ∙ h.0)) in
+    let registers = register_exact u.register v.register
+    (equal_from (register_cmp u.register v.register) (sym (tied_registers u.register v.register) ∙ h.0)) in
     let values = same_values u.value v.value h.1 in
     λ i. record { register = registers i; value = values i }
 

@@ -23,12 +23,14 @@ use Rattle.route_join.specs.Owner.{is_about}
 use Rattle.route_join.proofs.Orders.{both}
 
 pub subject_total : IsTotalOrder subject_cmp
-subject_total = then_total (on_total (λ (s : Subject). s.vni) nat_cmp_total) (on_total (λ (s : Subject). s.mac) (options_total nat_cmp_total))
+subject_total = then_total (on_total (λ (s : Subject). s.vni) nat_cmp_total)
+    (on_total (λ (s : Subject). s.mac) (options_total nat_cmp_total))
 
 both_by : (n m : ℕ) (o : Ordering) → nat_cmp n m ≡ o → nat_cmp (n + 1) (m + 1) ≡ o
 both_by n m o h = sym (nat_cmp_is (n + 1) (m + 1) o (go o (ranked n m o (sym h))))
   where
-    go : (o : Ordering) → MatchOrdering o (n < m) (n ≡ m) (m < n) → MatchOrdering o (n + 1 < m + 1) (n + 1 ≡ m + 1) (m + 1 < n + 1)
+    go : (o : Ordering) → MatchOrdering o (n < m) (n ≡ m) (m < n)
+        → MatchOrdering o (n + 1 < m + 1) (n + 1 ≡ m + 1) (m + 1 < n + 1)
     go Less k = omega arith
     go Equal k = omega arith
     go Greater k = omega arith
@@ -67,17 +69,23 @@ nested Equal p q = refl
 nested Greater p q = refl
 
 -- registers of different subjects are in the order of these
-pub by_subject : (r q : Register) → register_cmp r q ≡ ordering_then (subject_cmp (subject_of r.key) (subject_of q.key)) (ordering_then (nat_cmp r.originator q.originator) (ip_cmp (ip_of r.key) (ip_of q.key)))
+pub by_subject : (r q : Register) → register_cmp r q ≡ ordering_then (subject_cmp (subject_of r.key) (subject_of q.key))
+    (ordering_then (nat_cmp r.originator q.originator) (ip_cmp (ip_of r.key) (ip_of q.key)))
 by_subject r q =
     let last = ordering_then (nat_cmp r.originator q.originator) (ip_cmp (ip_of r.key) (ip_of q.key)) in
     nested (nat_cmp (vni_of r.key) (vni_of q.key)) (nat_cmp (place_of r.key) (place_of q.key)) last
-    ∙ λ i. ordering_then (ordering_then (nat_cmp (same_vni r.key i) (same_vni q.key i)) (same_places r.key q.key i)) last
+    ∙ λ i. ordering_then (ordering_then (nat_cmp (same_vni r.key i) (same_vni q.key i)) (same_places r.key q.key i))
+    last
 
-pub less_by_subject : (r q : Register) → subject_cmp (subject_of r.key) (subject_of q.key) ≡ Less → register_cmp r q ≡ Less
-less_by_subject r q h = by_subject r q ∙ ap (λ o. ordering_then o (ordering_then (nat_cmp r.originator q.originator) (ip_cmp (ip_of r.key) (ip_of q.key)))) h
+pub less_by_subject : (r q : Register) → subject_cmp (subject_of r.key) (subject_of q.key) ≡ Less
+    → register_cmp r q ≡ Less
+less_by_subject r q h = by_subject r q ∙ ap (λ o. ordering_then o
+    (ordering_then (nat_cmp r.originator q.originator) (ip_cmp (ip_of r.key) (ip_of q.key)))) h
 
-pub greater_by_subject : (r q : Register) → subject_cmp (subject_of r.key) (subject_of q.key) ≡ Greater → register_cmp r q ≡ Greater
-greater_by_subject r q h = by_subject r q ∙ ap (λ o. ordering_then o (ordering_then (nat_cmp r.originator q.originator) (ip_cmp (ip_of r.key) (ip_of q.key)))) h
+pub greater_by_subject : (r q : Register) → subject_cmp (subject_of r.key) (subject_of q.key) ≡ Greater
+    → register_cmp r q ≡ Greater
+greater_by_subject r q h = by_subject r q ∙ ap (λ o. ordering_then o
+    (ordering_then (nat_cmp r.originator q.originator) (ip_cmp (ip_of r.key) (ip_of q.key)))) h
 
 -- ---- keys of a subject
 abbrev pub address : ℕ → ℕ → Subject
@@ -103,7 +111,8 @@ about_address v m (Mac w n ip) h =
     λ i. address (vs i) (ms i)
 
 pub about_itself : (v m : ℕ) (k : Key) → subject_of k ≡ address v m → is_about v m k ≡ true
-about_itself v m k h = let key = address_key v m k h in let a = eq-eqb v v refl in let b = eq-eqb m m refl in let same : is_about v m (Mac v m key.0) ≡ true = cc in ap (is_about v m) key.1 ∙ same
+about_itself v m k h = let key = address_key v m k h in let a = eq-eqb v v refl in let b = eq-eqb m m refl in
+    let same : is_about v m (Mac v m key.0) ≡ true = cc in ap (is_about v m) key.1 ∙ same
 
 -- a key that is about a flood list
 pub flood_only : (v : ℕ) (k : Key) → subject_of k ≡ record { vni = v; mac = None } → k ≡ Flood v

@@ -1,5 +1,6 @@
 -- What all groups make of an update is what the update's group makes of it.
-use Rattle.std.proofs.Common.{◌≡◌, ℕ, ◌+◌, is_some, Bool, true, false, cond, Option, Some, None, length, Result, Ok, Err, List, [], ◌∷◌, IfOk, OnOk, OnErr, refl, sym, ap, subst, ◌∙◌, arith}
+use Rattle.std.proofs.Common.{◌≡◌, ℕ, ◌+◌, is_some, Bool, true, false, cond, Option, Some, None, length, Result, Ok}
+use Rattle.std.proofs.Common.{Err, List, [], ◌∷◌, IfOk, OnOk, OnErr, refl, sym, ap, subst, ◌∙◌, arith}
 use Rattle.std.specs.declared.alloc.AllocError.{AllocError}
 use Rattle.std.specs.BTreeMap.{insert_entry, is_at}
 use Rattle.std.specs.Map.{set_value}
@@ -16,45 +17,65 @@ use Rattle.route_join.specs.declared.subject.Subject.{Subject}
 use Rattle.route_join.specs.Subject.{subject_cmp, subject_of}
 use Rattle.route_join.specs.Table.{entries_of, is_news, IsOrdered}
 use Rattle.route_join.specs.Group.{AreAbout, IsSome, AreGroups, updates_in, entries_with, added}
-use Rattle.route_join.proofs.Groupings.{Groups, Entries, entries_in, entries_in_all, about_there, some_there, find_there, find_nowhere, put_there, same_there, put_new, about_put, some_put, groups_set, groups_insert}
+use Rattle.route_join.proofs.Groupings.{Groups, Entries, entries_in, entries_in_all, about_there, some_there}
+use Rattle.route_join.proofs.Groupings.{find_there, find_nowhere, put_there, same_there, put_new, about_put, some_put}
+use Rattle.route_join.proofs.Groupings.{groups_set, groups_insert}
 use Rattle.route_join.specs.Groups.{group_at}
 use Rattle.route_join.proofs.Leaders.{verdict, held_new}
 use Rattle.route_join.proofs.Orders.{to_T}
 
-about_with : (s : Subject) (es : Entries) (u : Fields) → AreAbout s es → subject_of u.register.key ≡ s → AreAbout s (entries_with es u)
-about_with s es u k h = elim (is_news (find register_cmp u.register es) u.value) as (λ b. AreAbout s (cond b (put register_cmp u.register u.value es) es)) [ true ↦ about_put s u.register u.value es k h | false ↦ k ]
+about_with : (s : Subject) (es : Entries) (u : Fields) → AreAbout s es → subject_of u.register.key ≡ s
+    → AreAbout s (entries_with es u)
+about_with s es u k h = elim (is_news (find register_cmp u.register es) u.value) as (λ b. AreAbout s
+    (cond b (put register_cmp u.register u.value es) es)) [ true ↦ about_put s u.register u.value es k h | false ↦ k ]
 
 some_with : (es : Entries) (u : Fields) → IsSome es → IsSome (entries_with es u)
-some_with es u k = elim (is_news (find register_cmp u.register es) u.value) as (λ b. IsSome (cond b (put register_cmp u.register u.value es) es)) [ true ↦ some_put u.register u.value es | false ↦ k ]
+some_with es u k = elim (is_news (find register_cmp u.register es) u.value) as (λ b. IsSome
+    (cond b (put register_cmp u.register u.value es) es)) [ true ↦ some_put u.register u.value es | false ↦ k ]
 
 -- ---- the update's group is there
-module _ (gs : Groups) (u : Fields) (us new : List Fields) (k : AreGroups gs) (h : group_at (subject_of u.register.key) gs ≡ Some us) where
-  with_there : entries_of new ≡ entries_with (entries_of us) u → entries_in (set_value (is_at (subject_cmp (subject_of u.register.key))) gs new) ≡ entries_with (entries_in gs) u
+module _ (gs : Groups) (u : Fields) (us new : List Fields) (k : AreGroups gs)
+    (h : group_at (subject_of u.register.key) gs ≡ Some us) where
+  with_there : entries_of new ≡ entries_with (entries_of us) u
+      → entries_in (set_value (is_at (subject_cmp (subject_of u.register.key))) gs new) ≡ entries_with (entries_in gs) u
   with_there e = go (is_news (find register_cmp u.register (entries_of us)) u.value) refl e
     where
-      go : (b : Bool) → is_news (find register_cmp u.register (entries_of us)) u.value ≡ b → entries_of new ≡ cond b (put register_cmp u.register u.value (entries_of us)) (entries_of us)
-          → entries_in (set_value (is_at (subject_cmp (subject_of u.register.key))) gs new) ≡ entries_with (entries_in gs) u
-      go true t p = put_there u.register u.value gs us new k h p ∙ sym (ap (λ x. cond x (put register_cmp u.register u.value (entries_in gs)) (entries_in gs)) (ap (λ o. is_news o u.value) (find_there u.register gs us k h) ∙ t))
-      go false t p = same_there (subject_of u.register.key) gs us new h p ∙ sym (ap (λ x. cond x (put register_cmp u.register u.value (entries_in gs)) (entries_in gs)) (ap (λ o. is_news o u.value) (find_there u.register gs us k h) ∙ t))
+      go : (b : Bool) → is_news (find register_cmp u.register (entries_of us)) u.value ≡ b
+          → entries_of new ≡ cond b (put register_cmp u.register u.value (entries_of us)) (entries_of us)
+          → entries_in (set_value (is_at (subject_cmp (subject_of u.register.key))) gs new)
+          ≡ entries_with (entries_in gs) u
+      go true t p = put_there u.register u.value gs us new k h p
+          ∙ sym (ap (λ x. cond x (put register_cmp u.register u.value (entries_in gs)) (entries_in gs))
+          (ap (λ o. is_news o u.value) (find_there u.register gs us k h) ∙ t))
+      go false t p = same_there (subject_of u.register.key) gs us new h p
+          ∙ sym (ap (λ x. cond x (put register_cmp u.register u.value (entries_in gs)) (entries_in gs))
+          (ap (λ o. is_news o u.value) (find_there u.register gs us k h) ∙ t))
 
   found_in : find register_cmp u.register (entries_of (updates_in gs)) ≡ find register_cmp u.register (entries_of us)
   found_in = ap (find register_cmp u.register) (entries_in_all gs) ∙ find_there u.register gs us k h
 
   module _ (after : Groups) (w : after ≡ set_value (is_at (subject_cmp (subject_of u.register.key))) gs new) where
-    pub took_in : entries_of new ≡ entries_with (entries_of us) u → entries_of (updates_in after) ≡ entries_with (entries_of (updates_in gs)) u
-    took_in e = ap (λ x. entries_of (updates_in x)) w ∙ entries_in_all (set_value (is_at (subject_cmp (subject_of u.register.key))) gs new) ∙ with_there e ∙ ap (λ es. entries_with es u) (sym (entries_in_all gs))
+    pub took_in : entries_of new ≡ entries_with (entries_of us) u
+        → entries_of (updates_in after) ≡ entries_with (entries_of (updates_in gs)) u
+    took_in e = ap (λ x. entries_of (updates_in x)) w ∙ entries_in_all
+        (set_value (is_at (subject_cmp (subject_of u.register.key))) gs new) ∙ with_there e
+        ∙ ap (λ es. entries_with es u) (sym (entries_in_all gs))
 
     pub unchanged_in : new ≡ us → after ≡ gs
     unchanged_in e = w ∙ set_value_same (is_at (subject_cmp (subject_of u.register.key))) gs new (h ∙ ap Some (sym e))
 
     -- what the call of the group's `take` told, of all groups
-    pub groups_after : (r : Result Taken AllocError) → OnOk r (entries_of new ≡ entries_with (entries_of us) u) → OnErr r (new ≡ us) → AreGroups after
+    pub groups_after : (r : Result Taken AllocError) → OnOk r (entries_of new ≡ entries_with (entries_of us) u)
+        → OnErr r (new ≡ us) → AreGroups after
     groups_after (Ok t) e n = subst AreGroups (sym w) (groups_set (subject_of u.register.key) new
-        (subst (AreAbout (subject_of u.register.key)) (sym e) (about_with (subject_of u.register.key) (entries_of us) u (about_there (subject_of u.register.key) gs us k h) refl))
+        (subst (AreAbout (subject_of u.register.key)) (sym e)
+        (about_with (subject_of u.register.key) (entries_of us) u
+        (about_there (subject_of u.register.key) gs us k h) refl))
         (subst IsSome (sym e) (some_with (entries_of us) u (some_there (subject_of u.register.key) gs us k h))) gs k)
     groups_after (Err x) e n = subst AreGroups (sym (unchanged_in n)) k
 
-    pub entries_after : (r : Result Taken AllocError) → OnOk r (entries_of new ≡ entries_with (entries_of us) u) → OnOk r (entries_of (updates_in after) ≡ entries_with (entries_of (updates_in gs)) u)
+    pub entries_after : (r : Result Taken AllocError) → OnOk r (entries_of new ≡ entries_with (entries_of us) u)
+        → OnOk r (entries_of (updates_in after) ≡ entries_with (entries_of (updates_in gs)) u)
     entries_after (Ok t) e = took_in e
     entries_after (Err x) e = tt
 
@@ -62,15 +83,18 @@ module _ (gs : Groups) (u : Fields) (us new : List Fields) (k : AreGroups gs) (h
     err_after (Ok t) e = tt
     err_after (Err x) e = unchanged_in e
 
-  pub taken_after : (r : Result Taken AllocError) → IfOk r (λ t. t ≡ verdict us u) → IfOk r (λ t. t ≡ verdict (updates_in gs) u)
+  pub taken_after : (r : Result Taken AllocError) → IfOk r (λ t. t ≡ verdict us u)
+      → IfOk r (λ t. t ≡ verdict (updates_in gs) u)
   taken_after (Ok t) e = e ∙ sym (ap (λ o. cond (is_news o u.value) Newer Known) found_in)
   taken_after (Err x) e = tt
 
-  pub held_after : (r : Result Taken AllocError) (old more : ℕ) → OnOk r (more ≡ old + added (entries_of us) u) → OnOk r (more ≡ old + added (entries_of (updates_in gs)) u)
+  pub held_after : (r : Result Taken AllocError) (old more : ℕ) → OnOk r (more ≡ old + added (entries_of us) u)
+      → OnOk r (more ≡ old + added (entries_of (updates_in gs)) u)
   held_after (Ok t) old more e = e ∙ sym (ap (λ o. old + cond (is_some o) 0 1) found_in)
   held_after (Err x) old more e = tt
 
-  pub new_after : (r : Result Taken AllocError) → OnErr r (find register_cmp u.register (entries_of us) ≡ None) → OnErr r (find register_cmp u.register (entries_of (updates_in gs)) ≡ None)
+  pub new_after : (r : Result Taken AllocError) → OnErr r (find register_cmp u.register (entries_of us) ≡ None)
+      → OnErr r (find register_cmp u.register (entries_of (updates_in gs)) ≡ None)
   new_after (Ok t) e = tt
   new_after (Err x) e = found_in ∙ e
 
@@ -85,25 +109,34 @@ module _ (gs : Groups) (u : Fields) (k : AreGroups gs) (h : group_at (subject_of
   pub newer_in : Newer ≡ verdict (updates_in gs) u
   newer_in = sym (ap (λ o. cond (is_news o u.value) Newer Known) absent_in)
 
-  module _ (new : List Fields) (one : new ≡ u ∷ []) (after : Groups) (w : after ≡ insert_entry subject_cmp gs (subject_of u.register.key) new) where
+  module _ (new : List Fields) (one : new ≡ u ∷ []) (after : Groups)
+      (w : after ≡ insert_entry subject_cmp gs (subject_of u.register.key) new) where
     pub made_in : entries_of (updates_in after) ≡ entries_with (entries_of (updates_in gs)) u
-    made_in = ap (λ x. entries_of (updates_in x)) w ∙ entries_in_all (insert_entry subject_cmp gs (subject_of u.register.key) new)
-        ∙ put_new u.register u.value gs new k h (ap entries_of one) ∙ ap (put register_cmp u.register u.value) (sym (entries_in_all gs))
-        ∙ sym (ap (λ o. cond (is_news o u.value) (put register_cmp u.register u.value (entries_of (updates_in gs))) (entries_of (updates_in gs))) absent_in)
+    made_in = ap (λ x. entries_of (updates_in x)) w ∙ entries_in_all
+        (insert_entry subject_cmp gs (subject_of u.register.key) new)
+        ∙ put_new u.register u.value gs new k h (ap entries_of one)
+        ∙ ap (put register_cmp u.register u.value) (sym (entries_in_all gs))
+        ∙ sym (ap (λ o. cond (is_news o u.value) (put register_cmp u.register u.value (entries_of (updates_in gs)))
+        (entries_of (updates_in gs))) absent_in)
 
     pub groups_made : AreGroups after
-    groups_made = subst AreGroups (sym w) (groups_insert (subject_of u.register.key) new (subst (λ x. AreAbout (subject_of u.register.key) (entries_of x)) (sym one) (refl, tt)) (subst (λ x. IsSome (entries_of x)) (sym one) tt) gs k)
+    groups_made = subst AreGroups (sym w) (groups_insert (subject_of u.register.key) new
+        (subst (λ x. AreAbout (subject_of u.register.key) (entries_of x)) (sym one) (refl, tt))
+        (subst (λ x. IsSome (entries_of x)) (sym one) tt) gs k)
 
 -- ---- how many registers there are
-pub length_with : (es : Entries) (u : Fields) → is_sorted register_cmp es ≡ true → length (entries_with es u) ≡ length es + added es u
+pub length_with : (es : Entries) (u : Fields) → is_sorted register_cmp es ≡ true
+    → length (entries_with es u) ≡ length es + added es u
 length_with es u s = go (find register_cmp u.register es) refl
   where
-    put_length : length (put register_cmp u.register u.value es) ≡ cond (is_some (find register_cmp u.register es)) (length es) (length es + 1)
+    put_length : length (put register_cmp u.register u.value es)
+        ≡ cond (is_some (find register_cmp u.register es)) (length es) (length es + 1)
     put_length = length-put register_cmp register_total u.register u.value es (to_T _ s)
 
     go : (o : Option Value) → find register_cmp u.register es ≡ o → length (entries_with es u) ≡ length es + added es u
     go None e =
-        ap (λ o. length (cond (is_news o u.value) (put register_cmp u.register u.value es) es)) e ∙ put_length ∙ ap (λ o. cond (is_some o) (length es) (length es + 1)) e
+        ap (λ o. length (cond (is_news o u.value) (put register_cmp u.register u.value es) es)) e ∙ put_length
+        ∙ ap (λ o. cond (is_some o) (length es) (length es + 1)) e
         ∙ sym (ap (λ o. length es + cond (is_some o) 0 1) e)
     go (Some v) e =
         ap (λ o. length (cond (is_news o u.value) (put register_cmp u.register u.value es) es)) e
@@ -111,12 +144,15 @@ length_with es u s = go (find register_cmp u.register es) refl
         ∙ (let none : length es ≡ length es + 0 = omega arith in none)
         ∙ sym (ap (λ o. length es + cond (is_some o) 0 1) e)
       where
-        stays : (b : Bool) → length (put register_cmp u.register u.value es) ≡ length es → length (cond b (put register_cmp u.register u.value es) es) ≡ length es
+        stays : (b : Bool) → length (put register_cmp u.register u.value es) ≡ length es
+            → length (cond b (put register_cmp u.register u.value es) es) ≡ length es
         stays true h = h
         stays false h = refl
 
 -- those held are counted still
-pub counted_with : (us new : List Fields) (u : Fields) (held more : ℕ) → IsOrdered us → entries_of new ≡ entries_with (entries_of us) u → held ≡ length us → more ≡ held + added (entries_of us) u → more ≡ length new
+pub counted_with : (us new : List Fields) (u : Fields) (held more : ℕ) → IsOrdered us
+    → entries_of new ≡ entries_with (entries_of us) u → held ≡ length us → more ≡ held + added (entries_of us) u
+    → more ≡ length new
 counted_with us new u held more s e h m =
     m ∙ ap (λ n. n + added (entries_of us) u) (h ∙ sym (length-map us (λ (v : Fields). (v.register, v.value))))
     ∙ sym (length_with (entries_of us) u s) ∙ ap length (sym e) ∙ length-map new (λ (v : Fields). (v.register, v.value))

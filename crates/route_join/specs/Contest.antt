@@ -39,7 +39,8 @@ better_of best (Some u) = better_leader best u
 
 -- the best one of a place's own update and of the bests of the two places below
 abbrev pub best_at : List Bout → ℕ → Fields → Option Fields
-best_at bs p own = better_of (better_of (better_leader None own) (best_below bs (2 * p + 1))) (best_below bs (2 * p + 2))
+best_at bs p own = better_of (better_of (better_leader None own) (best_below bs (2 * p + 1)))
+    (best_below bs (2 * p + 2))
 
 -- what the place knows of those below it is right
 abbrev pub IsSettledAt : List Bout → ℕ → Type 0
@@ -58,7 +59,8 @@ pub record Wins (us : List Fields) (w : Fields) : Type 0 where
   pub stands : slice_get us place ≡ Some w
   pub advert : Advert
   pub advertises : advert_in w.value.content ≡ Some advert
-  pub best : (p : ℕ) (u : Fields) → slice_get us p ≡ Some u → wins (candidate_in (Some u)) (candidate_in (Some w)) ≡ false
+  pub best : (p : ℕ) (u : Fields) → slice_get us p ≡ Some u
+      → wins (candidate_in (Some u)) (candidate_in (Some w)) ≡ false
 
 -- the best of them, none where nothing is advertised
 abbrev pub IsChampion : List Fields → Option Fields → Type 0

@@ -1,5 +1,6 @@
 -- Groups: the updates of one subject, with the place of the best advert among them.
-use Rattle.std.specs.Prelude.{◌≡◌, ◌≢◌, ℕ, ◌+◌, ◌<◌, ◌^◌, Bool, true, false, not, Option, Some, None, is_some, List, [], ◌∷◌, ◌++◌, length, nat_le, if◌then◌else◌}
+use Rattle.std.specs.Prelude.{◌≡◌, ◌≢◌, ℕ, ◌+◌, ◌<◌, ◌^◌, Bool, true, false, not, Option, Some, None, is_some, List, []}
+use Rattle.std.specs.Prelude.{◌∷◌, ◌++◌, length, nat_le, if◌then◌else◌}
 use Rattle.std.specs.declared.cmp.Ordering.{Ordering}
 use Rattle.std.specs.declared.cmp.Ordering.TheVariants.{Less, Equal}
 use Rattle.std.specs.List.{slice_get}
@@ -23,7 +24,8 @@ told us q = advert_of (find register_cmp q (entries_of us))
 
 -- the entries with the update's, where it is news
 abbrev pub entries_with : List (Register × Value) → Fields → List (Register × Value)
-entries_with es u = if is_news (find register_cmp u.register es) u.value then put register_cmp u.register u.value es else es
+entries_with es u = if is_news (find register_cmp u.register es) u.value then put register_cmp u.register u.value
+    es else es
 
 -- how many registers the update adds to the entries
 abbrev pub added : List (Register × Value) → Fields → ℕ

@@ -18,11 +18,13 @@ pub record HaveSame (us vs : List Fields) : Type 0 where
 
 -- a set of updates has one table, in whatever order they came and however often
 abbrev pub OneTable : Type 0
-OneTable = (us vs : List Fields) (s t : Table) → HaveSame us vs → IsTableOf us s → IsTableOf vs t → s.registers ≡ t.registers
+OneTable = (us vs : List Fields) (s t : Table) → HaveSame us vs → IsTableOf us s → IsTableOf vs t
+    → s.registers ≡ t.registers
 
 -- a set of updates has one report, in whatever order they came and however often
 abbrev pub EqualReports : Type 0
-EqualReports = (us vs : List Fields) (s t : Table) → HaveSame us vs → IsTableOf us s → IsTableOf vs t → report_of s ≡ report_of t
+EqualReports = (us vs : List Fields) (s t : Table) → HaveSame us vs → IsTableOf us s → IsTableOf vs t
+    → report_of s ≡ report_of t
 
 -- a table that has taken no update is that of none
 abbrev pub NoneTaken : Type 0
@@ -97,4 +99,5 @@ OthersStay = (t : Table) (u : Fields) (r : Register) → r ≢ u.register → va
 
 -- and its own register has the newer value
 abbrev pub NewerStands : Type 0
-NewerStands = (t : Table) (u : Fields) → value_at (with_update t u) u.register ≡ newer_of (value_at t u.register) (Some u.value)
+NewerStands = (t : Table) (u : Fields) → value_at (with_update t u) u.register
+    ≡ newer_of (value_at t u.register) (Some u.value)

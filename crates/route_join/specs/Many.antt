@@ -27,7 +27,8 @@ AreKeyed (e ∷ es) = (e.1.register ≡ e.0) × AreKeyed es
 -- the updates at the registers are those at the places, each at its own one
 pub record AreMatched (es : List (Register × Entrant)) (us : List Fields) : Type 0 where
   pub placed : (r : Register) (e : Entrant) → entrant_at es r ≡ Some e → slice_get us e.place ≡ Some e.update
-  pub known : (p : ℕ) (u : Fields) → slice_get us p ≡ Some u → entrant_at es u.register ≡ Some (record { update = u; place = p })
+  pub known : (p : ℕ) (u : Fields) → slice_get us p ≡ Some u
+      → entrant_at es u.register ≡ Some (record { update = u; place = p })
 
 -- what is kept in a tree: updates at their registers, in their order, and each of them in a contest for the best advert
 pub record IsMany (es : List (Register × Entrant)) (bouts : List Bout) : Type 0 where

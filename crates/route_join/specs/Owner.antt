@@ -1,6 +1,7 @@
 -- Who owns a MAC address of a network: the best of those that advertise it (RFC 7432, sections 15 and 15.2, for static
 -- addresses, sequence numbers and the lowest address; the IP address that the route has decides last).
-use Rattle.std.specs.Prelude.{◌≡◌, ◌≢◌, ℕ, ◌≤◌, Bool, true, false, Option, Some, None, List, [], ◌∷◌, nat_lt, ◌==◌, ◌&&◌, ◌||◌, if◌then◌else◌}
+use Rattle.std.specs.Prelude.{◌≡◌, ◌≢◌, ℕ, ◌≤◌, Bool, true, false, Option, Some, None, List, [], ◌∷◌, nat_lt, ◌==◌}
+use Rattle.std.specs.Prelude.{◌&&◌, ◌||◌, if◌then◌else◌}
 use Rattle.std.specs.declared.cmp.Ordering.{Ordering}
 use Rattle.std.specs.declared.cmp.Ordering.TheVariants.{Less}
 use Rattle.std.specs.Ordering.{is_lt}
@@ -41,12 +42,14 @@ IsBetterBy false false m n o = (n ≤ m) × (m ≡ n → o ≡ Less)
 abbrev pub IsBetter : Advert → Register → Advert → Register → Type 0
 IsBetter a r b q = IsBetterBy a.is_static b.is_static a.sequence b.sequence (register_cmp r q)
 
--- o advertises the address, with some IP address or with none, and this advert is better than each other one of the address
+-- o advertises the address, with some IP address or with none, and this advert is better than each other one of the
+-- address
 pub record IsOwner (t : Table) (vni mac o : ℕ) : Type 0 where
   pub ip : Option Ip
   pub advert : Advert
   pub own : advert_at t o (Mac vni mac ip) ≡ Some advert
-  pub best : (p : ℕ) (j : Option Ip) (b : Advert) → register_of p (Mac vni mac j) ≢ register_of o (Mac vni mac ip) → advert_at t p (Mac vni mac j) ≡ Some b
+  pub best : (p : ℕ) (j : Option Ip) (b : Advert) → register_of p (Mac vni mac j) ≢ register_of o (Mac vni mac ip)
+      → advert_at t p (Mac vni mac j) ≡ Some b
       → IsBetter advert (register_of o (Mac vni mac ip)) b (register_of p (Mac vni mac j))
 
 -- nobody advertises the address

@@ -1,5 +1,6 @@
 -- The octets of a report: a line for each register, and one for the owner of each station.
-use Rattle.std.specs.Prelude.{ℕ, Bool, false, ◌==◌, if◌then◌else◌, List, [], ◌∷◌, ◌++◌, codes, decimal, Option, Some, None}
+use Rattle.std.specs.Prelude.{ℕ, Bool, false, ◌==◌, if◌then◌else◌, List, [], ◌∷◌, ◌++◌, codes, decimal, Option, Some}
+use Rattle.std.specs.Prelude.{None}
 use Rattle.std.specs.Option.{option_map}
 use Rattle.std.specs.FinMap.{entries}
 use Rattle.ether_wire.specs.Names.{mac_text, addr_text}
@@ -24,7 +25,8 @@ spaced word = codes " " ++ word
 
 -- the counter, behind the incarnation and a dot where that isn't 0
 abbrev pub counter_text : Value → List ℕ
-counter_text v = if v.incarnation == 0 then decimal v.counter else decimal v.incarnation ++ codes "." ++ decimal v.counter
+counter_text v = if v.incarnation == 0 then decimal v.counter else decimal v.incarnation ++ codes "."
+    ++ decimal v.counter
 
 abbrev pub flood_state : Content → List ℕ
 flood_state Withdrawn = codes "withdrawn"
@@ -53,7 +55,8 @@ mac_words ip content = spaced (mac_state content) ++ ip_words ip ++ label2_words
 
 -- `flood VNI ORIGINATOR COUNTER up`, or `withdrawn` in the place of `up`
 abbrev pub flood_line : ℕ → ℕ → Value → List ℕ
-flood_line vni originator v = codes "flood " ++ decimal vni ++ spaced (origin_text originator v) ++ spaced (flood_state v.content) ++ codes "\n"
+flood_line vni originator v = codes "flood " ++ decimal vni ++ spaced (origin_text originator v)
+    ++ spaced (flood_state v.content) ++ codes "\n"
 
 -- `mac VNI MAC ORIGINATOR COUNTER STATE`, then ` ip IP` and ` label2 LABEL` where there are such
 abbrev pub mac_line : ℕ → ℕ → Option Ip → ℕ → Value → List ℕ
@@ -86,7 +89,8 @@ goes_on vni mac (e ∷ rest) = is_about vni mac e.0.key
 -- after the last register of a station, its owner
 abbrev pub after_register : (ℕ → ℕ → Option ℕ) → Key → List (Register × Value) → List ℕ
 after_register owner_of (Flood vni) rest = []
-after_register owner_of (Mac vni mac ip) rest = if goes_on vni mac rest then [] else owner_line vni mac (owner_of vni mac)
+after_register owner_of (Mac vni mac ip) rest = if goes_on vni mac rest then [] else owner_line vni mac
+    (owner_of vni mac)
 
 -- the lines of these registers, in their order, where the owners of stations are these
 abbrev pub lines_of : (ℕ → ℕ → Option ℕ) → List (Register × Value) → List ℕ

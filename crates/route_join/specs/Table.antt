@@ -1,5 +1,6 @@
 -- Tables of route updates: each register's newest value.
-use Rattle.std.specs.Prelude.{◌≡◌, ℕ, ◌<◌, ◌≤◌, Bool, true, false, Option, Some, None, List, [], ◌∷◌, map, length, Contains, eqb, if◌then◌else◌}
+use Rattle.std.specs.Prelude.{◌≡◌, ℕ, ◌<◌, ◌≤◌, Bool, true, false, Option, Some, None, List, [], ◌∷◌, map, length}
+use Rattle.std.specs.Prelude.{Contains, eqb, if◌then◌else◌}
 use Rattle.std.specs.List.{IsDistinct, list_any}
 use Rattle.std.specs.Option.{option_map}
 use Rattle.std.specs.FinMap.{FinMap, get, insert, from_sorted, is_sorted}
@@ -72,7 +73,8 @@ with_updates t (u ∷ us) = with_updates (with_update t u) us
 -- t is the table of this set of updates: each register's newest value, and no other register
 pub record IsTableOf (updates : List Fields) (t : Table) : Type 0 where
   pub from : (r : Register) (v : Value) → value_at t r ≡ Some v → Contains updates (record { register = r; value = v })
-  pub newest : (u : Fields) → Contains updates u → (v : Value) × (value_at t u.register ≡ Some v) × (is_newer u.value v ≡ false)
+  pub newest : (u : Fields) → Contains updates u → (v : Value) × (value_at t u.register ≡ Some v)
+      × (is_newer u.value v ≡ false)
 
 -- ---- a table as a list of updates in the order of a report
 

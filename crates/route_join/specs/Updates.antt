@@ -35,5 +35,6 @@ pub record AreAllUpdates (t : Table) (us : List Fields) : Type 0 where
 pub record AreUpdatesOf (t : Table) (vni mac : ℕ) (us : List Fields) : Type 0 where
   pub about : (u : Fields) → Contains us u → is_about vni mac u.register.key ≡ true
   pub own : (u : Fields) → Contains us u → value_at t u.register ≡ Some u.value
-  pub all : (r : Register) (v : Value) → is_about vni mac r.key ≡ true → value_at t r ≡ Some v → Contains us (record { register = r; value = v })
+  pub all : (r : Register) (v : Value) → is_about vni mac r.key ≡ true → value_at t r ≡ Some v
+      → Contains us (record { register = r; value = v })
   pub ordered : IsOrdered us

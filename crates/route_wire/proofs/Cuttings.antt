@@ -30,14 +30,24 @@ module _ (h : Held) (stream : List ℕ) (answers : List (Result Fields ℕ)) (r 
   ended : is_length (shown h) ≡ false → AnswersUpTo h.newest stream answers (h.rest ++ r.skipped)
   ended e = record { reads = r.reads; ended = ap is_length same_shown ∙ e }
 
-  pub read_whole_stream : is_length (shown h) ≡ false → (rest : List ℕ) × AnswersUpTo h.newest stream answers rest × (whole_up_to h.newest rest ≡ shown h) × (is_rest (shown h) ≡ true → rest ≡ h.rest)
-  read_whole_stream e = (h.rest ++ r.skipped, ended e, same_shown, λ unfinished. nothing_skipped (no_fault_at_rest (shown h) unfinished))
+  pub read_whole_stream : is_length (shown h) ≡ false → (rest : List ℕ) × AnswersUpTo h.newest stream answers rest
+      × (whole_up_to h.newest rest ≡ shown h) × (is_rest (shown h) ≡ true → rest ≡ h.rest)
+  read_whole_stream e = (
+    h.rest ++ r.skipped,
+    ended e,
+    same_shown,
+    λ unfinished. nothing_skipped (no_fault_at_rest (shown h) unfinished),
+  )
 
-pub read_alike : (h g : Held) (stream : List ℕ) (answers others : List (Result Fields ℕ)) → h.newest ≡ g.newest → HasRead h stream answers → HasRead g stream others
-    → is_length (shown h) ≡ false → is_length (shown g) ≡ false → (answers ≡ others) × (shown h ≡ shown g) × (is_rest (shown h) ≡ true → h.rest ≡ g.rest)
+pub read_alike : (h g : Held) (stream : List ℕ) (answers others : List (Result Fields ℕ)) → h.newest ≡ g.newest
+    → HasRead h stream answers → HasRead g stream others
+    → is_length (shown h) ≡ false → is_length (shown g) ≡ false
+    → (answers ≡ others) × (shown h ≡ shown g) × (is_rest (shown h) ≡ true → h.rest ≡ g.rest)
 read_alike h g stream answers others version a b x y =
     let one = read_whole_stream h stream answers a x in
     let other = read_whole_stream g stream others b y in
-    let same = read_once g.newest stream answers others one.0 other.0 (subst (λ (v : ℕ). AnswersUpTo v stream answers one.0) version one.1) other.1 in
-    let shows : shown h ≡ shown g = sym one.2 ∙ ap (λ (v : ℕ). whole_up_to v one.0) version ∙ ap (whole_up_to g.newest) same.1 ∙ other.2 in
+    let same = read_once g.newest stream answers others one.0 other.0
+    (subst (λ (v : ℕ). AnswersUpTo v stream answers one.0) version one.1) other.1 in
+    let shows : shown h ≡ shown g = sym one.2 ∙ ap (λ (v : ℕ). whole_up_to v one.0) version
+    ∙ ap (whole_up_to g.newest) same.1 ∙ other.2 in
     (same.0, shows, λ e. sym (one.3 e) ∙ same.1 ∙ other.3 (ap is_rest (sym shows) ∙ e))

@@ -1,5 +1,6 @@
 -- What stands behind a record changes nothing of it.
-use Rattle.std.proofs.Common.{◌≡◌, ℕ, ◌+◌, ◌<◌, ◌≤◌, false, nat_lt, cond, List, length, take, slice_index, None, sym, ap, ◌∙◌, arith, lit<}
+use Rattle.std.proofs.Common.{◌≡◌, ℕ, ◌+◌, ◌<◌, ◌≤◌, false, nat_lt, cond, List, length, take, slice_index, None, sym}
+use Rattle.std.proofs.Common.{ap, ◌∙◌, arith, lit<}
 use Rattle.std.proofs.lemmas.Bool.{lt-ltb}
 use Rattle.std.proofs.lemmas.Bool.Decides.{nat_tests}
 use Rattle.std.proofs.lemmas.List.{length-take-le, get_or-take, get_or-drop}
@@ -9,7 +10,9 @@ use Rattle.route_wire.specs.Stream.{follow_of, fault_of, whole_or_rest, whole_up
 use Rattle.route_wire.proofs.Wholes.{ends_whole, found_long}
 
 -- two streams that begin with the same six octets show the same fault
-pub same_fault : (newest : ℕ) (s t : List ℕ) → 6 ≤ length s → 6 ≤ length t → ((i : ℕ) → i < 6 → slice_index t i ≡ slice_index s i) → follow_of t ≡ follow_of s → fault_of newest t ≡ fault_of newest s
+pub same_fault : (newest : ℕ) (s t : List ℕ) → 6 ≤ length s → 6 ≤ length t
+    → ((i : ℕ) → i < 6 → slice_index t i ≡ slice_index s i) → follow_of t ≡ follow_of s
+    → fault_of newest t ≡ fault_of newest s
 same_fault newest s t hs ht at f =
     let a0 = lt-ltb 0 (length s) (omega arith) in let b0 = lt-ltb 0 (length t) (omega arith) in
     let a1 = lt-ltb 1 (length s) (omega arith) in let b1 = lt-ltb 1 (length t) (omega arith) in
@@ -29,22 +32,27 @@ same_follow s t at =
 pub not_less : (a b : ℕ) → b ≤ a → nat_lt a b ≡ false
 not_less a b h = grind (arith, nat_tests)
 
-pub is_whole : (newest : ℕ) (t : List ℕ) → fault_of newest t ≡ None → 6 ≤ length t → 6 + follow_of t ≤ length t → whole_up_to newest t ≡ Length (6 + follow_of t)
+pub is_whole : (newest : ℕ) (t : List ℕ) → fault_of newest t ≡ None → 6 ≤ length t → 6 + follow_of t ≤ length t
+    → whole_up_to newest t ≡ Length (6 + follow_of t)
 is_whole newest t f h e =
-    ap (whole_or_rest t) f ∙ ap (λ b. cond b Rest (cond (nat_lt (length t) (6 + follow_of t)) Rest (Length (6 + follow_of t)))) (not_less (length t) 6 h)
+    ap (whole_or_rest t) f ∙ ap (λ b. cond b Rest (cond (nat_lt (length t) (6 + follow_of t)) Rest
+    (Length (6 + follow_of t)))) (not_less (length t) 6 h)
     ∙ ap (λ b. cond b Rest (Length (6 + follow_of t))) (not_less (length t) (6 + follow_of t) e)
 
 -- a stream whose first octets are those of a whole record begins with it
-pub whole_again : (newest : ℕ) (s t : List ℕ) (n : ℕ) → whole_up_to newest s ≡ Length n → n ≤ length t → ((i : ℕ) → i < 6 → slice_index t i ≡ slice_index s i) → whole_up_to newest t ≡ Length n
+pub whole_again : (newest : ℕ) (s t : List ℕ) (n : ℕ) → whole_up_to newest s ≡ Length n → n ≤ length t
+    → ((i : ℕ) → i < 6 → slice_index t i ≡ slice_index s i) → whole_up_to newest t ≡ Length n
 whole_again newest s t n h le at =
     let e = ends_whole s (fault_of newest s) n h in
     let l = found_long newest s n h in
     let f = same_follow s t at in
     let long : 6 + follow_of t ≤ length t = omega arith in
-    is_whole newest t (same_fault newest s t (omega arith) (omega arith) at f ∙ e.0) (omega arith) long ∙ ap (λ k. Length (6 + k)) f ∙ ap Length e.3
+    is_whole newest t (same_fault newest s t (omega arith) (omega arith) at f ∙ e.0) (omega arith) long
+    ∙ ap (λ k. Length (6 + k)) f ∙ ap Length e.3
 
 -- the whole record that a stream begins with is a whole record by itself
-pub whole_front : (newest : ℕ) (s : List ℕ) (n : ℕ) → whole_up_to newest s ≡ Length n → whole_up_to newest (take n s) ≡ Length n
+pub whole_front : (newest : ℕ) (s : List ℕ) (n : ℕ) → whole_up_to newest s ≡ Length n
+    → whole_up_to newest (take n s) ≡ Length n
 whole_front newest s n h =
     let l = found_long newest s n h in
     let len = length-take-le n s l.3 in

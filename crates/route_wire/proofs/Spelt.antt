@@ -1,5 +1,6 @@
 -- What is written is read again.
-use Rattle.std.proofs.Common.{◌≡◌, ℕ, ◌%◌, ◌<◌, ◌^◌, Bool, true, false, not, ◌||◌, ◌==◌, cond, List, [], ◌∷◌, ◌++◌, Option, Some, None, Ok, refl, sym, ap, subst, ◌∙◌, eq-eqb, arith, length, length-append}
+use Rattle.std.proofs.Common.{◌≡◌, ℕ, ◌%◌, ◌<◌, ◌^◌, Bool, true, false, not, ◌||◌, ◌==◌, cond, List, [], ◌∷◌, ◌++◌}
+use Rattle.std.proofs.Common.{Option, Some, None, Ok, refl, sym, ap, subst, ◌∙◌, eq-eqb, arith, length, length-append}
 use Rattle.std.proofs.Math.Seq.{take-append_seam, drop-append_seam}
 use Rattle.std.proofs.Math.ListN.{get_or-append}
 use Rattle.std.proofs.lemmas.Bool.Decides.{nat_tests}
@@ -21,7 +22,8 @@ use Rattle.ether_wire.specs.Frame.{first_of}
 use Rattle.route_wire.specs.Stream.{IsWhole}
 use Rattle.route_wire.specs.Refusal.{refusal_tests}
 use Rattle.route_wire.specs.Record.{header_in, update_in, reading, Spells, Reads}
-use Rattle.route_wire.specs.Spelling.{mac_route, flood_route, route_octets, kind_of, record_octets, IpFits, Label2Fits, RouteFits}
+use Rattle.route_wire.specs.Spelling.{mac_route, flood_route, route_octets, kind_of, record_octets, IpFits, Label2Fits}
+use Rattle.route_wire.specs.Spelling.{RouteFits}
 use Rattle.route_wire.proofs.Wholes.{AllUnmet, found_long}
 use Rattle.route_wire.proofs.Prefixes.{whole_again}
 use Rattle.route_wire.proofs.Readings.{spelt}
@@ -44,11 +46,22 @@ bit_again true = refl
 bit_again false = refl
 
 abbrev update : ℕ → ℕ → ℕ → Key → Content → Fields
-update o incarnation counter key content = record { register = record { originator = o; key = key }; value = record { incarnation = incarnation; counter = counter; content = content } }
+update o incarnation counter key content = record {
+  register = record { originator = o; key = key };
+  value = record { incarnation = incarnation; counter = counter; content = content };
+}
 
-module _ (o incarnation counter vni : ℕ) (ho : o < 2 ^ 32) (hi : incarnation < 2 ^ 32) (hc : counter < 2 ^ 64) (hv : vni < 2 ^ 24) (some : counter == 0 ≡ false) where
+module _ (o incarnation counter vni : ℕ) (ho : o < 2 ^ 32) (hi : incarnation < 2 ^ 32) (hc : counter < 2 ^ 64)
+    (hv : vni < 2 ^ 24) (some : counter == 0 ≡ false) where
   abbrev header : Bool → Header
-  header is_withdrawal = record { version = 3; is_withdrawal = is_withdrawal; originator = o; incarnation = incarnation; counter = counter; vni = vni }
+  header is_withdrawal = record {
+    version = 3;
+    is_withdrawal = is_withdrawal;
+    originator = o;
+    incarnation = incarnation;
+    counter = counter;
+    vni = vni;
+  }
 
   abbrev octets : ℕ → List ℕ → List ℕ
   octets kind route = record_octets kind o incarnation counter vni route
@@ -59,9 +72,18 @@ module _ (o incarnation counter vni : ℕ) (ho : o < 2 ^ 32) (hi : incarnation <
       let ei = big_number-reads_back 4 incarnation [] hi in
       let ec = big_number-reads_back 8 counter [] hc in
       let ev = big_number-reads_back 3 vni [] hv in
-      λ i. record { version = 3; is_withdrawal = kind == 2; originator = eo i; incarnation = ei i; counter = ec i; vni = ev i }
+      λ i. record {
+        version = 3;
+        is_withdrawal = kind == 2;
+        originator = eo i;
+        incarnation = ei i;
+        counter = ec i;
+        vni = ev i;
+      }
 
-  spells : (kind : ℕ) (route : List ℕ) (u : Fields) → IsWhole (octets kind route) → AllUnmet (refusal_tests (header (kind == 2)) route) → update_in (header (kind == 2)) route ≡ u → Spells (octets kind route) u
+  spells : (kind : ℕ) (route : List ℕ) (u : Fields) → IsWhole (octets kind route)
+      → AllUnmet (refusal_tests (header (kind == 2)) route) → update_in (header (kind == 2)) route ≡ u
+      → Spells (octets kind route) u
   spells kind route u w unmet e = (
     w,
     sym (spelt (octets kind route) route (header (kind == 2)) u (sym (header_again kind route)) refl
@@ -86,7 +108,8 @@ module _ (o incarnation counter vni : ℕ) (ho : o < 2 ^ 32) (hi : incarnation <
     right_originator = ap (λ b. not b || false) same_originator
 
     right_label : not (big_number 3 (big_bytes 3 vni ++ []) == vni) ≡ false
-    right_label = let e = big_number-reads_back 3 vni [] hv in ap not (eq-eqb (big_number 3 (big_bytes 3 vni ++ [])) vni e)
+    right_label = let e = big_number-reads_back 3 vni [] hv in
+        ap not (eq-eqb (big_number 3 (big_bytes 3 vni ++ [])) vni e)
 
     mac_again : big_number 6 (big_bytes 6 mac ++ []) ≡ mac
     mac_again = big_number-reads_back 6 mac [] hm
@@ -94,70 +117,114 @@ module _ (o incarnation counter vni : ℕ) (ho : o < 2 ^ 32) (hi : incarnation <
     right_mac : is_group (big_number 6 (big_bytes 6 mac ++ [])) ≡ false
     right_mac = ap is_group mac_again ∙ individual
 
-    pub withdrawn : (ip : Option Ip) → IpFits ip → Spells (octets 2 (mac_route o vni mac ip None ++ [])) (update o incarnation counter (Mac vni mac ip) Withdrawn)
+    pub withdrawn : (ip : Option Ip) → IpFits ip → Spells (octets 2 (mac_route o vni mac ip None ++ []))
+        (update o incarnation counter (Mac vni mac ip) Withdrawn)
     withdrawn None fits =
         spells 2 (mac_route o vni mac None None ++ []) (update o incarnation counter (Mac vni mac None) Withdrawn) refl
         (refl, (refl, (right_originator, (refl, (refl, (refl, (right_mac, (some, tt))))))))
         (λ i. update o incarnation counter (Mac vni (mac_again i) None) Withdrawn)
     withdrawn (Some (V4 a)) fits =
-        let address = big_number-reads_back 4 a [] fits in spells 2 (mac_route o vni mac (Some (V4 a)) None ++ []) (update o incarnation counter (Mac vni mac (Some (V4 a))) Withdrawn) refl
+        let address = big_number-reads_back 4 a [] fits in
+        spells 2 (mac_route o vni mac (Some (V4 a)) None ++ [])
+        (update o incarnation counter (Mac vni mac (Some (V4 a))) Withdrawn) refl
         (refl, (refl, (right_originator, (refl, (refl, (refl, (right_mac, (some, tt))))))))
         (λ i. update o incarnation counter (Mac vni (mac_again i) (Some (V4 (address i)))) Withdrawn)
     withdrawn (Some (V6 a)) fits =
-        let address = big_number-reads_back 16 a [] fits in spells 2 (mac_route o vni mac (Some (V6 a)) None ++ []) (update o incarnation counter (Mac vni mac (Some (V6 a))) Withdrawn) refl
+        let address = big_number-reads_back 16 a [] fits in
+        spells 2 (mac_route o vni mac (Some (V6 a)) None ++ [])
+        (update o incarnation counter (Mac vni mac (Some (V6 a))) Withdrawn) refl
         (refl, (refl, (right_originator, (refl, (refl, (refl, (right_mac, (some, tt))))))))
         (λ i. update o incarnation counter (Mac vni (mac_again i) (Some (V6 (address i)))) Withdrawn)
 
-    pub advertised : (ip : Option Ip) → IpFits ip → (label2 : Option ℕ) → Label2Fits label2 → (b s : Bool) (n : ℕ) → n < 2 ^ 32
-        → Spells (octets 1 (mac_route o vni mac ip label2 ++ after b s n)) (update o incarnation counter (Mac vni mac ip) (Advertised (told b s n label2)))
+    pub advertised : (ip : Option Ip) → IpFits ip → (label2 : Option ℕ) → Label2Fits label2 → (b s : Bool) (n : ℕ)
+        → n < 2 ^ 32
+        → Spells (octets 1 (mac_route o vni mac ip label2 ++ after b s n))
+        (update o incarnation counter (Mac vni mac ip) (Advertised (told b s n label2)))
     advertised None fits None label_fits true s n hn =
-        let number = big_number-reads_back 4 n [] hn in spells 1 (mac_route o vni mac None None ++ after true s n) (update o incarnation counter (Mac vni mac None) (Advertised (told true s n None))) refl
+        let number = big_number-reads_back 4 n [] hn in
+        spells 1 (mac_route o vni mac None None ++ after true s n)
+        (update o incarnation counter (Mac vni mac None) (Advertised (told true s n None))) refl
         (refl, (refl, (right_originator, (refl, (refl, (right_label, (right_mac, (some, tt))))))))
-        (λ i. update o incarnation counter (Mac vni (mac_again i) None) (Advertised (record { is_static = bit_again s i; sequence = number i; label2 = None })))
+        (λ i. update o incarnation counter (Mac vni (mac_again i) None)
+        (Advertised (record { is_static = bit_again s i; sequence = number i; label2 = None })))
     advertised None fits None label_fits false s n hn =
-        spells 1 (mac_route o vni mac None None ++ after false s n) (update o incarnation counter (Mac vni mac None) (Advertised (told false s n None))) refl
+        spells 1 (mac_route o vni mac None None ++ after false s n)
+        (update o incarnation counter (Mac vni mac None) (Advertised (told false s n None))) refl
         (refl, (refl, (right_originator, (refl, (refl, (right_label, (right_mac, (some, tt))))))))
-        (λ i. update o incarnation counter (Mac vni (mac_again i) None) (Advertised (record { is_static = false; sequence = 0; label2 = None })))
+        (λ i. update o incarnation counter (Mac vni (mac_again i) None)
+        (Advertised (record { is_static = false; sequence = 0; label2 = None })))
     advertised None fits (Some l) label_fits true s n hn =
-        let label = big_number-reads_back 3 l [] label_fits in let number = big_number-reads_back 4 n [] hn in spells 1 (mac_route o vni mac None (Some l) ++ after true s n) (update o incarnation counter (Mac vni mac None) (Advertised (told true s n (Some l)))) refl
+        let label = big_number-reads_back 3 l [] label_fits in let number = big_number-reads_back 4 n [] hn in
+        spells 1 (mac_route o vni mac None (Some l) ++ after true s n)
+        (update o incarnation counter (Mac vni mac None) (Advertised (told true s n (Some l)))) refl
         (refl, (refl, (right_originator, (refl, (refl, (right_label, (right_mac, (some, tt))))))))
-        (λ i. update o incarnation counter (Mac vni (mac_again i) None) (Advertised (record { is_static = bit_again s i; sequence = number i; label2 = (Some (label i)) })))
+        (λ i. update o incarnation counter (Mac vni (mac_again i) None)
+        (Advertised (record { is_static = bit_again s i; sequence = number i; label2 = (Some (label i)) })))
     advertised None fits (Some l) label_fits false s n hn =
-        let label = big_number-reads_back 3 l [] label_fits in spells 1 (mac_route o vni mac None (Some l) ++ after false s n) (update o incarnation counter (Mac vni mac None) (Advertised (told false s n (Some l)))) refl
+        let label = big_number-reads_back 3 l [] label_fits in
+        spells 1 (mac_route o vni mac None (Some l) ++ after false s n)
+        (update o incarnation counter (Mac vni mac None) (Advertised (told false s n (Some l)))) refl
         (refl, (refl, (right_originator, (refl, (refl, (right_label, (right_mac, (some, tt))))))))
-        (λ i. update o incarnation counter (Mac vni (mac_again i) None) (Advertised (record { is_static = false; sequence = 0; label2 = (Some (label i)) })))
+        (λ i. update o incarnation counter (Mac vni (mac_again i) None)
+        (Advertised (record { is_static = false; sequence = 0; label2 = (Some (label i)) })))
     advertised (Some (V4 a)) fits None label_fits true s n hn =
-        let address = big_number-reads_back 4 a [] fits in let number = big_number-reads_back 4 n [] hn in spells 1 (mac_route o vni mac (Some (V4 a)) None ++ after true s n) (update o incarnation counter (Mac vni mac (Some (V4 a))) (Advertised (told true s n None))) refl
+        let address = big_number-reads_back 4 a [] fits in let number = big_number-reads_back 4 n [] hn in
+        spells 1 (mac_route o vni mac (Some (V4 a)) None ++ after true s n)
+        (update o incarnation counter (Mac vni mac (Some (V4 a))) (Advertised (told true s n None))) refl
         (refl, (refl, (right_originator, (refl, (refl, (right_label, (right_mac, (some, tt))))))))
-        (λ i. update o incarnation counter (Mac vni (mac_again i) (Some (V4 (address i)))) (Advertised (record { is_static = bit_again s i; sequence = number i; label2 = None })))
+        (λ i. update o incarnation counter (Mac vni (mac_again i) (Some (V4 (address i))))
+        (Advertised (record { is_static = bit_again s i; sequence = number i; label2 = None })))
     advertised (Some (V4 a)) fits None label_fits false s n hn =
-        let address = big_number-reads_back 4 a [] fits in spells 1 (mac_route o vni mac (Some (V4 a)) None ++ after false s n) (update o incarnation counter (Mac vni mac (Some (V4 a))) (Advertised (told false s n None))) refl
+        let address = big_number-reads_back 4 a [] fits in
+        spells 1 (mac_route o vni mac (Some (V4 a)) None ++ after false s n)
+        (update o incarnation counter (Mac vni mac (Some (V4 a))) (Advertised (told false s n None))) refl
         (refl, (refl, (right_originator, (refl, (refl, (right_label, (right_mac, (some, tt))))))))
-        (λ i. update o incarnation counter (Mac vni (mac_again i) (Some (V4 (address i)))) (Advertised (record { is_static = false; sequence = 0; label2 = None })))
+        (λ i. update o incarnation counter (Mac vni (mac_again i) (Some (V4 (address i))))
+        (Advertised (record { is_static = false; sequence = 0; label2 = None })))
     advertised (Some (V4 a)) fits (Some l) label_fits true s n hn =
-        let address = big_number-reads_back 4 a [] fits in let label = big_number-reads_back 3 l [] label_fits in let number = big_number-reads_back 4 n [] hn in spells 1 (mac_route o vni mac (Some (V4 a)) (Some l) ++ after true s n) (update o incarnation counter (Mac vni mac (Some (V4 a))) (Advertised (told true s n (Some l)))) refl
+        let address = big_number-reads_back 4 a [] fits in let label = big_number-reads_back 3 l [] label_fits in
+        let number = big_number-reads_back 4 n [] hn in
+        spells 1 (mac_route o vni mac (Some (V4 a)) (Some l) ++ after true s n)
+        (update o incarnation counter (Mac vni mac (Some (V4 a))) (Advertised (told true s n (Some l)))) refl
         (refl, (refl, (right_originator, (refl, (refl, (right_label, (right_mac, (some, tt))))))))
-        (λ i. update o incarnation counter (Mac vni (mac_again i) (Some (V4 (address i)))) (Advertised (record { is_static = bit_again s i; sequence = number i; label2 = (Some (label i)) })))
+        (λ i. update o incarnation counter (Mac vni (mac_again i) (Some (V4 (address i))))
+        (Advertised (record { is_static = bit_again s i; sequence = number i; label2 = (Some (label i)) })))
     advertised (Some (V4 a)) fits (Some l) label_fits false s n hn =
-        let address = big_number-reads_back 4 a [] fits in let label = big_number-reads_back 3 l [] label_fits in spells 1 (mac_route o vni mac (Some (V4 a)) (Some l) ++ after false s n) (update o incarnation counter (Mac vni mac (Some (V4 a))) (Advertised (told false s n (Some l)))) refl
+        let address = big_number-reads_back 4 a [] fits in let label = big_number-reads_back 3 l [] label_fits in
+        spells 1 (mac_route o vni mac (Some (V4 a)) (Some l) ++ after false s n)
+        (update o incarnation counter (Mac vni mac (Some (V4 a))) (Advertised (told false s n (Some l)))) refl
         (refl, (refl, (right_originator, (refl, (refl, (right_label, (right_mac, (some, tt))))))))
-        (λ i. update o incarnation counter (Mac vni (mac_again i) (Some (V4 (address i)))) (Advertised (record { is_static = false; sequence = 0; label2 = (Some (label i)) })))
+        (λ i. update o incarnation counter (Mac vni (mac_again i) (Some (V4 (address i))))
+        (Advertised (record { is_static = false; sequence = 0; label2 = (Some (label i)) })))
     advertised (Some (V6 a)) fits None label_fits true s n hn =
-        let address = big_number-reads_back 16 a [] fits in let number = big_number-reads_back 4 n [] hn in spells 1 (mac_route o vni mac (Some (V6 a)) None ++ after true s n) (update o incarnation counter (Mac vni mac (Some (V6 a))) (Advertised (told true s n None))) refl
+        let address = big_number-reads_back 16 a [] fits in let number = big_number-reads_back 4 n [] hn in
+        spells 1 (mac_route o vni mac (Some (V6 a)) None ++ after true s n)
+        (update o incarnation counter (Mac vni mac (Some (V6 a))) (Advertised (told true s n None))) refl
         (refl, (refl, (right_originator, (refl, (refl, (right_label, (right_mac, (some, tt))))))))
-        (λ i. update o incarnation counter (Mac vni (mac_again i) (Some (V6 (address i)))) (Advertised (record { is_static = bit_again s i; sequence = number i; label2 = None })))
+        (λ i. update o incarnation counter (Mac vni (mac_again i) (Some (V6 (address i))))
+        (Advertised (record { is_static = bit_again s i; sequence = number i; label2 = None })))
     advertised (Some (V6 a)) fits None label_fits false s n hn =
-        let address = big_number-reads_back 16 a [] fits in spells 1 (mac_route o vni mac (Some (V6 a)) None ++ after false s n) (update o incarnation counter (Mac vni mac (Some (V6 a))) (Advertised (told false s n None))) refl
+        let address = big_number-reads_back 16 a [] fits in
+        spells 1 (mac_route o vni mac (Some (V6 a)) None ++ after false s n)
+        (update o incarnation counter (Mac vni mac (Some (V6 a))) (Advertised (told false s n None))) refl
         (refl, (refl, (right_originator, (refl, (refl, (right_label, (right_mac, (some, tt))))))))
-        (λ i. update o incarnation counter (Mac vni (mac_again i) (Some (V6 (address i)))) (Advertised (record { is_static = false; sequence = 0; label2 = None })))
+        (λ i. update o incarnation counter (Mac vni (mac_again i) (Some (V6 (address i))))
+        (Advertised (record { is_static = false; sequence = 0; label2 = None })))
     advertised (Some (V6 a)) fits (Some l) label_fits true s n hn =
-        let address = big_number-reads_back 16 a [] fits in let label = big_number-reads_back 3 l [] label_fits in let number = big_number-reads_back 4 n [] hn in spells 1 (mac_route o vni mac (Some (V6 a)) (Some l) ++ after true s n) (update o incarnation counter (Mac vni mac (Some (V6 a))) (Advertised (told true s n (Some l)))) refl
+        let address = big_number-reads_back 16 a [] fits in let label = big_number-reads_back 3 l [] label_fits in
+        let number = big_number-reads_back 4 n [] hn in
+        spells 1 (mac_route o vni mac (Some (V6 a)) (Some l) ++ after true s n)
+        (update o incarnation counter (Mac vni mac (Some (V6 a))) (Advertised (told true s n (Some l)))) refl
         (refl, (refl, (right_originator, (refl, (refl, (right_label, (right_mac, (some, tt))))))))
-        (λ i. update o incarnation counter (Mac vni (mac_again i) (Some (V6 (address i)))) (Advertised (record { is_static = bit_again s i; sequence = number i; label2 = (Some (label i)) })))
+        (λ i. update o incarnation counter (Mac vni (mac_again i) (Some (V6 (address i))))
+        (Advertised (record { is_static = bit_again s i; sequence = number i; label2 = (Some (label i)) })))
     advertised (Some (V6 a)) fits (Some l) label_fits false s n hn =
-        let address = big_number-reads_back 16 a [] fits in let label = big_number-reads_back 3 l [] label_fits in spells 1 (mac_route o vni mac (Some (V6 a)) (Some l) ++ after false s n) (update o incarnation counter (Mac vni mac (Some (V6 a))) (Advertised (told false s n (Some l)))) refl
+        let address = big_number-reads_back 16 a [] fits in let label = big_number-reads_back 3 l [] label_fits in
+        spells 1 (mac_route o vni mac (Some (V6 a)) (Some l) ++ after false s n)
+        (update o incarnation counter (Mac vni mac (Some (V6 a))) (Advertised (told false s n (Some l)))) refl
         (refl, (refl, (right_originator, (refl, (refl, (right_label, (right_mac, (some, tt))))))))
-        (λ i. update o incarnation counter (Mac vni (mac_again i) (Some (V6 (address i)))) (Advertised (record { is_static = false; sequence = 0; label2 = (Some (label i)) })))
+        (λ i. update o incarnation counter (Mac vni (mac_again i) (Some (V6 (address i))))
+        (Advertised (record { is_static = false; sequence = 0; label2 = (Some (label i)) })))
 
 no_zero : (n : ℕ) → 0 < n → n == 0 ≡ false
 no_zero n h = grind (arith, nat_tests)
@@ -175,31 +242,50 @@ nothing_told false n e = (refl, exact_unsigned_eq n 0 (zero_told (n == 0) e))
     zero_told false e = cc
 
 -- the octets that are written for a well formed update spell it
-pub written : (o incarnation counter : ℕ) (key : Key) (content : Content) → o < 2 ^ 32 → incarnation < 2 ^ 32 → counter < 2 ^ 64 → vni_of key < 2 ^ 24 → RouteFits key content
-    → IsUpdate (update o incarnation counter key content) → Spells (record_octets (kind_of content) o incarnation counter (vni_of key) (route_octets o key content)) (update o incarnation counter key content)
-written o incarnation counter (Flood vni) Withdrawn ho hi hc hv fits good = flood_withdrawn o incarnation counter vni ho hi hc hv (no_zero counter good.counted)
+pub written : (o incarnation counter : ℕ) (key : Key) (content : Content) → o < 2 ^ 32 → incarnation < 2 ^ 32
+    → counter < 2 ^ 64 → vni_of key < 2 ^ 24 → RouteFits key content
+    → IsUpdate (update o incarnation counter key content)
+    → Spells (record_octets (kind_of content) o incarnation counter (vni_of key) (route_octets o key content))
+    (update o incarnation counter key content)
+written o incarnation counter (Flood vni) Withdrawn ho hi hc hv fits good =
+    flood_withdrawn o incarnation counter vni ho hi hc hv (no_zero counter good.counted)
 written o incarnation counter (Flood vni) (Advertised a) ho hi hc hv fits good =
-    subst (λ (b : Advert). Spells (record_octets 1 o incarnation counter vni (flood_route o)) (update o incarnation counter (Flood vni) (Advertised b)))
+    subst (λ (b : Advert). Spells (record_octets 1 o incarnation counter vni (flood_route o))
+    (update o incarnation counter (Flood vni) (Advertised b)))
     (sym good.fits) (flood_up o incarnation counter vni ho hi hc hv (no_zero counter good.counted))
 written o incarnation counter (Mac vni mac ip) Withdrawn ho hi hc hv fits good =
-    withdrawn o incarnation counter vni ho hi hc hv (no_zero counter good.counted) mac fits.0 (no_group (is_group mac) good.individual) ip fits.1
-written o incarnation counter (Mac vni mac ip) (Advertised a) ho hi hc hv fits good = go (a.is_static || not (a.sequence == 0)) refl
+    withdrawn o incarnation counter vni ho hi hc hv (no_zero counter good.counted) mac fits.0
+    (no_group (is_group mac) good.individual) ip fits.1
+written o incarnation counter (Mac vni mac ip) (Advertised a) ho hi hc hv fits good =
+    go (a.is_static || not (a.sequence == 0)) refl
   where
     spelt_by : Bool → Advert → Type 0
-    spelt_by b t = Spells (record_octets 1 o incarnation counter vni (mac_route o vni mac ip a.label2 ++ after b a.is_static a.sequence)) (update o incarnation counter (Mac vni mac ip) (Advertised t))
+    spelt_by b t = Spells (record_octets 1 o incarnation counter vni
+        (mac_route o vni mac ip a.label2 ++ after b a.is_static a.sequence))
+        (update o incarnation counter (Mac vni mac ip) (Advertised t))
 
     some : (b : Bool) → spelt_by b (told b a.is_static a.sequence a.label2)
-    some b = advertised o incarnation counter vni ho hi hc hv (no_zero counter good.counted) mac fits.0 (no_group (is_group mac) good.individual) ip fits.1 a.label2 fits.2 b a.is_static a.sequence fits.3
+    some b = advertised o incarnation counter vni ho hi hc hv (no_zero counter good.counted) mac fits.0
+        (no_group (is_group mac) good.individual) ip fits.1 a.label2 fits.2 b a.is_static a.sequence fits.3
 
-    go : (b : Bool) → a.is_static || not (a.sequence == 0) ≡ b → Spells (record_octets 1 o incarnation counter vni (mac_route o vni mac ip a.label2 ++ cond b (6 ∷ 0 ∷ cond a.is_static 1 0 ∷ 0 ∷ big_bytes 4 a.sequence) [])) (update o incarnation counter (Mac vni mac ip) (Advertised a))
+    go : (b : Bool) → a.is_static || not (a.sequence == 0) ≡ b
+        → Spells (record_octets 1 o incarnation counter vni
+        (mac_route o vni mac ip a.label2 ++ cond b (6 ∷ 0 ∷ cond a.is_static 1 0 ∷ 0 ∷ big_bytes 4 a.sequence) []))
+        (update o incarnation counter (Mac vni mac ip) (Advertised a))
     go true e = some true
     go false e =
         let h = nothing_told a.is_static a.sequence e in
-        subst (λ (t : Advert). spelt_by false t) (λ i. record { is_static = sym h.0 i; sequence = sym h.1 i; label2 = a.label2 }) (some false)
+        subst (λ (t : Advert). spelt_by false t) (λ i. record {
+          is_static = sym h.0 i;
+          sequence = sym h.1 i;
+          label2 = a.label2;
+        }) (some false)
 
 -- what spells an update is read as it, whatever follows
-pub read_again : (bytes : List ℕ) (u : Fields) → Spells bytes u → (rest : List ℕ) → Reads (bytes ++ rest) (Ok u ∷ []) rest
+pub read_again : (bytes : List ℕ) (u : Fields) → Spells bytes u → (rest : List ℕ)
+    → Reads (bytes ++ rest) (Ok u ∷ []) rest
 read_again bytes u s rest =
     let l = found_long 3 bytes (length bytes) s.0 in
-    let first = whole_again 3 bytes (bytes ++ rest) (length bytes) s.0 (omega (arith, length-append {A = ℕ})) (λ i lt. get_or-append bytes rest 0 i (omega arith)) in
+    let first = whole_again 3 bytes (bytes ++ rest) (length bytes) s.0 (omega (arith, length-append {A = ℕ}))
+    (λ i lt. get_or-append bytes rest 0 i (omega arith)) in
     (length bytes, first, ap reading (take-append_seam bytes rest) ∙ s.1, drop-append_seam bytes rest)

@@ -1,5 +1,6 @@
 -- Streams of records.
-use Rattle.std.proofs.Common.{◌≡◌, ℕ, false, List, [], ◌∷◌, ◌++◌, length, take, drop, Result, refl, sym, ap, subst, ◌∙◌, arith, length-append}
+use Rattle.std.proofs.Common.{◌≡◌, ℕ, false, List, [], ◌∷◌, ◌++◌, length, take, drop, Result, refl, sym, ap, subst, ◌∙◌}
+use Rattle.std.proofs.Common.{arith, length-append}
 use Rattle.std.proofs.Math.ListN.{get_or-append}
 use Rattle.route_wire.specs.declared.stream.Whole.{Whole}
 use Rattle.route_wire.specs.declared.stream.Whole.TheVariants.{Length}
@@ -17,23 +18,29 @@ empty [] e = refl
 empty (x ∷ xs) e = absurd (omega arith)
 
 -- a stream that begins with a whole record
-pub whole_followed : (newest : ℕ) (bytes more : List ℕ) (n : ℕ) → whole_up_to newest bytes ≡ Length n → whole_up_to newest (bytes ++ more) ≡ Length n
+pub whole_followed : (newest : ℕ) (bytes more : List ℕ) (n : ℕ) → whole_up_to newest bytes ≡ Length n
+    → whole_up_to newest (bytes ++ more) ≡ Length n
 whole_followed newest bytes more n h =
     let l = found_long newest bytes n h in
-    whole_again newest bytes (bytes ++ more) n h (omega (arith, length-append {A = ℕ})) (λ i lt. get_or-append bytes more 0 i (omega arith))
+    whole_again newest bytes (bytes ++ more) n h (omega (arith, length-append {A = ℕ}))
+    (λ i lt. get_or-append bytes more 0 i (omega arith))
 
 pub begins_no_other : (bytes more : List ℕ) → IsWhole bytes → IsWhole (bytes ++ more) → more ≡ []
 begins_no_other bytes more h k =
-    let e = same_length (length bytes) (length (bytes ++ more)) (sym (whole_followed 3 bytes more (length bytes) h) ∙ k) in
+    let e = same_length (length bytes) (length (bytes ++ more)) (sym (whole_followed 3 bytes more (length bytes) h)
+    ∙ k) in
     empty more (omega (arith, length-append bytes more, e))
 
 no_length : (w : Whole) (n : ℕ) → is_length w ≡ false → w ≡ Length n → ⊥
 no_length w n e h = let f = ap is_length h in cc
 
-no_answer : (newest : ℕ) (s : List ℕ) (y : Result Fields ℕ) (ys : List (Result Fields ℕ)) (r t : List ℕ) → AnswersUpTo newest s [] r → ReadsUpTo newest s (y ∷ ys) t → ⊥
-no_answer newest s y ys r t a b = no_length (whole_up_to newest s) b.0 (subst (λ (w : List ℕ). is_length (whole_up_to newest w) ≡ false) (sym a.reads) a.ended) b.1
+no_answer : (newest : ℕ) (s : List ℕ) (y : Result Fields ℕ) (ys : List (Result Fields ℕ)) (r t : List ℕ)
+    → AnswersUpTo newest s [] r → ReadsUpTo newest s (y ∷ ys) t → ⊥
+no_answer newest s y ys r t a b = no_length (whole_up_to newest s) b.0
+    (subst (λ (w : List ℕ). is_length (whole_up_to newest w) ≡ false) (sym a.reads) a.ended) b.1
 
-pub read_once : (newest : ℕ) (s : List ℕ) (xs ys : List (Result Fields ℕ)) (r t : List ℕ) → AnswersUpTo newest s xs r → AnswersUpTo newest s ys t → (xs ≡ ys) × (r ≡ t)
+pub read_once : (newest : ℕ) (s : List ℕ) (xs ys : List (Result Fields ℕ)) (r t : List ℕ) → AnswersUpTo newest s xs r
+    → AnswersUpTo newest s ys t → (xs ≡ ys) × (r ≡ t)
 read_once newest s [] [] r t a b = (refl, sym a.reads ∙ b.reads)
 read_once newest s [] (y ∷ ys) r t a b = absurd (no_answer newest s y ys r t a b.reads)
 read_once newest s (x ∷ xs) [] r t a b = absurd (no_answer newest s x xs t r b a.reads)

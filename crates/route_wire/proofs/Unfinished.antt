@@ -1,5 +1,6 @@
 -- What the beginning of a stream shows stays, whatever follows it.
-use Rattle.std.proofs.Common.{◌≡◌, ℕ, ◌+◌, ◌<◌, ◌≤◌, Bool, true, false, not, ◌&&◌, ◌||◌, ◌==◌, nat_lt, cond, List, ◌++◌, length, slice_index, Option, Some, None, refl, sym, ap, ◌∙◌, arith, length-append}
+use Rattle.std.proofs.Common.{◌≡◌, ℕ, ◌+◌, ◌<◌, ◌≤◌, Bool, true, false, not, ◌&&◌, ◌||◌, ◌==◌, nat_lt, cond, List, ◌++◌}
+use Rattle.std.proofs.Common.{length, slice_index, Option, Some, None, refl, sym, ap, ◌∙◌, arith, length-append}
 use Rattle.std.proofs.Math.ListN.{get_or-append}
 use Rattle.std.proofs.lemmas.Bool.{lt-ltb}
 use Rattle.std.proofs.lemmas.Bool.Decides.{nat_tests}
@@ -12,7 +13,8 @@ use Rattle.route_wire.proofs.Spelt.{none_of}
 
 -- ---- faults
 -- a test at the octet p, of a stream and of a longer one
-step : (p short long : ℕ) → short ≤ long → (c d : Bool) → (p < short → d ≡ c) → (x f : ℕ) (o q : Option ℕ) → (p < short → o ≡ Some f → q ≡ Some f) → (short ≤ p → o ≡ None)
+step : (p short long : ℕ) → short ≤ long → (c d : Bool) → (p < short → d ≡ c) → (x f : ℕ) (o q : Option ℕ)
+    → (p < short → o ≡ Some f → q ≡ Some f) → (short ≤ p → o ≡ None)
     → cond (nat_lt p short && c) (Some x) o ≡ Some f → cond (nat_lt p long && d) (Some x) q ≡ Some f
 step p short long le c d same x f o q later none h = go (nat_lt p short) refl
   where
@@ -34,7 +36,8 @@ step p short long le c d same x f o q later none h = go (nat_lt p short) refl
         absurd (nothing (none end) (sym (ap (λ (b : Bool). cond (b && c) (Some x) o) e) ∙ h))
 
 -- a test past the end isn't met
-skip : (p short : ℕ) → short ≤ p → (c : Bool) (x : ℕ) (o : Option ℕ) → o ≡ None → cond (nat_lt p short && c) (Some x) o ≡ None
+skip : (p short : ℕ) → short ≤ p → (c : Bool) (x : ℕ) (o : Option ℕ) → o ≡ None
+    → cond (nat_lt p short && c) (Some x) o ≡ None
 skip p short end c x o e = ap (λ (b : Bool). cond (b && c) (Some x) o) (not_less p short end) ∙ e
 
 module _ (newest : ℕ) where
@@ -77,23 +80,28 @@ module _ (newest : ℕ) where
   none1 : (s : List ℕ) → length s ≤ 1 → from1 s ≡ None
   none1 s h = skip 1 (length s) h (c1 s) 1 (from2 s) (none2 s (omega arith))
 
-  module _ (s t : List ℕ) (le : length s ≤ length t) (at : (i : ℕ) → i < length s → slice_index t i ≡ slice_index s i) (f : ℕ) where
+  module _ (s t : List ℕ) (le : length s ≤ length t) (at : (i : ℕ) → i < length s
+      → slice_index t i ≡ slice_index s i) (f : ℕ) where
     stays5 : from5 s ≡ Some f → from5 t ≡ Some f
     stays5 = step 5 (length s) (length t) le (c5 s) (c5 t)
         (λ less. let k = same_follow s t (λ i lt. at i (omega arith)) in let e2 = at 2 (omega arith) in cc)
         4 f None None (λ less e. e) (λ end. refl)
 
     stays3 : from3 s ≡ Some f → from3 t ≡ Some f
-    stays3 = step 3 (length s) (length t) le (c3 s) (c3 t) (λ less. let e = at 3 less in cc) 3 f (from5 s) (from5 t) (λ less e. stays5 e) (λ end. none5 s (omega arith))
+    stays3 = step 3 (length s) (length t) le (c3 s) (c3 t) (λ less. let e = at 3 less in
+        cc) 3 f (from5 s) (from5 t) (λ less e. stays5 e) (λ end. none5 s (omega arith))
 
     stays2 : from2 s ≡ Some f → from2 t ≡ Some f
-    stays2 = step 2 (length s) (length t) le (c2 s) (c2 t) (λ less. let e = at 2 less in cc) 2 f (from3 s) (from3 t) (λ less e. stays3 e) (λ end. none3 s (omega arith))
+    stays2 = step 2 (length s) (length t) le (c2 s) (c2 t) (λ less. let e = at 2 less in
+        cc) 2 f (from3 s) (from3 t) (λ less e. stays3 e) (λ end. none3 s (omega arith))
 
     stays1 : from1 s ≡ Some f → from1 t ≡ Some f
-    stays1 = step 1 (length s) (length t) le (c1 s) (c1 t) (λ less. let e = at 1 less in cc) 1 f (from2 s) (from2 t) (λ less e. stays2 e) (λ end. none2 s (omega arith))
+    stays1 = step 1 (length s) (length t) le (c1 s) (c1 t) (λ less. let e = at 1 less in
+        cc) 1 f (from2 s) (from2 t) (λ less e. stays2 e) (λ end. none2 s (omega arith))
 
     fault_stays : fault_of newest s ≡ Some f → fault_of newest t ≡ Some f
-    fault_stays = step 0 (length s) (length t) le (c0 s) (c0 t) (λ less. let e = at 0 less in cc) 1 f (from1 s) (from1 t) (λ less e. stays1 e) (λ end. none1 s (omega arith))
+    fault_stays = step 0 (length s) (length t) le (c0 s) (c0 t) (λ less. let e = at 0 less in
+        cc) 1 f (from1 s) (from1 t) (λ less e. stays1 e) (λ end. none1 s (omega arith))
 
 -- ---- what is shown
 late : (a b : Bool) (m : ℕ) → is_fault (cond a Rest (cond b Rest (Length m))) ≡ false
@@ -103,26 +111,32 @@ late false false m = refl
 
 shows : (s : List ℕ) (o : Option ℕ) (f : ℕ) → whole_or_rest s o ≡ Fault f → o ≡ Some f
 shows s (Some g) f h = cc
-shows s None f h = let l = late (nat_lt (length s) 6) (nat_lt (length s) (6 + follow_of s)) (6 + follow_of s) in let k = ap is_fault h in cc
+shows s None f h = let l = late (nat_lt (length s) 6) (nat_lt (length s) (6 + follow_of s)) (6 + follow_of s) in
+    let k = ap is_fault h in cc
 
 -- a fault stays
-pub fault_followed : (newest : ℕ) (s more : List ℕ) (f : ℕ) → whole_up_to newest s ≡ Fault f → whole_up_to newest (s ++ more) ≡ Fault f
+pub fault_followed : (newest : ℕ) (s more : List ℕ) (f : ℕ) → whole_up_to newest s ≡ Fault f
+    → whole_up_to newest (s ++ more) ≡ Fault f
 fault_followed newest s more f h =
-    ap (whole_or_rest (s ++ more)) (fault_stays newest s (s ++ more) (omega (arith, length-append {A = ℕ})) (λ i lt. get_or-append s more 0 i lt) f (shows s (fault_of newest s) f h))
+    ap (whole_or_rest (s ++ more)) (fault_stays newest s (s ++ more) (omega (arith, length-append {A = ℕ}))
+    (λ i lt. get_or-append s more 0 i lt) f (shows s (fault_of newest s) f h))
 
 unfaulty : (s : List ℕ) (o : Option ℕ) → is_rest (whole_or_rest s o) ≡ true → o ≡ None
 unfaulty s (Some f) h = cc
 unfaulty s None h = refl
 
 at_end : (a b : Bool) (m : ℕ) → a ≡ false → b ≡ true → is_rest (cond a Rest (cond b Rest (Length m))) ≡ true
-at_end a b m ea eb = ap (λ (x : Bool). is_rest (cond x Rest (cond b Rest (Length m)))) ea ∙ ap (λ (y : Bool). is_rest (cond y Rest (Length m))) eb
+at_end a b m ea eb = ap (λ (x : Bool). is_rest (cond x Rest (cond b Rest (Length m)))) ea
+    ∙ ap (λ (y : Bool). is_rest (cond y Rest (Length m))) eb
 
 -- a record goes on after its first octets until its length is reached
 module _ (newest : ℕ) (s t : List ℕ) (six : 6 ≤ length s) (rest : is_rest (whole_up_to newest s) ≡ true) where
   no_fault : fault_of newest (s ++ t) ≡ None
   no_fault =
-      let at : (i : ℕ) → i < 6 → slice_index (s ++ t) i ≡ slice_index s i = λ i lt. get_or-append s t 0 i (omega arith) in
-      same_fault newest s (s ++ t) six (omega (arith, length-append {A = ℕ})) at (same_follow s (s ++ t) at) ∙ unfaulty s (fault_of newest s) rest
+      let at : (i : ℕ) → i < 6 → slice_index (s ++ t) i ≡ slice_index s i =
+      λ i lt. get_or-append s t 0 i (omega arith) in
+      same_fault newest s (s ++ t) six (omega (arith, length-append {A = ℕ})) at (same_follow s (s ++ t) at)
+      ∙ unfaulty s (fault_of newest s) rest
 
   follows : follow_of (s ++ t) ≡ follow_of s
   follows = same_follow s (s ++ t) (λ i lt. get_or-append s t 0 i (omega arith))
@@ -131,9 +145,11 @@ module _ (newest : ℕ) (s t : List ℕ) (six : 6 ≤ length s) (rest : is_rest 
   goes_on less =
       let long = length-append s t in
       let f = follows in
-      let early : nat_lt (length (s ++ t)) (6 + follow_of (s ++ t)) ≡ true = lt-ltb (length (s ++ t)) (6 + follow_of (s ++ t)) (omega arith) in
+      let early : nat_lt (length (s ++ t)) (6 + follow_of (s ++ t)) ≡ true =
+      lt-ltb (length (s ++ t)) (6 + follow_of (s ++ t)) (omega arith) in
       ap (λ (o : Option ℕ). is_rest (whole_or_rest (s ++ t) o)) no_fault
-      ∙ at_end (nat_lt (length (s ++ t)) 6) (nat_lt (length (s ++ t)) (6 + follow_of (s ++ t))) (6 + follow_of (s ++ t)) (not_less (length (s ++ t)) 6 (omega arith)) early
+      ∙ at_end (nat_lt (length (s ++ t)) 6) (nat_lt (length (s ++ t)) (6 + follow_of (s ++ t))) (6 + follow_of (s ++ t))
+      (not_less (length (s ++ t)) 6 (omega arith)) early
 
   pub is_reached : 6 + follow_of s ≤ length s + length t → is_rest (whole_up_to newest (s ++ t)) ≡ false
   is_reached le =
@@ -153,7 +169,8 @@ held_whole newest s n held h = go (nat_lt n (length s)) refl
         let no = held n less in cc
     go false e = let l = found_long newest s n h in let le : length s ≤ n = grind (arith, nat_tests) in omega arith
 
-newer_version : (b zero old new : Bool) → (new ≡ true → old ≡ true) → b && (zero || old) ≡ false → b && (zero || new) ≡ false
+newer_version : (b zero old new : Bool) → (new ≡ true → old ≡ true) → b && (zero || old) ≡ false
+    → b && (zero || new) ≡ false
 newer_version true true old new imp h = h
 newer_version true false old new imp h = go new refl
   where
@@ -163,11 +180,18 @@ newer_version true false old new imp h = go new refl
 newer_version false zero old new imp h = refl
 
 -- what is whole of records up to a version is whole of records of all versions
-pub whole_of_all : (newest : ℕ) (s : List ℕ) (n : ℕ) → newest ≤ 3 → whole_up_to newest s ≡ Length n → whole_up_to 3 s ≡ Length n
+pub whole_of_all : (newest : ℕ) (s : List ℕ) (n : ℕ) → newest ≤ 3 → whole_up_to newest s ≡ Length n
+    → whole_up_to 3 s ≡ Length n
 whole_of_all newest s n le h =
     let e = ends_whole s (fault_of newest s) n h in
     let u = unmet (fault_tests newest s) e.0 in
-    let later : nat_lt 3 (slice_index s 2) ≡ true → nat_lt newest (slice_index s 2) ≡ true = (λ k. let less : 3 < slice_index s 2 = grind (arith, nat_tests) in lt-ltb newest (slice_index s 2) (omega arith)) in
-    let version = newer_version (nat_lt 2 (length s)) (slice_index s 2 == 0) (nat_lt newest (slice_index s 2)) (nat_lt 3 (slice_index s 2)) later u.1.1.0 in
-    let fine : fault_of 3 s ≡ None = none_of (fault_tests 3 s) (u.0, (u.1.0, (version, (u.1.1.1.0, (u.1.1.1.1.0, tt))))) in
+    let later : nat_lt 3 (slice_index s 2) ≡ true → nat_lt newest (slice_index s 2) ≡ true =
+    (λ k. let less : 3 < slice_index s 2 = grind (arith, nat_tests) in
+    lt-ltb newest (slice_index s 2) (omega arith)) in
+    let version = newer_version (nat_lt 2 (length s)) (slice_index s 2 == 0) (nat_lt newest (slice_index s 2))
+    (nat_lt 3 (slice_index s 2)) later u.1.1.0 in
+    let fine : fault_of 3 s ≡ None = none_of (fault_tests 3 s) (
+      u.0,
+      (u.1.0, (version, (u.1.1.1.0, (u.1.1.1.1.0, tt)))),
+    ) in
     ap (whole_or_rest s) (fine ∙ sym e.0) ∙ h

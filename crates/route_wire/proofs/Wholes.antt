@@ -1,5 +1,6 @@
 -- How long a whole record is.
-use Rattle.std.proofs.Common.{◌≡◌, ℕ, ◌+◌, ◌≤◌, Bool, true, false, ◌&&◌, ◌||◌, ◌==◌, nat_lt, cond, List, [], ◌∷◌, length, slice_index, Option, Some, None, refl, arith}
+use Rattle.std.proofs.Common.{◌≡◌, ℕ, ◌+◌, ◌≤◌, Bool, true, false, ◌&&◌, ◌||◌, ◌==◌, nat_lt, cond, List, [], ◌∷◌}
+use Rattle.std.proofs.Common.{length, slice_index, Option, Some, None, refl, arith}
 use Rattle.std.proofs.lemmas.Bool.Decides.{nat_tests}
 use Rattle.route_wire.specs.declared.stream.Whole.TheVariants.{Rest, Length}
 use Rattle.ether_wire.specs.Frame.{first_of}
@@ -25,12 +26,15 @@ ends_at true b m n h = cc
 ends_at false true m n h = cc
 ends_at false false m n h = (refl, refl, cc)
 
-pub ends_whole : (s : List ℕ) (o : Option ℕ) (n : ℕ) → whole_or_rest s o ≡ Length n → (o ≡ None) × (nat_lt (length s) 6 ≡ false) × (nat_lt (length s) (6 + follow_of s) ≡ false) × (6 + follow_of s ≡ n)
+pub ends_whole : (s : List ℕ) (o : Option ℕ) (n : ℕ) → whole_or_rest s o ≡ Length n
+    → (o ≡ None) × (nat_lt (length s) 6 ≡ false) × (nat_lt (length s) (6 + follow_of s) ≡ false) × (6 + follow_of s ≡ n)
 ends_whole s (Some f) n h = cc
-ends_whole s None n h = let e = ends_at (nat_lt (length s) 6) (nat_lt (length s) (6 + follow_of s)) (6 + follow_of s) n h in (refl, e.0, e.1, e.2)
+ends_whole s None n h = let e = ends_at (nat_lt (length s) 6) (nat_lt (length s) (6 + follow_of s)) (6 + follow_of s) n
+    h in (refl, e.0, e.1, e.2)
 
 -- where neither the length is short nor the test met, the number is large
-last_test : (l follow least : ℕ) → nat_lt l 6 ≡ false → nat_lt 5 l && (nat_lt follow least || nat_lt 512 follow) ≡ false → (least ≤ follow) × (follow ≤ 512)
+last_test : (l follow least : ℕ) → nat_lt l 6 ≡ false → nat_lt 5 l && (nat_lt follow least || nat_lt 512 follow) ≡ false
+    → (least ≤ follow) × (follow ≤ 512)
 last_test l follow least a b = grind (arith, nat_tests)
 
 least_place : (b : Bool) → (15 ≤ cond b 15 19) × (cond b 21 25 ≡ 6 + cond b 15 19)
@@ -38,7 +42,8 @@ least_place true = (omega arith, refl)
 least_place false = (omega arith, refl)
 
 -- how long the whole record at the front of a stream is
-pub found_long : (newest : ℕ) (s : List ℕ) (n : ℕ) → whole_up_to newest s ≡ Length n → (21 ≤ n) × (route_place s ≤ n) × (n ≤ 518) × (n ≤ length s)
+pub found_long : (newest : ℕ) (s : List ℕ) (n : ℕ) → whole_up_to newest s ≡ Length n
+    → (21 ≤ n) × (route_place s ≤ n) × (n ≤ 518) × (n ≤ length s)
 found_long newest s n h =
     let e = ends_whole s (fault_of newest s) n h in
     let u = unmet (fault_tests newest s) e.0 in

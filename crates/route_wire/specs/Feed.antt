@@ -1,5 +1,6 @@
 -- A feed: what it holds of a stream that comes in pieces.
-use Rattle.std.specs.Prelude.{◌≡◌, ℕ, ◌<◌, ◌≤◌, Bool, true, false, ◌==◌, if◌then◌else◌, List, [], ◌∷◌, ◌++◌, length, take, Result, Ok, Err}
+use Rattle.std.specs.Prelude.{◌≡◌, ℕ, ◌<◌, ◌≤◌, Bool, true, false, ◌==◌, if◌then◌else◌, List, [], ◌∷◌, ◌++◌, length}
+use Rattle.std.specs.Prelude.{take, Result, Ok, Err}
 use Rattle.std.specs.Bool.{OnTrue, OnFalse}
 use Rattle.route_wire.specs.declared.stream.Whole.{Whole}
 use Rattle.route_wire.specs.declared.stream.Whole.TheVariants.{Rest, Fault, Length}
@@ -47,7 +48,8 @@ pub record Skips (old new : Held) (piece : List ℕ) (n : ℕ) : Type 0 where
   pub all : n ≡ length piece
 
 abbrev pub Feeds : Held → Held → List ℕ → ℕ → Type 0
-Feeds old new piece n = OnTrue (is_fault (shown old)) (Skips old new piece n) × OnFalse (is_fault (shown old)) (Takes old new piece n)
+Feeds old new piece n = OnTrue (is_fault (shown old)) (Skips old new piece n)
+    × OnFalse (is_fault (shown old)) (Takes old new piece n)
 
 -- what comes next: nothing yet, the answer of a whole record, or the fault
 abbrev pub answer_of : Result Fields ℕ → Next
@@ -90,7 +92,8 @@ added (Record u) = Ok u ∷ []
 added (Refused refusal) = Err refusal ∷ []
 added (Faulty fault) = []
 
--- Of the stream that was taken so far these answers were given, and the rest is held; of what came after a fault nothing is.
+-- Of the stream that was taken so far these answers were given, and the rest is held; of what came after a fault
+-- nothing is.
 pub record HasRead (h : Held) (stream : List ℕ) (answers : List (Result Fields ℕ)) : Type 0 where
   pub skipped : List ℕ
   pub reads : ReadsUpTo h.newest stream answers (h.rest ++ skipped)

@@ -48,7 +48,8 @@ ip_of (Mac vni mac ip) = ip
 
 -- of keys, and so of the registers of one originator: the same without the originator
 abbrev pub key_cmp : Key → Key → Ordering
-key_cmp a b = ordering_then (nat_cmp (vni_of a) (vni_of b)) (ordering_then (nat_cmp (place_of a) (place_of b)) (ip_cmp (ip_of a) (ip_of b)))
+key_cmp a b = ordering_then (nat_cmp (vni_of a) (vni_of b))
+    (ordering_then (nat_cmp (place_of a) (place_of b)) (ip_cmp (ip_of a) (ip_of b)))
 
 abbrev pub register_cmp : Register → Register → Ordering
 register_cmp a b =
@@ -72,10 +73,12 @@ label2_of (Advertised a) = a.label2
 -- at equal ranks the sequence number decides, and then the second label, none first
 abbrev pub content_cmp : Content → Content → Ordering
 content_cmp a b =
-    ordering_then (nat_cmp (rank_of a) (rank_of b)) (ordering_then (nat_cmp (sequence_of a) (sequence_of b)) (option_cmp nat_cmp (label2_of a) (label2_of b)))
+    ordering_then (nat_cmp (rank_of a) (rank_of b)) (ordering_then (nat_cmp (sequence_of a) (sequence_of b))
+    (option_cmp nat_cmp (label2_of a) (label2_of b)))
 
 abbrev pub value_cmp : Value → Value → Ordering
-value_cmp a b = ordering_then (nat_cmp a.incarnation b.incarnation) (ordering_then (nat_cmp a.counter b.counter) (content_cmp a.content b.content))
+value_cmp a b = ordering_then (nat_cmp a.incarnation b.incarnation)
+    (ordering_then (nat_cmp a.counter b.counter) (content_cmp a.content b.content))
 
 -- a is newer than b
 abbrev pub is_newer : Value → Value → Bool

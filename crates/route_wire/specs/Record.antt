@@ -1,8 +1,11 @@
 -- Update records: the update that one spells, and the answers of a stream of them.
-use Rattle.std.specs.Prelude.{◌≡◌, ℕ, ◌%◌, Bool, true, false, not, ◌&&◌, ◌==◌, if◌then◌else◌, List, [], ◌∷◌, take, drop, slice_index, Option, Some, None, Result, Ok, Err}
+use Rattle.std.specs.Prelude.{◌≡◌, ℕ, ◌%◌, Bool, true, false, not, ◌&&◌, ◌==◌, if◌then◌else◌, List, [], ◌∷◌, take, drop}
+use Rattle.std.specs.Prelude.{slice_index, Option, Some, None, Result, Ok, Err}
 use Rattle.byteorder.specs.Endian.{big_number}
 use Rattle.route_wire.specs.declared.record.Header.{Header}
-use Rattle.route_wire.specs.declared.record.TheConstants.{ORIGINATOR_PLACE, FIRST_COUNTER_PLACE, FIRST_VNI_PLACE, FIRST_ROUTE_PLACE, INCARNATION_PLACE, COUNTER_PLACE, VNI_PLACE, ROUTE_PLACE}
+use Rattle.route_wire.specs.declared.record.TheConstants.{ORIGINATOR_PLACE, FIRST_COUNTER_PLACE, FIRST_VNI_PLACE}
+use Rattle.route_wire.specs.declared.record.TheConstants.{FIRST_ROUTE_PLACE, INCARNATION_PLACE, COUNTER_PLACE}
+use Rattle.route_wire.specs.declared.record.TheConstants.{VNI_PLACE, ROUTE_PLACE}
 use Rattle.route_wire.specs.declared.route.TheConstants.{MAC_PLACE, FLAGS_PLACE, SEQUENCE_PLACE}
 use Rattle.route_wire.specs.declared.stream.TheConstants.{VERSION_PLACE, KIND_PLACE, FIRST_VERSION, NEWEST, WITHDRAWS}
 use Rattle.route_wire.specs.declared.stream.Whole.{Whole}
@@ -40,7 +43,8 @@ later_header_in bytes = record {
 }
 
 abbrev pub header_in : List ℕ → Header
-header_in bytes = if slice_index bytes VERSION_PLACE == FIRST_VERSION then first_header_in bytes else later_header_in bytes
+header_in bytes = if slice_index bytes VERSION_PLACE == FIRST_VERSION then first_header_in bytes else later_header_in
+    bytes
 
 abbrev pub route_place : List ℕ → ℕ
 route_place bytes = if slice_index bytes VERSION_PLACE == FIRST_VERSION then FIRST_ROUTE_PLACE else ROUTE_PLACE
@@ -54,7 +58,8 @@ abbrev pub names_no_ip : Header → Bool
 names_no_ip h = h.is_withdrawal && not (h.version == NEWEST)
 
 abbrev pub key_in : Header → List ℕ → Key
-key_in h r = if is_mac_route r then Mac h.vni (big_number 6 (drop MAC_PLACE r)) (if names_no_ip h then None else ip_in r) else Flood h.vni
+key_in h r = if is_mac_route r then Mac h.vni (big_number 6 (drop MAC_PLACE r))
+    (if names_no_ip h then None else ip_in r) else Flood h.vni
 
 -- the static flag is the lowest bit
 abbrev pub is_flagged : ℕ → Bool
@@ -69,7 +74,8 @@ advert_in r = record {
 }
 
 abbrev pub content_in : Header → List ℕ → Content
-content_in h r = if h.is_withdrawal then Withdrawn else Advertised (if is_mac_route r then advert_in r else flood_advert)
+content_in h r = if h.is_withdrawal then Withdrawn else Advertised
+    (if is_mac_route r then advert_in r else flood_advert)
 
 abbrev pub update_in : Header → List ℕ → Fields
 update_in h r = record {
@@ -83,7 +89,8 @@ unless_refused (Some refusal) u = Err refusal
 
 -- what a whole record says: its update, or its refusal
 unfoldable pub reading : List ℕ → Result Fields ℕ
-reading bytes = unless_refused (refusal_of (header_in bytes) (route_of bytes)) (update_in (header_in bytes) (route_of bytes))
+reading bytes = unless_refused (refusal_of (header_in bytes) (route_of bytes))
+    (update_in (header_in bytes) (route_of bytes))
 
 -- the octets are one whole record that spells the update
 abbrev pub Spells : List ℕ → Fields → Type 0
@@ -93,7 +100,8 @@ Spells bytes u = IsWhole bytes × (reading bytes ≡ Ok u)
 -- a stream of records up to a version begins with whole records of these answers, and goes on with the rest
 abbrev pub ReadsUpTo : ℕ → List ℕ → List (Result Fields ℕ) → List ℕ → Type 0
 ReadsUpTo newest s [] rest = s ≡ rest
-ReadsUpTo newest s (answer ∷ answers) rest = (n : ℕ) × (whole_up_to newest s ≡ Length n) × (reading (take n s) ≡ answer) × ReadsUpTo newest (drop n s) answers rest
+ReadsUpTo newest s (answer ∷ answers) rest = (n : ℕ) × (whole_up_to newest s ≡ Length n) × (reading (take n s) ≡ answer)
+    × ReadsUpTo newest (drop n s) answers rest
 
 -- a whole record stands at the front
 abbrev pub is_length : Whole → Bool

@@ -1,13 +1,19 @@
 -- The refusals of a whole record: the first test that is met tells it.
-use Rattle.std.specs.Prelude.{◌≡◌, ◌⊎◌, ℕ, ◌+◌, ◌<◌, Bool, true, false, not, ◌&&◌, ◌||◌, ◌==◌, nat_lt, if◌then◌else◌, List, [], ◌∷◌, length, take, drop, slice_index, Option}
+use Rattle.std.specs.Prelude.{◌≡◌, ◌⊎◌, ℕ, ◌+◌, ◌<◌, Bool, true, false, not, ◌&&◌, ◌||◌, ◌==◌, nat_lt, if◌then◌else◌}
+use Rattle.std.specs.Prelude.{List, [], ◌∷◌, length, take, drop, slice_index, Option}
 use Rattle.std.specs.List.{list_any}
 use Rattle.byteorder.specs.Endian.{big_number}
 use Rattle.ether_wire.specs.Names.{is_group}
-use Rattle.route_wire.specs.declared.reason.TheConstants.{UNKNOWN_TYPE, BAD_ROUTE, RD_MISMATCH, MULTIHOMED, TAG_UNSUPPORTED, LABEL_MISMATCH, BAD_MAC, COUNTER_ZERO}
-use Rattle.route_wire.specs.declared.route.TheConstants.{MAC_ROUTE, FLOOD_ROUTE, RD_TYPE_PLACE, RD_ADDR_PLACE, SEGMENT_PLACE, SEGMENT_LEN, MAC_TAG_PLACE, FLOOD_TAG_PLACE, MAC_BITS_PLACE, MAC_PLACE, IP_PLACE, ROUTER_PLACE, BITS_OF_MAC, COMMUNITY_LEN, COMMUNITY_TYPE}
+use Rattle.route_wire.specs.declared.reason.TheConstants.{UNKNOWN_TYPE, BAD_ROUTE, RD_MISMATCH, MULTIHOMED}
+use Rattle.route_wire.specs.declared.reason.TheConstants.{TAG_UNSUPPORTED, LABEL_MISMATCH, BAD_MAC, COUNTER_ZERO}
+use Rattle.route_wire.specs.declared.route.TheConstants.{MAC_ROUTE, FLOOD_ROUTE, RD_TYPE_PLACE, RD_ADDR_PLACE}
+use Rattle.route_wire.specs.declared.route.TheConstants.{SEGMENT_PLACE, SEGMENT_LEN, MAC_TAG_PLACE, FLOOD_TAG_PLACE}
+use Rattle.route_wire.specs.declared.route.TheConstants.{MAC_BITS_PLACE, MAC_PLACE, IP_PLACE, ROUTER_PLACE, BITS_OF_MAC}
+use Rattle.route_wire.specs.declared.route.TheConstants.{COMMUNITY_LEN, COMMUNITY_TYPE}
 use Rattle.route_wire.specs.declared.record.Header.{Header}
 use Rattle.ether_wire.specs.Frame.{first_of}
-use Rattle.route_wire.specs.Route.{route_type, route_len, is_mac_route, ip_len, is_listed_len, tail_of, ip_bits, wanted_bits, HasRoute}
+use Rattle.route_wire.specs.Route.{route_type, route_len, is_mac_route, ip_len, is_listed_len, tail_of, ip_bits}
+use Rattle.route_wire.specs.Route.{wanted_bits, HasRoute}
 
 -- there is a route type, and it is neither a MAC's nor a flood list's
 abbrev pub is_unknown_type : List ℕ → Bool
@@ -15,21 +21,25 @@ is_unknown_type r = nat_lt 0 (length r) && (not (route_type r == MAC_ROUTE) && n
 
 -- a MAC Mobility community (RFC 7432, section 7.7) of 8 octets
 abbrev pub is_community : List ℕ → Bool
-is_community after = length after == COMMUNITY_LEN && (slice_index after 0 == COMMUNITY_TYPE && slice_index after 1 == 0)
+is_community after = length after == COMMUNITY_LEN && (slice_index after 0 == COMMUNITY_TYPE
+    && slice_index after 1 == 0)
 
 -- after the route stands nothing, or one community after an advertised MAC
 abbrev pub is_followed_well : Header → List ℕ → Bool
 is_followed_well h r = length (tail_of r) == 0 || (is_mac_route r && (not h.is_withdrawal && is_community (tail_of r)))
 
--- no type or length octet, a length that isn't listed, a route past the record, a wrong IP length, or something after it
+-- no type or length octet, a length that isn't listed, a route past the record, a wrong IP length, or something after
+-- it
 abbrev pub is_bad_route : Header → List ℕ → Bool
 is_bad_route h r =
-    nat_lt (length r) 2 || (not (is_listed_len r) || (nat_lt (length r) (2 + route_len r) || (not (ip_bits r == wanted_bits r) || not (is_followed_well h r))))
+    nat_lt (length r) 2 || (not (is_listed_len r) || (nat_lt (length r) (2 + route_len r) ||
+    (not (ip_bits r == wanted_bits r) || not (is_followed_well h r))))
 
 -- a route distinguisher that isn't of type 1 with the originator's address, or a flood list of another router
 abbrev pub has_other_distinguisher : Header → List ℕ → Bool
 has_other_distinguisher h r =
-    not (slice_index r 2 == 0) || (not (slice_index r RD_TYPE_PLACE == 1) || (not (big_number 4 (drop RD_ADDR_PLACE r) == h.originator)
+    not (slice_index r 2 == 0) || (not (slice_index r RD_TYPE_PLACE == 1) ||
+    (not (big_number 4 (drop RD_ADDR_PLACE r) == h.originator)
     || (not (is_mac_route r) && not (big_number 4 (drop ROUTER_PLACE r) == h.originator))))
 
 abbrev pub is_mac_advert : Header → List ℕ → Bool
@@ -49,7 +59,8 @@ has_other_label h r = is_mac_advert h r && not (big_number 3 (drop (IP_PLACE + i
 
 -- a MAC length that isn't 48, or a group address
 abbrev pub has_bad_mac : List ℕ → Bool
-has_bad_mac r = is_mac_route r && (not (slice_index r MAC_BITS_PLACE == BITS_OF_MAC) || is_group (big_number 6 (drop MAC_PLACE r)))
+has_bad_mac r = is_mac_route r && (not (slice_index r MAC_BITS_PLACE == BITS_OF_MAC) || is_group
+    (big_number 6 (drop MAC_PLACE r)))
 
 -- the refusals in their order
 abbrev pub refusal_tests : Header → List ℕ → List (Bool × ℕ)

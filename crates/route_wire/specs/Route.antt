@@ -1,7 +1,10 @@
 -- The parts of a route (RFC 7432, sections 7.2, 7.3 and 7.7; RFC 8365 for the first label), from its type octet on.
-use Rattle.std.specs.Prelude.{◌≡◌, ◌⊎◌, ℕ, ◌+◌, ◌*◌, ◌≤◌, Bool, ◌||◌, ◌==◌, nat_lt, if◌then◌else◌, List, length, drop, slice_index, Option, Some, None}
+use Rattle.std.specs.Prelude.{◌≡◌, ◌⊎◌, ℕ, ◌+◌, ◌*◌, ◌≤◌, Bool, ◌||◌, ◌==◌, nat_lt, if◌then◌else◌, List, length, drop}
+use Rattle.std.specs.Prelude.{slice_index, Option, Some, None}
 use Rattle.byteorder.specs.Endian.{big_number}
-use Rattle.route_wire.specs.declared.route.TheConstants.{MAC_ROUTE, FLOOD_ROUTE, IP_BITS_PLACE, IP_PLACE, LABEL2_PLACE, ROUTER_BITS_PLACE, FLOOD_LEN, MAC_LEN, MAC_LEN_LABEL2, MAC_LEN_V4, MAC_LEN_V6, BITS_OF_ROUTER}
+use Rattle.route_wire.specs.declared.route.TheConstants.{MAC_ROUTE, FLOOD_ROUTE, IP_BITS_PLACE, IP_PLACE, LABEL2_PLACE}
+use Rattle.route_wire.specs.declared.route.TheConstants.{ROUTER_BITS_PLACE, FLOOD_LEN, MAC_LEN, MAC_LEN_LABEL2}
+use Rattle.route_wire.specs.declared.route.TheConstants.{MAC_LEN_V4, MAC_LEN_V6, BITS_OF_ROUTER}
 use Rattle.route_wire.specs.declared.update.Ip.{Ip}
 use Rattle.route_wire.specs.declared.update.Ip.TheVariants.{V4, V6}
 
@@ -41,7 +44,8 @@ wanted_bits r = if is_mac_route r then 8 * ip_len r else BITS_OF_ROUTER
 
 -- the IP address of a route of type 2, and its second label
 abbrev pub ip_in : List ℕ → Option Ip
-ip_in r = if ip_len r == 0 then None else if ip_len r == 4 then Some (V4 (big_number 4 (drop IP_PLACE r))) else Some (V6 (big_number 16 (drop IP_PLACE r)))
+ip_in r = if ip_len r == 0 then None else if ip_len r == 4 then Some (V4 (big_number 4 (drop IP_PLACE r))) else Some
+    (V6 (big_number 16 (drop IP_PLACE r)))
 
 abbrev pub label2_in : List ℕ → Option ℕ
 label2_in r = if has_label2 r then Some (big_number 3 (drop (LABEL2_PLACE + ip_len r) r)) else None

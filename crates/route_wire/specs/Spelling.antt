@@ -1,8 +1,11 @@
 -- The octets that are written for an update: a record of version 3.
-use Rattle.std.specs.Prelude.{ℕ, ◌+◌, ◌*◌, ◌^◌, ◌<◌, Bool, not, ◌||◌, ◌==◌, if◌then◌else◌, List, [], ◌∷◌, ◌++◌, length, Option, Some, None}
+use Rattle.std.specs.Prelude.{ℕ, ◌+◌, ◌*◌, ◌^◌, ◌<◌, Bool, not, ◌||◌, ◌==◌, if◌then◌else◌, List, [], ◌∷◌, ◌++◌, length}
+use Rattle.std.specs.Prelude.{Option, Some, None}
 use Rattle.byteorder.specs.Endian.{big_bytes}
-use Rattle.route_wire.specs.declared.route.TheConstants.{MAC_ROUTE, FLOOD_ROUTE, FLOOD_LEN, MAC_LEN, BITS_OF_MAC, BITS_OF_ROUTER, COMMUNITY_TYPE}
-use Rattle.route_wire.specs.declared.stream.TheConstants.{MAGIC_FIRST, MAGIC_SECOND, NEWEST, ADVERTISES, WITHDRAWS, LEAST_LATER}
+use Rattle.route_wire.specs.declared.route.TheConstants.{MAC_ROUTE, FLOOD_ROUTE, FLOOD_LEN, MAC_LEN, BITS_OF_MAC}
+use Rattle.route_wire.specs.declared.route.TheConstants.{BITS_OF_ROUTER, COMMUNITY_TYPE}
+use Rattle.route_wire.specs.declared.stream.TheConstants.{MAGIC_FIRST, MAGIC_SECOND, NEWEST, ADVERTISES, WITHDRAWS}
+use Rattle.route_wire.specs.declared.stream.TheConstants.{LEAST_LATER}
 use Rattle.route_wire.specs.declared.update.Ip.{Ip}
 use Rattle.route_wire.specs.declared.update.Ip.TheVariants.{V4, V6}
 use Rattle.route_wire.specs.declared.update.Key.{Key}
@@ -32,7 +35,8 @@ no_segment rest = 0 ∷ 0 ∷ 0 ∷ 0 ∷ 0 ∷ 0 ∷ 0 ∷ 0 ∷ 0 ∷ 0 ∷ 0 
 -- type 2: the MAC has 48 bits, the IP address 0, 32 or 128, and the first label is the VNI
 abbrev pub mac_route : ℕ → ℕ → ℕ → Option Ip → Option ℕ → List ℕ
 mac_route o vni mac ip label2 =
-    MAC_ROUTE ∷ (MAC_LEN + length (ip_octets ip) + length (label2_octets label2)) ∷ (distinguisher o ++ no_segment (BITS_OF_MAC ∷ (big_bytes 6 mac ++
+    MAC_ROUTE ∷ (MAC_LEN + length (ip_octets ip) + length (label2_octets label2))
+    ∷ (distinguisher o ++ no_segment (BITS_OF_MAC ∷ (big_bytes 6 mac ++
     ((8 * length (ip_octets ip)) ∷ (ip_octets ip ++ (big_bytes 3 vni ++ label2_octets label2))))))
 
 -- type 3: the Ethernet Tag 0, and the originator as the router
@@ -42,7 +46,8 @@ flood_route o = FLOOD_ROUTE ∷ FLOOD_LEN ∷ (distinguisher o ++ (0 ∷ 0 ∷ 0
 -- a MAC Mobility community, where there is something to tell
 abbrev pub community : Bool → ℕ → List ℕ
 community is_static sequence =
-    if is_static || not (sequence == 0) then COMMUNITY_TYPE ∷ 0 ∷ (if is_static then 1 else 0) ∷ 0 ∷ big_bytes 4 sequence else []
+    if is_static || not (sequence == 0) then COMMUNITY_TYPE ∷ 0 ∷ (if is_static then 1 else 0) ∷ 0
+    ∷ big_bytes 4 sequence else []
 
 -- what stands after the route of a MAC: a withdrawal has no community
 abbrev pub mobility : Content → List ℕ
@@ -61,11 +66,13 @@ kind_of (Advertised a) = ADVERTISES
 
 abbrev pub record_octets : ℕ → ℕ → ℕ → ℕ → ℕ → List ℕ → List ℕ
 record_octets kind o incarnation counter vni route =
-    MAGIC_FIRST ∷ MAGIC_SECOND ∷ NEWEST ∷ kind ∷ (big_bytes 2 (LEAST_LATER + length route) ++ (big_bytes 4 o ++ (big_bytes 4 incarnation ++ (big_bytes 8 counter ++ (big_bytes 3 vni ++ route)))))
+    MAGIC_FIRST ∷ MAGIC_SECOND ∷ NEWEST ∷ kind ∷ (big_bytes 2 (LEAST_LATER + length route)
+    ++ (big_bytes 4 o ++ (big_bytes 4 incarnation ++ (big_bytes 8 counter ++ (big_bytes 3 vni ++ route)))))
 
 unfoldable pub spelling_of : Fields → List ℕ
 spelling_of u =
-    record_octets (kind_of u.value.content) u.register.originator u.value.incarnation u.value.counter (vni_of u.register.key)
+    record_octets (kind_of u.value.content) u.register.originator u.value.incarnation u.value.counter
+    (vni_of u.register.key)
     (route_octets u.register.originator u.register.key u.value.content)
 
 -- ---- numbers that fit their octets
@@ -81,4 +88,5 @@ Label2Fits (Some n) = n < 2 ^ 24
 -- of a flood list nothing but its network is written
 abbrev pub RouteFits : Key → Content → Type 0
 RouteFits (Flood vni) content = Unit {0}
-RouteFits (Mac vni mac ip) content = (mac < 2 ^ 48) × IpFits ip × Label2Fits (label2_of content) × (sequence_of content < 2 ^ 32)
+RouteFits (Mac vni mac ip) content = (mac < 2 ^ 48) × IpFits ip × Label2Fits (label2_of content)
+    × (sequence_of content < 2 ^ 32)

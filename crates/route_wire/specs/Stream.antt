@@ -1,9 +1,12 @@
 -- Streams of records: what one begins with.
-use Rattle.std.specs.Prelude.{◌≡◌, ℕ, ◌+◌, ◌<◌, ◌≤◌, Bool, not, ◌&&◌, ◌||◌, ◌==◌, nat_lt, if◌then◌else◌, List, [], ◌∷◌, length, take, drop, slice_index, Option, Some, None}
+use Rattle.std.specs.Prelude.{◌≡◌, ℕ, ◌+◌, ◌<◌, ◌≤◌, Bool, not, ◌&&◌, ◌||◌, ◌==◌, nat_lt, if◌then◌else◌, List, [], ◌∷◌}
+use Rattle.std.specs.Prelude.{length, take, drop, slice_index, Option, Some, None}
 use Rattle.byteorder.specs.Endian.{big_number}
 use Rattle.ether_wire.specs.Frame.{first_of}
 use Rattle.route_wire.specs.declared.reason.TheConstants.{BAD_MAGIC, BAD_VERSION, BAD_KIND, BAD_LENGTH}
-use Rattle.route_wire.specs.declared.stream.TheConstants.{MAGIC_FIRST, MAGIC_SECOND, VERSION_PLACE, KIND_PLACE, LENGTH_PLACE, LENGTH_END, HEAD, FIRST_VERSION, NEWEST, ADVERTISES, WITHDRAWS, LEAST_FIRST, LEAST_LATER, MOST}
+use Rattle.route_wire.specs.declared.stream.TheConstants.{MAGIC_FIRST, MAGIC_SECOND, VERSION_PLACE, KIND_PLACE}
+use Rattle.route_wire.specs.declared.stream.TheConstants.{LENGTH_PLACE, LENGTH_END, HEAD, FIRST_VERSION, NEWEST}
+use Rattle.route_wire.specs.declared.stream.TheConstants.{ADVERTISES, WITHDRAWS, LEAST_FIRST, LEAST_LATER, MOST}
 use Rattle.route_wire.specs.declared.stream.Whole.{Whole}
 use Rattle.route_wire.specs.declared.stream.Whole.TheVariants.{Rest, Fault, Length}
 
@@ -19,9 +22,18 @@ abbrev pub fault_tests : ℕ → List ℕ → List (Bool × ℕ)
 fault_tests newest s =
     (nat_lt 0 (length s) && not (slice_index s 0 == MAGIC_FIRST), BAD_MAGIC)
     ∷ (nat_lt 1 (length s) && not (slice_index s 1 == MAGIC_SECOND), BAD_MAGIC)
-    ∷ (nat_lt VERSION_PLACE (length s) && (slice_index s VERSION_PLACE == 0 || nat_lt newest (slice_index s VERSION_PLACE)), BAD_VERSION)
-    ∷ (nat_lt KIND_PLACE (length s) && (not (slice_index s KIND_PLACE == ADVERTISES) && not (slice_index s KIND_PLACE == WITHDRAWS)), BAD_KIND)
-    ∷ (nat_lt LENGTH_END (length s) && (nat_lt (follow_of s) (least_of s) || nat_lt MOST (follow_of s)), BAD_LENGTH) ∷ []
+    ∷ (
+      nat_lt VERSION_PLACE (length s) && (slice_index s VERSION_PLACE == 0 || nat_lt newest
+          (slice_index s VERSION_PLACE)),
+      BAD_VERSION,
+    )
+    ∷ (
+      nat_lt KIND_PLACE (length s) && (not (slice_index s KIND_PLACE == ADVERTISES)
+          && not (slice_index s KIND_PLACE == WITHDRAWS)),
+      BAD_KIND,
+    )
+    ∷ (nat_lt LENGTH_END (length s) && (nat_lt (follow_of s) (least_of s) || nat_lt MOST (follow_of s)), BAD_LENGTH)
+    ∷ []
 
 abbrev pub fault_of : ℕ → List ℕ → Option ℕ
 fault_of newest s = first_of (fault_tests newest s)
@@ -29,7 +41,8 @@ fault_of newest s = first_of (fault_tests newest s)
 -- with no fault, a record is whole where all octets that its length tells are there
 abbrev pub whole_or_rest : List ℕ → Option ℕ → Whole
 whole_or_rest s (Some fault) = Fault fault
-whole_or_rest s None = if nat_lt (length s) HEAD then Rest else if nat_lt (length s) (HEAD + follow_of s) then Rest else Length (HEAD + follow_of s)
+whole_or_rest s None = if nat_lt (length s) HEAD then Rest else if nat_lt (length s)
+    (HEAD + follow_of s) then Rest else Length (HEAD + follow_of s)
 
 abbrev pub whole_up_to : ℕ → List ℕ → Whole
 whole_up_to newest s = whole_or_rest s (fault_of newest s)

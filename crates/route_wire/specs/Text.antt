@@ -9,7 +9,8 @@ use Rattle.route_wire.specs.declared.update.Key.TheVariants.{Flood, Mac}
 -- four groups of four lower case hexadecimal digits with colons
 unfoldable pub groups_text : ℕ → List ℕ
 groups_text n =
-    hex_group (n / 2 ^ 48 % 2 ^ 16) ++ codes ":" ++ hex_group (n / 2 ^ 32 % 2 ^ 16) ++ codes ":" ++ hex_group (n / 2 ^ 16 % 2 ^ 16) ++ codes ":" ++ hex_group (n % 2 ^ 16)
+    hex_group (n / 2 ^ 48 % 2 ^ 16) ++ codes ":" ++ hex_group (n / 2 ^ 32 % 2 ^ 16) ++ codes ":"
+    ++ hex_group (n / 2 ^ 16 % 2 ^ 16) ++ codes ":" ++ hex_group (n % 2 ^ 16)
 
 -- eight groups, never shortened
 abbrev pub addr6_text : ℕ → List ℕ

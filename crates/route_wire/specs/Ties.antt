@@ -19,7 +19,8 @@ use Rattle.route_wire.specs.contracts.update.KeyPartialEq.TheImpl as key
 use Rattle.route_wire.specs.contracts.update.RegisterPartialEq.TheImpl as register
 use Rattle.route_wire.specs.Octets.{octets_of, number_of_octets}
 use Rattle.route_wire.specs.Order.{addr6_cmp, ip_order, key_cmp, register_cmp}
-use Rattle.route_wire.specs.Totals.{addr6_total, ip_order_total, ip_order_exact, key_total, key_exact, register_total, register_exact}
+use Rattle.route_wire.specs.Totals.{addr6_total, ip_order_total, ip_order_exact, key_total, key_exact, register_total}
+use Rattle.route_wire.specs.Totals.{register_exact}
 
 each : (a b : Bool) → a && b ≡ true → (a ≡ true) × (b ≡ true)
 each true b e = (refl, e)
@@ -53,7 +54,8 @@ pub tied_addresses : (m n : ℕ) → addr6.eq-value.it m n ≡ eq_by_cmp addr6_c
 tied_addresses m n =
     both_ways (addr6.eq-value.it m n) (eq_by_cmp addr6_cmp m n)
     (λ e. ap (λ x. eq_by_cmp addr6_cmp m x) (sym (same_octets m n e)) ∙ ap is_eq (tied_itself addr6_total m))
-    (λ e. ap (λ x. addr6.eq-value.it m x) (sym (exact_unsigned m n (equal_from (addr6_cmp m n) e))) ∙ (bytes_decides (octets_of m) (octets_of m)).1 refl)
+    (λ e. ap (λ x. addr6.eq-value.it m x) (sym (exact_unsigned m n (equal_from (addr6_cmp m n) e)))
+    ∙ (bytes_decides (octets_of m) (octets_of m)).1 refl)
 
 pub tied_ips : (i j : Ip) → ip.eq-value.it i j ≡ eq_by_cmp ip_order i j
 tied_ips i j =
@@ -64,7 +66,8 @@ tied_ips i j =
 key_itself : (k : Key) → key.eq-value.it k k ≡ true
 key_itself (Flood v) = eq-eqb v v refl
 key_itself (Mac v m None) = all (v == v) (m == m && true) (eq-eqb v v refl) (all (m == m) true (eq-eqb m m refl) refl)
-key_itself (Mac v m (Some i)) = all (v == v) (m == m && ip.eq-value.it i i) (eq-eqb v v refl) (all (m == m) (ip.eq-value.it i i) (eq-eqb m m refl) (ip_itself i))
+key_itself (Mac v m (Some i)) = all (v == v) (m == m && ip.eq-value.it i i) (eq-eqb v v refl)
+    (all (m == m) (ip.eq-value.it i i) (eq-eqb m m refl) (ip_itself i))
 
 key_same : (k l : Key) → key.eq-value.it k l ≡ true → k ≡ l
 key_same (Flood v) (Flood w) e = ap Flood (exact_unsigned_eq v w e)
@@ -86,7 +89,8 @@ key_same (Mac v m (Some i)) (Mac w n (Some j)) e =
     λ k. Mac (vnis k) (macs k) (Some (ips k))
 
 itself : (r : Register) → register.eq-value.it r r ≡ true
-itself r = all (r.originator == r.originator) (key.eq-value.it r.key r.key) (eq-eqb r.originator r.originator refl) (key_itself r.key)
+itself r = all (r.originator == r.originator) (key.eq-value.it r.key r.key) (eq-eqb r.originator r.originator refl)
+    (key_itself r.key)
 
 same : (q r : Register) → register.eq-value.it q r ≡ true → q ≡ r
 same q r e =

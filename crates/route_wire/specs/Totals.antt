@@ -16,7 +16,8 @@ use Rattle.route_wire.specs.declared.update.Key.TheVariants.{Flood, Mac}
 use Rattle.route_wire.specs.declared.update.Content.{Content}
 use Rattle.route_wire.specs.declared.update.Content.TheVariants.{Withdrawn, Advert as Advertised}
 use Rattle.route_wire.specs.declared.update.Value.{Value}
-use Rattle.route_wire.specs.Order.{ip_version, ip_number, ip_cmp, ip_order, addr6_cmp, vni_of, place_of, ip_of, key_cmp, register_cmp, rank_of, sequence_of, label2_of, content_cmp, value_cmp, is_newer}
+use Rattle.route_wire.specs.Order.{ip_version, ip_number, ip_cmp, ip_order, addr6_cmp, vni_of, place_of, ip_of, key_cmp}
+use Rattle.route_wire.specs.Order.{register_cmp, rank_of, sequence_of, label2_of, content_cmp, value_cmp, is_newer}
 
 -- an order that asks one thing after the other says equal only where both do
 both : (o p : Ordering) → ordering_then o p ≡ Equal → (o ≡ Equal) × (p ≡ Equal)
@@ -40,7 +41,8 @@ same_ip (Some (V6 x)) (Some (V4 y)) v n = absurd (omega arith)
 same_ip (Some (V6 x)) (Some (V6 y)) v n = ap (λ k. Some (V6 k)) n
 
 pub ip_exact : IsAntisymmetric ip_cmp
-ip_exact a b h = let e = both (nat_cmp (ip_version a) (ip_version b)) (nat_cmp (ip_number a) (ip_number b)) h in same_ip a b (exact_unsigned _ _ e.0) (exact_unsigned _ _ e.1)
+ip_exact a b h = let e = both (nat_cmp (ip_version a) (ip_version b)) (nat_cmp (ip_number a) (ip_number b)) h in
+    same_ip a b (exact_unsigned _ _ e.0) (exact_unsigned _ _ e.1)
 
 pub addr6_total : IsTotalOrder addr6_cmp
 addr6_total = nat_cmp_total
@@ -53,7 +55,8 @@ ip_order_exact a b h = let e = ip_exact (Some a) (Some b) h in cc
 
 -- ---- keys and registers
 pub key_total : IsTotalOrder key_cmp
-key_total = then_total (on_total vni_of nat_cmp_total) (then_total (on_total place_of nat_cmp_total) (on_total ip_of ip_total))
+key_total = then_total (on_total vni_of nat_cmp_total) (then_total (on_total place_of nat_cmp_total)
+    (on_total ip_of ip_total))
 
 pub register_total : IsTotalOrder register_cmp
 register_total =
@@ -77,13 +80,15 @@ register_exact a b h =
     let vnis = both (nat_cmp (vni_of a.key) (vni_of b.key)) _ h in
     let places = both (nat_cmp (place_of a.key) (place_of b.key)) _ vnis.1 in
     let originators = both (nat_cmp a.originator b.originator) (ip_cmp (ip_of a.key) (ip_of b.key)) places.1 in
-    let keys = same_key a.key b.key (exact_unsigned _ _ vnis.0) (exact_unsigned _ _ places.0) (ip_exact (ip_of a.key) (ip_of b.key) originators.1) in
+    let keys = same_key a.key b.key (exact_unsigned _ _ vnis.0) (exact_unsigned _ _ places.0)
+    (ip_exact (ip_of a.key) (ip_of b.key) originators.1) in
     let names = exact_unsigned _ _ originators.0 in
     λ i. record { originator = names i; key = keys i }
 
 -- ---- values
 pub content_total : IsTotalOrder content_cmp
-content_total = then_total (on_total rank_of nat_cmp_total) (then_total (on_total sequence_of nat_cmp_total) (on_total label2_of (options_total nat_cmp_total)))
+content_total = then_total (on_total rank_of nat_cmp_total)
+    (then_total (on_total sequence_of nat_cmp_total) (on_total label2_of (options_total nat_cmp_total)))
 
 same_label : (a b : Option ℕ) → option_cmp nat_cmp a b ≡ Equal → a ≡ b
 same_label None None h = refl
@@ -101,20 +106,25 @@ some_rank : (f : Bool) → ◌≡◌ {A = ℕ} 0 (cond f 2 1) → ⊥
 some_rank true e = omega arith
 some_rank false e = omega arith
 
-same_content : (a b : Content) → rank_of a ≡ rank_of b → sequence_of a ≡ sequence_of b → label2_of a ≡ label2_of b → a ≡ b
+same_content : (a b : Content) → rank_of a ≡ rank_of b → sequence_of a ≡ sequence_of b → label2_of a ≡ label2_of b
+    → a ≡ b
 same_content Withdrawn Withdrawn p q r = refl
 same_content Withdrawn (Advertised b) p q r = absurd (some_rank b.is_static p)
 same_content (Advertised a) Withdrawn p q r = absurd (some_rank a.is_static (sym p))
-same_content (Advertised a) (Advertised b) p q r = let flags = same_flag a.is_static b.is_static p in λ i. Advertised (record { is_static = flags i; sequence = q i; label2 = r i })
+same_content (Advertised a) (Advertised b) p q r = let flags = same_flag a.is_static b.is_static p in
+    λ i. Advertised (record { is_static = flags i; sequence = q i; label2 = r i })
 
 pub content_exact : IsAntisymmetric content_cmp
 content_exact a b h =
     let ranks = both (nat_cmp (rank_of a) (rank_of b)) _ h in
-    let sequences = both (nat_cmp (sequence_of a) (sequence_of b)) (option_cmp nat_cmp (label2_of a) (label2_of b)) ranks.1 in
-    same_content a b (exact_unsigned _ _ ranks.0) (exact_unsigned _ _ sequences.0) (same_label (label2_of a) (label2_of b) sequences.1)
+    let sequences = both (nat_cmp (sequence_of a) (sequence_of b)) (option_cmp nat_cmp (label2_of a) (label2_of b))
+    ranks.1 in
+    same_content a b (exact_unsigned _ _ ranks.0) (exact_unsigned _ _ sequences.0)
+    (same_label (label2_of a) (label2_of b) sequences.1)
 
 pub value_total : IsTotalOrder value_cmp
-value_total = then_total (on_total (λ v. v.incarnation) nat_cmp_total) (then_total (on_total (λ v. v.counter) nat_cmp_total) (on_total (λ v. v.content) content_total))
+value_total = then_total (on_total (λ v. v.incarnation) nat_cmp_total)
+    (then_total (on_total (λ v. v.counter) nat_cmp_total) (on_total (λ v. v.content) content_total))
 
 pub value_exact : IsAntisymmetric value_cmp
 value_exact a b h =

@@ -58,17 +58,26 @@ abbrev pub all_happen : List Happening → Tree → Bool
 all_happen [] s = true
 all_happen (h ∷ earlier) s = all_happen earlier s && all_fire h.firings (direct h.event (come_to earlier s))
 
-comes : RunsHappen → (history : List Happening) (s : Tree) → all_happen history s ≡ true → Comes (map (λ h. h.event) history) s (come_to history s)
+comes : RunsHappen → (history : List Happening) (s : Tree) → all_happen history s ≡ true
+    → Comes (map (λ h. h.event) history) s (come_to history s)
 comes law [] s e = refl
 comes law (h ∷ earlier) s e =
     let mid = come_to earlier s in
     let within : length h.firings ≤ length h.firings = omega arith in
     let run = run_is h.firings (direct h.event mid) (right (all_happen earlier s) _ e) in
-    let (settled, happens) = law h.event (length h.firings) mid (runs h.firings (direct h.event mid)) h.firings run within (inl refl) in
-    (mid, length h.firings, settled, flushed h.firings 0, comes law earlier s (left (all_happen earlier s) _ e), happens)
+    let (settled, happens) = law h.event (length h.firings) mid (runs h.firings (direct h.event mid)) h.firings run
+    within (inl refl) in (
+      mid,
+      length h.firings,
+      settled,
+      flushed h.firings 0,
+      comes law earlier s (left (all_happen earlier s) _ e),
+      happens,
+    )
 
 -- so it is one that these settings may come to
-pub can_be : RunsHappen → (settings : Settings) (ports : List PortSettings) (history : List Happening) → all_happen history (start settings ports) ≡ true
+pub can_be : RunsHappen → (settings : Settings) (ports : List PortSettings) (history : List Happening)
+    → all_happen history (start settings ports) ≡ true
     → CanBe settings ports (come_to history (start settings ports))
 can_be law settings ports history e = (map (λ h. h.event) history, comes law history (start settings ports) e)
 
@@ -84,19 +93,23 @@ coming_up p =
     ∷ fire (rules.State state_rule.ToForwarding) p ∷ fire (rules.State state_rule.ToLearning) p
     ∷ fire (rules.Role role_rule.DesignatedForward) p ∷ fire (rules.Role role_rule.DesignatedLearn) p
     ∷ fire (rules.Role role_rule.Synced) p ∷ fire (rules.Role role_rule.Designated) p
-    ∷ fire (rules.Information information_rule.Update) p ∷ fire rules.Select 0 ∷ fire (rules.Information information_rule.Enabled) p ∷ []
+    ∷ fire (rules.Information information_rule.Update) p ∷ fire rules.Select 0
+    ∷ fire (rules.Information information_rule.Enabled) p ∷ []
 
 -- as a bridge hears of the root at its first port
 abbrev pub hearing : List Firing
 hearing =
     fire (rules.Transmit transmit_rule.SendRst) 0 ∷ fire (rules.Topology topology_rule.Detected) 0
     ∷ fire (rules.Role role_rule.RootAgreed) 0 ∷ fire (rules.Role role_rule.Root) 0
-    ∷ fire rules.Select 0 ∷ fire (rules.Information information_rule.Superior) 0 ∷ fire (rules.Receive receive_rule.Receive) 0 ∷ []
+    ∷ fire rules.Select 0 ∷ fire (rules.Information information_rule.Superior) 0
+    ∷ fire (rules.Receive receive_rule.Receive) 0 ∷ []
 
 -- as it hears at its second port of a bridge that is as near to the root, and takes that one's port for the segment's
 abbrev pub blocking : List Firing
 blocking =
     fire (rules.Transmit transmit_rule.SendRst) 1 ∷ fire (rules.Topology topology_rule.Flush) 1
     ∷ fire (rules.Topology topology_rule.TcInactive) 1 ∷ fire (rules.Role role_rule.Alternate) 1
-    ∷ fire (rules.State state_rule.ToDiscarding) 1 ∷ fire (rules.Role role_rule.AlternateAgreed) 1 ∷ fire (rules.Role role_rule.Block) 1
-    ∷ fire rules.Select 0 ∷ fire (rules.Information information_rule.Superior) 1 ∷ fire (rules.Receive receive_rule.Receive) 1 ∷ []
+    ∷ fire (rules.State state_rule.ToDiscarding) 1 ∷ fire (rules.Role role_rule.AlternateAgreed) 1
+    ∷ fire (rules.Role role_rule.Block) 1
+    ∷ fire rules.Select 0 ∷ fire (rules.Information information_rule.Superior) 1
+    ∷ fire (rules.Receive receive_rule.Receive) 1 ∷ []

@@ -1,5 +1,6 @@
 -- A ring of three bridges at rest, with one blocked port: the laws' premises can be met where a circle would be.
-use Rattle.std.proofs.Common.{◌≡◌, ℕ, zero, suc, ◌+◌, ◌-◌, true, false, ◌&&◌, List, [], ◌∷◌, length, Some, slice_get, ◌⊎◌, inl, inr, refl, sym, ap, subst, ◌∙◌, arith}
+use Rattle.std.proofs.Common.{◌≡◌, ℕ, zero, suc, ◌+◌, ◌-◌, true, false, ◌&&◌, List, [], ◌∷◌, length, Some, slice_get}
+use Rattle.std.proofs.Common.{◌⊎◌, inl, inr, refl, sym, ap, subst, ◌∙◌, arith}
 use Rattle.bpdu_wire.specs.declared.bpdu.Bpdu.{Bpdu}
 use Rattle.bpdu_wire.specs.declared.bpdu.Bpdu.TheVariants.{Rst}
 use Rattle.rstp_state.specs.declared.port.PortState.{PortState}
@@ -16,7 +17,8 @@ use Rattle.rstp_run.specs.Events.{start, RunsHappen}
 use Rattle.rstp_run.specs.Rules.{Tree}
 use Rattle.rstp_run.specs.Runs.{IsSettled, AreOff, AreOffAt}
 use Rattle.rstp_run.specs.Settled.{IsReached, SettledByLists}
-use Rattle.rstp_net.specs.Network.{Spot, Network, IsBridgeAt, IsPortAt, IsNetwork, HasTimesOf, IsTold, IsAtRest, PassesAt, Crosses, CanBeAtRest, IsBlockedRing, RingCanBeAtRest}
+use Rattle.rstp_net.specs.Network.{Spot, Network, IsBridgeAt, IsPortAt, IsNetwork, HasTimesOf, IsTold, IsAtRest}
+use Rattle.rstp_net.specs.Network.{PassesAt, Crosses, CanBeAtRest, IsBlockedRing, RingCanBeAtRest}
 use Rattle.rstp_net.proofs.Histories.{Happening, come_to, all_happen, can_be, coming_up, hearing, blocking}
 
 no : {A : Type 0} → false ≡ true → A
@@ -24,8 +26,10 @@ no h = let e : ⊥ = cc in absurd e
 
 -- ---- what is asked of the three bridges
 
--- Each has two ports. The first one is the root, and its ports lead to the two others' first ones, by which they take it
--- for the root; of the ports of the segment between these the second bridge's is designated, and the third's passes no frame.
+-- Each has two ports. The first one is the root, and its ports lead to the two others' first ones, by which they take
+-- it
+-- for the root; of the ports of the segment between these the second bridge's is designated, and the third's passes no
+-- frame.
 pub record IsRing (a b c : Tree) (a0 a1 b0 b1 c0 c1 : PortState) : Type 0 where
   pub a_reached : IsReached a
   pub b_reached : IsReached b
@@ -81,25 +85,30 @@ record IsSpot (b p : ℕ) (known : PortState) (x : Spot) (port : PortState) : Ty
   pub place : x.place ≡ p
   pub same : known ≡ port
 
-on_segment : (b p : ℕ) (known : PortState) (x : Spot) (port : PortState) → IsSpot b p known x port → segment_of x.bridge x.place ≡ segment_of b p
+on_segment : (b p : ℕ) (known : PortState) (x : Spot) (port : PortState) → IsSpot b p known x port
+    → segment_of x.bridge x.place ≡ segment_of b p
 on_segment b p known x port h = ap (λ n. segment_of n x.place) h.bridge ∙ ap (λ n. segment_of b n) h.place
 
-in_two : (x y : PortState) (p : ℕ) (port : PortState) → slice_get (x ∷ y ∷ []) p ≡ Some port → ((p ≡ 0) × (x ≡ port)) ⊎ ((p ≡ 1) × (y ≡ port))
+in_two : (x y : PortState) (p : ℕ) (port : PortState) → slice_get (x ∷ y ∷ []) p ≡ Some port
+    → ((p ≡ 0) × (x ≡ port)) ⊎ ((p ≡ 1) × (y ≡ port))
 in_two x y zero port at = inl (refl, cc)
 in_two x y (suc zero) port at = inr (refl, cc)
 in_two x y (suc (suc p)) port at = let e : ⊥ = cc in absurd e
 
 module _ (a b c : Tree) (a0 a1 b0 b1 c0 c1 : PortState) (is : IsRing a b c a0 a1 b0 b1 c0 c1) where
-  which : (n : ℕ) (s : Tree) → IsBridgeAt (ring_of a b c) n s → ((n ≡ 0) × (a ≡ s)) ⊎ (((n ≡ 1) × (b ≡ s)) ⊎ ((n ≡ 2) × (c ≡ s)))
+  which : (n : ℕ) (s : Tree) → IsBridgeAt (ring_of a b c) n s
+      → ((n ≡ 0) × (a ≡ s)) ⊎ (((n ≡ 1) × (b ≡ s)) ⊎ ((n ≡ 2) × (c ≡ s)))
   which zero s at = inl (refl, cc)
   which (suc zero) s at = inr (inl (refl, cc))
   which (suc (suc zero)) s at = inr (inr (refl, cc))
   which (suc (suc (suc n))) s at = let e : ⊥ = cc in absurd e
 
-  of_bridge : (n : ℕ) (t : Tree) (x y : PortState) (z : Spot) (s : Tree) (port : PortState) → t.ports ≡ x ∷ y ∷ [] → z.bridge ≡ n → t ≡ s
+  of_bridge : (n : ℕ) (t : Tree) (x y : PortState) (z : Spot) (s : Tree) (port : PortState) → t.ports ≡ x ∷ y ∷ []
+      → z.bridge ≡ n → t ≡ s
       → IsPortAt (ring_of a b c) z s port → IsSpot n 0 x z port ⊎ IsSpot n 1 y z port
   of_bridge n t x y z s port ports here same at =
-      elim (in_two x y z.place port (ap (λ l. slice_get l z.place) (sym ports) ∙ ap (λ (u : Tree). slice_get u.ports z.place) same ∙ at.in_bridge)) [
+      elim (in_two x y z.place port (ap (λ l. slice_get l z.place) (sym ports)
+      ∙ ap (λ (u : Tree). slice_get u.ports z.place) same ∙ at.in_bridge)) [
         | inl k ↦ inl (record { bridge = here; place = k.0; same = k.1 })
         | inr k ↦ inr (record { bridge = here; place = k.0; same = k.1 })
       ]
@@ -108,10 +117,12 @@ module _ (a b c : Tree) (a0 a1 b0 b1 c0 c1 : PortState) (is : IsRing a b c a0 a1
   AreDesignated : Spot → PortState → Type 0
   AreDesignated x port = IsSpot 0 0 a0 x port ⊎ (IsSpot 0 1 a1 x port ⊎ IsSpot 1 1 b1 x port)
 
-  not_designated : (known port : PortState) → is_designated known.role ≡ false → known ≡ port → is_designated port.role ≡ true → ⊥
+  not_designated : (known port : PortState) → is_designated known.role ≡ false → known ≡ port
+      → is_designated port.role ≡ true → ⊥
   not_designated known port off same on = no (sym off ∙ ap (λ (p : PortState). is_designated p.role) same ∙ on)
 
-  of_designated : (x : Spot) (s : Tree) (port : PortState) → IsPortAt (ring_of a b c) x s port → is_designated port.role ≡ true → AreDesignated x port
+  of_designated : (x : Spot) (s : Tree) (port : PortState) → IsPortAt (ring_of a b c) x s port
+      → is_designated port.role ≡ true → AreDesignated x port
   unfolding AreDesignated
   of_designated x s port at on = elim (which x.bridge s at.in_net) [
     | inl h ↦ elim (of_bridge 0 a a0 a1 x s port is.a_ports h.0 h.1 at) [
@@ -128,31 +139,46 @@ module _ (a b c : Tree) (a0 a1 b0 b1 c0 c1 : PortState) (is : IsRing a b c a0 a1
     ]
   ]
 
-  apart : (m n : ℕ) (x y : Spot) → segment_of x.bridge x.place ≡ m → segment_of y.bridge y.place ≡ n → segment_of x.bridge x.place ≡ segment_of y.bridge y.place → (m ≡ n → ⊥) → ⊥
+  apart : (m n : ℕ) (x y : Spot) → segment_of x.bridge x.place ≡ m → segment_of y.bridge y.place ≡ n
+      → segment_of x.bridge x.place ≡ segment_of y.bridge y.place → (m ≡ n → ⊥) → ⊥
   apart m n x y at_x at_y same differ = differ (sym at_x ∙ same ∙ at_y)
 
   -- a port has heard itself
-  both_at : (known p d : PortState) → known ≡ p → known ≡ d → is_less known.designated_priority known.port_priority ≡ false → is_less d.designated_priority p.port_priority ≡ false
-  both_at known p d e f h = sym (ap (λ (v : PortState). is_less v.designated_priority known.port_priority) f ∙ ap (λ (v : PortState). is_less d.designated_priority v.port_priority) e) ∙ h
+  both_at : (known p d : PortState) → known ≡ p → known ≡ d
+      → is_less known.designated_priority known.port_priority ≡ false
+      → is_less d.designated_priority p.port_priority ≡ false
+  both_at known p d e f h = sym (ap (λ (v : PortState). is_less v.designated_priority known.port_priority) f
+      ∙ ap (λ (v : PortState). is_less d.designated_priority v.port_priority) e) ∙ h
 
-  hears : (x y : Spot) (p d : PortState) → AreDesignated x p → AreDesignated y d → segment_of x.bridge x.place ≡ segment_of y.bridge y.place → is_less d.designated_priority p.port_priority ≡ false
+  hears : (x y : Spot) (p d : PortState) → AreDesignated x p → AreDesignated y d
+      → segment_of x.bridge x.place ≡ segment_of y.bridge y.place
+      → is_less d.designated_priority p.port_priority ≡ false
   unfolding AreDesignated
   hears x y p d (inl h) (inl k) same = both_at a0 p d h.same k.same is.a0_heard
-  hears x y p d (inl h) (inr (inl k)) same = absurd (apart 0 1 x y (on_segment 0 0 a0 x p h) (on_segment 0 1 a1 y d k) same (λ e. omega arith))
-  hears x y p d (inl h) (inr (inr k)) same = absurd (apart 0 2 x y (on_segment 0 0 a0 x p h) (on_segment 1 1 b1 y d k) same (λ e. omega arith))
-  hears x y p d (inr (inl h)) (inl k) same = absurd (apart 1 0 x y (on_segment 0 1 a1 x p h) (on_segment 0 0 a0 y d k) same (λ e. omega arith))
+  hears x y p d (inl h) (inr (inl k)) same = absurd (apart 0 1 x y (on_segment 0 0 a0 x p h) (on_segment 0 1 a1 y d k)
+      same (λ e. omega arith))
+  hears x y p d (inl h) (inr (inr k)) same = absurd (apart 0 2 x y (on_segment 0 0 a0 x p h) (on_segment 1 1 b1 y d k)
+      same (λ e. omega arith))
+  hears x y p d (inr (inl h)) (inl k) same = absurd (apart 1 0 x y (on_segment 0 1 a1 x p h) (on_segment 0 0 a0 y d k)
+      same (λ e. omega arith))
   hears x y p d (inr (inl h)) (inr (inl k)) same = both_at a1 p d h.same k.same is.a1_heard
-  hears x y p d (inr (inl h)) (inr (inr k)) same = absurd (apart 1 2 x y (on_segment 0 1 a1 x p h) (on_segment 1 1 b1 y d k) same (λ e. omega arith))
-  hears x y p d (inr (inr h)) (inl k) same = absurd (apart 2 0 x y (on_segment 1 1 b1 x p h) (on_segment 0 0 a0 y d k) same (λ e. omega arith))
-  hears x y p d (inr (inr h)) (inr (inl k)) same = absurd (apart 2 1 x y (on_segment 1 1 b1 x p h) (on_segment 0 1 a1 y d k) same (λ e. omega arith))
+  hears x y p d (inr (inl h)) (inr (inr k)) same = absurd
+      (apart 1 2 x y (on_segment 0 1 a1 x p h) (on_segment 1 1 b1 y d k) same (λ e. omega arith))
+  hears x y p d (inr (inr h)) (inl k) same = absurd (apart 2 0 x y (on_segment 1 1 b1 x p h) (on_segment 0 0 a0 y d k)
+      same (λ e. omega arith))
+  hears x y p d (inr (inr h)) (inr (inl k)) same = absurd
+      (apart 2 1 x y (on_segment 1 1 b1 x p h) (on_segment 0 1 a1 y d k) same (λ e. omega arith))
   hears x y p d (inr (inr h)) (inr (inr k)) same = both_at b1 p d h.same k.same is.b1_heard
 
-  not_root : {A : Type 0} (known port : PortState) → is_root known.role ≡ false → known ≡ port → is_root port.role ≡ true → A
+  not_root : {A : Type 0} (known port : PortState) → is_root known.role ≡ false → known ≡ port
+      → is_root port.role ≡ true → A
   not_root known port off same on = no (sym off ∙ ap (λ (p : PortState). is_root p.role) same ∙ on)
 
   -- the root bridge's port at place p tells the root port known, which is at the first place of the bridge at place n
-  told_by : (n p : ℕ) (teller known : PortState) (x : Spot) (port : PortState) → IsSpot n 0 known x port → slice_get a.ports p ≡ Some teller
-      → segment_of 0 p ≡ segment_of n 0 → is_designated teller.role ≡ true → HasTimesOf teller known → IsTold (ring_of a b c) x port
+  told_by : (n p : ℕ) (teller known : PortState) (x : Spot) (port : PortState) → IsSpot n 0 known x port
+      → slice_get a.ports p ≡ Some teller
+      → segment_of 0 p ≡ segment_of n 0 → is_designated teller.role ≡ true → HasTimesOf teller known
+      → IsTold (ring_of a b c) x port
   told_by n p teller known x port at there joined on times = record {
     by = spot 0 p;
     bridge = a;
@@ -164,7 +190,8 @@ module _ (a b c : Tree) (a0 a1 b0 b1 c0 c1 : PortState) (is : IsRing a b c a0 a1
     times = sym (ap (λ (v : PortState). v.port_times) at.same) ∙ times;
   }
 
-  tells : (x : Spot) (s : Tree) (p : PortState) → IsPortAt (ring_of a b c) x s p → is_root p.role ≡ true → IsTold (ring_of a b c) x p
+  tells : (x : Spot) (s : Tree) (p : PortState) → IsPortAt (ring_of a b c) x s p → is_root p.role ≡ true
+      → IsTold (ring_of a b c) x p
   tells x s p at on = elim (which x.bridge s at.in_net) [
     | inl h ↦ elim (of_bridge 0 a a0 a1 x s p is.a_ports h.0 h.1 at) [
       | inl k ↦ not_root a0 p is.a0_root k.same on
@@ -199,7 +226,8 @@ module _ (a b c : Tree) (a0 a1 b0 b1 c0 c1 : PortState) (is : IsRing a b c a0 a1
   network = record {
     reached = of_each IsReached is.a_reached is.b_reached is.c_reached;
     few = λ n s at. (
-        let two : length s.ports ≡ 2 = of_each (λ t. length t.ports ≡ 2) (has_two a a0 a1 is.a_ports) (has_two b b0 b1 is.b_ports) (has_two c c0 c1 is.c_ports) n s at in
+        let two : length s.ports ≡ 2 = of_each (λ t. length t.ports ≡ 2) (has_two a a0 a1 is.a_ports)
+        (has_two b b0 b1 is.b_ports) (has_two c c0 c1 is.c_ports) n s at in
         omega arith);
     distinct = λ n m s t at_n at_m same. elim (which n s at_n) [
       | inl h ↦ elim (which m t at_m) [
@@ -224,17 +252,26 @@ module _ (a b c : Tree) (a0 a1 b0 b1 c0 c1 : PortState) (is : IsRing a b c a0 a1
   at_rest = record {
     settled = of_each IsSettled is.a_settled is.b_settled is.c_settled;
     quiet = λ segment. record {
-      heard = λ x y s t p d at_x at_y on_x on_y settled_s settled_t dp dd. hears x y p d (of_designated x s p at_x dp) (of_designated y t d at_y dd) (on_x ∙ sym on_y);
+      heard = λ x y s t p d at_x at_y on_x on_y settled_s settled_t dp dd. hears x y p d (of_designated x s p at_x dp)
+          (of_designated y t d at_y dd) (on_x ∙ sym on_y);
       told = λ x s p at on settled rp. tells x s p at rp;
     };
   }
 
   -- ---- the way round
 
-  passes_at : (n p : ℕ) (s : Tree) (ports : List PortState) → IsBridgeAt (ring_of a b c) n s → s.ports ≡ ports → IsSettled s
+  passes_at : (n p : ℕ) (s : Tree) (ports : List PortState) → IsBridgeAt (ring_of a b c) n s → s.ports ≡ ports
+      → IsSettled s
       → test_at (p + 1 - 1) (λ port. port.enabled && port.forwarding) ports ≡ true → PassesAt (ring_of a b c) (spot n p)
-  passes_at n p s ports at same settled h =
-      (s, at, (settled, ap (λ l. test_at (p + 1 - 1) (λ (port : PortState). port.enabled && port.forwarding) l) same ∙ h))
+  passes_at n p s ports at same settled h = (
+    s,
+    at,
+    (
+      settled,
+      ap (λ l. test_at (p + 1 - 1) (λ (port : PortState). port.enabled && port.forwarding) l) same
+          ∙ h,
+    ),
+  )
 
   passes_a0 : PassesAt (ring_of a b c) (spot 0 0)
   passes_a0 = passes_at 0 0 a (a0 ∷ a1 ∷ []) refl is.a_ports is.a_settled is.a0_passes
@@ -275,8 +312,11 @@ module _ (a b c : Tree) (a0 a1 b0 b1 c0 c1 : PortState) (is : IsRing a b c a0 a1
   blocked : PassesAt (ring_of a b c) (spot 2 1) → ⊥
   blocked (s, at, passes) =
       let here : c ≡ s = cc in
-      let open_there : test_at 1 (λ (port : PortState). port.enabled && port.forwarding) c.ports ≡ true = ap (λ (t : Tree). test_at 1 (λ (port : PortState). port.enabled && port.forwarding) t.ports) here ∙ passes.1 in
-      no (sym is.c1_passes ∙ sym (ap (λ l. test_at 1 (λ (port : PortState). port.enabled && port.forwarding) l) is.c_ports) ∙ open_there)
+      let open_there : test_at 1 (λ (port : PortState). port.enabled && port.forwarding) c.ports ≡ true =
+      ap (λ (t : Tree). test_at 1 (λ (port : PortState). port.enabled && port.forwarding) t.ports) here
+      ∙ passes.1 in
+      no (sym is.c1_passes ∙ sym (ap (λ l. test_at 1 (λ (port : PortState). port.enabled && port.forwarding) l)
+      is.c_ports) ∙ open_there)
 
   ring : IsBlockedRing (ring_of a b c)
   ring = record {
@@ -313,7 +353,17 @@ two_ports = edge_port ∷ edge_port ∷ []
 -- what a designated port says
 abbrev proposal : ℕ → ℕ → ℕ → ℕ → Bpdu
 proposal cost bridge port age =
-    Rst (record { flags = 60; root = 1152924433774542849; cost = cost; bridge = bridge; port = port; message_age = age; max_age = 5120; hello = 512; forward_delay = 3840 })
+    Rst (record {
+      flags = 60;
+      root = 1152924433774542849;
+      cost = cost;
+      bridge = bridge;
+      port = port;
+      message_age = age;
+      max_age = 5120;
+      hello = 512;
+      forward_delay = 3840;
+    })
 
 abbrev up : ℕ → Happening
 up p = record { event = events.PortUp (suc p); firings = coming_up p }
@@ -329,7 +379,8 @@ abbrev second_history : List Happening
 second_history = up 1 ∷ hears_root 32769 ∷ up 0 ∷ []
 
 abbrev third_history : List Happening
-third_history = record { event = events.Bpdu 2 (proposal 20000 9223374966022471682 32770 256); firings = blocking } ∷ up 1 ∷ hears_root 32770 ∷ up 0 ∷ []
+third_history = record { event = events.Bpdu 2 (proposal 20000 9223374966022471682 32770 256); firings = blocking }
+    ∷ up 1 ∷ hears_root 32770 ∷ up 0 ∷ []
 
 abbrev bridge_of : ℕ → List Happening → Tree
 bridge_of id history = come_to history (start (settings_of id) two_ports)
@@ -355,24 +406,29 @@ third_happens : all_happen third_history (start (settings_of 9223374966022471683
 unfolding selected_ports selected_root best_path
 third_happens = refl
 
-pub off_at_two : (s : Tree) (rules : List Rule) → AreOffAt rules 0 s → AreOffAt rules 1 s → length s.ports ≡ 2 → AreOff rules s
+pub off_at_two : (s : Tree) (rules : List Rule) → AreOffAt rules 0 s → AreOffAt rules 1 s → length s.ports ≡ 2
+    → AreOff rules s
 off_at_two s rules h k two zero within = h
 off_at_two s rules h k two (suc zero) within = k
 off_at_two s rules h k two (suc (suc p)) within = absurd (omega arith)
 
 pub root_settled : SettledByLists → IsSettled root_bridge
 unfolding selected_ports selected_root best_path
-root_settled law = law root_bridge (off_at_two root_bridge MAIN refl refl refl) (off_at_two root_bridge SENDS refl refl refl)
+root_settled law = law root_bridge (off_at_two root_bridge MAIN refl refl refl)
+    (off_at_two root_bridge SENDS refl refl refl)
 
 second_settled : SettledByLists → IsSettled second_bridge
 unfolding selected_ports selected_root best_path
-second_settled law = law second_bridge (off_at_two second_bridge MAIN refl refl refl) (off_at_two second_bridge SENDS refl refl refl)
+second_settled law = law second_bridge (off_at_two second_bridge MAIN refl refl refl)
+    (off_at_two second_bridge SENDS refl refl refl)
 
 third_settled : SettledByLists → IsSettled third_bridge
 unfolding selected_ports selected_root best_path
-third_settled law = law third_bridge (off_at_two third_bridge MAIN refl refl refl) (off_at_two third_bridge SENDS refl refl refl)
+third_settled law = law third_bridge (off_at_two third_bridge MAIN refl refl refl)
+    (off_at_two third_bridge SENDS refl refl refl)
 
-reached : RunsHappen → (id : ℕ) (history : List Happening) → all_happen history (start (settings_of id) two_ports) ≡ true → IsReached (bridge_of id history)
+reached : RunsHappen → (id : ℕ) (history : List Happening)
+    → all_happen history (start (settings_of id) two_ports) ≡ true → IsReached (bridge_of id history)
 reached law id history e = (settings_of id, two_ports, can_be law (settings_of id) two_ports history e)
 
 abbrev port_at : List PortState → ℕ → PortState
@@ -382,7 +438,8 @@ port_at (x ∷ xs) (suc p) = port_at xs p
 
 abbrev pub AreRing : Type 0
 AreRing =
-    IsRing root_bridge second_bridge third_bridge (port_at root_bridge.ports 0) (port_at root_bridge.ports 1) (port_at second_bridge.ports 0)
+    IsRing root_bridge second_bridge third_bridge (port_at root_bridge.ports 0) (port_at root_bridge.ports 1)
+    (port_at second_bridge.ports 0)
     (port_at second_bridge.ports 1) (port_at third_bridge.ports 0) (port_at third_bridge.ports 1)
 
 pub a_ring : SettledByLists → RunsHappen → AreRing

@@ -1,7 +1,8 @@
 -- What a network needs of its bridges: laws of `rstp_run` and `rstp_state`.
 use Rattle.rstp_state.specs.Vector.{NeverEquallyGood}
 use Rattle.rstp_run.specs.RootPort.{OneRootPort}
-use Rattle.rstp_run.specs.Settled.{OfSettledPorts, Sends, HasWhatItSends, IsFollowedAsRoot, PassingIsInTree, PortsAreNumbered}
+use Rattle.rstp_run.specs.Settled.{OfSettledPorts, Sends, HasWhatItSends, IsFollowedAsRoot, PassingIsInTree}
+use Rattle.rstp_run.specs.Settled.{PortsAreNumbered}
 
 pub record BridgeLaws : Type 0 where
   pub sends : OfSettledPorts Sends

@@ -1,5 +1,6 @@
 -- The mask has the ports at which the flush rule fired.
-use Rattle.std.proofs.Common.{◌≡◌, ℕ, ◌≤◌, ◌<◌, ◌-◌, ◌^◌, ◌&&◌, ◌||◌, ◌==◌, Bool, true, false, List, [], ◌∷◌, length, refl, sym, arith, if◌then◌else◌, bit_or, max, ◌≢◌, ◌+◌, ◌⊎◌, inl, inr, subst, ap, ◌∙◌}
+use Rattle.std.proofs.Common.{◌≡◌, ℕ, ◌≤◌, ◌<◌, ◌-◌, ◌^◌, ◌&&◌, ◌||◌, ◌==◌, Bool, true, false, List, [], ◌∷◌, length}
+use Rattle.std.proofs.Common.{refl, sym, arith, if◌then◌else◌, bit_or, max, ◌≢◌, ◌+◌, ◌⊎◌, inl, inr, subst, ap, ◌∙◌}
 use Rattle.std.specs.Int.{bit_at}
 use Rattle.std.proofs.lemmas.Bool.{eqb-true, eqb-false}
 use Rattle.std.proofs.lemmas.Nat.Bits.{bit_at_or, bit_at-pow_same, bit_at-pow_other, bit_at-lt}
@@ -12,7 +13,8 @@ use Rattle.rstp_run.proofs.Settled.{both-ways, settled_or_not}
 use Rattle.rstp_run.specs.declared.count.Count.{Count}
 use Rattle.rstp_run.specs.declared.event.Event.{Event}
 
-one_more : (same : Bool) (m q p : ℕ) (rest : Bool) → (q == p) ≡ same → (bit_at m p == 1) ≡ rest → (bit_at (bit_or m (2 ^ q)) p == 1) ≡ (same || rest)
+one_more : (same : Bool) (m q p : ℕ) (rest : Bool) → (q == p) ≡ same → (bit_at m p == 1) ≡ rest
+    → (bit_at (bit_or m (2 ^ q)) p == 1) ≡ (same || rest)
 one_more true m q p rest is before =
     let here : q ≡ p = eqb-true q p is in
     let bit : bit_at (2 ^ q) p ≡ 1 = rw here (bit_at-pow_same p) in
@@ -51,7 +53,8 @@ has_port-flushed (f ∷ earlier) p =
     step (is_flush f.rule) (flushed earlier 0) f.place p (flushes p earlier) (has_port-flushed earlier p)
 
 -- what a run from no firings says of an event
-pub happens-from_goes : (event : Event) (limit : ℕ) (s m t : Tree) (b : Count) (settled : Bool) → m ≡ direct event s → Goes m (record { fired = 0; limit = limit; flush = 0 }) t b
+pub happens-from_goes : (event : Event) (limit : ℕ) (s m t : Tree) (b : Count) (settled : Bool) → m ≡ direct event s
+    → Goes m (record { fired = 0; limit = limit; flush = 0 }) t b
     → (settled ≡ true → IsSettled t) → (settled ≡ false → IsSettled t → ⊥) → (settled ≡ false → b.fired ≡ b.limit)
     → Happens event limit s t settled b.flush
 happens-from_goes event limit s m t b settled start goes is_so not_so full = record {
@@ -68,7 +71,8 @@ happens-from_goes event limit s m t b settled start goes is_so not_so full = rec
   flush = (λ p. rw goes.flush (has_port-flushed goes.firings p));
 }
 
-pub any_run : (event : Event) (limit : ℕ) (s t : Tree) (firings : List Firing) → Run firings (direct event s) t → length firings ≤ limit
+pub any_run : (event : Event) (limit : ℕ) (s t : Tree) (firings : List Firing) → Run firings (direct event s) t
+    → length firings ≤ limit
     → (length firings ≡ limit) ⊎ IsSettled t → (settled : Bool) × Happens event limit s t settled (flushed firings 0)
 any_run event limit s t firings run few ends =
     elim (settled_or_not t) [

@@ -1,5 +1,6 @@
 -- What every event keeps: each port is sound and has its number, and one role at most is selected as root.
-use Rattle.std.proofs.Common.{◌≡◌, ℕ, zero, suc, ◌+◌, ◌*◌, ◌/◌, ◌%◌, ◌^◌, Bool, true, false, not, ◌&&◌, ◌||◌, ◌==◌, List, [], ◌∷◌, Option, Some, None, slice_get, map, refl, sym, ap, subst, ◌∙◌, arith}
+use Rattle.std.proofs.Common.{◌≡◌, ℕ, zero, suc, ◌+◌, ◌*◌, ◌/◌, ◌%◌, ◌^◌, Bool, true, false, not, ◌&&◌, ◌||◌, ◌==◌}
+use Rattle.std.proofs.Common.{List, [], ◌∷◌, Option, Some, None, slice_get, map, refl, sym, ap, subst, ◌∙◌, arith}
 use Rattle.std.proofs.lemmas.Bool.Decides.{nat_tests}
 use Rattle.std.specs.List.{enumerate_from}
 use Rattle.std.specs.Option.{option_map_or}
@@ -13,7 +14,8 @@ use Rattle.rstp_state.specs.declared.selection.Root.{Root}
 use Rattle.rstp_state.specs.declared.start.PortSettings.{PortSettings}
 use Rattle.rstp_state.specs.declared.start.Settings.{Settings}
 use Rattle.rstp_state.specs.Port.{is_root, is_out}
-use Rattle.rstp_state.specs.Selection.{role_by, updates_by, with_choice, is_through, best_path, selected_root, selected_ports, is_better, is_own, is_same}
+use Rattle.rstp_state.specs.Selection.{role_by, updates_by, with_choice, is_through, best_path, selected_root}
+use Rattle.rstp_state.specs.Selection.{selected_ports, is_better, is_own, is_same}
 use Rattle.rstp_state.specs.Start.{ports_from}
 use Rattle.rstp_run.specs.declared.event.Event.{Event}
 use Rattle.rstp_run.specs.Events.{Happens, start}
@@ -31,7 +33,8 @@ abbrev pub roles_of : List PortState → List Role
 roles_of ports = map (λ port. port.selected_role) ports
 
 abbrev pub OneRoot : List Role → Type 0
-OneRoot roles = (p q : ℕ) (a b : Role) → slice_get roles p ≡ Some a → slice_get roles q ≡ Some b → is_root a ≡ true → is_root b ≡ true → p ≡ q
+OneRoot roles = (p q : ℕ) (a b : Role) → slice_get roles p ≡ Some a → slice_get roles q ≡ Some b → is_root a ≡ true
+    → is_root b ≡ true → p ≡ q
 
 pub record IsKept (ports : List PortState) : Type 0 where
   pub sound : AllSound ports
@@ -63,7 +66,8 @@ kept_by a b h k =
 
 -- ---- selection
 
-update_at : (i : InfoIs) (out r b s : Bool) → not out || is_down i ≡ true → not (updates_by i r b s) || (false || not out) ≡ true
+update_at : (i : InfoIs) (out r b s : Bool) → not out || is_down i ≡ true
+    → not (updates_by i r b s) || (false || not out) ≡ true
 update_at info_is.Disabled out r b s h = refl
 update_at info_is.Aged true r b s h = cc
 update_at info_is.Aged false r b s h = refl
@@ -72,14 +76,22 @@ update_at info_is.Mine false r b s h = or_right (not (not s)) true refl
 update_at info_is.Received true r b s h = cc
 update_at info_is.Received false r b s h = or_right (not (not r && b)) true refl
 
-choice_sound : (s : Settings) (root : Root) (through : Bool) (port : PortState) → IsSound port → IsSound (with_choice s root through port)
-choice_sound s root through port h =
-    (refl, h.1, update_at port.info_is (is_out port.information) through (is_better s root port) (is_same s root port) h.1)
+choice_sound : (s : Settings) (root : Root) (through : Bool) (port : PortState) → IsSound port
+    → IsSound (with_choice s root through port)
+choice_sound s root through port h = (
+  refl,
+  h.1,
+  update_at port.info_is (is_out port.information) through (is_better s root port) (is_same s root port)
+      h.1,
+)
 
 choices_sound : (s : Settings) (root : Root) (path : Path) (n : ℕ) (ports : List PortState) → AllSound ports
     → AllSound (map (λ e. with_choice s root (is_through path e.0) e.1) (enumerate_from n ports))
 choices_sound s root path n [] h = tt
-choices_sound s root path n (x ∷ xs) h = (choice_sound s root (is_through path n) x h.0, choices_sound s root path (n + 1) xs h.1)
+choices_sound s root path n (x ∷ xs) h = (
+  choice_sound s root (is_through path n) x h.0,
+  choices_sound s root path (n + 1) xs h.1,
+)
 
 root_by : (i : InfoIs) (r b o : Bool) → is_root (role_by i r b o) ≡ true → r ≡ true
 root_by info_is.Disabled r b o h = cc
@@ -98,7 +110,8 @@ chosen_through s root path n [] p a at h = cc
 chosen_through s root path n (x ∷ xs) zero a at h =
     let role : role_by x.info_is (is_through path n) (is_better s root x) (is_own s x) ≡ a = cc in
     let here : n ≡ n + 0 = omega arith in
-    sym (ap (λ k. is_through path k) here) ∙ root_by x.info_is (is_through path n) (is_better s root x) (is_own s x) (ap is_root role ∙ h)
+    sym (ap (λ k. is_through path k) here) ∙ root_by x.info_is (is_through path n) (is_better s root x) (is_own s x)
+    (ap is_root role ∙ h)
 chosen_through s root path n (x ∷ xs) (suc p) a at h =
     let later : n + 1 + p ≡ n + suc p = omega arith in
     sym (ap (λ k. is_through path k) later) ∙ chosen_through s root path (n + 1) xs p a at h
@@ -106,7 +119,8 @@ chosen_through s root path n (x ∷ xs) (suc p) a at h =
 same_number : (a p q : ℕ) → (a == p) ≡ true → (a == q) ≡ true → p ≡ q
 same_number a p q h k = grind (arith, nat_tests)
 
-same_place : (o : Option ℕ) (p q : ℕ) → option_map_or (λ at. at == p) o false ≡ true → option_map_or (λ at. at == q) o false ≡ true → p ≡ q
+same_place : (o : Option ℕ) (p q : ℕ) → option_map_or (λ at. at == p) o false ≡ true
+    → option_map_or (λ at. at == q) o false ≡ true → p ≡ q
 same_place None p q h k = cc
 same_place (Some a) p q h k = same_number a p q h k
 
@@ -114,15 +128,18 @@ choices_one : (s : Settings) (root : Root) (path : Path) (ports : List PortState
     → OneRoot (roles_of (map (λ e. with_choice s root (is_through path e.0) e.1) (enumerate_from 0 ports)))
 choices_one s root path ports p q a b at_p at_q ra rb =
     let same : 0 + p ≡ 0 + q =
-    same_place path.place (0 + p) (0 + q) (chosen_through s root path 0 ports p a at_p ra) (chosen_through s root path 0 ports q b at_q rb) in
+    same_place path.place (0 + p) (0 + q) (chosen_through s root path 0 ports p a at_p ra)
+    (chosen_through s root path 0 ports q b at_q rb) in
     omega arith
 
-choices_numbered : (s : Settings) (root : Root) (path : Path) (n m : ℕ) (ports : List PortState) → AreNumberedFrom m ports
+choices_numbered : (s : Settings) (root : Root) (path : Path) (n m : ℕ) (ports : List PortState)
+    → AreNumberedFrom m ports
     → AreNumberedFrom m (map (λ e. with_choice s root (is_through path e.0) e.1) (enumerate_from n ports))
 choices_numbered s root path n m [] h = tt
 choices_numbered s root path n m (x ∷ xs) h = (h.0, choices_numbered s root path (n + 1) (m + 1) xs h.1)
 
-selection_numbered : (s : Settings) (ports : List PortState) → AreNumberedFrom 1 ports → AreNumberedFrom 1 (selected_ports s ports)
+selection_numbered : (s : Settings) (ports : List PortState) → AreNumberedFrom 1 ports
+    → AreNumberedFrom 1 (selected_ports s ports)
 unfolding selected_ports
 selection_numbered s ports h = choices_numbered s (selected_root s ports) (best_path s ports) 0 1 ports h
 
@@ -167,7 +184,8 @@ start_rootless n settings (x ∷ xs) (suc p) a at h = start_rootless (n + 1) set
 number_of : (priority n : ℕ) → (priority * 4096 + n) % 2 ^ 12 ≡ n % 2 ^ 12
 number_of priority n = omega arith
 
-start_numbered : (n : ℕ) (settings : Settings) (ports : List PortSettings) → AreNumberedFrom n (ports_from n settings ports)
+start_numbered : (n : ℕ) (settings : Settings) (ports : List PortSettings)
+    → AreNumberedFrom n (ports_from n settings ports)
 start_numbered n settings [] = tt
 start_numbered n settings (x ∷ xs) = (number_of (x.priority / 16) n, start_numbered (n + 1) settings xs)
 
@@ -178,11 +196,14 @@ start_kept settings ports = record {
   numbered = start_numbered 1 settings ports;
 }
 
-pub comes_kept : (history : List Event) (settings : Settings) (ports : List PortSettings) (s : Tree) → Comes history (start settings ports) s → IsKept s.ports
+pub comes_kept : (history : List Event) (settings : Settings) (ports : List PortSettings) (s : Tree)
+    → Comes history (start settings ports) s → IsKept s.ports
 comes_kept history settings ports s comes =
-    comes_holds (λ s. IsKept s.ports) (λ s. Keeps) kept_walks history (start settings ports) s comes (start_kept settings ports)
+    comes_holds (λ s. IsKept s.ports) (λ s. Keeps) kept_walks history (start settings ports) s comes
+    (start_kept settings ports)
 
 -- the ports keep their numbers
-pub happens_numbered : (event : Event) (limit : ℕ) (s t : Tree) (settled : Bool) (mask : ℕ) → Happens event limit s t settled mask → AreNumbered s → AreNumbered t
+pub happens_numbered : (event : Event) (limit : ℕ) (s t : Tree) (settled : Bool) (mask : ℕ)
+    → Happens event limit s t settled mask → AreNumbered s → AreNumbered t
 happens_numbered event limit s t settled mask happens all =
     happens_holds AreNumbered (λ s. Keeps) numbered_walks event limit s t settled mask happens all

@@ -16,7 +16,8 @@ learning_from true true false x test order = cc
 learning_from true false l x test order = cc
 learning_from false f l x test order = cc
 
-tree_from : (a l learn w t : Bool) → (l && not learn) || (true && not w) ≡ false → a && (t || (not learn && not w)) ≡ true → t ≡ true
+tree_from : (a l learn w t : Bool) → (l && not learn) || (true && not w) ≡ false
+    → a && (t || (not learn && not w)) ≡ true → t ≡ true
 tree_from a l learn w true quiet order = refl
 tree_from false l learn w false quiet order = cc
 tree_from true l true true false quiet order = cc
@@ -44,7 +45,8 @@ passing-in_tree s p all passes =
           let test : x.enabled && x.forwarding ≡ true = rw found at passes.1 in
           let forwarding : x.forwarding ≡ true = and_right x.enabled x.forwarding test in
           let order : IsOrderly x = at_place IsOrderly s.ports (p - 1) x found all in
-          let settled : to_discarding_guard x ≡ false = rw found at (passes.0 (InState state_rule.ToDiscarding) (p - 1)) in
+          let settled : to_discarding_guard x ≡ false =
+          rw found at (passes.0 (InState state_rule.ToDiscarding) (p - 1)) in
           let quiet : (x.learning && not x.learn) || (true && not x.forward) ≡ false = rw forwarding at settled in
           let tree : is_in_tree x ≡ true =
           tree_from (not x.forwarding || x.learning) x.learning x.learn x.forward (is_in_tree x) quiet order in

@@ -11,7 +11,8 @@ use Rattle.rstp_roles.specs.declared.rule.RoleRule.{RoleRule}
 use Rattle.rstp_roles.specs.declared.rule.RoleRule.TheVariants as role_rule
 use Rattle.rstp_roles.specs.declared.rule.StateRule.{StateRule}
 use Rattle.rstp_roles.specs.declared.rule.StateRule.TheVariants as state_rule
-use Rattle.rstp_run.specs.Machines.{receive_asks, receive_does, migration_asks, migration_does, detection_asks, detection_does, topology_does, transmit_asks, transmit_does}
+use Rattle.rstp_run.specs.Machines.{receive_asks, receive_does, migration_asks, migration_does, detection_asks}
+use Rattle.rstp_run.specs.Machines.{detection_does, topology_does, transmit_asks, transmit_does}
 use Rattle.rstp_run.specs.TopologyChange.{with_change_timer, with_propagation, telling_others}
 use Rattle.rstp_run.specs.TopologyChange as changes
 use Rattle.rstp_run.specs.declared.rule.ReceiveRule.{ReceiveRule}
@@ -66,28 +67,33 @@ known_of port = record {
 abbrev pub IsQuiet : PortState → PortState → Type 0
 IsQuiet port next = known_of next ≡ known_of port
 
-pub receive_quiet : (rule : ReceiveRule) (port : PortState) → receive_asks rule port ≡ true → IsQuiet port (receive_does rule port)
+pub receive_quiet : (rule : ReceiveRule) (port : PortState) → receive_asks rule port ≡ true
+    → IsQuiet port (receive_does rule port)
 receive_quiet receive_rule.Discard port g = refl
 receive_quiet receive_rule.Receive port g = refl
 
-pub migration_quiet : (rule : MigrationRule) (port : PortState) → migration_asks rule port ≡ true → IsQuiet port (migration_does rule port)
+pub migration_quiet : (rule : MigrationRule) (port : PortState) → migration_asks rule port ≡ true
+    → IsQuiet port (migration_does rule port)
 migration_quiet migration_rule.Recheck port g = refl
 migration_quiet migration_rule.Checked port g = refl
 migration_quiet migration_rule.Selected port g = refl
 migration_quiet migration_rule.ToRstp port g = refl
 migration_quiet migration_rule.ToStp port g = refl
 
-pub detection_quiet : (rule : DetectionRule) (port : PortState) → detection_asks rule port ≡ true → IsQuiet port (detection_does rule port)
+pub detection_quiet : (rule : DetectionRule) (port : PortState) → detection_asks rule port ≡ true
+    → IsQuiet port (detection_does rule port)
 detection_quiet detection_rule.Edge port g = refl
 detection_quiet detection_rule.NotEdge port g = refl
 
-pub transmit_quiet : (rule : TransmitRule) (timing : Timing) (port : PortState) → transmit_asks rule timing port ≡ true → IsQuiet port (transmit_does rule timing port)
+pub transmit_quiet : (rule : TransmitRule) (timing : Timing) (port : PortState) → transmit_asks rule timing port ≡ true
+    → IsQuiet port (transmit_does rule timing port)
 transmit_quiet transmit_rule.Periodic timing port g = refl
 transmit_quiet transmit_rule.SendConfig timing port g = refl
 transmit_quiet transmit_rule.SendTcn timing port g = refl
 transmit_quiet transmit_rule.SendRst timing port g = refl
 
-pub state_quiet : (rule : StateRule) (port : PortState) → state_asks rule port ≡ true → IsQuiet port (state_does rule port)
+pub state_quiet : (rule : StateRule) (port : PortState) → state_asks rule port ≡ true
+    → IsQuiet port (state_does rule port)
 state_quiet state_rule.ToLearning port g = refl
 state_quiet state_rule.ToForwarding port g = refl
 state_quiet state_rule.ToDiscarding port g = refl
@@ -95,11 +101,13 @@ state_quiet state_rule.ToDiscarding port g = refl
 -- ---- information
 
 pub inferior_quiet : (b : Bool) (port : PortState)
-    → IsQuiet port (cond b (record port { disputed = true; agreed = false; received_message = false }) (record port { received_message = false }))
+    → IsQuiet port (cond b (record port { disputed = true; agreed = false; received_message = false })
+    (record port { received_message = false }))
 inferior_quiet true port = refl
 inferior_quiet false port = refl
 
-pub answer_quiet : (b : Bool) (port : PortState) → IsQuiet port (cond b (record port { agreed = true; proposing = false }) (record port { agreed = false }))
+pub answer_quiet : (b : Bool) (port : PortState) → IsQuiet port
+    (cond b (record port { agreed = true; proposing = false }) (record port { agreed = false }))
 answer_quiet true port = refl
 answer_quiet false port = refl
 
@@ -118,33 +126,42 @@ timer_quiet timing port = timer_at (port.topology_change_while == 0) port.send_r
 abbrev EachQuiet : List PortState → List PortState → Type 0
 EachQuiet a b = Each IsQuiet a b
 
-pub changes_at : (does : PortState → PortState) (ports : List PortState) (p : ℕ) → ((port : PortState) → IsQuiet port (does port)) → EachQuiet ports (change_at p does ports)
+pub changes_at : (does : PortState → PortState) (ports : List PortState) (p : ℕ)
+    → ((port : PortState) → IsQuiet port (does port)) → EachQuiet ports (change_at p does ports)
 changes_at does ports p h = each_change IsQuiet (λ port. refl) does ports p (λ port at. h port)
 
-tells_at : (does : PortState → PortState) (ports : List PortState) (p : ℕ) → ((port : PortState) → IsQuiet port (does port)) → EachQuiet ports (telling_others p does ports)
+tells_at : (does : PortState → PortState) (ports : List PortState) (p : ℕ)
+    → ((port : PortState) → IsQuiet port (does port)) → EachQuiet ports (telling_others p does ports)
 tells_at does ports p h = each_telling IsQuiet (λ port. refl) (λ port. refl) does ports p h
 
-pub topology_quiet : (rule : TopologyRule) (timing : Timing) (ports : List PortState) (p : ℕ) → EachQuiet ports (topology_does rule timing ports p)
+pub topology_quiet : (rule : TopologyRule) (timing : Timing) (ports : List PortState) (p : ℕ)
+    → EachQuiet ports (topology_does rule timing ports p)
 topology_quiet topology_rule.TcLearning timing ports p = changes_at changes.tc_learning_effect ports p (λ port. refl)
 topology_quiet topology_rule.Detected timing ports p =
-    tells_at (changes.detected_at timing) ports p (λ port. timer_quiet timing (record port { topology = topology.Active }))
+    tells_at (changes.detected_at timing) ports p (λ port. timer_quiet timing
+    (record port { topology = topology.Active }))
 topology_quiet topology_rule.TcClear timing ports p = changes_at changes.tc_clear_effect ports p (λ port. refl)
 topology_quiet topology_rule.TcInactive timing ports p = changes_at changes.tc_inactive_effect ports p (λ port. refl)
 topology_quiet topology_rule.TcBack timing ports p = changes_at changes.tc_back_effect ports p (λ port. refl)
-topology_quiet topology_rule.NotifiedTcn timing ports p = tells_at (changes.notified_tcn_at timing) ports p (λ port. timer_quiet timing port)
+topology_quiet topology_rule.NotifiedTcn timing ports p =
+    tells_at (changes.notified_tcn_at timing) ports p (λ port. timer_quiet timing port)
 topology_quiet topology_rule.NotifiedTc timing ports p = tells_at changes.notified_at ports p (λ port. refl)
-topology_quiet topology_rule.Propagating timing ports p = changes_at (changes.propagating_effect timing) ports p (λ port. timer_quiet timing port)
+topology_quiet topology_rule.Propagating timing ports p =
+    changes_at (changes.propagating_effect timing) ports p (λ port. timer_quiet timing port)
 topology_quiet topology_rule.Acknowledged timing ports p = changes_at changes.acknowledged_effect ports p (λ port. refl)
 topology_quiet topology_rule.Flush timing ports p = changes_at changes.flush_effect ports p (λ port. refl)
 
 -- ---- role transitions
 
-proposed_quiet : (ports : List PortState) (p : ℕ) → EachQuiet ports (change_at p roles.without_proposal (map with_sync ports))
+proposed_quiet : (ports : List PortState) (p : ℕ) → EachQuiet ports
+    (change_at p roles.without_proposal (map with_sync ports))
 proposed_quiet ports p =
-    each_then IsQuiet (λ a b c h k. k ∙ h) ports (map with_sync ports) _ (each_map IsQuiet with_sync (λ port. refl) ports)
+    each_then IsQuiet (λ a b c h k. k ∙ h) ports (map with_sync ports) _
+    (each_map IsQuiet with_sync (λ port. refl) ports)
     (changes_at roles.without_proposal (map with_sync ports) p (λ port. refl))
 
-pub role_quiet : (rule : RoleRule) (timing : Timing) (ports : List PortState) (p : ℕ) → EachQuiet ports (role_does rule timing ports p)
+pub role_quiet : (rule : RoleRule) (timing : Timing) (ports : List PortState) (p : ℕ)
+    → EachQuiet ports (role_does rule timing ports p)
 role_quiet role_rule.Disable timing ports p = changes_at roles.disable_effect ports p (λ port. refl)
 role_quiet role_rule.DisabledPort timing ports p = changes_at (roles.disabled_port_effect timing) ports p (λ port. refl)
 role_quiet role_rule.Root timing ports p = changes_at (roles.root_effect timing) ports p (λ port. refl)
@@ -158,9 +175,12 @@ role_quiet role_rule.Designated timing ports p = changes_at roles.designated_eff
 role_quiet role_rule.Propose timing ports p = changes_at (roles.propose_effect timing) ports p (λ port. refl)
 role_quiet role_rule.Synced timing ports p = changes_at roles.synced_effect ports p (λ port. refl)
 role_quiet role_rule.Retired timing ports p = changes_at roles.retired_effect ports p (λ port. refl)
-role_quiet role_rule.DesignatedDiscard timing ports p = changes_at (roles.designated_discard_effect timing) ports p (λ port. refl)
-role_quiet role_rule.DesignatedLearn timing ports p = changes_at (roles.designated_learn_effect timing) ports p (λ port. refl)
-role_quiet role_rule.DesignatedForward timing ports p = changes_at roles.designated_forward_effect ports p (λ port. refl)
+role_quiet role_rule.DesignatedDiscard timing ports p =
+    changes_at (roles.designated_discard_effect timing) ports p (λ port. refl)
+role_quiet role_rule.DesignatedLearn timing ports p = changes_at (roles.designated_learn_effect timing) ports p
+    (λ port. refl)
+role_quiet role_rule.DesignatedForward timing ports p =
+    changes_at roles.designated_forward_effect ports p (λ port. refl)
 role_quiet role_rule.Block timing ports p = changes_at roles.block_effect ports p (λ port. refl)
 role_quiet role_rule.Alternate timing ports p = changes_at (roles.alternate_effect timing) ports p (λ port. refl)
 role_quiet role_rule.AlternateProposed timing ports p = proposed_quiet ports p
@@ -169,6 +189,7 @@ role_quiet role_rule.Backup timing ports p = changes_at (roles.backup_effect tim
 
 -- ---- events
 
-pub message_quiet : (b : Bool) (message : Bpdu) (port : PortState) → IsQuiet port (cond b port (record port { message = Some message; received_bpdu = true }))
+pub message_quiet : (b : Bool) (message : Bpdu) (port : PortState)
+    → IsQuiet port (cond b port (record port { message = Some message; received_bpdu = true }))
 message_quiet true message port = refl
 message_quiet false message port = refl

@@ -1,5 +1,6 @@
 -- In a settled bridge each root port is the one that selection chose.
-use Rattle.std.proofs.Common.{◌≡◌, ℕ, zero, suc, Bool, true, false, not, ◌&&◌, ◌||◌, List, [], ◌∷◌, Some, slice_get, refl, sym, ap, subst, ◌∙◌}
+use Rattle.std.proofs.Common.{◌≡◌, ℕ, zero, suc, Bool, true, false, not, ◌&&◌, ◌||◌, List, [], ◌∷◌, Some, slice_get}
+use Rattle.std.proofs.Common.{refl, sym, ap, subst, ◌∙◌}
 use Rattle.std.specs.List.{list_any}
 use Rattle.std.specs.Option.{option_map_or}
 use Rattle.rstp_state.specs.declared.port.PortState.{PortState}
@@ -17,12 +18,15 @@ use Rattle.rstp_run.proofs.Kept.{AllSound, IsKept, roles_of}
 
 -- ---- lists
 
-sound_at : (ports : List PortState) (p : ℕ) (port : PortState) → slice_get ports p ≡ Some port → AllSound ports → IsSound port
+sound_at : (ports : List PortState) (p : ℕ) (port : PortState) → slice_get ports p ≡ Some port → AllSound ports
+    → IsSound port
 sound_at [] p port at h = cc
-sound_at (x ∷ xs) zero port at h = let same : x ≡ port = cc in let P : PortState → Type 0 = λ y. IsSound y in subst P same h.0
+sound_at (x ∷ xs) zero port at h = let same : x ≡ port = cc in let P : PortState → Type 0 = λ y. IsSound y in
+    subst P same h.0
 sound_at (x ∷ xs) (suc p) port at h = sound_at xs p port at h.1
 
-role_at : (ports : List PortState) (p : ℕ) (port : PortState) → slice_get ports p ≡ Some port → slice_get (roles_of ports) p ≡ Some port.selected_role
+role_at : (ports : List PortState) (p : ℕ) (port : PortState) → slice_get ports p ≡ Some port
+    → slice_get (roles_of ports) p ≡ Some port.selected_role
 role_at [] p port at = cc
 role_at (x ∷ xs) zero port at = let same : x ≡ port = cc in ap (λ (y : PortState). Some y.selected_role) same
 role_at (x ∷ xs) (suc p) port at = role_at xs p port at
@@ -31,13 +35,16 @@ neither : (a b : Bool) → a || b ≡ false → (a ≡ false) × (b ≡ false)
 neither true b h = cc
 neither false b h = (refl, h)
 
-none_asks : (ports : List PortState) (p : ℕ) (port : PortState) → list_any wants_selection ports ≡ false → slice_get ports p ≡ Some port → port.reselect ≡ false
+none_asks : (ports : List PortState) (p : ℕ) (port : PortState) → list_any wants_selection ports ≡ false
+    → slice_get ports p ≡ Some port → port.reselect ≡ false
 none_asks [] p port h at = cc
-none_asks (x ∷ xs) zero port h at = let same : x ≡ port = cc in sym (ap (λ (y : PortState). y.reselect) same) ∙ (neither x.reselect (list_any wants_selection xs) h).0
+none_asks (x ∷ xs) zero port h at = let same : x ≡ port = cc in
+    sym (ap (λ (y : PortState). y.reselect) same) ∙ (neither x.reselect (list_any wants_selection xs) h).0
 none_asks (x ∷ xs) (suc p) port h at = none_asks xs p port (neither x.reselect (list_any wants_selection xs) h).1 at
 
 -- the first port, which is there, is asked whether any port wants selection
-first_asked : (ports : List PortState) (p : ℕ) (port : PortState) (b : Bool) → slice_get ports p ≡ Some port → test_at 0 (λ x. b) ports ≡ false → b ≡ false
+first_asked : (ports : List PortState) (p : ℕ) (port : PortState) (b : Bool) → slice_get ports p ≡ Some port
+    → test_at 0 (λ x. b) ports ≡ false → b ≡ false
 first_asked [] p port b at h = cc
 first_asked (x ∷ xs) p port b at h = h
 
@@ -64,7 +71,8 @@ left_over true a b h g = g
 left_over false a b h g = cc
 
 -- A port of role Root has no other role selected, where no rule takes it there.
-root_selected : (r s : Role) → is_disabled s && not (is_disabled r) ≡ false → is_designated s && not (is_designated r) ≡ false
+root_selected : (r s : Role) → is_disabled s && not (is_disabled r) ≡ false
+    → is_designated s && not (is_designated r) ≡ false
     → is_blocked s && not (same_role r s) ≡ false → is_root r ≡ true → is_root s ≡ true
 root_selected r role.Root d e b h = refl
 root_selected role.Root role.Disabled d e b h = cc
@@ -78,22 +86,26 @@ root_selected role.Backup s d e b h = cc
 
 -- ---- a settled bridge
 
-module _ (s : Tree) (kept : IsKept s.ports) (settled : IsSettled s) (p : ℕ) (port : PortState) (at : slice_get s.ports p ≡ Some port) where
+module _ (s : Tree) (kept : IsKept s.ports) (settled : IsSettled s) (p : ℕ) (port : PortState)
+    (at : slice_get s.ports p ≡ Some port) where
   pub is_off : (rule : Rule) → asks rule s p port ≡ false
   is_off rule = sym (ap (λ o. option_map_or (asks rule s p) o false) at) ∙ settled rule p
 
   is_selected : port.selected ≡ true
   is_selected =
       let unasked = first_asked s.ports p port (list_any wants_selection s.ports) at (settled rules.Select 0) in
-      selected_then port.selected port.reselect (sound_at s.ports p port at kept.sound).0 (none_asks s.ports p port unasked at)
+      selected_then port.selected port.reselect (sound_at s.ports p port at kept.sound).0
+      (none_asks s.ports p port unasked at)
 
   pub may : may_act port ≡ true
   may =
       acts port.selected port.update_info is_selected
-      (no_update (is_out port.information) port.selected port.update_info is_selected (sound_at s.ports p port at kept.sound).2
+      (no_update (is_out port.information) port.selected port.update_info is_selected
+      (sound_at s.ports p port at kept.sound).2
       (is_off (rules.Information information_rule.Update)))
 
-  pub selected_as_root : is_root port.role ≡ true → (slice_get (roles_of s.ports) p ≡ Some port.selected_role) × (is_root port.selected_role ≡ true)
+  pub selected_as_root : is_root port.role ≡ true → (slice_get (roles_of s.ports) p ≡ Some port.selected_role)
+      × (is_root port.selected_role ≡ true)
   selected_as_root h = (
     role_at s.ports p port at,
     root_selected port.role port.selected_role

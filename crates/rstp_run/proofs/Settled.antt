@@ -1,11 +1,13 @@
 -- A bridge is settled where no rule of the two tables is enabled at a port that is there.
-use Rattle.std.proofs.Common.{◌≡◌, ℕ, ◌≤◌, Bool, true, false, Some, List, [], ◌∷◌, length, slice_get, zero, suc, ◌<◌, ◌+◌, below_more, arith, refl, ◌⊎◌, inl, inr, ◌↔◌, IsTrue, not}
+use Rattle.std.proofs.Common.{◌≡◌, ℕ, ◌≤◌, Bool, true, false, Some, List, [], ◌∷◌, length, slice_get, zero, suc, ◌<◌}
+use Rattle.std.proofs.Common.{◌+◌, below_more, arith, refl, ◌⊎◌, inl, inr, ◌↔◌, IsTrue, not}
 use Rattle.std.specs.List.{list_any}
 use Rattle.std.proofs.lemmas.Bool.{cases_lt}
 use Rattle.std.proofs.lemmas.Option.{slice_get_past}
 use Rattle.std.proofs.lemmas.Map.Keys.{any_passes_from_place}
 use Rattle.rstp_run.specs.declared.rule.Rule.{Rule}
-use Rattle.rstp_run.specs.declared.rule.Rule.TheVariants.{Select, Receive, Migration, Detection, Information, Role, State as InState, Topology, Transmit}
+use Rattle.rstp_run.specs.declared.rule.Rule.TheVariants.{Select, Receive, Migration, Detection, Information, Role}
+use Rattle.rstp_run.specs.declared.rule.Rule.TheVariants.{State as InState, Topology, Transmit}
 use Rattle.rstp_run.specs.declared.rule.ReceiveRule.TheVariants as receive_rule
 use Rattle.rstp_run.specs.declared.rule.MigrationRule.TheVariants as migration_rule
 use Rattle.rstp_run.specs.declared.rule.DetectionRule.TheVariants as detection_rule
@@ -79,7 +81,8 @@ covered (Transmit transmit_rule.SendConfig) = inr (1, refl)
 covered (Transmit transmit_rule.SendTcn) = inr (2, refl)
 covered (Transmit transmit_rule.SendRst) = inr (3, refl)
 
-pub off-at : (test : Rule → Bool) (rules : List Rule) (k : ℕ) (rule : Rule) → slice_get rules k ≡ Some rule → list_any test rules ≡ false → test rule ≡ false
+pub off-at : (test : Rule → Bool) (rules : List Rule) (k : ℕ) (rule : Rule) → slice_get rules k ≡ Some rule
+    → list_any test rules ≡ false → test rule ≡ false
 off-at test rules k rule place none = off (test rule) refl
   where
     off : (b : Bool) → test rule ≡ b → test rule ≡ false
@@ -89,7 +92,8 @@ off-at test rules k rule place none = off (test rule) refl
 pub guard-past : (rule : Rule) (s : Tree) (p : ℕ) → length s.ports ≤ p → guard rule s p ≡ false
 guard-past rule s p past = rw (slice_get_past s.ports p past) refl
 
-pub off-listed : (rules : List Rule) (s : Tree) (p k : ℕ) (rule : Rule) → AreOff rules s → slice_get rules k ≡ Some rule → guard rule s p ≡ false
+pub off-listed : (rules : List Rule) (s : Tree) (p k : ℕ) (rule : Rule) → AreOff rules s → slice_get rules k ≡ Some rule
+    → guard rule s p ≡ false
 off-listed rules s p k rule off place =
     elim (cases_lt p (length s.ports)) [
       | inl below ↦ off-at (λ r. guard r s p) rules k rule place (off p below)
@@ -110,9 +114,11 @@ none-off (rule ∷ rules) s p settled = rw (settled rule p) (none-off rules s p 
 pub off-settled : (rules : List Rule) (s : Tree) → IsSettled s → AreOff rules s
 off-settled rules s settled p below = none-off rules s p settled
 
-one_more : (rules : List Rule) (s : Tree) (n : ℕ) (b : Bool) → list_any (λ rule. guard rule s n) rules ≡ b → AreOffBelow rules n s
+one_more : (rules : List Rule) (s : Tree) (n : ℕ) (b : Bool) → list_any (λ rule. guard rule s n) rules ≡ b
+    → AreOffBelow rules n s
     → AreOffBelow rules (suc n) s ⊎ (AreOffBelow rules (suc n) s → ⊥)
-one_more rules s n true is below = inr (λ all. (let within : n < suc n = omega arith in let off : AreOffAt rules n s = all n within in cc))
+one_more rules s n true is below = inr (λ all. (let within : n < suc n = omega arith in
+    let off : AreOffAt rules n s = all n within in cc))
 one_more rules s n false is below = inl (λ p within. below_more (λ q. AreOffAt rules q s) n below is p (omega arith))
 
 off_or_not : (rules : List Rule) (s : Tree) (n : ℕ) → AreOffBelow rules n s ⊎ (AreOffBelow rules n s → ⊥)

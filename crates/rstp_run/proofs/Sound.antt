@@ -10,7 +10,8 @@ use Rattle.rstp_state.specs.declared.port.InfoIs.TheVariants as info_is
 use Rattle.rstp_state.specs.Port.{is_out, is_current}
 use Rattle.rstp_run.specs.declared.rule.InformationRule.{InformationRule}
 use Rattle.rstp_run.specs.declared.rule.InformationRule.TheVariants as information_rule
-use Rattle.rstp_run.specs.Information.{rst_has, message_has, with_info_of, with_superior_flags, with_change_flags, with_proposal}
+use Rattle.rstp_run.specs.Information.{rst_has, message_has, with_info_of, with_superior_flags, with_change_flags}
+use Rattle.rstp_run.specs.Information.{with_proposal}
 use Rattle.rstp_run.specs.Machines.{information_asks, information_does}
 use Rattle.rstp_run.proofs.Quiet.{IsQuiet, Known, answer_quiet, inferior_quiet, known_of}
 
@@ -77,7 +78,8 @@ info_keeps (Some Tcn) port = (λ h. h, refl, refl)
 info_keeps (Some (Config message)) port = (λ h. h, refl, refl)
 info_keeps (Some (Rst message)) port = (λ h. h, refl, refl)
 
-pub information_keeps : (rule : InformationRule) (port : PortState) → information_asks rule port ≡ true → Keeps port (information_does rule port)
+pub information_keeps : (rule : InformationRule) (port : PortState) → information_asks rule port ≡ true
+    → Keeps port (information_does rule port)
 information_keeps information_rule.Disabled port g = (λ h. (refl, refl, unselected port.update_info false), refl, refl)
 information_keeps information_rule.Drop port g = (λ h. h, refl, refl)
 information_keeps information_rule.Enabled port g = (λ h. (refl, refl, unselected port.update_info true), refl, refl)
@@ -85,9 +87,15 @@ information_keeps information_rule.Update port g = (λ h. (h.0, refl, refl), ref
 information_keeps information_rule.Aged port g = (λ h. (refl, refl, unselected port.update_info true), refl, refl)
 information_keeps information_rule.Superior port g =
     let current = left (is_current port.information) _ (left _ _ (left _ _ g)) in
-    let known = info_keeps port.message (with_superior_flags (with_change_flags (with_proposal port))) in
-    (λ h. known.0 (refl, or_left _ _ (not_out port.information current), unselected port.update_info false), known.1, known.2)
+    let known = info_keeps port.message (with_superior_flags (with_change_flags (with_proposal port))) in (
+      λ h. known.0 (refl, or_left _ _ (not_out port.information current), unselected port.update_info false),
+      known.1,
+      known.2,
+    )
 information_keeps information_rule.Repeated port g = (λ h. h, refl, refl)
-information_keeps information_rule.Inferior port g = keeps_quiet port (information_does information_rule.Inferior port) (inferior_quiet (rst_has 16 port.message) port)
-information_keeps information_rule.NotDesignated port g = keeps_quiet port (information_does information_rule.NotDesignated port) (answer_quiet (port.point_to_point && message_has 64 port.message) port)
+information_keeps information_rule.Inferior port g = keeps_quiet port (information_does information_rule.Inferior port)
+    (inferior_quiet (rst_has 16 port.message) port)
+information_keeps information_rule.NotDesignated port g =
+    keeps_quiet port (information_does information_rule.NotDesignated port)
+    (answer_quiet (port.point_to_point && message_has 64 port.message) port)
 information_keeps information_rule.Other port g = (λ h. h, refl, refl)

@@ -1,5 +1,6 @@
 -- At its start a bridge is settled, where its Hello time isn't 0.
-use Rattle.std.proofs.Common.{◌≡◌, ℕ, ◌+◌, ◌≤◌, ◌==◌, ◌&&◌, ◌||◌, not, Bool, true, false, List, [], ◌∷◌, refl, inl, inr, arith}
+use Rattle.std.proofs.Common.{◌≡◌, ℕ, ◌+◌, ◌≤◌, ◌==◌, ◌&&◌, ◌||◌, not, Bool, true, false, List, [], ◌∷◌, refl, inl, inr}
+use Rattle.std.proofs.Common.{arith}
 use Rattle.std.specs.Prelude.{All}
 use Rattle.std.specs.List.{list_any}
 use Rattle.std.proofs.lemmas.Bool.{eqb-true, eqb-false}
@@ -13,7 +14,8 @@ use Rattle.rstp_state.specs.Start.{ports_from, start_port}
 use Rattle.rstp_roles.specs.declared.rule.RoleRule.TheVariants as role_rule
 use Rattle.rstp_roles.specs.declared.rule.StateRule.TheVariants as state_rule
 use Rattle.rstp_run.specs.declared.rule.Rule.{Rule}
-use Rattle.rstp_run.specs.declared.rule.Rule.TheVariants.{Select, Receive, Migration, Detection, Information, Role, State as InState, Topology, Transmit}
+use Rattle.rstp_run.specs.declared.rule.Rule.TheVariants.{Select, Receive, Migration, Detection, Information, Role}
+use Rattle.rstp_run.specs.declared.rule.Rule.TheVariants.{State as InState, Topology, Transmit}
 use Rattle.rstp_run.specs.declared.rule.ReceiveRule.TheVariants as receive_rule
 use Rattle.rstp_run.specs.declared.rule.MigrationRule.TheVariants as migration_rule
 use Rattle.rstp_run.specs.declared.rule.DetectionRule.TheVariants as detection_rule
@@ -56,18 +58,22 @@ send_off : (x b : Bool) → (((x && true) && false) && false) && b ≡ false
 send_off true b = refl
 send_off false b = refl
 
-none_wants : (n : ℕ) (settings : Settings) (ports : List PortSettings) → list_any wants_selection (ports_from n settings ports) ≡ false
+none_wants : (n : ℕ) (settings : Settings) (ports : List PortSettings)
+    → list_any wants_selection (ports_from n settings ports) ≡ false
 none_wants n settings [] = refl
 none_wants n settings (port ∷ ports) = none_wants (n + 1) settings ports
 
 -- a test that no port passes
-all_off : (test : PortState → Bool) (n : ℕ) (settings : Settings) (ports : List PortSettings) → ((port : PortSettings) (m : ℕ) → test (start_port settings port m) ≡ false) → All (λ q. test q ≡ false) (ports_from n settings ports)
+all_off : (test : PortState → Bool) (n : ℕ) (settings : Settings) (ports : List PortSettings)
+    → ((port : PortSettings) (m : ℕ) → test (start_port settings port m) ≡ false)
+    → All (λ q. test q ≡ false) (ports_from n settings ports)
 all_off test n settings [] off = All-nil (λ q. test q ≡ false)
 all_off test n settings (port ∷ ports) off =
     All-cons (λ q. test q ≡ false) (start_port settings port n) (ports_from (n + 1) settings ports) (off port n)
     (all_off test (n + 1) settings ports off)
 
-test_off : (test : PortState → Bool) (ports : List PortState) (p : ℕ) → All (λ q. test q ≡ false) ports → test_at p test ports ≡ false
+test_off : (test : PortState → Bool) (ports : List PortState) (p : ℕ) → All (λ q. test q ≡ false) ports
+    → test_at p test ports ≡ false
 test_off test ports p all =
     elim (slice_get_cases ports p).1 [
       | inl (x, within, found, same) ↦
@@ -77,7 +83,8 @@ test_off test ports p all =
     ]
 
 -- no rule asks for a port as it starts
-asks_off : (rule : Rule) (settings : Settings) (ports : List PortSettings) (p : ℕ) → 1 ≤ settings.hello → (port : PortSettings) (m : ℕ) → asks rule (start settings ports) p (start_port settings port m) ≡ false
+asks_off : (rule : Rule) (settings : Settings) (ports : List PortSettings) (p : ℕ) → 1 ≤ settings.hello
+    → (port : PortSettings) (m : ℕ) → asks rule (start settings ports) p (start_port settings port m) ≡ false
 asks_off Select settings ports p h port m = and_off (p == 0) _ (none_wants 1 settings ports)
 asks_off (Receive receive_rule.Discard) settings ports p h port m = refl
 asks_off (Receive receive_rule.Receive) settings ports p h port m = refl
@@ -133,11 +140,17 @@ asks_off (Topology topology_rule.Propagating) settings ports p h port m = refl
 asks_off (Topology topology_rule.Acknowledged) settings ports p h port m = refl
 asks_off (Topology topology_rule.Flush) settings ports p h port m = refl
 asks_off (Transmit transmit_rule.Periodic) settings ports p h port m = not_zero settings.hello h
-asks_off (Transmit transmit_rule.SendConfig) settings ports p h port m = and_off (((((may_send (timing_in (start settings ports)) (start_port settings port m) && true) && false) && false) && false)) false refl
-asks_off (Transmit transmit_rule.SendTcn) settings ports p h port m = and_off (((((may_send (timing_in (start settings ports)) (start_port settings port m) && true) && false) && false) && false)) false refl
-asks_off (Transmit transmit_rule.SendRst) settings ports p h port m = send_off (may_send (timing_in (start settings ports)) (start_port settings port m)) true
+asks_off (Transmit transmit_rule.SendConfig) settings ports p h port m =
+    and_off (((((may_send (timing_in (start settings ports)) (start_port settings port m) && true) && false) && false)
+    && false)) false refl
+asks_off (Transmit transmit_rule.SendTcn) settings ports p h port m =
+    and_off (((((may_send (timing_in (start settings ports)) (start_port settings port m) && true) && false) && false)
+    && false)) false refl
+asks_off (Transmit transmit_rule.SendRst) settings ports p h port m =
+    send_off (may_send (timing_in (start settings ports)) (start_port settings port m)) true
 
-pub settled-start : (settings : Settings) (ports : List PortSettings) → 1 ≤ settings.hello → IsSettled (start settings ports)
+pub settled-start : (settings : Settings) (ports : List PortSettings) → 1 ≤ settings.hello
+    → IsSettled (start settings ports)
 settled-start settings ports h rule p =
     test_off (asks rule (start settings ports) p) (ports_from 1 settings ports) p
     (all_off (asks rule (start settings ports) p) 1 settings ports (asks_off rule settings ports p h))

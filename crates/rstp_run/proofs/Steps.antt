@@ -1,5 +1,6 @@
 -- Lemmas on single firings and on runs.
-use Rattle.std.proofs.Common.{◌≡◌, ℕ, ◌+◌, ◌≤◌, ◌<◌, true, Some, None, List, [], ◌∷◌, ◌++◌, length, map, take, get_or, slice_get, slice_set, refl, subst, sym, ◌∙◌, ap, arith}
+use Rattle.std.proofs.Common.{◌≡◌, ℕ, ◌+◌, ◌≤◌, ◌<◌, true, Some, None, List, [], ◌∷◌, ◌++◌, length, map, take, get_or}
+use Rattle.std.proofs.Common.{slice_get, slice_set, refl, subst, sym, ◌∙◌, ap, arith}
 use Rattle.std.proofs.lemmas.List.{length-set, length-map, length-append}
 use Rattle.std.specs.Option.{option_map_or}
 use Rattle.std.proofs.lemmas.List.Folds.{list_any_more}
@@ -9,7 +10,8 @@ use Rattle.rstp_state.specs.Selection.{length-selected_ports}
 use Rattle.rstp_roles.specs.AllPorts.{with_sync, with_re_root}
 use Rattle.rstp_roles.specs.RoleTransitions.{without_proposal}
 use Rattle.rstp_run.specs.declared.rule.Rule.{Rule}
-use Rattle.rstp_run.specs.declared.rule.Rule.TheVariants.{Select, Receive, Migration, Detection, Information, Role, State as InState, Topology, Transmit}
+use Rattle.rstp_run.specs.declared.rule.Rule.TheVariants.{Select, Receive, Migration, Detection, Information, Role}
+use Rattle.rstp_run.specs.declared.rule.Rule.TheVariants.{State as InState, Topology, Transmit}
 use Rattle.rstp_roles.specs.declared.rule.RoleRule.TheVariants as role_rule
 use Rattle.rstp_run.specs.declared.rule.TopologyRule.TheVariants as topology_rule
 use Rattle.rstp_run.specs.declared.count.Count.{Count}
@@ -17,18 +19,26 @@ use Rattle.rstp_run.specs.TopologyChange.{telling_others, with_propagation}
 use Rattle.rstp_run.specs.Rules.{Tree, guard, after, ports_after}
 use Rattle.rstp_run.specs.Runs.{Goes, Sweeps, IsIdle, IsOff, AreOffAt, Run, Firing, flushed, flush_after, counted}
 
-pub length-change_at : (p : ℕ) (change : PortState → PortState) (ports : List PortState) → length (change_at p change ports) ≡ length ports
+pub length-change_at : (p : ℕ) (change : PortState → PortState) (ports : List PortState)
+    → length (change_at p change ports) ≡ length ports
 length-change_at p change ports =
-    elim (slice_get ports p) as (λ o. length (option_map_or (λ port. slice_set ports p (change port)) o ports) ≡ length ports)
+    elim (slice_get ports p) as (λ o. length (option_map_or (λ port. slice_set ports p (change port)) o ports)
+    ≡ length ports)
     [ None ↦ refl | Some port ↦ length-set ports p (change port) ]
 
-pub length-telling_others : (p : ℕ) (change : PortState → PortState) (ports : List PortState) → length (telling_others p change ports) ≡ length ports
+pub length-telling_others : (p : ℕ) (change : PortState → PortState) (ports : List PortState)
+    → length (telling_others p change ports) ≡ length ports
 length-telling_others p change ports =
     elim (slice_get ports p) as
-    (λ o. length (option_map_or (λ port. slice_set (map with_propagation ports) p (change port)) o ports) ≡ length ports)
-    [ None ↦ refl | Some port ↦ length-set (map with_propagation ports) p (change port) ∙ length-map ports with_propagation ]
+    (λ o. length (option_map_or (λ port. slice_set (map with_propagation ports) p (change port)) o ports)
+    ≡ length ports) [
+      | None ↦ refl
+      | Some port ↦ length-set (map with_propagation ports) p (change port)
+          ∙ length-map ports with_propagation
+    ]
 
-pub length-proposed : (p : ℕ) (ports : List PortState) → length (change_at p without_proposal (map with_sync ports)) ≡ length ports
+pub length-proposed : (p : ℕ) (ports : List PortState) → length (change_at p without_proposal (map with_sync ports))
+    ≡ length ports
 length-proposed p ports = length-change_at p without_proposal (map with_sync ports) ∙ length-map ports with_sync
 
 pub length-ports_after : (rule : Rule) (s : Tree) (p : ℕ) → length (ports_after rule s p) ≡ length s.ports
@@ -72,7 +82,8 @@ length-ports_after (Topology topology_rule.Flush) s p = length-change_at p _ s.p
 length-ports_after (Transmit rule) s p = length-change_at p _ s.ports
 
 -- one firing goes on from a state
-pub goes-one : (s t : Tree) (a : Count) (rule : Rule) (p : ℕ) → guard rule s p ≡ true → t ≡ after rule s p → a.fired < a.limit → Goes s a t (counted a rule p)
+pub goes-one : (s t : Tree) (a : Count) (rule : Rule) (p : ℕ) → guard rule s p ≡ true → t ≡ after rule s p
+    → a.fired < a.limit → Goes s a t (counted a rule p)
 goes-one s t a rule p holds is below = record {
   firings = record { rule = rule; place = p } ∷ [];
   run = (s, refl, (holds, is));
@@ -97,12 +108,14 @@ goes-both s t u a b c first second = record {
   firings = second.firings ++ first.firings;
   run = run-append first.firings second.firings s t u first.run second.run;
   fired = omega (arith, length-append {A = Firing});
-  flush = second.flush ∙ ap (flushed second.firings) first.flush ∙ sym (flushed-append first.firings second.firings a.flush);
+  flush = second.flush ∙ ap (flushed second.firings) first.flush
+      ∙ sym (flushed-append first.firings second.firings a.flush);
   limit = second.limit ∙ first.limit;
   within = second.within;
 }
 
-pub fires-one : (s t : Tree) (a : Count) (rule : Rule) (p : ℕ) → guard rule s p ≡ true → t ≡ after rule s p → a.fired < a.limit → Sweeps (IsOff rule p) s a t (counted a rule p)
+pub fires-one : (s t : Tree) (a : Count) (rule : Rule) (p : ℕ) → guard rule s p ≡ true → t ≡ after rule s p
+    → a.fired < a.limit → Sweeps (IsOff rule p) s a t (counted a rule p)
 fires-one s t a rule p holds is below = record {
   goes = goes-one s t a rule p holds is below;
   idle = λ none. absurd (omega (arith, none.same));
@@ -110,7 +123,8 @@ fires-one s t a rule p holds is below = record {
 }
 
 -- two sweeps make one
-pub sweeps-both : (P Q R : Tree → Type 0) (s t u : Tree) (a b c : Count) → Sweeps P s a t b → Sweeps Q t b u c → (P s → Q s → R s) → Sweeps R s a u c
+pub sweeps-both : (P Q R : Tree → Type 0) (s t u : Tree) (a b c : Count) → Sweeps P s a t b → Sweeps Q t b u c
+    → (P s → Q s → R s) → Sweeps R s a u c
 sweeps-both P Q R s t u a b c first second joins =
     let goes : Goes s a u c = goes-both s t u a b c first.goes second.goes in
     record {
@@ -131,6 +145,7 @@ sweeps-both P Q R s t u a b c first second joins =
     }
 
 -- one more rule is tried
-pub are_off-more : (rules : List Rule) (s : Tree) (p i : ℕ) (d : Rule) → i < length rules → AreOffAt (take i rules) p s → IsOff (get_or rules i d) p s → AreOffAt (take (i + 1) rules) p s
+pub are_off-more : (rules : List Rule) (s : Tree) (p i : ℕ) (d : Rule) → i < length rules → AreOffAt (take i rules) p s
+    → IsOff (get_or rules i d) p s → AreOffAt (take (i + 1) rules) p s
 are_off-more rules s p i d within before here =
     rw (list_any_more (λ rule. guard rule s p) rules i d within, before) here

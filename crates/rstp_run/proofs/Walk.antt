@@ -10,25 +10,29 @@ use Rattle.rstp_run.specs.declared.rule.InformationRule.{InformationRule}
 use Rattle.rstp_run.specs.declared.rule.Rule.{Rule}
 use Rattle.rstp_run.specs.declared.rule.Rule.TheVariants as rules
 use Rattle.rstp_run.specs.Events.{direct, Happens, ports_at}
-use Rattle.rstp_run.specs.Machines.{receive_asks, receive_does, migration_asks, migration_does, detection_asks, detection_does, information_asks, information_does, transmit_asks, transmit_does}
+use Rattle.rstp_run.specs.Machines.{receive_asks, receive_does, migration_asks, migration_does, detection_asks}
+use Rattle.rstp_run.specs.Machines.{detection_does, information_asks, information_does, transmit_asks, transmit_does}
 use Rattle.rstp_run.specs.RootPort.{Comes}
 use Rattle.rstp_run.specs.Rules.{Tree, guard, after, timing_in}
 use Rattle.rstp_run.specs.Runs.{Firing, Run}
 use Rattle.rstp_run.proofs.Each.{Each, each_map, each_weaker, each_change, each_at}
-use Rattle.rstp_run.proofs.Quiet.{IsQuiet, receive_quiet, migration_quiet, detection_quiet, state_quiet, transmit_quiet, role_quiet, topology_quiet, message_quiet}
+use Rattle.rstp_run.proofs.Quiet.{IsQuiet, receive_quiet, migration_quiet, detection_quiet, state_quiet, transmit_quiet}
+use Rattle.rstp_run.proofs.Quiet.{role_quiet, topology_quiet, message_quiet}
 
 -- P stays where each port goes on by R, which allows what leaves alone what a port knows, the rules of information,
 -- and a second; and P stays over selection.
 pub record Walks (P : Tree → Type 0) (R : Tree → PortState → PortState → Type 0) : Type 0 where
   pub by : (s : Tree) (ports : List PortState) → Each (R s) s.ports ports → P s → P (record s { ports = ports })
   pub quiet : (s : Tree) (a b : PortState) → IsQuiet a b → R s a b
-  pub informed : (s : Tree) (rule : InformationRule) (port : PortState) → information_asks rule port ≡ true → R s port (information_does rule port)
+  pub informed : (s : Tree) (rule : InformationRule) (port : PortState) → information_asks rule port ≡ true
+      → R s port (information_does rule port)
   pub second : (s : Tree) (port : PortState) → R s port (with_second port)
   pub chosen : (s : Tree) (p : ℕ) → P s → P (after rules.Select s p)
 
 -- a rule of one port that leaves alone what it knows
 quiet_at : (asks : PortState → Bool) (does : PortState → PortState) (ports : List PortState) (p : ℕ)
-    → ((port : PortState) → asks port ≡ true → IsQuiet port (does port)) → test_at p asks ports ≡ true → Each IsQuiet ports (change_at p does ports)
+    → ((port : PortState) → asks port ≡ true → IsQuiet port (does port)) → test_at p asks ports ≡ true
+    → Each IsQuiet ports (change_at p does ports)
 quiet_at asks does ports p h g = each_at IsQuiet (λ port. refl) asks does ports p h g
 
 module _ (P : Tree → Type 0) (R : Tree → PortState → PortState → Type 0) (walks : Walks P R) where
@@ -37,26 +41,35 @@ module _ (P : Tree → Type 0) (R : Tree → PortState → PortState → Type 0)
 
   rule_holds : (rule : Rule) (s : Tree) (p : ℕ) → guard rule s p ≡ true → P s → P (after rule s p)
   rule_holds rules.Select s p g k = walks.chosen s p k
-  rule_holds (rules.Receive rule) s p g k = quietly s _ (quiet_at (receive_asks rule) (receive_does rule) s.ports p (receive_quiet rule) g) k
-  rule_holds (rules.Migration rule) s p g k = quietly s _ (quiet_at (migration_asks rule) (migration_does rule) s.ports p (migration_quiet rule) g) k
-  rule_holds (rules.Detection rule) s p g k = quietly s _ (quiet_at (detection_asks rule) (detection_does rule) s.ports p (detection_quiet rule) g) k
+  rule_holds (rules.Receive rule) s p g k = quietly s _
+      (quiet_at (receive_asks rule) (receive_does rule) s.ports p (receive_quiet rule) g) k
+  rule_holds (rules.Migration rule) s p g k = quietly s _
+      (quiet_at (migration_asks rule) (migration_does rule) s.ports p (migration_quiet rule) g) k
+  rule_holds (rules.Detection rule) s p g k = quietly s _
+      (quiet_at (detection_asks rule) (detection_does rule) s.ports p (detection_quiet rule) g) k
   rule_holds (rules.Information rule) s p g k =
-      walks.by s _ (each_at (R s) (λ port. walks.quiet s port port refl) (information_asks rule) (information_does rule) s.ports p (walks.informed s rule) g) k
+      walks.by s _ (each_at (R s) (λ port. walks.quiet s port port refl) (information_asks rule) (information_does rule)
+      s.ports p (walks.informed s rule) g) k
   rule_holds (rules.Role rule) s p g k = quietly s _ (role_quiet rule (timing_in s) s.ports p) k
-  rule_holds (rules.State rule) s p g k = quietly s _ (quiet_at (state_asks rule) (state_does rule) s.ports p (state_quiet rule) g) k
+  rule_holds (rules.State rule) s p g k = quietly s _ (quiet_at (state_asks rule) (state_does rule) s.ports p
+      (state_quiet rule) g) k
   rule_holds (rules.Topology rule) s p g k = quietly s _ (topology_quiet rule (timing_in s) s.ports p) k
   rule_holds (rules.Transmit rule) s p g k =
-      quietly s _ (quiet_at (transmit_asks rule (timing_in s)) (transmit_does rule (timing_in s)) s.ports p (transmit_quiet rule (timing_in s)) g) k
+      quietly s _ (quiet_at (transmit_asks rule (timing_in s)) (transmit_does rule (timing_in s)) s.ports p
+      (transmit_quiet rule (timing_in s)) g) k
 
   run_holds : (firings : List Firing) (s t : Tree) → Run firings s t → P s → P t
   run_holds [] s t run k = subst P (sym run) k
-  run_holds (f ∷ earlier) s t run k = subst P (sym run.2.1) (rule_holds f.rule run.0 f.place run.2.0 (run_holds earlier s run.0 run.1 k))
+  run_holds (f ∷ earlier) s t run k = subst P (sym run.2.1)
+      (rule_holds f.rule run.0 f.place run.2.0 (run_holds earlier s run.0 run.1 k))
 
-  changed : (does : PortState → PortState) (s : Tree) (p : ℕ) → ((port : PortState) → IsQuiet port (does port)) → P s → P (record s { ports = change_at p does s.ports })
+  changed : (does : PortState → PortState) (s : Tree) (p : ℕ) → ((port : PortState) → IsQuiet port (does port)) → P s
+      → P (record s { ports = change_at p does s.ports })
   changed does s p h k = quietly s _ (each_change IsQuiet (λ port. refl) does s.ports p (λ port at. h port)) k
 
   event_holds : (event : Event) (s : Tree) → P s → P (record s { ports = ports_at event s.ports })
-  event_holds (events.Bpdu p message) s k = changed (with_message message) s (p - 1) (λ port. message_quiet (port.received_bpdu || port.received_message) message port) k
+  event_holds (events.Bpdu p message) s k = changed (with_message message) s (p - 1)
+      (λ port. message_quiet (port.received_bpdu || port.received_message) message port) k
   event_holds events.Second s k = walks.by s _ (each_map (R s) with_second (walks.second s) s.ports) k
   event_holds (events.PortUp p) s k = changed (with_enabled true) s (p - 1) (λ port. refl) k
   event_holds (events.PortDown p) s k = changed (with_enabled false) s (p - 1) (λ port. refl) k
@@ -64,10 +77,13 @@ module _ (P : Tree → Type 0) (R : Tree → PortState → PortState → Type 0)
 
   direct_holds : (event : Event) (s : Tree) → P s → P (direct event s)
   direct_holds event s k =
-      event_holds event (record s { ports = map without_slot s.ports }) (quietly s _ (each_map IsQuiet without_slot (λ port. refl) s.ports) k)
+      event_holds event (record s { ports = map without_slot s.ports })
+      (quietly s _ (each_map IsQuiet without_slot (λ port. refl) s.ports) k)
 
-  pub happens_holds : (event : Event) (limit : ℕ) (s t : Tree) (settled : Bool) (mask : ℕ) → Happens event limit s t settled mask → P s → P t
-  happens_holds event limit s t settled mask happens k = run_holds happens.firings (direct event s) t happens.run (direct_holds event s k)
+  pub happens_holds : (event : Event) (limit : ℕ) (s t : Tree) (settled : Bool) (mask : ℕ)
+      → Happens event limit s t settled mask → P s → P t
+  happens_holds event limit s t settled mask happens k =
+      run_holds happens.firings (direct event s) t happens.run (direct_holds event s k)
 
   -- it holds of all that comes by events from a bridge of which it holds
   pub comes_holds : (history : List Event) (s t : Tree) → Comes history s t → P s → P t

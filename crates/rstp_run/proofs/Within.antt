@@ -1,5 +1,7 @@
 -- What an event answers is about ports that are there.
-use Rattle.std.proofs.Common.{◌≡◌, ℕ, zero, suc, ◌+◌, ◌-◌, ◌%◌, ◌^◌, ◌<◌, ◌≤◌, ◌&&◌, ◌||◌, ◌==◌, ◌⊎◌, inl, inr, Bool, true, false, List, [], ◌∷◌, Option, Some, None, All, length, slice_get, refl, sym, ap, ◌∙◌, arith}
+use Rattle.std.proofs.Common.{◌≡◌, ℕ, zero, suc, ◌+◌, ◌-◌, ◌%◌, ◌^◌, ◌<◌, ◌≤◌, ◌&&◌, ◌||◌, ◌==◌, ◌⊎◌, inl, inr, Bool}
+use Rattle.std.proofs.Common.{true, false, List, [], ◌∷◌, Option, Some, None, All, length, slice_get, refl, sym, ap}
+use Rattle.std.proofs.Common.{◌∙◌, arith}
 use Rattle.std.proofs.lemmas.Bool.{eqb-true}
 use Rattle.std.proofs.lemmas.List.Elements.{All-nil, All-cons, All-head, All-tail}
 use Rattle.std.proofs.lemmas.Option.{slice_get_cases}
@@ -31,7 +33,8 @@ place_within : (rule : Rule) (s : Tree) (p : ℕ) → guard rule s p ≡ true �
 place_within rule s p holds =
     elim (slice_get_cases s.ports p).1 [
       | inl (x, within, found, same) ↦ within
-      | inr (past, none) ↦ (let e : false ≡ true = sym (ap (λ o. option_map_or (asks rule s p) o false) none) ∙ holds in let f : ⊥ = cc in absurd f)
+      | inr (past, none) ↦ (let e : false ≡ true = sym (ap (λ o. option_map_or (asks rule s p) o false) none) ∙ holds in
+          let f : ⊥ = cc in absurd f)
     ]
 
 run_length : (firings : List Firing) (s t : Tree) → Run firings s t → length t.ports ≡ length s.ports
@@ -39,7 +42,8 @@ run_length [] s t same = ap (λ (v : Tree). length v.ports) same
 run_length (f ∷ earlier) s t (mid, run, fires) =
     ap (λ (v : Tree). length v.ports) fires.1 ∙ length-ports_after f.rule mid f.place ∙ run_length earlier s mid run
 
-flushes_within : (firings : List Firing) (s t : Tree) (p : ℕ) → Run firings s t → flushes p firings ≡ true → p < length s.ports
+flushes_within : (firings : List Firing) (s t : Tree) (p : ℕ) → Run firings s t → flushes p firings ≡ true
+    → p < length s.ports
 flushes_within [] s t p run h = let e : ⊥ = cc in absurd e
 flushes_within (f ∷ earlier) s t p (mid, run, fires) h =
     elim (either (is_flush f.rule && f.place == p) (flushes p earlier) h) [
@@ -52,7 +56,8 @@ flushes_within (f ∷ earlier) s t p (mid, run, fires) h =
     ]
 
 -- the set has ports alone that are there
-pub flush-within : (event : Event) (limit : ℕ) (s t : Tree) (settled : Bool) (mask : ℕ) → Happens event limit s t settled mask
+pub flush-within : (event : Event) (limit : ℕ) (s t : Tree) (settled : Bool) (mask : ℕ)
+    → Happens event limit s t settled mask
     → (p : ℕ) → has_port mask p ≡ true → IsPort p (length t.ports)
 unfolding has_port
 flush-within event limit s t settled mask happens zero there = let e : ⊥ = cc in absurd e
@@ -70,36 +75,45 @@ IsFrom n many sent = (n ≤ sent.0) × (sent.0 < n + many)
 later : (n many : ℕ) (sent : List (ℕ × Bpdu)) → All (IsFrom (n + 1) many) sent → All (IsFrom n (suc many)) sent
 later n many sent all = all_map (λ e h. (let a = h.0 in let b = h.1 in (omega arith, omega arith))) sent all
   where
-    all_map : ((e : ℕ × Bpdu) → IsFrom (n + 1) many e → IsFrom n (suc many) e) → (es : List (ℕ × Bpdu)) → All (IsFrom (n + 1) many) es → All (IsFrom n (suc many)) es
+    all_map : ((e : ℕ × Bpdu) → IsFrom (n + 1) many e → IsFrom n (suc many) e) → (es : List (ℕ × Bpdu))
+        → All (IsFrom (n + 1) many) es → All (IsFrom n (suc many)) es
     all_map f [] h = All-nil (IsFrom n (suc many))
     all_map f (e ∷ es) h =
-        All-cons (IsFrom n (suc many)) e es (f e (All-head (IsFrom (n + 1) many) e es h)) (all_map f es (All-tail (IsFrom (n + 1) many) e es h))
+        All-cons (IsFrom n (suc many)) e es (f e (All-head (IsFrom (n + 1) many) e es h))
+        (all_map f es (All-tail (IsFrom (n + 1) many) e es h))
 
 first : (n many : ℕ) → (n ≤ n) × (n < n + suc many)
 first n many = (omega arith, omega arith)
 
-with_first : (n many : ℕ) (slot : Option Bpdu) (rest : List (ℕ × Bpdu)) → All (IsFrom n (suc many)) rest → All (IsFrom n (suc many)) (with_sent n slot rest)
+with_first : (n many : ℕ) (slot : Option Bpdu) (rest : List (ℕ × Bpdu)) → All (IsFrom n (suc many)) rest
+    → All (IsFrom n (suc many)) (with_sent n slot rest)
 with_first n many None rest all = all
 with_first n many (Some message) rest all = All-cons (IsFrom n (suc many)) (n, message) rest (first n many) all
 
 sent_within : (n : ℕ) (ports : List PortState) → All (IsFrom n (length ports)) (sent_from n ports)
 sent_within n [] = All-nil (IsFrom n 0)
-sent_within n (x ∷ xs) = with_first n (length xs) x.slot (sent_from (n + 1) xs) (later n (length xs) (sent_from (n + 1) xs) (sent_within (n + 1) xs))
+sent_within n (x ∷ xs) = with_first n (length xs) x.slot (sent_from (n + 1) xs)
+    (later n (length xs) (sent_from (n + 1) xs) (sent_within (n + 1) xs))
 
-at_ports : (ports : List PortState) (sent : List (ℕ × Bpdu)) → All (IsFrom 1 (length ports)) sent → All (λ e. IsPort e.0 (length ports)) sent
+at_ports : (ports : List PortState) (sent : List (ℕ × Bpdu)) → All (IsFrom 1 (length ports)) sent
+    → All (λ e. IsPort e.0 (length ports)) sent
 at_ports ports [] h = All-nil (λ e. IsPort e.0 (length ports))
 at_ports ports (e ∷ es) h =
     let here = All-head (IsFrom 1 (length ports)) e es h in
     let low = here.0 in
     let high = here.1 in
-    All-cons (λ e. IsPort e.0 (length ports)) e es (low, omega arith) (at_ports ports es (All-tail (IsFrom 1 (length ports)) e es h))
+    All-cons (λ e. IsPort e.0 (length ports)) e es (
+      low,
+      omega arith,
+    ) (at_ports ports es (All-tail (IsFrom 1 (length ports)) e es h))
 
 -- what is sent is sent at ports that are there
 pub sent-at_ports : (ports : List PortState) → All (λ e. IsPort e.0 (length ports)) (sent_from 1 ports)
 sent-at_ports ports = at_ports ports (sent_from 1 ports) (sent_within 1 ports)
 
 -- the port at place p has the number p + 1
-number_at : (n : ℕ) (ports : List PortState) (p : ℕ) (port : PortState) → slice_get ports p ≡ Some port → AreNumberedFrom n ports
+number_at : (n : ℕ) (ports : List PortState) (p : ℕ) (port : PortState) → slice_get ports p ≡ Some port
+    → AreNumberedFrom n ports
     → port_number port.identifier ≡ (n + p) % 2 ^ 12
 number_at n [] p port at h = let e : ⊥ = cc in absurd e
 number_at n (x ∷ xs) zero port at h =
@@ -113,17 +127,20 @@ number_at n (x ∷ xs) (suc p) port at h =
 small : (p : ℕ) → 1 ≤ p → p < 2 ^ 8 → (1 + (p - 1)) % 2 ^ 12 ≡ p
 small p low high = omega arith
 
-pub port-number : (ports : List PortState) (p : ℕ) (port : PortState) → 1 ≤ p → p < 2 ^ 8 → slice_get ports (p - 1) ≡ Some port → AreNumberedFrom 1 ports
+pub port-number : (ports : List PortState) (p : ℕ) (port : PortState) → 1 ≤ p → p < 2 ^ 8
+    → slice_get ports (p - 1) ≡ Some port → AreNumberedFrom 1 ports
     → port_number port.identifier ≡ p
 port-number ports p port low high at h = number_at 1 ports (p - 1) port at h ∙ small p low high
 
-pub length-start : (settings : Settings) (ports : List PortSettings) → 1 ≤ length ports → 1 ≤ length (start settings ports).ports
+pub length-start : (settings : Settings) (ports : List PortSettings) → 1 ≤ length ports
+    → 1 ≤ length (start settings ports).ports
 length-start settings [] some = let e : ⊥ = omega arith in absurd e
 length-start settings (x ∷ xs) some = omega arith
 
 swapped : (p : ℕ) → 1 + p ≡ p + 1
 swapped p = omega arith
 
-pub number-at : (ports : List PortState) (p : ℕ) (port : PortState) → slice_get ports p ≡ Some port → AreNumberedFrom 1 ports
+pub number-at : (ports : List PortState) (p : ℕ) (port : PortState) → slice_get ports p ≡ Some port
+    → AreNumberedFrom 1 ports
     → port_number port.identifier ≡ (p + 1) % 2 ^ 12
 number-at ports p port at h = number_at 1 ports p port at h ∙ ap (λ m. m % 2 ^ 12) (swapped p)

@@ -16,7 +16,8 @@ use Rattle.rstp_run.specs.declared.class.Class.TheVariants as class
 abbrev pub designated_class : PortState → Message → Class
 designated_class port message =
     if superior (vector_of message) (times_of message) port.port_priority port.port_times then class.Superior
-    else (if same_vector (vector_of message) port.port_priority && (same_times (times_of message) port.port_times && is_received port.info_is)
+    else (if same_vector (vector_of message) port.port_priority
+    && (same_times (times_of message) port.port_times && is_received port.info_is)
     then class.Repeated
     else (if is_less port.port_priority (vector_of message) then class.Inferior else class.Other))
 

@@ -1,5 +1,6 @@
 -- What an event may do to a bridge, and what it answers.
-use Rattle.std.specs.Prelude.{ℕ, Bool, true, false, ◌≡◌, ◌⊎◌, ◌↔◌, ◌+◌, ◌*◌, ◌≤◌, ◌&&◌, ◌==◌, List, [], ◌∷◌, length, map, Option, Some, None, IsTrue}
+use Rattle.std.specs.Prelude.{ℕ, Bool, true, false, ◌≡◌, ◌⊎◌, ◌↔◌, ◌+◌, ◌*◌, ◌≤◌, ◌&&◌, ◌==◌, List, [], ◌∷◌, length}
+use Rattle.std.specs.Prelude.{map, Option, Some, None, IsTrue}
 use Rattle.std.specs.List.{list_any}
 use Rattle.ether_wire.specs.Ports.{has_port, place_of_port}
 use Rattle.bpdu_wire.specs.declared.bpdu.Bpdu as bpdu

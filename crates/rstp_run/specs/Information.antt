@@ -1,6 +1,7 @@
 -- The information rules (IEEE 802.1D-2004, 17.27, in this project's own table).
 use Rattle.std.specs.Prelude.{ℕ, Bool, true, false, not, ◌&&◌, ◌||◌, ◌==◌, ◌*◌, nat_lt, if◌then◌else◌, Option, Some}
-use Rattle.bpdu_wire.specs.declared.flags.TheConstants.{AGREEMENT, CHANGE_ACKNOWLEDGEMENT, LEARNING, PROPOSAL, TOPOLOGY_CHANGE}
+use Rattle.bpdu_wire.specs.declared.flags.TheConstants.{AGREEMENT, CHANGE_ACKNOWLEDGEMENT, LEARNING, PROPOSAL}
+use Rattle.bpdu_wire.specs.declared.flags.TheConstants.{TOPOLOGY_CHANGE}
 use Rattle.bpdu_wire.specs.declared.bpdu.Message.{Message}
 use Rattle.bpdu_wire.specs.declared.bpdu.Bpdu.{Bpdu}
 use Rattle.bpdu_wire.specs.declared.bpdu.Bpdu.TheVariants.{Config, Rst, Tcn}
@@ -159,7 +160,8 @@ superior_guard port = may_take port && is_superior (class_of port)
 -- the port still agrees: the new vector is no worse than the received one before
 abbrev pub keeps_agree : PortState → Bool
 keeps_agree port =
-    port.agree && (is_received port.info_is && not (is_less port.port_priority (vector_or port.port_priority port.message)))
+    port.agree && (is_received port.info_is && not (is_less port.port_priority
+    (vector_or port.port_priority port.message)))
 
 abbrev pub with_superior_flags : PortState → PortState
 with_superior_flags port = record port {

@@ -13,7 +13,8 @@ use Rattle.rstp_run.specs.Runs.{IsSettled}
 abbrev pub Comes : List Event → Tree → Tree → Type 0
 Comes [] s t = t ≡ s
 Comes (event ∷ earlier) s t =
-    (mid : Tree) × (limit : ℕ) × (settled : Bool) × (mask : ℕ) × Comes earlier s mid × Happens event limit mid t settled mask
+    (mid : Tree) × (limit : ℕ) × (settled : Bool) × (mask : ℕ) × Comes earlier s mid
+    × Happens event limit mid t settled mask
 
 -- a bridge of these settings may come to this state
 abbrev pub CanBe : Settings → List PortSettings → Tree → Type 0

@@ -19,7 +19,8 @@ IsReached s = (settings : Settings) × (ports : List PortSettings) × CanBe sett
 
 -- a fact of each port of a settled bridge
 abbrev pub OfSettledPorts : (Tree → PortState → Type 0) → Type 0
-OfSettledPorts fact = (s : Tree) → IsReached s → IsSettled s → (p : ℕ) (port : PortState) → IsAtPlace s p port → fact s port
+OfSettledPorts fact = (s : Tree) → IsReached s → IsSettled s → (p : ℕ) (port : PortState) → IsAtPlace s p port
+    → fact s port
 
 -- it sends the root's vector, as its bridge and itself, and the root's times
 pub record Sends (s : Tree) (port : PortState) : Type 0 where
@@ -45,7 +46,8 @@ PassingIsInTree = (s : Tree) → IsReached s → (p : ℕ) → Passes s p → Is
 -- the port at place p has the number p + 1, of 12 bits
 abbrev pub PortsAreNumbered : Type 0
 PortsAreNumbered =
-    (s : Tree) → IsReached s → (p : ℕ) (port : PortState) → IsAtPlace s p port → port_number port.identifier ≡ (p + 1) % 2 ^ 12
+    (s : Tree) → IsReached s → (p : ℕ) (port : PortState) → IsAtPlace s p port
+    → port_number port.identifier ≡ (p + 1) % 2 ^ 12
 
 -- a bridge is settled where no rule of the two lists is enabled at any of its ports
 abbrev pub SettledByLists : Type 0

@@ -1,5 +1,6 @@
 -- The least of a list by a total order, as one pass finds it.
-use Rattle.std.proofs.Common.{◌≡◌, zero, suc, Bool, true, false, not, ◌&&◌, cond, List, [], ◌∷◌, Some, unwrap_or, find, Contains, refl, sym, ap, ◌∙◌, arith}
+use Rattle.std.proofs.Common.{◌≡◌, zero, suc, Bool, true, false, not, ◌&&◌, cond, List, [], ◌∷◌, Some, unwrap_or, find}
+use Rattle.std.proofs.Common.{Contains, refl, sym, ap, ◌∙◌, arith}
 use Rattle.std.specs.Cmp.{IsTotalOrder}
 use Rattle.std.specs.List.{list_all}
 use Rattle.std.specs.Ordering.{is_lt, ord_min, ordering_reverse}
@@ -40,13 +41,20 @@ true_not b h = ap not h
 all_at : {X : Type 0} (test : X → Bool) (xs : List X) (x : X) → list_all test xs ≡ true → Contains xs x → test x ≡ true
 all_at test [] x h (k, within, at) = absurd (omega arith)
 all_at test (y ∷ xs) x h (zero, within, at) = ap test (sym at) ∙ (both (test y) (list_all test xs) h).0
-all_at test (y ∷ xs) x h (suc k, within, at) = all_at test xs x (both (test y) (list_all test xs) h).1 (k, omega arith, at)
+all_at test (y ∷ xs) x h (suc k, within, at) = all_at test xs x (both (test y) (list_all test xs) h).1 (
+  k,
+  omega arith,
+  at,
+)
 
 -- the first element passes, and is then the only one, or the rest decides
-find_after : {X : Type 0} (test : X → Bool) (y : X) (xs : List X) (x d : X) (b : Bool) → b ≡ test y → Contains (y ∷ xs) x → test x ≡ true
-    → (test y ≡ true → y ≡ x) → (Contains xs x → unwrap_or (find test xs) d ≡ x) → unwrap_or (cond b (Some y) (find test xs)) d ≡ x
+find_after : {X : Type 0} (test : X → Bool) (y : X) (xs : List X) (x d : X) (b : Bool) → b ≡ test y
+    → Contains (y ∷ xs) x → test x ≡ true
+    → (test y ≡ true → y ≡ x) → (Contains xs x → unwrap_or (find test xs) d ≡ x)
+    → unwrap_or (cond b (Some y) (find test xs)) d ≡ x
 find_after test y xs x d true e among passes only rest = only (sym e)
-find_after test y xs x d false e (zero, within, at) passes only rest = let no : false ≡ true = e ∙ ap test at ∙ passes in cc
+find_after test y xs x d false e (zero, within, at) passes only rest = let no : false ≡ true = e ∙ ap test at
+    ∙ passes in cc
 find_after test y xs x d false e (suc k, within, at) passes only rest = rest (k, omega arith, at)
 
 -- the only element that passes is found
@@ -55,7 +63,8 @@ pub find_only : {X : Type 0} (test : X → Bool) (xs : List X) (x d : X) → Con
 find_only test [] x d (k, within, at) passes only = absurd (omega arith)
 find_only test (y ∷ xs) x d among passes only =
     find_after test y xs x d (test y) refl among passes (only y (contains_first y xs))
-    (λ later. find_only test xs x d later passes (λ z in_rest z_passes. only z (contains_later y xs z in_rest) z_passes))
+    (λ later. find_only test xs x d later passes (λ z in_rest z_passes. only z (contains_later y xs z in_rest)
+    z_passes))
 
 -- ---- a total order
 
@@ -111,15 +120,18 @@ module _ {X : Type 0} {R : X → X → Ordering} (o : IsTotalOrder R) where
 
   pub least_among : (best : X) (xs : List X) → Contains (best ∷ xs) (least R best xs)
   least_among best [] = contains_first best []
-  least_among best (x ∷ xs) = pick (is_lt (R x best)) best x xs (least R (ord_min R best x) xs) (least_among (ord_min R best x) xs)
+  least_among best (x ∷ xs) = pick (is_lt (R x best)) best x xs (least R (ord_min R best x) xs)
+      (least_among (ord_min R best x) xs)
 
   tie_at : (a b : X) (r : Ordering) → r ≡ R a b → is_lt r ≡ false → is_lt (R b a) ≡ false → r ≡ Equal
   tie_at a b Less e h k = cc
   tie_at a b Equal e h k = refl
-  tie_at a b Greater e h k = let less : true ≡ false = sym (ap is_lt (o.antisymm b a ∙ ap ordering_reverse (sym e))) ∙ k in cc
+  tie_at a b Greater e h k = let less : true ≡ false = sym (ap is_lt (o.antisymm b a ∙ ap ordering_reverse (sym e)))
+      ∙ k in cc
 
   -- two elements than which none is less are as good as each other
   pub tie : (xs : List X) (a b : X) → Contains xs a → list_all (λ y. not (is_lt (R y a))) xs ≡ true
       → Contains xs b → list_all (λ y. not (is_lt (R y b))) xs ≡ true → R a b ≡ Equal
   tie xs a b in_a least_a in_b least_b =
-      tie_at a b (R a b) refl (not_true _ (all_at (λ y. not (is_lt (R y b))) xs a least_b in_a)) (not_true _ (all_at (λ y. not (is_lt (R y a))) xs b least_a in_b))
+      tie_at a b (R a b) refl (not_true _ (all_at (λ y. not (is_lt (R y b))) xs a least_b in_a))
+      (not_true _ (all_at (λ y. not (is_lt (R y a))) xs b least_a in_b))

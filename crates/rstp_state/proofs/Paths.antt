@@ -66,7 +66,8 @@ least_of_candidates s ports = record {
 }
 
 -- the least of the candidates is the one that the definition names
-pub least_is_best : (s : Settings) (ports : List PortState) (path : Path) → IsLeastOf (candidates s ports) path → path ≡ best_path s ports
+pub least_is_best : (s : Settings) (ports : List PortState) (path : Path) → IsLeastOf (candidates s ports) path
+    → path ≡ best_path s ports
 unfolding best_path
 least_is_best s ports path h =
     sym (find_only (is_least (candidates s ports)) (candidates s ports) path (own_path s) h.among h.least

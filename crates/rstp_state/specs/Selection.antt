@@ -1,5 +1,6 @@
 -- How a bridge selects its root and its ports' roles (IEEE 802.1D-2004, 17.21.25).
-use Rattle.std.specs.Prelude.{◌≡◌, length, ℕ, Bool, true, false, not, ◌&&◌, ◌==◌, ◌+◌, min, if◌then◌else◌, List, ◌∷◌, map, find, Option, Some, None, unwrap_or, option_and_then, slice_get, Contains}
+use Rattle.std.specs.Prelude.{◌≡◌, length, ℕ, Bool, true, false, not, ◌&&◌, ◌==◌, ◌+◌, min, if◌then◌else◌, List, ◌∷◌}
+use Rattle.std.specs.Prelude.{map, find, Option, Some, None, unwrap_or, option_and_then, slice_get, Contains}
 use Rattle.std.proofs.Common.{◌∙◌}
 use Rattle.std.proofs.lemmas.List.{length-map}
 use Rattle.std.proofs.lemmas.List.FromFn.{length-enumerate_from}
@@ -28,7 +29,8 @@ use Rattle.rstp_state.specs.Vector.{vector_cmp, is_less, same_vector, same_times
 -- The vectors decide, and then the receiving ports' identifiers. Only where these were the same too
 -- would the places decide.
 abbrev pub path_cmp : Path → Path → Ordering
-path_cmp a b = ordering_then (vector_cmp a.vector b.vector) (ordering_then (nat_cmp a.port b.port) (option_cmp nat_cmp a.place b.place))
+path_cmp a b = ordering_then (vector_cmp a.vector b.vector)
+    (ordering_then (nat_cmp a.port b.port) (option_cmp nat_cmp a.place b.place))
 
 -- the root of a bridge that takes itself for it
 abbrev pub own_root : Settings → Root
@@ -40,7 +42,8 @@ own_path s = record { vector = own_vector s 0; port = 0; place = None }
 
 -- the port was told of a root by another bridge
 abbrev pub is_told : Settings → PortState → Bool
-is_told s port = is_received port.info_is && not (bridge_address port.port_priority.bridge == bridge_address s.identifier)
+is_told s port = is_received port.info_is && not (bridge_address port.port_priority.bridge == bridge_address
+    s.identifier)
 
 -- the port's vector with the port's cost added; sums stop at the greatest cost
 abbrev pub path_through : ℕ → PortState → Path
@@ -80,14 +83,20 @@ times_beyond t = record t { message_age = min (t.message_age + 1) MOST_TIME }
 abbrev pub root_along : Settings → List PortState → Path → Root
 root_along s ports path = record {
   priority = path.vector;
-  times = option_map_or (λ port. times_beyond port.port_times) (option_and_then (slice_get ports) path.place) (own_times s);
+  times = option_map_or (λ port. times_beyond port.port_times) (option_and_then (slice_get ports) path.place)
+      (own_times s);
 }
 
 -- ---- the ports
 
 -- what the bridge itself sends at the port with this identifier
 abbrev pub designated_vector : Settings → Root → ℕ → Vector
-designated_vector s root port = record { root = root.priority.root; cost = root.priority.cost; bridge = s.identifier; port = port }
+designated_vector s root port = record {
+  root = root.priority.root;
+  cost = root.priority.cost;
+  bridge = s.identifier;
+  port = port;
+}
 
 -- the root's times, with the bridge's own Hello time
 abbrev pub designated_times : Settings → Root → Times
@@ -123,7 +132,8 @@ is_own s port = bridge_address port.port_priority.bridge == bridge_address s.ide
 -- what the bridge sends at the port is what the port knows
 abbrev pub is_same : Settings → Root → PortState → Bool
 is_same s root port =
-    same_vector port.port_priority (designated_vector s root port.identifier) && same_times port.port_times (designated_times s root)
+    same_vector port.port_priority (designated_vector s root port.identifier)
+    && same_times port.port_times (designated_times s root)
 
 abbrev pub with_choice : Settings → Root → Bool → PortState → PortState
 with_choice s root is_root_port port = record port {

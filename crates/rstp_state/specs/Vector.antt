@@ -22,7 +22,8 @@ abbrev pub same_vector : Vector → Vector → Bool
 same_vector a b = a.root == b.root && (a.cost == b.cost && (a.bridge == b.bridge && a.port == b.port))
 
 abbrev pub same_times : Times → Times → Bool
-same_times a b = a.message_age == b.message_age && (a.max_age == b.max_age && (a.hello == b.hello && a.forward_delay == b.forward_delay))
+same_times a b = a.message_age == b.message_age && (a.max_age == b.max_age
+    && (a.hello == b.hello && a.forward_delay == b.forward_delay))
 
 -- a message's vector
 abbrev pub vector_of : Message → Vector

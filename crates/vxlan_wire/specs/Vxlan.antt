@@ -1,5 +1,6 @@
 -- The VXLAN header (RFC 7348, section 5): flags 1, reserved 3, VNI 3, reserved 1.
-use Rattle.std.specs.Prelude.{ℕ, ◌/◌, ◌%◌, Bool, not, ◌==◌, nat_lt, List, [], ◌∷◌, ◌++◌, length, drop, slice_index, Result}
+use Rattle.std.specs.Prelude.{ℕ, ◌/◌, ◌%◌, Bool, not, ◌==◌, nat_lt, List, [], ◌∷◌, ◌++◌, length, drop, slice_index}
+use Rattle.std.specs.Prelude.{Result}
 use Rattle.byteorder.specs.Endian.{big_number, big_bytes}
 use Rattle.ether_wire.specs.Frame.{first_of, read_as}
 use Rattle.vxlan_wire.specs.declared.vxlan.TheConstants.{HEADER_LEN, VNI_PLACE, INSTANCE_FLAG, TOO_SHORT, NO_INSTANCE}

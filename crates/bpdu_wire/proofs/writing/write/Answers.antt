@@ -8,7 +8,8 @@ returns-in-Config-clause-again c = λ rest.
 
 pub returns-in-Rst-clause-again : goal.returns-in-Rst-clause-again
 returns-in-Rst-clause-again c = λ rest.
-    let again = rst_again c.in-Rst.message rest c.put_message-in-Rst.ensures.vector c.put_message-in-Rst.ensures.times in
+    let again = rst_again c.in-Rst.message rest c.put_message-in-Rst.ensures.vector
+    c.put_message-in-Rst.ensures.times in
     rw (c.put_message-in-Rst.ensures.items, c.new-out.ensures, c.in-Rst.is) again
 
 pub returns-in-Tcn-clause-again : goal.returns-in-Tcn-clause-again

@@ -7,7 +7,8 @@ pub returns : goal.returns
 unfolding bpdu_frame_of
 returns c =
     let size = length c.args.bpdu.now in
-    let header : c.copy_from_slice.new.self ≡ bpdu_header c.args.source size = c.copy_from_slice.ensures.after ∙ c.header.ensures in
+    let header : c.copy_from_slice.new.self ≡ bpdu_header c.args.source size = c.copy_from_slice.ensures.after
+    ∙ c.header.ensures in
     let body = c.copy_from_slice-2.ensures.after in
     three_parts c.args.frame.now c.copy_from_slice.new.self c.copy_from_slice-2.new.self c.fill.new.self size
     c.told-frame (ap length header) (ap length body) c.requires (c.fill.ensures.after (λ y is. is))

@@ -6,7 +6,8 @@ use Rattle.ether_wire.proofs.ports.put_later.Given as goal
 -- what is written and what is still to be written is what was to be written
 abbrev pub invariant-loop-next : goal.invariant-loop-next
 invariant-loop-next g l = record {
-  same : with_text (g.O.Out.end l.out) (comma_text (ports_after l.set l.port)) ≡ with_text (g.O.Out.end l.initial.out) (comma_text (ports_after l.set l.first));
+  same : with_text (g.O.Out.end l.out) (comma_text (ports_after l.set l.port))
+      ≡ with_text (g.O.Out.end l.initial.out) (comma_text (ports_after l.set l.first));
   failures : (g.O.Out.end l.out).failures ≡ (g.O.Out.end l.initial.out).failures;
 }
 

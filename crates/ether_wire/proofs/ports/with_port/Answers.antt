@@ -9,4 +9,5 @@ unfolding with_port
 returns-clause-value c = ap (bit_or c.args.set) (shifted_one c.args.port c.requires)
 
 pub returns-clause-ports : goal.returns-clause-ports
-returns-clause-ports c p = ap (λ s. has_port s p) (returns-clause-value c) ∙ has_port-with c.args.set c.args.port c.requires p
+returns-clause-ports c p = ap (λ s. has_port s p) (returns-clause-value c)
+    ∙ has_port-with c.args.set c.args.port c.requires p

@@ -9,4 +9,5 @@ unfolding without_port
 returns-clause-value c = ap (λ n. bit_and c.args.set (18446744073709551615 - n)) (shifted_one c.args.port c.requires)
 
 pub returns-clause-ports : goal.returns-clause-ports
-returns-clause-ports c p = ap (λ s. has_port s p) (returns-clause-value c) ∙ has_port-without c.args.set c.args.port c.ranges.set.fits c.requires p
+returns-clause-ports c p = ap (λ s. has_port s p) (returns-clause-value c)
+    ∙ has_port-without c.args.set c.args.port c.ranges.set.fits c.requires p

@@ -6,7 +6,8 @@ pub unreachable-requires : goal.unreachable-requires
 unreachable-requires c =
     let test = c.loop-offset-test.true in
     let counter = c.counter.ensures in
-    no_gap c.args.edge.now.claims.voice c.args.before c.loop-offset.offset c.requires.numbered (omega (arith, test, counter)) c.in_default.ensures.none
+    no_gap c.args.edge.now.claims.voice c.args.before c.loop-offset.offset c.requires.numbered
+    (omega (arith, test, counter)) c.in_default.ensures.none
 
 pub loop-offset-preserved : goal.loop-offset-preserved
 loop-offset-preserved c = record {
@@ -14,7 +15,10 @@ loop-offset-preserved c = record {
       let test = c.loop-offset-test.true in
       let counter = c.counter.ensures in
       let all = h.all in
-      let next = next_own c.args.edge.now.claims.voice c.always_good.ensures.claims.numbers c.args.before own h c.loop-offset.offset (omega (arith, test, counter, all)) c.in-Some.update c.in-Some.ensures.some in
-      c.push_reserved.ensures.items ∙ ap (λ xs. xs ++ c.in-Some.update ∷ []) (c.loop-offset.invariant.items own h) ∙ append_assoc c.args.journal.now.items _ (c.in-Some.update ∷ []) ∙ ap (λ xs. c.args.journal.now.items ++ xs) (sym next);
+      let next = next_own c.args.edge.now.claims.voice c.always_good.ensures.claims.numbers c.args.before own h
+      c.loop-offset.offset (omega (arith, test, counter, all)) c.in-Some.update c.in-Some.ensures.some in
+      c.push_reserved.ensures.items ∙ ap (λ xs. xs ++ c.in-Some.update ∷ []) (c.loop-offset.invariant.items own h)
+      ∙ append_assoc c.args.journal.now.items _ (c.in-Some.update ∷ [])
+      ∙ ap (λ xs. c.args.journal.now.items ++ xs) (sym next);
   room = search rules;
 }

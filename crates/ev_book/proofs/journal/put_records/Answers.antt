@@ -13,9 +13,13 @@ loop-update-preserved g c =
     let us = c.args.updates.now in
     let i = c.loop-update.update-index in
     let u : Fields = c.update-item.result in
-    let next : take (i + 1) us ≡ take i us ++ u ∷ [] = ap (λ n. take n us) (add-one i) ∙ take-suc us i u c.loop-update-test.true ∙ ap (λ x. take i us ++ x ∷ []) (sym c.update-item.is) in
-    let more : records_of (take (i + 1) us) ≡ records_of (take i us) ++ spelling_of u = ap records_of next ∙ records-push (take i us) u in
-    let last : (rest : List ℕ) → Reads (spelling_of u ++ rest) (Ok u ∷ []) rest = λ rest. subst (λ (b : List ℕ). Reads (b ++ rest) (Ok u ∷ []) rest) c.write-record.ensures.octets (c.write-record.ensures.again rest) in
+    let next : take (i + 1) us ≡ take i us ++ u ∷ [] = ap (λ n. take n us) (add-one i)
+    ∙ take-suc us i u c.loop-update-test.true ∙ ap (λ x. take i us ++ x ∷ []) (sym c.update-item.is) in
+    let more : records_of (take (i + 1) us) ≡ records_of (take i us) ++ spelling_of u = ap records_of next
+    ∙ records-push (take i us) u in
+    let last : (rest : List ℕ) → Reads (spelling_of u ++ rest) (Ok u ∷ []) rest =
+    λ rest. subst (λ (b : List ℕ). Reads (b ++ rest) (Ok u ∷ []) rest) c.write-record.ensures.octets
+    (c.write-record.ensures.again rest) in
     record {
       written = search (rules, more, with_text_twice);
       failed = search rules;

@@ -15,17 +15,25 @@ use Rattle.ev_book.proofs.Reaching.{still_holds}
 use Rattle.ev_book.proofs.Stepping.{own_in, are_own, still_table, touched_by_there}
 use Rattle.ev_book.proofs.journal.step_within.Goals as goal
 
-owned : (e : Edge) (event : Event) (result : Result Reply edges.Refusal) (e' : Edge) (before : ℕ) → before ≡ e.claims.voice.counter → (h : Changes e event result e') → AreOwnSince e'.claims.voice before (own_in h)
+owned : (e : Edge) (event : Event) (result : Result Reply edges.Refusal) (e' : Edge) (before : ℕ)
+    → before ≡ e.claims.voice.counter → (h : Changes e event result e') → AreOwnSince e'.claims.voice before (own_in h)
 owned e event result e' before is h = subst (λ n. AreOwnSince e'.claims.voice n (own_in h)) (sym is) (are_own h)
 
 pub append_own-requires-clause-numbered : goal.append_own-requires-clause-numbered
 append_own-requires-clause-numbered c =
-    let h = steps_change c.args.edge.now c.args.event.now (answered c.step_into-answer.result c.step_into-answer.new.reply) c.step_into-answer.new.self c.always_good.ensures c.step_into-answer.ensures in
-    (own_in h, owned c.args.edge.now c.args.event.now (answered c.step_into-answer.result c.step_into-answer.new.reply) c.step_into-answer.new.self c.counter-before.result c.counter-before.ensures h)
+    let h = steps_change c.args.edge.now c.args.event.now
+    (answered c.step_into-answer.result c.step_into-answer.new.reply) c.step_into-answer.new.self
+    c.always_good.ensures c.step_into-answer.ensures in (
+      own_in h,
+      owned c.args.edge.now c.args.event.now (answered c.step_into-answer.result c.step_into-answer.new.reply)
+          c.step_into-answer.new.self c.counter-before.result c.counter-before.ensures h,
+    )
 
 pub append_own-requires-clause-room : goal.append_own-requires-clause-room
 append_own-requires-clause-room c =
-    let h = steps_change c.args.edge.now c.args.event.now (answered c.step_into-answer.result c.step_into-answer.new.reply) c.step_into-answer.new.self c.always_good.ensures c.step_into-answer.ensures in
+    let h = steps_change c.args.edge.now c.args.event.now
+    (answered c.step_into-answer.result c.step_into-answer.new.reply) c.step_into-answer.new.self
+    c.always_good.ensures c.step_into-answer.ensures in
     let few = h.few in
     let counter = h.counter in
     let before = c.counter-before.ensures in
@@ -34,15 +42,27 @@ append_own-requires-clause-room c =
     let capacity = c.append_taken.ensures.capacity in
     omega (arith, few, counter, before, room, len, capacity)
 
-changes : (c : goal.After-append_own) → Changes c.args.edge.now c.args.event.now (answered c.step_into-answer.result c.step_into-answer.new.reply) c.step_into-answer.new.self
-changes c = steps_change c.args.edge.now c.args.event.now (answered c.step_into-answer.result c.step_into-answer.new.reply) c.step_into-answer.new.self c.always_good.ensures c.step_into-answer.ensures
+changes : (c : goal.After-append_own) → Changes c.args.edge.now c.args.event.now
+    (answered c.step_into-answer.result c.step_into-answer.new.reply) c.step_into-answer.new.self
+changes c = steps_change c.args.edge.now c.args.event.now
+    (answered c.step_into-answer.result c.step_into-answer.new.reply) c.step_into-answer.new.self c.always_good.ensures
+    c.step_into-answer.ensures
 
-written : (c : goal.After-append_own) → c.append_own.new.journal.items ≡ c.args.journal.now.items ++ (accepted c.args.event.now (answered c.step_into-answer.result c.step_into-answer.new.reply) ++ own_in (changes c))
+written : (c : goal.After-append_own) → c.append_own.new.journal.items ≡ c.args.journal.now.items
+    ++ (accepted c.args.event.now (answered c.step_into-answer.result c.step_into-answer.new.reply)
+    ++ own_in (changes c))
 written c =
-    c.append_own.ensures (own_in (changes c)) (owned c.args.edge.now c.args.event.now (answered c.step_into-answer.result c.step_into-answer.new.reply) c.step_into-answer.new.self c.counter-before.result c.counter-before.ensures (changes c)) ∙ ap (λ (xs : List Fields). xs ++ own_in (changes c)) (c.append_taken.ensures.items c.step_into-answer.new.reply)
-    ∙ append_assoc c.args.journal.now.items (accepted c.args.event.now (answered c.step_into-answer.result c.step_into-answer.new.reply)) (own_in (changes c))
+    c.append_own.ensures (own_in (changes c)) (owned c.args.edge.now c.args.event.now
+    (answered c.step_into-answer.result c.step_into-answer.new.reply) c.step_into-answer.new.self
+    c.counter-before.result c.counter-before.ensures (changes c))
+    ∙ ap (λ (xs : List Fields). xs ++ own_in (changes c))
+    (c.append_taken.ensures.items c.step_into-answer.new.reply)
+    ∙ append_assoc c.args.journal.now.items (accepted c.args.event.now
+    (answered c.step_into-answer.result c.step_into-answer.new.reply)) (own_in (changes c))
 
-grown : (c : goal.After-append_own) → IsTableOf (c.args.journal.now.items ++ (accepted c.args.event.now (answered c.step_into-answer.result c.step_into-answer.new.reply) ++ own_in (changes c))) (table_of c.step_into-answer.new.self)
+grown : (c : goal.After-append_own) → IsTableOf (c.args.journal.now.items
+    ++ (accepted c.args.event.now (answered c.step_into-answer.result c.step_into-answer.new.reply)
+    ++ own_in (changes c))) (table_of c.step_into-answer.new.self)
 grown c = still_table c.args.journal.now.items (changes c) c.requires.table
 
 pub returns-clause-grows : goal.returns-clause-grows
@@ -57,10 +77,16 @@ pub returns-clause-table : goal.returns-clause-table
 returns-clause-table c = subst (λ us. IsTableOf us (table_of c.step_into-answer.new.self)) (sym (written c)) (grown c)
 
 pub returns-clause-registers : goal.returns-clause-registers
-returns-clause-registers c = no_fewer c.args.journal.now.items (accepted c.args.event.now (answered c.step_into-answer.result c.step_into-answer.new.reply) ++ own_in (changes c)) (table_of c.args.edge.now) (table_of c.step_into-answer.new.self) c.requires.table (grown c)
+returns-clause-registers c = no_fewer c.args.journal.now.items
+    (accepted c.args.event.now (answered c.step_into-answer.result c.step_into-answer.new.reply) ++ own_in (changes c))
+    (table_of c.args.edge.now) (table_of c.step_into-answer.new.self) c.requires.table (grown c)
 
 pub returns-clause-marks : goal.returns-clause-marks
-returns-clause-marks c = still_holds c.args.journal.now.items (accepted c.args.event.now (answered c.step_into-answer.result c.step_into-answer.new.reply) ++ own_in (changes c)) (table_of c.args.edge.now) (table_of c.step_into-answer.new.self) c.requires.table (grown c)
+returns-clause-marks c = still_holds c.args.journal.now.items
+    (accepted c.args.event.now (answered c.step_into-answer.result c.step_into-answer.new.reply) ++ own_in (changes c))
+    (table_of c.args.edge.now) (table_of c.step_into-answer.new.self) c.requires.table (grown c)
 
 pub returns-clause-mark : goal.returns-clause-mark
-returns-clause-mark c = touched_by_there c.args.edge.now c.args.event.now (answered c.step_into-answer.result c.step_into-answer.new.reply) c.step_into-answer.new.self c.args.journal.now.items (own_in (changes c)) c.step_into-answer.ensures (grown c)
+returns-clause-mark c = touched_by_there c.args.edge.now c.args.event.now
+    (answered c.step_into-answer.result c.step_into-answer.new.reply) c.step_into-answer.new.self
+    c.args.journal.now.items (own_in (changes c)) c.step_into-answer.ensures (grown c)

@@ -1,4 +1,5 @@
-use Rattle.std.proofs.Common.{◌≡◌, ◌≤◌, ◌∷◌, [], ℕ, zero, suc, List, refl, ap, sym, subst, ◌∙◌, length, Contains, eqb, arith, lit<, lit≤}
+use Rattle.std.proofs.Common.{◌≡◌, ◌≤◌, ◌∷◌, [], ℕ, zero, suc, List, refl, ap, sym, subst, ◌∙◌, length, Contains, eqb}
+use Rattle.std.proofs.Common.{arith, lit<, lit≤}
 use Rattle.std.proofs.lemmas.List.{length-map}
 use Rattle.std.specs.List.{IsDistinct}
 use Rattle.route_join.specs.Table.{AreOriginators}
@@ -34,7 +35,8 @@ returns c = record {
   listed = subst (λ xs. Contains xs c.new.result) (sym c.originators.ensures) (1, lit< tt, sym c.new.ensures);
   distinct = subst (IsDistinct eqb) (sym c.one_network.ensures) differ;
   some_port = counted c.one_port.result.items c.one_port.ensures;
-  served = λ v h. subst (λ vs. Contains vs v) (sym c.one_network.ensures) (subst (λ vs. Contains vs v) c.one_port.ensures h);
+  served = λ v h. subst (λ vs. Contains vs v) (sym c.one_network.ensures)
+      (subst (λ vs. Contains vs v) c.one_port.ensures h);
   some_place = lit≤ tt;
   places = lit≤ tt;
   some_bucket = lit≤ tt;

@@ -8,7 +8,8 @@ use Rattle.ev_config.proofs.edge.edge_of.Goals as goal
 
 pub returns-clause-new : goal.returns-clause-new
 returns-clause-new c =
-    subst (λ (d : Described). list_any (λ x. eqb x d.config.address) c.args.addresses.now ≡ false) (sym c.edge_from.ensures) c.in_ok-names.ensures.new
+    subst (λ (d : Described). list_any (λ x. eqb x d.config.address) c.args.addresses.now ≡ false)
+    (sym c.edge_from.ensures) c.in_ok-names.ensures.new
 
 pub returns-clause-fits : goal.returns-clause-fits
 returns-clause-fits c =
@@ -20,7 +21,8 @@ returns-clause-fits c =
     (record {
       distinct = c.in_ok-names.ensures.distinct;
       some_port = one;
-      served = subst (λ (vs : List ℕ). AreServed (vnis_of ports) vs) c.as_slice.ensures.value c.in_ok-ports.ensures.served;
+      served = subst (λ (vs : List ℕ). AreServed (vnis_of ports) vs) c.as_slice.ensures.value
+          c.in_ok-ports.ensures.served;
       some_place = c.in_ok-limits.ensures.some_place;
       places = c.in_ok-limits.ensures.places;
       some_bucket = c.in_ok-limits.ensures.some_bucket;

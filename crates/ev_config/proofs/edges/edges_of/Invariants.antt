@@ -11,5 +11,6 @@ invariant-loop-value l = record {
   configs : vec_len l.edges.configs ≡ l.value-index;
   links : vec_len l.edges.links ≡ l.value-index;
   together : FitTogether (edges_view l.edges);
-  value : edges_from l.for_run (edges_view l.edges) (items_view (drop l.value-index l.tables.items)) ≡ edges_from l.for_run no_edges (items_view l.tables.items);
+  value : edges_from l.for_run (edges_view l.edges) (items_view (drop l.value-index l.tables.items))
+      ≡ edges_from l.for_run no_edges (items_view l.tables.items);
 }

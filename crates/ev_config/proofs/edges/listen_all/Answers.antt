@@ -8,5 +8,6 @@ pub loop-edge-preserved : goal.loop-edge-preserved
 loop-edge-preserved c =
     let within : c.loop-edge.edge-index < length c.loop-edge.edges = omega arith in
     rw c.listen.ensures
-    (map_over_more (listening c.args.addresses.now.items) _ _ c.loop-edge.edge-index _ c.loop-edge-test.true c.loop-edge.invariant
+    (map_over_more (listening c.args.addresses.now.items) _ _ c.loop-edge.edge-index _ c.loop-edge-test.true
+    c.loop-edge.invariant
     (get_or_default _ _ _ _ within))

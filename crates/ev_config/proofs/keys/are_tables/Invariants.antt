@@ -4,4 +4,5 @@ use Rattle.ev_config.specs.Keys.{are_tables}
 use Rattle.ev_config.proofs.keys.are_tables.Given as goal
 
 abbrev pub invariant-loop-value : goal.invariant-loop-value
-invariant-loop-value l = are_tables (items_view (drop l.value-index l.array.items)) ≡ are_tables (items_view l.array.items)
+invariant-loop-value l = are_tables (items_view (drop l.value-index l.array.items))
+    ≡ are_tables (items_view l.array.items)

@@ -9,5 +9,6 @@ abbrev pub invariant-loop-value : goal.invariant-loop-value
 invariant-loop-value l = record {
   count : length l.vnis.items ≡ l.value-index;
   distinct : IsDistinct eqb l.vnis.items;
-  value : numbers_from vni_in l.vnis.items (items_view (drop l.value-index l.array.items)) ≡ numbers_from vni_in [] (items_view l.array.items);
+  value : numbers_from vni_in l.vnis.items (items_view (drop l.value-index l.array.items))
+      ≡ numbers_from vni_in [] (items_view l.array.items);
 }

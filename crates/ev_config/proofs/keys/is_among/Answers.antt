@@ -7,5 +7,6 @@ use Rattle.ev_config.proofs.keys.is_among.Goals as goal
 
 pub returns : goal.returns
 returns c =
-    any_from_yields_List (λ (k : Bor (List ℕ)). bytes_eq k.now c.args.key.now) _ _ c.any.result c.any.ensures.ran (YieldsList-from_slice c.args.keys.now cc) (λ x b q k. search (rules, tests))
+    any_from_yields_List (λ (k : Bor (List ℕ)). bytes_eq k.now c.args.key.now) _ _ c.any.result c.any.ensures.ran
+    (YieldsList-from_slice c.args.keys.now cc) (λ x b q k. search (rules, tests))
     ∙ sym (among-map c.args.key.now c.args.keys.now)

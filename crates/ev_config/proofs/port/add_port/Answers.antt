@@ -7,4 +7,5 @@ use Rattle.ev_config.proofs.port.add_port.Goals as goal
 
 pub returns-clause-served : goal.returns-clause-served
 returns-clause-served c vnis before one =
-    subst (λ (ps : List PortConfig). AreServed (vnis_of ps) vnis) (sym c.push.ensures.items) (served_more c.args.ports.now.configs.items c.args.port.config vnis before one)
+    subst (λ (ps : List PortConfig). AreServed (vnis_of ps) vnis) (sym c.push.ensures.items)
+    (served_more c.args.ports.now.configs.items c.args.port.config vnis before one)

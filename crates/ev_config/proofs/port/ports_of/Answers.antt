@@ -12,6 +12,9 @@ pub loop-value-init : goal.loop-value-init
 loop-value-init c = record {
   configs = ap (λ (ps : List PortConfig). length ps) c.new.ensures;
   links = ap (λ (ls : List Link). length ls) c.new-2.ensures;
-  served = subst (λ (ps : List PortConfig). AreServed (vnis_of ps) c.args.vnis.now) (sym c.new.ensures) (none_served c.args.vnis.now);
-  value = λ i. ports_from c.args.for_run c.args.vnis.now (record { configs = record { items = c.new.ensures i }; links = record { items = c.new-2.ensures i } }) (items_view c.args.tables.now.items);
+  served = subst (λ (ps : List PortConfig). AreServed (vnis_of ps) c.args.vnis.now) (sym c.new.ensures)
+      (none_served c.args.vnis.now);
+  value = λ i. ports_from c.args.for_run c.args.vnis.now
+      (record { configs = record { items = c.new.ensures i }; links = record { items = c.new-2.ensures i } })
+      (items_view c.args.tables.now.items);
 }

@@ -10,5 +10,6 @@ invariant-loop-value l = record {
   configs : length l.ports.configs.items ≡ l.value-index;
   links : length l.ports.links.items ≡ l.value-index;
   served : AreServed (vnis_of l.ports.configs.items) l.vnis;
-  value : ports_from l.for_run l.vnis l.ports (items_view (drop l.value-index l.tables.items)) ≡ ports_from l.for_run l.vnis no_ports (items_view l.tables.items);
+  value : ports_from l.for_run l.vnis l.ports (items_view (drop l.value-index l.tables.items))
+      ≡ ports_from l.for_run l.vnis no_ports (items_view l.tables.items);
 }

@@ -1,4 +1,5 @@
-use Rattle.std.proofs.Common.{◌≡◌, ◌≤◌, ◌∷◌, [], ℕ, zero, suc, List, refl, ap, sym, subst, ◌∙◌, length, Contains, eqb, arith, lit<, lit≤}
+use Rattle.std.proofs.Common.{◌≡◌, ◌≤◌, ◌∷◌, [], ℕ, zero, suc, List, refl, ap, sym, subst, ◌∙◌, length, Contains, eqb}
+use Rattle.std.proofs.Common.{arith, lit<, lit≤}
 use Rattle.std.proofs.lemmas.List.{length-map}
 use Rattle.std.specs.List.{IsDistinct}
 use Rattle.route_join.specs.Table.{AreOriginators}
@@ -43,7 +44,8 @@ returns c = record {
   listed = subst (λ xs. Contains xs c.new.result) (sym c.originators.ensures) (1, lit< tt, sym c.new.ensures);
   distinct = subst (IsDistinct eqb) (sym c.one_network.ensures) differ;
   some_port = counted c.three_ports.result.items c.three_ports.ensures;
-  served = λ v h. subst (λ vs. Contains vs v) (sym c.one_network.ensures) (served v (subst (λ vs. Contains vs v) c.three_ports.ensures h));
+  served = λ v h. subst (λ vs. Contains vs v) (sym c.one_network.ensures)
+      (served v (subst (λ vs. Contains vs v) c.three_ports.ensures h));
   some_place = c.requires.some;
   places = c.requires.few;
   some_bucket = c.requires.some;

@@ -7,10 +7,16 @@ use Rattle.ev_fabric.proofs.Opened.{opened_more}
 use Rattle.ev_fabric.proofs.fabric.open_all.Goals as goal
 
 pub open-requires : goal.open-requires
-open-requires c = subst IsConfig (sym c.in_life.ensures) (c.requires.configs c.config-item.result (contains_at c.args.configs.now c.loop-config.config-index c.config-item.result (item_at c.args.configs.now c.loop-config.config-index c.config-item.result c.loop-config-test.true c.config-item.is)))
+open-requires c = subst IsConfig (sym c.in_life.ensures)
+    (c.requires.configs c.config-item.result (contains_at c.args.configs.now c.loop-config.config-index
+    c.config-item.result (item_at c.args.configs.now c.loop-config.config-index c.config-item.result
+    c.loop-config-test.true c.config-item.is)))
 
 pub loop-config-preserved : goal.loop-config-preserved
-loop-config-preserved c = subst (λ l. AreOpened (take (c.loop-config.config-index + 1) c.args.configs.now) l) (sym c.in_ok-push.ensures.items)
-    (opened_more c.args.configs.now c.loop-config.edges.items c.loop-config.config-index c.config-item.result c.in_ok-edge.edge c.loop-config-test.true
-    (item_at c.args.configs.now c.loop-config.config-index c.config-item.result c.loop-config-test.true c.config-item.is) c.loop-config.invariant
+loop-config-preserved c = subst (λ l. AreOpened (take (c.loop-config.config-index + 1) c.args.configs.now) l)
+    (sym c.in_ok-push.ensures.items)
+    (opened_more c.args.configs.now c.loop-config.edges.items c.loop-config.config-index c.config-item.result
+    c.in_ok-edge.edge c.loop-config-test.true
+    (item_at c.args.configs.now c.loop-config.config-index c.config-item.result c.loop-config-test.true
+    c.config-item.is) c.loop-config.invariant
     (subst (λ d. IsOpening d c.in_ok-edge.edge) c.in_life.ensures c.in_ok-edge.ensures) c.always_good.ensures)

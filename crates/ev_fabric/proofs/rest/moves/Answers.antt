@@ -16,7 +16,8 @@ moved_sound i j s old mid sound m = step_sound old mid (Local (suc j) m.event) m
 
 pub returns : goal.returns
 returns c = record {
-  agrees = λ i j s old mid new sound m h. two_rounds_agree (length mid.edges) (full_pool mid) mid new (moved_ready old i j s mid sound (moved_sound i j s old mid sound m) m) (enough_itself mid) h;
+  agrees = λ i j s old mid new sound m h. two_rounds_agree (length mid.edges) (full_pool mid) mid new
+      (moved_ready old i j s mid sound (moved_sound i j s old mid sound m) m) (enough_itself mid) h;
   pool = λ i j s old mid new steps sound m h agree.
       let is = moved_sound i j s old mid sound m in
       (move_ends old i j s mid steps new sound is m h (rests_sound steps mid new h is) agree).0;

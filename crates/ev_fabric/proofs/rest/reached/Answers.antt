@@ -13,8 +13,15 @@ use Rattle.ev_fabric.proofs.RestingNumbers.{start_numbers, few_numbers}
 use Rattle.ev_fabric.proofs.rest.reached.Goals as goal
 
 -- two rounds from an opened fabric
-agreement : (configs : List EdgeConfig) (f : Fabric) → AreConfigs configs → IsStart configs f → (new : Fabric) × Rests f (two_rounds f) new × AllAgree new × IsSound new
-agreement configs f are start = (run.0, run.1, two_rounds_agree (length f.edges) (full_pool f) f run.0 ready (enough_itself f) run.1, rests_sound (two_rounds f) f run.0 run.1 sound)
+agreement : (configs : List EdgeConfig) (f : Fabric) → AreConfigs configs → IsStart configs f
+    → (new : Fabric) × Rests f (two_rounds f) new × AllAgree new × IsSound new
+agreement configs f are start = (
+  run.0,
+  run.1,
+  two_rounds_agree (length f.edges) (full_pool f) f run.0 ready
+      (enough_itself f) run.1,
+  rests_sound (two_rounds f) f run.0 run.1 sound,
+)
   where
     sound : IsSound f
     sound = start_sound configs f are start

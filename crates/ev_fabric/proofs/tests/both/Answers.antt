@@ -1,4 +1,5 @@
-use Rattle.std.proofs.Common.{◌≡◌, ◌∷◌, ◌++◌, [], ℕ, zero, suc, List, refl, sym, subst, ◌∙◌, Contains, eqb, arith, lit<, lit≤}
+use Rattle.std.proofs.Common.{◌≡◌, ◌∷◌, ◌++◌, [], ℕ, zero, suc, List, refl, sym, subst, ◌∙◌, Contains, eqb, arith, lit<}
+use Rattle.std.proofs.Common.{lit≤}
 use Rattle.std.specs.List.{IsDistinct}
 use Rattle.ev_edge.specs.declared.config.EdgeConfig.{EdgeConfig}
 use Rattle.ev_edge.specs.Config.{IsConfig}
@@ -29,13 +30,15 @@ each P x y h k c (suc zero, l, e) = subst P e k
 each P x y h k c (suc (suc n), l, e) = absurd (omega (arith, l))
 
 -- two edges of these addresses that listen to both
-are_configs : (x y : EdgeConfig) → x.address ≡ 0x0a00_0001 → y.address ≡ 0x0a00_0002 → x.originators.items ≡ listeners → y.originators.items ≡ listeners → IsConfig x → IsConfig y → AreConfigs (x ∷ y ∷ [])
+are_configs : (x y : EdgeConfig) → x.address ≡ 0x0a00_0001 → y.address ≡ 0x0a00_0002 → x.originators.items ≡ listeners
+    → y.originators.items ≡ listeners → IsConfig x → IsConfig y → AreConfigs (x ∷ y ∷ [])
 are_configs x y p q os ps h k = record {
   some = lit< tt;
   few = lit≤ tt;
   apart = subst (IsDistinct eqb) (sym same) differ;
   configs = each IsConfig x y h k;
-  listed = λ c in' o at. subst (λ xs. Contains xs o) (sym (each (λ d. d.originators.items ≡ listeners) x y os ps c in')) (both_listen o (subst (λ xs. Contains xs o) same at));
+  listed = λ c in' o at. subst (λ xs. Contains xs o) (sym (each (λ d. d.originators.items ≡ listeners) x y os ps c in'))
+      (both_listen o (subst (λ xs. Contains xs o) same at));
 }
   where
     same : addresses_of (x ∷ y ∷ []) ≡ addresses
@@ -49,4 +52,5 @@ returns c =
     let one = pushed _ [] _ _ c.in_ok-push.ensures.items c.new-configs.ensures.items in
     let two = pushed _ _ _ _ c.in_ok-push-2.ensures.items one in
     subst AreConfigs (sym two)
-    (are_configs c.first.result c.second.result c.first.ensures.address c.second.ensures.address c.first.ensures.originators c.second.ensures.originators c.first.ensures.fits c.second.ensures.fits)
+    (are_configs c.first.result c.second.result c.first.ensures.address c.second.ensures.address
+    c.first.ensures.originators c.second.ensures.originators c.first.ensures.fits c.second.ensures.fits)

@@ -1,4 +1,5 @@
-use Rattle.std.proofs.Common.{◌≡◌, ◌≤◌, ◌∷◌, [], ℕ, List, refl, ap, sym, subst, ◌∙◌, length, Contains, eqb, zero, suc, arith, lit<, lit≤}
+use Rattle.std.proofs.Common.{◌≡◌, ◌≤◌, ◌∷◌, [], ℕ, List, refl, ap, sym, subst, ◌∙◌, length, Contains, eqb, zero, suc}
+use Rattle.std.proofs.Common.{arith, lit<, lit≤}
 use Rattle.std.proofs.lemmas.List.{length-map}
 use Rattle.std.specs.List.{IsDistinct}
 use Rattle.route_join.specs.Table.{AreOriginators}
@@ -33,7 +34,8 @@ returns-clause-fits c = record {
   listed = subst (λ xs. Contains xs c.args.address) (sym c.originators.ensures) c.requires;
   distinct = subst (IsDistinct eqb) (sym c.one_network.ensures) differ;
   some_port = counted c.two_ports.result.items c.two_ports.ensures;
-  served = λ v h. subst (λ vs. Contains vs v) (sym c.one_network.ensures) (served v (subst (λ vs. Contains vs v) c.two_ports.ensures h));
+  served = λ v h. subst (λ vs. Contains vs v) (sym c.one_network.ensures)
+      (served v (subst (λ vs. Contains vs v) c.two_ports.ensures h));
   some_place = lit≤ tt;
   places = lit≤ tt;
   some_bucket = lit≤ tt;

@@ -4,6 +4,7 @@ use Rattle.ev_peers.proofs.giving.give_edges.Given as goal
 
 abbrev pub invariant-loop-edge : goal.invariant-loop-edge
 invariant-loop-edge g l = record {
-  parcels : g.O.Outlet.parcels l.outlet ≡ behind (g.O.Outlet.parcels l.initial.outlet) (to_edges l.datagram (take l.edge-index l.edges));
+  parcels : g.O.Outlet.parcels l.outlet ≡ behind (g.O.Outlet.parcels l.initial.outlet)
+      (to_edges l.datagram (take l.edge-index l.edges));
   records : g.O.Outlet.records l.outlet ≡ g.O.Outlet.records l.initial.outlet;
 }

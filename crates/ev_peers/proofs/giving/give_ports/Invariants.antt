@@ -6,7 +6,8 @@ use Rattle.ev_peers.proofs.giving.give_ports.Given as goal
 -- what is given and what is still to be given is what was to be given
 abbrev pub invariant-loop-next : goal.invariant-loop-next
 invariant-loop-next g l = record {
-  parcels : behind (g.O.Outlet.parcels l.outlet) (to_ports l.frame (ports_after l.ports l.port)) ≡ behind (g.O.Outlet.parcels l.initial.outlet) (to_ports l.frame (ports_of l.ports));
+  parcels : behind (g.O.Outlet.parcels l.outlet) (to_ports l.frame (ports_after l.ports l.port))
+      ≡ behind (g.O.Outlet.parcels l.initial.outlet) (to_ports l.frame (ports_of l.ports));
   records : g.O.Outlet.records l.outlet ≡ g.O.Outlet.records l.initial.outlet;
 }
 

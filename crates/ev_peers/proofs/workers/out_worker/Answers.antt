@@ -11,9 +11,12 @@ loop-preserved g c = record {
       let before = gone (g.O.LinkOut.sent c.loop.link) (g.O.LinkOut.failed c.loop.link) in
       let after = gone (g.O.LinkOut.sent c.send_one-lost.new.link) (g.O.LinkOut.failed c.send_one-lost.new.link) in
       let octets = take c.in-Some-next.packet.1 c.next-in-loop.new.buffer in
-      goes_on Sends (g.I.PacketsIn.came c.args.packets.now) (g.I.PacketsIn.came c.loop.packets) (g.I.PacketsIn.came c.next-in-loop.new.self) (gone (g.O.LinkOut.sent c.args.link.now) (g.O.LinkOut.failed c.args.link.now)) before after c.loop.invariant.sends (record {
+      goes_on Sends (g.I.PacketsIn.came c.args.packets.now) (g.I.PacketsIn.came c.loop.packets)
+      (g.I.PacketsIn.came c.next-in-loop.new.self) (gone (g.O.LinkOut.sent c.args.link.now)
+      (g.O.LinkOut.failed c.args.link.now)) before after c.loop.invariant.sends (record {
         thing = packet c.in-Some-next.packet.0 octets;
         told = c.in-Some-next.ensures.came;
-        done = subst (λ (o : List ℕ). Sends before (packet c.in-Some-next.packet.0 o) after) c.front.ensures c.send_one-lost.ensures.sends;
+        done = subst (λ (o : List ℕ). Sends before (packet c.in-Some-next.packet.0 o) after) c.front.ensures
+            c.send_one-lost.ensures.sends;
       });
 }

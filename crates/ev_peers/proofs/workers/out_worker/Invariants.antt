@@ -7,5 +7,7 @@ use Rattle.ev_peers.proofs.workers.out_worker.Given as goal
 abbrev pub invariant-loop : goal.invariant-loop
 invariant-loop g l = record {
   lost : g.O.LinkOut.failed l.link ≡ g.O.LinkOut.failed l.initial.link + l.lost;
-  sends : DoesAll Sends (g.I.PacketsIn.came l.initial.packets) (gone (g.O.LinkOut.sent l.initial.link) (g.O.LinkOut.failed l.initial.link)) (g.I.PacketsIn.came l.packets) (gone (g.O.LinkOut.sent l.link) (g.O.LinkOut.failed l.link));
+  sends : DoesAll Sends (g.I.PacketsIn.came l.initial.packets)
+      (gone (g.O.LinkOut.sent l.initial.link) (g.O.LinkOut.failed l.initial.link)) (g.I.PacketsIn.came l.packets)
+      (gone (g.O.LinkOut.sent l.link) (g.O.LinkOut.failed l.link));
 }

@@ -9,7 +9,9 @@ pub returns : goal.returns
 returns g c =
     let run = c.migrate_run-status in
     let originators = c.args.originators.items in
-    let held = devices (g.R.In.end run.new.reader) (buffered_end g.W.Out.end run.new.out) (buffered_end g.N.Out.end run.new.notes) in
+    let held = devices (g.R.In.end run.new.reader) (buffered_end g.W.Out.end run.new.out)
+    (buffered_end g.N.Out.end run.new.notes) in
     buffered (Migrates originators) (passed_migrates originators) c.args.devices _ held
-    c.finish.result.1 run.result c.finish.result.0 c.new-all.result.out_failures c.new-all.result.notes_failures c.new-all.ensures.devices
+    c.finish.result.1 run.result c.finish.result.0 c.new-all.result.out_failures c.new-all.result.notes_failures
+    c.new-all.ensures.devices
     c.new-all.ensures.out c.new-all.ensures.notes run.ensures c.finish.ensures

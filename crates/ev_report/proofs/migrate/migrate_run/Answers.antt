@@ -29,19 +29,29 @@ returns g c =
     let broken = c.note_end-is_broken.result in
     let starved = c.is_starved-is_starved.result in
     let all = has_stopped ending || (not (is_ok r) || not last.is_told) in
-    let failed = c.has_failed-has_failed.ensures ∙ ap (λ (b : Bool). has_stopped ending || (not b || not c.is_told.result)) c.is_ok-is_written.ensures.value
+    let failed = c.has_failed-has_failed.ensures ∙ ap (λ (b : Bool). has_stopped ending ||
+    (not b || not c.is_told.result)) c.is_ok-is_written.ensures.value
     ∙ ap (λ (b : Bool). has_stopped ending || (not (is_ok r) || not b)) c.is_told.ensures in
-    let fresh_is : c.new-intake.result ≡ new_intake 2 originators = c.new-intake.ensures ∙ ap (λ (h : Held). new_intake h.newest originators) c.old-feed.ensures.value in
+    let fresh_is : c.new-intake.result ≡ new_intake 2 originators = c.new-intake.ensures
+    ∙ ap (λ (h : Held). new_intake h.newest originators) c.old-feed.ensures.value in
     let i : TakesInput 2 ending reader reader' (state (new_intake 2 originators) notes) (state intake mid) =
-    subst (λ (n : ℕ). TakesInput n ending reader reader' (state (new_intake 2 originators) notes) (state intake mid)) (ap (λ (x : Intake). x.feed.newest) fresh_is)
-    (subst (λ (x : Intake). TakesInput c.new-intake.result.feed.newest ending reader reader' (state x notes) (state intake mid)) fresh_is c.take_input-ending.ensures.taken) in
+    subst (λ (n : ℕ). TakesInput n ending reader reader' (state (new_intake 2 originators) notes) (state intake mid))
+    (ap (λ (x : Intake). x.feed.newest) fresh_is)
+    (subst (λ (x : Intake). TakesInput c.new-intake.result.feed.newest ending reader reader' (state x notes)
+    (state intake mid)) fresh_is c.take_input-ending.ensures.taken) in
     let text : List ℕ = cond c.is_withheld-is_withheld.result [] (records_of (migrated_of c.table.result.now)) in
     let withheld : c.is_withheld-is_withheld.result ≡ (has_stopped ending || has_starved i.octets.taken.outcomes) =
-    c.is_withheld-is_withheld.ensures ∙ ap (λ (b : Bool). has_stopped ending || b) (c.is_starved-is_starved.ensures ∙ ap (λ (x : Intake). x.is_starved) c.note_end-is_broken.ensures.kept ∙ i.octets.taken.counts.starved) in
+    c.is_withheld-is_withheld.ensures ∙ ap (λ (b : Bool). has_stopped ending || b) (c.is_starved-is_starved.ensures
+    ∙ ap (λ (x : Intake). x.is_starved) c.note_end-is_broken.ensures.kept ∙ i.octets.taken.counts.starved) in
     let makes : text ≡ migration ending i.octets.taken.outcomes last.table =
-    ap (λ (t : Table). cond c.is_withheld-is_withheld.result [] (records_of (migrated_of t))) c.table.ensures ∙ ap (λ (b : Bool). cond b [] (records_of (migrated_of last.table))) withheld in
-    let run : Renders 2 migration originators (devices reader out notes) (devices reader' out' notes') c.status_of.result =
-    renders 2 migration originators reader reader' out out' notes mid notes' intake last ending i c.note_end-is_broken.ensures.kept c.note_end-is_broken.ensures.told r text c.put_unless.ensures makes c.status_of.result
-    (c.status_of.ensures ∙ ap (λ (b : Bool). status_of b starved broken) failed ∙ ap (λ (b : Bool). status_of all b broken) c.is_starved-is_starved.ensures
+    ap (λ (t : Table). cond c.is_withheld-is_withheld.result [] (records_of (migrated_of t))) c.table.ensures
+    ∙ ap (λ (b : Bool). cond b [] (records_of (migrated_of last.table))) withheld in
+    let run : Renders 2 migration originators (devices reader out notes) (devices reader' out' notes')
+    c.status_of.result =
+    renders 2 migration originators reader reader' out out' notes mid notes' intake last ending i
+    c.note_end-is_broken.ensures.kept c.note_end-is_broken.ensures.told r text c.put_unless.ensures makes
+    c.status_of.result
+    (c.status_of.ensures ∙ ap (λ (b : Bool). status_of b starved broken) failed
+    ∙ ap (λ (b : Bool). status_of all b broken) c.is_starved-is_starved.ensures
     ∙ ap (λ (b : Bool). status_of all last.is_starved b) c.note_end-is_broken.ensures.broken) in
     record { run = run; migrated = migration_is (taken_of run.outcomes) run.table run.taken.table_of }

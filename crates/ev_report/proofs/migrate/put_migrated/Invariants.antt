@@ -6,7 +6,8 @@ use Rattle.ev_report.proofs.migrate.put_migrated.Given as goal
 -- what is left to write makes the whole, and the one iterator is where the other's old register ends
 abbrev pub invariant-loop-update : goal.invariant-loop-update
 invariant-loop-update g l = record {
-  whole : with_text (g.W.Out.end l.initial.out) (records_of (migrated_of l.fn.table)) ≡ with_text (g.W.Out.end l.out) (records_of (migrated_along l.newest l.update-iterator));
+  whole : with_text (g.W.Out.end l.initial.out) (records_of (migrated_of l.fn.table))
+      ≡ with_text (g.W.Out.end l.out) (records_of (migrated_along l.newest l.update-iterator));
   ahead : l.ahead ≡ drop 1 (behind l.newest l.update-iterator);
   failed : (g.W.Out.end l.out).failures ≡ (g.W.Out.end l.initial.out).failures;
 }

@@ -13,7 +13,11 @@ returns g c =
     let head = codes "error: --originators: '" in
     let part = c.args.wrong.part.now in
     let reason = reason_of c.args.wrong.fault in
-    let two : n ≡ with_text e (head ++ part) = c.in_ok-put-2.ensures ∙ ap (λ (x : End). with_text x part) c.in_ok-put.ensures ∙ with_text_twice e head part in
+    let two : n ≡ with_text e (head ++ part) = c.in_ok-put-2.ensures
+    ∙ ap (λ (x : End). with_text x part) c.in_ok-put.ensures ∙ with_text_twice e head part in
     let three : o ≡ with_text e (head ++ part ++ reason) =
-    c.in_ok-put-3.ensures ∙ ap (with_text n) c.reason.ensures ∙ ap (λ (x : End). with_text x reason) two ∙ with_text_twice e (head ++ part) reason in
-    puts_behind e o end (head ++ part ++ reason) (codes "expected 1 to 64 different IPv4 addresses with commas between them, as in 10.0.0.1,10.0.0.2\n") c.put-4.result three c.put-4.ensures
+    c.in_ok-put-3.ensures ∙ ap (with_text n) c.reason.ensures ∙ ap (λ (x : End). with_text x reason) two
+    ∙ with_text_twice e (head ++ part) reason in
+    puts_behind e o end (head ++ part ++ reason) (codes
+    "expected 1 to 64 different IPv4 addresses with commas between them, as in 10.0.0.1,10.0.0.2\n") c.put-4.result
+    three c.put-4.ensures

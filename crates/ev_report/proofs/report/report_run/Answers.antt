@@ -24,13 +24,21 @@ returns g c =
     let r = c.write_report.result in
     let broken = c.note_end-is_broken.result in
     let starved = c.is_starved.result in
-    let failed = c.has_failed-has_failed.ensures ∙ ap (λ (b : Bool). has_stopped ending || (not b || not c.is_told.result)) c.is_ok-is_reported.ensures.value
+    let failed = c.has_failed-has_failed.ensures ∙ ap (λ (b : Bool). has_stopped ending ||
+    (not b || not c.is_told.result)) c.is_ok-is_reported.ensures.value
     ∙ ap (λ (b : Bool). has_stopped ending || (not (is_ok r) || not b)) c.is_told.ensures in
     let all = has_stopped ending || (not (is_ok r) || not last.is_told) in
-    let fresh_is : c.new-intake.result ≡ new_intake 3 c.args.originators.items = c.new-intake.ensures ∙ ap (λ (h : Held). new_intake h.newest c.args.originators.items) c.new-feed.ensures.value in
-    renders 3 (λ ending outcomes t. report_of t) c.args.originators.items reader reader' out out' notes mid notes' intake last ending
-    (subst (λ (n : ℕ). TakesInput n ending reader reader' (state (new_intake 3 c.args.originators.items) notes) (state intake mid)) (ap (λ (x : Intake). x.feed.newest) fresh_is)
-    (subst (λ (x : Intake). TakesInput c.new-intake.result.feed.newest ending reader reader' (state x notes) (state intake mid)) fresh_is c.take_input-ending.ensures.taken))
-    c.note_end-is_broken.ensures.kept c.note_end-is_broken.ensures.told r (report_of last.table) (subst (λ (t : Table). Puts out out' (report_of t) r) c.table.ensures c.write_report.ensures) refl c.status_of.result
-    (c.status_of.ensures ∙ ap (λ (b : Bool). status_of b starved broken) failed ∙ ap (λ (b : Bool). status_of all b broken) c.is_starved.ensures
+    let fresh_is : c.new-intake.result ≡ new_intake 3 c.args.originators.items = c.new-intake.ensures
+    ∙ ap (λ (h : Held). new_intake h.newest c.args.originators.items) c.new-feed.ensures.value in
+    renders 3 (λ ending outcomes t. report_of t) c.args.originators.items reader reader' out out' notes mid notes'
+    intake last ending
+    (subst (λ (n : ℕ). TakesInput n ending reader reader' (state (new_intake 3 c.args.originators.items) notes)
+    (state intake mid)) (ap (λ (x : Intake). x.feed.newest) fresh_is)
+    (subst (λ (x : Intake). TakesInput c.new-intake.result.feed.newest ending reader reader' (state x notes)
+    (state intake mid)) fresh_is c.take_input-ending.ensures.taken))
+    c.note_end-is_broken.ensures.kept c.note_end-is_broken.ensures.told r (report_of last.table)
+    (subst (λ (t : Table). Puts out out' (report_of t) r) c.table.ensures c.write_report.ensures) refl
+    c.status_of.result
+    (c.status_of.ensures ∙ ap (λ (b : Bool). status_of b starved broken) failed
+    ∙ ap (λ (b : Bool). status_of all b broken) c.is_starved.ensures
     ∙ ap (λ (b : Bool). status_of all last.is_starved b) c.note_end-is_broken.ensures.broken)

@@ -12,8 +12,10 @@ returns-clause-ran g c =
     let notes' = g.N.Out.end c.tell_ended.new.notes in
     record {
       is_read = ended.is_read;
-      read = subst (λ (s : Source). ReadsOut (g.E.In.end c.args.reader.now) s ended.is_read) (search rules) ended.ensures.until.1;
+      read = subst (λ (s : Source). ReadsOut (g.E.In.end c.args.reader.now) s ended.is_read) (search rules)
+          ended.ensures.until.1;
       ended = ended.ended.items;
       all = sym ended.ended.ok.0 ∙ ended.ensures.all ∙ c.in_ok-setups.ensures ∙ c.args.configs.ok.0;
-      told = subst (λ (xs : List Ended). TellsEnded xs ended.is_read out out' notes notes' c.tell_ended.result) c.as_slice.ensures.value c.tell_ended.ensures;
+      told = subst (λ (xs : List Ended). TellsEnded xs ended.is_read out out' notes notes' c.tell_ended.result)
+          c.as_slice.ensures.value c.tell_ended.ensures;
     }

@@ -10,7 +10,9 @@ pub returns : goal.returns
 returns g c =
     let run = c.run_edges-status in
     let many = length c.args.config.edges.items in
-    let held = devices (g.R.In.end run.new.reader) (buffered_end g.W.Out.end run.new.out) (buffered_end g.N.Out.end run.new.notes) in
+    let held = devices (g.R.In.end run.new.reader) (buffered_end g.W.Out.end run.new.out)
+    (buffered_end g.N.Out.end run.new.notes) in
     buffered (RunsEdges many) (passed_runs many) c.args.devices _ held
-    c.finish.result.1 run.result c.finish.result.0 c.new-all.result.out_failures c.new-all.result.notes_failures c.new-all.ensures.devices
+    c.finish.result.1 run.result c.finish.result.0 c.new-all.result.out_failures c.new-all.result.notes_failures
+    c.new-all.ensures.devices
     c.new-all.ensures.out c.new-all.ensures.notes run.ensures c.finish.ensures

@@ -16,11 +16,17 @@ returns g c =
     let notes = g.N.Out.end c.args.notes.now in
     let notes' = g.N.Out.end c.put_notes.new.notes in
     let failed = c.has_failed-has_failed.ensures
-    ∙ ap (λ (b : Bool). ((not c.args.is_read || b) || nat_lt 0 sum.lost) || (not c.is_ok-is_told.result || not c.is_ok-is_noted.result)) is.device
-    ∙ ap (λ (n : ℕ). ((not c.args.is_read || list_any link_failed ended) || nat_lt 0 n) || (not c.is_ok-is_told.result || not c.is_ok-is_noted.result)) is.lost
-    ∙ ap (λ (b : Bool). ((not c.args.is_read || list_any link_failed ended) || nat_lt 0 (all_lost ended)) || (not b || not c.is_ok-is_noted.result)) c.is_ok-is_told.ensures.value
-    ∙ ap (λ (b : Bool). ((not c.args.is_read || list_any link_failed ended) || nat_lt 0 (all_lost ended)) || (not (is_ok r) || not b)) c.is_ok-is_noted.ensures.value in
-    tells_ended ended c.args.is_read (g.W.Out.end c.args.out.now) (g.W.Out.end c.put_reports.new.out) notes notes' r s c.status_of.result c.put_reports.ensures
+    ∙ ap (λ (b : Bool). ((not c.args.is_read || b) || nat_lt 0 sum.lost) ||
+    (not c.is_ok-is_told.result || not c.is_ok-is_noted.result)) is.device
+    ∙ ap (λ (n : ℕ). ((not c.args.is_read || list_any link_failed ended) || nat_lt 0 n) ||
+    (not c.is_ok-is_told.result || not c.is_ok-is_noted.result)) is.lost
+    ∙ ap (λ (b : Bool). ((not c.args.is_read || list_any link_failed ended) || nat_lt 0 (all_lost ended)) ||
+    (not b || not c.is_ok-is_noted.result)) c.is_ok-is_told.ensures.value
+    ∙ ap (λ (b : Bool). ((not c.args.is_read || list_any link_failed ended) || nat_lt 0 (all_lost ended)) ||
+    (not (is_ok r) || not b)) c.is_ok-is_noted.ensures.value in
+    tells_ended ended c.args.is_read (g.W.Out.end c.args.out.now) (g.W.Out.end c.put_reports.new.out) notes notes' r s
+    c.status_of.result c.put_reports.ensures
     (subst (λ (n : ℕ). Puts notes notes' (noted_text ended n) s) is.lost c.put_notes.ensures)
     (c.status_of.ensures ∙ ap (λ (b : Bool). status_of b sum.is_starved false) failed
-    ∙ ap (λ (b : Bool). status_of (((not c.args.is_read || list_any link_failed ended) || nat_lt 0 (all_lost ended)) || (not (is_ok r) || not (is_ok s))) b false) is.starved)
+    ∙ ap (λ (b : Bool). status_of (((not c.args.is_read || list_any link_failed ended) || nat_lt 0 (all_lost ended)) ||
+    (not (is_ok r) || not (is_ok s))) b false) is.starved)

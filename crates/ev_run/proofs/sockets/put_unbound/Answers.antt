@@ -13,7 +13,9 @@ returns g c =
     let head = codes "can't bind " in
     let place = endpoint_text c.args.at in
     let colon = codes ": " in
-    let two : n ≡ with_text e (head ++ place) = c.in_ok-put_endpoint.ensures ∙ ap (λ (x : End). with_text x place) c.in_ok-put.ensures ∙ with_text_twice e head place in
-    let three : o ≡ with_text e (head ++ (place ++ colon)) = c.in_ok-put-2.ensures ∙ ap (λ (x : End). with_text x colon) two ∙ with_text_twice e (head ++ place) colon in
+    let two : n ≡ with_text e (head ++ place) = c.in_ok-put_endpoint.ensures
+    ∙ ap (λ (x : End). with_text x place) c.in_ok-put.ensures ∙ with_text_twice e head place in
+    let three : o ≡ with_text e (head ++ (place ++ colon)) = c.in_ok-put-2.ensures
+    ∙ ap (λ (x : End). with_text x colon) two ∙ with_text_twice e (head ++ place) colon in
     puts_behind e o end (head ++ (place ++ colon)) (why_text c.args.why) c.put-3.result three
     (subst (λ (t : List ℕ). Puts o end t c.put-3.result) c.reason.ensures c.put-3.ensures)

@@ -4,4 +4,5 @@ use Rattle.ev_run.specs.RunEdges.{texts_from, dropped_text}
 use Rattle.ev_run.proofs.telling.put_lines.Given as goal
 
 abbrev pub invariant-loop-place : goal.invariant-loop-place
-invariant-loop-place g l = g.N.Out.end l.notes ≡ with_text (g.N.Out.end l.initial.notes) (texts_from (dropped_text l.number) 0 (take l.place l.dropped))
+invariant-loop-place g l = g.N.Out.end l.notes ≡ with_text (g.N.Out.end l.initial.notes)
+    (texts_from (dropped_text l.number) 0 (take l.place l.dropped))

@@ -4,4 +4,5 @@ use Rattle.ev_run.specs.RunEdges.{reports_from}
 use Rattle.ev_run.proofs.telling.put_reports.Given as goal
 
 abbrev pub invariant-loop-place : goal.invariant-loop-place
-invariant-loop-place g l = g.W.Out.end l.out ≡ with_text (g.W.Out.end l.initial.out) (reports_from 1 (take l.place l.ended))
+invariant-loop-place g l = g.W.Out.end l.out ≡ with_text (g.W.Out.end l.initial.out)
+    (reports_from 1 (take l.place l.ended))

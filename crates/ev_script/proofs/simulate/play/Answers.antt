@@ -14,11 +14,13 @@ returns g c =
     let final = c.play-bad.new.self in
     let bad = c.play-bad.result in
     let r = c.put_bad_line.result in
-    let failed = c.has_failed-has_failed.ensures ∙ ap (λ (b : Bool). not b || not c.is_ok-is_noted.result) c.is_told.ensures
+    let failed = c.has_failed-has_failed.ensures ∙ ap (λ (b : Bool). not b || not c.is_ok-is_noted.result)
+    c.is_told.ensures
     ∙ ap (λ (b : Bool). not final.is_told || not b) c.is_ok-is_noted.ensures.value in
     plays_on c.args.mode c.args.fabric c.args.script.now p final out out' notes notes' r c.status_of.result
     c.new-player.ensures.fabric c.new-player.ensures.fed
-    (subst (λ (b : Bool). Minds out out' b final.is_told) c.new-player.ensures.told c.play-bad.ensures.told) bad c.play-bad.ensures.played c.put_bad_line.ensures
+    (subst (λ (b : Bool). Minds out out' b final.is_told) c.new-player.ensures.told c.play-bad.ensures.told) bad
+    c.play-bad.ensures.played c.put_bad_line.ensures
     (c.status_of.ensures ∙ ap (λ (b : Bool). status_of b c.is_starved.result c.is_some.result) failed
     ∙ ap (λ (b : Bool). status_of (not final.is_told || not (is_ok r)) b c.is_some.result) c.is_starved.ensures
     ∙ ap (λ (b : Bool). status_of (not final.is_told || not (is_ok r)) final.is_starved b) c.is_some.ensures)

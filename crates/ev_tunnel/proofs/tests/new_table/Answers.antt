@@ -22,5 +22,6 @@ new-requires-5 c =
     let one = pushed _ [] _ _ 0x0a00_0001 c.push.ensures.items c.new-originators.ensures c.new.ensures in
     let two = pushed _ _ _ _ 0x0a00_0002 c.push-2.ensures.items one c.new-2.ensures in
     let three = pushed _ _ _ _ 0x0a00_0003 c.push-3.ensures.items two c.new-3.ensures in
-    let items : c.push-4.new.self.items ≡ four = pushed _ _ _ _ 0x0a00_0004 c.push-4.ensures.items three c.new-4.ensures in
+    let items : c.push-4.new.self.items ≡ four = pushed _ _ _ _ 0x0a00_0004 c.push-4.ensures.items three
+    c.new-4.ensures in
     subst AreOriginators (sym items) four_listed

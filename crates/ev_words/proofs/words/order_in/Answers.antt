@@ -5,11 +5,13 @@ use Rattle.ev_words.specs.Words.{needs_of, takes_of, needed_in, given_in, parts_
 use Rattle.ev_words.proofs.Given.{found_as, order_found}
 use Rattle.ev_words.proofs.words.order_in.Goals as goal
 
-after : {X Y Z : Type 0} (f : X → Y) (g : Y → Z) (o : Option X) → option_map g (option_map f o) ≡ option_map (λ x. g (f x)) o
+after : {X Y Z : Type 0} (f : X → Y) (g : Y → Z) (o : Option X)
+    → option_map g (option_map f o) ≡ option_map (λ x. g (f x)) o
 after f g None = refl
 after f g (Some x) = refl
 
-found_at : (n : Text) (w : List Row) (o : Option (Text × List Row)) → Some n ≡ option_map (λ p. p.0) o → Some w ≡ option_map (λ p. p.1) o → o ≡ found_as n w
+found_at : (n : Text) (w : List Row) (o : Option (Text × List Row)) → Some n ≡ option_map (λ p. p.0) o
+    → Some w ≡ option_map (λ p. p.1) o → o ≡ found_as n w
 found_at n w None a b = cc
 found_at n w (Some p) a b =
     let one : n ≡ p.0 = cc in
@@ -21,7 +23,8 @@ returns-in_err-value c =
     let all = subcommand_rows_of c.args.matches.now in
     let rows = rows_of (found_of c.in_ok-name.inner.now) in
     let s = c.in_ok-subcommand.subcommand in
-    let name : Some c.in_ok-name.name.now ≡ option_map (λ (p : Text × List Row). p.0) all = c.in_ok-name.ensures.name ∙ sym (after _ _ _) in
+    let name : Some c.in_ok-name.name.now ≡ option_map (λ (p : Text × List Row). p.0) all = c.in_ok-name.ensures.name
+    ∙ sym (after _ _ _) in
     let is : all ≡ found_as c.in_ok-name.name.now rows = found_at _ _ _ name c.in_ok-name.ensures.rows in
     let none : c.from_residual-in_err-value.result ≡ None = search rules in
     let text : None ≡ needed_in (needs_of s) rows = c.in_err-value.ensures
@@ -35,7 +38,8 @@ returns c =
     let all = subcommand_rows_of c.args.matches.now in
     let rows = rows_of (found_of c.in_ok-name.inner.now) in
     let s = c.in_ok-subcommand.subcommand in
-    let name : Some c.in_ok-name.name.now ≡ option_map (λ (p : Text × List Row). p.0) all = c.in_ok-name.ensures.name ∙ sym (after _ _ _) in
+    let name : Some c.in_ok-name.name.now ≡ option_map (λ (p : Text × List Row). p.0) all = c.in_ok-name.ensures.name
+    ∙ sym (after _ _ _) in
     let is : all ≡ found_as c.in_ok-name.name.now rows = found_at _ _ _ name c.in_ok-name.ensures.rows in
     let text : Some c.in_ok-value.value.now ≡ needed_in (needs_of s) rows = c.in_ok-value.ensures
     ∙ ap (λ o. needed_in o rows) c.needs.ensures in

@@ -6,4 +6,5 @@ use Rattle.ev_words.proofs.words.order_of.Goals as goal
 pub unreachable-requires : goal.unreachable-requires
 unreachable-requires g c =
     let answer = c.in-Ok.ensures.is_answer in
-    not_none (map string_bytes c.args.words.now) (subcommand_rows_of c.in-Ok.matches) answer.0 answer.1 c.in-None.ensures
+    not_none (map string_bytes c.args.words.now) (subcommand_rows_of c.in-Ok.matches) answer.0 answer.1
+    c.in-None.ensures

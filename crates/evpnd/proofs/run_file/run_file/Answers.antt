@@ -12,10 +12,12 @@ returns-in-Ok g c =
     (g.N.Out.end c.devices.inside.notes) in
     let s = g.F.Files.shelf c.args.files.now in
     let s' = g.F.Files.shelf c.configured.new.files in
-    subst (λ (d : Devices). OfFile true RunsFound c.args.path.now (desk s d) (desk s' c.run_buffered.result.1) c.run_buffered.result.0)
+    subst (λ (d : Devices). OfFile true RunsFound c.args.path.now (desk s d) (desk s' c.run_buffered.result.1)
+    c.run_buffered.result.0)
     c.devices.view_is
     (of_used RunsConfig true c.args.path.now s s' before
-    (devices (g.R.In.end c.devices.inside.reader) (g.W.Out.end c.devices.inside.out) (g.N.Out.end c.configured.new.notes))
+    (devices (g.R.In.end c.devices.inside.reader) (g.W.Out.end c.devices.inside.out)
+    (g.N.Out.end c.configured.new.notes))
     c.run_buffered.result.1 c.in-Ok.config c.run_buffered.result.0 c.in-Ok.ensures.value refl c.run_buffered.ensures)
 
 pub returns-in-Err : goal.returns-in-Err
@@ -24,8 +26,11 @@ returns-in-Err g c =
     (g.N.Out.end c.devices.inside.notes) in
     let s = g.F.Files.shelf c.args.files.now in
     let s' = g.F.Files.shelf c.configured.new.files in
-    subst (λ (d : Devices). OfFile true RunsFound c.args.path.now (desk s d) (desk s' (devices (g.R.In.end c.devices.inside.reader) (g.W.Out.end c.devices.inside.out) (g.N.Out.end c.configured.new.notes))) c.in-Err.status)
+    subst (λ (d : Devices). OfFile true RunsFound c.args.path.now (desk s d)
+    (desk s' (devices (g.R.In.end c.devices.inside.reader) (g.W.Out.end c.devices.inside.out)
+    (g.N.Out.end c.configured.new.notes))) c.in-Err.status)
     c.devices.view_is
     (of_never RunsConfig true c.args.path.now (desk s before)
-    (desk s' (devices (g.R.In.end c.devices.inside.reader) (g.W.Out.end c.devices.inside.out) (g.N.Out.end c.configured.new.notes)))
+    (desk s' (devices (g.R.In.end c.devices.inside.reader) (g.W.Out.end c.devices.inside.out)
+    (g.N.Out.end c.configured.new.notes)))
     c.in-Err.status (c.in-Err.ensures.value (g.R.In.end c.devices.inside.reader) (g.W.Out.end c.devices.inside.out)))

@@ -15,8 +15,10 @@ returns-in-Ok g c =
     (desk s' c.simulate_buffered.result.1) c.simulate_buffered.result.0)
     c.devices.view_is
     (of_used (SimulatesEdges c.args.mode) false c.args.path.now s s' before
-    (devices (g.R.In.end c.devices.inside.reader) (g.W.Out.end c.devices.inside.out) (g.N.Out.end c.configured.new.notes))
-    c.simulate_buffered.result.1 c.in-Ok.config c.simulate_buffered.result.0 c.in-Ok.ensures.value refl c.simulate_buffered.ensures)
+    (devices (g.R.In.end c.devices.inside.reader) (g.W.Out.end c.devices.inside.out)
+    (g.N.Out.end c.configured.new.notes))
+    c.simulate_buffered.result.1 c.in-Ok.config c.simulate_buffered.result.0 c.in-Ok.ensures.value refl
+    c.simulate_buffered.ensures)
 
 pub returns-in-Err : goal.returns-in-Err
 returns-in-Err g c =
@@ -29,5 +31,6 @@ returns-in-Err g c =
     c.in-Err.status)
     c.devices.view_is
     (of_never (SimulatesEdges c.args.mode) false c.args.path.now (desk s before)
-    (desk s' (devices (g.R.In.end c.devices.inside.reader) (g.W.Out.end c.devices.inside.out) (g.N.Out.end c.configured.new.notes)))
+    (desk s' (devices (g.R.In.end c.devices.inside.reader) (g.W.Out.end c.devices.inside.out)
+    (g.N.Out.end c.configured.new.notes)))
     c.in-Err.status (c.in-Err.ensures.value (g.R.In.end c.devices.inside.reader) (g.W.Out.end c.devices.inside.out)))

@@ -14,9 +14,12 @@ loop-place-preserved c =
     let new = c.push_reserved.new.self.items in
     let more = c.push_reserved.ensures.items in
     record {
-      next = range_step (λ (x : Link). x.next) (map (λ (x : Link). x.next) old) now new _ start at low kept.next more refl;
-      prev = range_step (λ (x : Link). x.prev) (map (λ (x : Link). x.prev) old) now new _ start at low kept.prev more refl;
-      marks = same_step (λ (x : Link). x.mark) (map (λ (x : Link). x.mark) old) now new _ 0 start at low kept.marks more refl;
+      next = range_step (λ (x : Link). x.next) (map (λ (x : Link). x.next) old) now new _ start at low kept.next more
+          refl;
+      prev = range_step (λ (x : Link). x.prev) (map (λ (x : Link). x.prev) old) now new _ start at low kept.prev more
+          refl;
+      marks = same_step (λ (x : Link). x.mark) (map (λ (x : Link). x.mark) old) now new _ 0 start at low kept.marks more
+          refl;
       len = search rules;
       room = c.push_reserved.ensures.capacity ∙ kept.room;
     }

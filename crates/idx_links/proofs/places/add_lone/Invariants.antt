@@ -5,9 +5,12 @@ use Rattle.idx_links.proofs.places.add_lone.Given as goal
 
 abbrev pub invariant-loop-place : goal.invariant-loop-place
 invariant-loop-place l = record {
-  next : map (λ (x : Link). x.next) l.links.items ≡ map (λ (x : Link). x.next) l.fn.links.items ++ range_with_len (vec_len l.fn.links) (l.place - vec_len l.fn.links);
-  prev : map (λ (x : Link). x.prev) l.links.items ≡ map (λ (x : Link). x.prev) l.fn.links.items ++ range_with_len (vec_len l.fn.links) (l.place - vec_len l.fn.links);
-  marks : map (λ (x : Link). x.mark) l.links.items ≡ map (λ (x : Link). x.mark) l.fn.links.items ++ replicate (l.place - vec_len l.fn.links) 0;
+  next : map (λ (x : Link). x.next) l.links.items ≡ map (λ (x : Link). x.next) l.fn.links.items
+      ++ range_with_len (vec_len l.fn.links) (l.place - vec_len l.fn.links);
+  prev : map (λ (x : Link). x.prev) l.links.items ≡ map (λ (x : Link). x.prev) l.fn.links.items
+      ++ range_with_len (vec_len l.fn.links) (l.place - vec_len l.fn.links);
+  marks : map (λ (x : Link). x.mark) l.links.items ≡ map (λ (x : Link). x.mark) l.fn.links.items
+      ++ replicate (l.place - vec_len l.fn.links) 0;
   len : vec_len l.links ≡ l.place;
   room : vec_capacity l.links ≡ vec_capacity l.fn.links;
 }

@@ -4,10 +4,12 @@ use Rattle.mac_arena.proofs.Looking.{learn_entry, learn_size, pin_entry, pin_siz
 use Rattle.mac_arena.proofs.laws.entries_after.Goals as goal
 
 pub returns-clause-learnt : goal.returns-clause-learnt
-returns-clause-learnt c = learn_entry c.args.table.now c.args.key.now c.args.port c.args.second (learnt_of c.args.table.now c.args.key.now c.args.port)
+returns-clause-learnt c = learn_entry c.args.table.now c.args.key.now c.args.port c.args.second
+    (learnt_of c.args.table.now c.args.key.now c.args.port)
 
 pub returns-clause-size_learnt : goal.returns-clause-size_learnt
-returns-clause-size_learnt c = learn_size c.args.table.now c.args.key.now c.args.port c.args.second (learnt_of c.args.table.now c.args.key.now c.args.port) refl
+returns-clause-size_learnt c = learn_size c.args.table.now c.args.key.now c.args.port c.args.second
+    (learnt_of c.args.table.now c.args.key.now c.args.port) refl
 
 pub returns-clause-pinned : goal.returns-clause-pinned
 returns-clause-pinned c = pin_entry c.args.table.now c.args.key.now c.args.port

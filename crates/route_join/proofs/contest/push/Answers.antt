@@ -8,4 +8,5 @@ settle-requires-clause-others c = λ p ne.
     let bs = c.args.bouts.now.items in
     let v = c.args.bouts.now in
     let end : c.len-place.result ≡ length bs = omega (arith, c.len-place.ensures, v.ok.0) in
-    subst (λ xs. IsSettledAt xs p) (sym c.push_reserved.ensures.items) (pushed_others bs c.requires.settled c.args.update.now p (λ e. ne (e ∙ sym end)))
+    subst (λ xs. IsSettledAt xs p) (sym c.push_reserved.ensures.items)
+    (pushed_others bs c.requires.settled c.args.update.now p (λ e. ne (e ∙ sym end)))

@@ -14,9 +14,12 @@ stays c =
     let bs = v.items in
     let b : Bout = c.index.result.now in
     let within : c.args.at < length bs = omega (arith, c.requires.within, v.ok.0) in
-    let stands : slice_get bs c.args.at ≡ Some b = slice_get_read bs (length bs) c.args.at b refl within c.index.ensures in
-    let found : c.best_at-best.result ≡ best_at bs c.args.at b.own = c.best_at-best.ensures ∙ ap (λ xs. best_at xs c.args.at b.own) c.deref.ensures.value in
-    stays_settled bs c.args.at b stands c.requires.others (sym found ∙ same_bests c.best_at-best.result b.best (sym c.eq.ensures ∙ c.if-eq.true))
+    let stands : slice_get bs c.args.at ≡ Some b = slice_get_read bs (length bs) c.args.at b refl within
+    c.index.ensures in
+    let found : c.best_at-best.result ≡ best_at bs c.args.at b.own = c.best_at-best.ensures
+    ∙ ap (λ xs. best_at xs c.args.at b.own) c.deref.ensures.value in
+    stays_settled bs c.args.at b stands c.requires.others (sym found
+    ∙ same_bests c.best_at-best.result b.best (sym c.eq.ensures ∙ c.if-eq.true))
 
 pub returns-then-eq-clause-others : goal.returns-then-eq-clause-others
 returns-then-eq-clause-others c = λ p left right. stays c p
@@ -31,7 +34,8 @@ returns-clause-owns c =
     let b : Bout = c.index.result.now in
     let d : Bout = c.index_mut.result.now in
     let within : c.args.at < length bs = omega (arith, c.requires.within, v.ok.0) in
-    let stands : slice_get bs c.args.at ≡ Some d = slice_get_read bs (length bs) c.args.at d refl within c.index_mut.ensures.value in
+    let stands : slice_get bs c.args.at ≡ Some d = slice_get_read bs (length bs) c.args.at d refl within
+    c.index_mut.ensures.value in
     found_owns bs c.args.at d stands c.best_at-best.result
 
 pub returns-clause-others : goal.returns-clause-others
@@ -41,8 +45,12 @@ returns-clause-others c =
     let b : Bout = c.index.result.now in
     let d : Bout = c.index_mut.result.now in
     let within : c.args.at < length bs = omega (arith, c.requires.within, v.ok.0) in
-    let read : slice_get bs c.args.at ≡ Some b = slice_get_read bs (length bs) c.args.at b refl within c.index.ensures in
-    let stands : slice_get bs c.args.at ≡ Some d = slice_get_read bs (length bs) c.args.at d refl within c.index_mut.ensures.value in
+    let read : slice_get bs c.args.at ≡ Some b = slice_get_read bs (length bs) c.args.at b refl within
+    c.index.ensures in
+    let stands : slice_get bs c.args.at ≡ Some d = slice_get_read bs (length bs) c.args.at d refl within
+    c.index_mut.ensures.value in
     let same : b ≡ d = cc in
-    let found : c.best_at-best.result ≡ best_at bs c.args.at d.own = c.best_at-best.ensures ∙ ap (λ xs. best_at xs c.args.at b.own) c.deref.ensures.value ∙ ap (λ (x : Bout). best_at bs c.args.at x.own) same in
+    let found : c.best_at-best.result ≡ best_at bs c.args.at d.own = c.best_at-best.ensures
+    ∙ ap (λ xs. best_at xs c.args.at b.own) c.deref.ensures.value
+    ∙ ap (λ (x : Bout). best_at bs c.args.at x.own) same in
     found_settled bs c.args.at d stands c.requires.others c.best_at-best.result found

@@ -11,9 +11,11 @@ settle-requires-clause-others c =
     let v = c.args.bouts.now in
     let bs = v.items in
     let within : c.args.place < length bs = omega (arith, c.requires.within, v.ok.0) in
-    let stands : slice_get bs c.args.place ≡ Some c.index_mut.result.now = slice_get_read bs (length bs) c.args.place c.index_mut.result.now refl within c.index_mut.ensures.value in
+    let stands : slice_get bs c.args.place ≡ Some c.index_mut.result.now =
+    slice_get_read bs (length bs) c.args.place c.index_mut.result.now refl within c.index_mut.ensures.value in
     replaced_others bs c.requires.settled c.args.update.now c.args.place c.index_mut.result.now stands
 
 pub returns-clause-owns : goal.returns-clause-owns
 returns-clause-owns c =
-    c.settle.ensures.owns ∙ map-set (λ (b : Bout). b.own) c.args.bouts.now.items c.args.place (record { own = c.args.update.now; best = c.index_mut.result.now.best })
+    c.settle.ensures.owns ∙ map-set (λ (b : Bout). b.own) c.args.bouts.now.items c.args.place
+    (record { own = c.args.update.now; best = c.index_mut.result.now.best })

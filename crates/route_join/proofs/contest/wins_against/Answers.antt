@@ -10,7 +10,9 @@ pub returns-then-are_level : goal.returns-then-are_level
 returns-then-are_level c =
     let u = c.args.one.now in
     let w = c.args.other.now in
-    c.wins.ensures ∙ (λ i. wins_by (said i) (best i) (order i)) ∙ both_say u.register w.register (advert_in u.value.content) (advert_in w.value.content) (register_cmp u.register w.register) refl
+    c.wins.ensures ∙ (λ i. wins_by (said i) (best i) (order i))
+    ∙ both_say u.register w.register (advert_in u.value.content) (advert_in w.value.content)
+    (register_cmp u.register w.register) refl
   where
     said : c.advert_in-said.result ≡ advert_in c.args.one.now.value.content
     said = c.advert_in-said.ensures ∙ ap (λ (v : Value). advert_in v.content) c.value.ensures

@@ -4,4 +4,5 @@ use Rattle.route_join.specs.Flood.{flooding}
 use Rattle.route_join.proofs.flood.flood_of.Given as goal
 
 abbrev pub invariant-loop-update : goal.invariant-loop-update
-invariant-loop-update l = flooding l.vni (entries_of l.fn.updates) ≡ l.flood.items ++ flooding l.vni (entries_of l.update-iterator)
+invariant-loop-update l = flooding l.vni (entries_of l.fn.updates) ≡ l.flood.items
+    ++ flooding l.vni (entries_of l.update-iterator)

@@ -7,7 +7,8 @@ use Rattle.route_join.proofs.groups.put_groups.Given as goal
 -- what is left to write makes the whole of what was written
 abbrev pub invariant-loop-subject : goal.invariant-loop-subject
 invariant-loop-subject g l = record {
-  whole : with_text (g.O.Out.end l.initial.out) (group_lines l.groups) ≡ with_text (g.O.Out.end l.out) (group_lines l.subject-iterator);
+  whole : with_text (g.O.Out.end l.initial.out) (group_lines l.groups)
+      ≡ with_text (g.O.Out.end l.out) (group_lines l.subject-iterator);
   groups : AreGroups l.subject-iterator;
   failed : (g.O.Out.end l.out).failures ≡ (g.O.Out.end l.initial.out).failures;
 }

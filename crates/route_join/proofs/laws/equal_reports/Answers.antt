@@ -6,4 +6,5 @@ use Rattle.route_join.proofs.laws.equal_reports.Goals as goal
 -- a report depends on the registers alone
 pub returns : goal.returns
 returns c = λ us vs s t same of_us of_vs.
-    ap (λ registers. report_of (record { originators = []; registers = registers })) (one_table us vs s t same of_us of_vs)
+    ap (λ registers. report_of (record { originators = []; registers = registers }))
+    (one_table us vs s t same of_us of_vs)

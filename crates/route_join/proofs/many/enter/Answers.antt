@@ -15,7 +15,9 @@ returns-clause-kept c =
     let v = c.reserve.new.bouts in
     let long : length v.items ≡ length bs = ap length c.reserve.ensures.items in
     let end : c.len.result ≡ length bs = omega (arith, c.len.ensures, v.ok.0, long) in
-    let is : c.insert.new.self.entries ≡ insert_entry register_cmp es u.register (record { update = u; place = length bs }) =
+    let is : c.insert.new.self.entries ≡ insert_entry register_cmp es u.register
+    (record { update = u; place = length bs }) =
     on_ok c.insert.result _ c.insert.ensures.entries (sym c.is_err.ensures.value ∙ c.if-is_err.false)
     ∙ (λ i. insert_entry register_cmp es (named i) (record { update = u; place = end i })) in
-    many_new es c.insert.new.self.entries bs c.push.new.bouts.items u c.requires.kept c.requires.new is (c.push.ensures.owns ∙ ap (λ x. owns x ++ u ∷ []) c.reserve.ensures.items) c.push.ensures.settled
+    many_new es c.insert.new.self.entries bs c.push.new.bouts.items u c.requires.kept c.requires.new is
+    (c.push.ensures.owns ∙ ap (λ x. owns x ++ u ∷ []) c.reserve.ensures.items) c.push.ensures.settled

@@ -7,6 +7,7 @@ use Rattle.route_join.proofs.report.put_updates.Given as goal
 -- what is left to write makes the whole of what was written
 abbrev pub invariant-loop-update : goal.invariant-loop-update
 invariant-loop-update g l = record {
-  whole : with_text (g.O.Out.end l.initial.out) (register_lines (entries_of l.fn.updates)) ≡ with_text (g.O.Out.end l.out) (register_lines (entries_of l.update-iterator));
+  whole : with_text (g.O.Out.end l.initial.out) (register_lines (entries_of l.fn.updates))
+      ≡ with_text (g.O.Out.end l.out) (register_lines (entries_of l.update-iterator));
   failed : (g.O.Out.end l.out).failures ≡ (g.O.Out.end l.initial.out).failures;
 }

@@ -11,7 +11,13 @@ unfolding IsDistinct
 five_listed = record {
   some = lit< tt;
   few = lit≤ tt;
-  distinct = ((refl, (refl, (refl, (refl, tt)))), ((refl, (refl, (refl, tt))), ((refl, (refl, tt)), ((refl, tt), (tt, tt)))));
+  distinct = (
+    (refl, (refl, (refl, (refl, tt)))),
+    (
+      (refl, (refl, (refl, tt))),
+      ((refl, (refl, tt)), ((refl, tt), (tt, tt))),
+    ),
+  );
 }
 
 pushed : (xs ys new : List ℕ) (a b : ℕ) → new ≡ xs ++ a ∷ [] → xs ≡ ys → a ≡ b → new ≡ ys ++ b ∷ []
@@ -23,5 +29,6 @@ new-requires-6 c =
     let two = pushed _ _ _ _ 0x0a00_0002 c.push-2.ensures.items one c.new-2.ensures in
     let three = pushed _ _ _ _ 0x0a00_0003 c.push-3.ensures.items two c.new-3.ensures in
     let four = pushed _ _ _ _ 0x0a00_0004 c.push-4.ensures.items three c.new-4.ensures in
-    let items : c.push-5.new.self.items ≡ five = pushed _ _ _ _ 0x0a00_0009 c.push-5.ensures.items four c.new-5.ensures in
+    let items : c.push-5.new.self.items ≡ five = pushed _ _ _ _ 0x0a00_0009 c.push-5.ensures.items four
+    c.new-5.ensures in
     subst AreOriginators (sym items) five_listed

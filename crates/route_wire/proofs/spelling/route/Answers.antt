@@ -11,4 +11,9 @@ pub returns-in-Mac-clause-fits : goal.returns-in-Mac-clause-fits
 returns-in-Mac-clause-fits c =
     let fits = c.put_mac_route.ensures.fits in
     let label_fits : Label2Fits (label2_of c.args.content.now) = subst Label2Fits c.label2_of.ensures fits.2 in
-    subst (λ (k : Key). RouteFits k c.args.content.now) (sym c.in-Mac.is) (fits.0, fits.1, label_fits, c.put_mobility.ensures.fits)
+    subst (λ (k : Key). RouteFits k c.args.content.now) (sym c.in-Mac.is) (
+      fits.0,
+      fits.1,
+      label_fits,
+      c.put_mobility.ensures.fits,
+    )

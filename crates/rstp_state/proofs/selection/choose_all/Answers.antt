@@ -8,5 +8,6 @@ pub loop-place-preserved : goal.loop-place-preserved
 loop-place-preserved c =
     let within : c.loop-place.place < length c.loop-place.ports = omega arith in
     rw (c.choose.ensures, c.is_through.ensures)
-    (places_more (λ e. with_choice c.args.settings.now c.args.root.now (is_through c.args.path.now e.0) e.1) _ _ c.loop-place.place _
+    (places_more (λ e. with_choice c.args.settings.now c.args.root.now (is_through c.args.path.now e.0) e.1) _ _
+    c.loop-place.place _
     c.loop-place-test.true c.loop-place.invariant (get_or_default _ _ _ _ within))

@@ -11,7 +11,8 @@ invariant_of-self-2 c =
     let e = claims_of f.voice f.learned f.ports.items f.vnis.items in
     let s = c.args.station.now in
     let old = sym c.self.view_is in
-    advert_claims e c.learn-learnt.new.self c.say.new.self s c.args.port c.args.second c.args.sequence c.learn-learnt.result c.self.invariant
+    advert_claims e c.learn-learnt.new.self c.say.new.self s c.args.port c.args.second c.args.sequence
+    c.learn-learnt.result c.self.invariant
     (subst (λ (b : Claims). entry_at b.learned s ≡ None) old c.requires.new)
     (subst (λ (b : Claims). is_full b.learned ≡ false) old c.requires.room)
     (subst (λ (b : Claims). b.voice.counter < 2 ^ 63) old c.requires.number)

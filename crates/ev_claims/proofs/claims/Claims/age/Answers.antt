@@ -16,14 +16,16 @@ loop-station-smaller c =
     let e = c.loop-station.self in
     let f = front e.learned c.args.limit c.in-Some.station (sym c.in-Some.ensures.first) in
     let less = one_less e c.args.limit c.in-Some.station c.in-Some.ensures.lists f in
-    let new : length c.remove.new.self.learned.ageing ≡ length (gone e.learned c.in-Some.station).ageing = ap (λ (b : Claims). length b.learned.ageing) c.remove.ensures in
+    let new : length c.remove.new.self.learned.ageing ≡ length (gone e.learned c.in-Some.station).ageing =
+    ap (λ (b : Claims). length b.learned.ageing) c.remove.ensures in
     omega (arith, less, new)
 
 pub loop-station-preserved : goal.loop-station-preserved
 loop-station-preserved c =
     let e = c.loop-station.self in
     let f = front e.learned c.args.limit c.in-Some.station (sym c.in-Some.ensures.first) in
-    ap (λ b. after_ageing b c.args.limit) c.remove.ensures ∙ aged_is e c.args.limit c.in-Some.station c.in-Some.ensures.lists f ∙ c.loop-station.invariant
+    ap (λ b. after_ageing b c.args.limit) c.remove.ensures
+    ∙ aged_is e c.args.limit c.in-Some.station c.in-Some.ensures.lists f ∙ c.loop-station.invariant
 
 pub returns : goal.returns
 returns c = sym (none_due c.loop-station.self c.args.limit (sym c.in_default.ensures.first)) ∙ c.loop-station.invariant

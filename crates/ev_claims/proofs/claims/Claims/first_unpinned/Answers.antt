@@ -9,4 +9,5 @@ use Rattle.ev_claims.proofs.claims.Claims.first_unpinned.Goals as goal
 pub returns-clause-first : goal.returns-clause-first
 returns-clause-first c =
     let t = c.self.inside.learned in
-    c.first_of.ensures ∙ first_is t (stations_at t.ports (c.args.port - 1)) ∙ ap (λ (b : Claims). slice_get (unpinned_on b.learned c.args.port) 0) c.self.view_is
+    c.first_of.ensures ∙ first_is t (stations_at t.ports (c.args.port - 1))
+    ∙ ap (λ (b : Claims). slice_get (unpinned_on b.learned c.args.port) 0) c.self.view_is

@@ -6,26 +6,35 @@ use Rattle.ev_claims.proofs.Flushing.{first_is, nobody_left}
 use Rattle.ev_claims.proofs.claims.Claims.flush_port.Goals as goal
 
 pub remove-requires : goal.remove-requires
-remove-requires c = (first_is c.loop-station.self.learned c.in-Some.station c.in-Some.ensures.lists c.args.port c.requires (sym c.in-Some.ensures.first)).known
+remove-requires c = (first_is c.loop-station.self.learned c.in-Some.station c.in-Some.ensures.lists c.args.port
+    c.requires (sym c.in-Some.ensures.first)).known
 
 pub loop-station-smaller : goal.loop-station-smaller
 loop-station-smaller c =
     let e = c.loop-station.self in
-    let f = first_is e.learned c.in-Some.station c.in-Some.ensures.lists c.args.port c.requires (sym c.in-Some.ensures.first) in
-    let old : length (unpinned_on e.learned c.args.port) ≡ length (c.in-Some.station ∷ unpinned_on (gone e.learned c.in-Some.station) c.args.port) = ap length f.rest in
-    let new : length (unpinned_on c.remove.new.self.learned c.args.port) ≡ length (unpinned_on (gone e.learned c.in-Some.station) c.args.port) = ap (λ (b : Claims). length (unpinned_on b.learned c.args.port)) c.remove.ensures in
+    let f = first_is e.learned c.in-Some.station c.in-Some.ensures.lists c.args.port c.requires
+    (sym c.in-Some.ensures.first) in
+    let old : length (unpinned_on e.learned c.args.port)
+    ≡ length (c.in-Some.station ∷ unpinned_on (gone e.learned c.in-Some.station) c.args.port) = ap length f.rest in
+    let new : length (unpinned_on c.remove.new.self.learned c.args.port)
+    ≡ length (unpinned_on (gone e.learned c.in-Some.station) c.args.port) =
+    ap (λ (b : Claims). length (unpinned_on b.learned c.args.port)) c.remove.ensures in
     omega (arith, old, new)
 
 pub loop-station-preserved : goal.loop-station-preserved
 loop-station-preserved c =
     let e = c.loop-station.self in
-    let f = first_is e.learned c.in-Some.station c.in-Some.ensures.lists c.args.port c.requires (sym c.in-Some.ensures.first) in
+    let f = first_is e.learned c.in-Some.station c.in-Some.ensures.lists c.args.port c.requires
+    (sym c.in-Some.ensures.first) in
     record {
-      same = ap (λ (b : Claims). after_removals b (unpinned_on b.learned c.args.port)) c.remove.ensures ∙ sym (ap (after_removals e) f.rest) ∙ c.loop-station.invariant.same;
-      others = λ q some ne. ap (λ (b : Claims). unpinned_on b.learned q) c.remove.ensures ∙ f.others q some ne ∙ c.loop-station.invariant.others q some ne;
+      same = ap (λ (b : Claims). after_removals b (unpinned_on b.learned c.args.port)) c.remove.ensures
+          ∙ sym (ap (after_removals e) f.rest) ∙ c.loop-station.invariant.same;
+      others = λ q some ne. ap (λ (b : Claims). unpinned_on b.learned q) c.remove.ensures ∙ f.others q some ne
+          ∙ c.loop-station.invariant.others q some ne;
     }
 
 pub returns-clause-after : goal.returns-clause-after
 returns-clause-after c =
     let e = c.loop-station.self in
-    sym (ap (after_removals e) (nobody_left (unpinned_on e.learned c.args.port) (sym c.in_default.ensures.first))) ∙ c.loop-station.invariant.same
+    sym (ap (after_removals e) (nobody_left (unpinned_on e.learned c.args.port) (sym c.in_default.ensures.first)))
+    ∙ c.loop-station.invariant.same

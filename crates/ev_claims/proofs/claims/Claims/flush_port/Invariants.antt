@@ -6,7 +6,8 @@ use Rattle.ev_claims.proofs.claims.Claims.flush_port.Given as goal
 
 abbrev pub invariant-loop-station : goal.invariant-loop-station
 invariant-loop-station l = record {
-  same : after_removals l.self (unpinned_on l.self.learned l.port) ≡ after_removals l.initial.self (unpinned_on l.initial.self.learned l.port);
+  same : after_removals l.self (unpinned_on l.self.learned l.port)
+      ≡ after_removals l.initial.self (unpinned_on l.initial.self.learned l.port);
   others : AreKept l.initial.self.learned l.self.learned l.port;
 }
 

@@ -8,17 +8,23 @@ use Rattle.ev_claims.proofs.Ageing.{front_none, front_unknown, front_late, front
 use Rattle.ev_claims.proofs.claims.Claims.oldest_due.Goals as goal
 
 pub returns-in_default-clause-first : goal.returns-in_default-clause-first
-returns-in_default-clause-first c = subst (λ (l : Learning). ◌≡◌ {A = Option Station} None (slice_get (due_in l c.args.limit) 0)) (ap (λ (b : Claims). b.learned) c.self.view_is)
+returns-in_default-clause-first c = subst (λ (l : Learning). ◌≡◌ {A = Option Station} None
+    (slice_get (due_in l c.args.limit) 0)) (ap (λ (b : Claims). b.learned) c.self.view_is)
     (front_none c.self.inside.learned c.args.limit c.in_default.ensures)
 
 pub returns-in_default-look-clause-first : goal.returns-in_default-look-clause-first
-returns-in_default-look-clause-first c = subst (λ (l : Learning). ◌≡◌ {A = Option Station} None (slice_get (due_in l c.args.limit) 0)) (ap (λ (b : Claims). b.learned) c.self.view_is)
+returns-in_default-look-clause-first c = subst (λ (l : Learning). ◌≡◌ {A = Option Station} None
+    (slice_get (due_in l c.args.limit) 0)) (ap (λ (b : Claims). b.learned) c.self.view_is)
     (front_unknown c.self.inside.learned c.args.limit c.in-Some.station c.in-Some.ensures c.in_default-look.ensures)
 
 pub returns-then-entry-limit-clause-first : goal.returns-then-entry-limit-clause-first
-returns-then-entry-limit-clause-first c = subst (λ (l : Learning). ◌≡◌ {A = Option Station} None (slice_get (due_in l c.args.limit) 0)) (ap (λ (b : Claims). b.learned) c.self.view_is)
-    (front_late c.self.inside.learned c.args.limit c.in-Some.station c.in-Some-look.entry c.in-Some.ensures c.in-Some-look.ensures c.if-entry-limit.true)
+returns-then-entry-limit-clause-first c = subst (λ (l : Learning). ◌≡◌ {A = Option Station} None
+    (slice_get (due_in l c.args.limit) 0)) (ap (λ (b : Claims). b.learned) c.self.view_is)
+    (front_late c.self.inside.learned c.args.limit c.in-Some.station c.in-Some-look.entry c.in-Some.ensures
+    c.in-Some-look.ensures c.if-entry-limit.true)
 
 pub returns-clause-first : goal.returns-clause-first
-returns-clause-first c = subst (λ (l : Learning). ◌≡◌ {A = Option Station} (Some c.in-Some.station) (slice_get (due_in l c.args.limit) 0)) (ap (λ (b : Claims). b.learned) c.self.view_is)
-    (front_due c.self.inside.learned c.args.limit c.in-Some.station c.in-Some-look.entry c.in-Some.ensures c.in-Some-look.ensures c.if-entry-limit.false)
+returns-clause-first c = subst (λ (l : Learning). ◌≡◌ {A = Option Station} (Some c.in-Some.station)
+    (slice_get (due_in l c.args.limit) 0)) (ap (λ (b : Claims). b.learned) c.self.view_is)
+    (front_due c.self.inside.learned c.args.limit c.in-Some.station c.in-Some-look.entry c.in-Some.ensures
+    c.in-Some-look.ensures c.if-entry-limit.false)

@@ -13,25 +13,35 @@ pub invariant_of-result : goal.invariant_of-result
 invariant_of-result c =
     let s = c.args.start in
     let vs = refill (length s.vnis.items) s.vnis.items c.sort_unstable.new.self in
-    let size : length c.sort_unstable.new.self ≡ length s.vnis.items = c.sort_unstable.ensures.len ∙ ap length c.as_mut_slice.ensures.value in
-    let few : length s.vnis.items ≤ 64 = subst (λ (xs : List ℕ). length xs ≤ 64) c.as_mut_slice.ensures.value c.as_mut_slice.ensures.fits in
-    let same : length vs ≡ length c.sort_unstable.new.self = ap length (refilled s.vnis.items c.sort_unstable.new.self size) in
-    let voice : c.open.new.self ≡ after_floods (silent s.address s.incarnation s.originators.items) vs = c.in_ok-open.ensures ∙ (λ i. after_floods (c.in_ok-voice.ensures i) (c.as_slice.ensures.value i)) in
-    let learned : c.in_ok-learned.learned ≡ nothing_learnt s.capacity (length s.ports.items) s.buckets s.salt = c.in_ok-learned.ensures ∙ ap (λ n. nothing_learnt s.capacity n s.buckets s.salt) c.len-ports.ensures.value in
+    let size : length c.sort_unstable.new.self ≡ length s.vnis.items = c.sort_unstable.ensures.len
+    ∙ ap length c.as_mut_slice.ensures.value in
+    let few : length s.vnis.items ≤ 64 = subst (λ (xs : List ℕ). length xs ≤ 64) c.as_mut_slice.ensures.value
+    c.as_mut_slice.ensures.fits in
+    let same : length vs ≡ length c.sort_unstable.new.self =
+    ap length (refilled s.vnis.items c.sort_unstable.new.self size) in
+    let voice : c.open.new.self ≡ after_floods (silent s.address s.incarnation s.originators.items) vs =
+    c.in_ok-open.ensures ∙ (λ i. after_floods (c.in_ok-voice.ensures i) (c.as_slice.ensures.value i)) in
+    let learned : c.in_ok-learned.learned ≡ nothing_learnt s.capacity (length s.ports.items) s.buckets s.salt =
+    c.in_ok-learned.ensures ∙ ap (λ n. nothing_learnt s.capacity n s.buckets s.salt) c.len-ports.ensures.value in
     let ports : length s.ports.items ≤ 64 = subst (λ n. n ≤ 64) c.len-ports.ensures.value c.len-ports.ensures.fits in
     subst KeepsClaims (λ i. claims_of (sym voice i) (sym learned i) s.ports.items vs)
-    (opened_claims s.address s.incarnation s.originators.items vs s.ports.items s.capacity s.buckets s.salt c.requires.capacity ports (omega (arith, same, size, few)))
+    (opened_claims s.address s.incarnation s.originators.items vs s.ports.items s.capacity s.buckets s.salt
+    c.requires.capacity ports (omega (arith, same, size, few)))
 
 pub returns : goal.returns
 returns c =
     let s = c.args.start in
     let vs = refill (length s.vnis.items) s.vnis.items c.sort_unstable.new.self in
-    let size : length c.sort_unstable.new.self ≡ length s.vnis.items = c.sort_unstable.ensures.len ∙ ap length c.as_mut_slice.ensures.value in
+    let size : length c.sort_unstable.new.self ≡ length s.vnis.items = c.sort_unstable.ensures.len
+    ∙ ap length c.as_mut_slice.ensures.value in
     let is : vs ≡ c.sort_unstable.new.self = refilled s.vnis.items c.sort_unstable.new.self size in
     record {
-      vnis = subst (IsPermutation s.vnis.items) (sym is) (subst (λ (xs : List ℕ). IsPermutation xs c.sort_unstable.new.self) c.as_mut_slice.ensures.value c.sort_unstable.ensures.permutation);
+      vnis = subst (IsPermutation s.vnis.items) (sym is)
+          (subst (λ (xs : List ℕ). IsPermutation xs c.sort_unstable.new.self) c.as_mut_slice.ensures.value
+          c.sort_unstable.ensures.permutation);
       ascending = subst (IsSorted nat_cmp) (sym is) c.sort_unstable.ensures.sorted;
       voice = c.in_ok-open.ensures ∙ (λ i. after_floods (c.in_ok-voice.ensures i) (c.as_slice.ensures.value i));
-      learned = c.in_ok-learned.ensures ∙ ap (λ n. nothing_learnt s.capacity n s.buckets s.salt) c.len-ports.ensures.value;
+      learned = c.in_ok-learned.ensures ∙ ap (λ n. nothing_learnt s.capacity n s.buckets s.salt)
+          c.len-ports.ensures.value;
       ports = refl;
     }

@@ -12,19 +12,24 @@ pub withdraw-requires-clause-number : goal.withdraw-requires-clause-number
 withdraw-requires-clause-number c =
     let f = c.self.inside in
     let e = claims_of f.voice f.learned f.ports.items f.vnis.items in
-    let x = known_entry e c.args.station.now (subst (λ (b : Claims). IsSome (entry_at b.learned c.args.station.now)) (sym c.self.view_is) c.requires) in
+    let x = known_entry e c.args.station.now (subst (λ (b : Claims). IsSome (entry_at b.learned c.args.station.now))
+    (sym c.self.view_is) c.requires) in
     number_left e c.self.invariant (some e.learned c.args.station.now x.0 x.1)
 
 pub withdraw-requires-clause-there : goal.withdraw-requires-clause-there
 withdraw-requires-clause-there c =
     let f = c.self.inside in
     let e = claims_of f.voice f.learned f.ports.items f.vnis.items in
-    subst (λ k. IsSome (own_advert f.voice k)) (sym c.key_of-key.ensures) (known_advert e c.args.station.now c.self.invariant (subst (λ (b : Claims). IsSome (entry_at b.learned c.args.station.now)) (sym c.self.view_is) c.requires))
+    subst (λ k. IsSome (own_advert f.voice k)) (sym c.key_of-key.ensures)
+    (known_advert e c.args.station.now c.self.invariant
+    (subst (λ (b : Claims). IsSome (entry_at b.learned c.args.station.now)) (sym c.self.view_is) c.requires))
 
 pub invariant_of-self : goal.invariant_of-self
 invariant_of-self c =
     let f = c.self.inside in
     let e = claims_of f.voice f.learned f.ports.items f.vnis.items in
-    let x = known_entry e c.args.station.now (subst (λ (b : Claims). IsSome (entry_at b.learned c.args.station.now)) (sym c.self.view_is) c.requires) in
+    let x = known_entry e c.args.station.now (subst (λ (b : Claims). IsSome (entry_at b.learned c.args.station.now))
+    (sym c.self.view_is) c.requires) in
     let voice = c.withdraw.ensures ∙ ap (λ k. after_saying f.voice k Withdrawn) c.key_of-key.ensures in
-    subst KeepsClaims (λ i. claims_of (sym voice i) (sym c.remove-was.ensures.after i) f.ports.items f.vnis.items) (removal_claims e c.args.station.now x.0 x.1 c.self.invariant)
+    subst KeepsClaims (λ i. claims_of (sym voice i) (sym c.remove-was.ensures.after i) f.ports.items f.vnis.items)
+    (removal_claims e c.args.station.now x.0 x.1 c.self.invariant)

@@ -19,5 +19,6 @@ returns c =
     let q = queue c.self.inside.links in
     let node = c.in-Some.node in
     let named = c.in-Some-get.ensures.lookup.3 in
-    ap Some (c.register.ensures ∙ named.1 no_register ∙ ap (λ (xs : List Register). register_at xs node) c.deref.ensures.value)
+    ap Some (c.register.ensures ∙ named.1 no_register ∙ ap (λ (xs : List Register). register_at xs node)
+    c.deref.ensures.value)
     ∙ sym (front_map rs q node (sym c.in-Some.ensures)) ∙ ap (λ (p : Pending). slice_get p.waiting 0) c.self.view_is

@@ -12,7 +12,8 @@ returns-in-Some-clause-known c =
     let f = c.self.inside in
     let reg = c.args.register.now in
     let at = ap (node_of f.nodes.entries) (sym c.new.ensures) ∙ sym c.in-Some.ensures.value in
-    subst (λ (p : Pending). Contains p.known reg) c.self.view_is (get_contains f.registers.items _ reg (c.self.invariant.back reg _ at))
+    subst (λ (p : Pending). Contains p.known reg) c.self.view_is
+    (get_contains f.registers.items _ reg (c.self.invariant.back reg _ at))
 
 pub invariant_of-self-2 : goal.invariant_of-self-2
 invariant_of-self-2 c =
@@ -20,19 +21,26 @@ invariant_of-self-2 c =
     let rs = f.registers.items in
     let reg = c.args.register.now in
     let updates = on_ok c.insert.result _ c.insert.ensures.updates (sym c.is_err.ensures.value ∙ c.if-is_err.false) in
-    let items : c.push_reserved.new.self.items ≡ rs ++ reg ∷ [] = c.push_reserved.ensures.items ∙ (λ i. c.in_ok-reserve.ensures.items i ++ c.new-3.ensures i ∷ []) in
+    let items : c.push_reserved.new.self.items ≡ rs ++ reg ∷ [] = c.push_reserved.ensures.items
+    ∙ (λ i. c.in_ok-reserve.ensures.items i ++ c.new-3.ensures i ∷ []) in
     let count : length c.as_slice-registers.result.now ≡ length rs = ap length c.as_slice-registers.ensures.value in
     subst (λ xs. IsPending c.spare_node.new.links xs c.insert.new.self.entries c.spare_node.new.room) (sym items)
-    (room_pending f.links c.spare_node.new.links rs f.nodes.entries c.insert.new.self.entries f.room c.spare_node.new.room reg c.self.invariant c.spare_node.ensures.families c.spare_node.ensures.counted c.spare_node.ensures.small
+    (room_pending f.links c.spare_node.new.links rs f.nodes.entries c.insert.new.self.entries f.room
+    c.spare_node.new.room reg c.self.invariant c.spare_node.ensures.families c.spare_node.ensures.counted
+    c.spare_node.ensures.small
     (subst (λ n. n < c.spare_node.new.room) count c.in_ok-spare_node.ensures.enough)
     (ap (node_of f.nodes.entries) (sym c.new.ensures) ∙ sym c.in_default.ensures.value)
-    (λ q. updates.0 q ∙ (λ i. cond (eq_by_cmp register_cmp (c.new-2.ensures i) q) (Some (count i)) (node_of f.nodes.entries q))))
+    (λ q. updates.0 q ∙ (λ i. cond (eq_by_cmp register_cmp (c.new-2.ensures i) q) (Some (count i))
+    (node_of f.nodes.entries q))))
 
 pub returns-clause-waiting : goal.returns-clause-waiting
 returns-clause-waiting c =
     let f = c.self.inside in
     let rs = f.registers.items in
     let reg = c.args.register.now in
-    let items : c.push_reserved.new.self.items ≡ rs ++ reg ∷ [] = c.push_reserved.ensures.items ∙ (λ i. c.in_ok-reserve.ensures.items i ++ c.new-3.ensures i ∷ []) in
-    let same : queue c.spare_node.new.links ≡ queue f.links = ap (λ fs. slice_index_or (slice_index_or fs 0 []) 0 []) c.spare_node.ensures.families in
-    (λ i. map (register_at (items i)) (same i)) ∙ same_names rs reg (queue f.links) c.self.invariant.within ∙ ap (λ (p : Pending). p.waiting) c.self.view_is
+    let items : c.push_reserved.new.self.items ≡ rs ++ reg ∷ [] = c.push_reserved.ensures.items
+    ∙ (λ i. c.in_ok-reserve.ensures.items i ++ c.new-3.ensures i ∷ []) in
+    let same : queue c.spare_node.new.links ≡ queue f.links =
+    ap (λ fs. slice_index_or (slice_index_or fs 0 []) 0 []) c.spare_node.ensures.families in
+    (λ i. map (register_at (items i)) (same i)) ∙ same_names rs reg (queue f.links) c.self.invariant.within
+    ∙ ap (λ (p : Pending). p.waiting) c.self.view_is

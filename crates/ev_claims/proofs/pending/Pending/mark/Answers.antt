@@ -1,13 +1,15 @@
 use Rattle.std.proofs.Common.{not, sym, ap, ◌∙◌, map}
 use Rattle.ev_claims.specs.Pending.{Pending, queue, register_at, node_of, marked}
-use Rattle.ev_claims.proofs.Queue.{queue_pushed, waits, unmarked_waiting, off_queue, on_queue, marked_is, marked_pending}
+use Rattle.ev_claims.proofs.Queue.{queue_pushed, waits, unmarked_waiting, off_queue, on_queue, marked_is}
+use Rattle.ev_claims.proofs.Queue.{marked_pending}
 use Rattle.ev_claims.proofs.pending.Pending.mark.Goals as goal
 
 pub invariant_of-self : goal.invariant_of-self
 invariant_of-self c =
     let f = c.self.inside in
     let at = ap (node_of f.nodes.entries) (sym c.new.ensures) ∙ sym c.in-Some.ensures.value in
-    marked_pending f.links c.push_back.new.self f.registers.items f.nodes.entries f.room c.args.register c.in-Some.node.now c.self.invariant at c.push_back.ensures.nodes c.push_back.ensures.families
+    marked_pending f.links c.push_back.new.self f.registers.items f.nodes.entries f.room c.args.register
+    c.in-Some.node.now c.self.invariant at c.push_back.ensures.nodes c.push_back.ensures.families
 
 pub returns-then-is_none : goal.returns-then-is_none
 returns-then-is_none c =
@@ -15,10 +17,17 @@ returns-then-is_none c =
     let rs = f.registers.items in
     let node = c.in-Some.node.now in
     let at = ap (node_of f.nodes.entries) (sym c.new.ensures) ∙ sym c.in-Some.ensures.value in
-    let free = off_queue f.links node c.list_of.result (c.is_none.ensures ∙ ap not c.if-is_none.true) c.list_of.ensures.off in
-    let pushed = queue_pushed f.links c.push_back.new.self node c.self.invariant.one c.self.invariant.list c.push_back.ensures.families in
-    let waiting = marked_is f.links c.push_back.new.self rs f.nodes.entries f.room c.args.register node c.self.invariant at free pushed in
-    (λ i. let p : Pending = record { known = rs; waiting = waiting i } in p) ∙ ap (λ (p : Pending). let q : Pending = record { known = p.known; waiting = marked p.waiting c.args.register } in q) c.self.view_is
+    let free = off_queue f.links node c.list_of.result (c.is_none.ensures ∙ ap not c.if-is_none.true)
+    c.list_of.ensures.off in
+    let pushed = queue_pushed f.links c.push_back.new.self node c.self.invariant.one c.self.invariant.list
+    c.push_back.ensures.families in
+    let waiting = marked_is f.links c.push_back.new.self rs f.nodes.entries f.room c.args.register node c.self.invariant
+    at free pushed in
+    (λ i. let p : Pending = record { known = rs; waiting = waiting i } in p)
+    ∙ ap (λ (p : Pending). let q : Pending = record {
+      known = p.known;
+      waiting = marked p.waiting c.args.register;
+    } in q) c.self.view_is
 
 pub returns-else-is_none : goal.returns-else-is_none
 returns-else-is_none c =
@@ -26,6 +35,12 @@ returns-else-is_none c =
     let rs = f.registers.items in
     let node = c.in-Some.node.now in
     let at = ap (node_of f.nodes.entries) (sym c.new.ensures) ∙ sym c.in-Some.ensures.value in
-    let on = on_queue f.links node c.list_of.result c.self.invariant.list (c.is_none.ensures ∙ ap not c.if-is_none.false) c.list_of.ensures.on c.list_of.ensures.within in
-    let waiting = unmarked_waiting (map (register_at rs) (queue f.links)) c.args.register (waits f.links rs f.nodes.entries f.room c.args.register node c.self.invariant at ∙ on) in
-    (λ i. let p : Pending = record { known = rs; waiting = waiting i } in p) ∙ ap (λ (p : Pending). let q : Pending = record { known = p.known; waiting = marked p.waiting c.args.register } in q) c.self.view_is
+    let on = on_queue f.links node c.list_of.result c.self.invariant.list (c.is_none.ensures
+    ∙ ap not c.if-is_none.false) c.list_of.ensures.on c.list_of.ensures.within in
+    let waiting = unmarked_waiting (map (register_at rs) (queue f.links)) c.args.register
+    (waits f.links rs f.nodes.entries f.room c.args.register node c.self.invariant at ∙ on) in
+    (λ i. let p : Pending = record { known = rs; waiting = waiting i } in p)
+    ∙ ap (λ (p : Pending). let q : Pending = record {
+      known = p.known;
+      waiting = marked p.waiting c.args.register;
+    } in q) c.self.view_is

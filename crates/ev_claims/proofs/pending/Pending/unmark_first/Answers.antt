@@ -7,14 +7,19 @@ use Rattle.ev_claims.proofs.pending.Pending.unmark_first.Goals as goal
 pub invariant_of-self : goal.invariant_of-self
 invariant_of-self c =
     let f = c.self.inside in
-    left_pending f.links c.unlink.new.self f.registers.items f.nodes.entries f.room c.in-Some.node c.self.invariant c.unlink.ensures.nodes c.unlink.ensures.families
+    left_pending f.links c.unlink.new.self f.registers.items f.nodes.entries f.room c.in-Some.node c.self.invariant
+    c.unlink.ensures.nodes c.unlink.ensures.families
 
 pub returns : goal.returns
 returns c =
     let f = c.self.inside in
     let rs = f.registers.items in
-    let waiting = ap (map (register_at rs)) (queue_left f.links c.unlink.new.self c.in-Some.node c.self.invariant.one c.self.invariant.list c.unlink.ensures.families ∙ front_out (queue f.links) c.in-Some.node (sym c.in-Some.ensures)) ∙ drop_map rs (queue f.links) in
-    (λ i. let p : Pending = record { known = rs; waiting = waiting i } in p) ∙ ap (λ (p : Pending). let q : Pending = record { known = p.known; waiting = drop 1 p.waiting } in q) c.self.view_is
+    let waiting = ap (map (register_at rs)) (queue_left f.links c.unlink.new.self c.in-Some.node c.self.invariant.one
+    c.self.invariant.list c.unlink.ensures.families
+    ∙ front_out (queue f.links) c.in-Some.node (sym c.in-Some.ensures)) ∙ drop_map rs (queue f.links) in
+    (λ i. let p : Pending = record { known = rs; waiting = waiting i } in p)
+    ∙ ap (λ (p : Pending). let q : Pending = record { known = p.known; waiting = drop 1 p.waiting } in
+    q) c.self.view_is
 
 pub unlink-requires : goal.unlink-requires
 unlink-requires c =

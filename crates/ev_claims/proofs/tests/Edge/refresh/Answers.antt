@@ -16,5 +16,7 @@ invariant_of-self c =
     let later : edge.now ≤ c.args.second = omega arith in
     record {
       latest = subst (λ (e : Claims). IsLatest e.learned c.args.second) (sym c.refresh.ensures)
-          (latest_learn edge.claims.learned c.args.station c.args.port c.args.second (learnt_of edge.claims.learned c.args.station c.args.port) (latest_later edge.claims.learned edge.now c.args.second later edge.latest));
+          (latest_learn edge.claims.learned c.args.station c.args.port c.args.second
+          (learnt_of edge.claims.learned c.args.station c.args.port)
+          (latest_later edge.claims.learned edge.now c.args.second later edge.latest));
     }

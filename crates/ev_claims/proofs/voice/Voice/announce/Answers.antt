@@ -5,16 +5,19 @@ use Rattle.ev_claims.proofs.Hearing.{announced_voice, nobody_first, announced_th
 use Rattle.ev_claims.proofs.voice.Voice.announce.Goals as goal
 
 pub returns-in_default-clause-none : goal.returns-in_default-clause-none
-returns-in_default-clause-none c = subst (λ (v : Voice). v.pending ≡ []) c.self.view_is (nobody_first c.self.inside.pending.waiting (sym c.in_default.is ∙ c.first.ensures))
+returns-in_default-clause-none c = subst (λ (v : Voice). v.pending ≡ []) c.self.view_is
+    (nobody_first c.self.inside.pending.waiting (sym c.in_default.is ∙ c.first.ensures))
 
 pub invariant_of-self : goal.invariant_of-self
 invariant_of-self c =
     let f = c.self.inside in
     let e = voice_of f.address f.incarnation f.table f.counter f.pending in
-    subst (λ (p : Pending). IsVoice (voice_of f.address f.incarnation f.table f.counter p) p.known) (sym c.unmark_first.ensures) (announced_voice e f.pending.known c.self.invariant)
+    subst (λ (p : Pending). IsVoice (voice_of f.address f.incarnation f.table f.counter p) p.known)
+    (sym c.unmark_first.ensures) (announced_voice e f.pending.known c.self.invariant)
 
 pub returns-clause-none : goal.returns-clause-none
 returns-clause-none c =
     let f = c.self.inside in
     let e = voice_of f.address f.incarnation f.table f.counter f.pending in
-    announced_there e c.in-Some.register c.register.result (c.args.self.now.pending ≡ []) c.self.invariant.numbers (sym c.in-Some.is ∙ c.first.ensures) c.register.ensures
+    announced_there e c.in-Some.register c.register.result (c.args.self.now.pending ≡ []) c.self.invariant.numbers
+    (sym c.in-Some.is ∙ c.first.ensures) c.register.ensures

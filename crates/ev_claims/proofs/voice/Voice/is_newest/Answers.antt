@@ -11,4 +11,5 @@ returns-in-Some c =
     let u = c.args.update.now in
     let found = sym c.in-Some.is ∙ c.register.ensures ∙ ap (update_at t) c.register-register.ensures in
     let is_there = there t u.register c.in-Some.last found in
-    c.is_newer.ensures ∙ ap (is_newer u.value) is_there.valued ∙ sym (ap (λ o. is_news o u.value) is_there.at) ∙ ap (λ (v : Voice). is_newest v u) c.self.view_is
+    c.is_newer.ensures ∙ ap (is_newer u.value) is_there.valued ∙ sym (ap (λ o. is_news o u.value) is_there.at)
+    ∙ ap (λ (v : Voice). is_newest v u) c.self.view_is

@@ -11,4 +11,5 @@ invariant_of-result c =
     let n = c.args.incarnation in
     let nobody : Pending = record { known = []; waiting = [] } in
     subst (λ (p : Pending). IsVoice (voice_of a n c.new-2.result 0 p) p.known) (sym c.in_ok-pending.ensures)
-    (subst (λ (t : Table). IsVoice (voice_of a n t 0 nobody) []) (sym c.new-2.ensures) (silent_voice a n c.args.originators.items c.requires.listed))
+    (subst (λ (t : Table). IsVoice (voice_of a n t 0 nobody) []) (sym c.new-2.ensures)
+    (silent_voice a n c.args.originators.items c.requires.listed))

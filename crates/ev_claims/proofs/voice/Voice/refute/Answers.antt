@@ -7,4 +7,5 @@ use Rattle.ev_claims.proofs.voice.Voice.refute.Goals as goal
 
 pub returns-in-Ok-clause-ok : goal.returns-in-Ok-clause-ok
 returns-in-Ok-clause-ok c =
-    c.in-Ok.ensures.ok ∙ ap (λ (q : Register). after_saying c.args.self.now q.key Withdrawn) c.register.ensures ∙ sym (refuted_is c.args.self.now c.args.update.now Withdrawn c.requires.own)
+    c.in-Ok.ensures.ok ∙ ap (λ (q : Register). after_saying c.args.self.now q.key Withdrawn) c.register.ensures
+    ∙ sym (refuted_is c.args.self.now c.args.update.now Withdrawn c.requires.own)

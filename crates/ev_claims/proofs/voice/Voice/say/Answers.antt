@@ -12,14 +12,24 @@ invariant_of-self-2 c =
     let f = c.self.inside in
     let k = c.args.key.now in
     let e = voice_of f.address f.incarnation f.table f.counter f.pending in
-    let table = on_ok c.take.result _ c.take.ensures.table (sym c.is_err.ensures.value ∙ c.if-is_err.false) ∙ ap (with_update f.table) c.new-update.ensures ∙ said_joins e k c.args.content c.self.invariant.numbers in
+    let table = on_ok c.take.result _ c.take.ensures.table (sym c.is_err.ensures.value ∙ c.if-is_err.false)
+    ∙ ap (with_update f.table) c.new-update.ensures ∙ said_joins e k c.args.content c.self.invariant.numbers in
     let named = c.register.ensures ∙ ap (λ (u : Fields). u.register) c.new-update.ensures in
-    let waiting = ap (λ (p : Pending). p.waiting) c.mark.ensures ∙ (λ i. marked (c.make_room.ensures.waiting i) (named i)) in
+    let waiting = ap (λ (p : Pending). p.waiting) c.mark.ensures
+    ∙ (λ i. marked (c.make_room.ensures.waiting i) (named i)) in
     let known : c.mark.new.self.known ≡ c.make_room.new.self.known = ap (λ (p : Pending). p.known) c.mark.ensures in
-    let is : voice_of f.address f.incarnation c.take.new.self (f.counter + 1) c.mark.new.self ≡ after_saying e k c.args.content = (λ i. record { address = f.address; incarnation = f.incarnation; table = table i; counter = f.counter + 1; pending = waiting i }) in
+    let is : voice_of f.address f.incarnation c.take.new.self (f.counter + 1) c.mark.new.self
+    ≡ after_saying e k c.args.content = (λ i. record {
+      address = f.address;
+      incarnation = f.incarnation;
+      table = table i;
+      counter = f.counter + 1;
+      pending = waiting i;
+    }) in
     subst (IsVoice _) (sym known) (subst (λ v. IsVoice v c.make_room.new.self.known) (sym is) (record {
       numbers = said_numbers e k c.args.content c.self.invariant.numbers;
-      rooms = said_rooms e k c.args.content c.make_room.new.self.known c.in_ok-make_room.ensures.known (λ j v at present. c.make_room.ensures.kept (own_register e j) (c.self.invariant.rooms j v at present));
+      rooms = said_rooms e k c.args.content c.make_room.new.self.known c.in_ok-make_room.ensures.known
+          (λ j v at present. c.make_room.ensures.kept (own_register e j) (c.self.invariant.rooms j v at present));
     }))
 
 pub returns-clause-ok : goal.returns-clause-ok
@@ -27,7 +37,15 @@ returns-clause-ok c =
     let f = c.self.inside in
     let k = c.args.key.now in
     let e = voice_of f.address f.incarnation f.table f.counter f.pending in
-    let table = on_ok c.take.result _ c.take.ensures.table (sym c.is_err.ensures.value ∙ c.if-is_err.false) ∙ ap (with_update f.table) c.new-update.ensures ∙ said_joins e k c.args.content c.self.invariant.numbers in
+    let table = on_ok c.take.result _ c.take.ensures.table (sym c.is_err.ensures.value ∙ c.if-is_err.false)
+    ∙ ap (with_update f.table) c.new-update.ensures ∙ said_joins e k c.args.content c.self.invariant.numbers in
     let named = c.register.ensures ∙ ap (λ (u : Fields). u.register) c.new-update.ensures in
-    let waiting = ap (λ (p : Pending). p.waiting) c.mark.ensures ∙ (λ i. marked (c.make_room.ensures.waiting i) (named i)) in
-    (λ i. let v : Voice = record { address = f.address; incarnation = f.incarnation; table = table i; counter = f.counter + 1; pending = waiting i } in v) ∙ ap (λ v. after_saying v k c.args.content) c.self.view_is
+    let waiting = ap (λ (p : Pending). p.waiting) c.mark.ensures
+    ∙ (λ i. marked (c.make_room.ensures.waiting i) (named i)) in
+    (λ i. let v : Voice = record {
+      address = f.address;
+      incarnation = f.incarnation;
+      table = table i;
+      counter = f.counter + 1;
+      pending = waiting i;
+    } in v) ∙ ap (λ v. after_saying v k c.args.content) c.self.view_is

@@ -8,5 +8,6 @@ pub invariant_of-self : goal.invariant_of-self
 invariant_of-self c =
     let f = c.self.inside in
     let e = edge_of f.claims f.clock f.ageing f.bridge f.moves in
-    kept e f.passing (after_announcement f.claims) c.announce-reply.new.self c.self.invariant c.announce-reply.ensures.after
+    kept e f.passing (after_announcement f.claims) c.announce-reply.new.self c.self.invariant
+    c.announce-reply.ensures.after
     (announced_holds f.claims f.clock (holds_of e f.passing c.self.invariant)) refl

@@ -8,5 +8,7 @@ pub invariant_of-self : goal.invariant_of-self
 invariant_of-self c =
     let f = c.self.inside in
     let e = edge_of f.claims f.clock f.ageing f.bridge f.moves in
-    kept e f.passing (after_refresh f.claims c.args.station.now c.args.port f.clock) c.refresh.new.self c.self.invariant c.refresh.ensures
-    (refresh_holds f.claims c.args.station.now c.args.port f.clock c.requires.individual (holds_of e f.passing c.self.invariant)) refl
+    kept e f.passing (after_refresh f.claims c.args.station.now c.args.port f.clock) c.refresh.new.self c.self.invariant
+    c.refresh.ensures
+    (refresh_holds f.claims c.args.station.now c.args.port f.clock c.requires.individual
+    (holds_of e f.passing c.self.invariant)) refl

@@ -6,7 +6,8 @@ use Rattle.ev_edge.specs.Edge.{Edge, edge_of}
 use Rattle.rstp_run.specs.declared.event.Event.TheVariants.{Second}
 use Rattle.ev_edge.specs.Bridging.{BridgeGoes, aged}
 use Rattle.ev_edge.specs.Steps.{SecondSteps, nothing}
-use Rattle.ev_edge.proofs.Keeping.{bridged, holds_of, flush_holds, later_holds, aged_holds, aged_ports, removals_ports, second_early}
+use Rattle.ev_edge.proofs.Keeping.{bridged, holds_of, flush_holds, later_holds, aged_holds, aged_ports, removals_ports}
+use Rattle.ev_edge.proofs.Keeping.{second_early}
 use Rattle.ev_edge.proofs.edge.Edge.second.Goals as goal
 
 pub invariant_of-self : goal.invariant_of-self
@@ -18,17 +19,24 @@ invariant_of-self c =
     let times = second_early f.clock c.self.invariant.keeps.early in
     let later : f.clock ≤ now = subst (λ n. f.clock ≤ n) (sym c.next_second-self-inside.ensures) times.0 in
     let early : now ≤ 2 ^ 63 = subst (λ n. n ≤ 2 ^ 63) (sym c.next_second-self-inside.ensures) times.1 in
-    bridged e f.passing c.passing_ports-self-inside.result now c.go_on-outcome.new.bridge (aged (after_flush f.claims set) f.ageing now) c.age.new.claims c.self.invariant c.go_on-outcome.ensures.ports c.passing_ports-self-inside.ensures
+    bridged e f.passing c.passing_ports-self-inside.result now c.go_on-outcome.new.bridge
+    (aged (after_flush f.claims set) f.ageing now) c.age.new.claims c.self.invariant c.go_on-outcome.ensures.ports
+    c.passing_ports-self-inside.ensures
     early (c.age.ensures ∙ ap (λ (x : Claims). aged x f.ageing now) c.flush.ensures)
-    (aged_holds (after_flush f.claims set) f.ageing now (later_holds (after_flush f.claims set) f.clock now later (flush_holds f.claims set f.clock (holds_of e f.passing c.self.invariant))))
+    (aged_holds (after_flush f.claims set) f.ageing now
+    (later_holds (after_flush f.claims set) f.clock now later
+    (flush_holds f.claims set f.clock (holds_of e f.passing c.self.invariant))))
     (aged_ports (after_flush f.claims set) f.ageing now ∙ removals_ports f.claims (flushed_in f.claims.learned set))
 
 pub returns : goal.returns
 returns c =
     let f = c.self.inside in
-    subst (λ (x : Edge). SecondSteps x c.tell_sent.new.reply (edge_of c.age.new.claims c.next_second-self-inside.result f.ageing c.go_on-outcome.new.bridge f.moves)) c.self.view_is (record {
+    subst (λ (x : Edge). SecondSteps x c.tell_sent.new.reply
+    (edge_of c.age.new.claims c.next_second-self-inside.result f.ageing c.go_on-outcome.new.bridge f.moves))
+    c.self.view_is (record {
       flush = c.go_on-outcome.result.flush;
-      goes = subst (λ (r : Reply). BridgeGoes Second f.bridge c.go_on-outcome.new.bridge c.go_on-outcome.result.flush r.bpdus.items) (sym c.tell_sent.ensures) c.go_on-outcome.ensures.goes;
+      goes = subst (λ (r : Reply). BridgeGoes Second f.bridge c.go_on-outcome.new.bridge c.go_on-outcome.result.flush
+          r.bpdus.items) (sym c.tell_sent.ensures) c.go_on-outcome.ensures.goes;
       after = λ i. record {
         claims = (c.age.ensures ∙ (λ j. aged (c.flush.ensures j) f.ageing (c.next_second-self-inside.ensures j))) i;
         clock = c.next_second-self-inside.ensures i;

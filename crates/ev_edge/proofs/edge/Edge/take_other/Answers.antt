@@ -9,5 +9,6 @@ invariant_of-self c =
     let f = c.self.inside in
     let u = c.args.update.now in
     let e = edge_of f.claims f.clock f.ageing f.bridge f.moves in
-    either e f.passing (after_take f.claims u) c.hear.new.self c.hear.result c.self.invariant c.hear.ensures.ok c.hear.ensures.err
+    either e f.passing (after_take f.claims u) c.hear.new.self c.hear.result c.self.invariant c.hear.ensures.ok
+    c.hear.ensures.err
     (taken_holds f.claims u f.clock (holds_of e f.passing c.self.invariant)) (taken_ports f.claims u)

@@ -8,8 +8,10 @@ pub invariant_of-self : goal.invariant_of-self
 invariant_of-self c =
     let f = c.self.inside in
     let e = edge_of f.claims f.clock f.ageing f.bridge f.moves in
-    own_kept e f.passing c.args.update.now c.hear_own.new.self c.hear_own.result c.self.invariant c.always_good.ensures.numbers
-    (c.requires ∙ ap (λ (x : Edge). address_of x) (sym c.self.view_is)) c.hear_own.ensures.ok c.hear_own.ensures.ahead c.hear_own.ensures.err
+    own_kept e f.passing c.args.update.now c.hear_own.new.self c.hear_own.result c.self.invariant
+    c.always_good.ensures.numbers
+    (c.requires ∙ ap (λ (x : Edge). address_of x) (sym c.self.view_is)) c.hear_own.ensures.ok c.hear_own.ensures.ahead
+    c.hear_own.ensures.err
 
 pub returns : goal.returns
 returns c =
@@ -19,4 +21,5 @@ returns c =
     let new = edge_of c.hear_own.new.self f.clock f.ageing f.bridge f.moves in
     subst (λ r. TakesOwn c.args.self.now u r new) (sym c.tell_own.ensures)
     (subst (λ (x : Edge). TakesOwn x u (own_result c.hear_own.result) new) c.self.view_is
-    (own_steps e u c.hear_own.new.self c.hear_own.result c.hear_own.ensures.taken c.hear_own.ensures.ok c.hear_own.ensures.ahead c.hear_own.ensures.spent c.hear_own.ensures.no_memory c.hear_own.ensures.err))
+    (own_steps e u c.hear_own.new.self c.hear_own.result c.hear_own.ensures.taken c.hear_own.ensures.ok
+    c.hear_own.ensures.ahead c.hear_own.ensures.spent c.hear_own.ensures.no_memory c.hear_own.ensures.err))

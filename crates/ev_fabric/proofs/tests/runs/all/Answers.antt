@@ -1,4 +1,5 @@
-use Rattle.std.proofs.Common.{◌≡◌, ◌∷◌, ◌++◌, [], ℕ, zero, suc, List, refl, sym, subst, ◌∙◌, Contains, eqb, arith, lit<, lit≤}
+use Rattle.std.proofs.Common.{◌≡◌, ◌∷◌, ◌++◌, [], ℕ, zero, suc, List, refl, sym, subst, ◌∙◌, Contains, eqb, arith, lit<}
+use Rattle.std.proofs.Common.{lit≤}
 use Rattle.std.specs.List.{IsDistinct}
 use Rattle.ev_edge.specs.declared.config.EdgeConfig.{EdgeConfig}
 use Rattle.ev_edge.specs.Config.{IsConfig}
@@ -14,7 +15,8 @@ unfolding IsDistinct
 differ = ((refl, (refl, tt)), ((refl, tt), (tt, tt)))
 
 -- what holds of three holds of each in their list
-each : (P : EdgeConfig → Type 0) (x y z : EdgeConfig) → P x → P y → P z → (c : EdgeConfig) → Contains (x ∷ y ∷ z ∷ []) c → P c
+each : (P : EdgeConfig → Type 0) (x y z : EdgeConfig) → P x → P y → P z → (c : EdgeConfig) → Contains (x ∷ y ∷ z ∷ []) c
+    → P c
 each P x y z h k m c (zero, l, e) = subst P e h
 each P x y z h k m c (suc zero, l, e) = subst P e k
 each P x y z h k m c (suc (suc zero), l, e) = subst P e m
@@ -22,13 +24,15 @@ each P x y z h k m c (suc (suc (suc n)), l, e) = absurd (omega (arith, l))
 
 -- three edges of these addresses that listen to all
 are_configs : (x y z : EdgeConfig) → x.address ≡ 0x0a00_0001 → y.address ≡ 0x0a00_0002 → z.address ≡ 0x0a00_0003
-    → x.originators.items ≡ addresses → y.originators.items ≡ addresses → z.originators.items ≡ addresses → IsConfig x → IsConfig y → IsConfig z → AreConfigs (x ∷ y ∷ z ∷ [])
+    → x.originators.items ≡ addresses → y.originators.items ≡ addresses → z.originators.items ≡ addresses → IsConfig x
+    → IsConfig y → IsConfig z → AreConfigs (x ∷ y ∷ z ∷ [])
 are_configs x y z p q r os ps qs h k m = record {
   some = lit< tt;
   few = lit≤ tt;
   apart = subst (IsDistinct eqb) (sym same) differ;
   configs = each IsConfig x y z h k m;
-  listed = λ c in' o at. subst (λ xs. Contains xs o) (same ∙ sym (each (λ d. d.originators.items ≡ addresses) x y z os ps qs c in')) at;
+  listed = λ c in' o at. subst (λ xs. Contains xs o) (same
+      ∙ sym (each (λ d. d.originators.items ≡ addresses) x y z os ps qs c in')) at;
 }
   where
     same : addresses_of (x ∷ y ∷ z ∷ []) ≡ addresses
@@ -43,5 +47,7 @@ returns c =
     let two = pushed _ _ _ _ c.in_ok-push-2.ensures.items one in
     let three = pushed _ _ _ _ c.in_ok-push-3.ensures.items two in
     subst AreConfigs (sym three)
-    (are_configs c.first.result c.second.result c.third.result c.first.ensures.address c.second.ensures.address c.third.ensures.address
-    c.first.ensures.originators c.second.ensures.originators c.third.ensures.originators c.first.ensures.fits c.second.ensures.fits c.third.ensures.fits)
+    (are_configs c.first.result c.second.result c.third.result c.first.ensures.address c.second.ensures.address
+    c.third.ensures.address
+    c.first.ensures.originators c.second.ensures.originators c.third.ensures.originators c.first.ensures.fits
+    c.second.ensures.fits c.third.ensures.fits)

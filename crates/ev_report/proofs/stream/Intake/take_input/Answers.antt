@@ -1,4 +1,5 @@
-use Rattle.std.proofs.Common.{ℕ, ◌<◌, ◌^◌, List, [], take, length, length-take-le, false, Ok, Some, None, sym, ap, subst, ◌≡◌, arith}
+use Rattle.std.proofs.Common.{ℕ, ◌<◌, ◌^◌, List, [], take, length, length-take-le, false, Ok, Some, None, sym, ap}
+use Rattle.std.proofs.Common.{subst, ◌≡◌, arith}
 use Rattle.std.proofs.lemmas.Bool.Decides.{nat_tests}
 use Rattle.ether_wire.specs.Ends.{Gets}
 use Rattle.route_wire.specs.Record.{is_length}
@@ -31,7 +32,8 @@ returns-in-Ok-eq0-clause-taken g c =
     let turns : c.loop-turn.turn < 2 ^ 40 = grind (arith, nat_tests, c.loop-turn-test.true) in
     let none : c.in-Ok-eq0.field-0 ≡ 0 = omega (arith, c.in-Ok-eq0.field-0-test) in
     let room : 0 < length c.read.new.buffer = omega (arith, c.read.auto.buffer) in
-    input_ended c.loop-turn.turn (g.R.In.end c.args.reader.now) mid s t inv.taken s.intake.feed.newest (fed s.intake.feed c.requires.feed) inv.feed inv.faultless last c.read.new.buffer turns room
+    input_ended c.loop-turn.turn (g.R.In.end c.args.reader.now) mid s t inv.taken s.intake.feed.newest
+    (fed s.intake.feed c.requires.feed) inv.feed inv.faultless last c.read.new.buffer turns room
     (subst (λ (n : ℕ). Gets mid last c.read.new.buffer (Ok n)) none c.in-Ok-eq0.ensures)
 
 pub returns-in-Err-clause-taken : goal.returns-in-Err-clause-taken
@@ -42,7 +44,9 @@ returns-in-Err-clause-taken g c =
     let s : State = state c.args.self.now (g.N.Out.end c.args.notes.now) in
     let t : State = state c.loop-turn.self (g.N.Out.end c.loop-turn.notes) in
     let turns : c.loop-turn.turn < 2 ^ 40 = grind (arith, nat_tests, c.loop-turn-test.true) in
-    input_failed c.loop-turn.turn (g.R.In.end c.args.reader.now) mid s t inv.taken s.intake.feed.newest (fed s.intake.feed c.requires.feed) inv.feed inv.faultless last c.read.new.buffer c.in-Err.field-0 turns c.in-Err.ensures
+    input_failed c.loop-turn.turn (g.R.In.end c.args.reader.now) mid s t inv.taken s.intake.feed.newest
+    (fed s.intake.feed c.requires.feed) inv.feed inv.faultless last c.read.new.buffer c.in-Err.field-0 turns
+    c.in-Err.ensures
 
 pub returns-in-Some-clause-taken : goal.returns-in-Some-clause-taken
 returns-in-Some-clause-taken g c =
@@ -54,10 +58,14 @@ returns-in-Some-clause-taken g c =
     let t : State = state c.loop-turn.self (g.N.Out.end c.loop-turn.notes) in
     let turns : c.loop-turn.turn < 2 ^ 40 = grind (arith, nat_tests, c.loop-turn-test.true) in
     let some : 0 < c.in-Ok.n = omega (arith, c.in-Ok.n-test) in
-    input_faulty c.loop-turn.turn (g.R.In.end c.args.reader.now) mid s t inv.taken s.intake.feed.newest (fed s.intake.feed c.requires.feed) inv.feed inv.faultless last (state c.fault.new.self notes) c.read.new.buffer c.in-Ok.n c.in-Some.fault
-    turns c.in-Ok.ensures some (subst (λ (x : Intake). TakesOctets (take c.in-Ok.n c.read.new.buffer) t (state x notes)) (sym c.fault.ensures.same) c.piece.ensures.taken)
+    input_faulty c.loop-turn.turn (g.R.In.end c.args.reader.now) mid s t inv.taken s.intake.feed.newest
+    (fed s.intake.feed c.requires.feed) inv.feed inv.faultless last (state c.fault.new.self notes) c.read.new.buffer
+    c.in-Ok.n c.in-Some.fault
+    turns c.in-Ok.ensures some (subst (λ (x : Intake). TakesOctets (take c.in-Ok.n c.read.new.buffer) t (state x notes))
+    (sym c.fault.ensures.same) c.piece.ensures.taken)
     (subst (λ (x : Intake). is_length (shown x.feed) ≡ false) (sym c.fault.ensures.same) c.piece.ensures.feed)
-    (subst (λ (x : Intake). Some c.in-Some.fault ≡ fault_in (shown x.feed)) (sym c.fault.ensures.same) c.in-Some.ensures.value)
+    (subst (λ (x : Intake). Some c.in-Some.fault ≡ fault_in (shown x.feed)) (sym c.fault.ensures.same)
+    c.in-Some.ensures.value)
 
 pub loop-turn-preserved : goal.loop-turn-preserved
 loop-turn-preserved g c =
@@ -69,13 +77,18 @@ loop-turn-preserved g c =
     let t : State = state c.loop-turn.self (g.N.Out.end c.loop-turn.notes) in
     let some : 0 < c.in-Ok.n = omega (arith, c.in-Ok.n-test) in
     record {
-      taken = reads_more c.loop-turn.turn (g.R.In.end c.args.reader.now) mid s t inv.taken last (state c.fault.new.self notes) c.read.new.buffer c.in-Ok.n c.in-Ok.ensures some
-          (subst (λ (x : Intake). TakesOctets (take c.in-Ok.n c.read.new.buffer) t (state x notes)) (sym c.fault.ensures.same) c.piece.ensures.taken);
+      taken = reads_more c.loop-turn.turn (g.R.In.end c.args.reader.now) mid s t inv.taken last
+          (state c.fault.new.self notes) c.read.new.buffer c.in-Ok.n c.in-Ok.ensures some
+          (subst (λ (x : Intake). TakesOctets (take c.in-Ok.n c.read.new.buffer) t (state x notes))
+          (sym c.fault.ensures.same) c.piece.ensures.taken);
       feed = subst (λ (x : Intake). is_length (shown x.feed) ≡ false) (sym c.fault.ensures.same) c.piece.ensures.feed;
-      faultless = subst (λ (x : Intake). fault_in (shown x.feed) ≡ None) (sym c.fault.ensures.same) (sym c.in_default.ensures.value);
+      faultless = subst (λ (x : Intake). fault_in (shown x.feed) ≡ None) (sym c.fault.ensures.same)
+          (sym c.in_default.ensures.value);
       few =
-          let same : c.fault.new.self.count ≡ c.piece.new.self.count = ap (λ (x : Intake). x.count) c.fault.ensures.same in
-          let len : length (take c.in-Ok.n c.read.new.buffer) ≡ c.in-Ok.n = length-take-le c.in-Ok.n c.read.new.buffer c.in-Ok.ensures.takes.fits in
+          let same : c.fault.new.self.count ≡ c.piece.new.self.count =
+          ap (λ (x : Intake). x.count) c.fault.ensures.same in
+          let len : length (take c.in-Ok.n c.read.new.buffer) ≡ c.in-Ok.n =
+          length-take-le c.in-Ok.n c.read.new.buffer c.in-Ok.ensures.takes.fits in
           let fits = c.in-Ok.ensures.takes.fits in
           omega (arith, inv.few, c.piece.ensures.few, c.read.auto.buffer);
     }
@@ -85,5 +98,11 @@ returns-clause-taken g c =
     let inv = c.loop-turn.invariant in
     let s : State = state c.args.self.now (g.N.Out.end c.args.notes.now) in
     let t : State = state c.loop-turn.self (g.N.Out.end c.loop-turn.notes) in
-    let turns : c.loop-turn.turn ≡ 2 ^ 40 = grind (arith, nat_tests, c.loop-turn-test.false, c.loop-turn.auto.turn-end) in
-    input_unended c.loop-turn.turn (g.R.In.end c.args.reader.now) (g.R.In.end c.loop-turn.reader) s t inv.taken s.intake.feed.newest (fed s.intake.feed c.requires.feed) inv.feed inv.faultless turns
+    let turns : c.loop-turn.turn ≡ 2 ^ 40 = grind (
+      arith,
+      nat_tests,
+      c.loop-turn-test.false,
+      c.loop-turn.auto.turn-end,
+    ) in
+    input_unended c.loop-turn.turn (g.R.In.end c.args.reader.now) (g.R.In.end c.loop-turn.reader) s t inv.taken
+    s.intake.feed.newest (fed s.intake.feed c.requires.feed) inv.feed inv.faultless turns

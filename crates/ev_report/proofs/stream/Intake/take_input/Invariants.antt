@@ -7,7 +7,8 @@ use Rattle.ev_report.proofs.stream.Intake.take_input.Given as goal
 
 abbrev pub invariant-loop-turn : goal.invariant-loop-turn
 invariant-loop-turn g l = record {
-  taken : TakesReads l.turn (g.R.In.end l.initial.reader) (g.R.In.end l.reader) (state l.initial.self (g.N.Out.end l.initial.notes)) (state l.self (g.N.Out.end l.notes));
+  taken : TakesReads l.turn (g.R.In.end l.initial.reader) (g.R.In.end l.reader)
+      (state l.initial.self (g.N.Out.end l.initial.notes)) (state l.self (g.N.Out.end l.notes));
   feed : is_length (shown l.self.feed) ≡ false;
   faultless : fault_in (shown l.self.feed) ≡ None;
   few : l.self.count ≤ l.turn * 16384;

@@ -5,7 +5,12 @@ use Rattle.ev_report.proofs.Taking.{front_none, front_more, front_all}
 use Rattle.ev_report.proofs.stream.Intake.take_piece.Goals as goal
 
 pub loop-rest-init : goal.loop-rest-init
-loop-rest-init g c = record { taken = front_none c.args.piece.now (state c.args.self.now (g.N.Out.end c.args.notes.now)); feed = c.requires.feed; few = omega arith }
+loop-rest-init g c = record {
+  taken = front_none c.args.piece.now
+      (state c.args.self.now (g.N.Out.end c.args.notes.now));
+  feed = c.requires.feed;
+  few = omega arith;
+}
 
 pub loop-rest-preserved : goal.loop-rest-preserved
 loop-rest-preserved g c =
@@ -14,12 +19,21 @@ loop-rest-preserved g c =
     let t : State = state c.loop-rest.self (g.N.Out.end c.loop-rest.notes) in
     let u : State = state c.step-n.new.self (g.N.Out.end c.step-n.new.notes) in
     record {
-      taken = subst (λ (rest : List ℕ). TakesFront c.args.piece.now rest s u) (sym c.split_at.ensures.back) (front_more c.args.piece.now c.loop-rest.rest.now c.step-n.result s t u inv.taken c.step-n.ensures.taken);
+      taken = subst (λ (rest : List ℕ). TakesFront c.args.piece.now rest s u) (sym c.split_at.ensures.back)
+          (front_more c.args.piece.now c.loop-rest.rest.now c.step-n.result s t u inv.taken c.step-n.ensures.taken);
       feed = c.step-n.ensures.feed;
-      few = omega (arith, inv.few, c.step-n.ensures.few, c.step-n.ensures.some, c.step-n.ensures.fits, c.split_at.ensures.back_len);
+      few = omega (
+        arith,
+        inv.few,
+        c.step-n.ensures.few,
+        c.step-n.ensures.some,
+        c.step-n.ensures.fits,
+        c.split_at.ensures.back_len,
+      );
     }
 
 pub returns-clause-taken : goal.returns-clause-taken
 returns-clause-taken g c =
     let none : length c.loop-rest.rest.now ≡ 0 = grind (arith, nat_tests, c.is_empty.ensures, c.loop-rest-test.false) in
-    front_all c.args.piece.now c.loop-rest.rest.now (state c.args.self.now (g.N.Out.end c.args.notes.now)) (state c.loop-rest.self (g.N.Out.end c.loop-rest.notes)) c.loop-rest.invariant.taken none
+    front_all c.args.piece.now c.loop-rest.rest.now (state c.args.self.now (g.N.Out.end c.args.notes.now))
+    (state c.loop-rest.self (g.N.Out.end c.loop-rest.notes)) c.loop-rest.invariant.taken none

@@ -6,7 +6,8 @@ use Rattle.ev_report.proofs.stream.Intake.take_piece.Given as goal
 
 abbrev pub invariant-loop-rest : goal.invariant-loop-rest
 invariant-loop-rest g l = record {
-  taken : TakesFront l.fn.piece l.rest (state l.initial.self (g.N.Out.end l.initial.notes)) (state l.self (g.N.Out.end l.notes));
+  taken : TakesFront l.fn.piece l.rest (state l.initial.self (g.N.Out.end l.initial.notes))
+      (state l.self (g.N.Out.end l.notes));
   feed : is_length (shown l.self.feed) ≡ false;
   few : l.self.count + length l.rest ≤ l.initial.self.count + length l.fn.piece;
 }

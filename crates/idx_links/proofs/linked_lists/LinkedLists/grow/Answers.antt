@@ -6,7 +6,8 @@ use Rattle.idx_links.proofs.linked_lists.LinkedLists.grow.Goals as goal
 pub invariant_of-self-2 : goal.invariant_of-self-2
 invariant_of-self-2 c =
     let at = c.self.inside.places in
-    let found : Found at.next at.prev at.owner at.lens c.args.self.now c.lists.result = record { good = c.self.invariant; seen = c.self.view_is; count_is = c.lists.ensures.count } in
+    let found : Found at.next at.prev at.owner at.lens c.args.self.now c.lists.result =
+    record { good = c.self.invariant; seen = c.self.view_is; count_is = c.lists.ensures.count } in
     let places_is : c.in-Some.places ≡ c.lists.result + c.args.nodes = search rules in
     let e = c.in_ok-grow.ensures in
     let new = c.grow.new.self in
@@ -18,7 +19,8 @@ invariant_of-self-2 c =
 pub returns-clause-lists : goal.returns-clause-lists
 returns-clause-lists c =
     let at = c.self.inside.places in
-    let found : Found at.next at.prev at.owner at.lens c.args.self.now c.lists.result = record { good = c.self.invariant; seen = c.self.view_is; count_is = c.lists.ensures.count } in
+    let found : Found at.next at.prev at.owner at.lens c.args.self.now c.lists.result =
+    record { good = c.self.invariant; seen = c.self.view_is; count_is = c.lists.ensures.count } in
     let places_is : c.in-Some.places ≡ c.lists.result + c.args.nodes = search rules in
     let e = c.in_ok-grow.ensures in
     let new = c.grow.new.self in
@@ -30,7 +32,8 @@ returns-clause-lists c =
 pub returns-clause-enough : goal.returns-clause-enough
 returns-clause-enough c =
     let at = c.self.inside.places in
-    let found : Found at.next at.prev at.owner at.lens c.args.self.now c.lists.result = record { good = c.self.invariant; seen = c.self.view_is; count_is = c.lists.ensures.count } in
+    let found : Found at.next at.prev at.owner at.lens c.args.self.now c.lists.result =
+    record { good = c.self.invariant; seen = c.self.view_is; count_is = c.lists.ensures.count } in
     let places_is : c.in-Some.places ≡ c.lists.result + c.args.nodes = search rules in
     let e = c.in_ok-grow.ensures in
     let new = c.grow.new.self in

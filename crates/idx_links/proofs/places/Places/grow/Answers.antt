@@ -11,5 +11,8 @@ returns-clause-owner c =
     let marks = map (λ (x : Link). x.mark) at.links.items in
     let low : at.lists ≤ length marks = rw length-map c.self.invariant.first in
     let count : vec_len c.reserve.new.self ≡ length marks = search (rules, length-map) in
-    let more = c.add_lone.ensures.marks ∙ ap (λ xs. map (λ (x : Link). x.mark) xs ++ replicate (c.args.places - vec_len c.reserve.new.self) 0) c.reserve.ensures.items ∙ ap (λ k. marks ++ replicate (c.args.places - k) 0) count in
-    ap (owners at.lists) more ∙ owners_more at.lists marks c.args.self.now.owner c.args.places low (ap (λ v. v.owner) c.self.view_is)
+    let more = c.add_lone.ensures.marks ∙ ap (λ xs. map (λ (x : Link). x.mark) xs
+    ++ replicate (c.args.places - vec_len c.reserve.new.self) 0) c.reserve.ensures.items
+    ∙ ap (λ k. marks ++ replicate (c.args.places - k) 0) count in
+    ap (owners at.lists) more ∙ owners_more at.lists marks c.args.self.now.owner c.args.places low
+    (ap (λ v. v.owner) c.self.view_is)

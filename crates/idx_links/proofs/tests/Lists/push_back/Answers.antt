@@ -10,6 +10,7 @@ invariant_of-self c =
     let old = c.args.self.now in
     let lists = lists_of old.links c.args.family in
     record {
-      sized = λ k h. lengths_kept old.links c.push_back.new.self c.args.family _ c.push_back.ensures.families (length-set lists c.args.list (list_at lists c.args.list ++ c.args.node ∷ [])) k ∙ old.sized k h;
+      sized = λ k h. lengths_kept old.links c.push_back.new.self c.args.family _ c.push_back.ensures.families
+          (length-set lists c.args.list (list_at lists c.args.list ++ c.args.node ∷ [])) k ∙ old.sized k h;
       counted = c.push_back.ensures.nodes ∙ old.counted;
     }

@@ -9,6 +9,7 @@ pub invariant_of-self : goal.invariant_of-self
 invariant_of-self c =
     let old = c.args.self.now in
     record {
-      sized = λ k h. lengths_kept old.links c.unlink.new.self c.args.family _ c.unlink.ensures.families (length-map (lists_of old.links c.args.family) (without c.args.node)) k ∙ old.sized k h;
+      sized = λ k h. lengths_kept old.links c.unlink.new.self c.args.family _ c.unlink.ensures.families
+          (length-map (lists_of old.links c.args.family) (without c.args.node)) k ∙ old.sized k h;
       counted = c.unlink.ensures.nodes ∙ old.counted;
     }

@@ -8,5 +8,7 @@ use Rattle.mac_arena.proofs.table.MacTable.first_of.Given as goal
 abbrev pub invariant-loop : goal.invariant-loop
 invariant-loop l = record {
   at : l.at ≡ slice_get (list_at l.self-inside.orders.ports l.list) l.counter;
-  rest : first_unpinned l.self (stations_at l.self.ports l.list) ≡ first_unpinned l.self (map (station_in l.self-inside.slots.items) (drop l.counter (list_at l.self-inside.orders.ports l.list)));
+  rest : first_unpinned l.self (stations_at l.self.ports l.list)
+      ≡ first_unpinned l.self (map (station_in l.self-inside.slots.items)
+      (drop l.counter (list_at l.self-inside.orders.ports l.list)));
 }

@@ -9,18 +9,21 @@ pub hold-requires-clause-at : goal.hold-requires-clause-at
 hold-requires-clause-at c = stands c.args.self.now c.args.node c.args.learned.now c.requires.at
 
 pub hold-requires-clause-ageing : goal.hold-requires-clause-ageing
-hold-requires-clause-ageing c = ap (λ (y : Learned). y.entry.pinned) (standing_is c.args.self.now c.args.node c.args.learned.now c.requires.at) ∙ c.if-learned.false
+hold-requires-clause-ageing c = ap (λ (y : Learned). y.entry.pinned)
+    (standing_is c.args.self.now c.args.node c.args.learned.now c.requires.at) ∙ c.if-learned.false
 
 pub hear-requires-clause-at : goal.hear-requires-clause-at
 hear-requires-clause-at c = stands c.hold.new.self c.args.node _ c.hold.ensures.at
 
 pub hear-requires-clause-pinned : goal.hear-requires-clause-pinned
-hear-requires-clause-pinned c = ap (λ (y : Learned). y.entry.pinned) (standing_is c.hold.new.self c.args.node _ c.hold.ensures.at)
+hear-requires-clause-pinned c = ap (λ (y : Learned). y.entry.pinned)
+    (standing_is c.hold.new.self c.args.node _ c.hold.ensures.at)
 
 pub hear-requires-clause-latest : goal.hear-requires-clause-latest
 hear-requires-clause-latest c =
     let x = standing c.args.self.now c.args.node in
-    latest_with c.args.self.now c.hold.new.self x.station (pinned_at x.entry.port) c.args.second c.requires.latest (omega arith) (ap (λ w. w.entries) c.hold.ensures.after)
+    latest_with c.args.self.now c.hold.new.self x.station (pinned_at x.entry.port) c.args.second c.requires.latest
+    (omega arith) (ap (λ w. w.entries) c.hold.ensures.after)
 
 pub returns-then-learned-port-clause-after : goal.returns-then-learned-port-clause-after
 returns-then-learned-port-clause-after c =
@@ -41,8 +44,10 @@ hear-requires-2-clause-latest c =
     let z = standing c.shift.new.self c.args.node in
     let known = known_at t c.args.node y (stands t c.args.node c.args.learned.now c.requires.at) in
     let low = c.requires.latest y.station y.entry known in
-    let first = latest_with t c.shift.new.self y.station _ c.args.second c.requires.latest low (ap (λ w. w.entries) c.shift.ensures.after) in
-    latest_with c.shift.new.self c.hold-2.new.self z.station (pinned_at z.entry.port) c.args.second first (omega arith) (ap (λ w. w.entries) c.hold-2.ensures.after)
+    let first = latest_with t c.shift.new.self y.station _ c.args.second c.requires.latest low
+    (ap (λ w. w.entries) c.shift.ensures.after) in
+    latest_with c.shift.new.self c.hold-2.new.self z.station (pinned_at z.entry.port) c.args.second first (omega arith)
+    (ap (λ w. w.entries) c.hold-2.ensures.after)
 
 pub returns-clause-after : goal.returns-clause-after
 returns-clause-after c =
@@ -54,6 +59,7 @@ returns-clause-after c =
     let after = standing_is c.hold-2.new.self c.args.node _ c.hold-2.ensures.at in
     c.hear-2.ensures
     ∙ (λ i. heard (c.hold-2.ensures.after i) (after i).station (after i).entry.port c.args.second)
-    ∙ (λ i. heard (held (c.shift.ensures.after i) (moved i).station (moved i).entry.port) (moved i).station (moved i).entry.port c.args.second)
+    ∙ (λ i. heard (held (c.shift.ensures.after i) (moved i).station (moved i).entry.port) (moved i).station
+    (moved i).entry.port c.args.second)
     ∙ (λ i. heard (held (shifted t (is i).station (is i).entry p) (is i).station p) (is i).station p c.args.second)
     ∙ moved_is t x.station x.entry p c.args.second

@@ -9,12 +9,15 @@ pub hear-requires-clause-at : goal.hear-requires-clause-at
 hear-requires-clause-at c = stands c.enter.new.self _ _ c.enter.ensures.at
 
 pub hear-requires-clause-pinned : goal.hear-requires-clause-pinned
-hear-requires-clause-pinned c = ap (λ (y : Learned). y.entry.pinned) (standing_is c.enter.new.self _ _ c.enter.ensures.at)
+hear-requires-clause-pinned c = ap (λ (y : Learned). y.entry.pinned)
+    (standing_is c.enter.new.self _ _ c.enter.ensures.at)
 
 pub hear-requires-clause-latest : goal.hear-requires-clause-latest
-hear-requires-clause-latest c = latest_with c.args.self.now c.enter.new.self c.args.key.now (pinned_at c.args.port) c.args.second c.requires.latest (omega arith) (ap (λ w. w.entries) c.enter.ensures.after)
+hear-requires-clause-latest c = latest_with c.args.self.now c.enter.new.self c.args.key.now (pinned_at c.args.port)
+    c.args.second c.requires.latest (omega arith) (ap (λ w. w.entries) c.enter.ensures.after)
 
 pub returns-clause-after : goal.returns-clause-after
 returns-clause-after c =
     let after = standing_is c.enter.new.self _ _ c.enter.ensures.at in
-    c.hear.ensures ∙ (λ i. heard (c.enter.ensures.after i) (after i).station (after i).entry.port c.args.second) ∙ new_is c.args.self.now c.args.key.now c.args.port c.args.second
+    c.hear.ensures ∙ (λ i. heard (c.enter.ensures.after i) (after i).station (after i).entry.port c.args.second)
+    ∙ new_is c.args.self.now c.args.key.now c.args.port c.args.second

@@ -14,17 +14,20 @@ returns-then-learned-port c =
     let is = standing_is t c.args.node x c.requires.at in
     c.shift.ensures.after
     ∙ ap (λ (y : Learned). shifted t y.station y.entry c.args.port) is
-    ∙ pinned_moves t x.station x.entry c.args.port known p (c.requires.timeless p) (c.requires.still p) c.if-learned-port.true
+    ∙ pinned_moves t x.station x.entry c.args.port known p (c.requires.timeless p) (c.requires.still p)
+    c.if-learned-port.true
 
 pub returns-else-learned-port : goal.returns-else-learned-port
 returns-else-learned-port c =
     let x = c.args.learned.now in
     let known = known_at c.args.self.now c.args.node x c.requires.at in
     let p = c.if-learned.true in
-    pinned_stays c.args.self.now x.station x.entry c.args.port known p (c.requires.timeless p) (c.requires.still p) c.if-learned-port.false
+    pinned_stays c.args.self.now x.station x.entry c.args.port known p (c.requires.timeless p) (c.requires.still p)
+    c.if-learned-port.false
 
 pub hold-requires-clause-ageing : goal.hold-requires-clause-ageing
-hold-requires-clause-ageing c = ap (λ (y : Learned). y.entry.pinned) (standing_is c.args.self.now c.args.node c.args.learned.now c.requires.at) ∙ c.if-learned.false
+hold-requires-clause-ageing c = ap (λ (y : Learned). y.entry.pinned)
+    (standing_is c.args.self.now c.args.node c.args.learned.now c.requires.at) ∙ c.if-learned.false
 
 pub returns-then-learned-port-2 : goal.returns-then-learned-port-2
 returns-then-learned-port-2 c =
@@ -44,4 +47,5 @@ returns-else-learned-port-2 c =
     let t = c.args.self.now in
     let known = known_at t c.args.node x c.requires.at in
     let is = standing_is t c.args.node x c.requires.at in
-    c.hold.ensures.after ∙ (λ i. held t (is i).station (is i).entry.port) ∙ held_is t x.station x.entry c.args.port known c.if-learned-port-2.false
+    c.hold.ensures.after ∙ (λ i. held t (is i).station (is i).entry.port)
+    ∙ held_is t x.station x.entry c.args.port known c.if-learned-port-2.false

@@ -9,7 +9,11 @@ invariant_of-self c =
     let later : run.now ≤ c.args.second = omega arith in
     let after = c.learn-learnt.ensures.after in
     record {
-      latest = subst (λ t. IsLatest t c.args.second) (sym after) (latest_learn run.table c.args.key c.args.port c.args.second c.learn-learnt.result (latest_later run.table run.now c.args.second later run.latest));
-      ports = ap (λ t. length t.ports) after ∙ ports_learn run.table c.args.key c.args.port c.args.second c.learn-learnt.result ∙ run.ports;
-      chains = ap (λ t. length t.chains) after ∙ chains_learn run.table c.args.key c.args.port c.args.second c.learn-learnt.result ∙ run.chains;
+      latest = subst (λ t. IsLatest t c.args.second) (sym after)
+          (latest_learn run.table c.args.key c.args.port c.args.second c.learn-learnt.result
+          (latest_later run.table run.now c.args.second later run.latest));
+      ports = ap (λ t. length t.ports) after ∙ ports_learn run.table c.args.key c.args.port c.args.second
+          c.learn-learnt.result ∙ run.ports;
+      chains = ap (λ t. length t.chains) after ∙ chains_learn run.table c.args.key c.args.port c.args.second
+          c.learn-learnt.result ∙ run.chains;
     }

@@ -8,7 +8,8 @@ invariant_of-self c =
     let run = c.args.self.now in
     let after = c.pin.ensures.after in
     record {
-      latest = subst (λ t. IsLatest t run.now) (sym after) (latest_pin run.table c.args.key c.args.port run.now run.latest);
+      latest = subst (λ t. IsLatest t run.now) (sym after)
+          (latest_pin run.table c.args.key c.args.port run.now run.latest);
       ports = ap (λ t. length t.ports) after ∙ ports_pin run.table c.args.key c.args.port ∙ run.ports;
       chains = ap (λ t. length t.chains) after ∙ chains_pin run.table c.args.key c.args.port ∙ run.chains;
     }

@@ -13,7 +13,8 @@ use Rattle.route_join.proofs.few.Few.insert.Goals as goal
 
 pub insert_at-requires : goal.insert_at-requires
 insert_at-requires c =
-    let p = gapped c.self.inside.updates.items c.args.update.now.register c.args.at c.self.invariant.ordered (ap (λ us. place_of us c.args.update.now.register) c.self.view_is ∙ c.requires) in
+    let p = gapped c.self.inside.updates.items c.args.update.now.register c.args.at c.self.invariant.ordered
+    (ap (λ us. place_of us c.args.update.now.register) c.self.view_is ∙ c.requires) in
     let w : c.args.at ≤ length c.self.inside.updates.items = p.within in
     omega arith
 
@@ -27,19 +28,27 @@ pub better_place-self-inside-requires : goal.better_place-self-inside-requires
 better_place-self-inside-requires c =
     let us = c.self.inside.updates.items in
     let u = c.args.update.now in
-    let p = gapped us u.register c.args.at c.self.invariant.ordered (ap (λ x. place_of x u.register) c.self.view_is ∙ c.requires) in
-    let there : c.insert_at.new.updates.items ≡ insert us c.args.at u = inserted c.insert_at.new.updates.items _ _ _ c.insert_at.ensures c.if-is_err.ensures.negation in
-    subst IsOrdered (sym (c.deref.ensures.value ∙ there)) (ordered_put [] us (insert us c.args.at u) u c.self.invariant.ordered (p.write u refl))
+    let p = gapped us u.register c.args.at c.self.invariant.ordered (ap (λ x. place_of x u.register) c.self.view_is
+    ∙ c.requires) in
+    let there : c.insert_at.new.updates.items ≡ insert us c.args.at u =
+    inserted c.insert_at.new.updates.items _ _ _ c.insert_at.ensures c.if-is_err.ensures.negation in
+    subst IsOrdered (sym (c.deref.ensures.value ∙ there))
+    (ordered_put [] us (insert us c.args.at u) u c.self.invariant.ordered (p.write u refl))
 
 pub invariant_of-self-2 : goal.invariant_of-self-2
 invariant_of-self-2 c =
     let us = c.self.inside.updates.items in
     let u = c.args.update.now in
-    let p = gapped us u.register c.args.at c.self.invariant.ordered (ap (λ x. place_of x u.register) c.self.view_is ∙ c.requires) in
-    let there : c.insert_at.new.updates.items ≡ insert us c.args.at u = inserted c.insert_at.new.updates.items _ _ _ c.insert_at.ensures c.if-is_err.ensures.negation in
-    let place : c.better_place-self-inside.result ≡ better_place (insert us c.args.at u) c.args.at (moved c.args.at c.self.inside.winner) =
-    c.better_place-self-inside.ensures ∙ ap (λ x. better_place x c.args.at c.moved.result) (c.deref.ensures.value ∙ there) ∙ ap (better_place (insert us c.args.at u) c.args.at) c.moved.ensures in
-    subst (λ x. IsGroup x c.better_place-self-inside.result) (sym there) (subst (IsGroup (insert us c.args.at u)) (sym place) record {
+    let p = gapped us u.register c.args.at c.self.invariant.ordered (ap (λ x. place_of x u.register) c.self.view_is
+    ∙ c.requires) in
+    let there : c.insert_at.new.updates.items ≡ insert us c.args.at u =
+    inserted c.insert_at.new.updates.items _ _ _ c.insert_at.ensures c.if-is_err.ensures.negation in
+    let place : c.better_place-self-inside.result ≡ better_place (insert us c.args.at u) c.args.at
+    (moved c.args.at c.self.inside.winner) =
+    c.better_place-self-inside.ensures ∙ ap (λ x. better_place x c.args.at c.moved.result) (c.deref.ensures.value
+    ∙ there) ∙ ap (better_place (insert us c.args.at u) c.args.at) c.moved.ensures in
+    subst (λ x. IsGroup x c.better_place-self-inside.result) (sym there)
+    (subst (IsGroup (insert us c.args.at u)) (sym place) record {
       ordered = ordered_put [] us (insert us c.args.at u) u c.self.invariant.ordered (p.write u refl);
       winner = winner_inserted us c.args.at u c.self.inside.winner p c.self.invariant.winner;
     })
@@ -48,5 +57,7 @@ pub returns-clause-ok : goal.returns-clause-ok
 returns-clause-ok c =
     let us = c.self.inside.updates.items in
     let u = c.args.update.now in
-    let p = gapped us u.register c.args.at c.self.invariant.ordered (ap (λ x. place_of x u.register) c.self.view_is ∙ c.requires) in
-    ap entries_of (inserted c.insert_at.new.updates.items _ _ _ c.insert_at.ensures c.if-is_err.ensures.negation) ∙ p.write u refl ∙ ap (λ x. put register_cmp u.register u.value (entries_of x)) c.self.view_is
+    let p = gapped us u.register c.args.at c.self.invariant.ordered (ap (λ x. place_of x u.register) c.self.view_is
+    ∙ c.requires) in
+    ap entries_of (inserted c.insert_at.new.updates.items _ _ _ c.insert_at.ensures c.if-is_err.ensures.negation)
+    ∙ p.write u refl ∙ ap (λ x. put register_cmp u.register u.value (entries_of x)) c.self.view_is

@@ -20,7 +20,8 @@ enter-requires-clause-new c =
     let at = c.loop-update.update-index in
     let u = c.update-item.result in
     absent_entrant c.loop-update.tree.entries u.register inv.kept.keyed
-    (ap (find register_cmp u.register) inv.filled ∙ ap (λ (v : Fields). find register_cmp v.register (entries_of (take at us))) c.update-item.is ∙ not_yet us at c.requires c.loop-update-test.true u)
+    (ap (find register_cmp u.register) inv.filled ∙ ap (λ (v : Fields). find register_cmp v.register
+    (entries_of (take at us))) c.update-item.is ∙ not_yet us at c.requires c.loop-update-test.true u)
 
 pub loop-update-preserved : goal.loop-update-preserved
 loop-update-preserved c =
@@ -30,9 +31,11 @@ loop-update-preserved c =
     let u = c.update-item.result in
     record {
       kept = c.in_ok-enter.ensures.kept;
-      filled = put_entered c.loop-update.tree.entries c.enter.new.tree.entries u (length c.loop-update.bouts.items) inv.kept.keyed c.in_ok-enter.ensures.ok
+      filled = put_entered c.loop-update.tree.entries c.enter.new.tree.entries u (length c.loop-update.bouts.items)
+          inv.kept.keyed c.in_ok-enter.ensures.ok
           ∙ ap (put register_cmp u.register u.value) inv.filled
-          ∙ ap (λ (v : Fields). put register_cmp v.register v.value (entries_of (take at us))) c.update-item.is ∙ filled_more us at c.requires c.loop-update-test.true u;
+          ∙ ap (λ (v : Fields). put register_cmp v.register v.value (entries_of (take at us))) c.update-item.is
+          ∙ filled_more us at c.requires c.loop-update-test.true u;
     }
 
 pub returns : goal.returns
@@ -40,4 +43,5 @@ returns c =
     let inv = c.loop-update.invariant in
     let us = c.args.updates.now in
     let all : length us ≤ c.loop-update.update-index = omega (arith, c.loop-update-test.false) in
-    same_updates (values_of (entered c.loop-update.tree.entries)) us (inv.filled ∙ ap entries_of (take_all c.loop-update.update-index us all))
+    same_updates (values_of (entered c.loop-update.tree.entries)) us (inv.filled
+    ∙ ap entries_of (take_all c.loop-update.update-index us all))

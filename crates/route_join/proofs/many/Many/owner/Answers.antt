@@ -11,7 +11,8 @@ pub returns-in-None : goal.returns-in-None
 returns-in-None c =
     let es = c.self.inside.tree.entries in
     let bs = c.self.inside.bouts.items in
-    subst IsSilent c.self.view_is (silent es (owns bs) c.self.invariant.keyed c.self.invariant.matched (subst (λ x. IsChampion (owns x) None) c.deref.ensures.value c.in-None.ensures))
+    subst IsSilent c.self.view_is (silent es (owns bs) c.self.invariant.keyed c.self.invariant.matched
+    (subst (λ x. IsChampion (owns x) None) c.deref.ensures.value c.in-None.ensures))
 
 pub returns-in-Some : goal.returns-in-Some
 returns-in-Some c =
@@ -20,4 +21,5 @@ returns-in-Some c =
     let w = c.in-Some.best in
     subst (λ us. IsLeader us c.register.result.originator) c.self.view_is
     (subst (λ (r : Register). IsLeader (values_of (entered es)) r.originator) (sym c.register.ensures)
-    (leads es (owns bs) c.self.invariant.keyed c.self.invariant.matched w (subst (λ x. IsChampion (owns x) (Some w)) c.deref.ensures.value c.in-Some.ensures)))
+    (leads es (owns bs) c.self.invariant.keyed c.self.invariant.matched w
+    (subst (λ x. IsChampion (owns x) (Some w)) c.deref.ensures.value c.in-Some.ensures)))

@@ -7,8 +7,12 @@ use Rattle.route_join.proofs.many.Many.register.Goals as goal
 
 pub returns-in-None : goal.returns-in-None
 returns-in-None c =
-    ap (option_map (λ (e : Entrant). e.update)) c.in-None.ensures ∙ find_entered c.self.inside.tree.entries c.args.register.now c.self.invariant.keyed ∙ ap (λ us. update_among us c.args.register.now) c.self.view_is
+    ap (option_map (λ (e : Entrant). e.update)) c.in-None.ensures
+    ∙ find_entered c.self.inside.tree.entries c.args.register.now c.self.invariant.keyed
+    ∙ ap (λ us. update_among us c.args.register.now) c.self.view_is
 
 pub returns-in-Some : goal.returns-in-Some
 returns-in-Some c =
-    ap (option_map (λ (e : Entrant). e.update)) c.in-Some.ensures ∙ find_entered c.self.inside.tree.entries c.args.register.now c.self.invariant.keyed ∙ ap (λ us. update_among us c.args.register.now) c.self.view_is
+    ap (option_map (λ (e : Entrant). e.update)) c.in-Some.ensures
+    ∙ find_entered c.self.inside.tree.entries c.args.register.now c.self.invariant.keyed
+    ∙ ap (λ us. update_among us c.args.register.now) c.self.view_is

@@ -13,20 +13,24 @@ flood_of-requires c =
     let os = c.self.inside.originators.items in
     let gs = c.self.inside.groups in
     let all : flood_of (table_from os (updates_in gs)) c.args.vni ≡ flooding c.args.vni (entries_of c.updates.result) =
-    ap (flooding c.args.vni) (listed_as os (updates_in gs) c.self.invariant.grouped.kept.ordered ∙ entries_in_all gs) ∙ flooding_there c.args.vni gs c.in-Some.group.now c.self.invariant.grouped.groups (sym c.in-Some.ensures)
+    ap (flooding c.args.vni) (listed_as os (updates_in gs) c.self.invariant.grouped.kept.ordered ∙ entries_in_all gs)
+    ∙ flooding_there c.args.vni gs c.in-Some.group.now c.self.invariant.grouped.groups (sym c.in-Some.ensures)
     ∙ ap (λ us. flooding c.args.vni (entries_of us)) (sym c.updates.ensures.value) in
-    subst (λ xs. length xs ≤ 64) all (flood_fits (table_from os (updates_in gs)) c.args.vni c.self.invariant.grouped.kept.listeners c.self.invariant.grouped.kept.listed)
+    subst (λ xs. length xs ≤ 64) all (flood_fits (table_from os (updates_in gs)) c.args.vni
+    c.self.invariant.grouped.kept.listeners c.self.invariant.grouped.kept.listed)
 
 pub returns-in-None-clause-value : goal.returns-in-None-clause-value
 returns-in-None-clause-value c =
     let os = c.self.inside.originators.items in
     let gs = c.self.inside.groups in
     c.new.ensures ∙ sym (flooding_nowhere c.args.vni gs c.self.invariant.grouped.groups (sym c.in-None.ensures))
-    ∙ ap (flooding c.args.vni) (sym (listed_as os (updates_in gs) c.self.invariant.grouped.kept.ordered ∙ entries_in_all gs))
+    ∙ ap (flooding c.args.vni) (sym (listed_as os (updates_in gs) c.self.invariant.grouped.kept.ordered
+    ∙ entries_in_all gs))
     ∙ ap (λ (t : Table). flood_of t c.args.vni) c.self.view_is
 
 pub returns-in-None-clause-list : goal.returns-in-None-clause-list
-returns-in-None-clause-list c = subst (IsFloodList c.args.self.now c.args.vni) (sym (returns-in-None-clause-value c)) (is_flood_list c.args.self.now c.args.vni)
+returns-in-None-clause-list c = subst (IsFloodList c.args.self.now c.args.vni) (sym (returns-in-None-clause-value c))
+    (is_flood_list c.args.self.now c.args.vni)
 
 pub returns-in-Some-clause-value : goal.returns-in-Some-clause-value
 returns-in-Some-clause-value c =
@@ -34,8 +38,10 @@ returns-in-Some-clause-value c =
     let gs = c.self.inside.groups in
     c.flood_of.ensures ∙ ap (λ us. flooding c.args.vni (entries_of us)) c.updates.ensures.value
     ∙ sym (flooding_there c.args.vni gs c.in-Some.group.now c.self.invariant.grouped.groups (sym c.in-Some.ensures))
-    ∙ ap (flooding c.args.vni) (sym (listed_as os (updates_in gs) c.self.invariant.grouped.kept.ordered ∙ entries_in_all gs))
+    ∙ ap (flooding c.args.vni) (sym (listed_as os (updates_in gs) c.self.invariant.grouped.kept.ordered
+    ∙ entries_in_all gs))
     ∙ ap (λ (t : Table). flood_of t c.args.vni) c.self.view_is
 
 pub returns-in-Some-clause-list : goal.returns-in-Some-clause-list
-returns-in-Some-clause-list c = subst (IsFloodList c.args.self.now c.args.vni) (sym (returns-in-Some-clause-value c)) (is_flood_list c.args.self.now c.args.vni)
+returns-in-Some-clause-list c = subst (IsFloodList c.args.self.now c.args.vni) (sym (returns-in-Some-clause-value c))
+    (is_flood_list c.args.self.now c.args.vni)

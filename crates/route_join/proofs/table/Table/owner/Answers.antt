@@ -4,7 +4,9 @@ use Rattle.route_join.proofs.table.Table.owner.Goals as goal
 
 pub returns-in-None-clause-best : goal.returns-in-None-clause-best
 returns-in-None-clause-best c =
-    subst (λ t. Owned t c.args.vni c.args.mac None) c.self.view_is (unowned c.self.inside.originators.items c.self.inside.groups c.self.invariant.grouped c.args.vni c.args.mac (sym c.in-None.ensures))
+    subst (λ t. Owned t c.args.vni c.args.mac None) c.self.view_is
+    (unowned c.self.inside.originators.items c.self.inside.groups c.self.invariant.grouped c.args.vni c.args.mac
+    (sym c.in-None.ensures))
 
 pub returns-in-None-clause-value : goal.returns-in-None-clause-value
 returns-in-None-clause-value c = owner_only c.args.self.now c.args.vni c.args.mac None (returns-in-None-clause-best c)
@@ -12,7 +14,9 @@ returns-in-None-clause-value c = owner_only c.args.self.now c.args.vni c.args.ma
 pub returns-in-Some-clause-best : goal.returns-in-Some-clause-best
 returns-in-Some-clause-best c =
     subst (λ t. Owned t c.args.vni c.args.mac c.owner.result) c.self.view_is
-    (owned_by c.self.inside.originators.items c.self.inside.groups c.self.invariant.grouped c.args.vni c.args.mac c.in-Some.group.now (sym c.in-Some.ensures) c.owner.result c.owner.ensures)
+    (owned_by c.self.inside.originators.items c.self.inside.groups c.self.invariant.grouped c.args.vni c.args.mac
+    c.in-Some.group.now (sym c.in-Some.ensures) c.owner.result c.owner.ensures)
 
 pub returns-in-Some-clause-value : goal.returns-in-Some-clause-value
-returns-in-Some-clause-value c = owner_only c.args.self.now c.args.vni c.args.mac c.owner.result (returns-in-Some-clause-best c)
+returns-in-Some-clause-value c = owner_only c.args.self.now c.args.vni c.args.mac c.owner.result
+    (returns-in-Some-clause-best c)

@@ -9,16 +9,23 @@ use Rattle.route_join.proofs.table.Table.register.Goals as goal
 pub returns-in-None : goal.returns-in-None
 returns-in-None c =
     let gs = c.self.inside.groups in
-    let h : group_at (subject_of c.args.key) gs ≡ None = ap (λ s. group_at s gs) (sym c.subject_of.ensures) ∙ sym c.in-None.ensures in
-    update_nowhere c.self.inside.originators.items gs c.self.invariant.grouped (register_of c.args.originator c.args.key) h ∙ ap (λ t. update_at t (register_of c.args.originator c.args.key)) c.self.view_is
+    let h : group_at (subject_of c.args.key) gs ≡ None = ap (λ s. group_at s gs) (sym c.subject_of.ensures)
+    ∙ sym c.in-None.ensures in
+    update_nowhere c.self.inside.originators.items gs c.self.invariant.grouped
+    (register_of c.args.originator c.args.key) h ∙ ap (λ t. update_at t (register_of c.args.originator c.args.key))
+    c.self.view_is
 
 pub returns-in-Some : goal.returns-in-Some
 returns-in-Some c =
     let gs = c.self.inside.groups in
-    let h : group_at (subject_of c.args.key) gs ≡ Some c.in-Some.group.now = ap (λ s. group_at s gs) (sym c.subject_of.ensures) ∙ sym c.in-Some.ensures in
-    c.register.ensures ∙ update_there c.self.inside.originators.items gs c.self.invariant.grouped (register_of c.args.originator c.args.key) c.in-Some.group.now h ∙ ap (λ t. update_at t (register_of c.args.originator c.args.key)) c.self.view_is
+    let h : group_at (subject_of c.args.key) gs ≡ Some c.in-Some.group.now =
+    ap (λ s. group_at s gs) (sym c.subject_of.ensures) ∙ sym c.in-Some.ensures in
+    c.register.ensures ∙ update_there c.self.inside.originators.items gs c.self.invariant.grouped
+    (register_of c.args.originator c.args.key) c.in-Some.group.now h
+    ∙ ap (λ t. update_at t (register_of c.args.originator c.args.key)) c.self.view_is
 
 pub register-requires : goal.register-requires
 register-requires c =
     let gs = c.self.inside.groups in
-    about_there (subject_of c.args.key) gs c.in-Some.group.now c.self.invariant.grouped.groups (ap (λ s. group_at s gs) (sym c.subject_of.ensures) ∙ sym c.in-Some.ensures)
+    about_there (subject_of c.args.key) gs c.in-Some.group.now c.self.invariant.grouped.groups
+    (ap (λ s. group_at s gs) (sym c.subject_of.ensures) ∙ sym c.in-Some.ensures)

@@ -8,4 +8,5 @@ unfolding IsDistinct
 alone o = record { some = lit< tt; few = lit≤ tt; distinct = (tt, tt) }
 
 pub with_salt-requires : goal.with_salt-requires
-with_salt-requires c = subst AreOriginators (sym (c.push.ensures.items ∙ λ i. c.new-originators.ensures i ++ c.addr.result ∷ [])) (alone c.addr.result)
+with_salt-requires c = subst AreOriginators (sym (c.push.ensures.items
+    ∙ λ i. c.new-originators.ensures i ++ c.addr.result ∷ [])) (alone c.addr.result)

@@ -7,4 +7,5 @@ pub merge-requires : goal.merge-requires
 merge-requires c = λ o h. subst (λ os. list_any (λ x. eqb x o) os ≡ true) (sym c.requires) h
 
 pub returns : goal.returns
-returns c = merged_originators c.merge.result c.args.table.now c.args.other.now c.merge.new.self c.merge.ensures.merged c.merge.ensures.part
+returns c = merged_originators c.merge.result c.args.table.now c.args.other.now c.merge.new.self c.merge.ensures.merged
+    c.merge.ensures.part

@@ -14,9 +14,17 @@ read_one-reading-requires c =
 
 pub returns-in-Length-clause-read : goal.returns-in-Length-clause-read
 returns-in-Length-clause-read c = λ stream answers r.
-    let whole = read_whole c.args.self.now c.self.inside.newest c.self.inside.held.items [] c.whole_up_to.result (sym c.self.view_is)
-    (c.whole_up_to.ensures ∙ ap (whole_up_to c.self.inside.newest) c.as_slice.ensures.value) c.in-Length.field-0 c.in-Length.is c.self.invariant.1 stream answers r in
+    let whole = read_whole c.args.self.now c.self.inside.newest c.self.inside.held.items [] c.whole_up_to.result
+    (sym c.self.view_is)
+    (c.whole_up_to.ensures ∙ ap (whole_up_to c.self.inside.newest) c.as_slice.ensures.value) c.in-Length.field-0
+    c.in-Length.is c.self.invariant.1 stream answers r in
     let answer : added c.answer.result ≡ reading c.self.inside.held.items ∷ [] =
-    ap added c.answer.ensures ∙ added_answer c.read_one-reading.result ∙ ap (λ (x : Result Fields ℕ). x ∷ []) (c.read_one-reading.ensures ∙ ap reading c.as_slice-in-Length.ensures.value) in
-    subst (λ (more : List (Result Fields ℕ)). HasRead (record { newest = c.self.inside.newest; rest = c.clear.new.self.items }) stream (answers ++ more)) (sym answer)
-    (subst (λ (rest : List ℕ). HasRead (record { newest = c.self.inside.newest; rest = rest }) stream (answers ++ reading c.self.inside.held.items ∷ [])) (sym c.clear.ensures) whole)
+    ap added c.answer.ensures ∙ added_answer c.read_one-reading.result
+    ∙ ap (λ (x : Result Fields ℕ). x ∷ []) (c.read_one-reading.ensures
+    ∙ ap reading c.as_slice-in-Length.ensures.value) in
+    subst (λ (more : List (Result Fields ℕ)). HasRead (record {
+      newest = c.self.inside.newest;
+      rest = c.clear.new.self.items;
+    }) stream (answers ++ more)) (sym answer)
+    (subst (λ (rest : List ℕ). HasRead (record { newest = c.self.inside.newest; rest = rest }) stream
+    (answers ++ reading c.self.inside.held.items ∷ [])) (sym c.clear.ensures) whole)

@@ -9,19 +9,26 @@ use Rattle.route_wire.proofs.feed.Feed.take.Goals as goal
 
 nothing_held : (c : goal.After-answer) → c.self.inside.held.items ≡ []
 nothing_held c = empty c.self.inside.held.items
-    (exact_unsigned_eq (length c.self.inside.held.items) 0 (ap (λ (t : List ℕ). length t == 0) (sym c.as_slice.ensures.value) ∙ sym c.is_empty.ensures ∙ c.if-is_empty.true))
+    (exact_unsigned_eq (length c.self.inside.held.items) 0
+    (ap (λ (t : List ℕ). length t == 0) (sym c.as_slice.ensures.value) ∙ sym c.is_empty.ensures
+    ∙ c.if-is_empty.true))
 
 pub read_one-requires : goal.read_one-requires
 read_one-requires c =
     subst IsWhole (sym c.split_at.ensures.front)
-    (lies_whole c.self.inside.newest c.in-Length.n c.args.piece.now c.self.invariant.0 (sym c.whole_up_to.ensures ∙ c.in-Length.is))
+    (lies_whole c.self.inside.newest c.in-Length.n c.args.piece.now c.self.invariant.0 (sym c.whole_up_to.ensures
+    ∙ c.in-Length.is))
 
 pub returns-in-Length-clause-takes : goal.returns-in-Length-clause-takes
 returns-in-Length-clause-takes c =
-    takes_whole c.args.self.now c.self.inside.newest c.self.inside.held.items c.args.piece.now c.in-Length.n (sym c.self.view_is) (nothing_held c)
-    (sym c.whole_up_to.ensures ∙ c.in-Length.is) c.answer.result (c.answer.ensures ∙ ap answer_of (c.read_one.ensures ∙ ap reading c.split_at.ensures.front))
+    takes_whole c.args.self.now c.self.inside.newest c.self.inside.held.items c.args.piece.now c.in-Length.n
+    (sym c.self.view_is) (nothing_held c)
+    (sym c.whole_up_to.ensures ∙ c.in-Length.is) c.answer.result (c.answer.ensures
+    ∙ ap answer_of (c.read_one.ensures ∙ ap reading c.split_at.ensures.front))
 
 pub returns-in-Length-clause-read : goal.returns-in-Length-clause-read
 returns-in-Length-clause-read c =
-    read_lying c.args.self.now c.self.inside.newest c.self.inside.held.items c.args.piece.now c.in-Length.n (sym c.self.view_is) (nothing_held c)
-    (sym c.whole_up_to.ensures ∙ c.in-Length.is) c.answer.result (c.answer.ensures ∙ ap answer_of (c.read_one.ensures ∙ ap reading c.split_at.ensures.front))
+    read_lying c.args.self.now c.self.inside.newest c.self.inside.held.items c.args.piece.now c.in-Length.n
+    (sym c.self.view_is) (nothing_held c)
+    (sym c.whole_up_to.ensures ∙ c.in-Length.is) c.answer.result (c.answer.ensures
+    ∙ ap answer_of (c.read_one.ensures ∙ ap reading c.split_at.ensures.front))

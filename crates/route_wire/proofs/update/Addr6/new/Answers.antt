@@ -9,7 +9,8 @@ written n fits = let top : n / 256 ^ 15 ≡ n / 256 ^ 15 % 256 = omega (arith, f
 
 pub returns : goal.returns
 returns c =
-    ap (big_number 16) (c.to_be_bytes.ensures ∙ sym (written c.args.number c.ranges.number.fits)) ∙ number_of_octets c.args.number
+    ap (big_number 16) (c.to_be_bytes.ensures ∙ sym (written c.args.number c.ranges.number.fits))
+    ∙ number_of_octets c.args.number
 
 pub invariant_of-result : goal.invariant_of-result
 invariant_of-result c =

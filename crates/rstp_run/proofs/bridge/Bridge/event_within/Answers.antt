@@ -11,7 +11,8 @@ invariant_of-self c =
     let same = given.ports in
     let some = c.self.invariant.3 in (
       both-ways _ _ given.yes given.no,
-      orderly-run given.happens.firings _ _ given.happens.run (orderly-direct _ c.self.inside.engine c.self.invariant.1),
+      orderly-run given.happens.firings _ _ given.happens.run
+          (orderly-direct _ c.self.inside.engine c.self.invariant.1),
       happens_numbered _ _ _ _ _ _ given.happens c.self.invariant.2,
       omega arith,
     )

@@ -8,11 +8,13 @@ use Rattle.rstp_run.proofs.engine.Engine.run.Goals as goal
 
 pub returns-then-count-clause-goes : goal.returns-then-count-clause-goes
 returns-then-count-clause-goes c =
-    goes-both _ _ _ _ _ _ (goes-both _ _ _ _ _ _ c.rounds.invariant.0 c.settle.ensures.goes) c.settle-in-rounds.ensures.goes
+    goes-both _ _ _ _ _ _ (goes-both _ _ _ _ _ _ c.rounds.invariant.0 c.settle.ensures.goes)
+    c.settle-in-rounds.ensures.goes
 
 pub returns-then-count-before-clause-goes : goal.returns-then-count-before-clause-goes
 returns-then-count-before-clause-goes c =
-    goes-both _ _ _ _ _ _ (goes-both _ _ _ _ _ _ c.rounds.invariant.0 c.settle.ensures.goes) c.settle-in-rounds.ensures.goes
+    goes-both _ _ _ _ _ _ (goes-both _ _ _ _ _ _ c.rounds.invariant.0 c.settle.ensures.goes)
+    c.settle-in-rounds.ensures.goes
 
 pub returns-then-count-before-clause-yes : goal.returns-then-count-before-clause-yes
 returns-then-count-before-clause-yes c = λ yes.
@@ -24,6 +26,7 @@ returns-then-count-before-clause-yes c = λ yes.
 
 pub rounds-preserved : goal.rounds-preserved
 rounds-preserved c = (
-  goes-both _ _ _ _ _ _ (goes-both _ _ _ _ _ _ c.rounds.invariant.0 c.settle.ensures.goes) c.settle-in-rounds.ensures.goes,
+  goes-both _ _ _ _ _ _ (goes-both _ _ _ _ _ _ c.rounds.invariant.0 c.settle.ensures.goes)
+      c.settle-in-rounds.ensures.goes,
   c.settle-in-rounds.ensures.ports ∙ c.settle.ensures.ports ∙ c.rounds.invariant.1,
 )
