@@ -45,6 +45,10 @@ pub fn twice(number: u32) -> u64
 {
     u64::from(number) * 2
 }
+
+fn pair(number: u32) -> [[u8; 2]; 2] {
+    [[0; 2]; 2]
+}
 """
 
 # as the kit's check says it (its terms shortened)
@@ -79,7 +83,7 @@ class Sources(unittest.TestCase):
         shape = sources.shape_of(SOURCE)
         self.assertEqual(len(shape), len(SOURCE))
         found = [(name, SOURCE[start:end].split("\n")[1].strip()) for name, _, start, end in sources.bodies(shape)]
-        self.assertEqual(found, [("area", 'let text = "fn no() { }";'), ("twice", "u64::from(number) * 2")])
+        self.assertEqual(found, [("area", 'let text = "fn no() { }";'), ("twice", "u64::from(number) * 2"), ("pair", "[[0; 2]; 2]")])
 
 
 class Unproved(unittest.TestCase):
@@ -98,13 +102,13 @@ class Unproved(unittest.TestCase):
                 return gate.unproved([crate])
 
     def test_all_proved_lacks_nothing(self):
-        self.assertEqual(self.lacking({"low::SquareShape::area", "low::twice"}), [])
+        self.assertEqual(self.lacking({"low::SquareShape::area", "low::twice", "low::pair"}), [])
 
     def test_function_left_out_is_missed(self):
-        self.assertEqual(self.lacking({"low::SquareShape::area"}), ["low: twice"])
+        self.assertEqual(self.lacking({"low::SquareShape::area", "low::pair"}), ["low: twice"])
 
     def test_crate_left_out_is_missed(self):
-        self.assertEqual(self.lacking(set()), ["low: area", "low: twice"])
+        self.assertEqual(self.lacking(set()), ["low: area", "low: pair", "low: twice"])
 
 
 class Changes(unittest.TestCase):
@@ -112,7 +116,7 @@ class Changes(unittest.TestCase):
 
     def test_body_is_parted_from_what_callers_know(self):
         rest, found = check.parted(SOURCE)
-        self.assertEqual(sorted(found), ["area", "twice"])
+        self.assertEqual(sorted(found), ["area", "pair", "twice"])
         changed = check.parted(SOURCE.replace("u64::from(number) * 2", "2 * u64::from(number)"))
         self.assertEqual(changed[0], rest)
         self.assertNotEqual(changed[1]["twice"], found["twice"])
@@ -126,6 +130,22 @@ class Changes(unittest.TestCase):
 
     def test_changed_comment_is_no_change(self):
         self.assertEqual(check.parted(SOURCE.replace("/// Twice.", "/// Two times.")), check.parted(SOURCE))
+
+
+class Kept(unittest.TestCase):
+    """What the checks of edits begin with."""
+
+    def test_what_a_check_keeps_of_an_edit_is_not_for_the_next_one(self):
+        with tempfile.TemporaryDirectory() as kept:
+            with open(f"{kept}/table.oantt", "w", encoding="utf-8") as it:
+                it.write("proved")
+            with edits.copy_of(kept) as copy:
+                # as a check does it: it writes another file, and puts that in the place
+                with open(f"{copy}/new", "w", encoding="utf-8") as it:
+                    it.write("of a wrong body")
+                os.replace(f"{copy}/new", f"{copy}/table.oantt")
+            with open(f"{kept}/table.oantt", encoding="utf-8") as it:
+                self.assertEqual(it.read(), "proved")
 
 
 class Edits(unittest.TestCase):

@@ -14,6 +14,7 @@ that isn't read or is proved.
 Of each refused edit the goals are told that refused it. Where they only miss a name that the edit took away, that is said:
 such an edit shows little of a contract.
 """
+import contextlib
 import os
 import re
 import shutil
@@ -95,9 +96,18 @@ def applied(edit, folder, texts):
     return (texts, Edit(edit, functions)) if functions else None
 
 
+@contextlib.contextmanager
+def copy_of(kept):
+    """Gives a copy of the kept work, made by links. A check keeps what it made of wrong bodies in the place of what was proved, and
+    the next one would have to prove that again."""
+    with tempfile.TemporaryDirectory(prefix="kept-") as room:
+        rt.linked(kept, f"{room}/kept")
+        yield f"{room}/kept"
+
+
 def check(crate, texts, kept, only):
-    """Checks these functions of a copy of the crate with these texts in place of its own, over the kept work."""
-    with tempfile.TemporaryDirectory(prefix="edits-") as room:
+    """Checks these functions of a copy of the crate with these texts in place of its own, over a copy of the kept work."""
+    with tempfile.TemporaryDirectory(prefix="edits-") as room, copy_of(kept) as kept:
         for part in rtlib.PARTS:
             if os.path.isdir(f"{crate.folder}/{part}"):
                 shutil.copytree(f"{crate.folder}/{part}", f"{room}/{part}")
@@ -177,7 +187,8 @@ def try_all(crate, edits, kept):
     refused, left = tried_together(crate, edits, kept)
     tried = {it: (rt.REFUSED, f"must-fail {crate.name}/{os.path.basename(it)}: refused, as it must be: {line}") for it, line in refused.items()}
     for edit in left:
-        kind, text = rt.must_fail(crate, edit, ["--jobs", "1"], kept)
+        with copy_of(kept) as seed:
+            kind, text = rt.must_fail(crate, edit, ["--jobs", "1"], seed)
         # what was not refused over kept work is tried from nothing, as in the kit
         tried[edit] = (kind, f"{text} (alone)") if kind in rt.SETTLED else rt.must_fail(crate, edit, ["--jobs", "1"])
     return [tried[it] for it in edits]
@@ -189,13 +200,10 @@ def main(names):
     for crate in [crates[it] for it in names] or crates.values():
         good, bad = rt.edits_of(crate)
         failed += len(bad)
-        with tempfile.TemporaryDirectory(prefix="kept-") as room:
-            # an edit's check writes into the kept work, so it gets a copy
-            shutil.copytree(f"{crate.folder}/{rtlib.KEPT[1]}", f"{room}/kept")
-            for kind, text in try_all(crate, good, f"{room}/kept"):
-                rt.say(text)
-                well = kind in (rt.REFUSED, rt.AT_LIMIT)
-                passed, failed = passed + well, failed + (not well)
+        for kind, text in try_all(crate, good, f"{crate.folder}/{rtlib.KEPT[1]}"):
+            rt.say(text)
+            well = kind in (rt.REFUSED, rt.AT_LIMIT)
+            passed, failed = passed + well, failed + (not well)
     print(f"{passed} passed, {failed} failed")
     return 1 if failed else 0
 

@@ -29,13 +29,22 @@ def closed(shape, start):
     return len(shape)
 
 
+def head_end(shape, at):
+    """Returns where the next opening brace or semicolon is, or None. One in brackets is part of an array's type."""
+    depth = 0
+    for it in re.finditer(r"[\[\]{;]", shape[at:]):
+        depth += {"[": 1, "]": -1}.get(it[0], 0)
+        if depth == 0 and it[0] in "{;":
+            return at + it.start()
+    return None
+
+
 def body_of(shape, at):
     """Returns from where to where the body goes of the function whose name ends here, or None where it has none."""
     while True:
-        found = re.search(r"[{;]", shape[at:])
-        if found is None or found[0] == ";":
+        start = head_end(shape, at)
+        if start is None or shape[start] == ";":
             return None
-        start = at + found.start()
         end = closed(shape, start)
         if not CLAUSE.search(shape[at:start]):
             return start, end
