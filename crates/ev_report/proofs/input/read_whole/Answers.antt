@@ -1,5 +1,4 @@
 use Rattle.std.proofs.Common.{◌+◌, ◌<◌, ◌^◌, ℕ, List, ◌++◌, take, cond, not, sym, ap, subst, ◌∙◌, arith}
-use Rattle.std.proofs.lemmas.Bool.Decides.{nat_tests}
 use Rattle.ev_report.specs.Input.{Gathers}
 use Rattle.ev_report.proofs.Gathering.{gathers_more, whole_refused}
 use Rattle.ev_report.proofs.input.read_whole.Goals as goal
@@ -8,7 +7,8 @@ pub returns-then-is_err : goal.returns-then-is_err
 returns-then-is_err g c =
     let mid = g.R.In.end c.loop-turn.reader in
     let last = g.R.In.end c.read.new.self in
-    let turns : c.loop-turn.turn < 2 ^ 40 = grind (arith, nat_tests, c.loop-turn-test.true) in
+    let test = c.loop-turn-test.true in
+    let turns : c.loop-turn.turn < 2 ^ 40 = omega (arith, test) in
     let some : 0 < c.in-Ok.n = omega (arith, c.in-Ok.n-test) in
     whole_refused c.loop-turn.turn (g.R.In.end c.args.reader.now) mid last c.loop-turn.input.items c.read.new.buffer
     c.loop-turn.invariant c.in-Ok.n turns c.in-Ok.ensures some
