@@ -129,13 +129,27 @@ class Path(NamedTuple):
     is_own: bool
 
 
+class Seen(NamedTuple):
+    """What decides whether a record can say a path, besides its next hop: FRR's texts and GoBGP's messages say it."""
+
+    target: Optional[int]
+    label: Optional[int]
+    mac: Optional[bytes]
+    tag: str
+    esi: str
+    is_valid: bool
+
+
+NO_KIND = "neither a MAC route nor an inclusive multicast route"
+
+
 class Routes:
     """The paths of FRR's tables that are of the wanted VNIs; what is left out is counted by cause."""
 
     def __init__(
         self, vnis: Iterable[int], any_rd: bool = False, targets: Iterable[Tuple[str, int]] = (), may_be_empty: bool = False
     ) -> None:
-        self.vnis = set(vnis)
+        self.vnis = vnis if isinstance(vnis, range) else set(vnis)
         self.any_rd = any_rd
         self.may_be_empty = may_be_empty
         self.targets = dict(targets)
@@ -192,19 +206,14 @@ class Routes:
     def path(self, rd: str, match: Optional["re.Match[str]"], path: dict) -> Optional[Path]:
         """One path, or nothing with its cause counted."""
         if match is None or match["type"] not in ("2", "3") or (match["type"] == "2" and match["mac"] is None):
-            return self.leave("neither a MAC route nor an inclusive multicast route")
+            return self.leave(NO_KIND)
         mac = read_mac(match["mac"]) if match["type"] == "2" else None
         labels = LABELS.fullmatch(str(path.get("pmsi", {}).get("label", "") if mac is None else path.get("VNI", "")))
         target, static, sequence = self.community(path.get("extendedCommunity", {}).get("string", ""))
-        vni = self.vni_of(target, int(labels[1]) if labels else None, mac)
+        label = int(labels[1]) if labels else None
+        vni = self.network_of(Seen(target, label, mac, match["tag"], path.get("esi", ""), path.get("valid") is True))
         if vni is None:
             return None
-        if match["tag"] != "0":
-            return self.leave("an Ethernet Tag other than 0")
-        if path.get("valid") is not True:
-            return self.leave("not valid")
-        if path.get("esi", "").strip("0:-") != "":
-            return self.leave_unjudged(vni, mac, "a nonzero ESI (multihomed)")
         hop = self.next_hop(rd, path["nexthops"][0]["ip"], vni, mac)
         if hop is None:
             return None
@@ -220,6 +229,19 @@ class Routes:
             best.get("overall") is True if isinstance(best, dict) else best is True,
             path.get("peerId") == "(unspec)" or path.get("local") is True,
         )
+
+    def network_of(self, seen: Seen) -> Optional[int]:
+        """The VNI of a path that a record can say, but for its next hop; else nothing, with its cause counted."""
+        vni = self.vni_of(seen.target, seen.label, seen.mac)
+        if vni is None:
+            return None
+        if seen.tag != "0":
+            return self.leave("an Ethernet Tag other than 0")
+        if not seen.is_valid:
+            return self.leave("not valid")
+        if seen.esi.strip("0:-") != "":
+            return self.leave_unjudged(vni, seen.mac, "a nonzero ESI (multihomed)")
+        return vni
 
     def vni_of(self, target: Optional[int], label: Optional[int], mac: Optional[bytes]) -> Optional[int]:
         """The wanted VNI of a path: its route target's, with which a label has to agree, else its label's."""

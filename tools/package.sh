@@ -6,8 +6,8 @@
 # FOLDER gets evpnd_VERSION_ARCHITECTURE.deb; the version is the first of CHANGELOG.md, with the day and the commit behind it.
 # PROGRAM is the proved build, crates/evpnd/out/evpnd if none is named; FILE is what `rt check` printed when it was proved,
 # which goes into the package (without it the package says that its log isn't there).
-# In the package: /usr/bin/evpnd, evpnd-audit and evpnd-records, the tools (/usr/share/evpnd), man pages made of the help,
-# the docs, the examples of monitoring, and the SHA-256 sums of the program and of the sources that it was built from.
+# In the package: /usr/bin/evpnd, evpnd-audit, evpnd-bgp and evpnd-records, the tools (/usr/share/evpnd), man pages made of
+# the help, the docs, the examples of monitoring, and the SHA-256 sums of the program and of the sources that it was built from.
 # tests/outside/package.sh tries it in a folder with nothing but Debian.
 set -eu
 top=$(cd "$(dirname "$0")/.." && pwd)
@@ -46,10 +46,13 @@ mkdir -p "$root/DEBIAN" "$root/usr/bin" "$share" "$doc/crates" "$man"
 
 # ---- the program and the tools
 install -m 755 "$program" "$root/usr/bin/evpnd"
-for tool in "$top"/tools/audit_*.py "$top"/tools/evpnd_*.py "$top/tools/frr_routes.py" "$top/tools/update_records.py"; do
+for tool in "$top"/tools/audit_*.py "$top"/tools/evpnd_*.py; do
   install -m 644 "$tool" "$share/"
 done
-for name in audit records; do
+for name in bgp_routes frr_routes gobgp update_records; do
+  install -m 644 "$top/tools/$name.py" "$share/"
+done
+for name in audit bgp records; do
   printf '#!/bin/sh\nexec /usr/bin/python3 -B /usr/share/evpnd/evpnd_%s.py "$@"\n' "$name" > "$root/usr/bin/evpnd-$name"
   chmod 755 "$root/usr/bin/evpnd-$name"
 done
@@ -79,6 +82,7 @@ page() { # NAME COMMAND ..: a page of a command's help
     case $name in
       evpnd) echo 'tables, owners and edges of Ethernet VPN' ;;
       evpnd-audit) echo 'compares where a fabric forwards MACs with what its routes say' ;;
+      evpnd-bgp) echo 'a gateway between update records and a BGP EVPN fabric, by GoBGP' ;;
       *) echo 'update records from readable lines and from the routes of FRR, and back' ;;
     esac
     printf '.SH DESCRIPTION\n.nf\n'
@@ -88,6 +92,7 @@ page() { # NAME COMMAND ..: a page of a command's help
 }
 page evpnd "$program" --help
 page evpnd-audit python3 -B "$top/tools/evpnd_audit.py" --help
+page evpnd-bgp python3 -B "$top/tools/evpnd_bgp.py" --help
 page evpnd-records python3 -B "$top/tools/evpnd_records.py" --help
 
 # ---- what dpkg has to know
@@ -101,7 +106,8 @@ libc=$(grep -ao 'GLIBC_2\.[0-9]*' "$program" | sort -t. -k2n | tail -n 1 | cut -
   echo "Priority: optional"
   echo "Depends: python3 (>= 3.9)${libc:+, libc6 (>= $libc)}"
   echo "Recommends: iproute2"
-  echo "Suggests: frr, prometheus-node-exporter"
+  echo "Suggests: frr, prometheus-node-exporter, gobgpd, golang-github-osrg-gobgp-dev, protobuf-compiler," \
+    "python3-grpcio, python3-protobuf"
   echo "Installed-Size: $(du -sk "$root/usr" | cut -f1)"
   echo "Description: audit of Ethernet VPN fabrics, with a proved report of owners"
   echo " evpnd report reads update records and prints each MAC's owner by RFC 7432; a checker"

@@ -45,6 +45,26 @@ class Update(NamedTuple):
     incarnation: int = 0
 
 
+Register = Tuple[bytes, int, Optional[bytes], bytes]
+
+
+def register_of(update: Update) -> Register:
+    """What an update speaks of: originator, VNI, MAC or none for the flood list, IP."""
+    return update[:4]
+
+
+def content_of(advert: Optional[Advert]) -> Tuple[int, int, int]:
+    """The order of contents (docs/routes.md): withdrawn, dynamic, static; then sequence; then label, none first."""
+    if advert is None:
+        return 0, 0, 0
+    return 2 if advert.static else 1, advert.sequence, -1 if advert.label2 is None else advert.label2
+
+
+def newness_of(update: Update) -> Tuple[int, int, Tuple[int, int, int]]:
+    """What is compared of two updates of one register: the greater is the newer (docs/routes.md)."""
+    return update.incarnation, update.counter, content_of(update.advert)
+
+
 class Refused(NamedTuple):
     """A whole record that spells no update, by its number (docs/records.md)."""
 

@@ -49,8 +49,9 @@ see "for Nagios" gives 2 evpnd-audit --nagios /evpnd-try/views/planted
 see "for Prometheus" gives 1 evpnd-audit --prometheus /evpnd-try/evpnd.prom /evpnd-try/views/planted
 see "one station" gives 0 evpnd-audit mac 5001 02:00:00:00:00:aa /evpnd-try/views/home
 see "without FRR the cause is named" sh -c "chroot '$root' evpnd-audit 2>&1 | grep -q 'the command vtysh can.t be run'"
+see "the gateway to BGP tells which packages it needs" sh -c "chroot '$root' evpnd-bgp --watch 1 2>&1 | grep -q 'install gobgpd'"
 see "records of FRR's routes" gives 0 sh -c "evpnd-records frr --vni 5001 /evpnd-try/views/home/routes.json | evpnd-records show | grep -q '^advert 10.0.0.1 5001'"
-for page in evpnd evpnd-audit evpnd-records; do
+for page in evpnd evpnd-audit evpnd-bgp evpnd-records; do
   see "the man page $page" sh -c "gzip -dc '$root/usr/share/man/man1/$page.1.gz' 2>/dev/null | man -l - 2>&1 | grep -q DESCRIPTION || dpkg-deb -c '$package' | grep -q man1/$page.1.gz"
 done
 if [ -n "$monitoring" ]; then
