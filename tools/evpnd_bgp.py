@@ -33,7 +33,7 @@ from update_records import read_address, read_records, record_of, register_of
 
 HOLD = 10  # seconds in which what an earlier life left may be said anew, before it is withdrawn
 AGAIN = 1  # seconds between two tries of a connection
-AT_ONCE = 1000  # registers that are written or announced in one piece
+AT_ONCE = 200  # registers that are written or announced in one piece: GoBGP looks through its table for each
 PATIENCE = 60  # seconds that a stopped gateway takes at most to withdraw its routes
 EVERY_VNI = range(1 << 24)
 
@@ -106,7 +106,7 @@ class Gateway:
         self.announcing = Pending()
         self.strangers: Optional[Dict[Register, Update]] = {}
         self.declined: Dict[Optional[bytes], set] = {}
-        self.is_known = False
+        self.is_known = self.is_alone = False
         self.is_up = False
         self.stopping = threading.Event()
 
@@ -240,6 +240,8 @@ class Gateway:
         if not self.is_known:
             self.look()
         try:
+            if not self.own.wanted and len(self.own.announced) > AT_ONCE:
+                self.withdraw_all()
             self.change(registers)
         except Declined as fault:
             self.look(registers)
@@ -254,12 +256,21 @@ class Gateway:
         """Looks what the daemon has of ours; what it ought to have waits to be announced, but for some registers."""
         self.names.autonomous = self.daemon.autonomous()
         found = [announced_by(route, self.originators, self.names) for route in self.daemon.own()]
+        self.is_alone = None not in found
         with self.lock:
             before = set(self.own.announced).difference(besides)
             self.own.renew(update for update in found if update is not None)
             before.difference_update(self.own.announced)
         self.announcing.add(before)
         self.is_known = True
+
+    def withdraw_all(self) -> None:
+        """Withdraws all of ours in one call, where the daemon has no other routes of its interface."""
+        self.look()
+        if self.is_alone:
+            self.daemon.clear()
+            with self.lock:
+                self.own.renew(())
 
     def change(self, registers: List[Register]) -> None:
         """One call for some registers."""
@@ -354,6 +365,8 @@ class Gateway:
         self.stopping.set()
         self.announcing.close()
         announcer.join(PATIENCE)
+        if announcer.is_alive():
+            tell("not all that was announced is withdrawn: this gateway's next life, or gobgpd's end, withdraws the rest")
         for kinds in (self.left_out, self.told, self.refused):
             kinds.tell_counts()
 

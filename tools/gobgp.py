@@ -222,6 +222,14 @@ class Daemon:
         except self.grpc.RpcError as fault:
             raise self.trouble(fault) from None
 
+    def clear(self) -> None:
+        """Withdraws all routes that this interface has put into the daemon's table."""
+        request = self.gobgp.DeletePathRequest(table_type=self.gobgp.GLOBAL, family=self.messages.family)
+        try:
+            self.call("DeletePath", "unary_unary", "", request, timeout=SECONDS)
+        except self.grpc.RpcError as fault:
+            raise self.trouble(fault) from None
+
     def trouble(self, fault: object) -> Exception:
         """What an error of the interface says: an answer of the daemon's, or that there is none."""
         codes: Dict[object, str] = {

@@ -538,6 +538,11 @@ class Stand:
             raise NoDaemon("not there")
         return list(self.table.values())
 
+    def clear(self) -> None:
+        """Forgets all that it was told."""
+        self.changes.append("clear")
+        self.table.clear()
+
     def change(self, changes) -> None:
         """Takes routes one by one."""
         for route, is_withdrawn in changes:
@@ -640,6 +645,18 @@ class Joins(unittest.TestCase):
         self.announces(("10.0.0.2", STATION, (True, 0)))
         gateway.end_session()
         self.announces()
+
+    def test_many_are_withdrawn_at_once_where_nobody_elses_are_there(self):
+        gateway = self.gateway()
+        lines = [f"advert 10.0.0.1 5001 02:00:00:00:{number:02x}:01 seq 1" for number in range(250)]
+        for theirs in ({}, {"theirs": Route(3, "10.0.0.9:1", ip="10.0.0.9", hop="10.0.0.9", pmsi=Pmsi(6, 5001, ONE))}):
+            self.stand.table.update(theirs)
+            self.give(gateway, *lines)
+            self.assertTrue(reached(lambda: len(self.stand.table) == 250 + len(theirs)))
+            self.stand.changes.clear()
+            gateway.end_session()
+            self.assertTrue(reached(lambda: len(self.stand.table) == len(theirs)))
+            self.assertEqual(self.stand.changes.count("clear"), 1 - len(theirs))
 
     def test_nothing_comes_back(self):
         """A record of another edge isn't announced; a route to an edge of ours is no record."""

@@ -24,7 +24,7 @@ import unittest
 from typing import Dict, List, NamedTuple
 
 TOP = os.path.dirname(os.path.dirname(os.path.dirname(os.path.abspath(__file__))))
-PAGES = ("README.md", "docs/tutorial.md", "docs/running.md", "docs/audit.md")
+PAGES = ("README.md", "docs/tutorial.md", "docs/running.md", "docs/audit.md", "docs/fabric.md")
 NOT_RUN = {"sh root": "it needs root, namespaces or devices", "sh frr": "it needs a host with FRR, or its views"}
 READ_ALONE = ("text", "toml")
 FENCE = re.compile(r"^( *)```(.*)$")
