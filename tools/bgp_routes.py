@@ -191,6 +191,10 @@ class Heard:
             touched = [register for register in touched if register != said[0]] + [said[0]]
         return [register for register in touched if self.settle(register)]
 
+    def is_folded(self, neighbour: str, register: Register) -> bool:
+        """Whether a register is the better of several routes of one neighbour."""
+        return sum(each == neighbour for each, _ in self.routes.get(register, ())) > 1
+
     def drop(self, register: Register, route: Tuple[str, Hashable]) -> None:
         """Takes a route off its register."""
         left = tuple(each for each in self.routes[register] if each != route)

@@ -11,7 +11,8 @@ comes back to where it came from. What can't be said is left out: each kind is t
 at the end.
 
 GoBGP's daemon runs with an API (`gobgpd --api-hosts 127.0.0.1:50051`). docs/fabric.md has its configuration. Status 0;
-1 where a stream ended by a fault or in a record; 2 for usage, or where a package is missing. Nothing here is proved.
+1 where a stream ended by a fault or in a record, or a watch found no daemon; 2 for usage, or where a package is
+missing. Nothing here is proved.
 """
 
 import argparse
@@ -26,7 +27,7 @@ from typing import BinaryIO, Callable, Dict, Iterable, List, Optional
 
 from bgp_routes import Heard, Names, Own, announced_by, route_of, said_by
 from evpnd_records import add_route_words, vnis_of
-from frr_routes import Routes
+from frr_routes import FOLDED, Routes
 from gobgp import PROTOS, Daemon, Declined, Event, NoDaemon
 from update_records import Fault, Refused, Register, Unreadable, Update
 from update_records import read_address, read_records, record_of, register_of
@@ -39,8 +40,16 @@ EVERY_VNI = range(1 << 24)
 
 
 def tell(text: str) -> None:
-    """A line on standard error."""
-    print(f"evpnd_bgp: {text}", file=sys.stderr, flush=True)
+    """A line on standard error, where anybody reads it."""
+    with_no_fault(lambda: print(f"evpnd_bgp: {text}", file=sys.stderr, flush=True))
+
+
+def with_no_fault(call: Callable[[], None]) -> None:
+    """A call on a connection or a stream that may be gone."""
+    try:
+        call()
+    except OSError:
+        pass
 
 
 class Kinds(collections.Counter):
@@ -108,7 +117,7 @@ class Gateway:
         self.declined: Dict[Optional[bytes], set] = {}
         self.is_known = self.is_alone = False
         self.is_up = False
-        self.stopping = threading.Event()
+        self.was_up, self.stopping = threading.Event(), threading.Event()
 
     # ---- from BGP to records
 
@@ -132,6 +141,7 @@ class Gateway:
         if self.is_up:
             return
         self.is_up, self.is_known = True, False
+        self.was_up.set()
         with self.lock:
             wanted = list(self.own.wanted)
         self.announcing.add(wanted)
@@ -148,7 +158,9 @@ class Gateway:
                 said = None if event.is_withdrawn else said_by(event.route, self.routes)
                 if said is not None and said[0][0] in self.originators:
                     said = self.routes.leave("a next hop that is one of our own edges")
-                changed = self.heard.take(event.neighbour, event.route.key(), said)
+                changed = self.heard.take(event.neighbour, (event.route.key(), event.identifier), said)
+                if said is not None and self.heard.is_folded(event.neighbour, said[0]):
+                    self.told[FOLDED] += 1
         self.push(changed)
 
     def push(self, changed: List[Register]) -> None:
@@ -225,7 +237,7 @@ class Gateway:
         while registers:
             try:
                 self.announce_these(registers)
-            except NoDaemon as fault:
+            except (NoDaemon, Declined) as fault:
                 self.is_known = False
                 if self.stopping.is_set():
                     tell(f"{fault}: what was announced may stay there until this gateway begins anew")
@@ -344,6 +356,7 @@ class Gateway:
                 fault = self.read(sys.stdin.buffer)
             else:
                 self.stopping.wait(seconds)
+                fault = None if self.was_up.is_set() else "the daemon never answered"
         finally:
             self.end_session()
             pending.close()
@@ -366,17 +379,9 @@ class Gateway:
         self.announcing.close()
         announcer.join(PATIENCE)
         if announcer.is_alive():
-            tell("not all that was announced is withdrawn: this gateway's next life, or gobgpd's end, withdraws the rest")
+            tell("not all of ours is withdrawn: this gateway's next life, or gobgpd's end, withdraws the rest")
         for kinds in (self.left_out, self.told, self.refused):
             kinds.tell_counts()
-
-
-def with_no_fault(call: Callable[[], None]) -> None:
-    """A call on a connection that may be gone."""
-    try:
-        call()
-    except OSError:
-        pass
 
 
 def started(body: Callable, *words: object) -> threading.Thread:
@@ -398,6 +403,12 @@ def stop(_number: int, _frame: object) -> None:
     for number in (signal.SIGINT, signal.SIGTERM, signal.SIGHUP):
         signal.signal(number, signal.SIG_DFL)
     raise Stopped
+
+
+def end_all(what: threading.ExceptHookArgs) -> None:
+    """Ends the gateway where a thread failed: half a gateway helps nobody, and a supervisor begins it anew."""
+    sys.excepthook(what.exc_type, what.exc_value, what.exc_traceback)
+    os.kill(os.getpid(), signal.SIGTERM)
 
 
 def own_of(text: str) -> List[bytes]:
@@ -428,6 +439,7 @@ def parser() -> argparse.ArgumentParser:
 def run(gateway: Gateway, arguments: argparse.Namespace) -> int:
     """Runs a gateway until its input or a signal ends it; gives the status."""
     status = 0
+    threading.excepthook = end_all
     for number in (signal.SIGINT, signal.SIGTERM, signal.SIGHUP):
         signal.signal(number, stop)
     announcer = started(gateway.announce)

@@ -141,6 +141,7 @@ class Seen(NamedTuple):
 
 
 NO_KIND = "neither a MAC route nor an inclusive multicast route"
+FOLDED = "folded into the better route of the same next hop and key"
 
 
 class Routes:
@@ -332,7 +333,7 @@ class Snapshot:
             self.own.add(path.vtep)
         old = self.registers.get(key)
         if old is not None:
-            self.routes.told["folded into the better route of the same next hop and key"] += 1
+            self.routes.told[FOLDED] += 1
             if (old[0].static, old[0].sequence, old[1]) >= (value[0].static, value[0].sequence, value[1]):
                 return
         self.registers[key] = value

@@ -31,11 +31,15 @@ class Declined(Exception):
 
 
 class Event(NamedTuple):
-    """What a watch tells: a neighbour's route, or no route where the neighbour's session doesn't stand."""
+    """What a watch tells: a neighbour's route, or no route where the neighbour's session doesn't stand.
+
+    The identifier tells several paths of one route apart (RFC 7911).
+    """
 
     neighbour: str
     route: Optional[Route] = None
     is_withdrawn: bool = False
+    identifier: int = 0
 
 
 class Messages:
@@ -156,7 +160,7 @@ class Messages:
             return
         for path in response.table.paths:
             if path.family == self.family:
-                yield Event(path.neighbor_ip, self.route(path), path.is_withdraw)
+                yield Event(path.neighbor_ip, self.route(path), path.is_withdraw, path.identifier)
 
 
 class Daemon:

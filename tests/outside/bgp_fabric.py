@@ -5,6 +5,7 @@ GoBGP stands beside the gateway. The fabric's leaves are a second GoBGP and, as 
 """
 
 import os
+import random
 import re
 import shutil
 import signal
@@ -29,7 +30,7 @@ FRR_LEAF, FRR_GATEWAY = "192.168.77.1", "192.168.77.2"
 FAR = "10.0.0.7"  # what GoBGP's leaf is called in its routes
 OURS = "10.0.0.1,10.0.0.2"
 STATION, MOVED, PINNED, HOME = (f"02:00:00:00:00:{last}" for last in ("0a", "0b", "0c", "aa"))
-MANY = 10000
+MANY, CHANGES = 10000, 3000
 PATIENCE = 60
 HOLD = 10  # the gateway's, in which what an earlier life left may be said anew
 NEIGHBOUR = """[[neighbors]]
@@ -313,6 +314,38 @@ def deaths(pair: Pair, tally: Tally) -> None:
     tally.see(gateway.kill(signal.SIGTERM) == 0 and pair.leaf_gets({}), "SIGTERM withdraws all of ours")
 
 
+def churn(pair: Pair, tally: Tally) -> None:
+    """Random changes on both sides at once: what is left is what was said last, and GoBGP has declined nothing."""
+    gateway, draw = pair.gateway(), random.Random(7)
+    gateway.tell("advert 10.0.0.1 5001 flood")
+    ours: Dict[Tuple[str, str], Optional[Tuple[bool, int]]] = {("10.0.0.1", "flood"): None}
+    waited(lambda: pair.leaf_has() == ours)
+    theirs: Dict[str, Optional[int]] = {}
+    for first in range(1, CHANGES, 50):
+        lines, routes = [], []
+        for counter in range(first, first + 50):
+            edge, mac, sequence = f"10.0.0.{draw.randint(1, 2)}", mac_of(draw.randrange(40)), draw.randrange(6)
+            content = draw.choice(("withdraw", "advert", "advert", "static"))
+            ours[edge, mac] = (content == "static", sequence)
+            if content == "withdraw":
+                del ours[edge, mac]
+            said = {"advert": f"seq {sequence}", "static": f"static seq {sequence}"}.get(content, "")
+            lines.append(f"{'advert' if said else 'withdraw'} {edge} 5001 {mac} {said} counter {counter}")
+            mac, sequence = mac_of(1000 + draw.randrange(40)), draw.choice((None, 0, 1, 2, 3))
+            theirs[mac] = sequence
+            routes += [(far(mac), True)] + ([] if sequence is None else [(far(mac, mobility=(False, sequence)), False)])
+        gateway.tell(*lines)
+        pair.leaf.daemon.change(routes)
+    tally.see(pair.leaf_gets(ours), f"after {CHANGES} random changes the leaf has what our records said last")
+    wanted = {mac: sequence for mac, sequence in theirs.items() if sequence is not None}
+    heard = lambda: {mac: gateway.says(FAR, mac) for mac in theirs}  # noqa: E731
+    said = lambda: {mac: found for mac, found in heard().items() if found not in (None, "withdrawn")}  # noqa: E731
+    tally.see(waited(lambda: said() == wanted, 15) is not None, "and the records say what the leaf said last")
+    tally.see("declined" not in gateway.noted(), "and GoBGP has declined nothing")
+    gateway.end()
+    pair.leaf.daemon.change((far(mac), True) for mac in theirs)
+
+
 def give(pair: Pair, is_withdrawn: bool) -> float:
     """Lets the leaf say many stations, or withdraw them, some in each call; gives the seconds."""
     begun = time.monotonic()
@@ -353,7 +386,7 @@ def beside_gobgp(tally: Tally) -> List[str]:
     pair = None
     try:
         pair = Pair(folder)
-        for case in (both_ways, garbage, deaths):
+        for case in (both_ways, garbage, deaths, churn):
             case(pair, tally)
         return many(pair, tally)
     finally:

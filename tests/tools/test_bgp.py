@@ -494,10 +494,10 @@ class SpeaksToGobgp(unittest.TestCase):
 
     def test_events(self):
         path = messages().path(leaf_route(), False)
-        path.neighbor_ip = "192.0.2.1"
+        path.neighbor_ip, path.identifier = "192.0.2.1", 7
         other = Message(name="Path", family=(1, 1))
         table = Message(WhichOneof=lambda _: "table", table=Message(paths=[other, path]))
-        self.assertEqual(list(messages().events(table)), [Event("192.0.2.1", leaf_route(), False)])
+        self.assertEqual(list(messages().events(table)), [Event("192.0.2.1", leaf_route(), False, 7)])
         for state, wanted in ((6, []), (1, [Event("192.0.2.1")]), (3, [Event("192.0.2.1")])):
             peer = Message(state=Message(neighbor_address="192.0.2.1", session_state=state))
             answer = Message(WhichOneof=lambda _: "peer", peer=Message(peer=peer))
@@ -514,7 +514,7 @@ class Stand:
         self.events: "queue.Queue" = queue.Queue()
         self.table: dict = {}
         self.changes: list = []
-        self.is_there = True
+        self.is_there = self.has_begun = True
         self.foreign = -1
 
     def autonomous(self) -> int:
@@ -536,6 +536,8 @@ class Stand:
         """What it was told."""
         if not self.is_there:
             raise NoDaemon("not there")
+        if not self.has_begun:
+            raise Declined("BGP hasn't begun")
         return list(self.table.values())
 
     def clear(self) -> None:
@@ -563,7 +565,7 @@ class Joins(unittest.TestCase):
 
     def setUp(self):
         self.hold, self.again = program.HOLD, program.AGAIN
-        program.HOLD, program.AGAIN = 0.3, 0.05
+        program.HOLD, program.AGAIN = 1, 0.05
         self.stand = Stand()
         self.said = io.StringIO()
         self.redirected = contextlib.redirect_stderr(self.said)
@@ -628,11 +630,30 @@ class Joins(unittest.TestCase):
         self.stand.events.put(Event("a"))
         self.writes((100, STATION, Advert(), 1), (7, OTHER, Advert(), 1), (100, STATION, None, 2))
 
+    def test_several_paths_of_one_route(self):
+        """Told apart by their identifiers: each next hop has its own register."""
+        self.gateway()
+        self.stand.events.put(Event("a", leaf_route(), False, 1))
+        self.stand.events.put(Event("a", leaf_route(hop="10.0.0.7"), False, 2))
+        self.writes((100, STATION, Advert(), 1), (7, STATION, Advert(), 1))
+        self.stand.events.put(Event("a", leaf_route(), True, 1))
+        self.writes((100, STATION, Advert(), 1), (7, STATION, Advert(), 1), (100, STATION, None, 2))
+
+    def test_two_rds_of_one_edge_are_told(self):
+        """By two reflectors one route comes twice, which is nothing to tell."""
+        gateway = self.gateway()
+        self.stand.events.put(Event("a", leaf_route()))
+        self.stand.events.put(Event("b", leaf_route()))
+        self.stand.events.put(Event("b", leaf_route(mobility=(False, 9))._replace(rd="10.0.0.100:3")))
+        self.assertTrue(reached(lambda: self.records() and self.records()[-1][2] == Advert(False, 9)))
+        self.assertEqual(gateway.told, {"folded into the better route of the same next hop and key": 1})
+
     def test_a_daemon_that_dies_takes_all_and_brings_it_again(self):
         self.gateway()
         self.stand.events.put(Event("a", leaf_route()))
         self.writes((100, STATION, Advert(), 1))
         self.stand.events.put(NoDaemon("gone"))
+        self.writes((100, STATION, Advert(), 1), (100, STATION, None, 2))
         self.stand.events.put(Event("a", leaf_route()))
         self.writes((100, STATION, Advert(), 1), (100, STATION, None, 2), (100, STATION, Advert(), 3))
         self.assertEqual(self.said.getvalue().count("gone"), 1)
@@ -688,6 +709,14 @@ class Joins(unittest.TestCase):
         self.stand.is_there = True
         self.announces(("10.0.0.1", STATION, (False, 3)))
         self.assertEqual(self.said.getvalue().count("not there"), 1)
+
+    def test_a_daemon_that_hasnt_begun_is_waited_for(self):
+        self.stand.has_begun = False
+        gateway = self.gateway()
+        self.give(gateway, f"advert 10.0.0.1 5001 {STATION} seq 3")
+        self.assertTrue(reached(lambda: "BGP hasn't begun" in self.said.getvalue()))
+        self.stand.has_begun = True
+        self.announces(("10.0.0.1", STATION, (False, 3)))
 
     def test_a_life_after_a_life(self):
         """What the first left is said anew or withdrawn, in BGP and in the records; what is said is newer."""
