@@ -75,7 +75,7 @@ class Pending:
 
     def __init__(self) -> None:
         self.changed = threading.Condition()
-        self.registers: Dict[Register, None] = {}
+        self.registers: "collections.OrderedDict[Register, None]" = collections.OrderedDict()
         self.is_closed = False
 
     def add(self, registers: Iterable[Register]) -> None:
@@ -94,10 +94,8 @@ class Pending:
         """The next registers, as soon as there are some; none where nothing comes any more."""
         with self.changed:
             self.changed.wait_for(lambda: self.registers or self.is_closed)
-            taken = list(self.registers)[:AT_ONCE]
-            for register in taken:
-                del self.registers[register]
-            return taken
+            count = min(AT_ONCE, len(self.registers))
+            return [self.registers.popitem(last=False)[0] for _ in range(count)]
 
 
 class Gateway:

@@ -9,6 +9,7 @@ import random
 import re
 import shutil
 import signal
+import socket
 import subprocess
 import sys
 import tempfile
@@ -23,7 +24,8 @@ from bgp_routes import Pmsi, Route  # noqa: E402
 from edge import Edge, Trouble, run  # noqa: E402
 from gobgp import Daemon, NoDaemon  # noqa: E402
 from histories import Tally  # noqa: E402
-from update_records import Update, address_text, mac_text, read_records, record_of, update_of_line  # noqa: E402
+from update_records import Update, address_text, mac_text  # noqa: E402
+from update_records import read_mac, read_records, record_of, update_of_line  # noqa: E402
 
 GATEWAY, LEAF = "127.0.0.2", "127.0.0.3"  # the sessions' ends beside GoBGP
 FRR_LEAF, FRR_GATEWAY = "192.168.77.1", "192.168.77.2"
@@ -126,13 +128,13 @@ def gateway_text(neighbours: Iterable[Tuple[str, str]]) -> str:
 
 
 class Gateway(Child):
-    """A running gateway at standard input and output."""
+    """A running gateway, at standard input and output if nothing else is said."""
 
-    def __init__(self, folder: str, path: str, name: str) -> None:
+    def __init__(self, folder: str, path: str, name: str, way: Tuple[str, ...] = ("--stdio",)) -> None:
         self.out, self.notes = (os.path.join(folder, f"{name}.{kind}") for kind in ("records", "notes"))
         words = ["/usr/bin/python3", "-B", os.path.join(TOP, "tools", "evpnd_bgp.py"), "--gobgp", f"unix:{path}"]
         with open(self.out, "wb") as out, open(self.notes, "wb") as notes:
-            super().__init__([*words, "--own", OURS, "--stdio"], stdin=subprocess.PIPE, stdout=out, stderr=notes)
+            super().__init__([*words, "--own", OURS, *way], stdin=subprocess.PIPE, stdout=out, stderr=notes)
 
     def tell(self, *lines: str) -> None:
         """Gives it records."""
@@ -200,10 +202,10 @@ class Pair:
         self.leaf = Gobgpd([], folder, "leaf", leaf_text(LEAF))
         self.count = 0
 
-    def gateway(self) -> Gateway:
+    def gateway(self, *way: str) -> Gateway:
         """A new gateway."""
         self.count += 1
-        return Gateway(self.folder, self.near.path, f"gateway{self.count}")
+        return Gateway(self.folder, self.near.path, f"gateway{self.count}", way or ("--stdio",))
 
     def leaf_has(self) -> Dict[Tuple[str, str], Optional[Tuple[bool, int]]]:
         """What the leaf has heard: next hop and MAC, with static flag and sequence number."""
@@ -267,6 +269,29 @@ def garbage(pair: Pair, tally: Tally) -> None:
     status = gateway.process.wait(PATIENCE)
     tally.see(status == 1 and "fault 1 at record 2" in gateway.noted(), "garbage ends the stream with a line")
     tally.see(pair.leaf_gets({}), "and what it brought is withdrawn")
+
+
+def sessions(pair: Pair, tally: Tally) -> None:
+    """Two sessions at a Unix socket, each with a station of both sides; the gateway is there before the socket."""
+    path = os.path.join(pair.folder, "records.sock")
+    gateway = pair.gateway("--socket", path)
+    time.sleep(2)
+    with socket.socket(socket.AF_UNIX) as server:
+        server.bind(path)
+        server.listen()
+        server.settimeout(15)
+        for count in ("first", "second"):
+            connection, _ = server.accept()
+            with connection, connection.makefile("rb") as stream:
+                tally.see(stream.readline() == b"records\n", f"the {count} session begins with its word")
+                connection.sendall(record_of(update_of_line(f"advert 10.0.0.1 5001 {MOVED} seq 3")))
+                tally.see(pair.leaf_gets({("10.0.0.1", MOVED): (False, 3)}), "its record is a route")
+                heard = {next(read_records(stream)).mac for _ in range(2)}
+                tally.see(heard == {None, read_mac(STATION)}, "and all of the fabric is told to it")
+            tally.see(pair.leaf_gets({}), "its end withdraws what it brought")
+        connection, _ = server.accept()
+        with connection:
+            tally.see(gateway.kill(signal.SIGTERM) == 0, "SIGTERM ends the gateway")
 
 
 def lives(pair: Pair, tally: Tally) -> Gateway:
@@ -386,7 +411,7 @@ def beside_gobgp(tally: Tally) -> List[str]:
     pair = None
     try:
         pair = Pair(folder)
-        for case in (both_ways, garbage, deaths, churn):
+        for case in (both_ways, garbage, sessions, deaths, churn):
             case(pair, tally)
         return many(pair, tally)
     finally:
