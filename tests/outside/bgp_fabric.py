@@ -35,12 +35,16 @@ STATION, MOVED, PINNED, HOME = (f"02:00:00:00:00:{last}" for last in ("0a", "0b"
 MANY, CHANGES = 10000, 3000
 PATIENCE = 60
 HOLD = 10  # the gateway's, in which what an earlier life left may be said anew
+REFLECTED = """  [neighbors.route-reflector.config]
+    route-reflector-client = true
+    route-reflector-cluster-id = "192.0.2.9"
+"""
 NEIGHBOUR = """[[neighbors]]
   [neighbors.config]
     neighbor-address = "{0}"
-    peer-as = 65000
+    peer-as = {1}
   [neighbors.transport.config]
-    local-address = "{1}"
+    local-address = "{2}"
   [neighbors.timers.config]
     connect-retry = 1
     idle-hold-time-after-reset = 1
@@ -102,7 +106,7 @@ class Gobgpd(Child):
     def is_up(self) -> bool:
         """Whether it answers."""
         try:
-            return self.daemon.autonomous() == 65000
+            return self.daemon.autonomous() != 0
         except NoDaemon:
             return False
 
@@ -112,19 +116,26 @@ class Gobgpd(Child):
         return int(re.search(r"Destination: ([0-9]+)", run(*words))[1])
 
 
-def leaf_text(address: str) -> str:
+def leaf_text(address: str, neighbour: str = GATEWAY, autonomous: int = 65000) -> str:
     """The configuration of a leaf that is GoBGP: it takes and gives all."""
-    lines = ["[global.config]", "  as = 65000", '  router-id = "10.0.0.7"', f'  local-address-list = ["{address}"]', ""]
-    return "\n".join(lines) + NEIGHBOUR.format(GATEWAY, address)
+    lines = ["[global.config]", f"  as = {autonomous}", f'  router-id = "{FAR}"']
+    lines += [f'  local-address-list = ["{address}"]', ""]
+    return "\n".join(lines) + NEIGHBOUR.format(neighbour, 65000, address)
 
 
-def gateway_text(neighbours: Iterable[Tuple[str, str]]) -> str:
-    """The configuration of examples/fabric/gobgpd.toml, with the addresses of a run: neighbours, and our ends."""
+def reflector_text(address: str, neighbours: Iterable[str]) -> str:
+    """The configuration of a route reflector."""
+    text = leaf_text(address)
+    sessions = (NEIGHBOUR.format(each, 65000, address) + REFLECTED for each in neighbours)
+    return text[: text.index("[[neighbors]]")].replace(FAR, "192.0.2.9") + "".join(sessions)
+
+
+def gateway_text(neighbour: str, own: str, autonomous: int = 65000) -> str:
+    """The configuration of examples/fabric/gobgpd.toml, with a run's addresses and the neighbour's AS."""
     with open(os.path.join(TOP, "examples", "fabric", "gobgpd.toml"), encoding="utf-8") as stream:
         text = stream.read()
-    ends = ", ".join(f'"{own}"' for _, own in neighbours)
-    text = text.replace('local-address-list = ["192.0.2.2"]', f"local-address-list = [{ends}]")
-    return text[: text.index("[[neighbors]]")] + "".join(NEIGHBOUR.format(*each) for each in neighbours)
+    text = text.replace('local-address-list = ["192.0.2.2"]', f'local-address-list = ["{own}"]')
+    return text[: text.index("[[neighbors]]")] + NEIGHBOUR.format(neighbour, autonomous, own)
 
 
 class Gateway(Child):
@@ -198,7 +209,7 @@ class Pair:
 
     def __init__(self, folder: str) -> None:
         self.folder = folder
-        self.near = Gobgpd([], folder, "near", gateway_text([(LEAF, GATEWAY)]))
+        self.near = Gobgpd([], folder, "near", gateway_text(LEAF, GATEWAY))
         self.leaf = Gobgpd([], folder, "leaf", leaf_text(LEAF))
         self.count = 0
 
@@ -404,6 +415,28 @@ def many(pair: Pair, tally: Tally) -> List[str]:
     return [*figures, memory]
 
 
+def elsewhere(folder: str, tally: Tally) -> None:
+    """The leaf behind a route reflector, and in another AS."""
+    ours, theirs, middle = "127.0.0.4", "127.0.0.5", "127.0.0.6"
+    behind = [("near2", gateway_text(middle, ours)), ("reflector", reflector_text(middle, [ours, theirs]))]
+    behind.append(("leaf2", leaf_text(theirs, middle)))
+    across = [("near3", gateway_text(theirs, ours, 65100)), ("leaf3", leaf_text(theirs, ours, 65100))]
+    for where, texts in (("behind a route reflector", behind), ("in another AS", across)):
+        daemons = [Gobgpd([], folder, *each) for each in texts]
+        gateway = Gateway(folder, daemons[0].path, texts[0][0])
+        daemons[-1].daemon.change([(far(STATION, mobility=(False, 4)), False)])
+        gateway.tell(f"advert 10.0.0.1 5001 {MOVED} seq 3")
+        heard = waited(lambda: gateway.says(FAR, STATION) == 4)
+        tally.see(heard is not None, f"a leaf {where}: its route is a record")
+        told = waited(lambda: daemons[-1].rib() == 2)
+        tally.see(told is not None and not gateway.table("10.0.0.1"), "ours is its route, and doesn't come back")
+        daemons[-1].kill()
+        lost = waited(lambda: gateway.says(FAR, STATION) == "withdrawn", 30)
+        tally.see(lost is not None and gateway.end() == 0, "it dies, and is withdrawn")
+        for each in daemons[:-1]:
+            each.kill()
+
+
 def beside_gobgp(tally: Tally) -> List[str]:
     """All of it with GoBGP on both sides."""
     run("ip", "link", "set", "lo", "up")
@@ -413,6 +446,7 @@ def beside_gobgp(tally: Tally) -> List[str]:
         pair = Pair(folder)
         for case in (both_ways, garbage, sessions, deaths, churn):
             case(pair, tally)
+        elsewhere(folder, tally)
         return many(pair, tally)
     finally:
         for each in () if pair is None else (pair.near, pair.leaf):
@@ -429,7 +463,7 @@ class Fabric(Edge):
     def start_speaker(self) -> None:
         """GoBGP, until its session stands."""
         enter = ["ip", "netns", "exec", self.outside]
-        self.near = Gobgpd(enter, self.folder, "near", gateway_text([(FRR_LEAF, FRR_GATEWAY)]))
+        self.near = Gobgpd(enter, self.folder, "near", gateway_text(FRR_LEAF, FRR_GATEWAY))
         self.children.append(self.near.process)
         self.wait_for(lambda: "Established" in self.shell("show bgp l2vpn evpn summary json"), "the session")
 
