@@ -57,7 +57,7 @@ class Names:
     """
 
     def __init__(self, autonomous: int, targets: Iterable[Tuple[str, int]] = (), automatic: bool = False) -> None:
-        self.autonomous = autonomous & GREATEST_NUMBER
+        self.autonomous = autonomous
         self.targets = {vni: target for target, vni in targets}
         self.automatic = automatic
         self.numbers: Dict[int, int] = {}
@@ -87,8 +87,9 @@ class Names:
         return f"{address_text(originator)}:{self.number(vni)}"
 
     def target(self, vni: int) -> str:
-        """A network's route target (RFC 8365, 5.1.2.1 where it is automatic)."""
-        return self.targets.get(vni) or f"{self.autonomous}:{vni + AUTO_RT if self.automatic else vni}"
+        """A network's route target (RFC 8365, 5.1.2.1 where it is automatic), with the low two octets of the AS."""
+        number = vni + AUTO_RT if self.automatic else vni
+        return self.targets.get(vni) or f"{self.autonomous & GREATEST_NUMBER}:{number}"
 
 
 def route_of(update: Update, names: Names) -> Route:

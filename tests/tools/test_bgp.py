@@ -137,7 +137,7 @@ class RecordsBecomeRoutes(unittest.TestCase):
     def test_route_targets(self):
         """As FRR makes them, with the low two octets of the AS; as RFC 8365 has them, of type 1 (VXLAN); as said."""
         self.assertEqual(Names(65000).target(5001), "65000:5001")
-        self.assertEqual(Names(4200000001).target(5001), "59905:5001")
+        self.assertEqual(Names(4200000001).target(70537), "59905:70537")
         self.assertEqual(Names(65000, automatic=True).target(5001), "65000:268440457")
         self.assertEqual(Names(65000, [("65000:77", 5001)]).target(5001), "65000:77")
 
@@ -518,8 +518,8 @@ class Stand:
         self.foreign = -1
 
     def autonomous(self) -> int:
-        """Its AS."""
-        return 65000
+        """Its AS, which has four octets."""
+        return 4200000001
 
     def watch(self):
         """Events until an exception is among them."""
@@ -662,6 +662,7 @@ class Joins(unittest.TestCase):
         gateway = self.gateway()
         self.give(gateway, f"advert 10.0.0.1 5001 {STATION} seq 3", f"advert 10.0.0.2 5001 {STATION} static seq 0")
         self.announces(("10.0.0.1", STATION, (False, 3)), ("10.0.0.2", STATION, (True, 0)))
+        self.assertEqual({each.targets for each in self.stand.table.values()}, {("59905:5001",)})
         self.give(gateway, f"withdraw 10.0.0.1 5001 {STATION} counter 2")
         self.announces(("10.0.0.2", STATION, (True, 0)))
         gateway.end_session()
