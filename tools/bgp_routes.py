@@ -10,7 +10,8 @@ from typing import Dict, Hashable, Iterable, List, NamedTuple, Optional, Tuple
 
 from frr_routes import AUTO_RT, NO_KIND, Routes, Seen
 from update_records import FLOOD_ROUTE, MAC_ROUTE, Advert, Register, Unreadable, Update
-from update_records import address_text, content_of, ip_text, mac_text, newness_of, read_ip, read_mac, register_of
+from update_records import address_text, content_of, ip_text, mac_text, newness_of, register_of
+from update_records import read_address, read_ip, read_mac, read_number
 
 VXLAN = 8  # the tunnel type of the encapsulation community (RFC 8365, 5.1.3)
 INGRESS_REPLICATION = 6  # the tunnel type of the PMSI attribute (RFC 6514, 5; RFC 7432, 11.2)
@@ -90,6 +91,21 @@ class Names:
         """A network's route target (RFC 8365, 5.1.2.1 where it is automatic), with the low two octets of the AS."""
         number = vni + AUTO_RT if self.automatic else vni
         return self.targets.get(vni) or f"{self.autonomous & GREATEST_NUMBER}:{number}"
+
+
+def is_target(text: str) -> bool:
+    """Whether a text spells a route target (RFC 4360, 4): AS:NUMBER, or ADDRESS:NUMBER, of six octets in all."""
+    admin, _, number = text.rpartition(":")
+    try:
+        if "." in admin:
+            read_address(admin)
+            is_short = True
+        else:
+            is_short = read_number(admin, 1 << 32, "AS") > GREATEST_NUMBER
+        read_number(number, 1 << (16 if is_short else 32), "number")
+    except Unreadable:
+        return False
+    return True
 
 
 def route_of(update: Update, names: Names) -> Route:

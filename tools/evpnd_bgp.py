@@ -25,7 +25,7 @@ import threading
 import time
 from typing import BinaryIO, Callable, Dict, Iterable, List, Optional
 
-from bgp_routes import Heard, Names, Own, announced_by, route_of, said_by
+from bgp_routes import Heard, Names, Own, announced_by, is_target, route_of, said_by
 from evpnd_records import add_route_words, vnis_of
 from frr_routes import FOLDED, Routes
 from gobgp import PROTOS, Daemon, Declined, Event, NoDaemon
@@ -286,8 +286,12 @@ class Gateway:
         """One call for some registers."""
         with self.lock:
             steps = self.own.plan(registers)
-        if steps:
-            self.daemon.change((route_of(step, self.names), step.advert is None) for step in steps)
+        try:
+            changes = [(route_of(step, self.names), step.advert is None) for step in steps]
+        except Unreadable as fault:
+            raise Declined(str(fault)) from None
+        if changes:
+            self.daemon.change(changes)
 
     # ---- a session of records
 
@@ -458,6 +462,9 @@ def main() -> int:
     arguments = words.parse_args()
     if bool(arguments.own) == (arguments.watch is not False):
         words.error("--stdio and --socket need --own, and --watch announces nothing")
+    for target, _ in arguments.rt:
+        if not is_target(target):
+            words.error(f"{target!r} is no route target: AS:NUMBER or ADDRESS:NUMBER")
     try:
         daemon = Daemon(arguments.gobgp, arguments.protos)
     except Unreadable as fault:

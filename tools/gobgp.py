@@ -220,9 +220,9 @@ class Daemon:
 
     def change(self, changes: Iterable[Tuple[Route, bool]]) -> None:
         """Routes to be announced, or withdrawn where it is true, one after the other; an error ends the rest."""
-        requests = (self.gobgp.AddPathStreamRequest(paths=[self.messages.path(*each)]) for each in changes)
+        requests = [self.gobgp.AddPathStreamRequest(paths=[self.messages.path(*each)]) for each in changes]
         try:
-            self.call("AddPathStream", "stream_unary", "", requests, timeout=SECONDS)
+            self.call("AddPathStream", "stream_unary", "", iter(requests), timeout=SECONDS)
         except self.grpc.RpcError as fault:
             raise self.trouble(fault) from None
 

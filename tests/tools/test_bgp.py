@@ -19,7 +19,7 @@ import unittest
 TOP = os.path.normpath(os.path.join(os.path.dirname(os.path.abspath(__file__)), "..", ".."))
 sys.path.insert(0, os.path.join(TOP, "tools"))
 import evpnd_bgp as program  # noqa: E402
-from bgp_routes import Heard, Names, Own, Pmsi, Route, announced_by, route_of, said_by  # noqa: E402
+from bgp_routes import Heard, Names, Own, Pmsi, Route, announced_by, is_target, route_of, said_by  # noqa: E402
 from evpnd_bgp import Gateway, Pending  # noqa: E402
 from frr_routes import Routes  # noqa: E402
 from gobgp import Declined, Event, Messages, NoDaemon  # noqa: E402
@@ -140,6 +140,22 @@ class RecordsBecomeRoutes(unittest.TestCase):
         self.assertEqual(Names(4200000001).target(70537), "59905:70537")
         self.assertEqual(Names(65000, automatic=True).target(5001), "65000:268440457")
         self.assertEqual(Names(65000, [("65000:77", 5001)]).target(5001), "65000:77")
+
+
+    def test_what_a_route_target_is(self):
+        """Six octets: an AS of two and a number of four, or an AS or an address of four and a number of two."""
+        for text in ("65535:4294967295", "65536:65535", "4294967295:0", "10.0.0.1:65535"):
+            self.assertTrue(is_target(text), text)
+        for text in ("65535:4294967296", "65536:65536", "4294967296:0", "10.0.0.1:65536", "10.0.0:1", "a:1", "1:", ":1"):
+            self.assertFalse(is_target(text), text)
+
+    def test_a_network_too_many_is_declined(self):
+        names = Names(65000)
+        names.networks = dict.fromkeys(range(65535))
+        gateway = Gateway(Stand(), Routes(EVERY), [ONE], names)
+        gateway.own.take(update("advert 10.0.0.1 5001 flood"))
+        with self.assertRaises(Declined):
+            gateway.change([update("advert 10.0.0.1 5001 flood")[:4]])
 
 
 class RoutesBecomeRecords(unittest.TestCase):
@@ -832,6 +848,7 @@ class AtASocket(unittest.TestCase):
                     self.assertTrue(reached(lambda: said.getvalue().count("ended: fault 1 at record 2") > number))
                     self.assertTrue(reached(lambda: not stand.table))
             connection, _ = server.accept()
+            self.assertEqual(connection.recv(8), b"records\n")
             connection.close()
             ends = lambda: "ended: by the other side" in said.getvalue() or "reset" in said.getvalue()  # noqa: E731
             self.assertTrue(reached(ends))
@@ -854,8 +871,8 @@ class AsAProgram(unittest.TestCase):
         self.assertRegex(done.stderr, r"^evpnd_bgp: \S+ has no grpc: install gobgpd .*python3-grpcio.*\n$")
 
     def test_usage(self):
-        wrong = ("--own", "10.0.0.256", "--stdio")
-        for words in ((), ("--stdio",), ("--watch", "--own", "10.0.0.1"), ("--socket", "it"), wrong):
+        wrong = [("--own", "10.0.0.256", "--stdio"), ("--rt", "a:1=5001", "--watch")]
+        for words in ((), ("--stdio",), ("--watch", "--own", "10.0.0.1"), ("--socket", "it"), *wrong):
             self.assertEqual(self.run_it(*words).returncode, 2)
         self.assertIn("--socket PATH", self.run_it("--help").stdout)
 
