@@ -12,8 +12,7 @@ use Rattle.route_wire.specs.declared.update.Value.{Value}
 use Rattle.route_wire.specs.Fields.{Fields}
 use Rattle.route_wire.specs.Order.{register_cmp}
 use Rattle.route_wire.specs.Totals.{register_exact}
-use Rattle.route_join.specs.declared.subject.Subject.{Subject}
-use Rattle.route_join.specs.Subject.{subject_cmp}
+use Rattle.route_join.specs.Subject.{Subject, subject_cmp}
 use Rattle.route_join.specs.Table.{Table, value_at, table_from, entries_of, IsOrdered}
 use Rattle.route_join.specs.Owner.{is_about}
 use Rattle.route_join.specs.Group.{AreAbout, AreGroups, IsBefore, IsGrouped, updates_in}

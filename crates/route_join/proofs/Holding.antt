@@ -25,8 +25,7 @@ use Rattle.route_wire.specs.declared.update.Advert.{Advert}
 use Rattle.route_wire.specs.declared.update.Value.{Value}
 use Rattle.route_wire.specs.Fields.{Fields, IsUpdate}
 use Rattle.route_wire.specs.Order.{register_cmp}
-use Rattle.route_join.specs.declared.subject.Subject.{Subject}
-use Rattle.route_join.specs.Subject.{subject_cmp, subject_of}
+use Rattle.route_join.specs.Subject.{Subject, subject_cmp, subject_of}
 use Rattle.route_join.specs.Table.{Table, entries_of, table_from, value_at, update_at, register_of, with_update}
 use Rattle.route_join.specs.Table.{with_value, is_news, is_listed, IsOrdered, IsKept}
 use Rattle.route_join.specs.Laws.{SameOwner}
@@ -37,7 +36,8 @@ use Rattle.route_join.specs.Group.{update_among, entries_with}
 use Rattle.route_join.proofs.Tables.{same_register}
 use Rattle.route_join.proofs.Edits.{found, listed_as, kept_put, table_put}
 use Rattle.route_join.proofs.Owners.{owner_is, one_owner, owner_along}
-use Rattle.route_join.proofs.Subjects.{subject_total, address, address_key}
+use Rattle.route_join.specs.Ranks.{subject_total}
+use Rattle.route_join.proofs.Subjects.{address, address_key}
 use Rattle.route_join.proofs.Groupings.{Groups, Entries, entries_in, entries_in_all, about_there, find_there}
 use Rattle.route_join.proofs.Groupings.{find_nowhere, before_rest, same_rest, not_before, first_is, later_is, not_first}
 use Rattle.route_join.specs.Groups.{group_at}

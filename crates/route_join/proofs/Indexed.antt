@@ -15,35 +15,14 @@ use Rattle.std.specs.Map.{set_value}
 use Rattle.std.specs.BTreeMap.{insert_entry, is_at}
 use Rattle.std.specs.BTreeSet.{insert_key}
 use Rattle.route_wire.specs.Fields.{Fields}
-use Rattle.route_join.specs.declared.subject.Subject.{Subject}
-use Rattle.route_join.specs.Subject.{subject_cmp, subject_eq}
+use Rattle.route_join.specs.Subject.{Subject, subject_cmp, subject_eq}
 use Rattle.route_join.specs.Groups.{group_at, group_in, groups_along, is_among, AreIndexed, AreThere}
-use Rattle.route_join.proofs.Subjects.{subject_exact, subject_total}
+use Rattle.route_join.specs.Ranks.{subject_exact, subject_total, tied_subjects}
 use Rattle.route_join.proofs.Groupings.{Groups}
 
 -- ---- equal subjects
-eq_nat : (a b : ℕ) → (a == b) ≡ is_eq (nat_cmp a b)
-eq_nat a b = go (nat_cmp a b) (ranked a b (nat_cmp a b) refl)
-  where
-    go : (o : Ordering) → MatchOrdering o (a < b) (a ≡ b) (b < a) → (a == b) ≡ is_eq o
-    go Less h = grind (arith, nat_tests)
-    go Equal h = grind (arith, nat_tests)
-    go Greater h = grind (arith, nat_tests)
-
-eq_mac : (a b : Option ℕ) → option_eq ◌==◌ a b ≡ is_eq (option_cmp nat_cmp a b)
-eq_mac None None = refl
-eq_mac None (Some y) = refl
-eq_mac (Some x) None = refl
-eq_mac (Some x) (Some y) = eq_nat x y
-
-eq_then : (o p : Ordering) → is_eq o && is_eq p ≡ is_eq (ordering_then o p)
-eq_then Less p = refl
-eq_then Equal p = refl
-eq_then Greater p = refl
-
 pub eq_at : (s t : Subject) → subject_eq s t ≡ is_at (subject_cmp s) t
-eq_at s t = (λ i. eq_nat s.vni t.vni i && eq_mac s.mac t.mac i)
-    ∙ eq_then (nat_cmp s.vni t.vni) (option_cmp nat_cmp s.mac t.mac)
+eq_at s t = tied_subjects s t
 
 equal : (o : Ordering) → is_eq o ≡ true → o ≡ Equal
 equal Less h = cc

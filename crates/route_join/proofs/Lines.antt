@@ -9,8 +9,7 @@ use Rattle.route_wire.specs.declared.update.Register.{Register}
 use Rattle.route_wire.specs.declared.update.Advert.{Advert}
 use Rattle.route_wire.specs.declared.update.Value.{Value}
 use Rattle.route_wire.specs.Fields.{Fields}
-use Rattle.route_join.specs.declared.subject.Subject.{Subject}
-use Rattle.route_join.specs.Subject.{subject_of}
+use Rattle.route_join.specs.Subject.{Subject, subject_of}
 use Rattle.route_join.specs.Table.{IsOrdered, entries_of, table_from}
 use Rattle.route_join.specs.Report.{register_line, owner_line, goes_on, after_register, lines_of, owner_among}
 use Rattle.route_join.specs.Report.{report_lines, report_of}

@@ -12,8 +12,7 @@ use Rattle.route_wire.specs.Fields.{Fields}
 use Rattle.route_wire.specs.Order.{register_cmp}
 use Rattle.route_wire.specs.Totals.{register_total, register_exact}
 use Rattle.route_join.specs.Table.{entries_of, IsOrdered}
-use Rattle.route_join.specs.declared.subject.Subject.{Subject}
-use Rattle.route_join.specs.Subject.{subject_of}
+use Rattle.route_join.specs.Subject.{Subject, subject_of}
 use Rattle.route_join.specs.Group.{AreAbout}
 use Rattle.route_join.specs.Place.{place_of, later_by}
 

@@ -4,7 +4,7 @@ use Rattle.std.specs.declared.cmp.Ordering.TheVariants.{Less}
 use Rattle.route_wire.specs.declared.update.Register.{Register}
 use Rattle.route_wire.specs.declared.update.Advert.{Advert}
 use Rattle.route_wire.specs.declared.update.Value.{Value}
-use Rattle.route_join.specs.declared.subject.Subject.{Subject}
+use Rattle.route_join.specs.Subject.{Subject}
 use Rattle.route_join.specs.Table.{entries_of}
 use Rattle.route_join.specs.Owner.{advert_in, is_about, said_of, better_of, best_among}
 use Rattle.route_join.specs.Group.{AreAbout, IsBefore, AreGroups}

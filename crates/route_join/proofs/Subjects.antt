@@ -17,14 +17,9 @@ use Rattle.route_wire.specs.declared.update.Key.{Key}
 use Rattle.route_wire.specs.declared.update.Key.TheVariants.{Flood, Mac}
 use Rattle.route_wire.specs.declared.update.Register.{Register}
 use Rattle.route_wire.specs.Order.{vni_of, place_of, ip_of, ip_cmp, register_cmp}
-use Rattle.route_join.specs.declared.subject.Subject.{Subject}
-use Rattle.route_join.specs.Subject.{subject_cmp, subject_of}
+use Rattle.route_join.specs.Subject.{Subject, subject_cmp, subject_of}
 use Rattle.route_join.specs.Owner.{is_about}
 use Rattle.route_join.proofs.Orders.{both}
-
-pub subject_total : IsTotalOrder subject_cmp
-subject_total = then_total (on_total (λ (s : Subject). s.vni) nat_cmp_total)
-    (on_total (λ (s : Subject). s.mac) (options_total nat_cmp_total))
 
 both_by : (n m : ℕ) (o : Ordering) → nat_cmp n m ≡ o → nat_cmp (n + 1) (m + 1) ≡ o
 both_by n m o h = sym (nat_cmp_is (n + 1) (m + 1) o (go o (ranked n m o (sym h))))
@@ -34,24 +29,6 @@ both_by n m o h = sym (nat_cmp_is (n + 1) (m + 1) o (go o (ranked n m o (sym h))
     go Less k = omega arith
     go Equal k = omega arith
     go Greater k = omega arith
-
-apart : (o p : Ordering) → ordering_then o p ≡ Equal → (o ≡ Equal) × (p ≡ Equal)
-apart Less p h = cc
-apart Equal p h = (refl, h)
-apart Greater p h = cc
-
-same_mac : (a b : Option ℕ) → option_cmp nat_cmp a b ≡ Equal → a ≡ b
-same_mac None None h = refl
-same_mac None (Some y) h = cc
-same_mac (Some x) None h = cc
-same_mac (Some x) (Some y) h = ap Some (exact_unsigned x y h)
-
-pub subject_exact : IsAntisymmetric subject_cmp
-subject_exact a b h =
-    let parts = apart (nat_cmp a.vni b.vni) (option_cmp nat_cmp a.mac b.mac) h in
-    let vnis = exact_unsigned a.vni b.vni parts.0 in
-    let macs = same_mac a.mac b.mac parts.1 in
-    λ i. record { vni = vnis i; mac = macs i }
 
 same_places : (a b : Key) → nat_cmp (place_of a) (place_of b) ≡ option_cmp nat_cmp (subject_of a).mac (subject_of b).mac
 same_places (Flood v) (Flood w) = refl

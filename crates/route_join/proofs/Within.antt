@@ -22,7 +22,8 @@ use Rattle.route_join.specs.Owner.{is_better_by}
 use Rattle.route_join.specs.Group.{candidate_in, candidate_at, said_in, said_at, wins, wins_by}
 use Rattle.route_join.proofs.Orders.{both}
 use Rattle.route_join.proofs.Leaders.{below_at}
-use Rattle.route_join.proofs.Subjects.{subject_total, by_subject}
+use Rattle.route_join.specs.Ranks.{subject_total}
+use Rattle.route_join.proofs.Subjects.{by_subject}
 
 -- ---- IP addresses
 pub none_first : (x : Ip) → ip_cmp None (Some x) ≡ Less

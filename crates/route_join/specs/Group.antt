@@ -11,8 +11,7 @@ use Rattle.route_wire.specs.declared.update.Advert.{Advert}
 use Rattle.route_wire.specs.declared.update.Value.{Value}
 use Rattle.route_wire.specs.Fields.{Fields}
 use Rattle.route_wire.specs.Order.{register_cmp}
-use Rattle.route_join.specs.declared.subject.Subject.{Subject}
-use Rattle.route_join.specs.Subject.{subject_cmp, subject_of}
+use Rattle.route_join.specs.Subject.{Subject, subject_cmp, subject_of}
 use Rattle.route_join.specs.Table.{entries_of, IsOrdered, IsKept, is_news}
 use Rattle.route_join.specs.Owner.{advert_in, advert_of, IsBetter, is_better, is_better_by}
 

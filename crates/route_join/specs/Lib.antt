@@ -7,6 +7,7 @@ pub mod Flood
 pub mod Joins
 pub mod Laws
 pub mod Subject
+pub mod Ranks
 pub mod Hashes
 pub mod Group
 pub mod Groups

@@ -3,7 +3,7 @@ use Rattle.std.specs.Prelude.{ℕ, List, [], ◌∷◌, ◌++◌}
 use Rattle.route_wire.specs.declared.update.Register.{Register}
 use Rattle.route_wire.specs.declared.update.Value.{Value}
 use Rattle.route_wire.specs.Fields.{Fields}
-use Rattle.route_join.specs.declared.subject.Subject.{Subject}
+use Rattle.route_join.specs.Subject.{Subject}
 use Rattle.route_join.specs.Table.{entries_of}
 use Rattle.route_join.specs.Report.{register_line, report_lines}
 

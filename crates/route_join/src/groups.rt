@@ -38,7 +38,7 @@ impl Model for Groups {
     ghost use Rattle.std.specs.Prelude.{List};
     ghost use Rattle.std.specs.Coded.{codes};
     ghost use Rattle.route_wire.specs.Fields.{Fields};
-    ghost use Rattle.route_join.specs.declared.subject.Subject.{Subject};
+    ghost use Rattle.route_join.specs.Subject.{Subject};
     ghost use Rattle.route_join.specs.Groups.{groups_along, AreIndexed};
 
     ghost Value = { List (Subject × List Fields) };
@@ -143,7 +143,7 @@ pub(crate) struct GroupsIter<'a> {
 impl<'a> Model for GroupsIter<'a> {
     ghost use Rattle.std.specs.Prelude.{List};
     ghost use Rattle.route_wire.specs.Fields.{Fields};
-    ghost use Rattle.route_join.specs.declared.subject.Subject.{Subject};
+    ghost use Rattle.route_join.specs.Subject.{Subject};
     ghost use Rattle.route_join.specs.Groups.{groups_along, AreThere};
 
     ghost Value = { List (Subject × List Fields) };
@@ -177,9 +177,9 @@ fn put_group<O: Out>(out: &mut O, subject: &Subject, group: &Group) -> Result<()
     ensures { Puts (O.end out.old) (O.end out.new) (report_lines (entries_of group.now)) result }
 {
     put_updates(out, group.updates())?;
-    match subject.mac {
+    match subject.mac() {
         None => Ok(()),
-        Some(mac) => put_owner(out, subject.vni, mac, group.owner()),
+        Some(mac) => put_owner(out, subject.vni(), mac, group.owner()),
     }
 }
 

@@ -1,34 +1,89 @@
 //! What routes are about: a network's flood list, or a MAC address in it.
-ghost use Rattle.std.specs.Prelude.{◌≡◌};
-ghost use Rattle.route_join.specs.Subject.{subject_of, subject_number};
+ghost use Rattle.std.specs.Prelude.{◌≡◌, ◌<◌, ◌^◌, None, Some, refl};
+ghost use Rattle.route_join.specs.Subject.{subject_of, subject_number, mac_place};
 
 use ether_wire::{Mac, Vni};
 use route_wire::Key;
+use std::cmp::Ordering;
 use std::hash::{Hash, Hasher};
+use std::marker::Model;
 
 /// What routes are about: a network's flood list, or an address in a network, whatever IP address
 /// it goes with. The order is that of a report: by network, the flood list before the addresses,
 /// then by MAC.
-#[derive(Clone, Copy, Debug, PartialEq, Eq, PartialOrd, Ord)]
+// Both parts are numbers, so that two subjects are compared as one number each.
+#[derive(Clone, Copy, PartialEq, Eq)]
 pub(crate) struct Subject {
-    pub(crate) vni: Vni,
-    pub(crate) mac: Option<Mac>,
+    vni: Vni,
+    // 0 for the flood list, else one more than the number of the MAC
+    place: u64,
+}
+
+impl Model for Subject {
+    ghost use Rattle.std.specs.Prelude.{◌≤◌, ◌^◌};
+    ghost use Rattle.route_join.specs.Subject.{Subject as About, mac_at, mac_place};
+    ghost use Rattle.route_join.specs.Ranks.{place_back};
+
+    ghost Value = { About };
+
+    ghost view = { λ s. record { vni = s.vni; mac = mac_at s.place } };
+
+    ghost invariant = { λ s. s.place ≤ 2 ^ 48 };
+
+    ghost inverse = { λ v. record { vni = v.vni; place = mac_place v.mac } };
+
+    ghost inverse_ok = { λ s h i. record { vni = s.vni; place = place_back s.place i } };
 }
 
 impl Subject {
-    /// The whole subject as one number.
-    fn number(&self) -> u128
-        ensures { result ≡ subject_number self.now }
+    /// A network's flood list.
+    pub(crate) fn flood(vni: Vni) -> Self
+        ensures { result ≡ record { vni = vni; mac = None } }
     {
-        let place = match self.mac {
-            None => 0,
-            Some(mac) => mac.number() + 1,
-        };
-        u128::from(self.vni.number()) * 0x1_0000_0000_0000_0000 + u128::from(place)
+        Subject { vni, place: 0 }
+    }
+
+    /// A MAC address in a network.
+    #[tactic(auto, using(crate::specs::Ranks::at_next))]
+    pub(crate) fn address(vni: Vni, mac: Mac) -> Self
+        ensures { result ≡ record { vni = vni; mac = Some mac } }
+    {
+        Subject {
+            vni,
+            place: mac.number() + 1,
+        }
+    }
+
+    /// The network.
+    pub(crate) fn vni(&self) -> Vni
+        ensures { result ≡ self.now.vni }
+    {
+        self.vni
+    }
+
+    /// The address, none for a flood list.
+    #[tactic(auto, using(crate::specs::Ranks::none_at, crate::specs::Ranks::some_at))]
+    pub(crate) fn mac(&self) -> Option<Mac>
+        ensures { result ≡ self.now.mac }
+    {
+        if self.place == 0 {
+            None
+        } else {
+            Some(Mac::new(self.place - 1))
+        }
+    }
+
+    /// The whole subject as one number.
+    #[tactic(auto, using(crate::specs::Ranks::place_back, crate::specs::Ranks::small_place))]
+    fn number(&self) -> u128
+        ensures value { result ≡ subject_number self.now }
+        ensures small { mac_place self.now.mac < 2 ^ 64 }
+    {
+        u128::from(self.vni.number()) * 0x1_0000_0000_0000_0000 + u128::from(self.place)
     }
 }
 
-// One write, where a derived one would make three.
+// One write, where a derived one would make two.
 impl Hash for Subject {
     ghost use Rattle.std.specs.Hash as fed;
     ghost use Rattle.route_join.specs.Hashes.{same_hashes};
@@ -42,18 +97,49 @@ impl Hash for Subject {
     }
 }
 
+impl Ord for Subject {
+    ghost use Rattle.route_join.specs.Subject.{subject_cmp};
+    ghost use Rattle.route_join.specs.Ranks.{subject_total, tied_subjects};
+
+    ghost cmp = { subject_cmp };
+
+    ghost total = { subject_total };
+
+    ghost matches_partial_cmp = { λ x y. refl };
+
+    ghost matches_eq = { tied_subjects };
+
+    // A search in the ordered set passes lower ones mostly: so these are told first.
+    #[tactic(auto, using(crate::specs::Ranks::by_number, crate::specs::Ranks::behind_lower))]
+    fn cmp(&self, other: &Subject) -> Ordering {
+        let (one, two) = (self.number(), other.number());
+        if two < one {
+            return Ordering::Greater;
+        }
+        one.cmp(&two)
+    }
+}
+
+impl PartialOrd for Subject {
+    ghost use Rattle.std.specs.Cmp.{po};
+    ghost use Rattle.route_join.specs.Subject.{subject_cmp};
+    ghost use Rattle.route_join.specs.Ranks.{subject_total, tied_subjects};
+
+    ghost partial_cmp = { λ x y. Some (subject_cmp x y) };
+
+    ghost laws = { po subject_total tied_subjects };
+
+    fn partial_cmp(&self, other: &Subject) -> Option<Ordering> {
+        Some(self.cmp(other))
+    }
+}
+
 /// What a key is about.
 pub(crate) fn subject_of(key: &Key) -> Subject
     ensures { result ≡ subject_of key.now }
 {
     match key {
-        Key::Flood(vni) => Subject {
-            vni: *vni,
-            mac: None,
-        },
-        Key::Mac(vni, mac, _) => Subject {
-            vni: *vni,
-            mac: Some(*mac),
-        },
+        Key::Flood(vni) => Subject::flood(*vni),
+        Key::Mac(vni, mac, _) => Subject::address(*vni, *mac),
     }
 }

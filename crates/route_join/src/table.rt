@@ -210,11 +210,7 @@ impl Table {
         ensures value { result ≡ owner self.now vni mac }
         ensures best { MatchOption result (IsUnowned self.now vni mac) (IsOwner self.now vni mac) }
     {
-        let subject = Subject {
-            vni,
-            mac: Some(mac),
-        };
-        match self.groups.get(&subject) {
+        match self.groups.get(&Subject::address(vni, mac)) {
             None => None,
             Some(group) => group.owner(),
         }
@@ -226,11 +222,7 @@ impl Table {
         ensures value { result ≡ updates_of self.now vni mac }
         ensures exact { AreUpdatesOf self.now vni mac result }
     {
-        let subject = Subject {
-            vni,
-            mac: Some(mac),
-        };
-        match self.groups.get(&subject) {
+        match self.groups.get(&Subject::address(vni, mac)) {
             None => UpdatesOf::none(),
             Some(group) => group.updates(),
         }
@@ -249,7 +241,7 @@ impl Table {
         ensures value { result.items ≡ flood_of self.now vni }
         ensures list { IsFloodList self.now vni result.items }
     {
-        match self.groups.get(&Subject { vni, mac: None }) {
+        match self.groups.get(&Subject::flood(vni)) {
             None => ArrayVec::new(),
             Some(group) => flood_of(group.updates(), vni),
         }

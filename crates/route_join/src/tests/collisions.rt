@@ -47,10 +47,7 @@ fn listening(alloc: Global, salt: u64) -> Table {
 
 // What the map takes of a subject's hash.
 fn hash(salt: u64, number: u64) -> u64 {
-    let subject = Subject {
-        vni: vni(),
-        mac: Some(near(number)),
-    };
+    let subject = Subject::address(vni(), near(number));
     let hash = Salted::new(salt).hash_one(&subject);
     (hash ^ (hash >> 32)) % 0x10_0000
 }

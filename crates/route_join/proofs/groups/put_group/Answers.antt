@@ -1,4 +1,4 @@
-use Rattle.std.proofs.Common.{◌++◌, List, ℕ, ap, subst, ◌∙◌}
+use Rattle.std.proofs.Common.{◌++◌, List, ℕ, ap, sym, subst, ◌∙◌}
 use Rattle.ether_wire.specs.Ends.{with_text, Puts}
 use Rattle.ether_wire.proofs.Appending.{puts_behind}
 use Rattle.route_join.specs.Table.{entries_of}
@@ -12,17 +12,18 @@ returns-in-None g c =
     let s = c.args.subject.now in
     c.in_ok-put_updates.ensures
     ∙ ap (with_text (g.O.Out.end c.args.out.now)) (ap (λ us. register_lines (entries_of us)) c.updates.ensures.value
-    ∙ flood_report s c.args.group.now c.in-None.is c.requires.about)
+    ∙ flood_report s c.args.group.now (sym c.mac.ensures ∙ c.in-None.is) c.requires.about)
 
 pub returns-in-Some : goal.returns-in-Some
 returns-in-Some g c =
     let s = c.args.subject.now in
-    let line = owner_line s.vni c.in-Some.mac c.owner.result in
+    let line = owner_line c.vni.result c.in-Some.mac c.owner.result in
     let lines = register_lines (entries_of c.updates.result) in
     subst (λ (text : List ℕ). Puts (g.O.Out.end c.args.out.now) (g.O.Out.end c.put_owner.new.out) text
     c.put_owner.result)
     (ap (λ us. register_lines (entries_of us) ++ line) c.updates.ensures.value
-    ∙ address_report s c.in-Some.mac c.args.group.now c.in-Some.is c.updates.ensures.ordered c.requires.about
-    c.requires.some c.owner.result c.owner.ensures)
+    ∙ ap (λ v. register_lines (entries_of c.args.group.now) ++ owner_line v c.in-Some.mac c.owner.result) c.vni.ensures
+    ∙ address_report s c.in-Some.mac c.args.group.now (sym c.mac.ensures ∙ c.in-Some.is) c.updates.ensures.ordered
+    c.requires.about c.requires.some c.owner.result c.owner.ensures)
     (puts_behind (g.O.Out.end c.args.out.now) (g.O.Out.end c.put_updates.new.out) (g.O.Out.end c.put_owner.new.out)
     lines line c.put_owner.result c.in_ok-put_updates.ensures c.put_owner.ensures)

@@ -1,7 +1,6 @@
 use Rattle.std.proofs.Common.{◌≡◌, false, Some, cond, ap, sym, subst, ◌∙◌}
 use Rattle.std.specs.BTreeMap.{insert_entry}
-use Rattle.route_join.specs.declared.subject.Subject.{Subject}
-use Rattle.route_join.specs.Subject.{subject_cmp, subject_eq}
+use Rattle.route_join.specs.Subject.{Subject, subject_cmp, subject_eq}
 use Rattle.route_join.specs.Groups.{group_in, groups_along, is_among, AreIndexed}
 use Rattle.route_join.proofs.Indexed.{same_along, same_indexed, new_indexed, entered, not_among}
 use Rattle.route_join.proofs.Leaders.{on_ok}

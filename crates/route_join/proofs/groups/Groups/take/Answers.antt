@@ -3,8 +3,7 @@ use Rattle.std.specs.BTreeMap.{insert_entry, is_at}
 use Rattle.std.specs.Map.{set_value}
 use Rattle.std.specs.HashMap.{HashMap}
 use Rattle.route_wire.specs.declared.update.Register.{Register}
-use Rattle.route_join.specs.declared.subject.Subject.{Subject}
-use Rattle.route_join.specs.Subject.{subject_cmp, subject_of}
+use Rattle.route_join.specs.Subject.{Subject, subject_cmp, subject_of}
 use Rattle.route_join.specs.Groups.{group_at, groups_along}
 use Rattle.route_join.proofs.Groupings.{about_there}
 use Rattle.route_join.proofs.Indexed.{found_as, written_as, set_indexed, some_is, any_err}

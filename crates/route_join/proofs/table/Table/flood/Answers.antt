@@ -1,4 +1,5 @@
 use Rattle.std.proofs.Common.{◌≡◌, ◌≤◌, length, ap, sym, subst, ◌∙◌}
+use Rattle.route_join.specs.Groups.{group_at}
 use Rattle.route_join.specs.Table.{Table, table_from, entries_of}
 use Rattle.route_join.specs.Flood.{IsFloodList, flooding, flood_of}
 use Rattle.route_join.specs.Group.{updates_in}
@@ -14,7 +15,8 @@ flood_of-requires c =
     let gs = c.self.inside.groups in
     let all : flood_of (table_from os (updates_in gs)) c.args.vni ≡ flooding c.args.vni (entries_of c.updates.result) =
     ap (flooding c.args.vni) (listed_as os (updates_in gs) c.self.invariant.grouped.kept.ordered ∙ entries_in_all gs)
-    ∙ flooding_there c.args.vni gs c.in-Some.group.now c.self.invariant.grouped.groups (sym c.in-Some.ensures)
+    ∙ flooding_there c.args.vni gs c.in-Some.group.now c.self.invariant.grouped.groups
+    (ap (λ s. group_at s c.self.inside.groups) (sym c.flood.ensures) ∙ sym c.in-Some.ensures)
     ∙ ap (λ us. flooding c.args.vni (entries_of us)) (sym c.updates.ensures.value) in
     subst (λ xs. length xs ≤ 64) all (flood_fits (table_from os (updates_in gs)) c.args.vni
     c.self.invariant.grouped.kept.listeners c.self.invariant.grouped.kept.listed)
@@ -23,7 +25,8 @@ pub returns-in-None-clause-value : goal.returns-in-None-clause-value
 returns-in-None-clause-value c =
     let os = c.self.inside.originators.items in
     let gs = c.self.inside.groups in
-    c.new.ensures ∙ sym (flooding_nowhere c.args.vni gs c.self.invariant.grouped.groups (sym c.in-None.ensures))
+    c.new.ensures ∙ sym (flooding_nowhere c.args.vni gs c.self.invariant.grouped.groups
+    (ap (λ s. group_at s c.self.inside.groups) (sym c.flood.ensures) ∙ sym c.in-None.ensures))
     ∙ ap (flooding c.args.vni) (sym (listed_as os (updates_in gs) c.self.invariant.grouped.kept.ordered
     ∙ entries_in_all gs))
     ∙ ap (λ (t : Table). flood_of t c.args.vni) c.self.view_is
@@ -37,7 +40,8 @@ returns-in-Some-clause-value c =
     let os = c.self.inside.originators.items in
     let gs = c.self.inside.groups in
     c.flood_of.ensures ∙ ap (λ us. flooding c.args.vni (entries_of us)) c.updates.ensures.value
-    ∙ sym (flooding_there c.args.vni gs c.in-Some.group.now c.self.invariant.grouped.groups (sym c.in-Some.ensures))
+    ∙ sym (flooding_there c.args.vni gs c.in-Some.group.now c.self.invariant.grouped.groups
+    (ap (λ s. group_at s c.self.inside.groups) (sym c.flood.ensures) ∙ sym c.in-Some.ensures))
     ∙ ap (flooding c.args.vni) (sym (listed_as os (updates_in gs) c.self.invariant.grouped.kept.ordered
     ∙ entries_in_all gs))
     ∙ ap (λ (t : Table). flood_of t c.args.vni) c.self.view_is

@@ -1,4 +1,5 @@
 use Rattle.std.proofs.Common.{sym, ap, subst, ◌∙◌}
+use Rattle.route_join.specs.Groups.{group_at}
 use Rattle.route_join.specs.Table.{Table}
 use Rattle.route_join.specs.Updates.{updates_of, AreUpdatesOf}
 use Rattle.route_join.proofs.Abouts.{updates_of_are, updates_there, updates_nowhere}
@@ -7,7 +8,8 @@ use Rattle.route_join.proofs.table.Table.updates_of.Goals as goal
 pub returns-in-None-clause-value : goal.returns-in-None-clause-value
 returns-in-None-clause-value c =
     c.none.ensures ∙ updates_nowhere c.self.inside.originators.items c.self.inside.groups c.self.invariant.grouped
-    c.args.vni c.args.mac (sym c.in-None.ensures)
+    c.args.vni c.args.mac (ap (λ s. group_at s c.self.inside.groups) (sym c.address.ensures)
+    ∙ sym c.in-None.ensures)
     ∙ ap (λ (t : Table). updates_of t c.args.vni c.args.mac) c.self.view_is
 
 pub returns-in-None-clause-exact : goal.returns-in-None-clause-exact
@@ -17,7 +19,8 @@ returns-in-None-clause-exact c = subst (AreUpdatesOf c.args.self.now c.args.vni 
 pub returns-in-Some-clause-value : goal.returns-in-Some-clause-value
 returns-in-Some-clause-value c =
     c.updates.ensures.value ∙ updates_there c.self.inside.originators.items c.self.inside.groups
-    c.self.invariant.grouped c.args.vni c.args.mac c.in-Some.group.now (sym c.in-Some.ensures)
+    c.self.invariant.grouped c.args.vni c.args.mac c.in-Some.group.now
+    (ap (λ s. group_at s c.self.inside.groups) (sym c.address.ensures) ∙ sym c.in-Some.ensures)
     ∙ ap (λ (t : Table). updates_of t c.args.vni c.args.mac) c.self.view_is
 
 pub returns-in-Some-clause-exact : goal.returns-in-Some-clause-exact
