@@ -21,6 +21,22 @@ three_digits n least small =
     let e : n / 10 / 10 ≡ n / 100 = omega arith in
     rw (decimal_step n (omega arith) (omega arith), two_digits (n / 10) (omega arith) (omega arith), e)
 
+-- the same, the last two of them at once
+pub three_by_pair : (n : ℕ) → 100 ≤ n → n < 1000 → decimal n ≡ (48 + n / 100 % 10) ∷ (48 + n % 100 / 10 % 10)
+    ∷ (48 + n % 100 % 10) ∷ []
+three_by_pair n least small =
+    let a : n / 10 % 10 ≡ n % 100 / 10 % 10 = omega arith in
+    let b : n % 10 ≡ n % 100 % 10 = omega arith in
+    three_digits n least small ∙ λ i. (48 + n / 100 % 10) ∷ (48 + a i) ∷ (48 + b i) ∷ []
+
+pub four_by_pairs : (n : ℕ) → n < 10000 → (48 + n / 100 / 10 % 10) ∷ (48 + n / 100 % 10) ∷ (48 + n % 100 / 10 % 10)
+    ∷ (48 + n % 100 % 10) ∷ [] ≡ four_digits n
+four_by_pairs n small =
+    let a : n / 100 / 10 ≡ n / 1000 = omega arith in
+    let b : n % 100 / 10 % 10 ≡ n / 10 % 10 = omega arith in
+    let c : n % 100 % 10 ≡ n % 10 = omega arith in
+    λ i. (48 + a i % 10) ∷ (48 + n / 100 % 10) ∷ (48 + b i) ∷ (48 + c i) ∷ []
+
 pub as_four_digits : (n : ℕ) → 1000 ≤ n → n < 10000 → decimal n ≡ four_digits n
 as_four_digits n least small =
     let a : n / 10 / 10 ≡ n / 100 = omega arith in
