@@ -96,14 +96,15 @@ impl Intake {
         ensures feed { is_length (shown self.new.feed) ≡ false }
         ensures few { self.new.count ≤ self.old.count + 1 }
     {
-        let (n, next) = self.feed.take(piece);
-        match next {
+        // by reference: an update is large, and would be copied at each step on its way
+        let taken = self.feed.take(piece);
+        match &taken.1 {
             Next::More => {}
             Next::Fault(_) => {}
-            Next::Record(update) => self.take(&update, notes),
-            Next::Refused(refusal) => self.refuse(refusal, notes),
+            Next::Record(update) => self.take(update, notes),
+            Next::Refused(refusal) => self.refuse(*refusal, notes),
         }
-        n
+        taken.0
     }
 
     /// Takes the octets of a piece.
