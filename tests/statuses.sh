@@ -33,6 +33,13 @@ run() {
 
 gives() { [ "$status" = "$1" ] && cmp -s "$2" "$work/out" && [ "$(cat "$work/notes")" = "$3" ]; }
 
+# which stream failed, as it is told
+unread="standard input: it can't be read"
+unwritten="standard output: it can't be written"
+
+# fails TEXT: status 4, and this alone is told
+fails() { [ "$status" = 4 ] && [ "$(cat "$work/notes")" = "$1" ]; }
+
 is_usage() { [ "$status" = 2 ] && [ ! -s "$work/out" ] && [ -s "$work/notes" ]; }
 
 # tells TEXT..: a usage whose notes hold each of these texts
@@ -380,7 +387,7 @@ done
 edge "$named" "vni = 5001" > "$conf"
 status=0
 "$evpnd" check --config "$conf" < "$work/in" > /dev/full 2> "$work/notes" || status=$?
-tell "a summary that can't be written" [ "$status" = 4 ]
+tell "a summary that can't be written" fails "$unwritten"
 edge "$named" "vni = 5002" > "$conf"
 status=0
 "$evpnd" check --config "$conf" < "$work/in" > "$work/out" 2> /dev/full || status=$?
@@ -400,7 +407,7 @@ for words in "version --help" "version 1" "version --config $conf" "--version"; 
 done
 status=0
 "$evpnd" version < "$work/in" > /dev/full 2> "$work/notes" || status=$?
-tell "a version that can't be written" [ "$status" = 4 ]
+tell "a version that can't be written" fails "$unwritten"
 
 # ---- play: commands are shown, empty lines and remarks are skipped
 edge "$named" "vni = 5001" > "$conf"
@@ -507,10 +514,27 @@ for number in 1 2; do printf 'edge %s\nflood 5001 %s.1 1 up\nflood 5001 %s.2 1 u
 tell "two edges run" gives 0 "$work/both" ""
 status=0
 "$evpnd" run --config "$conf" < "$work/in" > /dev/full 2> "$work/notes" || status=$?
-tell "a full output, of edges that ran" [ "$status" = 4 ]
+tell "a full output, of edges that ran" fails "$unwritten"
 status=0
 "$evpnd" run --config "$conf" < "$work" > "$work/out" 2> "$work/notes" || status=$?
-tell "a directory as the input of a run" [ "$status $(grep -c ^edge "$work/out")" = "4 2" ]
+tell "a directory as the input of a run" fails "$unread"
+tell "the edges of that run" [ "$(grep -c ^edge "$work/out")" = 2 ]
+status=0
+"$evpnd" run --config "$conf" < "$work" > /dev/full 2> "$work/notes" || status=$?
+tell "a directory as the input of a run, and a full output" fails "$unread"$'\n'"$unwritten"
+status=0
+"$evpnd" run --config "$conf" <&- > "$work/out" 2> "$work/notes" || status=$?
+tell "a run with a closed input" gives 4 "$work/empty" "standard input: it is closed"
+status=0
+"$evpnd" run --config "$work/none" < "$work/in" >&- 2> "$work/notes" || status=$?
+tell "a run with a closed output, which is told before a file is read" fails "standard output: it is closed"
+status=0
+"$evpnd" run --config "$conf" < "$work/in" > "$work/out" 2>&- || status=$?
+: > "$work/notes"
+tell "a run with closed notes" gives 4 "$work/empty" ""
+status=0
+"$evpnd" run --config "$conf" <&- >&- 2> "$work/notes" || status=$?
+tell "a run with two of them closed: the first is told" fails "standard input: it is closed"
 sed 's/vni = 5001/vni = 5002/' "$conf" > "$work/other"
 mv "$work/other" "$conf"
 run run --config "$conf"
@@ -552,7 +576,7 @@ cp "$record" "$work/in"
 : > "$work/out"
 status=0
 "$evpnd" report --originators 10.0.0.1 < "$record" > /dev/full 2> "$work/notes" || status=$?
-tell "a full output" gives 4 "$work/empty" ""
+tell "a full output" gives 4 "$work/empty" "$unwritten"
 status=0
 "$evpnd" report --originators 10.0.0.2 < "$record" > "$work/out" 2> /dev/full || status=$?
 tell "full notes" [ "$status" = 4 ]
@@ -561,10 +585,13 @@ status=0
 tell "a usage that can't be told" [ "$status" = 4 ]
 status=0
 "$evpnd" report --originators 10.0.0.1 < "$work" > "$work/out" 2> "$work/notes" || status=$?
-tell "a directory as input" gives 4 "$work/empty" ""
+tell "a directory as input" gives 4 "$work/empty" "$unread"
+status=0
+"$evpnd" report --originators 10.0.0.1 <&- > "$work/out" 2> "$work/notes" || status=$?
+tell "a closed input" gives 4 "$work/empty" "$unread"
 status=0
 (cat "$record" && printf 'EW') | "$evpnd" report --originators 10.0.0.1 > /dev/full 2> "$work/notes" || status=$?
-tell "a full output and a fault: the greater status" [ "$status" = 4 ]
+tell "a full output and a fault: the greater status" fails "fault 1 at record 2"$'\n'"$unwritten"
 
 # ---- 3 and 4: each allocation refused, each read and each write failed, where there is a C compiler
 status=0

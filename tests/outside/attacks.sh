@@ -54,25 +54,25 @@ run() { timeout 5 "$evpnd" run --config "$work/edges.toml"; }
 echo "-- descriptors that are closed when it begins"
 run <&- > "$work/report" 2> "$work/notes"
 status=$?
-open "run <&- ends with status 4" [ "$status" = 4 ]
-open "run <&- says so" notes 1 'descriptor 0|standard input'
+tell "run <&- ends with status 4" [ "$status" = 4 ]
+tell "run <&- says so" notes 1 '^standard input: it is closed$'
 run < /dev/null >&- 2> "$work/notes"
 status=$?
 tell "run >&- ends with status 4" [ "$status" = 4 ]
-open "run >&- says so" notes 1 'descriptor 1|standard output'
+tell "run >&- says so" notes 1 '^standard output: it is closed$'
 run < /dev/null > "$work/report" 2>&-
 status=$?
-open "run 2>&- ends with status 4" [ "$status" = 4 ]
+tell "run 2>&- ends with status 4" [ "$status" = 4 ]
 
 echo "-- a read or a write that fails"
 run < / > "$work/report" 2> "$work/notes"
 status=$?
 tell "a folder as standard input: status 4" [ "$status" = 4 ]
-open "a folder as standard input: a line" notes 1 'standard input'
+tell "a folder as standard input: a line" notes 1 "^standard input: it can't be read\$"
 run < /dev/null > /dev/full 2> "$work/notes"
 status=$?
 tell "a full device as standard output: status 4" [ "$status" = 4 ]
-open "a full device as standard output: a line" notes 1 'standard output'
+tell "a full device as standard output: a line" notes 1 "^standard output: it can't be written\$"
 
 echo "-- a station that moves between two edges until it is frozen"
 { edge 1 1; edge 2 1; } > "$work/edges.toml"

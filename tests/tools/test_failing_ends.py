@@ -12,6 +12,8 @@ from test_simulations import BOTH, TWO
 LINES = b"mac 5001 02:00:00:00:00:0a 10.0.0.1 1 dynamic 0\nowner 5001 02:00:00:00:00:0a 10.0.0.1\n"
 MIGRATED = FIRST[:2] + b"\x03\x01\x00\x36" + FIRST[6:10] + bytes(4) + FIRST[10:]
 ORDERS = {"report": LINES, "migrate": MIGRATED}
+UNREAD = b"standard input: it can't be read\n"
+UNWRITTEN = b"standard output: it can't be written\n"
 UNLISTED = FIRST[:9] + b"\x09" + FIRST[10:28] + b"\x09" + FIRST[29:]
 
 
@@ -63,22 +65,25 @@ class FailingEnds(Preloaded):
 
     @needs_program
     def test_failed_read_ends_the_reading(self):
-        """What was read whole before it is reported; nothing is migrated, and no line of a script is run."""
+        """It is told. What was read whole before it is reported; nothing is migrated, and no line of a script is run."""
         def is_so_far(made: bytes):
             def check(at, _good, done):
-                self.assertEqual((done.out, done.notes), (made if at > len(FIRST) else b"", b""))
+                self.assertEqual((done.out, done.notes), (made if at > len(FIRST) else b"", UNREAD))
             return check
 
         self.fails(0, words_of("report"), FIRST, {"PIECE": 1}, is_so_far(LINES))
         self.fails(0, words_of("report"), FIRST + FIRST[:55], {"PIECE": 1}, is_so_far(LINES))
-        nothing = lambda _at, _good, done: self.assertEqual((done.out, done.notes), (b"", b""))
+        nothing = lambda _at, _good, done: self.assertEqual((done.out, done.notes), (b"", UNREAD))
         self.fails(0, words_of("migrate"), FIRST, {"PIECE": 1}, nothing)
         self.fails(0, ["simulate", "--config", self.write("edges.toml", TWO)], BOTH.encode(), {"PIECE": 16}, nothing)
 
     @needs_program
     def test_failed_write_is_the_last(self):
-        """What was written before it stays."""
-        begins = lambda _at, good, done: self.assertTrue(good.out.startswith(done.out) and good.out != done.out and not done.notes)
+        """It is told, and what was written before it stays."""
+        def begins(_at, good, done):
+            self.assertTrue(good.out.startswith(done.out) and good.out != done.out)
+            self.assertEqual(done.notes, UNWRITTEN)
+
         for subcommand in ORDERS:
             self.fails(1, words_of(subcommand), many(1000), {}, begins)
         config = self.write("edges.toml", TWO)

@@ -1,5 +1,6 @@
 pub mod Notes
 pub mod Ends
+pub mod Failures
 pub mod Runs
 pub mod Progressing
 pub mod Originators

@@ -4,6 +4,7 @@
 
 mod devices;
 mod ending;
+mod failures;
 mod input;
 mod migrate;
 mod migration_laws;
@@ -16,6 +17,7 @@ mod telling;
 
 pub use devices::{Buffers, Devices};
 pub use ending::Ending;
+pub use failures::{Failures, tell_failed};
 pub use input::{MOST_READS, Unread, read_whole};
 pub use migrate::{migrate_buffered, migrate_run};
 pub use migration_laws::{same_owners, stays_away};

@@ -205,14 +205,15 @@ Runs the edges that FILE configures, as docs/configuration.md describes it; each
 and `remote`. Each edge takes and sends VXLAN datagrams at its address, UDP port 4789; each port takes
 frames at `local`, one a datagram, and sends them to `remote`. It ends when standard input ends, whose
 content is ignored. Then standard output has for each edge the line `edge E` and its report.
-Standard error has `lost N` where N sends failed; or which address can't be bound, and why: then no
-edge has begun.
+Standard error has `lost N` where N sends failed; or which address can't be bound, and why, or which
+standard stream is closed: then no edge has begun.
 
 Status, the greatest that applies:
   0  the edges ran until standard input ended
   2  the configuration has a fault; or the words are wrong, or ask for help
   3  memory or a thread was refused
-  4  FILE can't be read, an address can't be bound, or a socket, reading or writing failed
+  4  FILE can't be read, an address can't be bound, a standard stream is closed, or a socket,
+     reading or writing failed
 
 Example:
   evpnd run --config fabric.toml"
@@ -339,7 +340,8 @@ const ABOUT: &str = "EVPN edge bridges: what route updates define, proved from o
 
 const HELP: &str = "\
 Each subcommand's --help says what it reads and prints, and its statuses: 0 done, 1 broken input,
-2 wrong words or a request for help, 3 no memory, 4 a failed device.
+2 wrong words or a request for help, 3 no memory, 4 a failed device. Where reading standard input or
+writing standard output fails, standard error says so.
 
 Example:
   evpnd report --originators 10.0.0.1,10.0.0.2 < records";

@@ -1,6 +1,6 @@
 -- What is told of the words.
-use Rattle.std.proofs.Common.{◌≡◌, ◌≢◌, inl, inr, ℕ, ◌+◌, true, false, cond, List, [], ◌∷◌, Result, Ok, Err, is_ok}
-use Rattle.std.proofs.Common.{refl, ap, ◌∙◌, arith}
+use Rattle.std.proofs.Common.{◌≡◌, ◌≢◌, inl, inr, ℕ, ◌+◌, true, false, cond, List, [], ◌∷◌, Option, Result, Ok, Err}
+use Rattle.std.proofs.Common.{is_ok, refl, ap, ◌∙◌, arith}
 use Rattle.ether_wire.specs.declared.ends.Device.{Device}
 use Rattle.ether_wire.specs.Ends.{End, Puts}
 use Rattle.clap.specs.Words.{IsAmong, fault_of}
@@ -10,6 +10,7 @@ use Rattle.ev_words.specs.Words.{program}
 use Rattle.ev_report.specs.Originators.{Text}
 use Rattle.ev_report.specs.Ends.{Devices}
 use Rattle.evpnd.specs.Files.{Shelf}
+use Rattle.evpnd.specs.declared.streams.Stream.{Stream}
 use Rattle.ev_report.proofs.Told.{failed_put}
 use Rattle.evpnd.specs.Checks.{desk, Sums}
 use Rattle.evpnd.specs.Program.{world, TellsFault, RunsWords}
@@ -33,17 +34,17 @@ among_some k [] among none = among
 among_some k (x ∷ xs) among none = cc
 
 -- words with a fault
-pub runs_refused : (words : List Text) (k : ErrorKind) (before middle after : ℕ) (shelf : Shelf) (d d' : Devices)
-    (status : ℕ) → IsAmong k (fault_of program words) → middle ≡ before
+pub runs_refused : (closed : Option Stream) (words : List Text) (k : ErrorKind) (before middle after : ℕ)
+    (shelf : Shelf) (d d' : Devices) (status : ℕ) → IsAmong k (fault_of program words) → middle ≡ before
     → d' ≡ record d { notes = d'.notes } → TellsFault middle after d.notes d'.notes status
-    → RunsWords words (world before shelf d) (world after shelf d') status
-runs_refused words k before middle after shelf d d' status among same kept (inl starved) =
+    → RunsWords closed words (world before shelf d) (world after shelf d') status
+runs_refused closed words k before middle after shelf d d' status among same kept (inl starved) =
     inl (record {
       refused = starved.0 ∙ ap (λ (n : ℕ). n + 1) same;
       desk_kept = ap (λ (x : Devices). desk shelf x) (kept ∙ ap (λ (e : End). record d { notes = e }) starved.1);
       status_is = starved.2;
     })
-runs_refused words k before middle after shelf d d' status among same kept (inr told) =
+runs_refused closed words k before middle after shelf d d' status among same kept (inr told) =
     inr (inl (record {
       faulty = among_some k (fault_of program words) among;
       refusals_kept = told.0 ∙ same;

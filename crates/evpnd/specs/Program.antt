@@ -18,6 +18,9 @@ use Rattle.evpnd.specs.Version.{TellsVersion}
 use Rattle.ev_report.specs.Runs.{Reports}
 use Rattle.ev_report.specs.Migrations.{Migrates}
 use Rattle.evpnd.specs.Used.{SimulatesFound, RunsFound}
+use Rattle.evpnd.specs.declared.streams.Stream.{Stream}
+use Rattle.evpnd.specs.Streams.{Unclosed}
+use Rattle.ev_report.specs.Failures.{failures_of, TellsFailed}
 
 -- the devices and the files, and how often what reads the words was refused memory
 pub record World : Type 0 where
@@ -41,21 +44,33 @@ not_text = codes "error: a word isn't UTF-8\n"
 
 -- ---- orders
 
+-- the edges of a file are run, where no standard stream was closed
+abbrev pub RunsOpen : Option Stream → Text → Desk → Desk → ℕ → Type 0
+RunsOpen closed path before after status = Unclosed (OfFile true RunsFound path) closed before after status
+
 -- what each subcommand does with the value of the option that it needs, and with that of one more
-abbrev pub FollowsAs : Subcommand → Text → Option Text → Desk → Desk → ℕ → Type 0
-FollowsAs Report list more before after status = (after.shelf ≡ before.shelf)
+abbrev pub FollowsAs : Option Stream → Subcommand → Text → Option Text → Desk → Desk → ℕ → Type 0
+FollowsAs closed Report list more before after status = (after.shelf ≡ before.shelf)
     × OfList Reports list before.devices after.devices status
-FollowsAs Migrate list more before after status = (after.shelf ≡ before.shelf)
+FollowsAs closed Migrate list more before after status = (after.shelf ≡ before.shelf)
     × OfList Migrates list before.devices after.devices status
-FollowsAs Check path more before after status = ChecksAll path more before after status
-FollowsAs Simulate path more before after status = OfFile false (SimulatesFound mode.Simulate) path before after status
-FollowsAs Play path more before after status = OfFile false (SimulatesFound mode.Play) path before after status
-FollowsAs Run path more before after status = OfFile true RunsFound path before after status
-FollowsAs Version nothing more before after status = (after.shelf ≡ before.shelf)
+FollowsAs closed Check path more before after status = ChecksAll path more before after status
+FollowsAs closed Simulate path more before after status =
+    OfFile false (SimulatesFound mode.Simulate) path before after status
+FollowsAs closed Play path more before after status = OfFile false (SimulatesFound mode.Play) path before after status
+FollowsAs closed Run path more before after status = RunsOpen closed path before after status
+FollowsAs closed Version nothing more before after status = (after.shelf ≡ before.shelf)
     × TellsVersion before.devices after.devices status
 
-abbrev pub Follows : Parts → Desk → Desk → ℕ → Type 0
-Follows order before after status = FollowsAs order.0 order.1 order.2 before after status
+abbrev pub Follows : Option Stream → Parts → Desk → Desk → ℕ → Type 0
+Follows closed order before after status = FollowsAs closed order.0 order.1 order.2 before after status
+
+-- An order is followed, and then it is told whether reading or writing failed.
+pub record FollowsTelling (closed : Option Stream) (order : Parts) (before after : Desk) (status : ℕ) : Type 0 where
+  pub mid : Desk
+  pub follows : Follows closed order before mid status
+  pub shelf_kept : after.shelf ≡ mid.shelf
+  pub told : TellsFailed (failures_of before.devices) mid.devices after.devices
 
 -- ---- words
 
@@ -74,20 +89,21 @@ pub record IsRefused (words : List Text) (before after : World) (status : ℕ) :
   pub told : TellsUsage text before.desk.devices after.desk.devices status
 
 -- the words are an order, and it is followed
-pub record IsFollowed (words : List Text) (before after : World) (status : ℕ) : Type 0 where
+pub record IsFollowed (closed : Option Stream) (words : List Text) (before after : World) (status : ℕ) : Type 0 where
   pub order : Parts
   pub spells : Spells words order
   pub refusals_kept : after.refusals ≡ before.refusals
-  pub follows : Follows order before.desk after.desk status
+  pub follows : FollowsTelling closed order before.desk after.desk status
 
-abbrev pub RunsWords : List Text → World → World → ℕ → Type 0
-RunsWords words before after status = IsStarved before after status
-    ⊎ (IsRefused words before after status ⊎ IsFollowed words before after status)
+abbrev pub RunsWords : Option Stream → List Text → World → World → ℕ → Type 0
+RunsWords closed words before after status =
+    IsStarved before after status ⊎ (IsRefused words before after status ⊎ IsFollowed closed words before after status)
 
--- A run, on what the system gives as words.
-abbrev pub RunsProgram : Line → World → World → ℕ → Type 0
-RunsProgram NoMemory before after status = (after ≡ before) × (status ≡ 3)
-RunsProgram NotText before after status =
+-- A run, on what the system gives as words, and the standard stream that was closed, if one was.
+abbrev pub RunsProgram : Option Stream → Line → World → World → ℕ → Type 0
+RunsProgram closed NoMemory before after status = (after ≡ before) × (status ≡ 3)
+RunsProgram closed NotText before after status =
     (after.refusals ≡ before.refusals) × (after.desk.shelf ≡ before.desk.shelf)
     × TellsUsage not_text before.desk.devices after.desk.devices status
-RunsProgram (Words words) before after status = RunsWords (map string_bytes words.items) before after status
+RunsProgram closed (Words words) before after status = RunsWords closed (map string_bytes words.items) before after
+    status

@@ -5,20 +5,26 @@ mod check;
 mod check_script;
 mod configured;
 mod files;
+mod host;
 mod program;
 mod run_file;
 mod simulate;
+mod streams;
 mod version;
 
 use crate::files::SystemFiles;
+use crate::host::Host;
 use crate::program::{Line, run};
+use crate::streams::Stream;
 use ether_wire::{Reader, Writer};
 use ev_report::Devices;
 use ev_words::ClapParser;
 use std::io;
+use std::os::fd::AsFd;
 use std::process::ExitCode;
 
 fn main(rt: HostRuntime) -> ExitCode {
+    let closed = first_closed(&rt);
     let line = line_of(&rt);
     let mut parser = ClapParser::new(rt.alloc());
     let mut files = SystemFiles::new(&rt);
@@ -28,8 +34,38 @@ fn main(rt: HostRuntime) -> ExitCode {
         out: Writer::new(io::writer(&stdout)),
         notes: Writer::new(io::writer(&stderr)),
     };
-    let (status, _) = run(&rt, rt.alloc(), &mut parser, &line, &mut files, devices);
+    let host = Host {
+        rt: &rt,
+        alloc: rt.alloc(),
+        closed,
+    };
+    let (status, _) = run(&host, &mut parser, &line, &mut files, devices);
     ExitCode::from(status)
+}
+
+/// The system's word for a descriptor that isn't open (EBADF).
+const NOT_OPEN: i32 = 9;
+
+/// Whether a stream's descriptor is closed: there is no other one of its file.
+fn is_closed<S: AsFd>(stream: &S) -> bool {
+    match stream.as_fd().try_clone_to_owned() {
+        Ok(_) => false,
+        Err(error) => error.raw_os_error() == Some(NOT_OPEN),
+    }
+}
+
+/// The first standard stream that is closed, if one is. What is opened later may have its number.
+fn first_closed(rt: &HostRuntime) -> Option<Stream> {
+    if is_closed(&rt.stdin()) {
+        return Some(Stream::Input);
+    }
+    if is_closed(&rt.stdout()) {
+        return Some(Stream::Output);
+    }
+    if is_closed(&rt.stderr()) {
+        return Some(Stream::Error);
+    }
+    None
 }
 
 /// What the system gives as words.

@@ -7,16 +7,22 @@ ghost use Rattle.ev_words.specs.Words.{program, parts_of};
 ghost use Rattle.evpnd.specs.Files.{HasRoom};
 ghost use Rattle.evpnd.specs.Checks.{desk};
 ghost use Rattle.evpnd.specs.Scripts.{ChecksAll};
-ghost use Rattle.evpnd.specs.Program.{world, TellsFault, not_text, FollowsAs, Follows, RunsWords, RunsProgram};
+ghost use Rattle.evpnd.specs.Streams.{Unclosed, IsClosed};
+ghost use Rattle.ev_report.specs.Failures.{failures_of};
+ghost use Rattle.evpnd.specs.Program.{world, TellsFault, not_text, RunsOpen, FollowsAs, Follows, FollowsTelling, RunsWords, RunsProgram};
 
 use crate::check::check_all;
 use crate::files::Files;
+use crate::host::Host;
 use crate::run_file::run_file;
 use crate::simulate::simulate;
+use crate::streams::tell_closed;
 use crate::version::version;
 use clap::Error;
 use ether_wire::{In, Out};
-use ev_report::{Devices, MEMORY, migrate_list, report_list, tell, tell_words};
+use ev_report::{
+    Devices, Failures, MEMORY, migrate_list, report_list, tell, tell_failed, tell_words,
+};
 use ev_script::Mode;
 use ev_words::{Order, Parser, Refusal, Subcommand, order_of};
 use std::alloc::Global;
@@ -67,34 +73,69 @@ fn check_on<F: Files, R: In, W: Out, N: Out>(
     (status, Devices { reader, out, notes })
 }
 
+/// Runs the edges that the file at a path configures, where no standard stream was closed: a socket
+/// would have its number.
+fn run_open<H: Threads + Wait + Net + Clock + Sync, F: Files, R: In, W: Out, N: Out>(
+    host: &Host<'_, H>,
+    files: &mut F,
+    path: &str,
+    devices: Devices<R, W, N>,
+) -> (u8, Devices<R, W, N>)
+    requires files { HasRoom (F.shelf files.old) }
+    requires devices { AreOpen devices }
+    ensures { RunsOpen host.now.closed path.now (desk (F.shelf files.old) devices)
+        (desk (F.shelf files.new) result.1) result.0 }
+{
+    match host.closed {
+        None => run_file(host.rt, host.alloc, files, path, devices),
+        Some(stream) => tell_closed(stream, devices),
+    }
+}
+
 /// Does what the words say.
 fn follow<H: Threads + Wait + Net + Clock + Sync, F: Files, R: In, W: Out, N: Out>(
-    rt: &H,
-    alloc: Global,
+    host: &Host<'_, H>,
     order: Order<'_>,
     files: &mut F,
     devices: Devices<R, W, N>,
 ) -> (u8, Devices<R, W, N>)
     requires files { HasRoom (F.shelf files.old) }
     requires devices { AreOpen devices }
-    ensures { Follows (parts_of order.entry) (desk (F.shelf files.old) devices)
+    ensures { Follows host.now.closed (parts_of order.entry) (desk (F.shelf files.old) devices)
         (desk (F.shelf files.new) result.1) result.0 }
 {
+    let alloc = host.alloc;
     match order.subcommand {
         Subcommand::Report => report_list(alloc, order.value, devices),
         Subcommand::Migrate => migrate_list(alloc, order.value, devices),
         Subcommand::Check => check_on(alloc, files, order.value, order.more, devices),
         Subcommand::Simulate => simulate(alloc, Mode::Simulate, files, order.value, devices),
         Subcommand::Play => simulate(alloc, Mode::Play, files, order.value, devices),
-        Subcommand::Run => run_file(rt, alloc, files, order.value, devices),
+        Subcommand::Run => run_open(host, files, order.value, devices),
         Subcommand::Version => version(devices),
     }
 }
 
+/// Does what the words say, and tells whether reading or writing failed.
+fn follow_telling<H: Threads + Wait + Net + Clock + Sync, F: Files, R: In, W: Out, N: Out>(
+    host: &Host<'_, H>,
+    order: Order<'_>,
+    files: &mut F,
+    devices: Devices<R, W, N>,
+) -> (u8, Devices<R, W, N>)
+    requires files { HasRoom (F.shelf files.old) }
+    requires devices { AreOpen devices }
+    ensures { FollowsTelling host.now.closed (parts_of order.entry)
+        (desk (F.shelf files.old) devices) (desk (F.shelf files.new) result.1) result.0 }
+{
+    let before = Failures::of(&devices);
+    let (status, devices) = follow(host, order, files, devices);
+    (status, tell_failed(before, devices))
+}
+
 /// A run over these words.
 fn run_words<H: Threads + Wait + Net + Clock + Sync, P: Parser, F: Files, R: In, W: Out, N: Out>(
-    rt: &H,
-    alloc: Global,
+    host: &Host<'_, H>,
     parser: &mut P,
     words: &[String],
     files: &mut F,
@@ -103,24 +144,25 @@ fn run_words<H: Threads + Wait + Net + Clock + Sync, P: Parser, F: Files, R: In,
     requires parser { P.refusals parser.old + 1 < 2 ^ 64 }
     requires files { HasRoom (F.shelf files.old) }
     requires devices { AreOpen devices }
-    ensures { RunsWords (map string_bytes words.now)
+    ensures { RunsWords host.now.closed (map string_bytes words.now)
         (world (P.refusals parser.old) (F.shelf files.old) devices)
         (world (P.refusals parser.new) (F.shelf files.new) result.1) result.0 }
 {
     let mut devices = devices;
     match order_of(parser, words) {
-        Ok(order) => follow(rt, alloc, order, files, devices),
+        Ok(order) => follow_telling(host, order, files, devices),
         Err(Refusal::Usage(error)) => { (tell_fault(parser, &error, &mut devices.notes), devices) }
         Err(Refusal::NoMemory) => (MEMORY, devices),
     }
 }
 
 /// A run of the program: it follows the order that the words are, or tells on the notes what is
-/// wrong with them. It takes the devices, and gives them back.
+/// wrong with them. It takes the devices, and gives them back. Where reading or writing failed the
+/// notes say so at the end, if they didn't fail themselves.
 ///
 /// The status is the greatest that applies: 4 where a device failed, 3 where memory was refused, 2
 /// where the words aren't the program's or ask for help, or a configuration is faulty, 1 where the
-/// input is broken, else 0.
+/// input is broken, else 0. Where a standard stream is closed edges don't begin to run: 4.
 pub(crate) fn run<
     H: Threads + Wait + Net + Clock + Sync,
     P: Parser,
@@ -129,8 +171,7 @@ pub(crate) fn run<
     W: Out,
     N: Out,
 >(
-    rt: &H,
-    alloc: Global,
+    host: &Host<'_, H>,
     parser: &mut P,
     line: &Line,
     files: &mut F,
@@ -139,11 +180,12 @@ pub(crate) fn run<
     requires parser { P.refusals parser.old + 1 < 2 ^ 64 }
     requires files { HasRoom (F.shelf files.old) }
     requires devices { AreOpen devices }
-    ensures { RunsProgram line.now (world (P.refusals parser.old) (F.shelf files.old) devices)
+    ensures { RunsProgram host.now.closed line.now
+        (world (P.refusals parser.old) (F.shelf files.old) devices)
         (world (P.refusals parser.new) (F.shelf files.new) result.1) result.0 }
 {
     match line {
-        Line::Words(words) => run_words(rt, alloc, parser, words.as_slice(), files, devices),
+        Line::Words(words) => run_words(host, parser, words.as_slice(), files, devices),
         Line::NotText => tell_words(b"error: a word isn't UTF-8\n", devices),
         Line::NoMemory => (MEMORY, devices),
     }

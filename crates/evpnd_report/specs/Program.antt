@@ -6,6 +6,7 @@ use Rattle.ev_report.specs.Originators.{Text}
 use Rattle.ev_report.specs.Ends.{Devices}
 use Rattle.ev_report.specs.Telling.{TellsUsage, OfList}
 use Rattle.ev_report.specs.Runs.{Reports}
+use Rattle.ev_report.specs.Failures.{failures_of, TellsFailed}
 
 -- what is told where the words aren't the program's name and one list
 abbrev pub usage : Text
@@ -15,12 +16,20 @@ usage = codes "usage: evpnd_report LIST\n"
 abbrev pub not_text : Text
 not_text = codes "error: a word isn't UTF-8\n"
 
+-- the records are reported with the originators of the list, or it is told what is wrong with it; then, whether reading
+-- or
+-- writing failed
+pub record ReportsTelling (list : Text) (before after : Devices) (status : ℕ) : Type 0 where
+  pub mid : Devices
+  pub reports : OfList Reports list before mid status
+  pub told : TellsFailed (failures_of before) mid after
+
 -- The records are reported with the originators of the list, or it is told what is wrong with the list or with the
 -- words.
 abbrev pub ReportsWords : List Text → Devices → Devices → ℕ → Type 0
 ReportsWords [] before after status = TellsUsage usage before after status
 ReportsWords (name ∷ []) before after status = TellsUsage usage before after status
-ReportsWords (name ∷ list ∷ []) before after status = OfList Reports list before after status
+ReportsWords (name ∷ list ∷ []) before after status = ReportsTelling list before after status
 ReportsWords (name ∷ list ∷ word ∷ words) before after status = TellsUsage usage before after status
 
 -- A run, on what the system gives as words.

@@ -1,10 +1,10 @@
 //! A run of the program: from its words, over its devices, to its status.
 ghost use Rattle.std.specs.Prelude.{map, string_bytes};
 ghost use Rattle.ev_report.specs.Ends.{AreOpen};
-ghost use Rattle.evpnd_report.specs.Program.{ReportsWords, ReportsLine};
+ghost use Rattle.evpnd_report.specs.Program.{ReportsTelling, ReportsWords, ReportsLine};
 
 use ether_wire::{In, Out};
-use ev_report::{Devices, MEMORY, report_list, tell_words};
+use ev_report::{Devices, Failures, MEMORY, report_list, tell_failed, tell_words};
 use std::alloc::Global;
 
 /// What the system gives as words.
@@ -18,6 +18,21 @@ pub(crate) enum Line {
     NoMemory,
 }
 
+/// Reports the records of the originators that a list names, and tells whether reading or writing
+/// failed.
+fn report_telling<R: In, W: Out, N: Out>(
+    alloc: Global,
+    list: &str,
+    devices: Devices<R, W, N>,
+) -> (u8, Devices<R, W, N>)
+    requires { AreOpen devices }
+    ensures { ReportsTelling list.now devices result.1 result.0 }
+{
+    let before = Failures::of(&devices);
+    let (status, devices) = report_list(alloc, list, devices);
+    (status, tell_failed(before, devices))
+}
+
 /// A run over these words.
 fn run_words<R: In, W: Out, N: Out>(
     alloc: Global,
@@ -28,13 +43,14 @@ fn run_words<R: In, W: Out, N: Out>(
     ensures { ReportsWords (map string_bytes words.now) devices result.1 result.0 }
 {
     match words {
-        [_name, list] => report_list(alloc, list.as_str(), devices),
+        [_name, list] => report_telling(alloc, list.as_str(), devices),
         _ => tell_words(b"usage: evpnd_report LIST\n", devices),
     }
 }
 
 /// A run of the program: it reports the records on its input, or tells on the notes what is wrong
-/// with its words. It takes the devices, and gives them back.
+/// with its words. It takes the devices, and gives them back. Where reading or writing failed the
+/// notes say so at the end, if they didn't fail themselves.
 ///
 /// The status is the greatest that applies: 4 where a device failed, 3 where memory was refused, 2
 /// where the words aren't one list of originators, 1 where the input is broken, else 0.

@@ -1,0 +1,27 @@
+-- The standard streams, and what becomes of a run where one is closed.
+use Rattle.std.specs.Prelude.{◌≡◌, ℕ, codes, Option, Some, None}
+use Rattle.ev_report.specs.Ends.{Holds}
+use Rattle.evpnd.specs.declared.streams.Stream.{Stream}
+use Rattle.evpnd.specs.declared.streams.Stream.TheVariants.{Input, Output, Error}
+use Rattle.evpnd.specs.Files.{Text}
+use Rattle.evpnd.specs.Checks.{Desk}
+
+-- `STREAM: it is closed`
+abbrev pub closed_text : Stream → Text
+closed_text Input = codes "standard input: it is closed\n"
+closed_text Output = codes "standard output: it is closed\n"
+closed_text Error = codes "standard error: it is closed\n"
+
+-- Nothing begins: it is told that this stream was closed when the program began. Nothing was read, nothing else
+-- written.
+pub record IsClosed (stream : Stream) (before after : Desk) (status : ℕ) : Type 0 where
+  pub shelf_kept : after.shelf ≡ before.shelf
+  pub input : after.devices.input ≡ before.devices.input
+  pub out : after.devices.out ≡ before.devices.out
+  pub noted : Holds before.devices.notes after.devices.notes (closed_text stream)
+  pub status_is : status ≡ 4
+
+-- what is done where no stream was closed
+abbrev pub Unclosed : (Desk → Desk → ℕ → Type 0) → Option Stream → Desk → Desk → ℕ → Type 0
+Unclosed does None before after status = does before after status
+Unclosed does (Some stream) before after status = IsClosed stream before after status

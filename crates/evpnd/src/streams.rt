@@ -1,0 +1,47 @@
+//! The standard streams, and what is told of one that is closed when the program begins.
+ghost use Rattle.std.specs.Prelude.{◌≡◌};
+ghost use Rattle.ether_wire.specs.Ends.{IsOpen, Puts};
+ghost use Rattle.ev_report.specs.Ends.{AreOpen};
+ghost use Rattle.evpnd.specs.Checks.{desk};
+ghost use Rattle.evpnd.specs.Files.{Shelf};
+ghost use Rattle.evpnd.specs.Streams.{closed_text, IsClosed};
+
+use ether_wire::{Device, In, Out};
+use ev_report::{DEVICE, Devices};
+
+/// A standard stream.
+#[derive(Clone, Copy, Debug, PartialEq, Eq)]
+pub(crate) enum Stream {
+    /// Standard input, descriptor 0.
+    Input,
+    /// Standard output, descriptor 1.
+    Output,
+    /// Standard error, descriptor 2.
+    Error,
+}
+
+/// Writes `STREAM: it is closed`.
+fn put_closed<N: Out>(notes: &mut N, stream: Stream) -> Result<(), Device>
+    requires { IsOpen (N.end notes.old) }
+    ensures { Puts (N.end notes.old) (N.end notes.new) (closed_text stream) result }
+{
+    match stream {
+        Stream::Input => notes.put(b"standard input: it is closed\n"),
+        Stream::Output => notes.put(b"standard output: it is closed\n"),
+        Stream::Error => notes.put(b"standard error: it is closed\n"),
+    }
+}
+
+/// Tells which stream is closed, so that nothing begins, and answers the status.
+pub(crate) fn tell_closed<R: In, W: Out, N: Out>(
+    stream: Stream,
+    devices: Devices<R, W, N>,
+) -> (u8, Devices<R, W, N>)
+    requires { AreOpen devices }
+    ensures { (shelf : Shelf) → IsClosed stream (desk shelf devices) (desk shelf result.1)
+        result.0 }
+{
+    let mut devices = devices;
+    let _ = put_closed(&mut devices.notes, stream);
+    (DEVICE, devices)
+}
