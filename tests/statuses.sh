@@ -535,6 +535,49 @@ tell "a run with closed notes" gives 4 "$work/empty" ""
 status=0
 "$evpnd" run --config "$conf" <&- >&- 2> "$work/notes" || status=$?
 tell "a run with two of them closed: the first is told" fails "standard input: it is closed"
+
+# what `run` needs: 2 edges of 1 port are 2 * (2 * 1 + 5) + 1 threads, and 2252800 + 2 * (512000 + 98304 * 7 + (68 + 12) * 1024) octets
+run check --run --config "$conf"
+printf 'ok: 2 edges, 2 ports, 1 VNI\n15 threads\n4 UDP sockets\nabout 5 MiB of memory\n' > "$work/takes"
+tell "what a run takes" gives 0 "$work/takes" ""
+status=0
+(ulimit -n 7 && exec "$evpnd" check --config "$conf" --run) < "$work/in" > "$work/out" 2> "$work/notes" || status=$?
+tell "as many descriptors as a run needs" gives 0 "$work/takes" ""
+status=0
+(ulimit -n 6 && exec "$evpnd" check --config "$conf" --run) < "$work/in" > "$work/out" 2> "$work/notes" || status=$?
+tell "one descriptor less" gives 2 "$work/empty" "4 sockets and 3 standard streams, allowed are 6 descriptors"
+status=0
+"$evpnd" check --run --config "$conf" < "$work/in" > /dev/full 2> "$work/notes" || status=$?
+tell "what a run takes, which can't be written" fails "$unwritten"
+printf '1 announce\n' > "$work/script"
+run check --script "$work/script" --run --config "$conf"
+{ cat "$work/takes" && echo "ok: 1 line"; } > "$work/looked"
+tell "what a run takes, and a script" gives 0 "$work/looked" ""
+for words in "check --run" "check --run yes --config $conf" "check --run --run --config $conf" "check --run=1 --config $conf" \
+  "run --run --config $conf" "simulate --run --config $conf"; do
+  # shellcheck disable=SC2086
+  run $words
+  tell "words: $words" is_usage
+done
+cp "$conf" "$work/right"
+printf '[[edge.port]]\nvni = 5001\nlocal = "%s.1:20001"\nremote = "0.0.0.0:1"\n' "$host" >> "$conf"
+printf '[[edge.port]]\nvni = 5001\nlocal = "0.0.0.0:20002"\nremote = "127.0.0.1:0"\n' >> "$conf"
+printf '[[edge.port]]\nvni = 5001\nlocal = "%s.1:4789"\nremote = "127.0.0.1:1"\n' "$host" >> "$conf"
+printf '[[edge.port]]\nvni = 5001\nlocal = "127.0.0.1:0"\nremote = "127.0.0.1:1"\n' >> "$conf"
+run check --run --config "$conf"
+printf '%s\n' "edge 2, port 2: local is $host.1:20001, where a port before it takes its frames" \
+  "edge 2, port 2: remote is 0.0.0.0:1, and address 0.0.0.0 is nobody's" \
+  "edge 2, port 3: local is 0.0.0.0:20002, where a port before it takes its frames" \
+  "edge 2, port 3: remote is 127.0.0.1:0, and UDP port 0 is none" \
+  "edge 2, port 4: local is $host.1:4789, where an edge has its tunnels" \
+  "edge 2, port 5: local is 127.0.0.1:0, and UDP port 0 is none" > "$work/hinders"
+tell "what hinders a run" gives 2 "$work/empty" "$(cat "$work/hinders")"
+run check --config "$conf"
+tell "for any other use it is right" is_ok
+sed "s/address = \"$host.1\"/address = \"0.0.0.0\"/" "$work/right" > "$conf"
+run check --run --config "$conf"
+tell "an edge that isn't heard" gives 2 "$work/empty" "edge 1: address is 0.0.0.0, from which no edge is heard"
+cp "$work/right" "$conf"
 sed 's/vni = 5001/vni = 5002/' "$conf" > "$work/other"
 mv "$work/other" "$conf"
 run run --config "$conf"
@@ -543,6 +586,10 @@ for missing in local remote; do
   runs "$(printf '%s\n' "$ends" | grep -v "$missing")"
   run run --config "$conf"
   tell "a run of a port without $missing" tells "config $missing"
+  run check --run --config "$conf"
+  tell "a check for it" says "edge 1, port 1: $missing is missing, allowed is an IPv4 address with a UDP port, as '127.0.0.1:5000'"
+  run check --config "$conf"
+  tell "a check for any use" is_ok
 done
 runs $'local = "192.0.2.1:20001"\nremote = "192.0.2.1:30001"'
 run run --config "$conf"

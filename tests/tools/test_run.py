@@ -255,6 +255,27 @@ class Beginning(unittest.TestCase):
         self.assertEqual(running.end(), (4, "", "can't bind 192.0.2.1:4789: no device here has it\n"))
         one.here.close()
 
+    def test_what_it_takes_is_what_check_tells(self) -> None:
+        """Threads, sockets and memory of two edges with three ports."""
+        cables = [Cable(), Cable(), Cable(TWO)]
+        running = Running(edge(ONE, 1, *cables[:2]) + edge(TWO, 2, *cables[2:]))
+        self.addCleanup(running.kill)
+        path = os.path.join(running.folder.name, "edges.toml")
+        done = subprocess.run([PROGRAM, "check", "--run", "--config", path], capture_output=True, text=True, check=False)
+        self.assertEqual(done.returncode, 0)
+        lines = done.stdout.splitlines()
+        self.assertEqual(lines[0], "ok: 2 edges, 3 ports, 1 VNI")
+        threads, sockets, memory = lines[1].split()[0], lines[2].split()[0], lines[3].split()[1]
+        time.sleep(1)
+        folder = f"/proc/{running.program.pid}"
+        self.assertEqual(int(threads), len(os.listdir(f"{folder}/task")))
+        self.assertEqual(int(sockets), sum(os.readlink(f"{folder}/fd/{it}").startswith("socket:") for it in os.listdir(f"{folder}/fd")))
+        self.assertLess(running.resident() / 1024, 2 * int(memory))
+        self.assertGreater(running.resident() / 1024, int(memory) / 2)
+        self.assertEqual(running.end()[0], 0)
+        for it in cables:
+            it.here.close()
+
     def test_it_goes_on_until_its_input_ends(self) -> None:
         """What is read is ignored."""
         one = Cable()

@@ -171,20 +171,20 @@ fn put_allowed(line: &mut Line, place: Place<'_>, key: &str) -> Result<(), Devic
 }
 
 /// Writes where a key is faulty, what stands there and what is allowed.
-fn put_fault(line: &mut Line, table: &Table, key: &str) -> Result<(), Device>
+fn put_fault(line: &mut Line, for_run: bool, table: &Table, key: &str) -> Result<(), Device>
     requires { IsOpen (page_end line.old) }
     ensures { OnOk result ((page_end line.new).failures ≡ (page_end line.old).failures) }
 {
-    let place = place_of(table);
+    let place = place_of(for_run, table);
     put_place(line, place)?;
     put_found(line, table_of(place), key)?;
     put_allowed(line, place, key)
 }
 
 /// The line that tells of a faulty key.
-pub(crate) fn fault_line(table: &Table, key: &str) -> Line {
+pub(crate) fn fault_line(for_run: bool, table: &Table, key: &str) -> Line {
     let mut line = Line::new();
-    let _fits = put_fault(&mut line, table, key);
+    let _fits = put_fault(&mut line, for_run, table, key);
     line
 }
 
@@ -290,10 +290,11 @@ pub(crate) fn syntax_line(text: &str, error: &Error) -> Line {
     line
 }
 
-/// What is told of a text that is no configuration, and of its faulty key if it is a document.
-pub fn refusal_line(alloc: Global, text: &str, key: Option<&str>) -> Line {
+/// What is told of a text that is no configuration, perhaps none for a run, and of its faulty key
+/// if it is a document.
+pub fn refusal_line(alloc: Global, for_run: bool, text: &str, key: Option<&str>) -> Line {
     match toml::table_from_str(alloc, text) {
-        Ok(table) => fault_line(&table, key.unwrap_or("text")),
+        Ok(table) => fault_line(for_run, &table, key.unwrap_or("text")),
         Err(error) if error.is_memory() => plain_line(key),
         Err(error) => syntax_line(text, &error),
     }

@@ -28,18 +28,18 @@ struct Before {
     bridges: ArrayVec<Mac, 64>,
 }
 
-/// The first faulty table of a document that has a fault.
-pub(crate) fn place_of(table: &Table) -> Place<'_> {
+/// The first faulty table of a document that has a fault; for a run each port needs its endpoints.
+pub(crate) fn place_of(for_run: bool, table: &Table) -> Place<'_> {
     match tables_at(table, "edge") {
         Ok(edges) if only(table, &FILE_KEYS).is_ok() => {
-            place_among(edges).unwrap_or(Place::File(table))
+            place_among(for_run, edges).unwrap_or(Place::File(table))
         }
         _ => Place::File(table),
     }
 }
 
 /// The first faulty table of these edges.
-fn place_among(edges: &Array) -> Option<Place<'_>> {
+fn place_among(for_run: bool, edges: &Array) -> Option<Place<'_>> {
     let mut before = Before {
         addresses: ArrayVec::new(),
         bridges: ArrayVec::new(),
@@ -47,7 +47,7 @@ fn place_among(edges: &Array) -> Option<Place<'_>> {
     for (at, value) in edges.iter().enumerate() {
         let table = value.as_table()?;
         match edge_of(
-            false,
+            for_run,
             before.addresses.as_slice(),
             before.bridges.as_slice(),
             table,
@@ -56,7 +56,7 @@ fn place_among(edges: &Array) -> Option<Place<'_>> {
                 let _fits = before.addresses.try_push(edge.config.address);
                 let _fits = before.bridges.try_push(edge.bridge);
             }
-            Err(_) => return Some(place_in_edge(at + 1, &before, table)),
+            Err(_) => return Some(place_in_edge(for_run, at + 1, &before, table)),
         }
     }
     None
@@ -78,21 +78,26 @@ fn is_good_but_for_ports(before: &Before, table: &Table) -> bool {
 }
 
 /// The faulty table of an edge: a port's, or its own.
-fn place_in_edge<'a>(edge: usize, before: &Before, table: &'a Table) -> Place<'a> {
+fn place_in_edge<'a>(for_run: bool, edge: usize, before: &Before, table: &'a Table) -> Place<'a> {
     match tables_at(table, "port") {
         Ok(ports) if is_good_but_for_ports(before, table) => {
-            port_among(edge, table, ports).unwrap_or(Place::Edge(edge, table))
+            port_among(for_run, edge, table, ports).unwrap_or(Place::Edge(edge, table))
         }
         _ => Place::Edge(edge, table),
     }
 }
 
 /// The first faulty table of these ports.
-fn port_among<'a>(edge: usize, table: &Table, ports: &'a Array) -> Option<Place<'a>> {
+fn port_among<'a>(
+    for_run: bool,
+    edge: usize,
+    table: &Table,
+    ports: &'a Array,
+) -> Option<Place<'a>> {
     let vnis = vnis_at(table, "vnis").ok()?;
     for (at, value) in ports.iter().enumerate() {
         let port = value.as_table()?;
-        if port_of(false, vnis.as_slice(), port).is_err() {
+        if port_of(for_run, vnis.as_slice(), port).is_err() {
             return Some(Place::Port(edge, at + 1, port));
         }
     }

@@ -1,1 +1,3 @@
 pub mod RunEdges
+pub mod Needs
+pub mod Obstacles

@@ -76,14 +76,14 @@ abbrev pub ended_text : ℕ → Ended → Text
 ended_text number (Ok outcome) = edge_text number outcome.edge
 ended_text number (Err refused) = []
 
--- what is written of each of these, with its number, the first of which is this one
-abbrev pub texts_from : {A : Type 0} → (ℕ → A → Text) → ℕ → List A → Text
-texts_from text number [] = []
-texts_from text number (one ∷ more) = text number one ++ texts_from text (number + 1) more
+-- what each of these gives, with its number, the first of which is this one
+abbrev pub each_from : {A B : Type 0} → (ℕ → A → List B) → ℕ → List A → List B
+each_from text number [] = []
+each_from text number (one ∷ more) = text number one ++ each_from text (number + 1) more
 
 -- the texts of all edges, the first of which has this number
 abbrev pub reports_from : ℕ → List Ended → Text
-reports_from = texts_from ended_text
+reports_from = each_from ended_text
 
 -- the link of a line: that of the tunnel, or that of the port with this number
 abbrev pub link_text : ℕ → Text
@@ -98,7 +98,7 @@ dropped_text number place dropped =
 
 -- so of each line of an edge that ran
 abbrev pub drops_text : ℕ → Ended → Text
-drops_text number (Ok outcome) = texts_from (dropped_text number) 0 outcome.dropped.items
+drops_text number (Ok outcome) = each_from (dropped_text number) 0 outcome.dropped.items
 drops_text number (Err refused) = []
 
 -- `lost N`, where sends failed
@@ -126,7 +126,7 @@ all_lost ended = min (sum_by sends_failed ended) (2 ^ 64 - 1)
 
 -- what is noted: which links had no room for frames, and `lost N`
 abbrev pub noted_text : List Ended → ℕ → Text
-noted_text ended lost = texts_from drops_text 1 ended ++ lost_text lost
+noted_text ended lost = each_from drops_text 1 ended ++ lost_text lost
 
 -- The reports of the edges that ran are written. What their lines had no room for is noted, and `lost N` where sends
 -- failed. The

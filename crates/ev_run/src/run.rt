@@ -23,7 +23,7 @@ use std::thread::Threads;
 use std::time::Clock;
 
 /// The UDP port of tunnels (RFC 7348).
-const TUNNELS: u16 = 4789;
+pub(crate) const TUNNELS: u16 = 4789;
 
 /// An edge over sockets, ready to run.
 type Ready<'x, R> = Setup<Wire<'x, R>, UdpOut<'x>>;

@@ -84,7 +84,7 @@ impl Hindrance {
 
 /// Writes `ADDRESS:PORT`.
 #[tactic(auto, using(ether_wire::proofs::Appending::with_text_twice))]
-fn put_endpoint<N: Out>(notes: &mut N, at: Endpoint) -> Result<(), Device>
+pub(crate) fn put_endpoint<N: Out>(notes: &mut N, at: Endpoint) -> Result<(), Device>
     requires { IsOpen (N.end notes.old) }
     ensures { Puts (N.end notes.old) (N.end notes.new) (endpoint_text at) result }
 {

@@ -2,7 +2,7 @@
 ghost use Rattle.std.specs.Prelude.{◌++◌, codes};
 ghost use Rattle.std.specs.Fmt.{decimal};
 ghost use Rattle.ether_wire.specs.Ends.{IsOpen, Puts};
-ghost use Rattle.ev_run.specs.RunEdges.{edge_text, ended_text, texts_from, reports_from, link_text, dropped_text, drops_text, lost_text, noted_text};
+ghost use Rattle.ev_run.specs.RunEdges.{edge_text, ended_text, each_from, reports_from, link_text, dropped_text, drops_text, lost_text, noted_text};
 
 use ether_wire::{Device, Out, put_decimal};
 use ev_edge::Edge;
@@ -110,7 +110,7 @@ fn put_dropped<N: Out>(notes: &mut N, number: u64, place: u64, dropped: u64) -> 
 fn put_lines<N: Out>(notes: &mut N, number: u64, dropped: &[u64]) -> Result<(), Device>
     requires { IsOpen (N.end notes.old) }
     ensures { Puts (N.end notes.old) (N.end notes.new)
-        (texts_from (dropped_text number) 0 dropped.now) result }
+        (each_from (dropped_text number) 0 dropped.now) result }
 {
     for (place, count) in dropped.iter().enumerate() {
         put_dropped(notes, number, place as u64, *count)?;
@@ -137,7 +137,7 @@ fn put_drops<N: Out>(
 /// Writes so of each line of the edges that ran.
 fn put_all_drops<N: Out>(notes: &mut N, ended: &[Result<Outcome, AllocError>]) -> Result<(), Device>
     requires { IsOpen (N.end notes.old) }
-    ensures { Puts (N.end notes.old) (N.end notes.new) (texts_from drops_text 1 ended.now) result }
+    ensures { Puts (N.end notes.old) (N.end notes.new) (each_from drops_text 1 ended.now) result }
 {
     for (place, one) in ended.iter().enumerate() {
         put_drops(notes, place as u64 + 1, one)?;

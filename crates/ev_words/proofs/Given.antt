@@ -35,9 +35,9 @@ use Rattle.clap.proofs.WalkLemmas.{both}
 use Rattle.ev_words.specs.declared.words.Subcommand.{Subcommand}
 use Rattle.ev_words.specs.declared.words.Subcommand.TheVariants.{Report, Migrate, Check, Simulate, Play, Run, Version}
 use Rattle.ev_words.specs.declared.words.Given.{Given}
-use Rattle.ev_words.specs.declared.words.Given.TheVariants.{Originators, Config}
-use Rattle.ev_words.specs.Words.{Parts, subcommands, name_of, option_name, needs_of, takes_of, with_option, order_app}
-use Rattle.ev_words.specs.Words.{program, named, needed_in, given_in, order_in}
+use Rattle.ev_words.specs.declared.words.Given.TheVariants.{Originators, Config, Script, ForRun}
+use Rattle.ev_words.specs.Words.{Parts, subcommands, name_of, option_name, needs_of, takes_of, with_option, with_flag}
+use Rattle.ev_words.specs.Words.{flag_of, is_flagged, order_app, program, named, needed_in, given_in, order_in}
 
 -- ---- options
 
@@ -45,6 +45,10 @@ use Rattle.ev_words.specs.Words.{program, named, needed_in, given_in, order_in}
 pub none_more : (is_required : Bool) (a : App) → with_option is_required None a ≡ a
 none_more is_required a =
     ap (λ (rules : List Rule). record a { top = record a.top { rules = rules } }) (append-nil a.top.rules)
+
+-- a command with no flag more
+pub no_flag : (a : App) → with_flag None a ≡ a
+no_flag a = none_more false a
 
 -- ---- tests
 
@@ -111,7 +115,7 @@ without_full id rows e = at_full id (λ _. []) [] rows (λ r has. refl) refl e
 abbrev is_sure_as : ArgAction → Rule → Bool
 is_sure_as action.Set a = nat_lt 0 (unwrap_or_range a.range).start_inclusive
 is_sure_as action.Append a = false
-is_sure_as action.SetTrue a = false
+is_sure_as action.SetTrue a = has_value a.missing
 is_sure_as action.SetFalse a = false
 is_sure_as action.Count a = false
 is_sure_as action.Help a = true
@@ -141,7 +145,8 @@ used_full again a [] rows s f e = go (action_of a) s
     go : (x : ArgAction) → is_sure_as x a ≡ true → AreFull (used_as x a.id (reading_by a) a.missing rows)
     go action.Set s = absurd (wants (unwrap_or_range a.range).start_inclusive (most_values a) s (or_nil _ _ f).0)
     go action.Append s = absurd (true≢false (sym s))
-    go action.SetTrue s = absurd (true≢false (sym s))
+    go action.SetTrue s = with_full a.id (reading_by a) CommandLine a.missing (without a.id rows) s
+        (without_full a.id rows e)
     go action.SetFalse s = absurd (true≢false (sym s))
     go action.Count s = absurd (true≢false (sym s))
     go action.Help s = e
@@ -154,7 +159,8 @@ used_full again a (v ∷ vs) rows s f e = go (action_of a) s
     go action.Set s = with_full a.id (reading_by a) CommandLine (v ∷ vs) (without a.id rows) refl
         (without_full a.id rows e)
     go action.Append s = absurd (true≢false (sym s))
-    go action.SetTrue s = absurd (true≢false (sym s))
+    go action.SetTrue s = with_full a.id (reading_by a) CommandLine (v ∷ vs) (without a.id rows) refl
+        (without_full a.id rows e)
     go action.SetFalse s = absurd (true≢false (sym s))
     go action.Count s = absurd (true≢false (sym s))
     go action.Help s = e
@@ -443,17 +449,18 @@ leaf x = built_leaf (inherited above (order_app x).top)
 abbrev help_leaf : Shape
 help_leaf = built_leaf (inherited (record above { disable_help_subcommand = false }) help_shape)
 
--- a subcommand of this name, with an option that has to be given and perhaps one that may be
-abbrev leaf_of : Text → Given → Option Given → Shape
-leaf_of name needs takes =
-    built_leaf (inherited above (with_option false takes (with_option true (Some needs) (new_app name))).top)
+-- a subcommand of this name, with an option that has to be given, and perhaps one and a flag that may be
+abbrev leaf_of : Text → Given → Option Given → Option Given → Shape
+leaf_of name needs takes flag =
+    built_leaf (inherited above (with_flag flag
+    (with_option false takes (with_option true (Some needs) (new_app name)))).top)
 
 -- where its level passes, the one that has to be given has a value
-one_given : (name : Text) (needs : Given) (takes : Option Given) (words : List Text)
-    → level_fault (leaf_of name needs takes) [] nothing_held words false [] ≡ []
-    → is_some (first_of (option_name needs) (rows_after (leaf_of name needs takes).rules [] words)) ≡ true
-one_given name needs None words f =
-    let s = leaf_of name needs None in
+one_given : (name : Text) (needs : Given) (words : List Text)
+    → level_fault (leaf_of name needs None None) [] nothing_held words false [] ≡ []
+    → is_some (first_of (option_name needs) (rows_after (leaf_of name needs None None).rules [] words)) ≡ true
+one_given name needs words f =
+    let s = leaf_of name needs None None in
     let p = level_passes s [] words false [] f in
     let fine = walk_fine s refl [] words (walk_from nothing_held) p.0 (refl, refl) in
     let rows = rows_after s.rules [] words in
@@ -465,31 +472,40 @@ one_given name needs None words f =
     go : (a b : Bool) → check_kinds false false (not a || ((false && not b) || false)) ≡ [] → a ≡ true
     go true b f = refl
     go false b f = cc
-one_given name needs (Some takes) words f =
-    let s = leaf_of name needs (Some takes) in
+
+-- so where there are one and a flag that may be given
+one_of_three : (name : Text) (needs takes flag : Given) (words : List Text)
+    → level_fault (leaf_of name needs (Some takes) (Some flag)) [] nothing_held words false [] ≡ []
+    → is_some (first_of (option_name needs) (rows_after (leaf_of name needs (Some takes) (Some flag)).rules [] words))
+    ≡ true
+one_of_three name needs takes flag words f =
+    let s = leaf_of name needs (Some takes) (Some flag) in
     let p = level_passes s [] words false [] f in
     let fine = walk_fine s refl [] words (walk_from nothing_held) p.0 (refl, refl) in
     let rows = rows_after s.rules [] words in
     let full : AreFull rows =
     defaults_full s.rules _ (settled_full s refl (walk s.rules [] nothing_held words).held p.2 fine.0) in
     given_first (option_name needs) rows
-    (go (is_given (option_name needs) rows) (is_given (option_name takes) rows) (is_given (codes "help") rows) p.3)
+    (go (is_given (option_name needs) rows) (is_given (option_name takes) rows) (is_given (option_name flag) rows)
+    (is_given (codes "help") rows) p.3)
     full
   where
-    go : (a c b : Bool) → check_kinds false false (not a || ((false && not c) || ((false && not b) || false))) ≡ []
+    go : (a c d b : Bool)
+        → check_kinds false false (not a || ((false && not c) || ((false && not d) || ((false && not b) || false))))
+        ≡ []
         → a ≡ true
-    go true c b f = refl
-    go false c b f = cc
+    go true c d b f = refl
+    go false c d b f = cc
 
 -- a subcommand whose level passes has the value of the option that it has to be given
 option_given : (x : Subcommand) (words : List Text) → level_fault (leaf x) [] nothing_held words false [] ≡ []
     → is_some (needed_in (needs_of x) (rows_after (leaf x).rules [] words)) ≡ true
-option_given Report words f = one_given (codes "report") Originators None words f
-option_given Migrate words f = one_given (codes "migrate") Originators None words f
-option_given Check words f = one_given (codes "check") Config (takes_of Check) words f
-option_given Simulate words f = one_given (codes "simulate") Config None words f
-option_given Play words f = one_given (codes "play") Config None words f
-option_given Run words f = one_given (codes "run") Config None words f
+option_given Report words f = one_given (codes "report") Originators words f
+option_given Migrate words f = one_given (codes "migrate") Originators words f
+option_given Check words f = one_of_three (codes "check") Config Script ForRun words f
+option_given Simulate words f = one_given (codes "simulate") Config words f
+option_given Play words f = one_given (codes "play") Config words f
+option_given Run words f = one_given (codes "run") Config words f
 option_given Version words f = refl
 
 -- each subcommand's name names it
@@ -503,8 +519,8 @@ names_it Run = refl
 names_it Version = refl
 
 -- an order's parts
-abbrev pub the_parts : Subcommand → Option Text → Text → Parts
-the_parts s more text = (s, text, more)
+abbrev pub the_parts : Subcommand → Option Text → Bool → Text → Parts
+the_parts s more flagged text = (s, text, more, flagged)
 
 abbrev pub found_as : Text → List Row → Option (Text × List Row)
 found_as name rows = Some (name, rows)
@@ -514,7 +530,8 @@ order_is_there : (x : Subcommand) (rows : List Row) → is_some (needed_in (need
 order_is_there x rows has = rw (names_it x) (go (needed_in (needs_of x) rows) has)
   where
     go : (o : Option Text) → is_some o ≡ true
-        → is_some {T = Parts} (option_and_then (λ (text : Text). Some (x, text, given_in (takes_of x) rows)) o) ≡ true
+        → is_some {T = Parts} (option_and_then
+        (λ (text : Text). Some (x, text, given_in (takes_of x) rows, is_flagged (flag_of x) rows)) o) ≡ true
     go None h = absurd (true≢false (sym h))
     go (Some text) h = refl
 
@@ -587,18 +604,25 @@ not_none words found f same none =
 -- ---- the order at the subcommand that was used
 
 pub order_found : (all : Option (Text × List Row)) (name : Text) (rows : List Row) (s : Subcommand)
-    (o more : Option Text) → all ≡ found_as name rows → Some s ≡ named name → o ≡ needed_in (needs_of s) rows
-    → more ≡ given_in (takes_of s) rows → option_map (the_parts s more) o ≡ order_in all
-order_found all name rows s o more is found text besides =
-    go o more ∙ ap (λ (m : Option Text). option_and_then (λ (text : Text). Some (the_parts s m text)) o) besides
+    (o more : Option Text) (flagged : Bool) → all ≡ found_as name rows → Some s ≡ named name → o
+    ≡ needed_in (needs_of s) rows
+    → more ≡ given_in (takes_of s) rows → flagged ≡ is_flagged (flag_of s) rows
+    → option_map (the_parts s more flagged) o ≡ order_in all
+order_found all name rows s o more flagged is found text besides flags =
+    go o more flagged ∙ ap (λ (m : Option Text). option_and_then (λ (text : Text). Some (the_parts s m flagged text))
+    o) besides
+    ∙ ap (λ (b : Bool). option_and_then (λ (text : Text). Some (the_parts s (given_in (takes_of s) rows) b text)) o)
+    flags
     ∙ ap (λ (t : Option Text).
-    option_and_then (λ (text : Text). Some (the_parts s (given_in (takes_of s) rows) text)) t) text
+    option_and_then (λ (text : Text). Some
+    (the_parts s (given_in (takes_of s) rows) (is_flagged (flag_of s) rows) text)) t) text
     ∙ ap (option_and_then (λ (x : Subcommand).
-    option_and_then (λ (text : Text). Some (the_parts x (given_in (takes_of x) rows) text))
+    option_and_then (λ (text : Text). Some
+    (the_parts x (given_in (takes_of x) rows) (is_flagged (flag_of x) rows) text))
     (needed_in (needs_of x) rows))) found
     ∙ ap order_in (sym is)
   where
-    go : (o more : Option Text) → option_map (the_parts s more) o
-        ≡ option_and_then (λ (text : Text). Some (the_parts s more text)) o
-    go None more = refl
-    go (Some text) more = refl
+    go : (o more : Option Text) (flagged : Bool) → option_map (the_parts s more flagged) o
+        ≡ option_and_then (λ (text : Text). Some (the_parts s more flagged text)) o
+    go None more flagged = refl
+    go (Some text) more flagged = refl

@@ -1,18 +1,19 @@
 -- The program's words, as `clap` reads them.
 use Rattle.std.specs.Prelude.{◌≡◌, ◌≢◌, ℕ, ◌+◌, ◌⊎◌, Bool, true, false, List, [], ◌∷◌, ◌++◌, codes, find, Option, Some}
 use Rattle.std.specs.Prelude.{None, option_map, Result, Ok, Err, OnOk, IfErr}
+use Rattle.std.specs.Option.{option_map_or}
 use Rattle.std.specs.Str.{bytes_eq}
 use Rattle.ether_wire.specs.Spelling.{◌>>=◌}
 use Rattle.clap.specs.Words.{App, Row, Rule, Text, first_of, new_app, new_rule, subcommand_of, subcommand_rows_of}
 use Rattle.clap.specs.Words.{with_subcommand, fault_of, IsAmong, kind_of}
-use Rattle.clap.specs.declared.builder.ArgAction.TheVariants.{Set}
+use Rattle.clap.specs.declared.builder.ArgAction.TheVariants.{Set, SetTrue}
 use Rattle.clap.specs.declared.error.Error.{Error}
 use Rattle.clap.specs.declared.error.kind.ErrorKind.TheVariants.{OutOfMemory}
 use Rattle.clap.specs.declared.parser.matches.ArgMatches.{ArgMatches}
 use Rattle.ev_words.specs.declared.words.Subcommand.{Subcommand}
 use Rattle.ev_words.specs.declared.words.Subcommand.TheVariants.{Report, Migrate, Check, Simulate, Play, Run, Version}
 use Rattle.ev_words.specs.declared.words.Given.{Given}
-use Rattle.ev_words.specs.declared.words.Given.TheVariants.{Originators, Config, Script}
+use Rattle.ev_words.specs.declared.words.Given.TheVariants.{Originators, Config, Script, ForRun}
 use Rattle.ev_words.specs.declared.words.Order.{Order}
 use Rattle.ev_words.specs.declared.words.ClapParser.{ClapParser}
 use Rattle.ev_words.specs.declared.words.Refusal.{Refusal}
@@ -36,6 +37,7 @@ abbrev pub option_name : Given → Text
 option_name Originators = codes "originators"
 option_name Config = codes "config"
 option_name Script = codes "script"
+option_name ForRun = codes "run"
 
 -- the option that it has to be given
 abbrev pub needs_of : Subcommand → Option Given
@@ -57,6 +59,16 @@ takes_of Play = None
 takes_of Run = None
 takes_of Version = None
 
+-- the flag that it may be given
+abbrev pub flag_of : Subcommand → Option Given
+flag_of Report = None
+flag_of Migrate = None
+flag_of Check = Some ForRun
+flag_of Simulate = None
+flag_of Play = None
+flag_of Run = None
+flag_of Version = None
+
 -- ---- the command
 
 -- `--NAME VALUE`, which has to be there or may be
@@ -72,9 +84,21 @@ abbrev pub with_option : Bool → Option Given → App → App
 with_option is_required option a =
     record a { top = record a.top { rules = a.top.rules ++ option_rules is_required option } }
 
+-- `--NAME`, which may be there
+abbrev pub flag_rule : Text → Rule
+flag_rule name = record (new_rule name) { long = Some name; action = Some SetTrue }
+
+abbrev pub flag_rules : Option Given → List Rule
+flag_rules None = []
+flag_rules (Some flag) = flag_rule (option_name flag) ∷ []
+
+abbrev pub with_flag : Option Given → App → App
+with_flag flag a = record a { top = record a.top { rules = a.top.rules ++ flag_rules flag } }
+
 -- a subcommand
 abbrev pub order_app : Subcommand → App
-order_app s = with_option false (takes_of s) (with_option true (needs_of s) (new_app (name_of s)))
+order_app s =
+    with_flag (flag_of s) (with_option false (takes_of s) (with_option true (needs_of s) (new_app (name_of s))))
 
 abbrev pub with_subcommands : App → List Subcommand → App
 with_subcommands a [] = a
@@ -101,9 +125,13 @@ abbrev pub given_in : Option Given → List Row → Option Text
 given_in None rows = None
 given_in (Some option) rows = first_of (option_name option) rows
 
--- a subcommand, the text of what it has to be given, and of what it may be given
+-- whether a flag is among the matches
+abbrev pub is_flagged : Option Given → List Row → Bool
+is_flagged flag rows = option_map_or (λ text. bytes_eq text (codes "true")) (given_in flag rows) false
+
+-- a subcommand, the text of what it has to be given, and of what it may be given, and whether its flag was
 abbrev pub Parts : Type 0
-Parts = Subcommand × Text × Option Text
+Parts = Subcommand × Text × Option Text × Bool
 
 -- the subcommand of this name, with its options' texts among the matches
 abbrev pub order_in : Option (Text × List Row) → Option Parts
@@ -111,10 +139,10 @@ order_in found = do
   f ← found
   s ← named f.0
   text ← needed_in (needs_of s) f.1
-  Some (s, text, given_in (takes_of s) f.1)
+  Some (s, text, given_in (takes_of s) f.1, is_flagged (flag_of s) f.1)
 
 abbrev pub parts_of : Order → Parts
-parts_of order = (order.subcommand, order.value.now, option_map (λ text. text.now) order.more)
+parts_of order = (order.subcommand, order.value.now, option_map (λ text. text.now) order.more, order.is_for_run)
 
 -- the words have no fault, and are this order
 abbrev pub Spells : List Text → Parts → Type 0

@@ -2,7 +2,7 @@
 ghost use Rattle.std.specs.Prelude.{◌≡◌, ◌≢◌, ◌+◌, ◌<◌, ◌^◌, map, string_bytes, IfOk, OnOk, OnErr, ℕ, Option, option_map, false};
 ghost use Rattle.clap.specs.Words.{app_of, found_of, kind_of, rows_of, rule_of, subcommand_rows_of, with_subcommand};
 ghost use Rattle.clap.specs.declared.builder.command.Command.TheViews.{out-Command};
-ghost use Rattle.ev_words.specs.Words.{name_of, option_name, needs_of, takes_of, named, needed_in, given_in, order_in, parts_of, IsAnswer, Parses, Orders, parser_refusals, program, order_app, option_rule, with_option};
+ghost use Rattle.ev_words.specs.Words.{name_of, option_name, needs_of, takes_of, flag_of, named, needed_in, given_in, is_flagged, order_in, parts_of, IsAnswer, Parses, Orders, parser_refusals, program, order_app, option_rule, with_option, flag_rule, with_flag};
 
 use clap::error::ErrorKind;
 use clap::{Arg, ArgAction, ArgMatches, Command, Error};
@@ -15,7 +15,7 @@ pub enum Subcommand {
     Report,
     /// `evpnd migrate --originators LIST`
     Migrate,
-    /// `evpnd check --config FILE`, or `evpnd check --config FILE --script FILE`
+    /// `evpnd check --config FILE`, perhaps with `--script FILE`, with `--run`
     Check,
     /// `evpnd simulate --config FILE`
     Simulate,
@@ -36,6 +36,8 @@ pub(crate) enum Given {
     Config,
     /// `--script FILE`
     Script,
+    /// `--run`
+    ForRun,
 }
 
 /// What the program is to do.
@@ -46,6 +48,8 @@ pub struct Order<'a> {
     pub value: &'a str,
     /// The value of the one that it may be given besides, where it was.
     pub more: Option<&'a str>,
+    /// Whether the flag `--run` was given.
+    pub is_for_run: bool,
 }
 
 /// Why the words are no order.
@@ -92,6 +96,16 @@ impl Subcommand {
     {
         match self {
             Subcommand::Check => Some(Given::Script),
+            _ => None,
+        }
+    }
+
+    /// The flag that it may be given, if there is one.
+    fn flag(self) -> Option<Given>
+        ensures { result ≡ flag_of self }
+    {
+        match self {
+            Subcommand::Check => Some(Given::ForRun),
             _ => None,
         }
     }
@@ -152,19 +166,24 @@ Reads the configuration in FILE, as docs/configuration.md describes it; standard
 If it is right, standard output has how many edges, ports and VNIs it has. Else standard error has
 where its first fault is, what stands there and what is allowed.
 
+With --run it is checked whether it can be run: each port needs `local` and `remote`, and no two
+sockets may hinder each other. Standard error has what hinders a run. If nothing does, standard
+output has how many threads and sockets it takes, and about how much memory.
+
 Where it is right and --script names a script, that is read too, and nothing of it is run. Standard
 error has a line for each of its lines that `simulate` would refuse: FILE:LINE: and why. If there is
 none, standard output has how many lines it has.
 
 Status, the greatest that applies:
-  0  the configuration is right, and so is the script
+  0  the configuration is right, or right for a run, and so is the script
   1  a line of the script is no command
-  2  the configuration has a fault; or the words are wrong, or ask for help
+  2  the configuration has a fault, or can't be run; or the words are wrong, or ask for help
   3  memory was refused
   4  a FILE can't be read, or writing failed
 
 Example:
   evpnd check --config fabric.toml
+  evpnd check --config fabric.toml --run
   evpnd check --config fabric.toml --script story"
             }
             Subcommand::Simulate => {
@@ -243,6 +262,7 @@ impl Given {
             Given::Originators => "originators",
             Given::Config => "config",
             Given::Script => "script",
+            Given::ForRun => "run",
         }
     }
 
@@ -251,6 +271,7 @@ impl Given {
         match self {
             Given::Originators => "LIST",
             Given::Config | Given::Script => "FILE",
+            Given::ForRun => "",
         }
     }
 
@@ -260,6 +281,7 @@ impl Given {
             Given::Originators => "1 to 64 different IPv4 addresses with commas between them",
             Given::Config => "The path of a configuration, a TOML document",
             Given::Script => "The path of a script, whose lines are checked too",
+            Given::ForRun => "Check what `run` needs too, and tell what it takes at its beginning",
         }
     }
 }
@@ -323,6 +345,33 @@ fn with_option<'a>(
     }
 }
 
+/// A command with a flag more, if there is one.
+fn with_flag<'a>(
+    alloc: Global,
+    command: Command<'a>,
+    flag: Option<Given>,
+) -> Result<Command<'a>, AllocError>
+    requires { (out-Command command).has_globals ≡ false }
+    ensures app { IfOk result (λ c. app_of c ≡ with_flag flag (app_of command.entry)) }
+    ensures local { IfOk result (λ c. (out-Command c).has_globals ≡ false) }
+{
+    match flag {
+        None => Ok(command),
+        Some(flag) => command.arg(flag_arg(alloc, flag)),
+    }
+}
+
+/// A flag.
+fn flag_arg<'a>(alloc: Global, flag: Given) -> Arg<'a>
+    ensures rule { rule_of result ≡ flag_rule (option_name flag) }
+    ensures local { result.global ≡ false }
+{
+    Arg::new(alloc, flag.name())
+        .long(flag.name())
+        .action(ArgAction::SetTrue)
+        .help(flag.value_help())
+}
+
 /// A subcommand with its options.
 fn order_command<'a>(alloc: Global, subcommand: Subcommand) -> Result<Command<'a>, AllocError>
     ensures app { IfOk result (λ c. app_of c ≡ order_app subcommand) }
@@ -332,7 +381,8 @@ fn order_command<'a>(alloc: Global, subcommand: Subcommand) -> Result<Command<'a
         .about(subcommand.about())
         .after_help(subcommand.help());
     let needing = with_option(alloc, command, subcommand.needs(), true)?;
-    with_option(alloc, needing, subcommand.takes(), false)
+    let taking = with_option(alloc, needing, subcommand.takes(), false)?;
+    with_flag(alloc, taking, subcommand.flag())
 }
 
 /// What the program does, and what help tells of all subcommands.
@@ -490,6 +540,16 @@ fn given_in<'a>(option: Option<Given>, matches: &ArgMatches<'a>) -> Option<&'a s
     }
 }
 
+/// Whether the flag that may be there is.
+fn is_flagged<'a>(flag: Option<Given>, matches: &ArgMatches<'a>) -> bool
+    ensures { result ≡ is_flagged flag (rows_of (found_of matches.now)) }
+{
+    match given_in(flag, matches) {
+        Some(text) => text == "true",
+        None => false,
+    }
+}
+
 /// The order at the subcommand that was used.
 fn order_in<'a>(matches: &ArgMatches<'a>) -> Option<Order<'a>>
     ensures { option_map parts_of result ≡ order_in (subcommand_rows_of matches.now) }
@@ -498,9 +558,11 @@ fn order_in<'a>(matches: &ArgMatches<'a>) -> Option<Order<'a>>
     let subcommand = named(name)?;
     let value = needed_in(subcommand.needs(), inner)?;
     let more = given_in(subcommand.takes(), inner);
+    let is_for_run = is_flagged(subcommand.flag(), inner);
     Some(Order {
         subcommand,
         value,
         more,
+        is_for_run,
     })
 }

@@ -1,6 +1,6 @@
 -- A script that is looked at, behind a configuration that is checked.
-use Rattle.std.proofs.Common.{◌≡◌, ◌⊎◌, inl, inr, ℕ, ◌+◌, Bool, true, false, cond, not, ◌||◌, ◌==◌, length, Result, Ok}
-use Rattle.std.proofs.Common.{Err, is_ok, refl, sym, ap, subst, ◌∙◌, arith}
+use Rattle.std.proofs.Common.{◌≡◌, ◌⊎◌, inl, inr, ℕ, ◌+◌, Bool, true, false, cond, not, ◌||◌, ◌==◌, List, [], ◌∷◌, ◌++◌}
+use Rattle.std.proofs.Common.{length, MatchBool, Result, Ok, Err, is_ok, refl, sym, ap, subst, ◌∙◌, arith}
 use Rattle.std.proofs.lemmas.Bool.Decides.{nat_tests}
 use Rattle.ether_wire.specs.declared.ends.Device.{Device}
 use Rattle.ether_wire.specs.Ends.{End, Source, IsOpen, Puts}
@@ -16,7 +16,11 @@ use Rattle.ev_script.specs.Faults.{faults_text, ChecksLines}
 use Rattle.evpnd.specs.declared.files.Unread.{Unread}
 use Rattle.evpnd.specs.declared.files.Named.TheVariants.{Script}
 use Rattle.evpnd.specs.Files.{Text, Shelf, HasRoom, IsTextOf, unread_text}
-use Rattle.evpnd.specs.Checks.{Desk, desk, OfFile, Checks}
+use Rattle.ev_run.specs.declared.obstacles.Obstacle.{Obstacle}
+use Rattle.ev_run.specs.Needs.{needs_of, needs_text}
+use Rattle.ev_run.specs.Obstacles.{obstacles_of}
+use Rattle.evpnd.specs.declared.check.Purpose.{Purpose}
+use Rattle.evpnd.specs.Checks.{Desk, desk, OfFile, Sums, TellsObstacles, SumsRun, Checks}
 use Rattle.evpnd.specs.Scripts.{lines_text, Looks, OfScript, Behind}
 use Rattle.evpnd.proofs.Filed.{holds_put}
 
@@ -95,28 +99,50 @@ pub record IsReady (s : Shelf) (out notes : End) : Type 0 where
   pub out_open : IsOpen out
   pub notes_open : IsOpen notes
 
-checked_ready : (found : Result Config ConfigRefusal) (s : Shelf) (input : Source) (out out' notes notes' : End)
-    (status : ℕ) → Checks found (devices input out notes) (devices input out' notes') status
+checked_ready : (purpose : Purpose) (found : Result Config ConfigRefusal) (s : Shelf) (input : Source)
+    (out out' notes notes' : End)
+    (status : ℕ) → Checks purpose found (devices input out notes) (devices input out' notes') status
     → status ≡ 0 → HasRoom s → IsOpen out → IsOpen notes → IsReady s out' notes'
-checked_ready (Ok config) s input out out' notes notes' status h done room o n =
-    let kept = subst (λ (e : End). IsOpen e) (sym h.1) n in
-    record { has_room = room; out_open = open_kept out out' h.2.0 status h.2.1 h.2.2 done o; notes_open = kept }
-checked_ready (Err (refusal.Key key)) s input out out' notes notes' status h done room o n =
+checked_ready purpose (Ok config) s input out out' notes notes' status h done room o n = go purpose.is_run h.1
+  where
+    open_behind : (text : Text) → notes' ≡ notes → Holds out out' text
+        → ◌≡◌ {A = ℕ} status (cond (has_failed out out') 4 0)
+        → IsReady s out' notes'
+    open_behind text same h is =
+        record {
+          has_room = room;
+          out_open = open_kept out out' text status h is done o;
+          notes_open = subst
+              (λ (e : End). IsOpen e) (sym same) n;
+        }
+
+    told : (found : List Obstacle) → TellsObstacles found (needs_of config.edges.items) out out' notes notes' status
+        → IsReady s out' notes'
+    told [] t = open_behind (t.1.0 ++ needs_text (needs_of config.edges.items)) t.0 t.1.1 t.1.2
+    told (one ∷ more) t = absurd (two_or_four (has_failed notes notes') status t.1.status_is done)
+
+    go : (b : Bool) → MatchBool b (SumsRun purpose.most config out out' notes notes' status)
+        ((notes' ≡ notes) × Sums out out' status) → IsReady s out' notes'
+    go true (inl t) = told (obstacles_of config.edges.items config.links.items purpose.most) t
+    go true (inr m) = let three = m.2 in absurd (omega (arith, three, done))
+    go false p = open_behind p.1.0 p.0 p.1.1 p.1.2
+checked_ready purpose (Err (refusal.Key key)) s input out out' notes notes' status h done room o n =
     absurd (two_or_four (has_failed notes notes') status h.2.1.status_is done)
-checked_ready (Err refusal.Text) s input out out' notes notes' status h done room o n =
+checked_ready purpose (Err refusal.Text) s input out out' notes notes' status h done room o n =
     absurd (two_or_four (has_failed notes notes') status h.2.1.status_is done)
-checked_ready (Err refusal.NoMemory) s input out out' notes notes' status h done room o n =
+checked_ready purpose (Err refusal.NoMemory) s input out out' notes notes' status h done room o n =
     let three = h.1 in absurd (omega (arith, three, done))
 
-pub ready : (path : Text) (s s' : Shelf) (input : Source) (out out' notes notes' : End) (status : ℕ)
-    → OfFile false Checks path (desk s (devices input out notes)) (desk s' (devices input out' notes')) status
+pub ready : (purpose : Purpose) (path : Text) (s s' : Shelf) (input : Source) (out out' notes notes' : End) (status : ℕ)
+    → OfFile purpose.is_run (Checks purpose) path (desk s (devices input out notes))
+    (desk s' (devices input out' notes')) status
     → HasRoom s → IsOpen out → IsOpen notes → status ≡ 0 → IsReady s' out' notes'
-ready path s s' input out out' notes notes' status (inl h) room o n done =
+ready purpose path s s' input out out' notes notes' status (inl h) room o n done =
     let three = h.status_is in absurd (omega (arith, three, done))
-ready path s s' input out out' notes notes' status (inr (inl h)) room o n done =
+ready purpose path s s' input out out' notes notes' status (inr (inl h)) room o n done =
     let four = h.status_is in absurd (omega (arith, four, done))
-ready path s s' input out out' notes notes' status (inr (inr r)) room o n done =
-    checked_ready r.found s' input out out' notes notes' status r.used done
+ready purpose path s s' input out out' notes notes' status (inr (inr r)) room o n done =
+    checked_ready purpose r.found s' input out out' notes notes' status r.used done
     (subst (λ (x : Shelf). HasRoom x) (sym r.shelf_kept) room) o n
 
 pub is_zero : (n : ℕ) → (n == 0) ≡ true → n ≡ 0

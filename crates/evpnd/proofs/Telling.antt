@@ -1,8 +1,9 @@
 -- What is told of the words.
-use Rattle.std.proofs.Common.{◌≡◌, ◌≢◌, inl, inr, ℕ, ◌+◌, true, false, cond, List, [], ◌∷◌, Option, Result, Ok, Err}
+use Rattle.std.proofs.Common.{◌≡◌, ◌≢◌, inl, inr, ℕ, ◌+◌, true, false, cond, List, [], ◌∷◌, ◌++◌, Result, Ok, Err}
 use Rattle.std.proofs.Common.{is_ok, refl, ap, ◌∙◌, arith}
 use Rattle.ether_wire.specs.declared.ends.Device.{Device}
-use Rattle.ether_wire.specs.Ends.{End, Puts}
+use Rattle.ether_wire.specs.Ends.{End, Puts, with_text}
+use Rattle.ether_wire.proofs.Appending.{with_text_twice}
 use Rattle.clap.specs.Words.{IsAmong, fault_of}
 use Rattle.clap.specs.Kinds.{Kinds}
 use Rattle.clap.specs.declared.error.kind.ErrorKind.{ErrorKind}
@@ -10,9 +11,9 @@ use Rattle.ev_words.specs.Words.{program}
 use Rattle.ev_report.specs.Originators.{Text}
 use Rattle.ev_report.specs.Ends.{Devices}
 use Rattle.evpnd.specs.Files.{Shelf}
-use Rattle.evpnd.specs.declared.streams.Stream.{Stream}
+use Rattle.evpnd.specs.declared.host.Descriptors.{Descriptors}
 use Rattle.ev_report.proofs.Told.{failed_put}
-use Rattle.evpnd.specs.Checks.{desk, Sums}
+use Rattle.evpnd.specs.Checks.{desk, Sums, SumsWith}
 use Rattle.evpnd.specs.Program.{world, TellsFault, RunsWords}
 
 -- a text was put on the output
@@ -29,22 +30,46 @@ sums_put a b (Err d) text status h is = (
   is ∙ failed_put a b (Err d) text 0 h false refl,
 )
 
+-- a text was put, and behind it another one
+pub put_behind : (a b c : End) (text more : Text) (r : Result (Unit {0}) Device) → b ≡ with_text a text
+    → Puts b c more r
+    → (t : Text) × Puts a c (t ++ more) r
+put_behind a b c text more (Ok x) first h =
+    (text, h ∙ ap (λ (e : End). with_text e more) first ∙ with_text_twice a text more)
+put_behind a b c text more (Err d) first h = (text, h ∙ ap (λ (e : End). e.failures + 1) first)
+
+pub sums_with : (more : Text) (a b : End) (r : Result (Unit {0}) Device) (status : ℕ) → (t : Text)
+    × Puts a b (t ++ more) r
+    → ◌≡◌ {A = ℕ} status (cond (is_ok r) 0 4) → SumsWith more a b status
+sums_with more a b (Ok x) status put is = (
+  put.0,
+  record { written = λ _. put.1; failures = inl (ap (λ (y : End). y.failures) put.1) },
+  is
+      ∙ failed_put a b (Ok x) (put.0 ++ more) 0 put.1 true refl,
+)
+sums_with more a b (Err d) status put is = (
+  put.0,
+  record { written = λ same. absurd (omega arith); failures = inr put.1 },
+  is
+      ∙ failed_put a b (Err d) (put.0 ++ more) 0 put.1 false refl,
+)
+
 among_some : (k : ErrorKind) (ks : Kinds) → IsAmong k ks → ks ≢ []
 among_some k [] among none = among
 among_some k (x ∷ xs) among none = cc
 
 -- words with a fault
-pub runs_refused : (closed : Option Stream) (words : List Text) (k : ErrorKind) (before middle after : ℕ)
-    (shelf : Shelf) (d d' : Devices) (status : ℕ) → IsAmong k (fault_of program words) → middle ≡ before
+pub runs_refused : (given : Descriptors) (words : List Text) (k : ErrorKind) (before middle after : ℕ) (shelf : Shelf)
+    (d d' : Devices) (status : ℕ) → IsAmong k (fault_of program words) → middle ≡ before
     → d' ≡ record d { notes = d'.notes } → TellsFault middle after d.notes d'.notes status
-    → RunsWords closed words (world before shelf d) (world after shelf d') status
-runs_refused closed words k before middle after shelf d d' status among same kept (inl starved) =
+    → RunsWords given words (world before shelf d) (world after shelf d') status
+runs_refused given words k before middle after shelf d d' status among same kept (inl starved) =
     inl (record {
       refused = starved.0 ∙ ap (λ (n : ℕ). n + 1) same;
       desk_kept = ap (λ (x : Devices). desk shelf x) (kept ∙ ap (λ (e : End). record d { notes = e }) starved.1);
       status_is = starved.2;
     })
-runs_refused closed words k before middle after shelf d d' status among same kept (inr told) =
+runs_refused given words k before middle after shelf d d' status among same kept (inr told) =
     inr (inl (record {
       faulty = among_some k (fault_of program words) among;
       refusals_kept = told.0 ∙ same;

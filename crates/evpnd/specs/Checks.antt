@@ -1,5 +1,6 @@
 -- What becomes of a configuration's file.
-use Rattle.std.specs.Prelude.{◌≡◌, ℕ, ◌+◌, ◌⊎◌, Bool, false, Result, Ok, Err, if◌then◌else◌}
+use Rattle.std.specs.Prelude.{◌≡◌, ℕ, ◌+◌, ◌⊎◌, Bool, List, [], ◌∷◌, ◌++◌, Option, Result, Ok, Err, if◌then◌else◌}
+use Rattle.std.specs.Prelude.{MatchBool}
 use Rattle.ether_wire.specs.Ends.{End, Source}
 use Rattle.ev_config.specs.declared.whole.Config.{Config}
 use Rattle.ev_config.specs.declared.config.ConfigRefusal.{ConfigRefusal}
@@ -11,6 +12,11 @@ use Rattle.evpnd.specs.Files.{Text, Shelf, IsTextOf, unread_text}
 use Rattle.ev_report.specs.Ends.{Devices, devices, has_failed, Holds}
 use Rattle.ev_report.specs.Telling.{IsTold}
 use Rattle.ev_config.specs.Config.{ConfigOf}
+use Rattle.ev_run.specs.declared.needs.Needs.{Needs}
+use Rattle.ev_run.specs.declared.obstacles.Obstacle.{Obstacle}
+use Rattle.ev_run.specs.Needs.{needs_of, needs_text}
+use Rattle.ev_run.specs.Obstacles.{obstacles_of, obstacles_text}
+use Rattle.evpnd.specs.declared.check.Purpose.{Purpose}
 
 -- the devices and the files
 pub record Desk : Type 0 where
@@ -64,20 +70,39 @@ Sums before after status = (text : Text) × Holds before after text
 abbrev pub TellsLine : End → End → ℕ → Type 0
 TellsLine before after status = (text : Text) × IsTold text before after status
 
--- A configuration is summed up on the output (0), what is wrong with it is told on the notes (2), or there was no
--- memory (3);
--- nothing was read, nothing else written.
-abbrev pub Checks : Result Config ConfigRefusal → Devices → Devices → ℕ → Type 0
-Checks (Ok config) before after status = (after.input ≡ before.input) × (after.notes ≡ before.notes)
-    × Sums before.out after.out status
-Checks (Err (refusal.Key key)) before after status = (after.input ≡ before.input) × (after.out ≡ before.out)
+-- some text and behind it this one was written on the output, or a call of it failed
+abbrev pub SumsWith : Text → End → End → ℕ → Type 0
+SumsWith more before after status =
+    (text : Text) × Holds before after (text ++ more) × (status ≡ (if has_failed before after then 4 else 0))
+
+-- Nothing hinders a run, and what it takes is written; or what hinders it is told.
+abbrev pub TellsObstacles : List Obstacle → Needs → End → End → End → End → ℕ → Type 0
+TellsObstacles [] needs out out' notes notes' status =
+    (notes' ≡ notes) × SumsWith (needs_text needs) out out' status
+TellsObstacles (one ∷ more) needs out out' notes notes' status =
+    (out' ≡ out) × IsTold (obstacles_text (one ∷ more)) notes notes' status
+
+-- so of a configuration, where there may be so many descriptors; or there was no memory for what hinders it
+abbrev pub SumsRun : Option ℕ → Config → End → End → End → End → ℕ → Type 0
+SumsRun most config out out' notes notes' status =
+    TellsObstacles (obstacles_of config.edges.items config.links.items most) (needs_of config.edges.items) out out'
+    notes notes' status
+    ⊎ ((out' ≡ out) × (notes' ≡ notes) × (status ≡ 3))
+
+-- A configuration is summed up on the output (0), for a run or for any use; what is wrong with it is told on the notes
+-- (2), or there was no memory (3); nothing was read, nothing else written.
+abbrev pub Checks : Purpose → Result Config ConfigRefusal → Devices → Devices → ℕ → Type 0
+Checks purpose (Ok config) before after status = (after.input ≡ before.input)
+    × MatchBool purpose.is_run (SumsRun purpose.most config before.out after.out before.notes after.notes status)
+    ((after.notes ≡ before.notes) × Sums before.out after.out status)
+Checks purpose (Err (refusal.Key key)) before after status = (after.input ≡ before.input) × (after.out ≡ before.out)
     × TellsLine before.notes after.notes status
-Checks (Err refusal.Text) before after status = (after.input ≡ before.input) × (after.out ≡ before.out)
+Checks purpose (Err refusal.Text) before after status = (after.input ≡ before.input) × (after.out ≡ before.out)
     × TellsLine before.notes after.notes status
-Checks (Err refusal.NoMemory) before after status = (after ≡ before) × (status ≡ 3)
+Checks purpose (Err refusal.NoMemory) before after status = (after ≡ before) × (status ≡ 3)
 
 -- what a text gives for a configuration is so checked, whatever the reader has
-abbrev pub ChecksText : Text → End → End → End → End → ℕ → Type 0
-ChecksText text out notes out' notes' status =
-    (found : Result Config ConfigRefusal) × ConfigOf false text found
-    × ((input : Source) → Checks found (devices input out notes) (devices input out' notes') status)
+abbrev pub ChecksText : Purpose → Text → End → End → End → End → ℕ → Type 0
+ChecksText purpose text out notes out' notes' status =
+    (found : Result Config ConfigRefusal) × ConfigOf purpose.is_run text found
+    × ((input : Source) → Checks purpose found (devices input out notes) (devices input out' notes') status)

@@ -1,5 +1,5 @@
 -- A run of the program, from its words to its status.
-use Rattle.std.specs.Prelude.{◌≡◌, ◌≢◌, ℕ, ◌+◌, ◌⊎◌, true, false, List, [], codes, map, string_bytes, Option}
+use Rattle.std.specs.Prelude.{◌≡◌, ◌≢◌, ℕ, ◌+◌, ◌⊎◌, Bool, true, false, List, [], codes, map, string_bytes, Option}
 use Rattle.ether_wire.specs.Ends.{End}
 use Rattle.clap.specs.Words.{fault_of}
 use Rattle.evpnd.specs.declared.program.Line.{Line}
@@ -19,6 +19,8 @@ use Rattle.ev_report.specs.Runs.{Reports}
 use Rattle.ev_report.specs.Migrations.{Migrates}
 use Rattle.evpnd.specs.Used.{SimulatesFound, RunsFound}
 use Rattle.evpnd.specs.declared.streams.Stream.{Stream}
+use Rattle.evpnd.specs.declared.host.Descriptors.{Descriptors}
+use Rattle.evpnd.specs.declared.check.Purpose.{Purpose}
 use Rattle.evpnd.specs.Streams.{Unclosed}
 use Rattle.ev_report.specs.Failures.{failures_of, TellsFailed}
 
@@ -48,27 +50,33 @@ not_text = codes "error: a word isn't UTF-8\n"
 abbrev pub RunsOpen : Option Stream → Text → Desk → Desk → ℕ → Type 0
 RunsOpen closed path before after status = Unclosed (OfFile true RunsFound path) closed before after status
 
--- what each subcommand does with the value of the option that it needs, and with that of one more
-abbrev pub FollowsAs : Option Stream → Subcommand → Text → Option Text → Desk → Desk → ℕ → Type 0
-FollowsAs closed Report list more before after status = (after.shelf ≡ before.shelf)
+-- what a check is for
+abbrev pub purpose_of : Bool → Descriptors → Purpose
+purpose_of is_run descriptors = record { is_run = is_run; most = descriptors.most }
+
+-- what each subcommand does with the value of the option that it needs, with that of one more, and with its flag
+abbrev pub FollowsAs : Descriptors → Subcommand → Text → Option Text → Bool → Desk → Desk → ℕ → Type 0
+FollowsAs given Report list more flag before after status = (after.shelf ≡ before.shelf)
     × OfList Reports list before.devices after.devices status
-FollowsAs closed Migrate list more before after status = (after.shelf ≡ before.shelf)
+FollowsAs given Migrate list more flag before after status = (after.shelf ≡ before.shelf)
     × OfList Migrates list before.devices after.devices status
-FollowsAs closed Check path more before after status = ChecksAll path more before after status
-FollowsAs closed Simulate path more before after status =
-    OfFile false (SimulatesFound mode.Simulate) path before after status
-FollowsAs closed Play path more before after status = OfFile false (SimulatesFound mode.Play) path before after status
-FollowsAs closed Run path more before after status = RunsOpen closed path before after status
-FollowsAs closed Version nothing more before after status = (after.shelf ≡ before.shelf)
+FollowsAs given Check path more flag before after status = ChecksAll (purpose_of flag given) path more before after
+    status
+FollowsAs given Simulate path more flag before after status = OfFile false (SimulatesFound mode.Simulate) path before
+    after status
+FollowsAs given Play path more flag before after status = OfFile false (SimulatesFound mode.Play) path before after
+    status
+FollowsAs given Run path more flag before after status = RunsOpen given.closed path before after status
+FollowsAs given Version nothing more flag before after status = (after.shelf ≡ before.shelf)
     × TellsVersion before.devices after.devices status
 
-abbrev pub Follows : Option Stream → Parts → Desk → Desk → ℕ → Type 0
-Follows closed order before after status = FollowsAs closed order.0 order.1 order.2 before after status
+abbrev pub Follows : Descriptors → Parts → Desk → Desk → ℕ → Type 0
+Follows given order before after status = FollowsAs given order.0 order.1 order.2 order.3 before after status
 
 -- An order is followed, and then it is told whether reading or writing failed.
-pub record FollowsTelling (closed : Option Stream) (order : Parts) (before after : Desk) (status : ℕ) : Type 0 where
+pub record FollowsTelling (given : Descriptors) (order : Parts) (before after : Desk) (status : ℕ) : Type 0 where
   pub mid : Desk
-  pub follows : Follows closed order before mid status
+  pub follows : Follows given order before mid status
   pub shelf_kept : after.shelf ≡ mid.shelf
   pub told : TellsFailed (failures_of before.devices) mid.devices after.devices
 
@@ -89,21 +97,20 @@ pub record IsRefused (words : List Text) (before after : World) (status : ℕ) :
   pub told : TellsUsage text before.desk.devices after.desk.devices status
 
 -- the words are an order, and it is followed
-pub record IsFollowed (closed : Option Stream) (words : List Text) (before after : World) (status : ℕ) : Type 0 where
+pub record IsFollowed (given : Descriptors) (words : List Text) (before after : World) (status : ℕ) : Type 0 where
   pub order : Parts
   pub spells : Spells words order
   pub refusals_kept : after.refusals ≡ before.refusals
-  pub follows : FollowsTelling closed order before.desk after.desk status
+  pub follows : FollowsTelling given order before.desk after.desk status
 
-abbrev pub RunsWords : Option Stream → List Text → World → World → ℕ → Type 0
-RunsWords closed words before after status =
-    IsStarved before after status ⊎ (IsRefused words before after status ⊎ IsFollowed closed words before after status)
+abbrev pub RunsWords : Descriptors → List Text → World → World → ℕ → Type 0
+RunsWords given words before after status =
+    IsStarved before after status ⊎ (IsRefused words before after status ⊎ IsFollowed given words before after status)
 
--- A run, on what the system gives as words, and the standard stream that was closed, if one was.
-abbrev pub RunsProgram : Option Stream → Line → World → World → ℕ → Type 0
-RunsProgram closed NoMemory before after status = (after ≡ before) × (status ≡ 3)
-RunsProgram closed NotText before after status =
+-- A run, on what the system gives as words, and what it says of descriptors.
+abbrev pub RunsProgram : Descriptors → Line → World → World → ℕ → Type 0
+RunsProgram given NoMemory before after status = (after ≡ before) × (status ≡ 3)
+RunsProgram given NotText before after status =
     (after.refusals ≡ before.refusals) × (after.desk.shelf ≡ before.desk.shelf)
     × TellsUsage not_text before.desk.devices after.desk.devices status
-RunsProgram closed (Words words) before after status = RunsWords closed (map string_bytes words.items) before after
-    status
+RunsProgram given (Words words) before after status = RunsWords given (map string_bytes words.items) before after status

@@ -9,6 +9,7 @@ use Rattle.ev_script.specs.Script.{Follows}
 use Rattle.ev_script.specs.Faults.{is_good, faults_text}
 use Rattle.evpnd.specs.declared.files.Named.TheVariants.{Script}
 use Rattle.evpnd.specs.Files.{Text, IsTextOf}
+use Rattle.evpnd.specs.declared.check.Purpose.{Purpose}
 use Rattle.evpnd.specs.Checks.{Desk, IsRefusedText, IsUnread, OfFile, Checks}
 
 abbrev pub lines_word : ℕ → Text
@@ -45,8 +46,9 @@ abbrev pub Behind : ℕ → Text → Desk → Desk → ℕ → Type 0
 Behind first path before after status =
     MatchBool (first == 0) (OfScript path before after status) ((after ≡ before) × (status ≡ first))
 
--- A configuration is checked, and where it is right the script too, if one was given.
-abbrev pub ChecksAll : Text → Option Text → Desk → Desk → ℕ → Type 0
-ChecksAll path None before after status = OfFile false Checks path before after status
-ChecksAll path (Some script) before after status =
-    (mid : Desk) × (first : ℕ) × OfFile false Checks path before mid first × Behind first script mid after status
+-- A configuration is checked for a purpose, and where it is right the script too, if one was given.
+abbrev pub ChecksAll : Purpose → Text → Option Text → Desk → Desk → ℕ → Type 0
+ChecksAll purpose path None before after status = OfFile purpose.is_run (Checks purpose) path before after status
+ChecksAll purpose path (Some script) before after status =
+    (mid : Desk) × (first : ℕ) × OfFile purpose.is_run (Checks purpose) path before mid first
+    × Behind first script mid after status

@@ -3,6 +3,15 @@
 use crate::streams::Stream;
 use std::alloc::Global;
 
+/// What the system says of descriptors when the program begins.
+#[derive(Clone, Copy, Debug)]
+pub(crate) struct Descriptors {
+    /// The first standard stream that is closed, if one is.
+    pub(crate) closed: Option<Stream>,
+    /// How many there may be, where that is told.
+    pub(crate) most: Option<u64>,
+}
+
 /// What the system gives.
 #[derive(Drop)]
 pub(crate) struct Host<'a, H> {
@@ -10,6 +19,6 @@ pub(crate) struct Host<'a, H> {
     pub(crate) rt: &'a H,
     /// Memory.
     pub(crate) alloc: Global,
-    /// The first standard stream that was closed when the program began, if one was.
-    pub(crate) closed: Option<Stream>,
+    /// What it says of descriptors.
+    pub(crate) descriptors: Descriptors,
 }

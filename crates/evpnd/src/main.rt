@@ -13,18 +13,21 @@ mod streams;
 mod version;
 
 use crate::files::SystemFiles;
-use crate::host::Host;
+use crate::host::{Descriptors, Host};
 use crate::program::{Line, run};
 use crate::streams::Stream;
 use ether_wire::{Reader, Writer};
 use ev_report::Devices;
 use ev_words::ClapParser;
-use std::io;
 use std::os::fd::AsFd;
 use std::process::ExitCode;
+use std::{fs, io};
 
 fn main(rt: HostRuntime) -> ExitCode {
-    let closed = first_closed(&rt);
+    let descriptors = Descriptors {
+        closed: first_closed(&rt),
+        most: most_descriptors(&rt),
+    };
     let line = line_of(&rt);
     let mut parser = ClapParser::new(rt.alloc());
     let mut files = SystemFiles::new(&rt);
@@ -37,7 +40,7 @@ fn main(rt: HostRuntime) -> ExitCode {
     let host = Host {
         rt: &rt,
         alloc: rt.alloc(),
-        closed,
+        descriptors,
     };
     let (status, _) = run(&host, &mut parser, &line, &mut files, devices);
     ExitCode::from(status)
@@ -66,6 +69,13 @@ fn first_closed(rt: &HostRuntime) -> Option<Stream> {
         return Some(Stream::Error);
     }
     None
+}
+
+/// How many descriptors there may be, as Linux tells it in `/proc/self/limits`.
+fn most_descriptors(rt: &HostRuntime) -> Option<u64> {
+    let limits = fs::read_to_string(rt, "/proc/self/limits").ok()?;
+    let (_, line) = limits.as_str().split_once("Max open files")?;
+    line.split_ascii_whitespace().next()?.parse::<u64>().ok()
 }
 
 /// What the system gives as words.

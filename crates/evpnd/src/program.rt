@@ -9,11 +9,11 @@ ghost use Rattle.evpnd.specs.Checks.{desk};
 ghost use Rattle.evpnd.specs.Scripts.{ChecksAll};
 ghost use Rattle.evpnd.specs.Streams.{Unclosed, IsClosed};
 ghost use Rattle.ev_report.specs.Failures.{failures_of};
-ghost use Rattle.evpnd.specs.Program.{world, TellsFault, not_text, RunsOpen, FollowsAs, Follows, FollowsTelling, RunsWords, RunsProgram};
+ghost use Rattle.evpnd.specs.Program.{world, purpose_of, TellsFault, not_text, RunsOpen, FollowsAs, Follows, FollowsTelling, RunsWords, RunsProgram};
 
-use crate::check::check_all;
+use crate::check::{Purpose, Wanted, check_all};
 use crate::files::Files;
-use crate::host::Host;
+use crate::host::{Descriptors, Host};
 use crate::run_file::run_file;
 use crate::simulate::simulate;
 use crate::streams::tell_closed;
@@ -59,18 +59,34 @@ fn tell_fault<P: Parser, N: Out>(parser: &mut P, error: &Error, notes: &mut N) -
 fn check_on<F: Files, R: In, W: Out, N: Out>(
     alloc: Global,
     files: &mut F,
-    path: &str,
-    script: Option<&str>,
+    wanted: Wanted<'_>,
     devices: Devices<R, W, N>,
 ) -> (u8, Devices<R, W, N>)
     requires files { HasRoom (F.shelf files.old) }
     requires devices { AreOpen devices }
-    ensures { ChecksAll path.now (option_map (λ s. s.now) script.entry)
+    ensures { ChecksAll wanted.entry.purpose wanted.entry.path.now
+        (option_map (λ s. s.now) wanted.entry.script)
         (desk (F.shelf files.old) devices) (desk (F.shelf files.new) result.1) result.0 }
 {
     let Devices { reader, out, notes } = devices;
-    let (status, out, notes) = check_all(alloc, files, path, script, out, notes);
+    let (status, out, notes) = check_all(alloc, files, wanted, out, notes);
     (status, Devices { reader, out, notes })
+}
+
+/// What an order asks to be checked.
+fn wanted_of<'a>(descriptors: Descriptors, order: &Order<'a>) -> Wanted<'a>
+    ensures path { result.path ≡ order.now.value }
+    ensures script { result.script ≡ order.now.more }
+    ensures purpose { result.purpose ≡ purpose_of order.now.is_for_run descriptors }
+{
+    Wanted {
+        path: order.value,
+        script: order.more,
+        purpose: Purpose {
+            is_run: order.is_for_run,
+            most: descriptors.most,
+        },
+    }
 }
 
 /// Runs the edges that the file at a path configures, where no standard stream was closed: a socket
@@ -83,10 +99,10 @@ fn run_open<H: Threads + Wait + Net + Clock + Sync, F: Files, R: In, W: Out, N: 
 ) -> (u8, Devices<R, W, N>)
     requires files { HasRoom (F.shelf files.old) }
     requires devices { AreOpen devices }
-    ensures { RunsOpen host.now.closed path.now (desk (F.shelf files.old) devices)
+    ensures { RunsOpen host.now.descriptors.closed path.now (desk (F.shelf files.old) devices)
         (desk (F.shelf files.new) result.1) result.0 }
 {
-    match host.closed {
+    match host.descriptors.closed {
         None => run_file(host.rt, host.alloc, files, path, devices),
         Some(stream) => tell_closed(stream, devices),
     }
@@ -101,14 +117,16 @@ fn follow<H: Threads + Wait + Net + Clock + Sync, F: Files, R: In, W: Out, N: Ou
 ) -> (u8, Devices<R, W, N>)
     requires files { HasRoom (F.shelf files.old) }
     requires devices { AreOpen devices }
-    ensures { Follows host.now.closed (parts_of order.entry) (desk (F.shelf files.old) devices)
+    ensures { Follows host.now.descriptors (parts_of order.entry) (desk (F.shelf files.old) devices)
         (desk (F.shelf files.new) result.1) result.0 }
 {
     let alloc = host.alloc;
     match order.subcommand {
         Subcommand::Report => report_list(alloc, order.value, devices),
         Subcommand::Migrate => migrate_list(alloc, order.value, devices),
-        Subcommand::Check => check_on(alloc, files, order.value, order.more, devices),
+        Subcommand::Check => {
+            check_on(alloc, files, wanted_of(host.descriptors, &order), devices)
+        }
         Subcommand::Simulate => simulate(alloc, Mode::Simulate, files, order.value, devices),
         Subcommand::Play => simulate(alloc, Mode::Play, files, order.value, devices),
         Subcommand::Run => run_open(host, files, order.value, devices),
@@ -125,7 +143,7 @@ fn follow_telling<H: Threads + Wait + Net + Clock + Sync, F: Files, R: In, W: Ou
 ) -> (u8, Devices<R, W, N>)
     requires files { HasRoom (F.shelf files.old) }
     requires devices { AreOpen devices }
-    ensures { FollowsTelling host.now.closed (parts_of order.entry)
+    ensures { FollowsTelling host.now.descriptors (parts_of order.entry)
         (desk (F.shelf files.old) devices) (desk (F.shelf files.new) result.1) result.0 }
 {
     let before = Failures::of(&devices);
@@ -144,7 +162,7 @@ fn run_words<H: Threads + Wait + Net + Clock + Sync, P: Parser, F: Files, R: In,
     requires parser { P.refusals parser.old + 1 < 2 ^ 64 }
     requires files { HasRoom (F.shelf files.old) }
     requires devices { AreOpen devices }
-    ensures { RunsWords host.now.closed (map string_bytes words.now)
+    ensures { RunsWords host.now.descriptors (map string_bytes words.now)
         (world (P.refusals parser.old) (F.shelf files.old) devices)
         (world (P.refusals parser.new) (F.shelf files.new) result.1) result.0 }
 {
@@ -180,7 +198,7 @@ pub(crate) fn run<
     requires parser { P.refusals parser.old + 1 < 2 ^ 64 }
     requires files { HasRoom (F.shelf files.old) }
     requires devices { AreOpen devices }
-    ensures { RunsProgram host.now.closed line.now
+    ensures { RunsProgram host.now.descriptors line.now
         (world (P.refusals parser.old) (F.shelf files.old) devices)
         (world (P.refusals parser.new) (F.shelf files.new) result.1) result.0 }
 {

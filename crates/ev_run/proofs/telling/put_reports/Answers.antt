@@ -2,7 +2,7 @@ use Rattle.std.proofs.Common.{◌≡◌, ℕ, ◌+◌, ◌++◌, arith, take, sy
 use Rattle.ether_wire.specs.Ends.{End, with_text}
 use Rattle.ether_wire.proofs.Appending.{with_text_twice}
 use Rattle.ev_run.specs.RunEdges.{Ended, ended_text, reports_from}
-use Rattle.ev_run.proofs.Running.{texts_more}
+use Rattle.ev_run.proofs.Running.{each_more}
 use Rattle.ev_run.proofs.telling.put_reports.Goals as goal
 
 pub loop-place-preserved : goal.loop-place-preserved
@@ -18,4 +18,4 @@ loop-place-preserved g c =
     ∙ with_text_twice start before (ended_text (place + 1) one)
     ∙ ap (λ (n : ℕ). with_text start (before ++ ended_text n one)) next
     ∙ ap (λ (d : Ended). with_text start (before ++ ended_text (1 + place) d)) c.index-ended-place.is
-    ∙ ap (with_text start) (sym (texts_more ended_text 1 ended place one c.loop-place-test.true))
+    ∙ ap (with_text start) (sym (each_more ended_text 1 ended place one c.loop-place-test.true))

@@ -1,4 +1,4 @@
-use Rattle.std.proofs.Common.{List, ℕ, false, refl, subst}
+use Rattle.std.proofs.Common.{List, ℕ, refl, subst}
 use Rattle.std.specs.Prelude.{string_bytes}
 use Rattle.ev_report.specs.Ends.{devices}
 use Rattle.evpnd.specs.Checks.{Checks, ChecksText}
@@ -11,10 +11,11 @@ returns-in-Ok g c input =
     let notes = g.N.Out.end c.args.notes in
     let out' = g.W.Out.end c.check_text.result.1 in
     let notes' = g.N.Out.end c.check_text.result.2 in
-    let used = subst (λ (t : List ℕ). ChecksText t out notes out' notes' c.check_text.result.0) c.as_str.ensures.value
-    c.check_text.ensures in
-    of_read false Checks c.args.path.now (string_bytes c.in-Ok.text) (g.F.Files.shelf c.args.files.now)
-    (g.F.Files.shelf c.text_of.new.self)
+    let purpose = c.args.wanted.purpose in
+    let used = subst (λ (t : List ℕ). ChecksText purpose t out notes out' notes' c.check_text.result.0)
+    c.as_str.ensures.value c.check_text.ensures in
+    of_read purpose.is_run (Checks purpose) c.args.wanted.path.now (string_bytes c.in-Ok.text)
+    (g.F.Files.shelf c.args.files.now) (g.F.Files.shelf c.text_of.new.self)
     (devices input out notes) (devices input out' notes') c.check_text.result.0 c.in-Ok.ensures (
       used.0,
       used.1,
@@ -23,7 +24,8 @@ returns-in-Ok g c input =
 
 pub returns-in-Err-NoMemory : goal.returns-in-Err-NoMemory
 returns-in-Err-NoMemory g c input =
-    of_refused false Checks c.args.path.now (g.F.Files.shelf c.args.files.now) (g.F.Files.shelf c.text_of.new.self)
+    of_refused c.args.wanted.purpose.is_run (Checks c.args.wanted.purpose) c.args.wanted.path.now
+    (g.F.Files.shelf c.args.files.now) (g.F.Files.shelf c.text_of.new.self)
     (devices input (g.W.Out.end c.args.out) (g.N.Out.end c.args.notes)) 3
     (rw c.in-Err-NoMemory.field-0-is at c.in-Err-NoMemory.ensures) refl
 
@@ -32,7 +34,7 @@ returns-in-Err-Unread g c input =
     let e = g.N.Out.end c.args.notes in
     let n = g.N.Out.end c.put_unread-told.new.notes in
     let put = rw c.as_bytes.ensures.value at c.put_unread-told.ensures in
-    of_unread false Checks c.args.path.now (g.F.Files.shelf c.args.files.now) (g.F.Files.shelf c.text_of.new.self) input
-    (g.W.Out.end c.args.out)
+    of_unread c.args.wanted.purpose.is_run (Checks c.args.wanted.purpose) c.args.wanted.path.now
+    (g.F.Files.shelf c.args.files.now) (g.F.Files.shelf c.text_of.new.self) input (g.W.Out.end c.args.out)
     e n c.put_unread-told.result _ c.unread_status.result (rw c.in-Err-Unread.field-0-is at c.in-Err-Unread.ensures) put
     c.unread_status.ensures

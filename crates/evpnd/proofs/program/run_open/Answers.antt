@@ -6,7 +6,7 @@ use Rattle.evpnd.proofs.program.run_open.Goals as goal
 
 pub returns-in-Some : goal.returns-in-Some
 returns-in-Some g c =
-    let is : c.args.host.now.closed ≡ Some c.in-Some.stream = search rules in
+    let is : c.args.host.now.descriptors.closed ≡ Some c.in-Some.stream = search rules in
     let shelf = g.F.Files.shelf c.args.files.now in
     subst (λ (o : Option Stream). RunsOpen o c.args.path.now (desk shelf c.args.devices)
     (desk shelf c.tell_closed.result.1) c.tell_closed.result.0)

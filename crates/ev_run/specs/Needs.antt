@@ -1,0 +1,59 @@
+-- What a run takes at its beginning.
+use Rattle.std.specs.Prelude.{ℕ, ◌+◌, ◌-◌, ◌*◌, ◌/◌, ◌^◌, min, List, ◌++◌, length, fold, codes}
+use Rattle.std.specs.Fmt.{decimal}
+use Rattle.ev_edge.specs.declared.config.EdgeConfig.{EdgeConfig}
+use Rattle.ev_report.specs.Originators.{Text}
+use Rattle.ev_run.specs.declared.needs.Needs.{Needs}
+
+-- the ports of an edge
+abbrev pub ports_of : EdgeConfig → ℕ
+ports_of c = length c.ports.items
+
+-- two threads for each port, of which one receives and one sends, and so for the tunnel; one for the clock, one for
+-- what other edges say, and the edge's own
+abbrev pub edge_threads : EdgeConfig → ℕ
+edge_threads c = 2 * ports_of c + 5
+
+-- a socket for the tunnel, and one for each port
+abbrev pub edge_sockets : EdgeConfig → ℕ
+edge_sockets c = ports_of c + 1
+
+-- About so many octets of memory: what an edge, each thread, and each place and bucket of a learning table, of which
+-- there are at most 65536, have been seen to take.
+abbrev pub edge_memory : EdgeConfig → ℕ
+edge_memory c = (512000 + 98304 * edge_threads c) + (68 * min c.capacity 65536 + 12 * min c.buckets 65536)
+
+-- the most that is counted
+abbrev pub most : ℕ
+most = 2 ^ 64 - 1
+
+-- with one edge more
+abbrev pub with_edge : Needs → EdgeConfig → Needs
+with_edge n c = record {
+  threads = min (n.threads + edge_threads c) most;
+  sockets = min (n.sockets + edge_sockets c) most;
+  memory = min (n.memory + edge_memory c) most;
+}
+
+-- the thread that reads standard input, and what the program takes without edges
+abbrev pub alone : Needs
+alone = record { threads = 1; sockets = 0; memory = 2252800 }
+
+abbrev pub needs_of : List EdgeConfig → Needs
+needs_of edges = fold with_edge alone edges
+
+-- ---- what is told of it
+
+abbrev pub threads_text : ℕ → Text
+threads_text threads = decimal threads ++ codes " threads\n"
+
+abbrev pub sockets_text : ℕ → Text
+sockets_text sockets = decimal sockets ++ codes " UDP sockets\n"
+
+-- in MiB, of which the last one is begun
+abbrev pub memory_text : ℕ → Text
+memory_text memory = codes "about " ++ decimal (memory / 1048576 + 1) ++ codes " MiB of memory\n"
+
+-- a line each
+abbrev pub needs_text : Needs → Text
+needs_text n = threads_text n.threads ++ sockets_text n.sockets ++ memory_text n.memory

@@ -1,0 +1,144 @@
+-- What a configuration has that no run can use.
+use Rattle.std.specs.Prelude.{ℕ, ◌+◌, ◌-◌, Bool, false, ◌&&◌, ◌||◌, ◌==◌, nat_lt, if◌then◌else◌, List, [], ◌∷◌, ◌++◌}
+use Rattle.std.specs.Prelude.{length, take, codes, Option, Some, None, option_map}
+use Rattle.std.specs.Fmt.{decimal}
+use Rattle.std.specs.List.{list_any}
+use Rattle.std.specs.Option.{option_map_or}
+use Rattle.arrayvec.specs.ArrayVec.{ArrayVec}
+use Rattle.ev_edge.specs.declared.config.EdgeConfig.{EdgeConfig}
+use Rattle.ev_config.specs.declared.endpoint.Endpoint.{Endpoint}
+use Rattle.ev_config.specs.declared.endpoint.Link.{Link}
+use Rattle.ev_report.specs.Originators.{Text}
+use Rattle.ev_run.specs.declared.obstacles.End.{End}
+use Rattle.ev_run.specs.declared.obstacles.End.TheVariants.{Local, Remote}
+use Rattle.ev_run.specs.declared.obstacles.Cause.{Cause}
+use Rattle.ev_run.specs.declared.obstacles.Cause.TheVariants.{NoPort, NoHost, Tunnel, Taken}
+use Rattle.ev_run.specs.declared.obstacles.Seat.{Seat}
+use Rattle.ev_run.specs.declared.obstacles.Obstacle.{Obstacle}
+use Rattle.ev_run.specs.declared.obstacles.Obstacle.TheVariants.{Unheard, Useless, TooMany}
+use Rattle.ev_run.specs.RunEdges.{each_from, endpoint_text}
+use Rattle.ev_run.specs.Needs.{needs_of}
+
+-- ---- sockets that hinder each other
+
+-- both can't be bound: one UDP port at one address, or at all addresses (0.0.0.0)
+abbrev pub clashes : Endpoint → Endpoint → Bool
+clashes a b = a.port == b.port && (a.address == b.address || (a.address == 0 || b.address == 0))
+
+-- where an edge's tunnels are (RFC 7348)
+abbrev pub tunnel_of : EdgeConfig → Endpoint
+tunnel_of c = record { address = c.address; port = 4789 }
+
+abbrev pub is_tunnel : List EdgeConfig → Endpoint → Bool
+is_tunnel edges at = list_any (λ c. clashes (tunnel_of c) at) edges
+
+-- a port takes its frames there
+abbrev pub is_local : Endpoint → Link → Bool
+is_local at link = option_map_or (λ local. clashes local at) link.local false
+
+-- one of these edges' ports does, or one of these ports
+abbrev pub is_taken : List (ArrayVec Link) → List Link → Endpoint → Bool
+is_taken before ports at = list_any (λ links. list_any (is_local at) links.items) before || list_any (is_local at) ports
+
+-- ---- the ends of a port
+
+-- why a port can't take its frames there, given all edges, the links of the edges before its own, and of the ports
+-- before it
+abbrev pub local_cause : List EdgeConfig → List (ArrayVec Link) → List Link → Endpoint → Option Cause
+local_cause edges before ports at =
+    if at.port == 0 then Some NoPort
+    else if is_tunnel edges at then Some Tunnel else if is_taken before ports at then Some Taken else None
+
+-- why it can't send them there
+abbrev pub remote_cause : Endpoint → Option Cause
+remote_cause at = if at.port == 0 then Some NoPort else if at.address == 0 then Some NoHost else None
+
+abbrev pub useless : Seat → End → Endpoint → Option Cause → List Obstacle
+useless seat end at None = []
+useless seat end at (Some cause) = Useless seat end at cause ∷ []
+
+abbrev pub local_obstacles : List EdgeConfig → List (ArrayVec Link) → List Link → Seat → Option Endpoint → List Obstacle
+local_obstacles edges before ports seat None = []
+local_obstacles edges before ports seat (Some at) = useless seat Local at (local_cause edges before ports at)
+
+abbrev pub remote_obstacles : Seat → Option Endpoint → List Obstacle
+remote_obstacles seat None = []
+remote_obstacles seat (Some at) = useless seat Remote at (remote_cause at)
+
+-- those of a port
+abbrev pub port_obstacles : List EdgeConfig → List (ArrayVec Link) → List Link → Seat → Link → List Obstacle
+port_obstacles edges before ports seat link =
+    local_obstacles edges before ports seat link.local ++ remote_obstacles seat link.remote
+
+-- those of the port at a place of an edge, given the links of the edges before it and its own
+abbrev pub obstacles_at : List EdgeConfig → List (ArrayVec Link) → List Link → ℕ → Link → List Obstacle
+obstacles_at edges before links place link =
+    port_obstacles edges before (take place links) (record { edge = length before + 1; port = place + 1 }) link
+
+-- those of all its ports
+abbrev pub ports_obstacles : List EdgeConfig → List (ArrayVec Link) → List Link → List Obstacle
+ports_obstacles edges before links = each_from (obstacles_at edges before links) 0 links
+
+-- those of the ports of the edge at a place
+abbrev pub ports_at : List EdgeConfig → List (ArrayVec Link) → ℕ → ArrayVec Link → List Obstacle
+ports_at edges all place links = ports_obstacles edges (take place all) links.items
+
+-- those of all ports
+abbrev pub all_ports_obstacles : List EdgeConfig → List (ArrayVec Link) → List Obstacle
+all_ports_obstacles edges all = each_from (ports_at edges all) 0 all
+
+-- ---- all
+
+-- an edge whose address is 0.0.0.0: what it sends comes from another one
+abbrev pub edge_obstacles : ℕ → EdgeConfig → List Obstacle
+edge_obstacles number c = if c.address == 0 then Unheard number ∷ [] else []
+
+-- more sockets, and the three standard streams, than there may be descriptors, where that is known
+abbrev pub count_obstacles : ℕ → Option ℕ → List Obstacle
+count_obstacles sockets None = []
+count_obstacles sockets (Some most) = if nat_lt (most - 3) sockets then TooMany sockets most ∷ [] else []
+
+abbrev pub obstacles_of : List EdgeConfig → List (ArrayVec Link) → Option ℕ → List Obstacle
+obstacles_of edges all most =
+    (each_from edge_obstacles 1 edges ++ all_ports_obstacles edges all)
+    ++ count_obstacles (needs_of edges).sockets most
+
+-- ---- what is told of them
+
+abbrev pub lead_text : End → Text
+lead_text Local = codes "local is "
+lead_text Remote = codes "remote is "
+
+abbrev pub cause_text : Cause → Text
+cause_text NoPort = codes ", and UDP port 0 is none\n"
+cause_text NoHost = codes ", and address 0.0.0.0 is nobody's\n"
+cause_text Tunnel = codes ", where an edge has its tunnels\n"
+cause_text Taken = codes ", where a port before it takes its frames\n"
+
+-- `, port P: `
+abbrev pub port_text : ℕ → Text
+port_text port = codes ", port " ++ decimal port ++ codes ": "
+
+-- `edge E, port P: `
+abbrev pub seat_text : Seat → Text
+seat_text seat = codes "edge " ++ decimal seat.edge ++ port_text seat.port
+
+-- an end, and where it is
+abbrev pub end_text : End → Endpoint → Text
+end_text end at = lead_text end ++ endpoint_text at
+
+abbrev pub most_text : ℕ → Text
+most_text most = codes " sockets and 3 standard streams, allowed are " ++ decimal most ++ codes " descriptors\n"
+
+abbrev pub obstacle_text : Obstacle → Text
+obstacle_text (Unheard edge) = codes "edge " ++ decimal edge
+    ++ codes ": address is 0.0.0.0, from which no edge is heard\n"
+obstacle_text (Useless seat end at cause) = seat_text seat ++ end_text end at ++ cause_text cause
+obstacle_text (TooMany sockets most) = decimal sockets ++ most_text most
+
+-- whatever its number
+abbrev pub told_of : ℕ → Obstacle → Text
+told_of number obstacle = obstacle_text obstacle
+
+abbrev pub obstacles_text : List Obstacle → Text
+obstacles_text found = each_from told_of 0 found

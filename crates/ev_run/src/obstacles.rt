@@ -1,0 +1,330 @@
+//! What a configuration has that no run can use: sockets that can't all be bound, and addresses to
+//! which nothing can be sent.
+ghost use Rattle.std.specs.Prelude.{◌≡◌, ◌==◌, ◌||◌, ◌++◌, OnOk, IfOk};
+ghost use Rattle.std.specs.List.{list_any};
+ghost use Rattle.ev_run.specs.Obstacles.{clashes, tunnel_of, is_tunnel, is_local, local_cause, remote_cause, useless, local_obstacles, remote_obstacles, port_obstacles, ports_obstacles, all_ports_obstacles, edge_obstacles, count_obstacles, obstacles_of};
+ghost use Rattle.ev_run.specs.RunEdges.{each_from};
+
+use crate::needs::needs_of;
+use crate::run::TUNNELS;
+use arrayvec::ArrayVec;
+use ether_wire::Addr;
+use ev_config::{Config, Endpoint, Link};
+use ev_edge::EdgeConfig;
+use std::alloc::{AllocError, Global};
+
+/// An end of a port's link.
+#[derive(Clone, Copy, Debug, PartialEq, Eq)]
+pub enum End {
+    /// Where its frames are taken.
+    Local,
+    /// Where they are sent.
+    Remote,
+}
+
+/// Why an end is of no use.
+#[derive(Clone, Copy, Debug, PartialEq, Eq)]
+pub enum Cause {
+    /// Its UDP port is 0.
+    NoPort,
+    /// Its address is 0.0.0.0.
+    NoHost,
+    /// An edge has its tunnels there.
+    Tunnel,
+    /// A port before it takes its frames there.
+    Taken,
+}
+
+/// A port of an edge. Both count from 1.
+#[derive(Clone, Copy, Debug, PartialEq, Eq)]
+pub struct Seat {
+    /// The edge.
+    pub edge: u64,
+    /// The port.
+    pub port: u64,
+}
+
+/// What no run can use.
+#[derive(Clone, Copy, Debug, PartialEq, Eq, Drop)]
+pub enum Obstacle {
+    /// The address of the edge with this number is 0.0.0.0.
+    Unheard(u64),
+    /// This end of a port is of no use.
+    Useless(Seat, End, Endpoint, Cause),
+    /// There are so many sockets, and only so many descriptors.
+    TooMany(u64, u64),
+}
+
+/// What the ends of a port are compared with.
+#[derive(Clone, Copy)]
+struct Others<'a> {
+    /// All edges.
+    edges: &'a [EdgeConfig],
+    /// The links of the edges before its own.
+    before: &'a [ArrayVec<Link, 64>],
+    /// Those of the ports before it.
+    ports: &'a [Link],
+}
+
+/// Whether an address is 0.0.0.0.
+fn is_nobody(address: Addr) -> bool
+    ensures { result ≡ (address == 0) }
+{
+    address.number() == 0
+}
+
+/// Whether two sockets hinder each other: they have one UDP port, and one address or all addresses.
+fn clashes(a: &Endpoint, b: &Endpoint) -> bool
+    ensures { result ≡ clashes a.now b.now }
+{
+    a.port == b.port && (a.address == b.address || is_nobody(a.address) || is_nobody(b.address))
+}
+
+/// Where an edge has its tunnels.
+fn tunnel_of(edge: &EdgeConfig) -> Endpoint
+    ensures { result ≡ tunnel_of edge.now }
+{
+    Endpoint {
+        address: edge.address,
+        port: TUNNELS,
+    }
+}
+
+/// Whether an edge has its tunnels there.
+fn is_tunnel(edges: &[EdgeConfig], at: &Endpoint) -> bool
+    ensures { result ≡ is_tunnel edges.now at.now }
+{
+    for edge in edges {
+        if clashes(&tunnel_of(edge), at) {
+            return true;
+        }
+    }
+    false
+}
+
+/// Whether a port takes its frames there.
+fn is_local(at: &Endpoint, link: &Link) -> bool
+    ensures { result ≡ is_local at.now link.now }
+{
+    match &link.local {
+        Some(local) => clashes(local, at),
+        None => false,
+    }
+}
+
+/// Whether one of these ports does.
+fn has_local(ports: &[Link], at: &Endpoint) -> bool
+    ensures { result ≡ list_any (is_local at.now) ports.now }
+{
+    for link in ports {
+        if is_local(at, link) {
+            return true;
+        }
+    }
+    false
+}
+
+/// Whether a port of one of these edges does.
+fn is_before(before: &[ArrayVec<Link, 64>], at: &Endpoint) -> bool
+    ensures { result ≡ list_any (λ links. list_any (is_local at.now) links.items) before.now }
+{
+    for links in before {
+        if has_local(links.as_slice(), at) {
+            return true;
+        }
+    }
+    false
+}
+
+/// Why a port can't take its frames there, if it can't.
+fn local_cause(others: &Others<'_>, at: &Endpoint) -> Option<Cause>
+    ensures { result ≡ local_cause others.now.edges.now others.now.before.now others.now.ports.now
+        at.now }
+{
+    if at.port == 0 {
+        return Some(Cause::NoPort);
+    }
+    if is_tunnel(others.edges, at) {
+        return Some(Cause::Tunnel);
+    }
+    if is_before(others.before, at) || has_local(others.ports, at) {
+        return Some(Cause::Taken);
+    }
+    None
+}
+
+/// Why it can't send them there, if it can't.
+fn remote_cause(at: &Endpoint) -> Option<Cause>
+    ensures { result ≡ remote_cause at.now }
+{
+    if at.port == 0 {
+        return Some(Cause::NoPort);
+    }
+    if is_nobody(at.address) {
+        return Some(Cause::NoHost);
+    }
+    None
+}
+
+/// Adds an end that is of no use.
+fn add_useless(
+    found: &mut Vec<Obstacle>,
+    seat: Seat,
+    end: End,
+    at: Endpoint,
+    cause: Option<Cause>,
+) -> Result<(), AllocError>
+    ensures { OnOk result (found.new.items ≡ found.old.items ++ useless seat end at cause) }
+{
+    match cause {
+        None => Ok(()),
+        Some(cause) => Ok(found.push(Obstacle::Useless(seat, end, at, cause))?),
+    }
+}
+
+/// Adds where a port takes its frames, if that is of no use.
+fn add_local(
+    found: &mut Vec<Obstacle>,
+    others: &Others<'_>,
+    seat: Seat,
+    local: Option<Endpoint>,
+) -> Result<(), AllocError>
+    ensures { OnOk result (found.new.items ≡ found.old.items ++ local_obstacles
+        others.now.edges.now others.now.before.now others.now.ports.now seat local) }
+{
+    match local {
+        None => Ok(()),
+        Some(at) => {
+            let cause = local_cause(others, &at);
+            add_useless(found, seat, End::Local, at, cause)
+        }
+    }
+}
+
+/// Adds where it sends them, if that is of no use.
+fn add_remote(
+    found: &mut Vec<Obstacle>,
+    seat: Seat,
+    remote: Option<Endpoint>,
+) -> Result<(), AllocError>
+    ensures { OnOk result (found.new.items ≡ found.old.items ++ remote_obstacles seat remote) }
+{
+    match remote {
+        None => Ok(()),
+        Some(at) => {
+            let cause = remote_cause(&at);
+            add_useless(found, seat, End::Remote, at, cause)
+        }
+    }
+}
+
+/// Adds the ends of a port that are of no use.
+fn add_port(
+    found: &mut Vec<Obstacle>,
+    others: &Others<'_>,
+    seat: Seat,
+    link: &Link,
+) -> Result<(), AllocError>
+    ensures { OnOk result (found.new.items ≡ found.old.items ++ port_obstacles
+        others.now.edges.now others.now.before.now others.now.ports.now seat link.now) }
+{
+    add_local(found, others, seat, link.local)?;
+    add_remote(found, seat, link.remote)
+}
+
+/// Adds those of the ports of the edge behind these.
+fn add_ports(
+    found: &mut Vec<Obstacle>,
+    edges: &[EdgeConfig],
+    before: &[ArrayVec<Link, 64>],
+    links: &[Link],
+) -> Result<(), AllocError>
+    ensures { OnOk result (found.new.items ≡ found.old.items
+        ++ ports_obstacles edges.now before.now links.now) }
+{
+    for (place, link) in links.iter().enumerate() {
+        let (ports, _) = links.split_at(place);
+        let others = Others {
+            edges,
+            before,
+            ports,
+        };
+        let seat = Seat {
+            edge: before.len() as u64 + 1,
+            port: place as u64 + 1,
+        };
+        add_port(found, &others, seat, link)?;
+    }
+    Ok(())
+}
+
+/// Adds those of all ports.
+fn add_all_ports(
+    found: &mut Vec<Obstacle>,
+    edges: &[EdgeConfig],
+    all: &[ArrayVec<Link, 64>],
+) -> Result<(), AllocError>
+    ensures { OnOk result (found.new.items ≡ found.old.items
+        ++ all_ports_obstacles edges.now all.now) }
+{
+    for (place, links) in all.iter().enumerate() {
+        let (before, _) = all.split_at(place);
+        add_ports(found, edges, before, links.as_slice())?;
+    }
+    Ok(())
+}
+
+/// Adds an edge whose address is 0.0.0.0: what it sends comes from another one.
+fn add_edge(found: &mut Vec<Obstacle>, number: u64, edge: &EdgeConfig) -> Result<(), AllocError>
+    ensures { OnOk result (found.new.items ≡ found.old.items ++ edge_obstacles number edge.now) }
+{
+    if !is_nobody(edge.address) {
+        return Ok(());
+    }
+    Ok(found.push(Obstacle::Unheard(number))?)
+}
+
+/// Adds such edges.
+fn add_edges(found: &mut Vec<Obstacle>, edges: &[EdgeConfig]) -> Result<(), AllocError>
+    ensures { OnOk result (found.new.items ≡ found.old.items
+        ++ each_from edge_obstacles 1 edges.now) }
+{
+    for (place, edge) in edges.iter().enumerate() {
+        add_edge(found, place as u64 + 1, edge)?;
+    }
+    Ok(())
+}
+
+/// Adds that there are more sockets, with the three standard streams, than there may be
+/// descriptors, where that is known.
+fn add_count(found: &mut Vec<Obstacle>, sockets: u64, most: Option<u64>) -> Result<(), AllocError>
+    ensures { OnOk result (found.new.items ≡ found.old.items ++ count_obstacles sockets most) }
+{
+    match most {
+        Some(most) if sockets > most.saturating_sub(3) => {
+            Ok(found.push(Obstacle::TooMany(sockets, most))?)
+        }
+        _ => Ok(()),
+    }
+}
+
+/// What of a configuration no run can use, in its order; `most` is how many descriptors there may
+/// be.
+///
+/// # Errors
+///
+/// Where memory is refused.
+pub fn obstacles_of(
+    alloc: Global,
+    config: &Config,
+    most: Option<u64>,
+) -> Result<Vec<Obstacle>, AllocError>
+    ensures { IfOk result (λ found. found.items
+        ≡ obstacles_of config.now.edges.items config.now.links.items most) }
+{
+    let mut found = Vec::new(alloc);
+    add_edges(&mut found, config.edges.as_slice())?;
+    add_all_ports(&mut found, config.edges.as_slice(), config.links.as_slice())?;
+    add_count(&mut found, needs_of(config).sockets, most)?;
+    Ok(found)
+}

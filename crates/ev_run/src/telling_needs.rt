@@ -1,0 +1,191 @@
+//! What is told of what a run takes, and of what it can't use.
+ghost use Rattle.ether_wire.specs.Ends.{IsOpen, Puts};
+ghost use Rattle.ev_run.specs.Needs.{threads_text, sockets_text, memory_text, needs_text};
+ghost use Rattle.ev_run.specs.Obstacles.{lead_text, cause_text, port_text, seat_text, end_text, most_text, obstacle_text, told_of, obstacles_text};
+
+use crate::needs::Needs;
+use crate::obstacles::{Cause, End, Obstacle, Seat};
+use crate::sockets::put_endpoint;
+use ether_wire::{Device, Out, put_decimal};
+use ev_config::Endpoint;
+
+/// Writes how many threads there are.
+#[tactic(auto, using(ether_wire::proofs::Appending::with_text_twice))]
+fn put_threads<W: Out>(out: &mut W, threads: u64) -> Result<(), Device>
+    requires { IsOpen (W.end out.old) }
+    ensures { Puts (W.end out.old) (W.end out.new) (threads_text threads) result }
+{
+    put_decimal(out, threads)?;
+    out.put(b" threads\n")
+}
+
+/// Writes how many sockets there are.
+#[tactic(auto, using(ether_wire::proofs::Appending::with_text_twice))]
+fn put_sockets<W: Out>(out: &mut W, sockets: u64) -> Result<(), Device>
+    requires { IsOpen (W.end out.old) }
+    ensures { Puts (W.end out.old) (W.end out.new) (sockets_text sockets) result }
+{
+    put_decimal(out, sockets)?;
+    out.put(b" UDP sockets\n")
+}
+
+/// Writes how much memory that is, in MiB.
+#[tactic(auto, using(ether_wire::proofs::Appending::with_text_twice))]
+fn put_memory<W: Out>(out: &mut W, memory: u64) -> Result<(), Device>
+    requires { IsOpen (W.end out.old) }
+    ensures { Puts (W.end out.old) (W.end out.new) (memory_text memory) result }
+{
+    out.put(b"about ")?;
+    put_decimal(out, memory / 1_048_576 + 1)?;
+    out.put(b" MiB of memory\n")
+}
+
+/// Writes what a run takes at its beginning, a line each.
+///
+/// # Errors
+///
+/// `Device` exactly where a call of the writer failed; then no further call is made.
+#[tactic(auto, using(ether_wire::proofs::Appending::with_text_twice))]
+pub fn put_needs<W: Out>(out: &mut W, needs: Needs) -> Result<(), Device>
+    requires { IsOpen (W.end out.old) }
+    ensures { Puts (W.end out.old) (W.end out.new) (needs_text needs) result }
+{
+    put_threads(out, needs.threads)?;
+    put_sockets(out, needs.sockets)?;
+    put_memory(out, needs.memory)
+}
+
+/// Writes `, port P: `.
+#[tactic(auto, using(ether_wire::proofs::Appending::with_text_twice))]
+fn put_port<N: Out>(notes: &mut N, port: u64) -> Result<(), Device>
+    requires { IsOpen (N.end notes.old) }
+    ensures { Puts (N.end notes.old) (N.end notes.new) (port_text port) result }
+{
+    notes.put(b", port ")?;
+    put_decimal(notes, port)?;
+    notes.put(b": ")
+}
+
+/// Writes `edge E, port P: `.
+#[tactic(auto, using(ether_wire::proofs::Appending::with_text_twice))]
+fn put_seat<N: Out>(notes: &mut N, seat: Seat) -> Result<(), Device>
+    requires { IsOpen (N.end notes.old) }
+    ensures { Puts (N.end notes.old) (N.end notes.new) (seat_text seat) result }
+{
+    notes.put(b"edge ")?;
+    put_decimal(notes, seat.edge)?;
+    put_port(notes, seat.port)
+}
+
+/// Writes which end it is.
+fn put_lead<N: Out>(notes: &mut N, end: End) -> Result<(), Device>
+    requires { IsOpen (N.end notes.old) }
+    ensures { Puts (N.end notes.old) (N.end notes.new) (lead_text end) result }
+{
+    match end {
+        End::Local => notes.put(b"local is "),
+        End::Remote => notes.put(b"remote is "),
+    }
+}
+
+/// Writes which end it is, and where.
+#[tactic(auto, using(ether_wire::proofs::Appending::with_text_twice))]
+fn put_end<N: Out>(notes: &mut N, end: End, at: Endpoint) -> Result<(), Device>
+    requires { IsOpen (N.end notes.old) }
+    ensures { Puts (N.end notes.old) (N.end notes.new) (end_text end at) result }
+{
+    put_lead(notes, end)?;
+    put_endpoint(notes, at)
+}
+
+/// Writes why it is of no use.
+fn put_cause<N: Out>(notes: &mut N, cause: Cause) -> Result<(), Device>
+    requires { IsOpen (N.end notes.old) }
+    ensures { Puts (N.end notes.old) (N.end notes.new) (cause_text cause) result }
+{
+    match cause {
+        Cause::NoPort => notes.put(b", and UDP port 0 is none\n"),
+        Cause::NoHost => notes.put(b", and address 0.0.0.0 is nobody's\n"),
+        Cause::Tunnel => notes.put(b", where an edge has its tunnels\n"),
+        Cause::Taken => notes.put(b", where a port before it takes its frames\n"),
+    }
+}
+
+/// Writes which edge can't be heard.
+#[tactic(auto, using(ether_wire::proofs::Appending::with_text_twice))]
+fn put_unheard<N: Out>(notes: &mut N, edge: u64) -> Result<(), Device>
+    requires { IsOpen (N.end notes.old) }
+    ensures { Puts (N.end notes.old) (N.end notes.new)
+        (obstacle_text (Obstacle.Unheard edge)) result }
+{
+    notes.put(b"edge ")?;
+    put_decimal(notes, edge)?;
+    notes.put(b": address is 0.0.0.0, from which no edge is heard\n")
+}
+
+/// Writes which end of a port is of no use, and why.
+#[tactic(auto, using(ether_wire::proofs::Appending::with_text_twice))]
+fn put_useless<N: Out>(
+    notes: &mut N,
+    seat: Seat,
+    end: End,
+    at: Endpoint,
+    cause: Cause,
+) -> Result<(), Device>
+    requires { IsOpen (N.end notes.old) }
+    ensures { Puts (N.end notes.old) (N.end notes.new)
+        (obstacle_text (Obstacle.Useless seat end at cause)) result }
+{
+    put_seat(notes, seat)?;
+    put_end(notes, end, at)?;
+    put_cause(notes, cause)
+}
+
+/// Writes how many descriptors there may be.
+#[tactic(auto, using(ether_wire::proofs::Appending::with_text_twice))]
+fn put_most<N: Out>(notes: &mut N, most: u64) -> Result<(), Device>
+    requires { IsOpen (N.end notes.old) }
+    ensures { Puts (N.end notes.old) (N.end notes.new) (most_text most) result }
+{
+    notes.put(b" sockets and 3 standard streams, allowed are ")?;
+    put_decimal(notes, most)?;
+    notes.put(b" descriptors\n")
+}
+
+/// Writes that there are too many sockets.
+#[tactic(auto, using(ether_wire::proofs::Appending::with_text_twice))]
+fn put_too_many<N: Out>(notes: &mut N, sockets: u64, most: u64) -> Result<(), Device>
+    requires { IsOpen (N.end notes.old) }
+    ensures { Puts (N.end notes.old) (N.end notes.new)
+        (obstacle_text (Obstacle.TooMany sockets most)) result }
+{
+    put_decimal(notes, sockets)?;
+    put_most(notes, most)
+}
+
+/// Writes an obstacle.
+fn put_obstacle<N: Out>(notes: &mut N, obstacle: Obstacle) -> Result<(), Device>
+    requires { IsOpen (N.end notes.old) }
+    ensures { Puts (N.end notes.old) (N.end notes.new) (obstacle_text obstacle) result }
+{
+    match obstacle {
+        Obstacle::Unheard(edge) => put_unheard(notes, edge),
+        Obstacle::Useless(seat, end, at, cause) => put_useless(notes, seat, end, at, cause),
+        Obstacle::TooMany(sockets, most) => put_too_many(notes, sockets, most),
+    }
+}
+
+/// Writes these obstacles, a line each.
+///
+/// # Errors
+///
+/// `Device` exactly where a call of the writer failed; then no further call is made.
+pub fn put_obstacles<N: Out>(notes: &mut N, found: &[Obstacle]) -> Result<(), Device>
+    requires { IsOpen (N.end notes.old) }
+    ensures { Puts (N.end notes.old) (N.end notes.new) (obstacles_text found.now) result }
+{
+    for obstacle in found {
+        put_obstacle(notes, *obstacle)?;
+    }
+    Ok(())
+}
