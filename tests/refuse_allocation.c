@@ -1,5 +1,5 @@
-/* Loaded before the C library, it refuses the allocation of the number in REFUSE, counted from 1 over all threads, and at the
-   end writes to descriptor 3, if that is open, how many were asked for. */
+/* Loaded before the C library, it refuses the allocation of the number in REFUSE, counted from 1 over all threads, or all from
+   the number in REFUSE_FROM on, and at the end writes to descriptor 3, if that is open, how many were asked for. */
 #include <errno.h>
 #include <stdatomic.h>
 #include <stddef.h>
@@ -16,9 +16,9 @@ extern void *__libc_memalign(size_t alignment, size_t size);
 static atomic_long asked;
 
 static int is_refused(void) {
-    const char *number = getenv("REFUSE");
+    const char *one = getenv("REFUSE"), *from = getenv("REFUSE_FROM");
     long own = atomic_fetch_add(&asked, 1) + 1;
-    if (number == NULL || atol(number) != own)
+    if ((one == NULL || atol(one) != own) && (from == NULL || own < atol(from)))
         return 0;
     errno = ENOMEM;
     return 1;

@@ -1,45 +1,66 @@
 -- What a worker has announced and passed on, call by call.
-use Rattle.std.proofs.Common.{◌≡◌, ℕ, List, [], ◌∷◌, Option, Some, None, Result, refl, ap, sym, subst, ◌∙◌, reverse}
-use Rattle.std.proofs.lemmas.List.{reverse-append}
+use Rattle.std.proofs.Common.{◌≡◌, ℕ, Bool, true, List, [], ◌∷◌, ◌++◌, Option, Some, None, Result, refl, ap, sym, subst}
+use Rattle.std.proofs.Common.{◌∙◌}
 use Rattle.route_wire.specs.Fields.{Fields}
 use Rattle.ev_edge.specs.declared.event.Event.{Event}
 use Rattle.ev_edge.specs.declared.reply.Reply.{Reply}
 use Rattle.ev_book.specs.declared.refusal.BookRefusal.{BookRefusal}
 use Rattle.ev_book.specs.Book.{PassState}
 use Rattle.ev_peers.specs.Giving.{Parcel, behind}
-use Rattle.ev_peers.specs.Passing.{Entered, Asked, AskedEach, Announces, PassesOn, given_by}
+use Rattle.ev_peers.specs.Passing.{Entered, Asked, AskedEach, Word, has_room, record_of, words_of, Stops, Announces}
+use Rattle.ev_peers.specs.Passing.{PassesOn, given_by}
 use Rattle.ev_peers.proofs.Behind.{behind_none, behind_twice}
 
 -- what was asked for and given up to here
-pub record SoFar (p : PassState) (old : Option (List Fields)) (p' : PassState) (new : Option (List Fields)) :
-    Type 0 where
+pub record SoFar (p : PassState) (old : Option (List Word)) (p' : PassState) (new : Option (List Word)) : Type 0 where
   pub got : List Fields
   pub asked : AskedEach p got p'
-  pub given : new ≡ behind old (reverse got)
+  pub given : new ≡ behind old (words_of got)
 
-pub begins : (p : PassState) (old : Option (List Fields)) → SoFar p old p old
+pub begins : (p : PassState) (old : Option (List Word)) → SoFar p old p old
 begins p old = record { got = []; asked = refl; given = sym (behind_none old) }
 
--- one more, which was given to the other edges
-pub goes_on : (p : PassState) (old : Option (List Fields)) (p1 : PassState) (mid : Option (List Fields)) (u : Fields)
-    (p2 : PassState) (new : Option (List Fields)) → SoFar p old p1 mid → Asked p1 (Some u) p2
-    → new ≡ behind mid (u ∷ []) → SoFar p old p2 new
-goes_on p old p1 mid u p2 new s a e = record {
-  got = u ∷ s.got;
-  asked = (p1, s.asked, a);
-  given = e ∙ ap (λ (k : Option (List Fields)). behind k (u ∷ [])) s.given ∙ behind_twice old (reverse s.got) (u ∷ [])
-      ∙ ap (behind old) (sym (reverse-append (u ∷ []) s.got));
+-- one more, for which there was room, and which was given to the other edges
+pub goes_on : (p : PassState) (old : Option (List Word)) (p1 : PassState) (mid : Option (List Word)) (room : Bool)
+    (said : Option (List Word)) (u : Fields) (p2 : PassState) (new : Option (List Word)) → SoFar p old p1 mid
+    → said ≡ behind mid (has_room room ∷ []) → room ≡ true → Asked p1 (Some u) p2 → new ≡ behind said (record_of u ∷ [])
+    → SoFar p old p2 new
+goes_on p old p1 mid room said u p2 new s told there a e =
+    let both = e ∙ ap (λ (k : Option (List Word)). behind k (record_of u ∷ [])) (told
+    ∙ ap (λ (r : Bool). behind mid (has_room r ∷ [])) there)
+    ∙ behind_twice mid (has_room true ∷ []) (record_of u ∷ []) in
+    record {
+      got = u ∷ s.got;
+      asked = (p1, s.asked, a);
+      given = both ∙ ap (λ (k : Option (List Word)). behind k (has_room true ∷ record_of u ∷ [])) s.given
+          ∙ behind_twice old (words_of s.got) (has_room true ∷ record_of u ∷ []);
+    }
+
+-- and then there was none, or no room
+pub ends : (p : PassState) (old : Option (List Word)) (p1 : PassState) (mid : Option (List Word)) (room : Bool)
+    (p2 : PassState) (new : Option (List Word)) → SoFar p old p1 mid → new ≡ behind mid (has_room room ∷ [])
+    → Stops room p1 p2 → Announces p old p2 new
+ends p old p1 mid room p2 new s told stops = record {
+  middle = p1;
+  got = s.got;
+  asked = s.asked;
+  had_room = room;
+  last = stops;
+  given = told ∙ ap (λ (k : Option (List Word)). behind k (has_room room ∷ [])) s.given
+      ∙ behind_twice old (words_of s.got) (has_room room ∷ []);
 }
 
--- and then there was none
-pub ends : (p : PassState) (old : Option (List Fields)) (p1 p2 : PassState) (new : Option (List Fields))
-    → SoFar p old p1 new → Asked p1 None p2 → Announces p old p2 new
-ends p old p1 p2 new s a = record { middle = p1; got = s.got; asked = s.asked; last = a; given = s.given }
+-- there was room, and then there was none to be announced
+pub none_left : (p : PassState) (old : Option (List Word)) (p1 : PassState) (mid : Option (List Word)) (room : Bool)
+    (p2 : PassState) (new : Option (List Word)) → SoFar p old p1 mid → new ≡ behind mid (has_room room ∷ [])
+    → room ≡ true → Asked p1 None p2 → Announces p old p2 new
+none_left p old p1 mid room p2 new s told there a = ends p old p1 mid true p2 new s (told
+    ∙ ap (λ (r : Bool). behind mid (has_room r ∷ [])) there) a
 
 -- an event's call, what was given for it, and the announcements behind it
 pub passed_on : (bridge vni : ℕ) (frame : List ℕ) (p : PassState) (event : Event) (answer : Result Reply BookRefusal)
     (middle p' : PassState) (given mid given' : Option (List Parcel))
-    (records mid_records records' : Option (List Fields)) → Entered p event answer middle
+    (records mid_records records' : Option (List Word)) → Entered p event answer middle
     → mid ≡ behind given (given_by bridge vni frame answer) → mid_records ≡ records → given' ≡ mid
     → Announces middle mid_records p' records' → PassesOn bridge vni frame p event given records p' given' records'
 passed_on bridge vni frame p event answer middle p' given mid given' records mid_records records' entered parcels same
@@ -48,5 +69,5 @@ passed_on bridge vni frame p event answer middle p' given mid given' records mid
       middle = middle;
       entered = entered;
       parcels = kept ∙ parcels;
-      announces = subst (λ (k : Option (List Fields)). Announces middle k p' records') same announces;
+      announces = subst (λ (k : Option (List Word)). Announces middle k p' records') same announces;
     }

@@ -1,6 +1,7 @@
 pub mod Giving
 pub mod Links
 pub mod Line
+pub mod Mailbox
 pub mod Crew
 pub mod Passing
 pub mod Coming

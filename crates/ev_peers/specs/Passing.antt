@@ -1,5 +1,5 @@
 -- What a worker does with one event: it enters it into its edge's book, and passes on what the book answers.
-use Rattle.std.specs.Prelude.{◌≡◌, ℕ, List, [], ◌∷◌, Option, Some, None, Result, Ok, Err, reverse}
+use Rattle.std.specs.Prelude.{◌≡◌, ℕ, Bool, false, true, List, [], ◌∷◌, ◌++◌, Option, Some, None, Result, Ok, Err}
 use Rattle.route_wire.specs.Fields.{Fields}
 use Rattle.ev_edge.specs.declared.event.Event.{Event}
 use Rattle.ev_edge.specs.declared.event.Event.TheVariants.{Announce}
@@ -33,14 +33,31 @@ abbrev pub AskedEach : PassState → List Fields → PassState → Type 0
 AskedEach p [] p' = p' ≡ p
 AskedEach p (u ∷ us) p' = (middle : PassState) × AskedEach p us middle × Asked middle (Some u) p'
 
--- It asked until there was none or a call was refused, and gave each to the other edges, in their order.
-pub record Announces (p : PassState) (old : Option (List Fields)) (p' : PassState) (new : Option (List Fields)) :
+-- what is spoken of the other edges: an answer on their room, or a record that they are given
+pub data Word : Type 0 where
+  has_room : Bool → Word
+  record_of : Fields → Word
+
+-- there was room, and then the update was given, one after the other, the last one first
+abbrev pub words_of : List Fields → List Word
+words_of [] = []
+words_of (u ∷ us) = words_of us ++ has_room true ∷ record_of u ∷ []
+
+-- where there was room once more, it was asked and there was none or the call was refused; else it wasn't asked
+abbrev pub Stops : Bool → PassState → PassState → Type 0
+Stops true p p' = Asked p None p'
+Stops false p p' = p' ≡ p
+
+-- As long as the other edges had room it asked, until there was none or a call was refused, and gave each to them, in
+-- their order. What it didn't ask for stays pending in the edge.
+pub record Announces (p : PassState) (old : Option (List Word)) (p' : PassState) (new : Option (List Word)) :
     Type 0 where
   pub middle : PassState
   pub got : List Fields
   pub asked : AskedEach p got middle
-  pub last : Asked middle None p'
-  pub given : new ≡ behind old (reverse got)
+  pub had_room : Bool
+  pub last : Stops had_room middle p'
+  pub given : new ≡ behind old (words_of got ++ has_room had_room ∷ [])
 
 -- ---- one event
 
@@ -51,8 +68,8 @@ given_by bridge vni frame (Err refusal) = []
 
 -- It entered the event once, gave what the answer gives to the links, and then announced.
 pub record PassesOn (bridge vni : ℕ) (frame : List ℕ) (p : PassState) (event : Event) (given : Option (List Parcel))
-    (records : Option (List Fields)) (p' : PassState) (given' : Option (List Parcel))
-    (records' : Option (List Fields)) : Type 0 where
+    (records : Option (List Word)) (p' : PassState) (given' : Option (List Parcel)) (records' : Option (List Word)) :
+    Type 0 where
   pub answer : Result Reply BookRefusal
   pub middle : PassState
   pub entered : Entered p event answer middle

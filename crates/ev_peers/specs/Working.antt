@@ -3,17 +3,18 @@ use Rattle.std.specs.Prelude.{◌≡◌, ◌≢◌, ◌⊎◌, ℕ, ◌-◌, ◌
 use Rattle.std.specs.Prelude.{None, Result, Ok, Err}
 use Rattle.vxlan_wire.specs.Vxlan.{instance_of}
 use Rattle.vxlan_wire.specs.declared.vxlan.Refusal.{Refusal}
-use Rattle.route_wire.specs.Fields.{Fields}
 use Rattle.ev_edge.specs.declared.event.Event.{Event}
 use Rattle.ev_edge.specs.declared.event.Event.TheVariants as events
 use Rattle.ev_book.specs.Book.{PassState}
 use Rattle.ev_peers.specs.declared.site.Ended.{Ended}
 use Rattle.ev_peers.specs.declared.site.Ended.TheVariants.{End, Device as Failed, NoMemory}
+use Rattle.ev_peers.specs.declared.mailbox.Message.{Message}
+use Rattle.ev_peers.specs.declared.mailbox.Message.TheVariants.{Record, Room}
 use Rattle.ev_peers.specs.declared.workers.Source.{Source}
 use Rattle.ev_peers.specs.declared.workers.Source.TheVariants.{Port, Tunnel, Clock}
 use Rattle.ev_peers.specs.Giving.{Parcel, behind}
 use Rattle.ev_peers.specs.Links.{Arrival}
-use Rattle.ev_peers.specs.Passing.{PassesOn}
+use Rattle.ev_peers.specs.Passing.{Word, Announces, PassesOn}
 use Rattle.ev_peers.specs.Coming.{DoesOne, DoesAll, DoesAllToTheEnd}
 
 -- ---- what a datagram is
@@ -55,9 +56,9 @@ carried Clock octets = (0, [])
 pub record Standing : Type 0 where
   pub pass : PassState
   pub parcels : Option (List Parcel)
-  pub records : Option (List Fields)
+  pub records : Option (List Word)
 
-abbrev pub standing : PassState → Option (List Parcel) → Option (List Fields) → Standing
+abbrev pub standing : PassState → Option (List Parcel) → Option (List Word) → Standing
 standing pass parcels records = record { pass = pass; parcels = parcels; records = records }
 
 -- an event is entered once and passed on; where there is none, nothing is done
@@ -72,9 +73,14 @@ pub record Handles (bridge : ℕ) (source : Source) (s : Standing) (a : Arrival)
   pub is : IsEventOf source a event
   pub does : Does bridge (carried source a.octets) s event s'
 
--- so it is done with an update of another edge
-abbrev pub Takes : ℕ → Standing → Fields → Standing → Type 0
-Takes bridge s u s' = Does bridge (0, []) s (Some (events.Take u)) s'
+-- announcements are asked for and given on, and no frame
+abbrev pub Resumes : Standing → Standing → Type 0
+Resumes s s' = Announces s.pass s.records s'.pass s'.records × (s'.parcels ≡ s.parcels)
+
+-- an update of another edge is entered and passed on; where that one has room again, announcements are asked for
+abbrev pub Takes : ℕ → Standing → Message → Standing → Type 0
+Takes bridge s (Record u) s' = Does bridge (0, []) s (Some (events.Take u)) s'
+Takes bridge s Room s' = Resumes s s'
 
 -- ---- a worker
 
@@ -117,7 +123,7 @@ pub record PortEnds (ended : Ended) (bridge port vni failed : ℕ) (came : Optio
   pub leaves : Leaves ended bridge port vni last s'
 
 -- a worker of other edges' updates took all that came, to the end; it has no link
-abbrev pub PeerEnds : Ended → ℕ → Option (List (Option Fields)) → Standing → Option (List (Option Fields)) → Standing
+abbrev pub PeerEnds : Ended → ℕ → Option (List (Option Message)) → Standing → Option (List (Option Message)) → Standing
     → Type 0
 PeerEnds End bridge came s came' s' = DoesAllToTheEnd (Takes bridge) came s came' s'
 PeerEnds Failed bridge came s came' s' = ⊥

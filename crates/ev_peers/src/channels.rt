@@ -1,22 +1,11 @@
-//! What goes over channels between edges, and links over channels.
+//! Links over channels.
 ghost use Rattle.std.specs.Prelude.{◌≡◌, ◌≤◌, length, IfOk};
 
 use crate::links::{LinkIn, LinkOut};
-use crossbeam_channel::{Receiver, SendError, Sender};
+use crossbeam_channel::{Receiver, Sender};
 use ether_wire::{Addr, Device};
-use route_wire::Update;
 use std::alloc::{AllocError, Global};
 use std::sync::Wait;
-use std::thread;
-
-/// What an edge sends to another one.
-#[derive(Clone, Copy, PartialEq, Eq, Debug)]
-pub enum Message {
-    /// An update that it has announced.
-    Record(Update),
-    /// Nothing more comes.
-    Stop,
-}
 
 /// A datagram over a channel.
 #[derive(Debug, Drop)]
@@ -27,39 +16,6 @@ pub struct Datagram {
     pub to: Addr,
     /// What it holds.
     pub octets: Vec<u8>,
-}
-
-/// A channel over which other edges send their records to one, with room for one message: so that
-/// one can be sent over it whatever memory is refused, once what was sent before it is received.
-/// Clauses see nothing of the ends of a channel, so none says that what is sent over one of these
-/// is received over the other.
-///
-/// # Errors
-///
-/// Where memory is refused.
-pub fn peer_channel<R: Wait>(
-    rt: &R,
-    alloc: Global,
-) -> Result<(Sender<Message>, Receiver<Message>), AllocError> {
-    let (sender, receiver) = crossbeam_channel::unbounded(alloc)?;
-    if sender.send(rt, Message::Stop).is_err() {
-        return Err(AllocError);
-    }
-    let _ = receiver.recv(rt);
-    Ok((sender, receiver))
-}
-
-/// Sends a message, once there is memory for it or nobody receives any more.
-pub(crate) fn send_surely<R: Wait>(rt: &R, channel: &Sender<Message>, message: Message) {
-    let mut message = message;
-    for _ in rt.forever() {
-        match channel.send(rt, message) {
-            Err(SendError::OutOfMemory(back)) => message = back,
-            _ => return,
-        }
-        thread::yield_now();
-    }
-    unreachable!()
 }
 
 /// Datagrams that come over a channel. It ends when nobody can send any more.

@@ -3,15 +3,14 @@ ghost use Rattle.std.specs.Prelude.{◌≡◌, ◌+◌, ◌≤◌, length, vec_l
 ghost use Rattle.ev_edge.specs.Config.{IsConfig};
 ghost use Rattle.ev_peers.specs.Crew.{HasRoom, IsReady};
 
-use crate::channels::{Message, send_surely};
 use crate::gate::Gate;
 use crate::inbox::{LineBox, UpdateBox};
 use crate::links::{LinkIn, LinkOut};
 use crate::outlet::Senders;
+use crate::peers::Peers;
 use crate::shared_line::SharedLine;
 use crate::site::{Ended, Site};
 use crate::workers::{clock_worker, out_worker, peer_worker, port_worker, tunnel_worker};
-use crossbeam_channel::{Receiver, Sender};
 use ether_wire::{Mac, Vni};
 use ev_book::{Book, Pass, Totals};
 use ev_edge::{Edge, EdgeConfig};
@@ -41,17 +40,6 @@ pub struct EdgeLinks<I: Drop, O: Drop> {
     pub tunnel: Link<I, O>,
     /// What ticks each second.
     pub clock: I,
-}
-
-/// An edge's channels from and to the other edges.
-#[derive(Drop)]
-pub struct Peers {
-    /// What the others send.
-    pub records: Receiver<Message>,
-    /// An end over which this edge tells its own worker to stop.
-    pub own: Sender<Message>,
-    /// To each of the others.
-    pub others: Vec<Sender<Message>>,
 }
 
 /// What an edge comes to when its workers have ended.
@@ -94,8 +82,8 @@ enum Task<I: Drop> {
     Tunnel(I),
     /// The ticks of this clock.
     Clock(I),
-    /// The records that come over this channel.
-    Peer(Receiver<Message>),
+    /// What the other edges send.
+    Peer,
 }
 
 /// What the threads of an edge share.
@@ -108,14 +96,10 @@ struct Shared {
     no_entering: Vec<AtomicBool>,
     /// Whether there was no thread, for each that sends.
     no_sending: Vec<AtomicBool>,
-    /// Whether there was no thread for the records of other edges.
+    /// Whether there was no thread for what other edges send.
     no_peer: AtomicBool,
     /// Whether a call of the book was refused memory.
     starved: AtomicBool,
-    /// An end of the channel over which they come.
-    own: Sender<Message>,
-    /// To the other edges.
-    others: Vec<Sender<Message>>,
 }
 
 /// What the threads of an edge begin and end with, so that this needs no memory.
@@ -132,8 +116,6 @@ struct Crew<L: Ledger, I: Drop, O: Drop> {
     sending: Vec<JoinHandle<Sent>>,
     /// Room for the passes that come back.
     passes: Vec<Pass<L>>,
-    /// What other edges send.
-    records: Receiver<Message>,
 }
 
 impl Faults {
@@ -196,10 +178,10 @@ fn enter_task<L: Ledger, I: LinkIn + Drop, G: Gate, R: Wait>(
         return (pass, Ended::NoMemory);
     }
     let ended = match task {
-        Task::Peer(records) => {
+        Task::Peer => {
             let mut updates = UpdateBox {
                 rt: site.rt,
-                channel: &records,
+                peers: outlet.peers,
             };
             peer_worker(site, &mut pass, &mut outlet, &mut updates)
         }
@@ -231,7 +213,7 @@ fn enter_alone<'x, L: Ledger, I: LinkIn + Drop, G: Gate, R: Wait>(
     let Senders {
         rt: _,
         lines,
-        others,
+        peers,
     } = outlet;
     let site = Site {
         rt,
@@ -241,7 +223,7 @@ fn enter_alone<'x, L: Ledger, I: LinkIn + Drop, G: Gate, R: Wait>(
         bridge,
         starved,
     };
-    let outlet = Senders { rt, lines, others };
+    let outlet = Senders { rt, lines, peers };
     enter_task(&site, &outlet, pass, task, is_refused)
 }
 
@@ -313,7 +295,6 @@ fn vni_of(config: &EdgeConfig, port: usize) -> Vni {
 fn planned<L: Ledger, I: Drop, O: Drop>(
     alloc: Global,
     links: EdgeLinks<I, O>,
-    peers: Peers,
     config: &EdgeConfig,
 ) -> Result<(Crew<L, I, O>, Shared), AllocError>
     requires { vec_len links.ports ≤ 253 }
@@ -347,19 +328,12 @@ fn planned<L: Ledger, I: Drop, O: Drop>(
     }
     outputs.push_reserved(tunnel_output);
     outputs.as_mut_slice().reverse();
-    let Peers {
-        records,
-        own,
-        others,
-    } = peers;
     let shared = Shared {
         lines: empty_lines(alloc, count + 1)?,
         no_entering: no_words(alloc, count + 2)?,
         no_sending: no_words(alloc, count + 1)?,
         no_peer: AtomicBool::new(false),
         starved: AtomicBool::new(false),
-        own,
-        others,
     };
     let crew = Crew {
         tasks,
@@ -367,7 +341,6 @@ fn planned<L: Ledger, I: Drop, O: Drop>(
         entering: Vec::with_capacity(alloc, count + 2)?,
         sending: Vec::with_capacity(alloc, count + 1)?,
         passes: Vec::with_capacity(alloc, count + 3)?,
-        records,
     };
     Ok((crew, shared))
 }
@@ -501,14 +474,16 @@ fn start_peer<
     shared: &'x Shared,
     outlet: &Senders<'x, R>,
     pass: Pass<L>,
-    task: Task<I>,
 ) -> Result<JoinHandle<Entered<L>>, Entered<L>> {
-    let (site, outlet) = (site.again(), outlet.again());
+    let peers = outlet.peers;
+    let task: Task<I> = Task::Peer;
+    let (rt, site, outlet) = (site.rt, site.again(), outlet.again());
     let is_refused = &shared.no_peer;
     match scope.spawn(move || enter_alone(site, outlet, pass, task, is_refused)) {
         Ok(handle) => Ok(handle),
         Err(no_thread) => {
             is_refused.store(true, Ordering::SeqCst);
+            peers.leave(rt);
             Err((no_thread.value)())
         }
     }
@@ -573,18 +548,16 @@ fn run_within<
         entering,
         sending,
         passes,
-        records,
     } = crew;
     let lines = shared.lines.as_slice();
     let words = shared.no_sending.as_slice();
     let (sending, no_sent) = start_sending(scope, rt, lines, words, outputs, sending);
-    let task = Task::Peer(records);
-    let peer = start_peer::<L, I, G, R>(scope, site, shared, outlet, peer, task);
+    let peer = start_peer::<L, I, G, R>(scope, site, shared, outlet, peer);
     let (entering, passes, begun) = start_entering(
         scope, site, shared, outlet, tasks, fresh, entering, passes,
     );
     let (mut passes, entered) = join_entering(rt, entering, passes);
-    send_surely(rt, &shared.own, Message::Stop);
+    outlet.peers.end(rt);
     let (pass, ended) = match peer {
         Ok(handle) => handle.join(rt),
         Err(entered) => entered,
@@ -613,6 +586,7 @@ fn run_workers<
     bridge: Mac,
     book: &'x Mutex<Book<L>>,
     shared: &'x Shared,
+    peers: Peers<'x>,
     crew: Crew<L, I, O>,
     fresh: Vec<Pass<L>>,
     peer: Pass<L>,
@@ -646,7 +620,7 @@ fn run_workers<
             let outlet = Senders {
                 rt,
                 lines: shared.lines.as_slice(),
-                others: shared.others.as_slice(),
+                peers,
             };
             run_within(scope, rt, &site, &outlet, launch)
         },
@@ -677,7 +651,7 @@ pub fn edge_worker<
     number: usize,
     config: EdgeConfig,
     links: EdgeLinks<I, O>,
-    peers: Peers,
+    peers: Peers<'_>,
     gate: &G,
 ) -> Result<Outcome, AllocError>
     requires name { blank.name ≡ L.name }
@@ -691,16 +665,18 @@ pub fn edge_worker<
     let count = links.ports.len() + 3;
     let bridge = bridge_of(&config);
     let dropped = Vec::with_capacity(alloc, links.ports.len() + 1)?;
-    let (crew, shared) = planned(alloc, links, peers, &config)?;
+    let (crew, shared) = planned(alloc, links, &config)?;
     let (book, mut fresh) = Book::<L>::open(alloc, blank, config, count)?;
     let Some(peer) = fresh.pop() else {
         unreachable!()
     };
     fresh.as_mut_slice().reverse();
     let book = Mutex::new(book);
-    let (passes, faults) = run_workers(rt, gate, number, bridge, &book, &shared, crew, fresh, peer);
+    let (passes, faults) = run_workers(
+        rt, gate, number, bridge, &book, &shared, peers, crew, fresh, peer,
+    );
     let (edge, totals) = book.into_inner().close(passes);
-    let starved = shared.starved.load(Ordering::SeqCst);
+    let starved = shared.starved.load(Ordering::SeqCst) || peers.has_lost(rt);
     Ok(Outcome {
         edge,
         totals,

@@ -1,24 +1,23 @@
 //! Where what other workers send to one of them comes from.
 ghost use Rattle.std.specs.Prelude.{◌≡◌, ◌≤◌, ◌∷◌, [], Option, List, length, IfSome};
-ghost use Rattle.route_wire.specs.Fields.{Fields};
 ghost use Rattle.ev_peers.specs.Giving.{behind};
 ghost use Rattle.ev_peers.specs.Links.{Packet};
 ghost use Rattle.ev_peers.specs.Line.{handed};
+ghost use Rattle.ev_peers.specs.declared.mailbox.Message.{Message};
 
-use crate::channels::Message;
+use crate::mailbox::Message;
+use crate::peers::Peers;
 use crate::shared_line::SharedLine;
-use crossbeam_channel::Receiver;
 use ether_wire::Addr;
-use route_wire::Update;
 use std::sync::Wait;
 
-/// Where the updates of other edges come from.
+/// Where what other edges send comes from.
 pub trait UpdatesIn {
-    /// What came, in its order, where it tells it: each update, and none for the end.
-    ghost came: { Self → Option (List (Option Fields)) };
+    /// What came, in its order, where it tells it: each message, and none for the end.
+    ghost came: { Self → Option (List (Option Message)) };
 
-    /// Waits for the next update. None at the end.
-    fn next(&mut self) -> Option<Update>
+    /// Waits for the next message. None at the end.
+    fn next(&mut self) -> Option<Message>
         ensures { came self.new ≡ behind (came self.old) (result ∷ []) };
 }
 
@@ -35,20 +34,12 @@ pub trait PacketsIn {
         ensures came { came self.new ≡ behind (came self.old) (handed result buffer.new ∷ []) };
 }
 
-/// The update of a message, if it isn't the last one.
-fn record_of(message: Message) -> Option<Update> {
-    match message {
-        Message::Record(update) => Some(update),
-        Message::Stop => None,
-    }
-}
-
-/// The updates that come over a channel. Clauses see nothing of its ends, so it
-/// doesn't tell which came.
+/// What comes to an edge's mailbox. Clauses see nothing of what is under a lock, so it doesn't tell
+/// what came.
 #[derive(Drop)]
 pub(crate) struct UpdateBox<'x, R> {
     pub(crate) rt: &'x R,
-    pub(crate) channel: &'x Receiver<Message>,
+    pub(crate) peers: Peers<'x>,
 }
 
 impl<R: Wait> UpdatesIn for UpdateBox<'_, R> {
@@ -56,11 +47,8 @@ impl<R: Wait> UpdatesIn for UpdateBox<'_, R> {
 
     ghost came = { λ b. None };
 
-    fn next(&mut self) -> Option<Update> {
-        let Ok(message) = self.channel.recv(self.rt) else {
-            return None;
-        };
-        record_of(message)
+    fn next(&mut self) -> Option<Message> {
+        self.peers.next(self.rt)
     }
 }
 

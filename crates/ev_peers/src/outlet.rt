@@ -1,12 +1,11 @@
 //! Where the workers of an edge give what the book answers: frames to the lines of its links,
 //! records to the other edges.
 ghost use Rattle.std.specs.Prelude.{◌≡◌, ◌∷◌, [], Option, List};
-ghost use Rattle.route_wire.specs.Fields.{Fields};
 ghost use Rattle.ev_peers.specs.Giving.{Parcel, parcel, first_parcel, behind};
+ghost use Rattle.ev_peers.specs.Passing.{Word, has_room, record_of};
 
-use crate::channels::{Message, send_surely};
+use crate::peers::Peers;
 use crate::shared_line::SharedLine;
-use crossbeam_channel::Sender;
 use ether_wire::Addr;
 use route_wire::Update;
 use std::sync::Wait;
@@ -25,8 +24,9 @@ pub trait Outlet {
     /// The frames that were given and the links that got them, in their order, where it tells them.
     ghost parcels: { Self → Option (List Parcel) };
 
-    /// The records that were given, in their order, where it tells them.
-    ghost records: { Self → Option (List Fields) };
+    /// What was spoken of the other edges, where it tells it: each answer on their room and each
+    /// record that was given, in their order.
+    ghost records: { Self → Option (List Word) };
 
     /// Takes a frame for a link, whose line has room for it or drops and counts it.
     fn frame(&mut self, to: Target, octets: &[u8])
@@ -40,30 +40,35 @@ pub trait Outlet {
             ≡ behind (parcels self.old) (first_parcel port frame.now ∷ []) }
         ensures records { records self.new ≡ records self.old };
 
+    /// Whether each of the other edges has room for one more record.
+    fn has_room(&mut self) -> bool
+        ensures told { records self.new ≡ behind (records self.old) (has_room result ∷ []) }
+        ensures parcels { parcels self.new ≡ parcels self.old };
+
     /// Takes a record for each of the other edges.
     fn record(&mut self, update: Update)
-        ensures given { records self.new ≡ behind (records self.old) (update ∷ []) }
+        ensures given { records self.new ≡ behind (records self.old) (record_of update ∷ []) }
         ensures parcels { parcels self.new ≡ parcels self.old };
 }
 
-/// The lines to an edge's links, and the channels to the other edges.
+/// The lines to an edge's links, and the mailboxes of the other edges.
 #[derive(Drop)]
-pub struct Senders<'x, R> {
-    /// What may wait for a lock, or for memory.
-    pub rt: &'x R,
+pub(crate) struct Senders<'x, R> {
+    /// What may wait for a lock.
+    pub(crate) rt: &'x R,
     /// To the link of the tunnel, and behind it to those of the access ports, port 1 first.
-    pub lines: &'x [SharedLine],
+    pub(crate) lines: &'x [SharedLine],
     /// To the other edges.
-    pub others: &'x [Sender<Message>],
+    pub(crate) peers: Peers<'x>,
 }
 
 impl<'x, R> Senders<'x, R> {
-    /// The same lines and channels.
+    /// The same lines and mailboxes.
     pub(crate) fn again(&self) -> Self {
         Senders {
             rt: self.rt,
             lines: self.lines,
-            others: self.others,
+            peers: self.peers,
         }
     }
 }
@@ -91,9 +96,11 @@ impl<R: Wait> Outlet for Senders<'_, R> {
         }
     }
 
+    fn has_room(&mut self) -> bool {
+        self.peers.have_room()
+    }
+
     fn record(&mut self, update: Update) {
-        for other in self.others {
-            send_surely(self.rt, other, Message::Record(update));
-        }
+        self.peers.send(self.rt, update);
     }
 }

@@ -1,13 +1,12 @@
-//! Edges that run beside each other, each on a thread, with a channel from each to each.
+//! Edges that run beside each other, each on a thread, with a mailbox for each.
 ghost use Rattle.std.specs.Prelude.{◌≡◌, ◌+◌, ◌≤◌, vec_len, vec_capacity, IfOk};
 ghost use Rattle.ev_edge.specs.Config.{IsConfig};
 ghost use Rattle.ev_peers.specs.Crew.{HasEdges, setup_of};
 
-use crate::channels::{Message, peer_channel};
-use crate::crew::{EdgeLinks, Outcome, Peers, edge_worker};
+use crate::crew::{EdgeLinks, Outcome, edge_worker};
 use crate::gate::Gate;
 use crate::links::{LinkIn, LinkOut};
-use crossbeam_channel::{Receiver, Sender};
+use crate::peers::{Mailboxes, Peers};
 use ev_edge::EdgeConfig;
 use std::alloc::{AllocError, Global};
 use std::marker::{Brand, Model};
@@ -49,59 +48,23 @@ impl<I: Drop, O: Drop> Setup<I, O> {
     {
         Setup { config, links }
     }
-}
 
-/// The channels of all edges: what is sent to each, and what each receives.
-type Channels = (Vec<Sender<Message>>, Vec<Receiver<Message>>);
+    /// How many workers send updates of it: one a port, and three.
+    fn workers(&self) -> u32 {
+        self.links.ports.len() as u32 + 3
+    }
+}
 
 /// What a thread of an edge gives back.
 type Ran = Result<Outcome, AllocError>;
 
-/// A channel for each edge.
-fn channels<R: Wait>(rt: &R, alloc: Global, edges: usize) -> Result<Channels, AllocError>
-    ensures { IfOk result (λ r. (vec_len r.0 ≡ edges) × (vec_len r.1 ≡ edges)) }
-{
-    let mut senders = Vec::with_capacity(alloc, edges)?;
-    let mut receivers = Vec::with_capacity(alloc, edges)?;
-    for place in 0..edges {
-        let _ = place;
-        let (sender, receiver) = peer_channel(rt, alloc)?;
-        senders.push_reserved(sender);
-        receivers.push_reserved(receiver);
+/// How many workers these edges have, which send each other updates: one a port, and three.
+fn workers_of<I: Drop, O: Drop>(setups: &[Setup<I, O>]) -> u32 {
+    let mut workers = 0u32;
+    for setup in setups {
+        workers = workers.saturating_add(setup.workers());
     }
-    Ok((senders, receivers))
-}
-
-/// The channels to all edges but the one at this place.
-fn others(
-    alloc: Global,
-    senders: &[Sender<Message>],
-    but: usize,
-) -> Result<Vec<Sender<Message>>, AllocError> {
-    let mut others = Vec::with_capacity(alloc, senders.len())?;
-    for (place, sender) in senders.iter().enumerate() {
-        if place != but {
-            others.push(sender.clone()?)?;
-        }
-    }
-    Ok(others)
-}
-
-/// The channels of each edge, from it and to it. Which edge gets which doesn't matter.
-fn all_peers<R: Wait>(rt: &R, alloc: Global, edges: usize) -> Result<Vec<Peers>, AllocError>
-    ensures { IfOk result (λ peers. vec_len peers ≡ edges) }
-{
-    let (senders, mut receivers) = channels(rt, alloc, edges)?;
-    let mut peers = Vec::with_capacity(alloc, edges)?;
-    while let Some(records) = receivers.pop() {
-        let place = receivers.len();
-        peers.push_reserved(Peers {
-            records,
-            own: senders[place].clone()?,
-            others: others(alloc, senders.as_slice(), place)?,
-        });
-    }
-    Ok(peers)
+    workers
 }
 
 /// One edge, under a ledger of its own.
@@ -110,10 +73,14 @@ fn run_one<
     O: LinkOut + Drop + Send,
     G: Gate + Sync,
     R: Threads + Wait + Sync,
->(rt: &R, alloc: Global, number: usize, setup: Setup<I, O>, peers: Peers, gate: &G) -> Ran {
+>(rt: &R, alloc: Global, number: usize, setup: Setup<I, O>, peers: Peers<'_>, gate: &G) -> Ran {
     let Setup { config, links } = setup;
     let blank = Blank::new(links.ports.len() as u64 + 3);
-    edge_worker::<Brand, I, O, G, R>(rt, alloc, blank, number, config, links, peers, gate)
+    let ran = edge_worker::<Brand, I, O, G, R>(
+        rt, alloc, blank, number, config, links, peers, gate,
+    );
+    peers.leave(rt);
+    ran
 }
 
 /// Starts a thread for each edge, the last one first.
@@ -129,25 +96,24 @@ fn start_edges<
     rt: &'x R,
     alloc: Global,
     setups: Vec<Setup<I, O>>,
-    peers: Vec<Peers>,
+    mailboxes: &'x Mailboxes,
     gate: &'x G,
     running: Vec<Option<JoinHandle<Ran>>>,
 ) -> Vec<Option<JoinHandle<Ran>>>
-    requires peers { vec_len peers ≡ vec_len setups }
     requires room { (vec_len running ≡ 0) × (vec_len setups ≤ vec_capacity running) }
     ensures { vec_len result ≡ vec_len setups }
 {
     let mut setups = setups;
-    let mut peers = peers;
     let mut running = running;
     while let Some(setup) = setups.pop() {
-        let Some(channels) = peers.pop() else {
-            unreachable!()
-        };
         let number = setups.len() + 1;
-        let handle = match scope.spawn(move || run_one(rt, alloc, number, setup, channels, gate)) {
+        let peers = mailboxes.seen_by(number);
+        let handle = match scope.spawn(move || run_one(rt, alloc, number, setup, peers, gate)) {
             Ok(handle) => Some(handle),
-            Err(_) => None,
+            Err(_) => {
+                peers.leave(rt);
+                None
+            }
         };
         running.push_reserved(handle);
     }
@@ -178,7 +144,6 @@ fn join_edges<R: Threads>(
 #[derive(Drop)]
 struct Start<I: Drop, O: Drop> {
     setups: Vec<Setup<I, O>>,
-    peers: Vec<Peers>,
     running: Vec<Option<JoinHandle<Ran>>>,
     ended: Vec<Ran>,
 }
@@ -191,7 +156,7 @@ impl<I: Drop, O: Drop> Model for Start<I, O> {
 
     ghost view = { λ s. vec_len s.setups };
 
-    ghost invariant = { λ s. HasEdges (vec_len s.setups) (vec_len s.peers) (vec_len s.running)
+    ghost invariant = { λ s. HasEdges (vec_len s.setups) (vec_len s.running)
         (vec_capacity s.running) (vec_len s.ended) (vec_capacity s.ended) };
 }
 
@@ -210,6 +175,7 @@ fn run_within<
     rt: &'x R,
     alloc: Global,
     gate: &'x G,
+    mailboxes: &'x Mailboxes,
     start: Start<I, O>,
     until: F,
 ) -> (Vec<Ran>, T)
@@ -219,11 +185,10 @@ fn run_within<
 {
     let Start {
         setups,
-        peers,
         running,
         ended,
     } = start;
-    let running = start_edges(scope, rt, alloc, setups, peers, gate, running);
+    let running = start_edges(scope, rt, alloc, setups, mailboxes, gate, running);
     let told = until();
     (join_edges(rt, running, ended), told)
 }
@@ -237,7 +202,14 @@ fn run_start<
     R: Threads + Wait + Sync + 'x,
     F: FnOnce() -> T + Drop,
     T,
->(rt: &'x R, alloc: Global, gate: &'x G, start: Start<I, O>, until: F) -> (Vec<Ran>, T)
+>(
+    rt: &'x R,
+    alloc: Global,
+    gate: &'x G,
+    mailboxes: &'x Mailboxes,
+    start: Start<I, O>,
+    until: F,
+) -> (Vec<Ran>, T)
     requires { F.pre until }
     ensures all { vec_len result.0 ≡ start }
     ensures until { F.post until result.1 }
@@ -248,7 +220,7 @@ fn run_start<
         move |scope| -> (Vec<Ran>, T)
             requires { F.pre until }
             ensures { (vec_len result.0 ≡ start) × F.post until result.1 }
-        { run_within(scope, rt, alloc, gate, start, until) },
+        { run_within(scope, rt, alloc, gate, mailboxes, start, until) },
     )
 }
 
@@ -277,14 +249,13 @@ pub fn run_all<
     ensures all { IfOk result (λ r. vec_len r.0 ≡ vec_len setups) }
     ensures until { IfOk result (λ r. F.post until r.1) }
 {
-    let peers = all_peers(rt, alloc, setups.len())?;
+    let mailboxes = Mailboxes::new(alloc, setups.len(), workers_of(setups.as_slice()))?;
     let running = Vec::with_capacity(alloc, setups.len())?;
     let ended = Vec::with_capacity(alloc, setups.len())?;
     let start = Start {
         setups,
-        peers,
         running,
         ended,
     };
-    Ok(run_start(rt, alloc, gate, start, until))
+    Ok(run_start(rt, alloc, gate, &mailboxes, start, until))
 }

@@ -10,7 +10,7 @@ use std::sync::{Condvar, Mutex, Wait};
 /// A line under a lock. What its calls do is what those of `Line` do that they are named for; no
 /// clause can say so, since none names what a lock holds at that moment.
 #[derive(Drop)]
-pub struct SharedLine {
+pub(crate) struct SharedLine {
     line: Mutex<Line>,
     /// Rung behind the lock, when something was put on the line or it has ended.
     bell: Condvar,
@@ -22,7 +22,7 @@ impl SharedLine {
     /// # Errors
     ///
     /// Where memory is refused.
-    pub fn new(alloc: Global) -> Result<Self, AllocError> {
+    pub(crate) fn new(alloc: Global) -> Result<Self, AllocError> {
         Ok(SharedLine {
             line: Mutex::new(Line::new(alloc)?),
             bell: Condvar::new(),
@@ -30,7 +30,7 @@ impl SharedLine {
     }
 
     /// Puts a frame, or a datagram, behind the others, or drops and counts it.
-    pub fn put<R: Wait>(&self, rt: &R, to: Addr, octets: &[u8]) {
+    pub(crate) fn put<R: Wait>(&self, rt: &R, to: Addr, octets: &[u8]) {
         {
             let mut line = self.line.lock(rt);
             line.put(to, octets);
@@ -39,7 +39,7 @@ impl SharedLine {
     }
 
     /// Puts a BPDU's frame behind the other BPDUs.
-    pub fn put_bpdu<R: Wait>(&self, rt: &R, frame: &[u8; 60]) {
+    pub(crate) fn put_bpdu<R: Wait>(&self, rt: &R, frame: &[u8; 60]) {
         {
             let mut line = self.line.lock(rt);
             line.put_bpdu(frame);
@@ -48,7 +48,7 @@ impl SharedLine {
     }
 
     /// Tells that nothing more comes.
-    pub fn end<R: Wait>(&self, rt: &R) {
+    pub(crate) fn end<R: Wait>(&self, rt: &R) {
         {
             let mut line = self.line.lock(rt);
             line.end();
@@ -58,7 +58,7 @@ impl SharedLine {
 
     /// Waits for what goes first, and puts it at the front of the buffer: for whom it is, and how
     /// many octets it has. None once nothing waits and nothing more comes.
-    pub fn next<R: Wait>(&self, rt: &R, buffer: &mut [u8]) -> Option<(Addr, usize)>
+    pub(crate) fn next<R: Wait>(&self, rt: &R, buffer: &mut [u8]) -> Option<(Addr, usize)>
         requires { 9026 ≤ length buffer.old }
         ensures { IfSome result (λ r. r.1 ≤ length buffer.new) }
     {
@@ -74,7 +74,7 @@ impl SharedLine {
     }
 
     /// How many frames and BPDUs found no room.
-    pub fn dropped<R: Wait>(&self, rt: &R) -> u64 {
+    pub(crate) fn dropped<R: Wait>(&self, rt: &R) -> u64 {
         self.line.lock(rt).dropped()
     }
 }

@@ -31,7 +31,7 @@ pub enum Ended {
 #[derive(Drop)]
 pub(crate) struct Scratch {
     /// What the book replies.
-    reply: Reply,
+    pub(crate) reply: Reply,
     /// The datagram that carries the event's frame.
     datagram: [u8; 9026],
 }
@@ -108,13 +108,17 @@ impl<L: Ledger, G: Gate, R: Wait> Site<'_, L, G, R> {
     }
 
     /// Asks for the edge's announcements until there is none or one is refused, and gives
-    /// each to the other edges.
-    fn announce<O: Outlet>(&self, pass: &mut Pass<L>, outlet: &mut O, reply: &mut Reply)
+    /// each to the other edges. Where one of these has no room it asks no further: what isn't
+    /// asked for stays pending in the edge, which needs no memory for it.
+    pub(crate) fn announce<O: Outlet>(&self, pass: &mut Pass<L>, outlet: &mut O, reply: &mut Reply)
         ensures announces { Announces pass.old (O.records outlet.old) pass.new
             (O.records outlet.new) }
         ensures parcels { O.parcels outlet.new ≡ O.parcels outlet.old }
     {
         for _ in self.rt.forever() {
+            if !outlet.has_room() {
+                return;
+            }
             let Some(update) = self.ask(pass, reply) else {
                 return;
             };

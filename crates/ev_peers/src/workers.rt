@@ -2,7 +2,7 @@
 ghost use Rattle.std.specs.Prelude.{◌≡◌, ◌+◌, ◌^◌, ◌<◌, ◌≤◌, length, take};
 ghost use Rattle.ev_peers.specs.Links.{failures_told, failures_in, arrival, packet};
 ghost use Rattle.ev_peers.specs.declared.workers.Source.TheVariants.{Tunnel, Clock};
-ghost use Rattle.ev_peers.specs.Working.{IsEventOf, fitting, unwrapped, carried, standing, Handles, Turns, Ends, Leaves, PortEnds, PeerEnds};
+ghost use Rattle.ev_peers.specs.Working.{IsEventOf, fitting, unwrapped, carried, standing, Handles, Turns, Takes, Ends, Leaves, PortEnds, PeerEnds};
 ghost use Rattle.vxlan_wire.specs.Vxlan.{instance_of};
 ghost use Rattle.ev_peers.specs.Sending.{gone, Sends, OutEnds};
 
@@ -10,6 +10,7 @@ use crate::gate::Gate;
 use crate::inbox::{PacketsIn, UpdatesIn};
 use crate::line::LONGEST;
 use crate::links::{LinkIn, LinkOut};
+use crate::mailbox::Message;
 use crate::outlet::Outlet;
 use crate::site::{Ended, Scratch, Site};
 use ether_wire::{Addr, Vni};
@@ -236,7 +237,29 @@ pub fn clock_worker<L: Ledger, I: LinkIn, O: Outlet, G: Gate, R: Wait>(
     link_worker(site, pass, outlet, clock, &Source::Clock)
 }
 
-/// Enters the updates that other edges send, until there are no more.
+/// Enters an update of another edge, or looks for announcements where one has room for them again.
+fn enter_message<L: Ledger, O: Outlet, G: Gate, R: Wait>(
+    site: &Site<'_, L, G, R>,
+    pass: &mut Pass<L>,
+    outlet: &mut O,
+    scratch: &mut Scratch,
+    message: &Message,
+)
+    ensures { Takes site.now.bridge
+        (standing pass.old (O.parcels outlet.old) (O.records outlet.old)) message.now
+        (standing pass.new (O.parcels outlet.new) (O.records outlet.new)) }
+{
+    match message {
+        Message::Record(update) => {
+            let event = Event::Take(*update);
+            site.act(pass, outlet, scratch, &event, Vni::new(0), &[]);
+        }
+        Message::Room => site.announce(pass, outlet, &mut scratch.reply),
+    }
+}
+
+/// Enters the updates that other edges send, until there are no more, and looks for announcements
+/// where one of them has room again.
 pub fn peer_worker<L: Ledger, I: UpdatesIn, O: Outlet, G: Gate, R: Wait>(
     site: &Site<'_, L, G, R>,
     pass: &mut Pass<L>,
@@ -249,11 +272,10 @@ pub fn peer_worker<L: Ledger, I: UpdatesIn, O: Outlet, G: Gate, R: Wait>(
 {
     let mut scratch = Scratch::new();
     for _ in site.rt.forever() {
-        let Some(update) = updates.next() else {
+        let Some(message) = updates.next() else {
             return Ended::End;
         };
-        let event = Event::Take(update);
-        site.act(pass, outlet, &mut scratch, &event, Vni::new(0), &[]);
+        enter_message(site, pass, outlet, &mut scratch, &message);
     }
     unreachable!()
 }

@@ -1,0 +1,156 @@
+//! What waits for an edge from the other ones: their updates, as far as there is room, and a call
+//! where one of them has room again.
+ghost use Rattle.std.specs.Prelude.{◌≡◌, ◌+◌, ◌^◌, ◌<◌, ◌≤◌, IfOk};
+ghost use Rattle.ev_peers.specs.Mailbox.{no_mail, after_update, after_call, after_end, after_close, first_of, after_take};
+
+use route_wire::Update;
+use std::alloc::{AllocError, Global};
+use std::collections::VecDeque;
+use std::marker::Model;
+
+/// Where so many updates wait, the edge is behind, and the others keep theirs pending.
+const ROOM: usize = 4096;
+
+/// Once no more wait, an edge that was behind isn't any more.
+const CAUGHT_UP: usize = 2048;
+
+/// What an edge is sent by another one.
+#[derive(Clone, Copy, PartialEq, Eq, Debug)]
+pub enum Message {
+    /// An update that it has announced.
+    Record(Update),
+    /// It was behind, and has room for updates again.
+    Room,
+}
+
+/// What waits for an edge from the other ones. Its memory is taken once, when it is made.
+///
+/// An edge asks itself for an announcement only where no other one is behind; what isn't asked for
+/// stays pending there. So behind the updates that make an edge be behind comes at most one from
+/// each worker, which has looked before.
+#[derive(Drop)]
+pub struct Mailbox {
+    updates: VecDeque<Update>,
+    places: usize,
+    is_behind: bool,
+    is_called: bool,
+    has_ended: bool,
+    is_closed: bool,
+    lost: u64,
+}
+
+impl Model for Mailbox {
+    ghost use Rattle.std.specs.Prelude.{ℕ, ◌≤◌};
+    ghost use Rattle.std.specs.Coded.{codes};
+    ghost use Rattle.std.specs.FinMap.{code};
+    ghost use Rattle.std.specs.VecDeque.{deque_capacity};
+    ghost use Rattle.ev_peers.specs.Mailbox.{Mail, mail_of};
+
+    ghost Value = { Mail };
+
+    ghost coded = { Prim.hlevel (codes, code) };
+
+    ghost view = { λ m. mail_of m.updates.items m.places m.is_behind m.is_called m.has_ended
+        m.is_closed m.lost };
+
+    ghost invariant = { λ m. m.places ≤ deque_capacity m.updates };
+}
+
+impl Mailbox {
+    /// A mailbox in which nothing waits, of an edge to which so many workers send.
+    ///
+    /// # Errors
+    ///
+    /// Where memory is refused.
+    pub fn new(alloc: Global, workers: u32) -> Result<Self, AllocError>
+        ensures { IfOk result (λ m. m ≡ no_mail workers) }
+    {
+        let places = ROOM + workers as usize;
+        Ok(Mailbox {
+            updates: VecDeque::with_capacity(alloc, places)?,
+            places,
+            is_behind: false,
+            is_called: false,
+            has_ended: false,
+            is_closed: false,
+            lost: 0,
+        })
+    }
+
+    /// Puts an update behind the others. Where each place is taken it is lost, and counted; where
+    /// nobody takes any more it isn't wanted.
+    pub fn put(&mut self, update: Update)
+        ensures { self.new ≡ after_update update self.old }
+    {
+        if self.is_closed {
+            return;
+        }
+        if self.updates.len() >= self.places {
+            self.lost = self.lost.saturating_add(1);
+            return;
+        }
+        self.updates.push_back_reserved(update);
+        self.is_behind = self.is_behind || self.updates.len() >= ROOM;
+    }
+
+    /// Calls the edge: another one has room again.
+    pub fn call(&mut self)
+        ensures { self.new ≡ after_call self.old }
+    {
+        self.is_called = true;
+    }
+
+    /// Tells that nothing more comes.
+    pub fn end(&mut self)
+        ensures { self.new ≡ after_end self.old }
+    {
+        self.has_ended = true;
+    }
+
+    /// Tells that nobody takes any more what waits here.
+    pub fn close(&mut self)
+        ensures { self.new ≡ after_close self.old }
+    {
+        self.updates.clear();
+        self.is_behind = false;
+        self.is_closed = true;
+    }
+
+    /// Takes the first update, or the call where none waits.
+    pub fn take(&mut self) -> Option<Message>
+        ensures first { result ≡ first_of self.old }
+        ensures rest { self.new ≡ after_take self.old }
+    {
+        if let Some(update) = self.updates.pop_front() {
+            self.is_behind = self.is_behind && self.updates.len() > CAUGHT_UP;
+            return Some(Message::Record(update));
+        }
+        if self.is_called {
+            self.is_called = false;
+            return Some(Message::Room);
+        }
+        None
+    }
+
+    /// Whether the edge is behind: as many updates wait as have room, or did and it hasn't caught
+    /// up since.
+    pub fn is_behind(&self) -> bool
+        ensures { result ≡ self.now.is_behind }
+    {
+        self.is_behind
+    }
+
+    /// Whether nothing more comes.
+    pub fn has_ended(&self) -> bool
+        ensures { result ≡ self.now.has_ended }
+    {
+        self.has_ended
+    }
+
+    /// How many updates were lost.
+    pub fn lost(&self) -> u64
+        ensures { result ≡ self.now.lost }
+    {
+        self.lost
+    }
+}

@@ -1,0 +1,113 @@
+//! The edges that run beside each other, as one of them sees the others: their mailboxes.
+
+use crate::mailbox::Message;
+use crate::shared_mailbox::SharedMailbox;
+use route_wire::Update;
+use std::alloc::{AllocError, Global};
+use std::sync::Wait;
+
+/// The mailboxes of all edges. No clause says what goes over them, since none names what a lock
+/// holds.
+#[derive(Drop)]
+pub struct Mailboxes {
+    all: Vec<SharedMailbox>,
+}
+
+impl Mailboxes {
+    /// A mailbox for each of so many edges, which have so many workers together.
+    ///
+    /// # Errors
+    ///
+    /// Where memory is refused.
+    pub fn new(alloc: Global, edges: usize, workers: u32) -> Result<Self, AllocError> {
+        let mut all = Vec::with_capacity(alloc, edges)?;
+        for place in 0..edges {
+            let _ = place;
+            all.push(SharedMailbox::new(alloc, workers)?)?;
+        }
+        Ok(Mailboxes { all })
+    }
+
+    /// As the edge with this number sees them, counted from 1.
+    pub fn seen_by(&self, number: usize) -> Peers<'_> {
+        Peers {
+            mailboxes: self.all.as_slice(),
+            number,
+        }
+    }
+}
+
+/// The mailboxes of all edges, as one of these sees them.
+#[derive(Clone, Copy, Drop)]
+pub struct Peers<'x> {
+    mailboxes: &'x [SharedMailbox],
+    /// The edge's number, from 1.
+    number: usize,
+}
+
+impl Peers<'_> {
+    /// The edge's own mailbox.
+    fn own(&self) -> Option<&SharedMailbox> {
+        self.mailboxes.get(self.number.saturating_sub(1))
+    }
+
+    /// Whether no other edge is behind.
+    pub(crate) fn have_room(&self) -> bool {
+        for (place, mailbox) in self.mailboxes.iter().enumerate() {
+            if place + 1 != self.number && mailbox.is_behind() {
+                return false;
+            }
+        }
+        true
+    }
+
+    /// Sends an update to each of the others.
+    pub(crate) fn send<R: Wait>(&self, rt: &R, update: Update) {
+        for (place, mailbox) in self.mailboxes.iter().enumerate() {
+            if place + 1 != self.number {
+                mailbox.put(rt, update);
+            }
+        }
+    }
+
+    /// Tells each of the others that this edge has room again.
+    fn call<R: Wait>(&self, rt: &R) {
+        for (place, mailbox) in self.mailboxes.iter().enumerate() {
+            if place + 1 != self.number {
+                mailbox.call(rt);
+            }
+        }
+    }
+
+    /// Waits for what the others send. None once nothing waits and nothing more comes.
+    pub(crate) fn next<R: Wait>(&self, rt: &R) -> Option<Message> {
+        let (message, has_room_again) = self.own()?.next(rt);
+        if has_room_again {
+            self.call(rt);
+        }
+        message
+    }
+
+    /// Lets this edge's worker of updates end once nothing waits.
+    pub(crate) fn end<R: Wait>(&self, rt: &R) {
+        if let Some(mailbox) = self.own() {
+            mailbox.end(rt);
+        }
+    }
+
+    /// Tells that this edge takes no updates any more: so no other one keeps its own back for it.
+    pub(crate) fn leave<R: Wait>(&self, rt: &R) {
+        if let Some(mailbox) = self.own() {
+            mailbox.close(rt);
+        }
+        self.call(rt);
+    }
+
+    /// Whether an update for this edge was lost, since each place was taken.
+    pub(crate) fn has_lost<R: Wait>(&self, rt: &R) -> bool {
+        match self.own() {
+            Some(mailbox) => mailbox.lost(rt) > 0,
+            None => false,
+        }
+    }
+}
