@@ -1,7 +1,8 @@
 -- One step of an edge, and the journal that grows by it.
-use Rattle.std.proofs.Common.{◌≡◌, ◌+◌, Option, Some, None, IfSome, Result, Ok, Err, List, [], ◌∷◌, ◌++◌, refl, ap, sym}
-use Rattle.std.proofs.Common.{subst, ◌∙◌, arith}
+use Rattle.std.proofs.Common.{◌≡◌, ◌+◌, ◌≤◌, Bool, true, false, cond, length, Option, Some, None, IfSome, Result, Ok}
+use Rattle.std.proofs.Common.{Err, List, [], ◌∷◌, ◌++◌, refl, ap, sym, subst, ◌∙◌, arith}
 use Rattle.std.proofs.lemmas.List.Elements.{Contains-append_right, Contains-append_left, Contains-push}
+use Rattle.std.proofs.lemmas.Bool.{false≢true}
 use Rattle.std.proofs.lemmas.List.{length-map}
 use Rattle.std.specs.FinMap.{empty}
 use Rattle.route_wire.specs.declared.update.Register.{Register}
@@ -12,7 +13,7 @@ use Rattle.route_join.proofs.Edits.{new_table}
 use Rattle.route_join.proofs.Joins.{none_taken, all_taken}
 use Rattle.ev_claims.specs.declared.opening.Start.{Start}
 use Rattle.ev_claims.specs.Voice.{Voice, IsOwnAt, announced_of, announced, silent}
-use Rattle.ev_claims.specs.Claims.{Claims}
+use Rattle.ev_claims.specs.Claims.{Claims, entries}
 use Rattle.ev_claims.specs.Changes.{said_updates}
 use Rattle.ev_claims.specs.Opening.{Opens, floods_of}
 use Rattle.ev_edge.specs.declared.event.Event.{Event}
@@ -20,12 +21,15 @@ use Rattle.ev_edge.specs.declared.event.Event.TheVariants as events
 use Rattle.ev_edge.specs.declared.reply.Reply.{Reply}
 use Rattle.ev_edge.specs.declared.refusal.Refusal as edges
 use Rattle.ev_edge.specs.Edge.{Edge, table_of}
-use Rattle.ev_edge.specs.Steps.{Steps}
-use Rattle.ev_edge.specs.Changes.{Changes, accepted, heard}
+use Rattle.ev_edge.specs.declared.arrival.Arrival.{Arrival}
+use Rattle.ev_edge.specs.declared.arrival.Arrival.TheVariants.{Dropped, Message, Data}
+use Rattle.ev_edge.specs.Arrival.{tunnel_arrival}
+use Rattle.ev_edge.specs.Steps.{Steps, TunnelSteps}
+use Rattle.ev_edge.specs.Changes.{Changes, accepted, brought, heard}
 use Rattle.ev_edge.proofs.Changing.{heard_counter}
 use Rattle.ev_book.specs.Mark.{Holds, mark_of}
 use Rattle.ev_book.specs.Journal.{AreOwnSince}
-use Rattle.ev_book.specs.Entering.{touched, touched_by}
+use Rattle.ev_book.specs.Entering.{may_write, most_written, touched, touched_by}
 use Rattle.ev_book.proofs.Reaching.{holds_update, holds_there}
 
 -- what an event makes the edge say
@@ -43,6 +47,79 @@ are_own {e} {event} {result} {e'} h =
       numbered = λ i u at. subst (λ n. IsOwnAt e'.claims.voice (n + (i + 1)) u) before (h.says.numbered i u at);
       all = omega (arith, count, counter);
     }
+
+-- ---- room for what is written
+
+brings_one : (event : Event) → length (brought event) ≤ 1
+brings_one (events.Frame port octets) = omega arith
+brings_one (events.TunnelFrame from octets) = omega arith
+brings_one (events.Take u) = omega arith
+brings_one (events.Pin s port) = omega arith
+brings_one (events.Unpin s) = omega arith
+brings_one (events.Thaw s) = omega arith
+brings_one events.Second = omega arith
+brings_one (events.PortUp port) = omega arith
+brings_one (events.PortDown port) = omega arith
+brings_one (events.Mcheck port) = omega arith
+brings_one events.Announce = omega arith
+
+brings_none : (event : Event) → may_write event ≡ false → length (brought event) ≡ 0
+brings_none (events.Frame port octets) silent = refl
+brings_none (events.TunnelFrame from octets) silent = refl
+brings_none (events.Take u) silent = absurd (false≢true (sym silent))
+brings_none (events.Pin s port) silent = refl
+brings_none (events.Unpin s) silent = refl
+brings_none (events.Thaw s) silent = refl
+brings_none events.Second silent = refl
+brings_none (events.PortUp port) silent = refl
+brings_none (events.PortDown port) silent = refl
+brings_none (events.Mcheck port) silent = refl
+brings_none events.Announce silent = refl
+
+tunnel_counter : (arrival : Result Arrival edges.Refusal) (e : Edge) (result : Result Reply edges.Refusal) (e' : Edge)
+    → TunnelSteps arrival e result e' → e'.claims.voice.counter ≡ e.claims.voice.counter
+tunnel_counter (Err r) e result e' h = ap (λ (x : Edge). x.claims.voice.counter) h.1
+tunnel_counter (Ok Dropped) e result e' h = ap (λ (x : Edge). x.claims.voice.counter) h.1
+tunnel_counter (Ok (Message b)) e result e' h = absurd h
+tunnel_counter (Ok (Data vni destination source)) e (Ok reply) e' h = ap (λ (x : Edge). x.claims.voice.counter) h.2
+tunnel_counter (Ok (Data vni destination source)) e (Err r) e' h = absurd h
+
+-- an event that may not write leaves the counter, and brings nothing
+silent_counter : (e : Edge) (event : Event) (result : Result Reply edges.Refusal) (e' : Edge) → may_write event ≡ false
+    → Steps e event result e' → e'.claims.voice.counter ≡ e.claims.voice.counter
+silent_counter e (events.Frame port octets) result e' silent h = absurd (false≢true (sym silent))
+silent_counter e (events.TunnelFrame from octets) result e' silent h =
+    tunnel_counter (tunnel_arrival e from octets.now) e result e' h
+silent_counter e (events.Take u) result e' silent h = absurd (false≢true (sym silent))
+silent_counter e (events.Pin s port) result e' silent h = absurd (false≢true (sym silent))
+silent_counter e (events.Unpin s) result e' silent h = absurd (false≢true (sym silent))
+silent_counter e (events.Thaw s) result e' silent h = ap (λ (x : Edge). x.claims.voice.counter) h.1
+silent_counter e events.Second result e' silent h = absurd (false≢true (sym silent))
+silent_counter e (events.PortUp port) result e' silent h = absurd (false≢true (sym silent))
+silent_counter e (events.PortDown port) result e' silent h = absurd (false≢true (sym silent))
+silent_counter e (events.Mcheck port) result e' silent h = absurd (false≢true (sym silent))
+silent_counter e events.Announce result e' silent h = ap (λ (x : Edge). x.claims.voice.counter) h.1
+
+-- what the event brings fits into the room that is asked for
+pub fits_brought : (event : Event) (claims : Claims) → length (brought event) ≤ most_written event claims
+fits_brought event claims = go (may_write event) refl
+  where
+    go : (b : Bool) → may_write event ≡ b → length (brought event) ≤ cond b (entries claims + 2) 0
+    go true is = let one = brings_one event in omega (arith, one)
+    go false is = let none = brings_none event is in omega (arith, none)
+
+-- the event's own update and what the edge says fit into the room that is asked for
+pub fits_room : (e : Edge) (event : Event) (result : Result Reply edges.Refusal) (e' : Edge) → Steps e event result e'
+    → Changes e event result e'
+    → length (brought event) + e'.claims.voice.counter ≤ most_written event e.claims + e.claims.voice.counter
+fits_room e event result e' steps h = go (may_write event) refl
+  where
+    go : (b : Bool) → may_write event ≡ b → length (brought event)
+        + e'.claims.voice.counter ≤ cond b (entries e.claims + 2) 0 + e.claims.voice.counter
+    go true is = let few = h.few in let counter = h.counter in let one = brings_one event in
+        omega (arith, few, counter, one)
+    go false is = let same = silent_counter e event result e' is steps in let none = brings_none event is in
+        omega (arith, same, none)
 
 -- the journal's table is the edge's still
 pub still_table : {e : Edge} {event : Event} {result : Result Reply edges.Refusal} {e' : Edge} (journal : List Fields)

@@ -1,7 +1,8 @@
 -- What a call of a book does to it and to the pass.
 use Rattle.std.specs.Prelude.{◌≡◌, ℕ, ◌+◌, ◌^◌, ◌++◌, nat_le, Bool, true, false, Option, Some, None, Result, Ok, Err}
-use Rattle.std.specs.Prelude.{List, slice_set}
+use Rattle.std.specs.Prelude.{List, slice_set, if◌then◌else◌}
 use Rattle.route_wire.specs.Fields.{Fields}
+use Rattle.ev_claims.specs.Claims.{Claims, entries}
 use Rattle.ev_edge.specs.declared.event.Event.{Event}
 use Rattle.ev_edge.specs.declared.event.Event.TheVariants as events
 use Rattle.ev_edge.specs.declared.reply.Reply.{Reply}
@@ -53,6 +54,27 @@ mark_then m (Some u) = Some (mark_of u)
 abbrev pub called : PassState → Option Mark → PassState
 called p m = record { number = p.number; count = p.count + 1; mark = m }
 
+-- ---- what an event can write
+
+-- whether the edge may take or say an update at it: not at a frame from a tunnel, the end of a window or an
+-- announcement
+abbrev pub may_write : Event → Bool
+may_write (events.Frame port octets) = true
+may_write (events.TunnelFrame from octets) = false
+may_write (events.Take u) = true
+may_write (events.Pin s port) = true
+may_write (events.Unpin s) = true
+may_write (events.Thaw s) = false
+may_write events.Second = true
+may_write (events.PortUp port) = true
+may_write (events.PortDown port) = true
+may_write (events.Mcheck port) = true
+may_write events.Announce = false
+
+-- how many updates at the most: the one that it brings, and one more than the edge had stations
+abbrev pub most_written : Event → Claims → ℕ
+most_written event claims = if may_write event then entries claims + 2 else 0
+
 -- ---- one call
 
 -- One step of the edge. The journal grows by the update that the event took, whether it was news or not, and then by
@@ -74,11 +96,12 @@ pub record Writes (e : Edge) (us : List Fields) (event : Event) (result : Result
   pub kept : IsKept (table_of e) us left
   pub grows : Grows e left event result e' us'
 
--- It is written; or there was no room for it, though the journal is as short as its table allows.
+-- It is written; or there was no room for what it may write, though the journal is as short as its table allows.
 abbrev pub WritesOrNot : Edge → List Fields → Event → Result Reply BookRefusal → Edge → List Fields → Type 0
 WritesOrNot e journal event (Ok reply) e' journal' = Writes e journal event (Ok reply) e' journal'
 WritesOrNot e journal event (Err (OfEdge r)) e' journal' = Writes e journal event (Err r) e' journal'
-WritesOrNot e journal event (Err NoRoom) e' journal' = (e' ≡ e) × IsFull (table_of e) journal journal'
+WritesOrNot e journal event (Err NoRoom) e' journal' = (may_write event ≡ true) × (e' ≡ e)
+    × IsFull (table_of e) journal journal'
 WritesOrNot e journal event (Err PassStrange) e' journal' = ⊥
 WritesOrNot e journal event (Err PassSpent) e' journal' = ⊥
 

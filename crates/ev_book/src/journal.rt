@@ -1,6 +1,6 @@
 //! The journal of an edge: the updates that it took, and its own, in the order in which they came.
 //! It is compacted where it has grown to twice as many as the edge's table has registers.
-ghost use Rattle.std.specs.Prelude.{◌≡◌, ◌+◌, ◌*◌, ◌<◌, ◌≤◌, ◌++◌, [], OnOk, OnErr, IfSome, vec_len, vec_capacity};
+ghost use Rattle.std.specs.Prelude.{◌≡◌, ◌+◌, ◌*◌, ◌≤◌, ◌++◌, [], true, length, OnOk, OnErr, IfSome, vec_len, vec_capacity};
 ghost use Rattle.std.specs.Bool.{OnFalse};
 ghost use Rattle.route_wire.specs.Record.{Answers};
 ghost use Rattle.ether_wire.specs.Ends.{IsOpen, Puts};
@@ -9,12 +9,11 @@ ghost use Rattle.route_join.specs.Updates.{all_updates};
 ghost use Rattle.ev_edge.specs.declared.reply.Reply.{Reply as Replied};
 ghost use Rattle.ev_edge.specs.Edge.{table_of};
 ghost use Rattle.ev_edge.specs.Steps.{answered as stepped};
-ghost use Rattle.ev_edge.specs.Changes.{accepted};
-ghost use Rattle.ev_claims.specs.Claims.{entries};
+ghost use Rattle.ev_edge.specs.Changes.{accepted, brought};
 ghost use Rattle.ev_book.specs.declared.mark.Mark.{Mark as Marked};
 ghost use Rattle.ev_book.specs.Mark.{Holds, mark_of};
 ghost use Rattle.ev_book.specs.Journal.{HasOwnSince, AppendsOwn, Compacts, register_count, IsLeft, IsKept, IsFull, records_of, all_ok};
-ghost use Rattle.ev_book.specs.Entering.{Grows, WritesOrNot, answered, touched, touched_by};
+ghost use Rattle.ev_book.specs.Entering.{Grows, WritesOrNot, answered, may_write, most_written, touched, touched_by};
 
 use crate::refusal::BookRefusal;
 use ether_wire::{Device, Out};
@@ -55,10 +54,10 @@ pub(crate) fn append_own(journal: &mut Vec<Update>, edge: &Edge, before: u64)
 
 // Appends the update that an event took, for which there is room.
 fn append_taken(journal: &mut Vec<Update>, event: &Event<'_>, answer: &Result<(), Refusal>)
-    requires { vec_len journal.old < vec_capacity journal.old }
+    requires { vec_len journal.old + length (brought event.now) ≤ vec_capacity journal.old }
     ensures items { (reply : Replied) → journal.new.items
         ≡ journal.old.items ++ accepted event.now (stepped answer.now reply) }
-    ensures len { vec_len journal.new ≤ vec_len journal.old + 1 }
+    ensures len { vec_len journal.new ≤ vec_len journal.old + length (brought event.now) }
     ensures capacity { vec_capacity journal.new ≡ vec_capacity journal.old }
 {
     if answer.is_err() {
@@ -78,7 +77,8 @@ fn step_within(
     reply: &mut Reply,
 ) -> Result<(), Refusal>
     requires table { IsTableOf journal.old.items (table_of edge.old) }
-    requires room { vec_len journal.old + entries edge.old.claims + 2 ≤ vec_capacity journal.old }
+    requires room { vec_len journal.old + most_written event.now edge.old.claims
+        ≤ vec_capacity journal.old }
     ensures grows { Grows edge.old journal.old.items event.now
         (stepped result reply.new) edge.new journal.new.items }
     ensures table { IsTableOf journal.new.items (table_of edge.new) }
@@ -93,6 +93,16 @@ fn step_within(
     append_taken(journal, event, &answer);
     append_own(journal, edge, before);
     answer
+}
+
+/// Whether an event can make the edge take or say an update.
+fn may_write(event: &Event<'_>) -> bool
+    ensures { result ≡ may_write event.now }
+{
+    match event {
+        Event::TunnelFrame(..) | Event::Thaw(_) | Event::Announce => false,
+        _ => true,
+    }
 }
 
 /// One event of the edge, whose reply is written where another one stood, with what it took and
@@ -113,7 +123,7 @@ pub(crate) fn step(
     ensures mark { IfSome (touched_by event.now (answered result reply.new))
         (λ u. Holds (table_of edge.new) (mark_of u)) }
 {
-    if journal.make_room(edge).is_err() {
+    if journal.make_room(edge, event).is_err() {
         return Err(BookRefusal::NoRoom);
     }
     match step_within(edge, &mut journal.updates, event, reply) {
@@ -195,23 +205,27 @@ impl Journal {
         }
     }
 
-    // Makes room for what an event of the edge can append. Where memory for it is refused, the
-    // journal is compacted first, which may make room.
-    fn make_room(&mut self, edge: &Edge) -> Result<(), AllocError>
+    // Makes room for what an event of the edge can append; one that appends nothing asks for none.
+    // Where memory for it is refused, the journal is compacted first, which may make room.
+    fn make_room(&mut self, edge: &Edge, event: &Event<'_>) -> Result<(), AllocError>
         requires table { IsTableOf self.old.updates.items (table_of edge.now) }
         requires least { self.old.least ≤ register_count (table_of edge.now) }
         ensures kept { OnOk result (IsKept (table_of edge.now)
             self.old.updates.items self.new.updates.items) }
+        ensures writer { OnErr result (may_write event.now ≡ true) }
         ensures full { OnErr result (IsFull (table_of edge.now)
             self.old.updates.items self.new.updates.items) }
         ensures table { IsTableOf self.new.updates.items (table_of edge.now) }
         ensures least { self.new.least ≤ register_count (table_of edge.now) }
-        ensures room { OnOk result (vec_len self.new.updates + entries edge.now.claims + 2
+        ensures room { OnOk result (vec_len self.new.updates + most_written event.now edge.now.claims
             ≤ vec_capacity self.new.updates) }
     {
         edge.always_good();
-        let most = edge.entries() + 2;
         self.keep_short(edge.table());
+        if !may_write(event) {
+            return Ok(());
+        }
+        let most = edge.entries() + 2;
         if self.updates.reserve(most).is_ok() {
             return Ok(());
         }

@@ -12,7 +12,7 @@ use Rattle.ev_edge.proofs.Changing.{steps_change}
 use Rattle.ev_book.specs.Journal.{AreOwnSince}
 use Rattle.ev_book.proofs.Compacting.{no_fewer}
 use Rattle.ev_book.proofs.Reaching.{still_holds}
-use Rattle.ev_book.proofs.Stepping.{own_in, are_own, still_table, touched_by_there}
+use Rattle.ev_book.proofs.Stepping.{own_in, are_own, fits_brought, fits_room, still_table, touched_by_there}
 use Rattle.ev_book.proofs.journal.step_within.Goals as goal
 
 owned : (e : Edge) (event : Event) (result : Result Reply edges.Refusal) (e' : Edge) (before : ℕ)
@@ -29,18 +29,25 @@ append_own-requires-clause-numbered c =
           c.step_into-answer.new.self c.counter-before.result c.counter-before.ensures h,
     )
 
+pub append_taken-requires : goal.append_taken-requires
+append_taken-requires c =
+    let one = fits_brought c.args.event.now c.args.edge.now.claims in
+    let there = c.requires.room in
+    omega (arith, one, there)
+
 pub append_own-requires-clause-room : goal.append_own-requires-clause-room
 append_own-requires-clause-room c =
     let h = steps_change c.args.edge.now c.args.event.now
     (answered c.step_into-answer.result c.step_into-answer.new.reply) c.step_into-answer.new.self
     c.always_good.ensures c.step_into-answer.ensures in
-    let few = h.few in
-    let counter = h.counter in
+    let room = fits_room c.args.edge.now c.args.event.now
+    (answered c.step_into-answer.result c.step_into-answer.new.reply) c.step_into-answer.new.self
+    c.step_into-answer.ensures h in
     let before = c.counter-before.ensures in
-    let room = c.requires.room in
+    let there = c.requires.room in
     let len = c.append_taken.ensures.len in
     let capacity = c.append_taken.ensures.capacity in
-    omega (arith, few, counter, before, room, len, capacity)
+    omega (arith, room, before, there, len, capacity)
 
 changes : (c : goal.After-append_own) → Changes c.args.edge.now c.args.event.now
     (answered c.step_into-answer.result c.step_into-answer.new.reply) c.step_into-answer.new.self
