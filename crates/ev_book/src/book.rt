@@ -185,9 +185,9 @@ impl<L: Ledger> Book<L> {
     ///
     /// `PassStrange` exactly where the pass isn't what the book keeps of it, else `PassSpent`
     /// exactly at 2^55 calls: nothing changed then. `NoRoom` where the journal's room is refused to
-    /// an event that may write, though it has no more updates than the table registers, and `Edge` as
-    /// the edge refuses: then the call is counted, the journal may be compacted, and nothing else
-    /// changed.
+    /// an event that may write, though it has no more updates than the table registers, and `Edge`
+    /// as the edge refuses: then the call is counted, the journal may be compacted, and nothing
+    /// else changed.
     pub fn enter(&mut self, pass: &mut Pass<L>, event: &Event<'_>) -> Result<Reply, BookRefusal>
         ensures calls { CallsBook self.old pass.old event.now result self.new pass.new }
         ensures number { pass.new.number ≡ pass.old.number }

@@ -217,8 +217,8 @@ impl Journal {
             self.old.updates.items self.new.updates.items) }
         ensures table { IsTableOf self.new.updates.items (table_of edge.now) }
         ensures least { self.new.least ≤ register_count (table_of edge.now) }
-        ensures room { OnOk result (vec_len self.new.updates + most_written event.now edge.now.claims
-            ≤ vec_capacity self.new.updates) }
+        ensures room { OnOk result (vec_len self.new.updates
+            + most_written event.now edge.now.claims ≤ vec_capacity self.new.updates) }
     {
         edge.always_good();
         self.keep_short(edge.table());
