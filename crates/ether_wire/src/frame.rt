@@ -6,7 +6,8 @@
 //! | 6 | source |
 //! | 2 | type or length: at most 1500 is a length, any other value a type |
 //! | the rest | the payload; after as many octets as a length says, padding |
-ghost use Rattle.std.specs.Prelude.{◌≡◌, ◌≤◌, length};
+ghost use Rattle.std.specs.Prelude.{◌≡◌, ◌≤◌, nat_lt, length, take};
+ghost use Rattle.ether_wire.specs.declared.frame.TheConstants.{MOST_OCTETS};
 ghost use Rattle.ether_wire.specs.Frame.{frame_of, IsFrame, destination_of, source_of, type_or_length, kind_of, payload_of, refusal_number};
 
 use crate::names::Mac;
@@ -91,6 +92,22 @@ fn type_or_length(octets: &[u8]) -> u16
     BigEndian::read_u16(rest)
 }
 
+/// Whether these are more octets than a frame has at most.
+fn is_too_long(octets: &[u8]) -> bool
+    ensures { result ≡ nat_lt MOST_OCTETS (length octets.now) }
+{
+    octets.len() > MOST_OCTETS
+}
+
+/// The first octets behind the header, as many as a length says: what comes after is padding.
+fn counted(rest: &[u8], number: u16) -> &[u8]
+    requires { number ≤ length rest.now }
+    ensures { result.now ≡ take number rest.now }
+{
+    let (payload, _) = rest.split_at(usize::from(number));
+    payload
+}
+
 impl<'a> Frame<'a> {
     /// The frame that these octets are.
     #[tactic(auto, unfolding(crate::specs::Frame::frame_of))]
@@ -100,7 +117,7 @@ impl<'a> Frame<'a> {
         if octets.len() < PAYLOAD_PLACE {
             return Err(FrameRefusal::Short);
         }
-        if octets.len() > MOST_OCTETS {
+        if is_too_long(octets) {
             return Err(FrameRefusal::Long);
         }
         let number = type_or_length(octets);
@@ -152,8 +169,7 @@ impl<'a> Frame<'a> {
         let number = type_or_length(self.octets);
         let (_, rest) = self.octets.split_at(PAYLOAD_PLACE);
         if number <= MOST_LENGTH {
-            let (payload, _) = rest.split_at(usize::from(number));
-            payload
+            counted(rest, number)
         } else {
             rest
         }
