@@ -87,10 +87,10 @@ class Crate(rt.Crate):
             shutil.rmtree(os.path.dirname(self.rlib), ignore_errors=True)
             os.makedirs(os.path.dirname(self.rlib))
             return self.prove(["build", *words, "-o", self.rlib])
-        status, to = self.prove(["check", *words]), f"out/{self.name}"
-        # (each compiler's build checks once more, over what this check has kept)
-        words = [*words, "--toolchain", f"{rt.KIT}/toolchain"]
-        return status or self.compile_by("llvm", words, to) or self.compile_by("rattle", words, to)
+        # (the build by LLVM is the proof; Rattle's own compiler checks once more, over what that one has kept)
+        words, to = [*words, "--toolchain", f"{rt.KIT}/toolchain"], f"out/{self.name}"
+        status = self.prove(["build", *words, "--backend", "llvm", "-o", f"{to}.o"])
+        return status or self.link(f"{to}.o", to) or self.compile_by("rattle", words, to)
 
     def has_tests(self):
         return super().has_tests() or os.path.isdir(f"{os.getcwd()}/tests/unproved/{self.name}")
@@ -185,6 +185,9 @@ def main():
     rtlib.VERDICT = WithoutWord(rtlib.VERDICT)
     rt.Crate, rt.Kept, rt.add_edits = Crate, NothingKept, add_edits
     rt.need = lambda crate: min(needs(crate), MOST_MEMORY)
+    # One job a proof: each job more reads the libraries once more, up to a minute of a processor, and other crates or edits
+    # are nearly always there to fill the other lanes.
+    os.environ.setdefault("RT_JOBS", str(max(1, min(rt.processors(), rt.free() // MOST_MEMORY))))
     with tempfile.TemporaryDirectory(prefix="gate-") as Run.folder:
         open(f"{Run.folder}/ledger", "w").close()
         status = rt.ci(anew=True)
