@@ -4,15 +4,17 @@ ghost use Rattle.rstp_run.specs.Events.{IsAt, IsPort};
 ghost use Rattle.ev_claims.specs.Claims.{vni_at};
 ghost use Rattle.ev_edge.specs.Edge.{ArePassing};
 ghost use Rattle.ev_edge.specs.Bridging.{AddsPassing, BridgeGoes, next_second, aged};
-ghost use Rattle.ev_edge.specs.Steps.{BridgeSteps, BridgesAt, SecondSteps, answered, nothing};
+ghost use Rattle.ev_edge.specs.Steps.{BridgeSteps, BridgesAt, SecondSteps, answered};
 
 use crate::edge::Edge;
 use crate::refusal::{EdgeRefusal, Refusal};
 use crate::reply::Reply;
+use arrayvec::ArrayVec;
+use bpdu_wire::Bpdu;
 use ether_wire::{NO_PORTS, with_port};
 use ev_claims::Claims;
 use rstp_run::bridge::Bridge;
-use rstp_run::event::{Event, Outcome};
+use rstp_run::event::Event;
 
 /// The last second: the clock stays there.
 const LAST_SECOND: u64 = 0x8000_0000_0000_0000;
@@ -40,14 +42,15 @@ fn passing_ports(bridge: &Bridge) -> u64
     set
 }
 
-// The bridge goes on by the event until it is settled, or has fired as often as it may.
+// The bridge goes on by the event until it is settled, or has fired as often as it may. What it
+// sends takes the place of what is listed, and it tells the ports that it flushes.
 #[tactic(auto, using(crate::proofs::Going::goes_by))]
-fn go_on(bridge: &mut Bridge, event: Event) -> Outcome
+fn go_on(bridge: &mut Bridge, event: Event, sent: &mut ArrayVec<(u8, Bpdu), 64>) -> u64
     requires { IsAt event (length bridge.old.ports) }
-    ensures goes { BridgeGoes event bridge.old bridge.new result.flush result.out.items }
+    ensures goes { BridgeGoes event bridge.old bridge.new result sent.new.items }
     ensures ports { length bridge.new.ports ≡ length bridge.old.ports }
 {
-    bridge.event(event)
+    bridge.event_into(event, sent).flush
 }
 
 // The second after this one: at 2^63 the clock stays.
@@ -71,14 +74,6 @@ fn age(claims: &mut Claims, ageing: u64, clock: u64)
     }
 }
 
-// Tells what the bridge sends.
-fn tell_sent(outcome: Outcome, reply: &mut Reply)
-    ensures { reply.new ≡ record nothing { bpdus = outcome.out } }
-{
-    reply.clear();
-    reply.bpdus = outcome.out;
-}
-
 impl Edge {
     /// An event of the bridge at a port that is there: the bridge goes on, and the stations behind
     /// the ports that it flushes go.
@@ -86,10 +81,10 @@ impl Edge {
         requires { IsAt event (length self.old.tree.ports) }
         ensures { BridgeSteps event self.old reply.new self.new }
     {
-        let outcome = go_on(&mut self.bridge, event);
+        reply.clear();
+        let flush = go_on(&mut self.bridge, event, &mut reply.bpdus);
         self.passing = passing_ports(&self.bridge);
-        self.claims.flush(outcome.flush);
-        tell_sent(outcome, reply);
+        self.claims.flush(flush);
     }
 
     /// A second passes. The stations behind the ports that the bridge flushes go first, then those
@@ -97,12 +92,12 @@ impl Edge {
     pub(crate) fn second(&mut self, reply: &mut Reply)
         ensures { SecondSteps self.old reply.new self.new }
     {
-        let outcome = go_on(&mut self.bridge, Event::Second);
+        reply.clear();
+        let flush = go_on(&mut self.bridge, Event::Second, &mut reply.bpdus);
         self.passing = passing_ports(&self.bridge);
         self.clock = next_second(self.clock);
-        self.claims.flush(outcome.flush);
+        self.claims.flush(flush);
         age(&mut self.claims, self.ageing, self.clock);
-        tell_sent(outcome, reply);
     }
 
     // Whether there is such a port.

@@ -1,6 +1,6 @@
 -- A bridge is settled where no rule of the two tables is enabled at a port that is there.
 use Rattle.std.proofs.Common.{◌≡◌, ℕ, ◌≤◌, Bool, true, false, Some, List, [], ◌∷◌, length, slice_get, zero, suc, ◌<◌}
-use Rattle.std.proofs.Common.{◌+◌, below_more, arith, refl, ◌⊎◌, inl, inr, ◌↔◌, IsTrue, not}
+use Rattle.std.proofs.Common.{below_more, arith, refl, ◌⊎◌, inl, inr, ◌↔◌, IsTrue, not}
 use Rattle.std.specs.List.{list_any}
 use Rattle.std.proofs.lemmas.Bool.{cases_lt}
 use Rattle.std.proofs.lemmas.Option.{slice_get_past}

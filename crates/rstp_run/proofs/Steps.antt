@@ -122,6 +122,14 @@ fires-one s t a rule p holds is below = record {
   ports = ap (λ (v : Tree). length v.ports) is ∙ length-ports_after rule s p;
 }
 
+-- nothing was tried, since P holds already
+pub sweeps-none : (P : Tree → Type 0) (s : Tree) (a : Count) → a.fired ≤ a.limit → P s → Sweeps P s a s a
+sweeps-none P s a within holds = record {
+  goes = record { firings = []; run = refl; fired = omega arith; flush = refl; limit = refl; within = within };
+  idle = λ none. (holds, refl);
+  ports = refl;
+}
+
 -- two sweeps make one
 pub sweeps-both : (P Q R : Tree → Type 0) (s t u : Tree) (a b c : Count) → Sweeps P s a t b → Sweeps Q t b u c
     → (P s → Q s → R s) → Sweeps R s a u c

@@ -6,6 +6,7 @@ pub mod Laws
 pub mod Machines
 pub mod Migration
 pub mod Receive
+pub mod Rest
 pub mod RootPort
 pub mod Rules
 pub mod Runs

@@ -6,6 +6,9 @@ use Rattle.rstp_run.specs.Rules.{Tree, guard, after}
 use Rattle.rstp_run.specs.declared.rule.Rule.{Rule}
 use Rattle.rstp_run.specs.declared.rule.Rule.TheVariants.{Topology}
 use Rattle.rstp_run.specs.declared.rule.TopologyRule.TheVariants.{Flush}
+use Rattle.rstp_run.specs.declared.rule.Part.{Part}
+use Rattle.rstp_run.specs.declared.rule.Part.TheVariants as part
+use Rattle.rstp_run.specs.declared.rule.TheConstants.{MAIN, SENDS}
 use Rattle.rstp_run.specs.declared.count.Count.{Count}
 
 -- a rule that fires, and the place of its port
@@ -78,6 +81,11 @@ AreOffAt rules p s = list_any (λ rule. guard rule s p) rules ≡ false
 -- none of the rules is enabled at a port below n
 abbrev pub AreOffBelow : List Rule → ℕ → Tree → Type 0
 AreOffBelow rules n s = (p : ℕ) → p < n → AreOffAt rules p s
+
+-- the rules of a part of the table
+abbrev pub rules_of : Part → List Rule
+rules_of part.Main = MAIN
+rules_of part.Sends = SENDS
 
 -- none of the rules is enabled
 abbrev pub AreOff : List Rule → Tree → Type 0

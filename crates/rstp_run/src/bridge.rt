@@ -18,7 +18,9 @@ ghost use Rattle.rstp_run.specs.Rules.{Tree};
 ghost use Rattle.rstp_run.specs.Runs.{IsSettled};
 
 use crate::engine::Engine;
-use crate::event::{Event, Outcome};
+use crate::event::{Effect, Event, Outcome};
+use arrayvec::ArrayVec;
+use bpdu_wire::Bpdu;
 use rstp_state::port::PortState;
 use rstp_state::start::{PortSettings, Settings};
 use std::marker::Model;
@@ -83,6 +85,35 @@ impl Bridge {
         self.engine.len()
     }
 
+    /// The event, and at most so many firings. What is sent takes the place of what is listed.
+    fn go_within(
+        &mut self,
+        event: Event,
+        limit: usize,
+        out: &mut ArrayVec<(u8, Bpdu), 64>,
+    ) -> Effect
+        requires { IsAt event (length self.old.ports) }
+        ensures happens { Happens event limit self.old self.new result.settled result.flush }
+        ensures settled { IsTrue result.settled ↔ IsSettled self.new }
+        ensures out { out.new.items ≡ sent_from 1 self.new.ports }
+        ensures ports { length self.new.ports ≡ length self.old.ports }
+        ensures flushed_at { (p : ℕ) → has_port result.flush p ≡ true
+            → IsPort p (length self.new.ports) }
+        ensures sent_at { All (λ sent. IsPort sent.0 (length self.new.ports)) out.new.items }
+    {
+        let effect = self.engine.event_within(event, limit, out);
+        self.settled = effect.settled;
+        effect
+    }
+
+    /// As many firings as an event may have: 64 for each port and 64 more.
+    fn most_firings(&self) -> usize
+        ensures value { result ≡ firings_at self.now }
+        ensures some { 1 ≤ result }
+    {
+        64 * (self.len() + 1)
+    }
+
     /// The event's direct effect, and then rules that fire one after the other, up to the limit.
     /// It takes no memory.
     pub fn event_within(&mut self, event: Event, limit: usize) -> Outcome
@@ -99,9 +130,13 @@ impl Bridge {
             → IsPort p (length self.new.ports) }
         ensures sent_at { All (λ sent. IsPort sent.0 (length self.new.ports)) result.out.items }
     {
-        let outcome = self.engine.event_within(event, limit);
-        self.settled = outcome.settled;
-        outcome
+        let mut out = ArrayVec::new();
+        let effect = self.go_within(event, limit, &mut out);
+        Outcome {
+            settled: effect.settled,
+            flush: effect.flush,
+            out,
+        }
     }
 
     /// The event, with as many firings as an event may have: 64 for each port and 64 more.
@@ -118,8 +153,27 @@ impl Bridge {
             → IsPort p (length self.new.ports) }
         ensures sent_at { All (λ sent. IsPort sent.0 (length self.new.ports)) result.out.items }
     {
-        let limit = 64 * (self.len() + 1);
+        let limit = self.most_firings();
         self.event_within(event, limit)
+    }
+
+    /// The same, with what is sent in the place of what is listed: a caller that keeps one list
+    /// spares the clearing and the copies of a whole one, 4 KiB each.
+    pub fn event_into(&mut self, event: Event, out: &mut ArrayVec<(u8, Bpdu), 64>) -> Effect
+        requires { IsAt event (length self.old.ports) }
+        ensures happens { Happens event (firings_at self.old) self.old self.new
+            result.settled result.flush }
+        ensures settled { IsTrue result.settled ↔ IsSettled self.new }
+        ensures out { out.new.items ≡ sent_from 1 self.new.ports }
+        ensures ports { length self.new.ports ≡ length self.old.ports }
+
+        // The ports that are flushed, and those at which is sent, are there.
+        ensures flushed_at { (p : ℕ) → has_port result.flush p ≡ true
+            → IsPort p (length self.new.ports) }
+        ensures sent_at { All (λ sent. IsPort sent.0 (length self.new.ports)) out.new.items }
+    {
+        let limit = self.most_firings();
+        self.go_within(event, limit, out)
     }
 
     /// Whether frames pass at the port: the bridge is settled, and the port enabled and forwarding.

@@ -13,17 +13,17 @@ ghost use Rattle.rstp_run.specs.Rules.{
   ports_after,
   root_after,
   timing_of,
-  wants_selection,
 };
 
 use crate::count::Count;
-use crate::event::{Event, Outcome};
+use crate::event::{Effect, Event};
 use crate::firing::{
     detection_is_enabled, fire_detection, fire_information, fire_migration, fire_receive,
     fire_topology, fire_transmit, information_is_enabled, migration_is_enabled, receive_is_enabled,
     topology_is_enabled, transmit_is_enabled,
 };
-use crate::rule::{MAIN, Rule, SENDS};
+use crate::rest::{is_busy, wants_selection};
+use crate::rule::{MAIN, Part, Rule, SENDS};
 use arrayvec::ArrayVec;
 use bpdu_wire::Bpdu;
 use ether_wire::place_of_port;
@@ -62,13 +62,6 @@ fn timing_of(settings: &Settings, root: &Root) -> Timing
     }
 }
 
-/// Whether a port asks for roles to be selected anew.
-fn wants_selection(ports: &[PortState]) -> bool
-    ensures { result ≡ list_any wants_selection ports.now }
-{
-    ports.iter().any(|port| port.reselect)
-}
-
 /// No port has anything to send.
 fn clear_slots(ports: &mut [PortState])
     ensures { ports.new ≡ map without_slot ports.old }
@@ -101,18 +94,17 @@ fn take_in(ports: &mut [PortState], event: Event)
     }
 }
 
-/// What lies in the slots.
-fn sent(ports: &[PortState]) -> ArrayVec<(u8, Bpdu), 64>
+/// Lists what lies in the slots, in the place of what was listed before.
+fn list_sent(ports: &[PortState], out: &mut ArrayVec<(u8, Bpdu), 64>)
     requires { length ports.now ≤ 64 }
-    ensures { result.items ≡ sent_from 1 ports.now }
+    ensures { out.new.items ≡ sent_from 1 ports.now }
 {
-    let mut out = ArrayVec::new();
+    out.clear();
     for (i, port) in ports.iter().enumerate() {
         if let Some(bpdu) = port.slot {
             out.push(((i + 1) as u8, bpdu));
         }
     }
-    out
 }
 
 /// Whether the rule's guard holds at the port at place `p`.
@@ -167,6 +159,7 @@ fn fire_in(settings: &Settings, root: &mut Root, ports: &mut [PortState], rule: 
 
 impl Engine {
     ghost use Rattle.rstp_run.specs.Events.{IsPort};
+    ghost use Rattle.rstp_run.specs.Rest.{is_busy};
     ghost use Rattle.rstp_run.specs.Runs.{
       Goes,
       Sweeps,
@@ -175,6 +168,7 @@ impl Engine {
       AreOffBelow,
       AreOff,
       IsSettled,
+      rules_of,
     };
 
     /// A bridge before its first event.
@@ -239,27 +233,51 @@ impl Engine {
         }
     }
 
-    /// Tries each rule once at each port.
-    fn pass(&mut self, rules: &[Rule], count: &mut Count)
+    /// Whether a rule of the part may be enabled at the port at place `p`.
+    fn is_busy(&self, part: Part, p: usize) -> bool
+        requires { p < length self.now.ports }
+        ensures { result ≡ is_busy part self.now.ports p }
+    {
+        is_busy(part, &self.ports, p)
+    }
+
+    /// Tries each rule of the part once at the port, if one may be enabled.
+    fn try_part(&mut self, part: Part, p: usize, count: &mut Count)
+        requires there { p < length self.old.ports }
+        requires bit { p < 64 }
+        requires within { count.old.fired ≤ count.old.limit }
+        ensures { Sweeps (AreOffAt (rules_of part) p) self.old count.old self.new count.new }
+    {
+        if !self.is_busy(part, p) {
+            return;
+        }
+        match part {
+            Part::Main => self.try_port(&MAIN, p, count),
+            Part::Sends => self.try_port(&SENDS, p, count),
+        }
+    }
+
+    /// Tries each rule of the part once at each port.
+    fn pass(&mut self, part: Part, count: &mut Count)
         requires { count.old.fired ≤ count.old.limit }
-        ensures { Sweeps (AreOff rules.now) self.old count.old self.new count.new }
+        ensures { Sweeps (AreOff (rules_of part)) self.old count.old self.new count.new }
     {
         for p in 0..self.len() {
-            self.try_port(rules, p, count);
+            self.try_part(part, p, count);
         }
     }
 
     /// Passes go on until one fires nothing, or the limit is reached.
-    fn settle(&mut self, rules: &[Rule], count: &mut Count)
+    fn settle(&mut self, part: Part, count: &mut Count)
         requires { count.old.fired ≤ count.old.limit }
         ensures goes { Goes self.old count.old self.new count.new }
-        ensures off { count.new.fired < count.new.limit → AreOff rules.now self.new }
+        ensures off { count.new.fired < count.new.limit → AreOff (rules_of part) self.new }
         ensures idle { count.new.fired ≡ count.old.fired → self.new ≡ self.old }
         ensures ports { length self.new.ports ≡ length self.old.ports }
     {
         'passes: loop {
             let before = count.fired;
-            self.pass(rules, count);
+            self.pass(part, count);
             if count.fired == before || count.fired == count.limit {
                 return;
             }
@@ -305,9 +323,9 @@ impl Engine {
         ensures ports { length self.new.ports ≡ length self.old.ports }
     {
         'rounds: loop {
-            self.settle(&MAIN, count);
+            self.settle(Part::Main, count);
             let before = count.fired;
-            self.settle(&SENDS, count);
+            self.settle(Part::Sends, count);
             if count.fired == count.limit {
                 return self.is_settled();
             }
@@ -326,13 +344,18 @@ impl Engine {
         take_in(&mut self.ports, event);
     }
 
-    /// The event, and at most so many firings.
-    pub(crate) fn event_within(&mut self, event: Event, limit: usize) -> Outcome
+    /// The event, and at most so many firings. What is sent takes the place of what is listed.
+    pub(crate) fn event_within(
+        &mut self,
+        event: Event,
+        limit: usize,
+        out: &mut ArrayVec<(u8, Bpdu), 64>,
+    ) -> Effect
         requires { IsAt event (length self.old.ports) }
         ensures happens { Happens event limit self.old self.new result.settled result.flush }
         ensures yes { result.settled ≡ true → IsSettled self.new }
         ensures no { result.settled ≡ false → ¬ IsSettled self.new }
-        ensures out { result.out.items ≡ sent_from 1 self.new.ports }
+        ensures out { out.new.items ≡ sent_from 1 self.new.ports }
         ensures ports { length self.new.ports ≡ length self.old.ports }
     {
         self.start(event);
@@ -342,10 +365,10 @@ impl Engine {
             flush: 0,
         };
         let settled = self.run(&mut count);
-        Outcome {
+        list_sent(&self.ports, out);
+        Effect {
             settled,
             flush: count.flush,
-            out: sent(&self.ports),
         }
     }
 

@@ -18,6 +18,15 @@ pub enum Event {
     Mcheck(u8),
 }
 
+/// What came of an event, but for what is sent.
+#[derive(Clone, Copy, Debug, PartialEq, Eq)]
+pub struct Effect {
+    /// No rule is enabled any more.
+    pub settled: bool,
+    /// The ports at which what was learnt is to be forgotten: a set of `ether_wire`'s.
+    pub flush: u64,
+}
+
 /// What came of an event.
 #[derive(Drop)]
 pub struct Outcome {

@@ -256,7 +256,7 @@ pub(crate) fn aged(port: &mut PortState)
 }
 
 /// Whether a message waits that may be looked at.
-fn may_take(port: &PortState) -> bool
+pub(crate) fn may_take(port: &PortState) -> bool
     ensures { result ≡ may_take port.now }
 {
     is_current(port.information) && port.received_message && !port.update_info

@@ -13,6 +13,7 @@ mod information;
 pub mod laws;
 mod migration;
 mod receive;
+mod rest;
 pub mod rule;
 #[cfg(test)]
 mod tests;

@@ -82,6 +82,13 @@ pub enum Rule {
     Transmit(TransmitRule),
 }
 
+/// The two parts of the table: the rules that send come after all others.
+#[derive(Clone, Copy, Debug, PartialEq, Eq)]
+pub(crate) enum Part {
+    Main,
+    Sends,
+}
+
 impl Rule {
     ghost use Rattle.rstp_run.specs.Runs.{is_flush};
 

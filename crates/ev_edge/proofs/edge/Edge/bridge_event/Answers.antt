@@ -7,9 +7,9 @@ pub invariant_of-self : goal.invariant_of-self
 invariant_of-self c =
     let f = c.self.inside in
     let e = edge_of f.claims f.clock f.ageing f.bridge f.moves in
-    bridged e f.passing c.passing_ports-self-inside.result f.clock c.go_on-outcome.new.bridge
-    (after_flush f.claims c.go_on-outcome.result.flush) c.flush.new.self c.self.invariant
-    c.go_on-outcome.ensures.ports c.passing_ports-self-inside.ensures
-    c.self.invariant.keeps.early c.flush.ensures (flush_holds f.claims c.go_on-outcome.result.flush f.clock
+    bridged e f.passing c.passing_ports-self-inside.result f.clock c.go_on-flush.new.bridge
+    (after_flush f.claims c.go_on-flush.result) c.flush.new.self c.self.invariant
+    c.go_on-flush.ensures.ports c.passing_ports-self-inside.ensures
+    c.self.invariant.keeps.early c.flush.ensures (flush_holds f.claims c.go_on-flush.result f.clock
     (holds_of e f.passing c.self.invariant)) (removals_ports f.claims
-    (flushed_in f.claims.learned c.go_on-outcome.result.flush))
+    (flushed_in f.claims.learned c.go_on-flush.result))

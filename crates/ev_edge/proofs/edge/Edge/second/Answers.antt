@@ -1,11 +1,10 @@
-use Rattle.std.proofs.Common.{◌≡◌, ◌≤◌, ◌^◌, refl, sym, ap, subst, ◌∙◌}
+use Rattle.std.proofs.Common.{◌≤◌, ◌^◌, sym, ap, subst, ◌∙◌}
 use Rattle.ev_claims.specs.Claims.{Claims}
 use Rattle.ev_claims.specs.Leaving.{after_flush, flushed_in}
 use Rattle.ev_edge.specs.declared.reply.Reply.{Reply}
 use Rattle.ev_edge.specs.Edge.{Edge, edge_of}
-use Rattle.rstp_run.specs.declared.event.Event.TheVariants.{Second}
-use Rattle.ev_edge.specs.Bridging.{BridgeGoes, aged}
-use Rattle.ev_edge.specs.Steps.{SecondSteps, nothing}
+use Rattle.ev_edge.specs.Bridging.{aged}
+use Rattle.ev_edge.specs.Steps.{SecondSteps}
 use Rattle.ev_edge.proofs.Keeping.{bridged, holds_of, flush_holds, later_holds, aged_holds, aged_ports, removals_ports}
 use Rattle.ev_edge.proofs.Keeping.{second_early}
 use Rattle.ev_edge.proofs.edge.Edge.second.Goals as goal
@@ -14,13 +13,13 @@ pub invariant_of-self : goal.invariant_of-self
 invariant_of-self c =
     let f = c.self.inside in
     let e = edge_of f.claims f.clock f.ageing f.bridge f.moves in
-    let set = c.go_on-outcome.result.flush in
+    let set = c.go_on-flush.result in
     let now = c.next_second-self-inside.result in
     let times = second_early f.clock c.self.invariant.keeps.early in
     let later : f.clock ≤ now = subst (λ n. f.clock ≤ n) (sym c.next_second-self-inside.ensures) times.0 in
     let early : now ≤ 2 ^ 63 = subst (λ n. n ≤ 2 ^ 63) (sym c.next_second-self-inside.ensures) times.1 in
-    bridged e f.passing c.passing_ports-self-inside.result now c.go_on-outcome.new.bridge
-    (aged (after_flush f.claims set) f.ageing now) c.age.new.claims c.self.invariant c.go_on-outcome.ensures.ports
+    bridged e f.passing c.passing_ports-self-inside.result now c.go_on-flush.new.bridge
+    (aged (after_flush f.claims set) f.ageing now) c.age.new.claims c.self.invariant c.go_on-flush.ensures.ports
     c.passing_ports-self-inside.ensures
     early (c.age.ensures ∙ ap (λ (x : Claims). aged x f.ageing now) c.flush.ensures)
     (aged_holds (after_flush f.claims set) f.ageing now
@@ -31,18 +30,17 @@ invariant_of-self c =
 pub returns : goal.returns
 returns c =
     let f = c.self.inside in
-    subst (λ (x : Edge). SecondSteps x c.tell_sent.new.reply
-    (edge_of c.age.new.claims c.next_second-self-inside.result f.ageing c.go_on-outcome.new.bridge f.moves))
+    subst (λ (x : Edge). SecondSteps x (record c.clear.new.self { bpdus = c.go_on-flush.new.sent })
+    (edge_of c.age.new.claims c.next_second-self-inside.result f.ageing c.go_on-flush.new.bridge f.moves))
     c.self.view_is (record {
-      flush = c.go_on-outcome.result.flush;
-      goes = subst (λ (r : Reply). BridgeGoes Second f.bridge c.go_on-outcome.new.bridge c.go_on-outcome.result.flush
-          r.bpdus.items) (sym c.tell_sent.ensures) c.go_on-outcome.ensures.goes;
+      flush = c.go_on-flush.result;
+      goes = c.go_on-flush.ensures.goes;
       after = λ i. record {
         claims = (c.age.ensures ∙ (λ j. aged (c.flush.ensures j) f.ageing (c.next_second-self-inside.ensures j))) i;
         clock = c.next_second-self-inside.ensures i;
         ageing = f.ageing;
-        tree = c.go_on-outcome.new.bridge;
+        tree = c.go_on-flush.new.bridge;
         windows = f.moves.windows;
       };
-      reply_is = subst (λ (r : Reply). r ≡ record nothing { bpdus = r.bpdus }) (sym c.tell_sent.ensures) refl;
+      reply_is = ap (λ (r : Reply). record r { bpdus = c.go_on-flush.new.sent }) c.clear.ensures;
     })

@@ -4,4 +4,4 @@ use Rattle.rstp_run.proofs.engine.Engine.pass.Goals as goal
 
 pub loop-p-preserved : goal.loop-p-preserved
 loop-p-preserved c =
-    sweeps-both _ _ _ _ _ _ _ _ _ c.loop-p.invariant c.try_port.ensures (λ before here. below_more _ _ before here)
+    sweeps-both _ _ _ _ _ _ _ _ _ c.loop-p.invariant c.try_part.ensures (λ before here. below_more _ _ before here)

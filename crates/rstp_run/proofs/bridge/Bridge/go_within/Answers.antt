@@ -3,11 +3,11 @@ use Rattle.rstp_run.proofs.Kept.{happens_numbered}
 use Rattle.rstp_run.proofs.Orderly.{orderly-direct, orderly-run}
 use Rattle.rstp_run.proofs.Settled.{both-ways}
 use Rattle.rstp_run.proofs.Within.{flush-within, sent-at_ports}
-use Rattle.rstp_run.proofs.bridge.Bridge.event_within.Goals as goal
+use Rattle.rstp_run.proofs.bridge.Bridge.go_within.Goals as goal
 
 pub invariant_of-self : goal.invariant_of-self
 invariant_of-self c =
-    let given = c.event_within-outcome.ensures in
+    let given = c.event_within-effect.ensures in
     let same = given.ports in
     let some = c.self.invariant.3 in (
       both-ways _ _ given.yes given.no,
@@ -18,8 +18,8 @@ invariant_of-self c =
     )
 
 pub returns-clause-flushed_at : goal.returns-clause-flushed_at
-returns-clause-flushed_at c = λ p bit. flush-within _ _ _ _ _ _ c.event_within-outcome.ensures.happens p bit
+returns-clause-flushed_at c = λ p bit. flush-within _ _ _ _ _ _ c.event_within-effect.ensures.happens p bit
 
 pub returns-clause-sent_at : goal.returns-clause-sent_at
 returns-clause-sent_at c =
-    rw c.event_within-outcome.ensures.out (sent-at_ports c.event_within-outcome.new.self.ports)
+    rw c.event_within-effect.ensures.out (sent-at_ports c.event_within-effect.new.self.ports)

@@ -1,6 +1,6 @@
 use Rattle.std.proofs.Common.{◌≡◌, ◌≤◌, ◌+◌, ◌++◌, length, drop}
 use Rattle.rstp_run.specs.Events.{sent_from}
-use Rattle.rstp_run.proofs.engine.sent.Given as goal
+use Rattle.rstp_run.proofs.engine.list_sent.Given as goal
 
 abbrev pub invariant-loop-i : goal.invariant-loop-i
 invariant-loop-i l =
