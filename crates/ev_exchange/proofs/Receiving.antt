@@ -1,0 +1,140 @@
+-- What a receiver has received, octet after octet, and the end of its stream.
+use Rattle.std.proofs.Common.{◌≡◌, ℕ, true, false, List, [], ◌++◌, take, drop, length, Option, Result}
+use Rattle.std.proofs.Common.{Ok, Err, refl, sym, ap, subst, ◌∙◌, append_assoc, append-nil}
+use Rattle.std.proofs.lemmas.List.{nil_from_length, take-append-drop}
+use Rattle.route_wire.specs.declared.stream.Whole.{Whole}
+use Rattle.route_wire.specs.declared.stream.Whole.TheVariants.{Rest, Fault, Length}
+use Rattle.route_wire.specs.declared.stream.Next.{Next}
+use Rattle.route_wire.specs.declared.stream.Next.TheVariants.{More, Record, Refused, Fault as Faulted}
+use Rattle.route_wire.specs.Fields.{Fields}
+use Rattle.route_wire.specs.Record.{is_length, AnswersUpTo}
+use Rattle.route_wire.specs.Stream.{whole_up_to}
+use Rattle.route_wire.specs.Feed.{HasRead, added, is_rest, shown, next_by, next_of}
+use Rattle.route_wire.proofs.Cuttings.{read_whole_stream}
+use Rattle.ev_exchange.specs.declared.stream_end.StreamEnd.{StreamEnd}
+use Rattle.ev_exchange.specs.Receiving.{Received, Given, behind, AreCounts, news_of, handed, HasReceived}
+use Rattle.ev_exchange.specs.Receiving.{Delivers, end_by}
+use Rattle.ev_exchange.specs.Receiving.{end_of_next}
+use Rattle.ev_exchange.proofs.Counting.{handed_push, behind_twice}
+
+-- what goes on of what a feed has next, behind earlier answers
+abbrev pub news_next : List (Result Fields ℕ) → Next → List (Result Fields ℕ)
+news_next earlier More = []
+news_next earlier (Record u) = news_of earlier (Ok u)
+news_next earlier (Refused refusal) = news_of earlier (Err refusal)
+news_next earlier (Faulted fault) = []
+
+behind_none : (k : Given) → behind k [] ≡ k
+behind_none Option.None = refl
+behind_none (Option.Some xs) = ap Option.Some (append-nil xs)
+
+handed_next : (answers : List (Result Fields ℕ)) (x : Next)
+    → handed (answers ++ added x) ≡ handed answers ++ news_next answers x
+handed_next answers More = ap handed (append-nil answers) ∙ sym (append-nil (handed answers))
+handed_next answers (Record u) = handed_push answers (Ok u)
+handed_next answers (Refused refusal) = handed_push answers (Err refusal)
+handed_next answers (Faulted fault) = ap handed (append-nil answers) ∙ sym (append-nil (handed answers))
+
+-- octets that the feed took, with what it has next then
+received_next : (r s : Received) (given given' : Given) (octets : List ℕ) (x : Next)
+    → ((stream : List ℕ) (answers : List (Result Fields ℕ)) → HasRead r.feed stream answers
+    → HasRead s.feed (stream ++ octets) (answers ++ added x))
+    → ((answers : List (Result Fields ℕ)) → AreCounts r.counts answers → AreCounts s.counts (answers ++ added x))
+    → ((answers : List (Result Fields ℕ)) → AreCounts r.counts answers → given' ≡ behind given (news_next answers x))
+    → (start : Given) (stream : List ℕ) → HasReceived r start given stream
+    → HasReceived s start given' (stream ++ octets)
+received_next r s given given' octets x took counts news start stream h = record {
+  answers = h.answers ++ added x;
+  read = took stream h.answers h.read;
+  counts = counts h.answers h.counts;
+  handed_on = news h.answers h.counts ∙ ap (λ k. behind k (news_next h.answers x)) h.handed_on
+      ∙ behind_twice start (handed h.answers) (news_next h.answers x)
+      ∙ ap (behind start) (sym (handed_next h.answers x));
+}
+
+-- the same of a receiver that is seen as v
+pub received_step : (v r s : Received) (given given' : Given) (octets : List ℕ) (x : Next) → r ≡ v
+    → ((stream : List ℕ) (answers : List (Result Fields ℕ)) → HasRead r.feed stream answers
+    → HasRead s.feed (stream ++ octets) (answers ++ added x))
+    → ((answers : List (Result Fields ℕ)) → AreCounts r.counts answers → AreCounts s.counts (answers ++ added x))
+    → ((answers : List (Result Fields ℕ)) → AreCounts r.counts answers → given' ≡ behind given (news_next answers x))
+    → (start : Given) (stream : List ℕ) → HasReceived v start given stream
+    → HasReceived s start given' (stream ++ octets)
+received_step v r s given given' octets x same took counts news start stream h =
+    received_next r s given given' octets x took counts news start stream
+    (subst (λ (y : Received). HasReceived y start given stream) (sym same) h)
+
+-- nothing is counted and nothing goes on
+pub counts_none : (counts : List ℕ) (answers : List (Result Fields ℕ)) → AreCounts counts answers
+    → AreCounts counts (answers ++ [])
+counts_none counts answers h = subst (AreCounts counts) (sym (append-nil answers)) h
+
+pub none_given : (k : Given) → k ≡ behind k []
+none_given k = sym (behind_none k)
+
+-- ---- a piece, octets of which were taken so far
+pub record TakesFront (piece rest : List ℕ) (r s : Received) (given given' : Given) :
+    Type 0 where
+  pub front : List ℕ
+  pub split : piece ≡ front ++ rest
+  pub took : (start : Given) (stream : List ℕ) → HasReceived r start given stream
+      → HasReceived s start given' (stream ++ front)
+
+pub front_none : (piece : List ℕ) (r : Received) (given : Given)
+    → TakesFront piece piece r r given given
+front_none piece r given = record {
+  front = [];
+  split = refl;
+  took = λ start stream h. subst (HasReceived r start given) (sym (append-nil stream)) h;
+}
+
+pub front_more : (piece rest : List ℕ) (n : ℕ) (r s t : Received)
+    (given given' given'' : Given) → TakesFront piece rest r s given given'
+    → ((start : Given) (stream : List ℕ) → HasReceived s start given' stream
+    → HasReceived t start given'' (stream ++ take n rest)) → TakesFront piece (drop n rest) r t given given''
+front_more piece rest n r s t given given' given'' f took = record {
+  front = f.front ++ take n rest;
+  split = f.split ∙ ap (λ x. f.front ++ x) (sym (take-append-drop n rest))
+      ∙ sym (append_assoc f.front (take n rest) (drop n rest));
+  took = λ start stream h. subst (HasReceived t start given'') (append_assoc stream f.front (take n rest))
+      (took start (stream ++ f.front) (f.took start stream h));
+}
+
+pub front_all : (piece rest : List ℕ) (r s : Received) (given given' : Given)
+    → TakesFront piece rest r s given given' → length rest ≡ 0 → (start : Given)
+    (stream : List ℕ) → HasReceived r start given stream → HasReceived s start given' (stream ++ piece)
+front_all piece rest r s given given' f none start stream h =
+    subst (λ x. HasReceived s start given' (stream ++ x))
+    (sym (f.split ∙ ap (λ x. f.front ++ x) (nil_from_length rest none) ∙ append-nil f.front)) (f.took start stream h)
+
+-- ---- the end
+-- what is held tells the end of the stream's rest
+same_end : (w : Whole) (rest held : List ℕ) → is_length w ≡ false → (is_rest w ≡ true → rest ≡ held)
+    → end_by w held ≡ end_by w rest
+same_end Rest rest held e same = ap (end_by Rest) (sym (same refl))
+same_end (Fault f) rest held e same = refl
+same_end (Length n) rest held e same = cc
+
+-- where no whole record is held, what comes next tells it
+end_told : (w : Whole) (rest : List ℕ) (x : Next) → is_length w ≡ false → x ≡ next_by w rest
+    → end_of_next x rest ≡ end_by w rest
+end_told Rest rest x e h = ap (λ y. end_of_next y rest) h
+end_told (Fault f) rest x e h = ap (λ y. end_of_next y rest) h
+end_told (Length n) rest x e h = cc
+
+pub delivered : (r : Received) → r.feed.newest ≡ 3 → is_length (shown r.feed) ≡ false → (x : Next)
+    → x ≡ next_of r.feed → (end : StreamEnd) → end ≡ end_of_next x r.feed.rest → (start given : Given)
+    (stream : List ℕ) → HasReceived r start given stream → Delivers stream start given r.counts end
+delivered r version none x next end is start given stream h =
+    let whole = read_whole_stream r.feed stream h.answers h.read none in
+    record {
+      answers = h.answers;
+      rest = whole.0;
+      answered = subst (λ v. AnswersUpTo v stream h.answers whole.0) version whole.1;
+      handed_on = h.handed_on;
+      counted = h.counts;
+      end_is = is ∙ end_told (shown r.feed) r.feed.rest x none next
+          ∙ same_end (shown r.feed) whole.0 r.feed.rest none whole.3
+          ∙ ap (λ w. end_by w whole.0) (sym whole.2)
+          ∙ ap (λ v. end_by (whole_up_to v whole.0) whole.0) version;
+    }

@@ -1,0 +1,86 @@
+-- One record more, and none.
+use Rattle.std.proofs.Common.{◌≡◌, ℕ, ◌+◌, Bool, true, false, List, [], ◌∷◌, ◌++◌, map, drop, Result, Ok, refl, sym, ap}
+use Rattle.std.proofs.Common.{Err, cond, is_ok, subst, ◌∙◌, append_assoc, append-nil}
+use Rattle.std.specs.List.{concat, filter}
+use Rattle.std.proofs.lemmas.List.Folds.{concat-append}
+use Rattle.ether_wire.specs.Ends.{End, with_text, Puts}
+use Rattle.ether_wire.specs.declared.ends.Device.{Device}
+use Rattle.ether_wire.proofs.Appending.{with_text_twice}
+use Rattle.route_wire.specs.Fields.{Fields}
+use Rattle.route_wire.specs.Record.{ReadsUpTo, Reads}
+use Rattle.route_wire.specs.Spelling.{spelling_of}
+use Rattle.ev_exchange.specs.Sending.{Sending, records_of, all_ok, HasSent}
+
+-- answers, and then those of what is left
+reads_on : (newest : ℕ) (s : List ℕ) (xs ys : List (Result Fields ℕ)) (r t : List ℕ) → ReadsUpTo newest s xs r
+    → ReadsUpTo newest r ys t → ReadsUpTo newest s (xs ++ ys) t
+reads_on newest s [] ys r t h k = subst (λ (z : List ℕ). ReadsUpTo newest z ys t) (sym h) k
+reads_on newest s (x ∷ xs) ys r t h k = (h.0, h.1, h.2, reads_on newest (drop h.0 s) xs ys r t h.3 k)
+
+map_push : {X Y : Type 0} (f : X → Y) (us : List X) (u : X) → map f (us ++ u ∷ []) ≡ map f us ++ f u ∷ []
+map_push f [] u = refl
+map_push f (x ∷ us) u = ap (λ z. f x ∷ z) (map_push f us u)
+
+records_push : (us : List Fields) (u : Fields) → records_of (us ++ u ∷ []) ≡ records_of us ++ spelling_of u
+records_push us u = ap concat (map_push spelling_of us u) ∙ concat-append (map spelling_of us) (spelling_of u ∷ [])
+    ∙ ap (λ z. records_of us ++ z) (append-nil (spelling_of u))
+
+reads_more : (us : List Fields) (u : Fields) → ((rest : List ℕ) → Reads (records_of us ++ rest) (all_ok us) rest)
+    → ((rest : List ℕ) → Reads (spelling_of u ++ rest) (Ok u ∷ []) rest) → (rest : List ℕ)
+    → Reads (records_of (us ++ u ∷ []) ++ rest) (all_ok (us ++ u ∷ [])) rest
+reads_more us u before last rest =
+    let whole : records_of us ++ (spelling_of u ++ rest) ≡ records_of (us ++ u ∷ []) ++ rest =
+    sym (append_assoc (records_of us) (spelling_of u) rest)
+    ∙ ap (λ (z : List ℕ). z ++ rest) (sym (records_push us u)) in
+    subst (λ (z : List ℕ). Reads z (all_ok (us ++ u ∷ [])) rest) whole
+    (subst (λ (z : List (Result Fields ℕ)). Reads (records_of us ++ (spelling_of u ++ rest)) z rest)
+    (sym (map_push (λ x. Ok x) us u))
+    (reads_on 3 (records_of us ++ (spelling_of u ++ rest)) (all_ok us) (Ok u ∷ []) (spelling_of u ++ rest) rest
+    (before (spelling_of u ++ rest)) (last rest)))
+
+-- a record more was put, or the call failed
+sent_more : (s t : Sending) (start : End) (sent : List Fields) (u : Fields) → s.is_open ≡ true
+    → (t.is_open ≡ true → t.end ≡ with_text s.end (spelling_of u))
+    → (t.is_open ≡ false → t.end.failures ≡ s.end.failures + 1)
+    → ((rest : List ℕ) → Reads (spelling_of u ++ rest) (Ok u ∷ []) rest) → HasSent s start sent
+    → HasSent t start (sent ++ u ∷ [])
+sent_more s t start sent u opened put failed last h = record {
+  written = λ e. put e ∙ ap (λ x. with_text x (spelling_of u)) (h.written opened)
+      ∙ with_text_twice start (records_of sent) (spelling_of u) ∙ ap (with_text start) (sym (records_push sent u));
+  failed = λ e. failed e ∙ ap (λ (x : End). x.failures + 1) (h.written opened);
+  again = reads_more sent u h.again last;
+}
+
+never : true ≡ false → ⊥
+never e = cc
+
+-- after a failed call none is made
+pub sent_none : (s : Sending) (start : End) (sent : List Fields) (u : Fields) → s.is_open ≡ false
+    → ((rest : List ℕ) → Reads (spelling_of u ++ rest) (Ok u ∷ []) rest) → HasSent s start sent
+    → HasSent s start (sent ++ u ∷ [])
+sent_none s start sent u shut last h = record {
+  written = λ e. absurd (never (sym e ∙ shut));
+  failed = h.failed;
+  again = reads_more sent u h.again last;
+}
+
+-- what a put made of it
+pub sent_put : (s : Sending) (e e' : End) (o b : Bool) (u : Fields) (octets : List ℕ) (r : Result (Unit {0}) Device)
+    → record { end = e; is_open = o } ≡ s → o ≡ true → octets ≡ spelling_of u → Puts e e' octets r → b ≡ is_ok r
+    → ((rest : List ℕ) → Reads (spelling_of u ++ rest) (Ok u ∷ []) rest) → (start : End) (sent : List Fields)
+    → HasSent s start sent → HasSent (record { end = e'; is_open = b }) start (sent ++ u ∷ [])
+sent_put s e e' o b u octets (Ok done) same opened spells put is last start sent h =
+    sent_more s (record { end = e'; is_open = b }) start sent u (sym (ap (λ (x : Sending). x.is_open) same) ∙ opened)
+    (λ _. put ∙ ap (with_text e) spells ∙ ap (λ (x : Sending). with_text x.end (spelling_of u)) same)
+    (λ shut. absurd (never (sym is ∙ shut))) last h
+sent_put s e e' o b u octets (Err device) same opened spells put is last start sent h =
+    sent_more s (record { end = e'; is_open = b }) start sent u (sym (ap (λ (x : Sending). x.is_open) same) ∙ opened)
+    (λ still. absurd (never (sym still ∙ is)))
+    (λ _. put ∙ ap (λ (x : Sending). x.end.failures + 1) same) last h
+
+-- ---- a walk over updates of which some are said
+pub one_said : (p : Fields → Bool) (us : List Fields) (u : Fields) (rest so_far whole : List Fields) → us ≡ u ∷ rest
+    → p u ≡ true → so_far ++ filter p us ≡ whole → (so_far ++ u ∷ []) ++ filter p rest ≡ whole
+one_said p us u rest so_far whole steps own e = append_assoc so_far (u ∷ []) (filter p rest)
+    ∙ ap (λ b. so_far ++ cond b (u ∷ filter p rest) (filter p rest)) (sym own)
+    ∙ ap (λ x. so_far ++ filter p x) (sym steps) ∙ e

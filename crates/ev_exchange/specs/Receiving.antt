@@ -1,0 +1,95 @@
+-- What comes over a connection: the answers of its stream, what of them goes on, and how refusals are counted.
+use Rattle.std.specs.Prelude.{◌≡◌, ℕ, ◌+◌, ◌<◌, ◌^◌, ◌-◌, min, ◌==◌, if◌then◌else◌, List, [], ◌∷◌, ◌++◌}
+use Rattle.std.specs.Prelude.{length, slice_index, Option, Some, None, Result, Ok, Err}
+use Rattle.route_wire.specs.declared.stream.Whole.{Whole}
+use Rattle.route_wire.specs.declared.stream.Whole.TheVariants.{Rest, Fault, Length}
+use Rattle.route_wire.specs.declared.stream.Next.{Next}
+use Rattle.route_wire.specs.declared.stream.Next.TheVariants.{More, Record, Refused, Fault as Faulted}
+use Rattle.route_wire.specs.Fields.{Fields}
+use Rattle.route_wire.specs.Stream.{whole_of}
+use Rattle.route_wire.specs.Record.{Answers}
+use Rattle.route_wire.specs.Feed.{Held, HasRead}
+use Rattle.ev_exchange.specs.declared.receiver.TheConstants.{KINDS}
+use Rattle.ev_exchange.specs.declared.stream_end.StreamEnd.{StreamEnd}
+use Rattle.ev_exchange.specs.declared.stream_end.StreamEnd.TheVariants.{Whole as Ended, Cut, Faulty}
+
+-- what is held of an unfinished record, and how many records were refused, by the refusal's number
+pub record Received : Type 0 where
+  pub feed : Held
+  pub counts : List ℕ
+
+-- what an entrance was given, where it tells it: updates and refusals
+abbrev pub Given : Type 0
+Given = Option (List (Result Fields ℕ))
+
+-- and these behind it; an entrance that tells nothing goes on so
+abbrev pub behind : Given → List (Result Fields ℕ) → Given
+behind None more = None
+behind (Some given) more = Some (given ++ more)
+
+-- ---- refusals
+
+-- how many of the answers are refusals of this kind
+abbrev pub times : ℕ → List (Result Fields ℕ) → ℕ
+times kind [] = 0
+times kind (Ok u ∷ answers) = times kind answers
+times kind (Err refusal ∷ answers) = (if refusal == kind then 1 else 0) + times kind answers
+
+-- a count goes no further than the greatest number of 64 bits
+abbrev pub capped : ℕ → ℕ
+capped n = min n (2 ^ 64 - 1)
+
+-- each kind of refusal is counted
+abbrev pub AreCounts : List ℕ → List (Result Fields ℕ) → Type 0
+AreCounts counts answers = (kind : ℕ) → kind < KINDS → slice_index counts kind ≡ capped (times kind answers)
+
+-- ---- what goes on
+
+-- of one answer behind earlier ones: its update, or its refusal where that is the first of its kind
+abbrev pub news_of : List (Result Fields ℕ) → Result Fields ℕ → List (Result Fields ℕ)
+news_of earlier (Ok u) = Ok u ∷ []
+news_of earlier (Err kind) = if times kind earlier == 0 then Err kind ∷ [] else []
+
+-- of answers behind earlier ones, in their order
+abbrev pub handed_behind : List (Result Fields ℕ) → List (Result Fields ℕ) → List (Result Fields ℕ)
+handed_behind earlier [] = []
+handed_behind earlier (answer ∷ answers) = news_of earlier answer
+    ++ handed_behind (earlier ++ answer ∷ []) answers
+
+-- of all answers of a stream
+abbrev pub handed : List (Result Fields ℕ) → List (Result Fields ℕ)
+handed answers = handed_behind [] answers
+
+-- ---- the stream so far
+
+-- Of the stream so far the receiver's feed gave answers; each refusal of them is counted, and an entrance that told
+-- `start` was given what goes on of them.
+pub record HasReceived (r : Received) (start given : Given) (stream : List ℕ) : Type 0 where
+  pub answers : List (Result Fields ℕ)
+  pub read : HasRead r.feed stream answers
+  pub counts : AreCounts r.counts answers
+  pub handed_on : given ≡ behind start (handed answers)
+
+-- how a stream ends that has this rest behind its whole records
+abbrev pub end_by : Whole → List ℕ → StreamEnd
+end_by Rest rest = if length rest == 0 then Ended else Cut (length rest)
+end_by (Fault fault) rest = Faulty fault
+end_by (Length n) rest = Ended
+
+-- the same by what a feed has next that holds this rest
+abbrev pub end_of_next : Next → List ℕ → StreamEnd
+end_of_next More rest = end_by Rest rest
+end_of_next (Record u) rest = Ended
+end_of_next (Refused refusal) rest = Ended
+end_of_next (Faulted fault) rest = Faulty fault
+
+-- The answers of the stream, by its definition, up to the rest: an entrance that told `start` was given what goes on of
+-- them, each refusal of them is counted, and the stream's end is told.
+pub record Delivers (stream : List ℕ) (start given : Given) (counts : List ℕ)
+    (end : StreamEnd) : Type 0 where
+  pub answers : List (Result Fields ℕ)
+  pub rest : List ℕ
+  pub answered : Answers stream answers rest
+  pub handed_on : given ≡ behind start (handed answers)
+  pub counted : AreCounts counts answers
+  pub end_is : end ≡ end_by (whole_of rest) rest

@@ -1,0 +1,92 @@
+//! What one process says on a connection: what its edges say when it begins, and each update that
+//! they announce since, in their order.
+ghost use Rattle.std.specs.Prelude.{◌≡◌, ◌++◌, ◌∷◌, [], ◌==◌, List, false};
+ghost use Rattle.ether_wire.specs.Ends.{End, IsOpen};
+ghost use Rattle.route_wire.specs.Fields.{Fields};
+ghost use Rattle.ev_exchange.specs.Sending.{HasSent, own_updates};
+
+use ether_wire::{Addr, Out};
+use route_join::Table;
+use route_wire::{Update, write};
+use std::marker::Model;
+
+/// Writes what is said on a connection. After a failed call it makes none.
+#[derive(Drop)]
+pub struct Sender<W: Out> {
+    out: W,
+    is_open: bool,
+}
+
+impl<W: Out> Model for Sender<W> {
+    ghost use Rattle.std.specs.Prelude.{◌≡◌, true};
+    ghost use Rattle.ether_wire.specs.Ends.{IsOpen};
+    ghost use Rattle.ev_exchange.specs.Sending.{Sending};
+
+    ghost Value = { Sending };
+
+    ghost view = { λ s. record { end = W.end s.out; is_open = s.is_open } };
+
+    ghost invariant = { λ s. s.is_open ≡ true → IsOpen (W.end s.out) };
+}
+
+impl<W: Out> Sender<W> {
+    /// Before anything is said.
+    pub fn new(out: W) -> Self
+        requires { IsOpen (W.end out) }
+        ensures { HasSent result (W.end out) [] }
+    {
+        Sender { out, is_open: true }
+    }
+
+    /// Says an update: its record is written, or a call has failed.
+    pub fn put(&mut self, update: &Update)
+        ensures shut { self.old.is_open ≡ false → self.new ≡ self.old }
+        ensures sent { (start : End) (sent : List Fields) → HasSent self.old start sent
+            → HasSent self.new start (sent ++ update.now ∷ []) }
+    {
+        let record = write(update);
+        if self.is_open {
+            self.is_open = self.out.put(record.as_slice()).is_ok();
+        }
+    }
+
+    /// Says what an edge says at present: of its table each register of its own, those that are
+    /// withdrawn too, in the order of a report. It takes no memory.
+    pub fn say(&mut self, originator: Addr, table: &Table)
+        ensures shut { self.old.is_open ≡ false → self.new ≡ self.old }
+        ensures sent { (start : End) (sent : List Fields) → HasSent self.old start sent
+            → HasSent self.new start (sent ++ own_updates table.now originator) }
+    {
+        for update in table.updates() {
+            if update.register().originator == originator {
+                self.put(&update);
+            }
+        }
+    }
+
+    /// Has the writer give out what it holds, if anything.
+    pub fn flush(&mut self)
+        ensures shut { self.old.is_open ≡ false → self.new ≡ self.old }
+        ensures sent { (start : End) (sent : List Fields) → HasSent self.old start sent
+            → HasSent self.new start sent }
+    {
+        if self.is_open {
+            self.is_open = self.out.flush().is_ok();
+        }
+    }
+
+    /// Whether no call has failed.
+    pub fn is_open(&self) -> bool
+        ensures { result ≡ self.now.is_open }
+    {
+        self.is_open
+    }
+
+    /// Gives the writer back.
+    pub fn finish(self) -> W
+        ensures { W.end result ≡ self.end }
+    {
+        let Sender { out, is_open: _ } = self;
+        out
+    }
+}

@@ -1,0 +1,23 @@
+//! Connections whose octets were written down by the layout of a record, and ends that fail.
+mod received;
+mod sent;
+
+/// The flood list of network 5001, advertised by 10.0.0.1 with counter 1, in version 3.
+const FLOOD: [u8; 44] = [
+    0x45, 0x56, 0x03, 0x01, 0x00, 0x26, 0x0a, 0x00, 0x00, 0x01, 0x00, 0x00, 0x00, 0x00, 0x00, 0x00,
+    0x00, 0x00, 0x00, 0x00, 0x00, 0x01, 0x00, 0x13, 0x89, 0x03, 0x11, 0x00, 0x01, 0x0a, 0x00, 0x00,
+    0x01, 0x00, 0x01, 0x00, 0x00, 0x00, 0x00, 0x20, 0x0a, 0x00, 0x00, 0x01,
+];
+
+/// The place of its kind: 2 withdraws.
+const KIND: usize = 3;
+/// The place of the last octet of its counter.
+const COUNTER: usize = 21;
+
+/// The record with another octet at a place.
+fn with(mut record: [u8; 44], place: usize, octet: u8) -> [u8; 44] {
+    if let Some(old) = record.get_mut(place) {
+        *old = octet;
+    }
+    record
+}

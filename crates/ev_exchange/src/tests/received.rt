@@ -1,0 +1,104 @@
+//! What is received of octets, in whatever pieces.
+use super::{COUNTER, FLOOD, KIND, with};
+use crate::{Entrance, Receiver, StreamEnd};
+use arrayvec::ArrayVec;
+use ether_wire::{Addr, Vni};
+use route_wire::{BAD_MAGIC, COUNTER_ZERO, Content, Key, Update};
+use std::alloc::Global;
+use std::test::Fail;
+
+/// An entrance that keeps what it is given.
+#[derive(Drop)]
+struct Kept {
+    updates: Vec<Update>,
+    refusals: ArrayVec<u8, 8>,
+}
+
+impl Kept {
+    /// Nothing yet.
+    fn none(alloc: Global) -> Kept {
+        Kept {
+            updates: Vec::new(alloc),
+            refusals: ArrayVec::new(),
+        }
+    }
+}
+
+impl Entrance for Kept {
+    ghost use Rattle.std.specs.Prelude.{None};
+
+    ghost given = { λ kept. None };
+
+    fn enter(&mut self, update: &Update) {
+        let _ = self.updates.push(*update);
+    }
+
+    fn tell(&mut self, refusal: u8) {
+        let _ = self.refusals.try_push(refusal);
+    }
+}
+
+/// The advert, two records with counter 0, the withdrawal with counter 2.
+fn stream() -> ArrayVec<u8, 256> {
+    let mut octets = ArrayVec::new();
+    let withdrawn = with(with(FLOOD, KIND, 2), COUNTER, 2);
+    let zero = with(FLOOD, COUNTER, 0);
+    for record in [FLOOD, zero, zero, withdrawn].iter() {
+        let _ = octets.try_extend_from_slice(record);
+    }
+    octets
+}
+
+/// Whether the kept updates are those of `stream`, and the refusal was told once.
+fn is_stream(kept: &Kept) -> bool {
+    let [first, second] = kept.updates.as_slice() else {
+        return false;
+    };
+    let key = Key::Flood(Vni::new(5001));
+    first.register().originator == Addr::new(0x0a00_0001)
+        && first.register().key == key
+        && second.register() == first.register()
+        && first.value().content != Content::Withdrawn
+        && second.value().content == Content::Withdrawn
+        && second.value().counter == 2
+        && kept.refusals.as_slice() == [COUNTER_ZERO].as_slice()
+}
+
+#[test]
+fn a_stream_in_one_piece_is_entered_once(rt: HostRuntime) {
+    let mut receiver = Receiver::new();
+    let mut kept = Kept::none(rt.alloc());
+    receiver.take(stream().as_slice(), &mut kept);
+    assert!(rt; is_stream(&kept));
+    assert_eq!(rt; receiver.refused(COUNTER_ZERO), 2);
+    assert_eq!(rt; receiver.refused(255), 0);
+    assert_eq!(rt; receiver.end(), StreamEnd::Whole);
+}
+
+#[test]
+fn a_stream_octet_by_octet_is_entered_once(rt: HostRuntime) {
+    let mut receiver = Receiver::new();
+    let mut kept = Kept::none(rt.alloc());
+    let octets = stream();
+    for octet in octets.as_slice().iter() {
+        receiver.take(&[*octet], &mut kept);
+    }
+    assert!(rt; is_stream(&kept));
+    assert_eq!(rt; receiver.refused(COUNTER_ZERO), 2);
+    receiver.take(&[0x45, 0x56, 0x03], &mut kept);
+    assert_eq!(rt; receiver.end(), StreamEnd::Cut(3));
+    assert!(rt; is_stream(&kept));
+}
+
+#[test]
+fn behind_a_fault_nothing_is_read(rt: HostRuntime) {
+    let mut receiver = Receiver::new();
+    let mut kept = Kept::none(rt.alloc());
+    receiver.take(stream().as_slice(), &mut kept);
+    receiver.take(b"GET / HTTP/1.1\r\n", &mut kept);
+    assert_eq!(rt; receiver.end(), StreamEnd::Faulty(BAD_MAGIC));
+    receiver.take(stream().as_slice(), &mut kept);
+    assert_eq!(rt; receiver.end(), StreamEnd::Faulty(BAD_MAGIC));
+    assert!(rt; is_stream(&kept));
+    assert_eq!(rt; receiver.refused(COUNTER_ZERO), 2);
+}
