@@ -206,6 +206,36 @@ GOOD = [
 ]
 
 
+# the lines that docs/script.md has, one a line
+HELP = lines(
+    "E up P", "E down P", "E mcheck P", "E second N", "E frame P HEX", "E tunnel ADDR HEX", "E pin VNI MAC P", "E unpin VNI MAC",
+    "E thaw VNI MAC", "E announce", "E deliver K", "E restart N", "E port P", "E report", "help",
+)
+
+# questions, which are no lines of a simulation
+QUESTIONS = ["help"]
+
+# what is neither a question nor a command
+NO_QUESTIONS = ["help ", " help", "Help", "help 1", "1 help", "help\r"]
+
+# name: configuration, what is played, what is printed
+PLAYED = {
+    "help": (ONE, "help\n", "> help\n" + HELP),
+    "help changes nothing": (
+        ONE, "# a remark\n1 announce\nhelp\n\n1 announce\nhelp",
+        "> 1 announce\n1 pool 1\n> help\n" + HELP + "> 1 announce\n1 none\n> help\n" + HELP,
+    ),
+}
+
+
+def played() -> dict:
+    """Every script that is played, as below."""
+    found = {name: (config, script.encode(), 0, out, "") for name, (config, script, out) in PLAYED.items()}
+    for bad in NO_QUESTIONS:
+        found["no question " + repr(bad)] = (ONE, f"#\n{bad}\nhelp\n".encode(), 1, "", "line 2 bad\n")
+    return found
+
+
 def cases() -> dict:
     """Every script: its configuration, its text, its status, and what is printed where (`None`: whatever it is)."""
     found = {}
@@ -217,7 +247,7 @@ def cases() -> dict:
         found["example " + name] = (parts[0], parts[1].encode(), 0, parts[2], "")
     for name, (config, script, out) in WORKED.items():
         found[name] = (config, script.encode(), 0, out, "")
-    for bad in BAD:
+    for bad in BAD + QUESTIONS:
         script = f"1 announce\n{bad}\n1 announce\n"
         found["bad line " + repr(bad[:60])] = (ONE, script.encode(), 1, "1 pool 1\n", "line 2 bad\n")
     found["octets that aren't UTF-8"] = (ONE, b"1 announce\n1 announce\n1 report\xff\n", 1, "1 pool 1\n1 none\n", "line 3 bad\n")
@@ -233,20 +263,28 @@ class Simulations(unittest.TestCase):
     def test_there_are_examples(self):
         self.assertGreaterEqual(len(NAMES), 5)
 
-    @needs_program
-    def test_scripts(self):
+    def runs(self, subcommand: str, scripts: dict) -> None:
+        """Runs each script, and looks at all that becomes of it."""
         with tempfile.TemporaryDirectory() as work:
             path = os.path.join(work, "edges.toml")
-            for name, (config, script, status, out, notes) in cases().items():
+            for name, (config, script, status, out, notes) in scripts.items():
                 with open(path, "w", encoding="utf-8") as stream:
                     stream.write(config)
                 with self.subTest(name=name):
                     done = subprocess.run(
-                        [PROGRAM, "simulate", "--config", path], input=script, capture_output=True, timeout=60, check=False
+                        [PROGRAM, subcommand, "--config", path], input=script, capture_output=True, timeout=60, check=False
                     )
                     self.assertEqual((done.returncode, done.stderr.decode()), (status, notes))
                     if out is not None:
                         self.assertEqual(done.stdout.decode(), out)
+
+    @needs_program
+    def test_scripts(self):
+        self.runs("simulate", cases())
+
+    @needs_program
+    def test_questions(self):
+        self.runs("play", played())
 
 
 if __name__ == "__main__":

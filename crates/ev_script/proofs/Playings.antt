@@ -10,11 +10,17 @@ use Rattle.ev_fabric.specs.declared.step.Step.TheVariants as steps
 use Rattle.ev_fabric.specs.declared.step.LocalEvent.TheVariants as events
 use Rattle.ev_fabric.specs.Fabric.{Fabric}
 use Rattle.ev_fabric.specs.Steps.{FabricSteps}
+use Rattle.ether_wire.specs.Ends.{End}
+use Rattle.ev_report.specs.Ends.{Tells}
+use Rattle.ev_script.specs.declared.script.question.Question.{Question}
+use Rattle.ev_script.specs.Shown.{shown_text}
+use Rattle.ev_script.specs.Views.{view_text}
 use Rattle.ev_script.specs.declared.simulate.player.Player.{Player}
 use Rattle.ev_script.specs.declared.script.mode.Mode.{Mode}
-use Rattle.ev_script.specs.Script.{Command, Item, second, skips, line_of, item_of, cut_line, Follows}
+use Rattle.ev_script.specs.Script.{Command, Item, second, skips, asked_in, asks_no_step, line_of, item_of, cut_line}
+use Rattle.ev_script.specs.Script.{Follows}
 use Rattle.ev_script.specs.Simulation.{Made, IsOne, AskedItem, AskedAll, joined, Goes, is_starved, has_starved}
-use Rattle.ev_script.specs.Playing.{Makes, MakesOne, Performs, PlaysLine, Played, PlaysTo}
+use Rattle.ev_script.specs.Playing.{Makes, MakesOne, Performs, PlaysLine, Played, PlaysTo, Answers}
 use Rattle.ev_report.proofs.Taking.{or_assoc, or_false}
 
 -- ---- steps
@@ -127,25 +133,62 @@ played_bad mode script rest line after p q r n number h some cut k is =
 
 -- ---- a line
 
-item_skipped : (mode : Mode) (line : List ℕ) → skips mode line ≡ true → item_of mode line ≡ Some None
+-- no question, nor skipped
+pub no_question : (mode : Mode) (line : List ℕ) → asked_in mode line ≡ None → skips mode line ≡ false
+    → asks_no_step mode line ≡ false
+no_question mode line e f = rw (e, f) refl
+
+-- a question
+pub question_asked : (mode : Mode) (line : List ℕ) (q : Question) → asked_in mode line ≡ Some q
+    → asks_no_step mode line ≡ true
+question_asked mode line q e = rw e refl
+
+-- skipped
+pub line_passed : (mode : Mode) (line : List ℕ) → asked_in mode line ≡ None → skips mode line ≡ true
+    → asks_no_step mode line ≡ true
+line_passed mode line e f = rw (e, f) refl
+
+-- its line was shown, and it was answered
+pub question_answered : (mode : Mode) (line : List ℕ) (p q : Player) (a b : End) (question : Question)
+    → asked_in mode line ≡ Some question → Makes [] p q
+    → Tells a b p.is_told q.is_told (shown_text mode line ++ view_text question) → Answers mode line p q a b
+question_answered mode line p q a b question e made told =
+    λ x h. (
+      made.goes,
+      subst (λ y. Tells a b p.is_told q.is_told (shown_text mode line ++ view_text y)) (same x (sym e ∙ h))
+          told,
+    )
+  where
+    same : (x : Question) → Some question ≡ Some x → question ≡ x
+    same x h = cc
+
+pub nothing_answered : (mode : Mode) (line : List ℕ) (p q : Player) (a b : End) → asked_in mode line ≡ None
+    → Answers mode line p q a b
+nothing_answered mode line p q a b e = λ x h. absurd (none x (sym e ∙ h))
+  where
+    none : (x : Question) → None ≡ Some x → ⊥
+    none x h = cc
+
+item_skipped : (mode : Mode) (line : List ℕ) → asks_no_step mode line ≡ true → item_of mode line ≡ Some None
 item_skipped mode line e = rw e refl
 
-item_read : (mode : Mode) (line : List ℕ) (found : Option (ℕ × Command)) → skips mode line ≡ false
+item_read : (mode : Mode) (line : List ℕ) (found : Option (ℕ × Command)) → asks_no_step mode line ≡ false
     → line_of line ≡ found → item_of mode line ≡ option_map (λ c. Some c) found
 item_read mode line found e is = rw (e, is) refl
 
 -- it asks for nothing
-pub line_skipped : (mode : Mode) (line : List ℕ) (p : Player) → skips mode line ≡ true → PlaysLine mode line p p true
-line_skipped mode line p e = (None, item_skipped mode line e, ([], refl, makes_none p p refl refl))
+pub line_skipped : (mode : Mode) (line : List ℕ) (p q : Player) → asks_no_step mode line ≡ true → Makes [] p q
+    → PlaysLine mode line p q true
+line_skipped mode line p q e h = (None, item_skipped mode line e, ([], refl, h))
 
 -- it is a bad one
-pub line_bad : (mode : Mode) (line : List ℕ) (p : Player) → skips mode line ≡ false → line_of line ≡ None
+pub line_bad : (mode : Mode) (line : List ℕ) (p : Player) → asks_no_step mode line ≡ false → line_of line ≡ None
     → PlaysLine mode line p p false
 line_bad mode line p e is = (item_read mode line None e is, refl)
 
 -- its command was shown, and then done
-pub line_done : (mode : Mode) (line : List ℕ) (p q r : Player) (edge : ℕ) (command : Command) → skips mode line ≡ false
-    → line_of line ≡ Some (edge, command)
+pub line_done : (mode : Mode) (line : List ℕ) (p q r : Player) (edge : ℕ) (command : Command)
+    → asks_no_step mode line ≡ false → line_of line ≡ Some (edge, command)
     → Makes [] p q → Performs edge command q r → PlaysLine mode line p r true
 line_done mode line p q r edge command e is shown done = (
   Some (edge, command),

@@ -4,3 +4,4 @@ pub mod Playing
 pub mod Printing
 pub mod Faults
 pub mod Shown
+pub mod Views

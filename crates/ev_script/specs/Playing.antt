@@ -1,11 +1,17 @@
 -- How far a simulation has come.
-use Rattle.std.specs.Prelude.{◌≡◌, ℕ, ◌+◌, Bool, true, false, ◌||◌, List, [], ◌∷◌, length, Option, Some, None, Result}
+use Rattle.std.specs.Prelude.{◌≡◌, ℕ, ◌+◌, Bool, true, false, ◌||◌, List, [], ◌∷◌, ◌++◌, length}
+use Rattle.std.specs.Prelude.{Option, Some, None, Result}
 use Rattle.ev_edge.specs.declared.reply.Reply.{Reply}
 use Rattle.ev_fabric.specs.declared.refusal.Refusal.{Refusal}
 use Rattle.ev_fabric.specs.declared.step.Step.{Step}
 use Rattle.ev_script.specs.declared.simulate.player.Player.{Player}
+use Rattle.ev_report.specs.Ends.{Tells}
+use Rattle.ether_wire.specs.Ends.{End}
 use Rattle.ev_script.specs.declared.script.mode.Mode.{Mode}
-use Rattle.ev_script.specs.Script.{Command, Item, item_of, Follows, Ends}
+use Rattle.ev_script.specs.declared.script.question.Question.{Question}
+use Rattle.ev_script.specs.Script.{Command, Item, item_of, asked_in, Follows, Ends}
+use Rattle.ev_script.specs.Shown.{shown_text}
+use Rattle.ev_script.specs.Views.{view_text}
 use Rattle.ev_script.specs.Simulation.{Made, Asked, AskedItem, AskedAll, Goes, has_starved, joined}
 
 -- These steps were made.
@@ -29,6 +35,11 @@ PerformsItem item old new = (made : List Made) × AskedItem item made × Makes m
 abbrev pub PlaysLine : Mode → List ℕ → Player → Player → Bool → Type 0
 PlaysLine mode line old new true = (item : Item) × (item_of mode line ≡ Some item) × PerformsItem item old new
 PlaysLine mode line old new false = (item_of mode line ≡ None) × (new ≡ old)
+
+-- A line that is a question was printed, and then exactly what is told of it; nothing else has changed.
+abbrev pub Answers : Mode → List ℕ → Player → Player → End → End → Type 0
+Answers mode line old new a b = (q : Question) → asked_in mode line ≡ Some q
+    → (new.fabric ≡ old.fabric) × Tells a b old.is_told new.is_told (shown_text mode line ++ view_text q)
 
 -- The steps of the lines in front of the rest were made.
 pub record Played (mode : Mode) (script rest : List ℕ) (old new : Player) (n : ℕ) : Type 0 where

@@ -1,6 +1,6 @@
 -- A script: one command a line.
-use Rattle.std.specs.Prelude.{◌≡◌, ℕ, ◌+◌, ◌*◌, slice_get, ◌%◌, ◌^◌, ◌-◌, Bool, true, false, ◌&&◌, ◌==◌, ◌<◌, nat_lt}
-use Rattle.std.specs.Prelude.{nat_le, if◌then◌else◌, List, [], ◌∷◌, length, codes, Option, Some, None, is_some}
+use Rattle.std.specs.Prelude.{◌≡◌, ℕ, ◌+◌, ◌*◌, slice_get, ◌%◌, ◌^◌, ◌-◌, Bool, true, false, ◌&&◌, ◌||◌, ◌==◌, ◌<◌}
+use Rattle.std.specs.Prelude.{nat_lt, nat_le, if◌then◌else◌, List, [], ◌∷◌, length, codes, Option, Some, None, is_some}
 use Rattle.std.specs.Prelude.{option_map, option_and_then}
 use Rattle.std.specs.List.{list_all}
 use Rattle.std.specs.Str.{bytes_eq}
@@ -10,6 +10,8 @@ use Rattle.ev_script.specs.declared.script.command.Verb.{Verb}
 use Rattle.ev_script.specs.declared.script.command.Verb.TheVariants.{Up, Down, Mcheck, Second, Frame, Tunnel, Pin}
 use Rattle.ev_script.specs.declared.script.command.Verb.TheVariants.{Unpin, Thaw, Announce, Deliver, Port, Report}
 use Rattle.ev_script.specs.declared.script.command.Verb.TheVariants.{Restart}
+use Rattle.ev_script.specs.declared.script.question.Question.{Question}
+use Rattle.ev_script.specs.declared.script.question.Question.TheVariants.{Help}
 use Rattle.ev_script.specs.declared.script.mode.Mode.{Mode}
 use Rattle.ev_script.specs.declared.script.mode.Mode.TheVariants.{Simulate, Play}
 use Rattle.ev_script.specs.declared.script.command.Command as read
@@ -210,10 +212,23 @@ abbrev pub skips : Mode → List ℕ → Bool
 skips Simulate line = false
 skips Play line = is_remark line
 
--- what a line asks for, if it asks for anything
+-- the question of a line
+abbrev pub question_of : List ℕ → Option Question
+question_of s = when (bytes_eq s (codes "help")) Help
+
+-- the question that a line asks: there are some where a script is played
+abbrev pub asked_in : Mode → List ℕ → Option Question
+asked_in Simulate line = None
+asked_in Play line = question_of line
+
+-- the line asks for no step: it is a question, or is skipped
+abbrev pub asks_no_step : Mode → List ℕ → Bool
+asks_no_step mode line = is_some (asked_in mode line) || skips mode line
+
+-- what a line asks for, if it asks for any step
 abbrev pub Item : Type 0
 Item = Option (ℕ × Command)
 
--- how a line is read: as nothing where it is skipped, else as its command, or not at all
+-- how a line is read: as nothing where it asks for no step, else as its command, or not at all
 abbrev pub item_of : Mode → List ℕ → Option Item
-item_of mode line = if skips mode line then Some None else option_map (λ c. Some c) (line_of line)
+item_of mode line = if asks_no_step mode line then Some None else option_map (λ c. Some c) (line_of line)

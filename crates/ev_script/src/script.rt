@@ -7,6 +7,7 @@ mod hex;
 mod lines;
 mod mode;
 mod parse;
+mod question;
 
 pub(crate) use command::Command;
 pub(crate) use fault::{LineFault, is_good, why_of};
@@ -14,3 +15,4 @@ pub(crate) use hex::Hex;
 pub(crate) use lines::cut_line;
 pub use mode::Mode;
 pub(crate) use parse::parse;
+pub(crate) use question::Question;

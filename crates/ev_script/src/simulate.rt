@@ -8,6 +8,7 @@ ghost use Rattle.ev_script.specs.Simulation.{note_of_line, PlaysOn, PlaysRead, u
 mod player;
 mod showing;
 mod telling;
+mod viewing;
 
 use crate::script::Mode;
 use crate::simulate::player::Player;
@@ -82,7 +83,8 @@ fn unread_status(unread: Unread) -> u8
 /// are opened with these configurations. Each command's lines come on `out`. The first line
 /// outside the grammar ends the run: `notes` gets `line N bad`; what stood before it has been
 /// run, and its lines stay. Where it is played (`Mode::Play`), empty lines and remarks are skipped,
-/// and each command's line is printed before what becomes of it.
+/// questions are answered, and each command's or question's line is printed before what becomes of
+/// it.
 ///
 /// Where the script can't be read to its end, or there is no memory for it or for the edges,
 /// nothing is run. Where a call of `out` fails, no further one is made, and the script is run on.

@@ -205,8 +205,9 @@ Example:
             Subcommand::Play => {
                 "\
 Does what `simulate` does, for people: standard output has each command's line, behind `> `, before
-what becomes of it. Empty lines are skipped, and those that begin with `#`. Standard error has the
-number of the first other line that is no command, which ends the run.
+what becomes of it. Empty lines are skipped, and those that begin with `#`. The line `help` prints
+which lines there are. Standard error has the number of the first line that is none, which ends the
+run.
 
 Status, the greatest that applies:
   0  all lines were run

@@ -1,14 +1,16 @@
 //! How a script is run.
 ghost use Rattle.std.specs.Prelude.{◌≡◌};
-ghost use Rattle.ev_script.specs.Script.{is_remark, skips};
+ghost use Rattle.ev_script.specs.Script.{is_remark, skips, asked_in};
+
+use crate::script::question::{Question, question_of};
 
 /// How a script is run.
 #[derive(Clone, Copy, Debug)]
 pub enum Mode {
     /// Each line is a command, and what becomes of it is printed.
     Simulate,
-    /// Empty lines and remarks are skipped, and a command's line is printed before what becomes of
-    /// it.
+    /// Empty lines and remarks are skipped, a line may be a question, and the line of a command or
+    /// a question is printed before what becomes of it.
     Play,
 }
 
@@ -23,7 +25,17 @@ fn is_remark(line: &[u8]) -> bool
 }
 
 impl Mode {
-    /// Whether a line asks for nothing.
+    /// The question that a line asks.
+    pub(crate) fn question(self, line: &[u8]) -> Option<Question>
+        ensures { result ≡ asked_in self line.now }
+    {
+        match self {
+            Mode::Simulate => None,
+            Mode::Play => question_of(line),
+        }
+    }
+
+    /// Whether a line is skipped.
     pub(crate) fn skips(self, line: &[u8]) -> bool
         ensures { result ≡ skips self line.now }
     {

@@ -1,16 +1,18 @@
 //! A fabric that is played, command by command.
-ghost use Rattle.std.specs.Prelude.{◌≡◌, ◌+◌, ◌<◌, ◌^◌, [], ◌∷◌, length, true, false, ℕ, Option, Some, None};
+ghost use Rattle.std.specs.Prelude.{◌≡◌, ◌+◌, ◌<◌, ◌^◌, [], ◌∷◌, ◌++◌, length, true, false, ℕ, Option, Some, None};
 ghost use Rattle.ether_wire.specs.Ends.{IsOpen};
 ghost use Rattle.ev_report.specs.Ends.{Tells};
 ghost use Rattle.ev_script.specs.Printing.{PutsSome, Minds};
 ghost use Rattle.ev_script.specs.Shown.{shown_text};
+ghost use Rattle.ev_script.specs.Views.{view_text};
 ghost use Rattle.ev_script.specs.Simulation.{port_number, is_starved};
 
-use crate::script::{Command, Hex, Mode, cut_line, parse};
+use crate::script::{Command, Hex, Mode, Question, cut_line, parse};
 use crate::simulate::showing::put_shown;
 use crate::simulate::telling::{
     put_bpdus, put_number, put_port, put_refusal, put_reply, put_report, put_words,
 };
+use crate::simulate::viewing::put_view;
 use ether_wire::{Addr, Device, Out};
 use ev_edge::{Edge, EdgeRefusal, Reply};
 use ev_fabric::{Fabric, LocalEvent, Refusal, Step};
@@ -142,7 +144,7 @@ impl Player {
     ghost use Rattle.ev_fabric.specs.declared.step.Step.TheVariants.{Local, Announce};
     ghost use Rattle.ev_fabric.specs.declared.step.LocalEvent.TheVariants.{Second};
     ghost use Rattle.ev_script.specs.Script.{command_of, octets_of, second, frame, tunnel};
-    ghost use Rattle.ev_script.specs.Playing.{Makes, MakesOne, Performs, PlaysLine, PlaysTo};
+    ghost use Rattle.ev_script.specs.Playing.{Makes, MakesOne, Performs, PlaysLine, PlaysTo, Answers};
 
     /// A fabric of which nothing was asked yet.
     pub(crate) fn new(fabric: Fabric) -> Player
@@ -320,12 +322,38 @@ impl Player {
         self.is_told = self.is_told && put_shown(out, mode, line).is_ok();
     }
 
+    /// Tells what a question asks for. No step is made.
+    fn view<W: Out>(&mut self, question: &Question, out: &mut W)
+        requires { self.old.is_told ≡ true → IsOpen (W.end out.old) }
+        ensures made { Makes [] self.old self.new }
+        ensures told { Tells (W.end out.old) (W.end out.new) self.old.is_told self.new.is_told
+            (view_text question.now) }
+    {
+        self.is_told = self.is_told && put_view(out, question).is_ok();
+    }
+
+    /// Prints a question's line, and what it asks for. No step is made.
+    fn answer<W: Out>(&mut self, mode: Mode, line: &[u8], question: &Question, out: &mut W)
+        requires { self.old.is_told ≡ true → IsOpen (W.end out.old) }
+        ensures made { Makes [] self.old self.new }
+        ensures told { Tells (W.end out.old) (W.end out.new) self.old.is_told self.new.is_told
+            (shown_text mode line.now ++ view_text question.now) }
+    {
+        self.show(mode, line, out);
+        self.view(question, out);
+    }
+
     /// Does what a line asks for: whether it isn't a bad one.
     fn line<W: Out>(&mut self, mode: Mode, line: &[u8], out: &mut W) -> bool
         requires { self.old.is_told ≡ true → IsOpen (W.end out.old) }
         ensures played { PlaysLine mode line.now self.old self.new result }
         ensures told { Minds (W.end out.old) (W.end out.new) self.old.is_told self.new.is_told }
+        ensures answers { Answers mode line.now self.old self.new (W.end out.old) (W.end out.new) }
     {
+        if let Some(question) = mode.question(line) {
+            self.answer(mode, line, &question, out);
+            return true;
+        }
         if mode.skips(line) {
             return true;
         }
