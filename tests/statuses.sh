@@ -536,9 +536,9 @@ status=0
 "$evpnd" run --config "$conf" <&- >&- 2> "$work/notes" || status=$?
 tell "a run with two of them closed: the first is told" fails "standard input: it is closed"
 
-# what `run` needs: 2 edges of 1 port are 2 * (2 * 1 + 5) + 1 threads, and 2252800 + 2 * (512000 + 98304 * 7 + (68 + 12) * 1024) octets
+# what `run` needs: 2 edges of 1 port are 2 * (2 * 1 + 5) + 2 threads, and 2351104 + 2 * (512000 + 98304 * 7 + (68 + 12) * 1024) octets
 run check --run --config "$conf"
-printf 'ok: 2 edges, 2 ports, 1 VNI\n15 threads\n4 UDP sockets\nabout 5 MiB of memory\n' > "$work/takes"
+printf 'ok: 2 edges, 2 ports, 1 VNI\n16 threads\n4 UDP sockets\nabout 5 MiB of memory\n' > "$work/takes"
 tell "what a run takes" gives 0 "$work/takes" ""
 status=0
 (ulimit -n 7 && exec "$evpnd" check --config "$conf" --run) < "$work/in" > "$work/out" 2> "$work/notes" || status=$?

@@ -2,6 +2,8 @@
 
 import os
 import random
+import re
+import select
 import socket
 import subprocess
 import sys
@@ -96,6 +98,11 @@ class Running:
         with open(f"/proc/{self.program.pid}/status", encoding="ascii") as it:
             return next(int(line.split()[1]) for line in it if line.startswith("VmRSS:"))
 
+    def note(self, seconds: float) -> str:
+        """What it notes first within this time while it runs, nothing if that is nothing."""
+        notes = self.program.stderr.fileno()
+        return os.read(notes, 65535).decode() if select.select([notes], [], [], seconds)[0] else ""
+
     def end(self) -> tuple:
         """Its status, its report and its notes when its input has ended."""
         out, notes = self.program.communicate(timeout=20)
@@ -187,6 +194,31 @@ class TwoEdges(unittest.TestCase):
         status, report, _ = self.running.end()
         self.assertEqual(status, 0)
         self.assertNotIn("02:00:00:00:00:07", report)
+
+    def moves_to_and_fro(self) -> None:
+        """A station that is heard at both edges in turn, more than five times at each."""
+        self.is_carried(self.one, self.two, frame(BROADCAST, station(1), b"first"))
+        for _ in range(6):
+            for cable, other in ((self.one, self.two), (self.two, self.one)):
+                self.is_carried(cable, other, frame(BROADCAST, station(10), b"here I am"))
+
+    def test_duplicate_is_told_at_once(self) -> None:
+        """A station that moves to and fro is told while the edges run, within a second of its fifth move, and once."""
+        self.moves_to_and_fro()
+        note = self.running.note(1)
+        self.assertRegex(note, rf"^edge [12]: duplicate {VNI} 02:00:00:00:00:0a on port 1\n$")
+        self.assertIsNone(self.running.program.poll())
+        status, _, rest = self.running.end()
+        self.assertEqual((status, rest), (0, ""))
+
+    def test_failing_standard_error_stops_nothing(self) -> None:
+        """Where an alert can't be written frames go on, the reports come at the end, and the status is that of a failed device."""
+        self.running.program.stderr.close()
+        self.moves_to_and_fro()
+        self.is_carried(self.one, self.two, frame(BROADCAST, station(1), b"second"))
+        status, report, _ = self.running.end()
+        self.assertEqual(status, 4)
+        self.assertEqual(report.count("edge "), 2)
 
     def garbage(self, chance: random.Random) -> bytes:
         """A random datagram of 0 to 9,100 octets, some with a real beginning. None is a frame that is taken."""
@@ -289,6 +321,10 @@ class Beginning(unittest.TestCase):
         one.here.close()
 
 
+# what may be told of refused memory while edges run
+LINES = rf"^(edge [12]: no memory( {VNI} 02:00:00:00:00:0[12])?( on port 1)?\n|edge [12]: \d+ more alerts were held back\n)*$"
+
+
 class Kept(NamedTuple):
     """What came of a run that is refused memory."""
 
@@ -376,7 +412,7 @@ class RefusedGrowth(Preloaded):
         if not BY_RATTLE:
             self.assertGreater(most, 0)
         found = {0: 0, 3: 0, 4: 0}
-        carried = 0
+        carried = told = 0
         with ThreadPoolExecutor(16) as pool:
             for number, kept in enumerate(pool.map(run, range(1, most + 1)), 1):
                 with self.subTest(allocation=number, kept=kept):
@@ -384,11 +420,14 @@ class RefusedGrowth(Preloaded):
                     self.assertIn(kept.status, found)
                     found[kept.status] += 1
                     carried += kept.carried
+                    told += kept.notes.startswith("edge ")
+                    if kept.status == 3:
+                        self.assertRegex(kept.notes, LINES)
                     self.assertEqual(kept.notes.endswith(": there is no memory\n"), kept.status == 4)
                     self.assertLessEqual(kept.report.count("edge "), 2 if kept.status != 4 else 0)
                     if kept.status == 0:
                         self.assertTrue(is_whole(kept.report))
-        print(f"evpnd run, {what}, each of {most} allocations refused: {found}, frames carried in {carried}", file=sys.stderr)
+        print(f"evpnd run, {what}, each of {most} allocations refused: {found}, frames carried in {carried}, told at once in {told}", file=sys.stderr)
         return found
 
     @needs_program

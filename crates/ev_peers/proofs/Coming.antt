@@ -5,7 +5,7 @@ use Rattle.ev_peers.specs.Giving.{behind}
 use Rattle.ev_peers.specs.Coming.{after_these, DoesOne, DoesAll}
 use Rattle.ev_peers.proofs.Behind.{behind_twice}
 
-one_more : {A : Type 0} (came came1 came2 : Option (List (Option A))) (before : List A) (a : A)
+pub one_more : {A : Type 0} (came came1 came2 : Option (List (Option A))) (before : List A) (a : A)
     → came1 ≡ after_these came before → came2 ≡ behind came1 (Some a ∷ []) → came2 ≡ after_these came (a ∷ before)
 one_more {A} came came1 came2 before a known e =
     e ∙ ap (λ (k : Option (List (Option A))). behind k (Some a ∷ [])) known

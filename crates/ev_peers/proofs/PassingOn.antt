@@ -8,7 +8,7 @@ use Rattle.ev_book.specs.declared.refusal.BookRefusal.{BookRefusal}
 use Rattle.ev_book.specs.Book.{PassState}
 use Rattle.ev_peers.specs.Giving.{Parcel, behind}
 use Rattle.ev_peers.specs.Passing.{Entered, Asked, AskedEach, Word, has_room, record_of, words_of, Stops, Announces}
-use Rattle.ev_peers.specs.Passing.{PassesOn, given_by}
+use Rattle.ev_peers.specs.Passing.{PassesOn, given_by, signs_of}
 use Rattle.ev_peers.proofs.Behind.{behind_none, behind_twice}
 
 -- what was asked for and given up to here
@@ -57,17 +57,18 @@ pub none_left : (p : PassState) (old : Option (List Word)) (p1 : PassState) (mid
 none_left p old p1 mid room p2 new s told there a = ends p old p1 mid true p2 new s (told
     ∙ ap (λ (r : Bool). behind mid (has_room r ∷ [])) there) a
 
--- an event's call, what was given for it, and the announcements behind it
+-- an event's call, what the operator's board was told, what was given for it, and the announcements behind it
 pub passed_on : (bridge vni : ℕ) (frame : List ℕ) (p : PassState) (event : Event) (answer : Result Reply BookRefusal)
-    (middle p' : PassState) (given mid given' : Option (List Parcel))
-    (records mid_records records' : Option (List Word)) → Entered p event answer middle
-    → mid ≡ behind given (given_by bridge vni frame answer) → mid_records ≡ records → given' ≡ mid
+    (middle p' : PassState) (given given_signs mid given' : Option (List Parcel))
+    (records told mid_records records' : Option (List Word)) → Entered p event answer middle
+    → told ≡ behind records (signs_of vni event answer) → given_signs ≡ given
+    → mid ≡ behind given_signs (given_by bridge vni frame answer) → mid_records ≡ told → given' ≡ mid
     → Announces middle mid_records p' records' → PassesOn bridge vni frame p event given records p' given' records'
-passed_on bridge vni frame p event answer middle p' given mid given' records mid_records records' entered parcels same
-    kept announces = record {
+passed_on bridge vni frame p event answer middle p' given given_signs mid given' records told mid_records records'
+    entered signs still parcels same kept announces = record {
       answer = answer;
       middle = middle;
       entered = entered;
-      parcels = kept ∙ parcels;
-      announces = subst (λ (k : Option (List Word)). Announces middle k p' records') same announces;
+      parcels = kept ∙ parcels ∙ ap (λ (k : Option (List Parcel)). behind k (given_by bridge vni frame answer)) still;
+      announces = subst (λ (k : Option (List Word)). Announces middle k p' records') (same ∙ signs) announces;
     }

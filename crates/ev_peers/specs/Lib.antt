@@ -3,8 +3,12 @@ pub mod Links
 pub mod Line
 pub mod Mailbox
 pub mod Crew
+pub mod Alarm
 pub mod Passing
 pub mod Coming
 pub mod Working
 pub mod Sending
 pub mod FailAt
+pub mod Board
+pub mod Telling
+pub mod InTurn

@@ -1,5 +1,6 @@
 -- What a worker does with one event: it enters it into its edge's book, and passes on what the book answers.
 use Rattle.std.specs.Prelude.{◌≡◌, ℕ, Bool, false, true, List, [], ◌∷◌, ◌++◌, Option, Some, None, Result, Ok, Err}
+use Rattle.std.specs.Prelude.{if◌then◌else◌}
 use Rattle.route_wire.specs.Fields.{Fields}
 use Rattle.ev_edge.specs.declared.event.Event.{Event}
 use Rattle.ev_edge.specs.declared.event.Event.TheVariants.{Announce}
@@ -7,6 +8,8 @@ use Rattle.ev_edge.specs.declared.reply.Reply.{Reply}
 use Rattle.ev_book.specs.declared.refusal.BookRefusal.{BookRefusal}
 use Rattle.ev_book.specs.Book.{BookState, PassState}
 use Rattle.ev_book.specs.Entering.{CallsBook}
+use Rattle.ev_peers.specs.declared.alarm.Alarm.{Alarm}
+use Rattle.ev_peers.specs.Alarm.{alarm_of, is_second}
 use Rattle.ev_peers.specs.Giving.{Parcel, behind, parcels_of}
 
 -- A call of some book. Which one stood under the lock, no caller knows.
@@ -33,10 +36,13 @@ abbrev pub AskedEach : PassState → List Fields → PassState → Type 0
 AskedEach p [] p' = p' ≡ p
 AskedEach p (u ∷ us) p' = (middle : PassState) × AskedEach p us middle × Asked middle (Some u) p'
 
--- what is spoken of the other edges: an answer on their room, or a record that they are given
+-- what is spoken of the other edges: an answer on their room, or a record that they are given; and with the operator: a
+-- second that passes, or an alert
 pub data Word : Type 0 where
   has_room : Bool → Word
   record_of : Fields → Word
+  second_passes : Word
+  tells : Alarm → Word
 
 -- there was room, and then the update was given, one after the other, the last one first
 abbrev pub words_of : List Fields → List Word
@@ -66,7 +72,17 @@ abbrev pub given_by : ℕ → ℕ → List ℕ → Result Reply BookRefusal → 
 given_by bridge vni frame (Ok reply) = parcels_of bridge vni frame reply
 given_by bridge vni frame (Err refusal) = []
 
--- It entered the event once, gave what the answer gives to the links, and then announced.
+-- what is told of an alert, if there is one
+abbrev pub told_of : Option Alarm → List Word
+told_of None = []
+told_of (Some alarm) = tells alarm ∷ []
+
+-- what the operator's board is told of an event of this network and of its answer: a second, and an alert
+abbrev pub signs_of : ℕ → Event → Result Reply BookRefusal → List Word
+signs_of vni event answer = (if is_second event then second_passes ∷ [] else []) ++ told_of (alarm_of vni event answer)
+
+-- It entered the event once, gave what the answer gives to the links, told the operator's board what it tells, and then
+-- announced.
 pub record PassesOn (bridge vni : ℕ) (frame : List ℕ) (p : PassState) (event : Event) (given : Option (List Parcel))
     (records : Option (List Word)) (p' : PassState) (given' : Option (List Parcel)) (records' : Option (List Word)) :
     Type 0 where
@@ -74,4 +90,4 @@ pub record PassesOn (bridge vni : ℕ) (frame : List ℕ) (p : PassState) (event
   pub middle : PassState
   pub entered : Entered p event answer middle
   pub parcels : given' ≡ behind given (given_by bridge vni frame answer)
-  pub announces : Announces middle records p' records'
+  pub announces : Announces middle (behind records (signs_of vni event answer)) p' records'

@@ -4,7 +4,10 @@ ghost use Rattle.ev_peers.specs.Giving.{behind};
 ghost use Rattle.ev_peers.specs.Links.{Packet};
 ghost use Rattle.ev_peers.specs.Line.{handed};
 ghost use Rattle.ev_peers.specs.declared.mailbox.Message.{Message};
+ghost use Rattle.ev_peers.specs.Telling.{Told};
 
+use crate::board::Notice;
+use crate::boards::Boards;
 use crate::mailbox::Message;
 use crate::peers::Peers;
 use crate::shared_line::SharedLine;
@@ -32,6 +35,17 @@ pub trait PacketsIn {
         requires { 9026 ≤ length buffer.old }
         ensures fits { IfSome result (λ r. r.1 ≤ length buffer.new) }
         ensures came { came self.new ≡ behind (came self.old) (handed result buffer.new ∷ []) };
+}
+
+/// Where what an operator is told comes from.
+pub trait NoticesIn {
+    /// What came, in its order, where it tells it: each notice with the number of its edge, and
+    /// none for the end.
+    ghost came: { Self → Option (List (Option Told)) };
+
+    /// Waits for the next notice, and the number of the edge that it is about. None at the end.
+    fn next(&mut self) -> Option<(u64, Notice)>
+        ensures { came self.new ≡ behind (came self.old) (result ∷ []) };
 }
 
 /// What comes to an edge's mailbox. Clauses see nothing of what is under a lock, so it doesn't tell
@@ -66,5 +80,25 @@ impl<R: Wait> PacketsIn for LineBox<'_, R> {
 
     fn next(&mut self, buffer: &mut [u8]) -> Option<(Addr, usize)> {
         self.line.next(self.rt, buffer)
+    }
+}
+
+/// What waits on the boards of all edges. Clauses see nothing of what is under a lock, so it
+/// doesn't tell what came.
+#[derive(Drop)]
+pub struct NoticeBox<'x, R> {
+    /// What may wait.
+    pub rt: &'x R,
+    /// The boards.
+    pub boards: &'x Boards,
+}
+
+impl<R: Wait> NoticesIn for NoticeBox<'_, R> {
+    ghost use Rattle.std.specs.Prelude.{None};
+
+    ghost came = { λ b. None };
+
+    fn next(&mut self) -> Option<(u64, Notice)> {
+        self.boards.next(self.rt)
     }
 }

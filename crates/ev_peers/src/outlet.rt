@@ -1,9 +1,10 @@
 //! Where the workers of an edge give what the book answers: frames to the lines of its links,
-//! records to the other edges.
+//! records to the other edges, alerts to the operator.
 ghost use Rattle.std.specs.Prelude.{◌≡◌, ◌∷◌, [], Option, List};
 ghost use Rattle.ev_peers.specs.Giving.{Parcel, parcel, first_parcel, behind};
-ghost use Rattle.ev_peers.specs.Passing.{Word, has_room, record_of};
+ghost use Rattle.ev_peers.specs.Passing.{Word, has_room, record_of, second_passes, tells};
 
+use crate::alarm::Alarm;
 use crate::peers::Peers;
 use crate::shared_line::SharedLine;
 use ether_wire::Addr;
@@ -24,8 +25,8 @@ pub trait Outlet {
     /// The frames that were given and the links that got them, in their order, where it tells them.
     ghost parcels: { Self → Option (List Parcel) };
 
-    /// What was spoken of the other edges, where it tells it: each answer on their room and each
-    /// record that was given, in their order.
+    /// What was spoken of the other edges and with the operator, where it tells it: each answer on
+    /// their room, each record that was given, each second and each alert, in their order.
     ghost records: { Self → Option (List Word) };
 
     /// Takes a frame for a link, whose line has room for it or drops and counts it.
@@ -49,21 +50,31 @@ pub trait Outlet {
     fn record(&mut self, update: Update)
         ensures given { records self.new ≡ behind (records self.old) (record_of update ∷ []) }
         ensures parcels { parcels self.new ≡ parcels self.old };
+
+    /// Tells the operator's board that a second passes.
+    fn second(&mut self)
+        ensures told { records self.new ≡ behind (records self.old) (second_passes ∷ []) }
+        ensures parcels { parcels self.new ≡ parcels self.old };
+
+    /// Puts an alert on the operator's board, which may hold it back and counts it then.
+    fn alarm(&mut self, alarm: Alarm)
+        ensures told { records self.new ≡ behind (records self.old) (tells alarm ∷ []) }
+        ensures parcels { parcels self.new ≡ parcels self.old };
 }
 
-/// The lines to an edge's links, and the mailboxes of the other edges.
+/// The lines to an edge's links, the mailboxes of the other edges, and the operator's board.
 #[derive(Drop)]
 pub(crate) struct Senders<'x, R> {
     /// What may wait for a lock.
     pub(crate) rt: &'x R,
     /// To the link of the tunnel, and behind it to those of the access ports, port 1 first.
     pub(crate) lines: &'x [SharedLine],
-    /// To the other edges.
+    /// To the other edges, and to the operator.
     pub(crate) peers: Peers<'x>,
 }
 
 impl<'x, R> Senders<'x, R> {
-    /// The same lines and mailboxes.
+    /// The same lines, mailboxes and board.
     pub(crate) fn again(&self) -> Self {
         Senders {
             rt: self.rt,
@@ -102,5 +113,13 @@ impl<R: Wait> Outlet for Senders<'_, R> {
 
     fn record(&mut self, update: Update) {
         self.peers.send(self.rt, update);
+    }
+
+    fn second(&mut self) {
+        self.peers.second(self.rt);
+    }
+
+    fn alarm(&mut self, alarm: Alarm) {
+        self.peers.alarm(self.rt, alarm);
     }
 }

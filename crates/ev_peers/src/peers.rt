@@ -1,5 +1,8 @@
-//! The edges that run beside each other, as one of them sees the others: their mailboxes.
+//! The edges that run beside each other, as one of them sees them: the others' mailboxes, and its
+//! own board.
 
+use crate::alarm::Alarm;
+use crate::boards::Boards;
 use crate::mailbox::Message;
 use crate::shared_mailbox::SharedMailbox;
 use route_wire::Update;
@@ -28,19 +31,21 @@ impl Mailboxes {
         Ok(Mailboxes { all })
     }
 
-    /// As the edge with this number sees them, counted from 1.
-    pub fn seen_by(&self, number: usize) -> Peers<'_> {
+    /// As the edge with this number sees them, counted from 1, beside the boards of all edges.
+    pub fn seen_by<'x>(&'x self, number: usize, boards: &'x Boards) -> Peers<'x> {
         Peers {
             mailboxes: self.all.as_slice(),
+            boards,
             number,
         }
     }
 }
 
-/// The mailboxes of all edges, as one of these sees them.
+/// The mailboxes and boards of all edges, as one of these sees them.
 #[derive(Clone, Copy, Drop)]
 pub struct Peers<'x> {
     mailboxes: &'x [SharedMailbox],
+    boards: &'x Boards,
     /// The edge's number, from 1.
     number: usize,
 }
@@ -68,6 +73,16 @@ impl Peers<'_> {
                 mailbox.put(rt, update);
             }
         }
+    }
+
+    /// Tells this edge's board that a second passes.
+    pub(crate) fn second<R: Wait>(&self, rt: &R) {
+        self.boards.second(rt, self.number);
+    }
+
+    /// Puts an alert on this edge's board.
+    pub(crate) fn alarm<R: Wait>(&self, rt: &R, alarm: Alarm) {
+        self.boards.alarm(rt, self.number, alarm);
     }
 
     /// Tells each of the others that this edge has room again.

@@ -3,6 +3,7 @@ ghost use Rattle.std.specs.Prelude.{◌≡◌, ◌+◌, ◌≤◌, vec_len, vec_
 ghost use Rattle.ev_edge.specs.Config.{IsConfig};
 ghost use Rattle.ev_peers.specs.Crew.{HasEdges, setup_of};
 
+use crate::boards::Boards;
 use crate::crew::{EdgeLinks, Outcome, edge_worker};
 use crate::gate::Gate;
 use crate::links::{LinkIn, LinkOut};
@@ -97,6 +98,7 @@ fn start_edges<
     alloc: Global,
     setups: Vec<Setup<I, O>>,
     mailboxes: &'x Mailboxes,
+    boards: &'x Boards,
     gate: &'x G,
     running: Vec<Option<JoinHandle<Ran>>>,
 ) -> Vec<Option<JoinHandle<Ran>>>
@@ -107,7 +109,7 @@ fn start_edges<
     let mut running = running;
     while let Some(setup) = setups.pop() {
         let number = setups.len() + 1;
-        let peers = mailboxes.seen_by(number);
+        let peers = mailboxes.seen_by(number, boards);
         let handle = match scope.spawn(move || run_one(rt, alloc, number, setup, peers, gate)) {
             Ok(handle) => Some(handle),
             Err(_) => {
@@ -142,13 +144,13 @@ fn join_edges<R: Threads>(
 
 /// Edges that are ready to run. They are seen as how many edges those are.
 #[derive(Drop)]
-struct Start<I: Drop, O: Drop> {
+struct Ready<I: Drop, O: Drop> {
     setups: Vec<Setup<I, O>>,
     running: Vec<Option<JoinHandle<Ran>>>,
     ended: Vec<Ran>,
 }
 
-impl<I: Drop, O: Drop> Model for Start<I, O> {
+impl<I: Drop, O: Drop> Model for Ready<I, O> {
     ghost use Rattle.std.specs.Prelude.{ℕ, vec_len, vec_capacity};
     ghost use Rattle.ev_peers.specs.Crew.{HasEdges};
 
@@ -158,6 +160,42 @@ impl<I: Drop, O: Drop> Model for Start<I, O> {
 
     ghost invariant = { λ s. HasEdges (vec_len s.setups) (vec_len s.running)
         (vec_capacity s.running) (vec_len s.ended) (vec_capacity s.ended) };
+}
+
+/// What edges that are to run beside each other begin with. It is seen as how many edges those are.
+#[derive(Drop)]
+pub struct Start<I: Drop, O: Drop> {
+    ready: Ready<I, O>,
+    mailboxes: Mailboxes,
+}
+
+impl<I: Drop, O: Drop> Model for Start<I, O> {
+    ghost use Rattle.std.specs.Prelude.{ℕ};
+
+    ghost Value = { ℕ };
+
+    ghost view = { λ s. s.ready };
+}
+
+impl<I: Drop, O: Drop> Start<I, O> {
+    /// What these edges begin with, beyond what each of them opens.
+    ///
+    /// # Errors
+    ///
+    /// Where memory is refused.
+    pub fn new(alloc: Global, setups: Vec<Setup<I, O>>) -> Result<Self, AllocError>
+        ensures { IfOk result (λ start. start ≡ vec_len setups) }
+    {
+        let mailboxes = Mailboxes::new(alloc, setups.len(), workers_of(setups.as_slice()))?;
+        let running = Vec::with_capacity(alloc, setups.len())?;
+        let ended = Vec::with_capacity(alloc, setups.len())?;
+        let ready = Ready {
+            setups,
+            running,
+            ended,
+        };
+        Ok(Start { ready, mailboxes })
+    }
 }
 
 /// Starts the edges, waits until `until` has returned and then until all their workers have ended.
@@ -176,25 +214,26 @@ fn run_within<
     alloc: Global,
     gate: &'x G,
     mailboxes: &'x Mailboxes,
-    start: Start<I, O>,
+    boards: &'x Boards,
+    ready: Ready<I, O>,
     until: F,
 ) -> (Vec<Ran>, T)
     requires { F.pre until }
-    ensures all { vec_len result.0 ≡ start }
+    ensures all { vec_len result.0 ≡ ready }
     ensures until { F.post until result.1 }
 {
-    let Start {
+    let Ready {
         setups,
         running,
         ended,
-    } = start;
-    let running = start_edges(scope, rt, alloc, setups, mailboxes, gate, running);
+    } = ready;
+    let running = start_edges(scope, rt, alloc, setups, mailboxes, boards, gate, running);
     let told = until();
     (join_edges(rt, running, ended), told)
 }
 
 /// Runs the edges until `until` has returned and all their workers have ended.
-fn run_start<
+fn run_ready<
     'x,
     I: LinkIn + Drop + Send + 'x,
     O: LinkOut + Drop + Send + 'x,
@@ -207,11 +246,12 @@ fn run_start<
     alloc: Global,
     gate: &'x G,
     mailboxes: &'x Mailboxes,
-    start: Start<I, O>,
+    boards: &'x Boards,
+    ready: Ready<I, O>,
     until: F,
 ) -> (Vec<Ran>, T)
     requires { F.pre until }
-    ensures all { vec_len result.0 ≡ start }
+    ensures all { vec_len result.0 ≡ ready }
     ensures until { F.post until result.1 }
 {
     thread::scope(
@@ -219,18 +259,15 @@ fn run_start<
         rt,
         move |scope| -> (Vec<Ran>, T)
             requires { F.pre until }
-            ensures { (vec_len result.0 ≡ start) × F.post until result.1 }
-        { run_within(scope, rt, alloc, gate, mailboxes, start, until) },
+            ensures { (vec_len result.0 ≡ ready) × F.post until result.1 }
+        { run_within(scope, rt, alloc, gate, mailboxes, boards, ready, until) },
     )
 }
 
 /// Runs edges beside each other, each on a thread with its workers, until `until` has returned and
 /// the links have ended; it is `until` that makes them end. The outcomes are in the edges' order,
-/// with an error where an edge was refused memory or a thread before it began.
-///
-/// # Errors
-///
-/// Where memory is refused before an edge has begun. Then `until` isn't called.
+/// with an error where an edge was refused memory or a thread before it began. What the operator is
+/// to know meanwhile waits on these boards, which get no more once it returns.
 pub fn run_all<
     I: LinkIn + Drop + Send,
     O: LinkOut + Drop + Send,
@@ -238,24 +275,13 @@ pub fn run_all<
     R: Threads + Wait + Sync,
     F: FnOnce() -> T + Drop,
     T,
->(
-    rt: &R,
-    alloc: Global,
-    setups: Vec<Setup<I, O>>,
-    gate: &G,
-    until: F,
-) -> Result<(Vec<Ran>, T), AllocError>
+>(rt: &R, alloc: Global, start: Start<I, O>, boards: &Boards, gate: &G, until: F) -> (Vec<Ran>, T)
     requires { F.pre until }
-    ensures all { IfOk result (λ r. vec_len r.0 ≡ vec_len setups) }
-    ensures until { IfOk result (λ r. F.post until r.1) }
+    ensures all { vec_len result.0 ≡ start }
+    ensures until { F.post until result.1 }
 {
-    let mailboxes = Mailboxes::new(alloc, setups.len(), workers_of(setups.as_slice()))?;
-    let running = Vec::with_capacity(alloc, setups.len())?;
-    let ended = Vec::with_capacity(alloc, setups.len())?;
-    let start = Start {
-        setups,
-        running,
-        ended,
-    };
-    Ok(run_start(rt, alloc, gate, &mailboxes, start, until))
+    let Start { ready, mailboxes } = start;
+    let ran = run_ready(rt, alloc, gate, &mailboxes, boards, ready, until);
+    boards.end(rt);
+    ran
 }

@@ -2,14 +2,15 @@
 ghost use Rattle.std.specs.Prelude.{◌≡◌, ◌≤◌, length};
 ghost use Rattle.ev_book.specs.Entering.{answered};
 ghost use Rattle.ev_peers.specs.Giving.{behind};
-ghost use Rattle.ev_peers.specs.Passing.{Entered, Asked, Announces, PassesOn, announced_by, given_by};
+ghost use Rattle.ev_peers.specs.Passing.{Entered, Asked, Announces, PassesOn, announced_by, given_by, signs_of};
 
+use crate::alarm::{alarm_of, alert_of, is_second};
 use crate::gate::{Gate, Point};
 use crate::giving::give_out;
 use crate::outlet::Outlet;
 use ether_wire::{Mac, Vni};
 use ev_book::{Book, BookRefusal, Pass};
-use ev_edge::{EdgeRefusal, Event, Refusal, Reply};
+use ev_edge::{Event, Reply};
 use ev_mobility::Alert;
 use route_wire::Update;
 use std::sync::atomic::{AtomicBool, Ordering};
@@ -128,8 +129,8 @@ impl<L: Ledger, G: Gate, R: Wait> Site<'_, L, G, R> {
     }
 
     /// Enters an event that carries this frame of network `vni`, of at most 9,018 octets,
-    /// and passes on what it gives out: frames to the links, and then what is to be
-    /// announced to the other edges.
+    /// and passes on what it gives out: frames to the links, what the operator is to know to the
+    /// board, and then what is to be announced to the other edges.
     pub(crate) fn act<O: Outlet>(
         &self,
         pass: &mut Pass<L>,
@@ -144,29 +145,18 @@ impl<L: Ledger, G: Gate, R: Wait> Site<'_, L, G, R> {
             (O.records outlet.old) pass.new (O.parcels outlet.new) (O.records outlet.new) }
     {
         let answer = self.enter(pass, event, &mut scratch.reply);
+        give_signs(outlet, vni, event, &answer, &scratch.reply);
         give_answer(outlet, scratch, self.bridge, vni, frame, &answer);
         self.announce(pass, outlet, &mut scratch.reply);
-    }
-}
-
-/// Whether the book, or its edge, refused the call for want of memory.
-fn is_out_of_memory(refusal: &BookRefusal) -> bool {
-    match refusal {
-        BookRefusal::NoRoom => true,
-        BookRefusal::Edge(Refusal::Edge(EdgeRefusal::NoMemory)) => true,
-        _ => false,
     }
 }
 
 /// Whether an answer tells that memory was refused: to the event, or to a station that isn't
 /// learnt.
 fn lacks_memory(answer: &Result<(), BookRefusal>, reply: &Reply) -> bool {
-    match answer {
-        Ok(()) => match reply.alert {
-            Some(Alert::NoMemory) => true,
-            _ => false,
-        },
-        Err(refusal) => is_out_of_memory(refusal),
+    match alert_of(answer, reply) {
+        Some(Alert::NoMemory) => true,
+        _ => false,
     }
 }
 
@@ -210,5 +200,27 @@ fn give_answer<O: Outlet>(
     if answer.is_ok() {
         let Scratch { reply, datagram } = scratch;
         give_out(outlet, datagram, bridge, vni, frame, reply);
+    }
+}
+
+/// Tells the operator's board that a second passed, where one did, and what the operator is to know
+/// of an answer.
+#[tactic(auto, using(crate::proofs::Behind::behind_none, crate::proofs::Behind::behind_twice))]
+fn give_signs<O: Outlet>(
+    outlet: &mut O,
+    vni: Vni,
+    event: &Event<'_>,
+    answer: &Result<(), BookRefusal>,
+    reply: &Reply,
+)
+    ensures records { O.records outlet.new ≡ behind (O.records outlet.old)
+        (signs_of vni event.now (answered answer.now reply.now)) }
+    ensures parcels { O.parcels outlet.new ≡ O.parcels outlet.old }
+{
+    if is_second(event) {
+        outlet.second();
+    }
+    if let Some(alarm) = alarm_of(vni, event, answer, reply) {
+        outlet.alarm(alarm);
     }
 }

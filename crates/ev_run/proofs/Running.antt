@@ -19,6 +19,9 @@ use Rattle.ev_report.specs.Input.{ReadsWhole, Gathers}
 use Rattle.ev_report.specs.Notes.{status_of}
 use Rattle.ev_run.specs.RunEdges.{EachConfig, unbound_text, Ended, each_from, reports_from, noted_text, sends_failed}
 use Rattle.ev_run.specs.RunEdges.{link_failed, was_starved, all_lost, Drains, IsReadOut, ReadsOut, TellsEnded}
+use Rattle.ev_run.specs.RunEdges.{PutsRest, TellsRest}
+use Rattle.ev_peers.specs.Telling.{Told, lines_of}
+use Rattle.ether_wire.proofs.Appending.{puts_behind}
 use Rattle.ev_run.specs.RunEdges.{IsUnbound, TellsUnbound, RunsEdges}
 use Rattle.ev_report.proofs.Finishing.{put_holds, put_failed, passed_out, passed_notes, passed_status, failed_out}
 use Rattle.ev_report.proofs.Finishing.{failed_notes}
@@ -116,23 +119,32 @@ lost_more ended place d within =
     ∙ ap (λ n. min n (2 ^ 64 - 1)) (sum_by_push sends_failed before one)
     ∙ sym (min_twice (sum_by sends_failed before) (sends_failed one) (2 ^ 64 - 1))
 
+-- what is noted behind alerts
+puts_rest : (start notes notes' : End) (alerts text : List ℕ) (told r : Result (Unit {0}) device.Device)
+    → Puts start notes alerts told → PutsRest told notes notes' text r → Puts start notes' (alerts ++ text) r
+puts_rest start notes notes' alerts text (Ok done) r put rest = puts_behind start notes notes' alerts text r put rest
+puts_rest start notes notes' alerts text (Err device) r put rest =
+    rw (rest.1, rest.0) put
+
 module _ (ended : List Ended) (is_read : Bool) (out out' notes notes' : End)
-    (r s : Result (Unit {0}) device.Device) where
+    (told r s : Result (Unit {0}) device.Device) where
   pub tells_ended : (status : ℕ) → Puts out out' (reports_from 1 ended) r
-      → Puts notes notes' (noted_text ended (all_lost ended)) s
+      → PutsRest told notes notes' (noted_text ended (all_lost ended)) s
       → status ≡ status_of (((not is_read || list_any link_failed ended) || nat_lt 0 (all_lost ended)) ||
       (not (is_ok r) || not (is_ok s))) (list_any was_starved ended) false
-      → TellsEnded ended is_read out out' notes notes' status
-  tells_ended status told put is =
+      → TellsRest told ended is_read out out' notes notes' status
+  tells_ended status written rest is = λ start alerts lines.
+      let text = lines_of alerts ++ noted_text ended (all_lost ended) in
+      let put = puts_rest start notes notes' (lines_of alerts) (noted_text ended (all_lost ended)) told s lines rest in
       let e = (not is_read || list_any link_failed ended) || nat_lt 0 (all_lost ended) in
       let starved = list_any was_starved ended in
       record {
-        written = put_holds out out' r (reports_from 1 ended) told;
-        noted = put_holds notes notes' s (noted_text ended (all_lost ended)) put;
+        written = put_holds out out' r (reports_from 1 ended) written;
+        noted = put_holds start notes' s text put;
         status_is = is ∙ ap (λ x. status_of (e || (x || not (is_ok s))) starved false)
-            (sym (put_failed out out' r (reports_from 1 ended) told))
+            (sym (put_failed out out' r (reports_from 1 ended) written))
             ∙ ap (λ x. status_of (e || (has_failed out out' || x)) starved false)
-            (sym (put_failed notes notes' s (noted_text ended (all_lost ended)) put));
+            (sym (put_failed start notes' s text put));
       }
 
 -- an address is told
@@ -165,12 +177,12 @@ runs_refused many input input' out out' notes notes' a b = rw (a, b) (inr (inr (
 
 module _ (many : ℕ) (before held after : Devices) (status last : ℕ)
     (p : Passes before.out.failures before.notes.failures held after status last) where
-  passed_ended : (ended : List Ended) (is_read : Bool) → TellsEnded ended is_read before.out held.out before.notes
-      held.notes status
-      → TellsEnded ended is_read before.out after.out before.notes after.notes last
-  passed_ended ended is_read t =
+  passed_ended : (alerts : List Told) (ended : List Ended) (is_read : Bool)
+      → TellsEnded alerts ended is_read before.out held.out before.notes held.notes status
+      → TellsEnded alerts ended is_read before.out after.out before.notes after.notes last
+  passed_ended alerts ended is_read t =
       let text = reports_from 1 ended in
-      let lost = noted_text ended (all_lost ended) in
+      let lost = lines_of alerts ++ noted_text ended (all_lost ended) in
       record {
         written = passed_out before held after status last p text t.written;
         noted = passed_notes before held after status last p lost t.noted;
@@ -194,7 +206,8 @@ module _ (many : ℕ) (before held after : Devices) (status last : ℕ)
     read = subst (λ (s : Source). ReadsOut before.input s r.is_read) (sym p.input) r.read;
     ended = r.ended;
     all = r.all;
-    told = passed_ended r.ended r.is_read r.told;
+    alerts = r.alerts;
+    told = passed_ended r.alerts r.ended r.is_read r.told;
   })
   passed_runs (inr (inl h)) = inr (inl (
     p.input ∙ h.0,

@@ -35,9 +35,9 @@ with_edge n c = record {
   memory = min (n.memory + edge_memory c) most;
 }
 
--- the thread that reads standard input, and what the program takes without edges
+-- the thread that reads standard input and the one that tells alerts, and what the program takes without edges
 abbrev pub alone : Needs
-alone = record { threads = 1; sockets = 0; memory = 2252800 }
+alone = record { threads = 2; sockets = 0; memory = 2351104 }
 
 abbrev pub needs_of : List EdgeConfig → Needs
 needs_of edges = fold with_edge alone edges

@@ -4,12 +4,14 @@ use Rattle.std.specs.Prelude.{if◌then◌else◌, List, [], ◌∷◌, ◌++◌
 use Rattle.std.specs.Fmt.{decimal}
 use Rattle.std.specs.List.{sum_by, list_any}
 use Rattle.std.specs.declared.alloc.AllocError.{AllocError}
-use Rattle.ether_wire.specs.Ends.{End, Source}
+use Rattle.ether_wire.specs.declared.ends.Device as device
+use Rattle.ether_wire.specs.Ends.{End, Source, Puts}
 use Rattle.ether_wire.specs.Names.{addr_text}
 use Rattle.ev_edge.specs.declared.config.EdgeConfig.{EdgeConfig}
 use Rattle.ev_edge.specs.Config.{IsConfig}
 use Rattle.ev_edge.specs.Edge.{Edge, table_of}
 use Rattle.ev_peers.specs.declared.crew.Outcome.{Outcome}
+use Rattle.ev_peers.specs.Telling.{Told, lines_of}
 use Rattle.route_join.specs.Report.{report_of}
 use Rattle.ev_config.specs.declared.whole.Config.{Config}
 use Rattle.ev_config.specs.declared.endpoint.Endpoint.{Endpoint}
@@ -124,18 +126,35 @@ was_starved (Err refused) = true
 abbrev pub all_lost : List Ended → ℕ
 all_lost ended = min (sum_by sends_failed ended) (2 ^ 64 - 1)
 
--- what is noted: which links had no room for frames, and `lost N`
+-- what is noted at the end: which links had no room for frames, and `lost N`
 abbrev pub noted_text : List Ended → ℕ → Text
 noted_text ended lost = each_from drops_text 1 ended ++ lost_text lost
 
--- The reports of the edges that ran are written. What their lines had no room for is noted, and `lost N` where sends
--- failed. The
--- status is 4 where a device failed, 3 where memory or a thread was refused, else 0.
-pub record TellsEnded (ended : List Ended) (is_read : Bool) (out out' notes notes' : End) (status : ℕ) : Type 0 where
+-- alerts were told while the edges ran, a line each, the last one first here; or a call of the writer failed
+pub record TellsMeanwhile (notes notes' : End) (told : Result (Unit {0}) device.Device) : Type 0 where
+  pub alerts : List Told
+  pub lines : Puts notes notes' (lines_of alerts) told
+
+-- The reports of the edges that ran are written. The alerts of meanwhile are noted, and behind them what their lines
+-- had no room for, and `lost N` where sends failed. The status is 4 where a device failed, 3 where memory or a thread
+-- was refused, else 0.
+pub record TellsEnded (alerts : List Told) (ended : List Ended) (is_read : Bool) (out out' notes notes' : End)
+    (status : ℕ) : Type 0 where
   pub written : Holds out out' (reports_from 1 ended)
-  pub noted : Holds notes notes' (noted_text ended (all_lost ended))
+  pub noted : Holds notes notes' (lines_of alerts ++ noted_text ended (all_lost ended))
   pub status_is : status ≡ status_of (((not is_read || list_any link_failed ended) || nat_lt 0 (all_lost ended)) ||
       (has_failed out out' || has_failed notes notes')) (list_any was_starved ended) false
+
+-- so it is for whatever alerts were told before
+abbrev pub TellsRest : Result (Unit {0}) device.Device → List Ended → Bool → End → End → End → End → ℕ → Type 0
+TellsRest told ended is_read out out' notes notes' status =
+    (start : End) (alerts : List Told) → Puts start notes (lines_of alerts) told
+    → TellsEnded alerts ended is_read out out' start notes' status
+
+-- what is noted behind the alerts, unless a call has failed
+abbrev pub PutsRest : Result (Unit {0}) device.Device → End → End → Text → Result (Unit {0}) device.Device → Type 0
+PutsRest (Ok done) notes notes' text result = Puts notes notes' text result
+PutsRest (Err device) notes notes' text result = (notes' ≡ notes) × (result ≡ Err device)
 
 -- ---- a run
 
@@ -145,7 +164,8 @@ pub record Ran (many : ℕ) (before after : Devices) (status : ℕ) : Type 0 whe
   pub read : ReadsOut before.input after.input is_read
   pub ended : List Ended
   pub all : length ended ≡ many
-  pub told : TellsEnded ended is_read before.out after.out before.notes after.notes status
+  pub alerts : List Told
+  pub told : TellsEnded alerts ended is_read before.out after.out before.notes after.notes status
 
 -- An address couldn't be bound, which is told, or a port has none: the status is 4.
 pub record IsUnbound (notes notes' : End) (status : ℕ) : Type 0 where

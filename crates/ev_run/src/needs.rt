@@ -8,7 +8,7 @@ use ev_edge::EdgeConfig;
 /// What a run takes at its beginning.
 #[derive(Clone, Copy, Debug, PartialEq, Eq)]
 pub struct Needs {
-    /// How many threads it has, that of standard input among them.
+    /// How many threads it has, those of standard input and standard error among them.
     pub threads: u64,
     /// How many UDP sockets it binds.
     pub sockets: u64,
@@ -59,9 +59,9 @@ pub fn needs_of(config: &Config) -> Needs
     ensures { result ≡ needs_of config.now.edges.items }
 {
     let mut needs = Needs {
-        threads: 1,
+        threads: 2,
         sockets: 0,
-        memory: 2_252_800,
+        memory: 2_351_104,
     };
     for edge in config.edges.iter() {
         needs = needs.with(edge);

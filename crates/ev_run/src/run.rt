@@ -1,25 +1,28 @@
 //! Edges that carry frames: each on its address at UDP port 4789, its access ports at sockets of
-//! their own, until the input ends.
-ghost use Rattle.std.specs.Prelude.{◌≡◌, ◌+◌, ◌-◌, ◌≤◌, ◌^◌, ◌||◌, min, not, nat_lt, length, vec_len, vec_capacity, IfOk, OnErr};
+//! their own, until the input ends. What the operator is to know is told meanwhile.
+ghost use Rattle.std.specs.Prelude.{◌≡◌, ◌+◌, ◌-◌, ◌≤◌, ◌^◌, ◌||◌, min, not, nat_lt, length, vec_len, vec_capacity, IfOk, OnOk, OnErr};
 ghost use Rattle.std.specs.List.{list_any};
 ghost use Rattle.ether_wire.specs.Ends.{IsOpen, Allows};
 ghost use Rattle.ev_fabric.specs.Opening.{AreConfigs};
 ghost use Rattle.ev_edge.specs.Config.{IsConfig};
 ghost use Rattle.ev_report.specs.Ends.{AreOpen, devices};
-ghost use Rattle.ev_run.specs.RunEdges.{EachConfig, ReadsOut, sends_failed, link_failed, was_starved, all_lost, TellsEnded, Ran, TellsUnbound, RunsEdges};
+ghost use Rattle.ev_run.specs.RunEdges.{EachConfig, ReadsOut, sends_failed, link_failed, was_starved, all_lost, noted_text, PutsRest, TellsMeanwhile, TellsRest, Ran, TellsUnbound, RunsEdges};
 
 use crate::sockets::{PortSocket, Sockets, Unbound, bind_all, put_unbound, wake_all};
 use crate::telling::{put_notes, put_reports};
 use ether_wire::{Device, In, Out};
 use ev_config::Config;
 use ev_edge::EdgeConfig;
-use ev_peers::{Destination, EdgeLinks, Link, OpenGate, Outcome, Setup, UdpOut, Wire, run_all};
+use ev_peers::{
+    Boards, Destination, EdgeLinks, Link, NoticeBox, OpenGate, Outcome, Setup, Start, UdpOut, Wire,
+    notice_worker, run_all,
+};
 use ev_report::{Buffers, DEVICE, Devices, MEMORY, MOST_READS, status_of};
 use std::alloc::{AllocError, Global};
 use std::net::Net;
 use std::sync::Wait;
 use std::sync::atomic::{AtomicBool, Ordering};
-use std::thread::Threads;
+use std::thread::{Threads, join};
 use std::time::Clock;
 
 /// The UDP port of tunnels (RFC 7348).
@@ -170,23 +173,88 @@ fn has_failed(sum: Sum, is_read: bool, is_told: bool, is_noted: bool) -> bool
     !is_read || sum.is_device || sum.lost > 0 || !is_told || !is_noted
 }
 
-/// Tells what the edges have come to, and answers the status.
+/// Writes what is noted at the end, unless a call of the writer has failed before.
+fn put_rest<N: Out>(
+    notes: &mut N,
+    told: Result<(), Device>,
+    ended: &[Result<Outcome, AllocError>],
+    lost: u64,
+) -> Result<(), Device>
+    requires { OnOk told (IsOpen (N.end notes.old)) }
+    ensures { PutsRest told (N.end notes.old) (N.end notes.new) (noted_text ended.now lost) result }
+{
+    match told {
+        Ok(()) => put_notes(notes, ended, lost),
+        Err(device) => Err(device),
+    }
+}
+
+/// Tells what the edges have come to, behind the alerts that were told while they ran or weren't,
+/// and answers the status.
 fn tell_ended<W: Out, N: Out>(
+    told: Result<(), Device>,
     ended: &[Result<Outcome, AllocError>],
     is_read: bool,
     out: &mut W,
     notes: &mut N,
 ) -> u8
     requires out { IsOpen (W.end out.old) }
-    requires notes { IsOpen (N.end notes.old) }
-    ensures { TellsEnded ended.now is_read (W.end out.old) (W.end out.new)
+    requires notes { OnOk told (IsOpen (N.end notes.old)) }
+    ensures { TellsRest told ended.now is_read (W.end out.old) (W.end out.new)
         (N.end notes.old) (N.end notes.new) result }
 {
     let sum = sum_of(ended);
     let is_told = put_reports(out, ended).is_ok();
-    let is_noted = put_notes(notes, ended, sum.lost).is_ok();
+    let is_noted = put_rest(notes, told, ended, sum.lost).is_ok();
     let has_failed = has_failed(sum, is_read, is_told, is_noted);
     status_of(has_failed, sum.is_starved, false)
+}
+
+/// Tells the operator what comes to these boards, until nothing more does.
+fn tell_meanwhile<R: Wait, N: Out>(rt: &R, boards: &Boards, notes: &mut N) -> Result<(), Device>
+    requires { IsOpen (N.end notes.old) }
+    ensures { TellsMeanwhile (N.end notes.old) (N.end notes.new) result }
+{
+    let mut notices = NoticeBox { rt, boards };
+    notice_worker(rt, &mut notices, notes)
+}
+
+/// What a run of edges comes to: each of them, and whether the input was read up to its end.
+type Reached = (Vec<Result<Outcome, AllocError>>, bool);
+
+/// Runs edges until the reader ends, and stops them then.
+fn run_reading<'x, R: Threads + Wait + Clock + Sync, E: In>(
+    rt: &'x R,
+    alloc: Global,
+    start: Start<Wire<'x, R>, UdpOut<'x>>,
+    boards: &Boards,
+    sockets: &'x [Sockets],
+    stop: &'x AtomicBool,
+    reader: &mut E,
+) -> Reached
+    requires { Allows (2 ^ 40) (E.end reader.old) }
+    ensures all { vec_len result.0 ≡ start.entry }
+    ensures read { ReadsOut (E.end reader.old) (E.end reader.new) result.1 }
+{
+    // The reader comes back from the closure: by its name it is known to be this one.
+    let (ended, (is_read, _reader)) = run_all(
+        rt,
+        alloc,
+        start,
+        boards,
+        &OpenGate,
+        || -> (bool, &mut E)
+            requires { Allows (2 ^ 40) (E.end reader.now) }
+            ensures same { result.1.ghost_name ≡ reader.entry.ghost_name }
+            ensures read { ReadsOut (E.end reader.entry.now) (E.end result.1.now) result.0 }
+        {
+            let is_read = is_read_out(&mut *reader);
+            stop.store(true, Ordering::SeqCst);
+            wake_all(sockets);
+            (is_read, reader)
+        },
+    );
+    (ended, is_read)
 }
 
 /// Runs the edges of a configuration over these sockets until the reader ends.
@@ -194,7 +262,7 @@ fn tell_ended<W: Out, N: Out>(
 /// # Errors
 ///
 /// Where memory is refused before an edge has begun.
-fn run_bound<R: Threads + Wait + Clock + Sync, E: In, W: Out, N: Out>(
+fn run_bound<R: Threads + Wait + Clock + Sync, E: In, W: Out, N: Out + Send>(
     rt: &R,
     alloc: Global,
     configs: Vec<EdgeConfig>,
@@ -217,24 +285,30 @@ fn run_bound<R: Threads + Wait + Clock + Sync, E: In, W: Out, N: Out>(
 {
     let stop = AtomicBool::new(false);
     let setups = all_ready(rt, alloc, configs, sockets, &stop)?;
-    // The reader comes back from the closure: by its name it is known to be this one.
-    let (ended, (is_read, _reader)) = run_all(
+    let boards = Boards::new(alloc, setups.len())?;
+    let start = Start::new(alloc, setups)?;
+    // Reader and notes come back from the closures: by their names they are known to be these.
+    let ((told, notes), ((ended, is_read), _reader)) = join(
         rt,
-        alloc,
-        setups,
-        &OpenGate,
-        || -> (bool, &mut E)
+        || -> (Result<(), Device>, &mut N)
+            requires { IsOpen (N.end notes.now) }
+            ensures same { result.1.ghost_name ≡ notes.entry.ghost_name }
+            ensures told { TellsMeanwhile (N.end notes.entry.now) (N.end result.1.now) result.0 }
+        {
+            let told = tell_meanwhile(rt, &boards, &mut *notes);
+            (told, notes)
+        },
+        || -> (Reached, &mut E)
             requires { Allows (2 ^ 40) (E.end reader.now) }
             ensures same { result.1.ghost_name ≡ reader.entry.ghost_name }
-            ensures read { ReadsOut (E.end reader.entry.now) (E.end result.1.now) result.0 }
+            ensures all { vec_len result.0.0 ≡ start.entry }
+            ensures read { ReadsOut (E.end reader.entry.now) (E.end result.1.now) result.0.1 }
         {
-            let is_read = is_read_out(&mut *reader);
-            stop.store(true, Ordering::SeqCst);
-            wake_all(sockets);
-            (is_read, reader)
+            let reached = run_reading(rt, alloc, start, &boards, sockets, &stop, &mut *reader);
+            (reached, reader)
         },
-    )?;
-    Ok(tell_ended(ended.as_slice(), is_read, out, notes))
+    );
+    Ok(tell_ended(told, ended.as_slice(), is_read, out, notes))
 }
 
 /// Tells why no edge begins, and answers the status.
@@ -254,12 +328,13 @@ fn tell_unbound<N: Out>(unbound: Unbound, notes: &mut N) -> u8
 
 /// Runs the edges of a configuration, each on a thread with its workers, until the reader ends;
 /// then writes `edge E` and the report of each edge, and on `notes` a line for each link that had
-/// no room for frames, and `lost N` where N sends failed. What is read is ignored.
+/// no room for frames, and `lost N` where N sends failed. What is read is ignored. While the edges
+/// run `notes` gets a line for each alert that isn't held back, until a call of it fails.
 ///
 /// The status is the greatest that applies: 4 where a device failed, be it a reader, a writer, a
 /// link or a socket that can't be bound; 3 where memory or a thread was refused; else 0. Where a
 /// socket can't be bound no edge begins, and a line on `notes` says which address, and why.
-pub fn run_edges<R: Threads + Wait + Net + Clock + Sync, E: In, W: Out, N: Out>(
+pub fn run_edges<R: Threads + Wait + Net + Clock + Sync, E: In, W: Out, N: Out + Send>(
     rt: &R,
     alloc: Global,
     config: Config,
@@ -287,7 +362,7 @@ pub fn run_edges<R: Threads + Wait + Net + Clock + Sync, E: In, W: Out, N: Out>(
 }
 
 /// `run_edges` with few and large writes: it takes the devices, and gives them back.
-pub fn run_buffered<H: Threads + Wait + Net + Clock + Sync, R: In, W: Out, N: Out>(
+pub fn run_buffered<H: Threads + Wait + Net + Clock + Sync, R: In, W: Out, N: Out + Send>(
     rt: &H,
     alloc: Global,
     config: Config,

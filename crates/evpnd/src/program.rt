@@ -91,7 +91,7 @@ fn wanted_of<'a>(descriptors: Descriptors, order: &Order<'a>) -> Wanted<'a>
 
 /// Runs the edges that the file at a path configures, where no standard stream was closed: a socket
 /// would have its number.
-fn run_open<H: Threads + Wait + Net + Clock + Sync, F: Files, R: In, W: Out, N: Out>(
+fn run_open<H: Threads + Wait + Net + Clock + Sync, F: Files, R: In, W: Out, N: Out + Send>(
     host: &Host<'_, H>,
     files: &mut F,
     path: &str,
@@ -109,7 +109,7 @@ fn run_open<H: Threads + Wait + Net + Clock + Sync, F: Files, R: In, W: Out, N: 
 }
 
 /// Does what the words say.
-fn follow<H: Threads + Wait + Net + Clock + Sync, F: Files, R: In, W: Out, N: Out>(
+fn follow<H: Threads + Wait + Net + Clock + Sync, F: Files, R: In, W: Out, N: Out + Send>(
     host: &Host<'_, H>,
     order: Order<'_>,
     files: &mut F,
@@ -135,7 +135,7 @@ fn follow<H: Threads + Wait + Net + Clock + Sync, F: Files, R: In, W: Out, N: Ou
 }
 
 /// Does what the words say, and tells whether reading or writing failed.
-fn follow_telling<H: Threads + Wait + Net + Clock + Sync, F: Files, R: In, W: Out, N: Out>(
+fn follow_telling<H: Threads + Wait + Net + Clock + Sync, F: Files, R: In, W: Out, N: Out + Send>(
     host: &Host<'_, H>,
     order: Order<'_>,
     files: &mut F,
@@ -152,7 +152,14 @@ fn follow_telling<H: Threads + Wait + Net + Clock + Sync, F: Files, R: In, W: Ou
 }
 
 /// A run over these words.
-fn run_words<H: Threads + Wait + Net + Clock + Sync, P: Parser, F: Files, R: In, W: Out, N: Out>(
+fn run_words<
+    H: Threads + Wait + Net + Clock + Sync,
+    P: Parser,
+    F: Files,
+    R: In,
+    W: Out,
+    N: Out + Send,
+>(
     host: &Host<'_, H>,
     parser: &mut P,
     words: &[String],
@@ -187,7 +194,7 @@ pub(crate) fn run<
     F: Files,
     R: In,
     W: Out,
-    N: Out,
+    N: Out + Send,
 >(
     host: &Host<'_, H>,
     parser: &mut P,

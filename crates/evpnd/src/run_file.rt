@@ -17,7 +17,13 @@ use std::thread::Threads;
 use std::time::Clock;
 
 /// Runs the edges that the file at a path configures.
-pub(crate) fn run_file<H: Threads + Wait + Net + Clock + Sync, F: Files, R: In, W: Out, N: Out>(
+pub(crate) fn run_file<
+    H: Threads + Wait + Net + Clock + Sync,
+    F: Files,
+    R: In,
+    W: Out,
+    N: Out + Send,
+>(
     rt: &H,
     alloc: Global,
     files: &mut F,

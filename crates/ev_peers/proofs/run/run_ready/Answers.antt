@@ -1,5 +1,5 @@
 use Rattle.std.proofs.Common.{of_calls}
-use Rattle.ev_peers.proofs.run.run_start.Goals as goal
+use Rattle.ev_peers.proofs.run.run_ready.Goals as goal
 
 pub scoped-requires : goal.scoped-requires
 scoped-requires g c = record {

@@ -1,0 +1,141 @@
+//! The boards of all edges, which their workers share with the one that tells the operator.
+
+use crate::alarm::Alarm;
+use crate::board::{Board, Notice};
+use std::alloc::{AllocError, Global};
+use std::sync::{Condvar, Mutex, Wait};
+
+/// What rings the worker that tells the operator.
+#[derive(Clone, Copy)]
+struct Bell {
+    /// Something was put up since it was last rung.
+    is_rung: bool,
+    /// Nothing more is put up.
+    has_ended: bool,
+}
+
+/// A board for each edge, under a lock of its own. What their calls do is what those of `Board` do;
+/// no clause can say so, since none names what a lock holds at that moment. Nobody who holds a lock
+/// waits for another one.
+#[derive(Drop)]
+pub struct Boards {
+    all: Vec<Mutex<Board>>,
+    bell: Mutex<Bell>,
+    /// Rung behind the lock of the bell.
+    ringing: Condvar,
+}
+
+impl Boards {
+    /// Boards for so many edges, on which nothing was put.
+    ///
+    /// # Errors
+    ///
+    /// Where memory is refused.
+    pub fn new(alloc: Global, edges: usize) -> Result<Self, AllocError> {
+        let mut all = Vec::with_capacity(alloc, edges)?;
+        for place in 0..edges {
+            let _ = place;
+            all.push(Mutex::new(Board::new()))?;
+        }
+        Ok(Boards {
+            all,
+            bell: Mutex::new(Bell {
+                is_rung: false,
+                has_ended: false,
+            }),
+            ringing: Condvar::new(),
+        })
+    }
+
+    /// The board of the edge with this number, from 1.
+    fn of(&self, edge: usize) -> Option<&Mutex<Board>> {
+        self.all.get(edge.saturating_sub(1))
+    }
+
+    /// Rings the bell, for the last time or not.
+    fn ring<R: Wait>(&self, rt: &R, has_ended: bool) {
+        {
+            let mut bell = self.bell.lock(rt);
+            *bell = Bell {
+                is_rung: true,
+                has_ended,
+            };
+        }
+        self.ringing.notify_one();
+    }
+
+    /// A second passes at the edge with this number.
+    pub(crate) fn second<R: Wait>(&self, rt: &R, edge: usize) {
+        if let Some(board) = self.of(edge) {
+            board.lock(rt).second();
+        }
+    }
+
+    /// Puts an alert of the edge with this number up, or holds it back. An alert that is held back
+    /// touches nothing that another edge waits for.
+    pub(crate) fn alarm<R: Wait>(&self, rt: &R, edge: usize, alarm: Alarm) {
+        let Some(board) = self.of(edge) else {
+            return;
+        };
+        let is_put = board.lock(rt).alarm(alarm);
+        if is_put {
+            self.ring(rt, false);
+        }
+    }
+
+    /// Tells that nothing more is put up.
+    pub fn end<R: Wait>(&self, rt: &R) {
+        self.ring(rt, true);
+    }
+
+    /// The first notice that waits, with the number of its edge.
+    fn first<R: Wait>(&self, rt: &R) -> Option<(u64, Notice)> {
+        for (place, board) in self.all.iter().enumerate() {
+            if let Some(notice) = board.lock(rt).take() {
+                return Some((place as u64 + 1, notice));
+            }
+        }
+        None
+    }
+
+    /// The first notice of the end, with the number of its edge.
+    fn last<R: Wait>(&self, rt: &R) -> Option<(u64, Notice)> {
+        for (place, board) in self.all.iter().enumerate() {
+            if let Some(notice) = board.lock(rt).take_last() {
+                return Some((place as u64 + 1, notice));
+            }
+        }
+        None
+    }
+
+    /// Waits until the bell is rung, and answers whether that was for the last time.
+    fn wait<R: Wait>(&self, rt: &R) -> bool {
+        let mut bell = self.bell.lock(rt);
+        for _ in rt.forever() {
+            if bell.is_rung {
+                bell.is_rung = bell.has_ended;
+                return bell.has_ended;
+            }
+            bell = self.ringing.wait(rt, bell);
+        }
+        unreachable!()
+    }
+
+    /// Waits for what is told next, with the number of its edge. None once nothing waits, nothing
+    /// more is put up, and of each edge it was told how many alerts were held back.
+    pub(crate) fn next<R: Wait>(&self, rt: &R) -> Option<(u64, Notice)> {
+        for _ in rt.forever() {
+            let first = self.first(rt);
+            if first.is_some() {
+                return first;
+            }
+            if self.wait(rt) {
+                return match self.first(rt) {
+                    Some(first) => Some(first),
+                    None => self.last(rt),
+                };
+            }
+        }
+        unreachable!()
+    }
+}
