@@ -7,7 +7,7 @@ use Rattle.byteorder.specs.Numbers.{big_number-reads_back}
 use Rattle.bpdu_wire.specs.declared.bpdu.Message.{Message}
 use Rattle.bpdu_wire.specs.declared.bpdu.Bpdu.{Bpdu}
 use Rattle.bpdu_wire.specs.declared.bpdu.Bpdu.TheVariants.{Config, Rst, Tcn}
-use Rattle.bpdu_wire.specs.declared.refusal.Refusal.TheVariants.{Short, Aged}
+use Rattle.bpdu_wire.specs.declared.refusal.BpduRefusal.TheVariants.{Short, Aged}
 use Rattle.bpdu_wire.specs.Bpdu.{is_aged}
 use Rattle.bpdu_wire.specs.Reading.{message_of, unless_refused, reading}
 use Rattle.bpdu_wire.specs.Writing.{HasVector, HasTimes, message_octets, octets_of, read_again}

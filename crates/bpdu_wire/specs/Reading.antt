@@ -11,8 +11,8 @@ use Rattle.bpdu_wire.specs.declared.reading.TheConstants.{RST_SIZE, TCN_SIZE}
 use Rattle.bpdu_wire.specs.declared.bpdu.Message.{Message}
 use Rattle.bpdu_wire.specs.declared.bpdu.Bpdu.{Bpdu}
 use Rattle.bpdu_wire.specs.declared.bpdu.Bpdu.TheVariants.{Config, Rst, Tcn}
-use Rattle.bpdu_wire.specs.declared.refusal.Refusal.{Refusal}
-use Rattle.bpdu_wire.specs.declared.refusal.Refusal.TheVariants.{Short, BadProtocol, BadType, BadVersion, Aged}
+use Rattle.bpdu_wire.specs.declared.refusal.BpduRefusal.{BpduRefusal}
+use Rattle.bpdu_wire.specs.declared.refusal.BpduRefusal.TheVariants.{Short, BadProtocol, BadType, BadVersion, Aged}
 use Rattle.bpdu_wire.specs.Bpdu.{is_aged}
 
 -- ---- the fields
@@ -60,7 +60,7 @@ bpdu_of octets =
 abbrev pub has_old_version : List ℕ → Bool
 has_old_version octets = type_of octets == RST_TYPE && nat_lt (version_of octets) RAPID_VERSION
 
-abbrev pub refusal_tests : List ℕ → List (Bool × Refusal)
+abbrev pub refusal_tests : List ℕ → List (Bool × BpduRefusal)
 refusal_tests octets =
     (nat_lt (length octets) TCN_SIZE, Short)
     ∷ (not (protocol_of octets == 0), BadProtocol)
@@ -70,14 +70,14 @@ refusal_tests octets =
     ∷ (is_aged (bpdu_of octets), Aged) ∷ []
 
 -- the refusal of the first test that is met
-abbrev pub first_of : List (Bool × Refusal) → Option Refusal
+abbrev pub first_of : List (Bool × BpduRefusal) → Option BpduRefusal
 first_of [] = None
 first_of (test ∷ tests) = if test.0 then Some test.1 else first_of tests
 
-abbrev pub unless_refused : Option Refusal → Bpdu → Result Bpdu Refusal
+abbrev pub unless_refused : Option BpduRefusal → Bpdu → Result Bpdu BpduRefusal
 unless_refused None bpdu = Ok bpdu
 unless_refused (Some refusal) bpdu = Err refusal
 
 -- what the octets say: the BPDU that they begin with, or why there is none
-unfoldable pub reading : List ℕ → Result Bpdu Refusal
+unfoldable pub reading : List ℕ → Result Bpdu BpduRefusal
 reading octets = unless_refused (first_of (refusal_tests octets)) (bpdu_of octets)

@@ -5,8 +5,8 @@ use Rattle.bpdu_wire.specs.declared.reading.TheConstants.{CONFIG_TYPE, OLD_VERSI
 use Rattle.bpdu_wire.specs.declared.bpdu.Message.{Message}
 use Rattle.bpdu_wire.specs.declared.bpdu.Bpdu.{Bpdu}
 use Rattle.bpdu_wire.specs.declared.bpdu.Bpdu.TheVariants.{Config, Rst, Tcn}
-use Rattle.bpdu_wire.specs.declared.refusal.Refusal.{Refusal}
-use Rattle.bpdu_wire.specs.declared.refusal.Refusal.TheVariants.{Aged}
+use Rattle.bpdu_wire.specs.declared.refusal.BpduRefusal.{BpduRefusal}
+use Rattle.bpdu_wire.specs.declared.refusal.BpduRefusal.TheVariants.{Aged}
 use Rattle.bpdu_wire.specs.Bpdu.{is_aged}
 
 -- root, cost, bridge, port
@@ -42,5 +42,5 @@ pub record HasTimes (m : Message) : Type 0 where
   pub forward_delay : m.forward_delay < 2 ^ 16
 
 -- the answer of a reader to a BPDU's own octets
-abbrev pub read_again : Bpdu → Result Bpdu Refusal
+abbrev pub read_again : Bpdu → Result Bpdu BpduRefusal
 read_again bpdu = if is_aged bpdu then Err Aged else Ok bpdu

@@ -17,5 +17,5 @@ pub use flags::{
 };
 pub use id::{BridgeId, PortId};
 pub use reading::read;
-pub use refusal::{BAD_PROTOCOL, BAD_TYPE, BAD_VERSION, OVER_AGE, Refusal, TOO_SHORT};
+pub use refusal::{BAD_PROTOCOL, BAD_TYPE, BAD_VERSION, BpduRefusal, OVER_AGE, TOO_SHORT};
 pub use writing::write;

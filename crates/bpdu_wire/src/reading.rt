@@ -21,7 +21,7 @@ ghost use Rattle.bpdu_wire.specs.Reading.{protocol_of, type_of, has_old_version,
 
 use crate::bpdu::{Bpdu, Message};
 use crate::id::{BridgeId, PortId};
-use crate::refusal::Refusal;
+use crate::refusal::BpduRefusal;
 use byteorder::{BigEndian, ByteOrder};
 
 /// The place of the version.
@@ -131,27 +131,27 @@ fn bpdu_in(octets: &[u8]) -> Bpdu
 /// than four, `BadProtocol`, `BadType`, `BadVersion`, `Short` where they are fewer than
 /// the type has, `Aged`.
 #[tactic(auto, unfolding(crate::specs::Reading::reading))]
-pub fn read(octets: &[u8]) -> Result<Bpdu, Refusal>
+pub fn read(octets: &[u8]) -> Result<Bpdu, BpduRefusal>
     ensures { result ≡ reading octets.now }
 {
     if octets.len() < TCN_SIZE {
-        return Err(Refusal::Short);
+        return Err(BpduRefusal::Short);
     }
     if BigEndian::read_u16(octets) != 0 {
-        return Err(Refusal::BadProtocol);
+        return Err(BpduRefusal::BadProtocol);
     }
     if !is_known(octets[TYPE_PLACE]) {
-        return Err(Refusal::BadType);
+        return Err(BpduRefusal::BadType);
     }
     if has_old_version(octets) {
-        return Err(Refusal::BadVersion);
+        return Err(BpduRefusal::BadVersion);
     }
     if octets.len() < size(octets[TYPE_PLACE]) {
-        return Err(Refusal::Short);
+        return Err(BpduRefusal::Short);
     }
     let bpdu = bpdu_in(octets);
     if bpdu.is_aged() {
-        return Err(Refusal::Aged);
+        return Err(BpduRefusal::Aged);
     }
     Ok(bpdu)
 }

@@ -14,7 +14,7 @@ pub const OVER_AGE: u8 = 5;
 
 /// Why octets are no BPDU. The first cause in the order that `read` names is the one that is told.
 #[derive(Clone, Copy, Debug, PartialEq, Eq)]
-pub enum Refusal {
+pub enum BpduRefusal {
     /// There are fewer than four octets or, once the type is known, fewer than its kind has.
     Short,
     /// The protocol identifier isn't 0.
@@ -27,7 +27,7 @@ pub enum Refusal {
     Aged,
 }
 
-impl Refusal {
+impl BpduRefusal {
     ghost use Rattle.std.specs.Prelude.{◌≡◌};
     ghost use Rattle.bpdu_wire.specs.Refusal.{refusal_number};
 
@@ -36,11 +36,11 @@ impl Refusal {
         ensures { result ≡ refusal_number self }
     {
         match self {
-            Refusal::Short => TOO_SHORT,
-            Refusal::BadProtocol => BAD_PROTOCOL,
-            Refusal::BadType => BAD_TYPE,
-            Refusal::BadVersion => BAD_VERSION,
-            Refusal::Aged => OVER_AGE,
+            BpduRefusal::Short => TOO_SHORT,
+            BpduRefusal::BadProtocol => BAD_PROTOCOL,
+            BpduRefusal::BadType => BAD_TYPE,
+            BpduRefusal::BadVersion => BAD_VERSION,
+            BpduRefusal::Aged => OVER_AGE,
         }
     }
 }

@@ -23,9 +23,9 @@ use Rattle.std.specs.Int.{byte_at}
 use Rattle.std.proofs.lemmas.Nat.{from_be_bytes-to_be_bytes_8, from_be_bytes-to_be_bytes_4, be_bytes_8, be_bytes_4}
 use Rattle.byteorder.specs.Endian.{big_number}
 use Rattle.std.specs.Fmt.{decimal, digit_glyph}
-use Rattle.ether_wire.specs.Names.{hex_pair, mac_text, addr_text}
-use Rattle.ether_wire.specs.Spelling.{parted, is_decimal, decimal_of_text, hex_value, pair_of_text, mac_of_text}
-use Rattle.ether_wire.specs.Spelling.{addr_of_text}
+use Rattle.ether_wire.specs.Addr.{hex_pair, mac_text, addr_text}
+use Rattle.ether_wire.specs.Parse.{parted, is_decimal, decimal_of_text, hex_value, pair_of_text, mac_of_text}
+use Rattle.ether_wire.specs.Parse.{addr_of_text}
 
 -- no octet of the text is b
 abbrev pub Lacks : ℕ → List ℕ → Type 0

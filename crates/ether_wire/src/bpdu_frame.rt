@@ -11,7 +11,7 @@
 ghost use Rattle.std.specs.Prelude.{◌≡◌, ◌≤◌, length};
 ghost use Rattle.ether_wire.specs.BpduFrame.{bpdu_header, bpdu_frame_of};
 
-use crate::names::Mac;
+use crate::addr::Mac;
 
 /// What stands in front of a BPDU of this size.
 fn header(source: Mac, size: u8) -> [u8; 17]

@@ -10,7 +10,7 @@ ghost use Rattle.std.specs.Prelude.{◌≡◌, ◌≤◌, nat_lt, length, take};
 ghost use Rattle.ether_wire.specs.declared.frame.TheConstants.{MOST_OCTETS};
 ghost use Rattle.ether_wire.specs.Frame.{frame_of, IsFrame, destination_of, source_of, type_or_length, kind_of, payload_of, refusal_number};
 
-use crate::names::Mac;
+use crate::addr::Mac;
 use byteorder::{BigEndian, ByteOrder};
 use std::marker::Model;
 

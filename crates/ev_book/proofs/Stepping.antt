@@ -12,8 +12,8 @@ use Rattle.route_join.proofs.Tables.{update_told}
 use Rattle.route_join.proofs.Edits.{new_table}
 use Rattle.route_join.proofs.Joins.{none_taken, all_taken}
 use Rattle.ev_claims.specs.declared.opening.Start.{Start}
-use Rattle.ev_claims.specs.Voice.{Voice, IsOwnAt, announced_of, announced, silent}
-use Rattle.ev_claims.specs.Claims.{Claims, entries}
+use Rattle.ev_claims.specs.Speaker.{Speaker, IsOwnAt, announced_of, announced, silent}
+use Rattle.ev_claims.specs.LocalRoutes.{LocalRoutes, entries}
 use Rattle.ev_claims.specs.Changes.{said_updates}
 use Rattle.ev_claims.specs.Opening.{Opens, floods_of}
 use Rattle.ev_edge.specs.declared.event.Event.{Event}
@@ -35,16 +35,16 @@ use Rattle.ev_book.proofs.Reaching.{holds_update, holds_there}
 -- what an event makes the edge say
 abbrev pub own_in : {e : Edge} {event : Event} {result : Result Reply edges.Refusal} {e' : Edge}
     → Changes e event result e' → List Fields
-own_in {e} {event} {result} {e'} h = said_updates (heard event result e.claims.voice) h.said
+own_in {e} {event} {result} {e'} h = said_updates (heard event result e.routes.speaker) h.said
 
 pub are_own : {e : Edge} {event : Event} {result : Result Reply edges.Refusal} {e' : Edge}
-    → (h : Changes e event result e') → AreOwnSince e'.claims.voice e.claims.voice.counter (own_in h)
+    → (h : Changes e event result e') → AreOwnSince e'.routes.speaker e.routes.speaker.counter (own_in h)
 are_own {e} {event} {result} {e'} h =
-    let before = heard_counter event result e.claims.voice in
+    let before = heard_counter event result e.routes.speaker in
     let count = h.says.count in
     let counter = h.counter in
     record {
-      numbered = λ i u at. subst (λ n. IsOwnAt e'.claims.voice (n + (i + 1)) u) before (h.says.numbered i u at);
+      numbered = λ i u at. subst (λ n. IsOwnAt e'.routes.speaker (n + (i + 1)) u) before (h.says.numbered i u at);
       all = omega (arith, count, counter);
     }
 
@@ -77,45 +77,45 @@ brings_none (events.Mcheck port) silent = refl
 brings_none events.Announce silent = refl
 
 tunnel_counter : (arrival : Result Arrival edges.Refusal) (e : Edge) (result : Result Reply edges.Refusal) (e' : Edge)
-    → TunnelSteps arrival e result e' → e'.claims.voice.counter ≡ e.claims.voice.counter
-tunnel_counter (Err r) e result e' h = ap (λ (x : Edge). x.claims.voice.counter) h.1
-tunnel_counter (Ok Dropped) e result e' h = ap (λ (x : Edge). x.claims.voice.counter) h.1
+    → TunnelSteps arrival e result e' → e'.routes.speaker.counter ≡ e.routes.speaker.counter
+tunnel_counter (Err r) e result e' h = ap (λ (x : Edge). x.routes.speaker.counter) h.1
+tunnel_counter (Ok Dropped) e result e' h = ap (λ (x : Edge). x.routes.speaker.counter) h.1
 tunnel_counter (Ok (Message b)) e result e' h = absurd h
-tunnel_counter (Ok (Data vni destination source)) e (Ok reply) e' h = ap (λ (x : Edge). x.claims.voice.counter) h.2
+tunnel_counter (Ok (Data vni destination source)) e (Ok reply) e' h = ap (λ (x : Edge). x.routes.speaker.counter) h.2
 tunnel_counter (Ok (Data vni destination source)) e (Err r) e' h = absurd h
 
 -- an event that may not write leaves the counter, and brings nothing
 silent_counter : (e : Edge) (event : Event) (result : Result Reply edges.Refusal) (e' : Edge) → may_write event ≡ false
-    → Steps e event result e' → e'.claims.voice.counter ≡ e.claims.voice.counter
+    → Steps e event result e' → e'.routes.speaker.counter ≡ e.routes.speaker.counter
 silent_counter e (events.Frame port octets) result e' silent h = absurd (false≢true (sym silent))
 silent_counter e (events.TunnelFrame from octets) result e' silent h =
     tunnel_counter (tunnel_arrival e from octets.now) e result e' h
 silent_counter e (events.Take u) result e' silent h = absurd (false≢true (sym silent))
 silent_counter e (events.Pin s port) result e' silent h = absurd (false≢true (sym silent))
 silent_counter e (events.Unpin s) result e' silent h = absurd (false≢true (sym silent))
-silent_counter e (events.Thaw s) result e' silent h = ap (λ (x : Edge). x.claims.voice.counter) h.1
+silent_counter e (events.Thaw s) result e' silent h = ap (λ (x : Edge). x.routes.speaker.counter) h.1
 silent_counter e events.Second result e' silent h = absurd (false≢true (sym silent))
 silent_counter e (events.PortUp port) result e' silent h = absurd (false≢true (sym silent))
 silent_counter e (events.PortDown port) result e' silent h = absurd (false≢true (sym silent))
 silent_counter e (events.Mcheck port) result e' silent h = absurd (false≢true (sym silent))
-silent_counter e events.Announce result e' silent h = ap (λ (x : Edge). x.claims.voice.counter) h.1
+silent_counter e events.Announce result e' silent h = ap (λ (x : Edge). x.routes.speaker.counter) h.1
 
 -- what the event brings fits into the room that is asked for
-pub fits_brought : (event : Event) (claims : Claims) → length (brought event) ≤ most_written event claims
-fits_brought event claims = go (may_write event) refl
+pub fits_brought : (event : Event) (routes : LocalRoutes) → length (brought event) ≤ most_written event routes
+fits_brought event routes = go (may_write event) refl
   where
-    go : (b : Bool) → may_write event ≡ b → length (brought event) ≤ cond b (entries claims + 2) 0
+    go : (b : Bool) → may_write event ≡ b → length (brought event) ≤ cond b (entries routes + 2) 0
     go true is = let one = brings_one event in omega (arith, one)
     go false is = let none = brings_none event is in omega (arith, none)
 
 -- the event's own update and what the edge says fit into the room that is asked for
 pub fits_room : (e : Edge) (event : Event) (result : Result Reply edges.Refusal) (e' : Edge) → Steps e event result e'
     → Changes e event result e'
-    → length (brought event) + e'.claims.voice.counter ≤ most_written event e.claims + e.claims.voice.counter
+    → length (brought event) + e'.routes.speaker.counter ≤ most_written event e.routes + e.routes.speaker.counter
 fits_room e event result e' steps h = go (may_write event) refl
   where
     go : (b : Bool) → may_write event ≡ b → length (brought event)
-        + e'.claims.voice.counter ≤ cond b (entries e.claims + 2) 0 + e.claims.voice.counter
+        + e'.routes.speaker.counter ≤ cond b (entries e.routes + 2) 0 + e.routes.speaker.counter
     go true is = let few = h.few in let counter = h.counter in let one = brings_one event in
         omega (arith, few, counter, one)
     go false is = let same = silent_counter e event result e' is steps in let none = brings_none event is in
@@ -131,7 +131,7 @@ still_table {e} {event} {result} {e'} journal h was =
 
 -- ---- what was touched is there
 
-announced_there : (v : Voice) (rs : List Register) (u : Fields) → announced_of v rs ≡ Some u
+announced_there : (v : Speaker) (rs : List Register) (u : Fields) → announced_of v rs ≡ Some u
     → value_at v.table u.register ≡ Some u.value
 announced_there v [] u h = cc
 announced_there v (r ∷ rs) u h =
@@ -151,9 +151,9 @@ touched_there e (events.Take u) reply e' journal own steps table =
     (Contains-append_right journal ((u ∷ []) ++ own) u (Contains-append_left (u ∷ []) own u (Contains-push [] u)))
 touched_there e events.Announce reply e' journal own steps table =
     if_some reply.announced (λ u. Holds (table_of e') (mark_of u)) (λ u h.
-    let told : reply.announced ≡ announced e.claims.voice = cc in
+    let told : reply.announced ≡ announced e.routes.speaker = cc in
     let there : value_at (table_of e) u.register ≡ Some u.value =
-    announced_there e.claims.voice e.claims.voice.pending u (sym told ∙ h) in
+    announced_there e.routes.speaker e.routes.speaker.pending u (sym told ∙ h) in
     let kept : table_of e' ≡ table_of e = ap (λ (x : Edge). table_of x) steps.1 in
     holds_there (table_of e') u (ap (λ (t : Table). value_at t u.register) kept ∙ there))
 touched_there e (events.Frame port octets) reply e' journal own steps table = tt
@@ -175,10 +175,10 @@ touched_by_there e event (Err r) e' journal own steps table = tt
 
 -- ---- the opening
 
-abbrev pub first_own : Start → Claims → List Fields
+abbrev pub first_own : Start → LocalRoutes → List Fields
 first_own s e = said_updates (silent s.address s.incarnation s.originators.items) (floods_of e.vnis)
 
-pub first_are_own : (s : Start) (e : Claims) → Opens s e → AreOwnSince e.voice 0 (first_own s e)
+pub first_are_own : (s : Start) (e : LocalRoutes) → Opens s e → AreOwnSince e.speaker 0 (first_own s e)
 first_are_own s e h =
     let counter = h.says.changes.counter in
     let size = length-map (first_own s e) (λ (u : Fields). u.register) in
@@ -188,7 +188,7 @@ first_are_own s e h =
     }
 
 -- the first journal's table is that of the edge
-pub first_table : (s : Start) (e : Claims) → Opens s e → IsTableOf (first_own s e) e.voice.table
+pub first_table : (s : Start) (e : LocalRoutes) → Opens s e → IsTableOf (first_own s e) e.speaker.table
 first_table s e h =
     let none : Table = record { originators = s.originators.items; registers = empty } in
     subst (IsTableOf (first_own s e)) (sym h.says.table)

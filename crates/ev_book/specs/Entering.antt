@@ -2,7 +2,7 @@
 use Rattle.std.specs.Prelude.{◌≡◌, ℕ, ◌+◌, ◌^◌, ◌++◌, nat_le, Bool, true, false, Option, Some, None, Result, Ok, Err}
 use Rattle.std.specs.Prelude.{List, slice_set, if◌then◌else◌}
 use Rattle.route_wire.specs.Fields.{Fields}
-use Rattle.ev_claims.specs.Claims.{Claims, entries}
+use Rattle.ev_claims.specs.LocalRoutes.{LocalRoutes, entries}
 use Rattle.ev_edge.specs.declared.event.Event.{Event}
 use Rattle.ev_edge.specs.declared.event.Event.TheVariants as events
 use Rattle.ev_edge.specs.declared.reply.Reply.{Reply}
@@ -72,8 +72,8 @@ may_write (events.Mcheck port) = true
 may_write events.Announce = false
 
 -- how many updates at the most: the one that it brings, and one more than the edge had stations
-abbrev pub most_written : Event → Claims → ℕ
-most_written event claims = if may_write event then entries claims + 2 else 0
+abbrev pub most_written : Event → LocalRoutes → ℕ
+most_written event routes = if may_write event then entries routes + 2 else 0
 
 -- ---- one call
 
@@ -84,7 +84,7 @@ pub record Grows (e : Edge) (us : List Fields) (event : Event) (result : Result 
     (us' : List Fields) : Type 0 where
   pub steps : Steps e event result e'
   pub own : List Fields
-  pub are_own : AreOwnSince e'.claims.voice e.claims.voice.counter own
+  pub are_own : AreOwnSince e'.routes.speaker e.routes.speaker.counter own
   pub journal : us' ≡ us ++ (accepted event result ++ own)
 
 -- The same behind what is left of the journal: all of it, or what the table has of it; not more than two updates for

@@ -6,20 +6,20 @@ use Rattle.route_wire.specs.Order.{is_newer}
 use Rattle.route_join.specs.Table.{Table, IsOrdered}
 use Rattle.route_join.specs.Updates.{all_updates}
 use Rattle.route_wire.specs.Fields.{Fields}
-use Rattle.route_wire.specs.Spelling.{spelling_of}
-use Rattle.ev_claims.specs.Voice.{Voice, IsOwnAt}
+use Rattle.route_wire.specs.Encode.{spelling_of}
+use Rattle.ev_claims.specs.Speaker.{Speaker, IsOwnAt}
 
 -- The own updates that the edge numbered after this number, up to its counter and in their order.
-pub record AreOwnSince (e : Voice) (before : ℕ) (own : List Fields) : Type 0 where
+pub record AreOwnSince (e : Speaker) (before : ℕ) (own : List Fields) : Type 0 where
   pub numbered : (i : ℕ) (u : Fields) → slice_get own i ≡ Some u → IsOwnAt e (before + (i + 1)) u
   pub all : before + length own ≡ e.counter
 
 -- there are such updates
-abbrev pub HasOwnSince : Voice → ℕ → Type 0
+abbrev pub HasOwnSince : Speaker → ℕ → Type 0
 HasOwnSince e before = (own : List Fields) × AreOwnSince e before own
 
 -- these updates stand behind the others
-abbrev pub AppendsOwn : Voice → ℕ → List Fields → List Fields → Type 0
+abbrev pub AppendsOwn : Speaker → ℕ → List Fields → List Fields → Type 0
 AppendsOwn e before old new = (own : List Fields) → AreOwnSince e before own → new ≡ old ++ own
 
 -- the records of updates, one after the other

@@ -9,7 +9,7 @@ use Rattle.ev_book.specs.Journal.{AreOwnSince}
 -- The edge is as it opens, its adverts are the journal, and no pass has called or has a mark.
 pub record IsOpened (c : EdgeConfig) (passes : ℕ) (b : BookState) : Type 0 where
   pub edge : edges.IsOpening c b.edge
-  pub journal : AreOwnSince b.edge.claims.voice 0 b.journal
+  pub journal : AreOwnSince b.edge.routes.speaker 0 b.journal
   pub kept : b.kept ≡ replicate passes unused
 
 abbrev pub opened_pass : ℕ → PassState

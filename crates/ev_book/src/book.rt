@@ -63,9 +63,9 @@ impl<L: Ledger> Model for Book<L> {
 
 // The own updates of an edge that has just opened.
 fn first_journal(alloc: Global, edge: &Edge) -> Result<Journal, AllocError>
-    requires { HasOwnSince edge.now.claims.voice 0 }
+    requires { HasOwnSince edge.now.routes.speaker 0 }
     ensures own { IfOk result
-        (λ journal. AppendsOwn edge.now.claims.voice 0 [] journal.updates.items) }
+        (λ journal. AppendsOwn edge.now.routes.speaker 0 [] journal.updates.items) }
     ensures least { IfOk result (λ journal. journal.least ≡ 0) }
 {
     let mut updates = Vec::with_capacity(alloc, edge.counter() as usize)?;

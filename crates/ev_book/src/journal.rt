@@ -37,10 +37,10 @@ pub(crate) struct Journal {
 
 /// Appends the own updates with the numbers after this one, for which there is room.
 pub(crate) fn append_own(journal: &mut Vec<Update>, edge: &Edge, before: u64)
-    requires numbered { HasOwnSince edge.now.claims.voice before }
-    requires room { vec_len journal.old + edge.now.claims.voice.counter
+    requires numbered { HasOwnSince edge.now.routes.speaker before }
+    requires room { vec_len journal.old + edge.now.routes.speaker.counter
         ≤ vec_capacity journal.old + before }
-    ensures { AppendsOwn edge.now.claims.voice before journal.old.items journal.new.items }
+    ensures { AppendsOwn edge.now.routes.speaker before journal.old.items journal.new.items }
 {
     edge.always_good();
     let count = edge.counter() - before;
@@ -77,7 +77,7 @@ fn step_within(
     reply: &mut Reply,
 ) -> Result<(), Refusal>
     requires table { IsTableOf journal.old.items (table_of edge.old) }
-    requires room { vec_len journal.old + most_written event.now edge.old.claims
+    requires room { vec_len journal.old + most_written event.now edge.old.routes
         ≤ vec_capacity journal.old }
     ensures grows { Grows edge.old journal.old.items event.now
         (stepped result reply.new) edge.new journal.new.items }
@@ -218,7 +218,7 @@ impl Journal {
         ensures table { IsTableOf self.new.updates.items (table_of edge.now) }
         ensures least { self.new.least ≤ register_count (table_of edge.now) }
         ensures room { OnOk result (vec_len self.new.updates
-            + most_written event.now edge.now.claims ≤ vec_capacity self.new.updates) }
+            + most_written event.now edge.now.routes ≤ vec_capacity self.new.updates) }
     {
         edge.always_good();
         self.keep_short(edge.table());

@@ -87,7 +87,7 @@ fn tree() -> Settings
     }
 }
 
-// The edge 10.0.0.2 with a port of network 5001, in this life.
+// The edge 10.0.0.2 with a port of network 5001, in this incarnation.
 fn config(incarnation: u32) -> EdgeConfig
     ensures { IsConfig result }
 {
@@ -113,7 +113,7 @@ fn dynamic(sequence: u32) -> Content {
     })
 }
 
-// 10.0.0.N advertises the host 02:00:00:00:00:0a in this network, in its first life.
+// 10.0.0.N advertises the host 02:00:00:00:00:0a in this network, in its first incarnation.
 fn said(n: u8, vni: Vni, counter: u64, sequence: u32) -> Update
     requires { 0 < counter }
 {

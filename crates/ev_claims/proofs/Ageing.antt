@@ -9,7 +9,7 @@ use Rattle.mac_arena.specs.Station.{is_same}
 use Rattle.mac_arena.specs.Learning.{Learning, entry_at, left, after_removal as gone, after_removal_at}
 use Rattle.mac_arena.specs.ListsName.{ListsName, stands, AreOnce}
 use Rattle.mac_arena.proofs.Entries.{same_self}
-use Rattle.ev_claims.specs.Claims.{Claims, after_removal, after_removals}
+use Rattle.ev_claims.specs.LocalRoutes.{LocalRoutes, after_removal, after_removals}
 use Rattle.mac_arena.specs.Laws.{is_due, due_among}
 use Rattle.ev_claims.specs.Leaving.{due_in, after_ageing}
 use Rattle.ev_claims.proofs.Learnt.{removal_there}
@@ -61,7 +61,7 @@ due_stays t limit s (x ∷ xs) h = go (is_same x s) refl h (due_stays t limit s 
     go true e h rest = cc
     go false e h rest = λ i. cond (is_due limit (removal_there t s x (apart e) i)) (x ∷ rest h i) []
 
-module _ (e : Claims) (limit : ℕ) (s : Station) (lists : ListsName e.learned) (f : IsFront e.learned limit s) where
+module _ (e : LocalRoutes) (limit : ℕ) (s : Station) (lists : ListsName e.learned) (f : IsFront e.learned limit s) where
   abbrev pub t : Learning
   t = e.learned
 
@@ -83,7 +83,7 @@ module _ (e : Claims) (limit : ℕ) (s : Station) (lists : ListsName e.learned) 
   pub one_less : suc (length (gone t s).ageing) ≡ length t.ageing
   one_less = ap (λ (ss : List Station). suc (length ss)) ageing_left ∙ sym (ap length f.list)
 
-pub none_due : (e : Claims) (limit : ℕ) → slice_get (due_in e.learned limit) 0 ≡ None → after_ageing e limit ≡ e
+pub none_due : (e : LocalRoutes) (limit : ℕ) → slice_get (due_in e.learned limit) 0 ≡ None → after_ageing e limit ≡ e
 none_due e limit h = go (due_in e.learned limit) refl h
   where
     go : (ss : List Station) → due_in e.learned limit ≡ ss → slice_get ss 0 ≡ None → after_ageing e limit ≡ e

@@ -20,8 +20,8 @@ use Rattle.mac_arena.specs.Station.{is_same}
 use Rattle.mac_arena.specs.Learning.{Learning, entry_at, is_pinned, stations_at}
 use Rattle.mac_arena.specs.ListsName.{ListsName, stands, is_on, AreOnce}
 use Rattle.mac_arena.proofs.Entries.{same_self, same_true}
-use Rattle.ev_claims.specs.Voice.{Voice, own_register, next_value, after_saying}
-use Rattle.ev_claims.specs.Claims.{Claims, AreGood, key_of, vni_at, after_removal, after_removals}
+use Rattle.ev_claims.specs.Speaker.{Speaker, own_register, next_value, after_originating}
+use Rattle.ev_claims.specs.LocalRoutes.{LocalRoutes, AreGood, key_of, vni_at, after_removal, after_removals}
 use Rattle.mac_arena.specs.Laws.{is_due, due_among, unpinned_among, unpinned_on}
 use Rattle.ev_claims.specs.Leaving.{due_in, flushed_at, flushed_in, goes_by_flush}
 use Rattle.ev_claims.specs.Changes.{OwnChanges, IsNumbered, registers_of}
@@ -31,7 +31,7 @@ use Rattle.ev_claims.proofs.Flushing.{apart}
 use Rattle.mac_arena.proofs.Going.{due_exact}
 
 -- ---- nothing, and one register
-pub nothing_changes : (e : Voice) → OwnChanges e e []
+pub nothing_changes : (e : Speaker) → OwnChanges e e []
 nothing_changes e = record {
   address = refl;
   incarnation = refl;
@@ -43,8 +43,8 @@ nothing_changes e = record {
 }
 
 -- ---- one register, then others
-pub more_changes : (e : Voice) (k : Key) (c : Content) (new : Voice) (rs : List Register)
-    → (Contains rs (own_register e k) → ⊥) → OwnChanges (after_saying e k c) new rs
+pub more_changes : (e : Speaker) (k : Key) (c : Content) (new : Speaker) (rs : List Register)
+    → (Contains rs (own_register e k) → ⊥) → OwnChanges (after_originating e k c) new rs
     → OwnChanges e new (own_register e k ∷ rs)
 more_changes e k c new rs once h = record {
   address = h.address;
@@ -81,7 +81,7 @@ more_changes e k c new rs once h = record {
         }
 
 -- ---- stations that go
-pub stands_among : (e : Voice) (s : Station) (ss : List Station)
+pub stands_among : (e : Speaker) (s : Station) (ss : List Station)
     → Contains (registers_of e ss) (own_register e (key_of s)) → stands ss s ≡ true
 stands_among e s [] (k, less, is) = absurd (omega (arith, less))
 stands_among e s (x ∷ ss) (zero, less, is) =
@@ -98,15 +98,16 @@ stands_among e s (x ∷ ss) (suc k, less, is) = or_true (is_same x s) (stands ss
     or_true true c h = refl
     or_true false c h = h
 
-pub removals_change : (e : Claims) (ss : List Station) → AreOnce ss
-    → OwnChanges e.voice (after_removals e ss).voice (registers_of e.voice ss)
-removals_change e [] once = nothing_changes e.voice
+pub removals_change : (e : LocalRoutes) (ss : List Station) → AreOnce ss
+    → OwnChanges e.speaker (after_removals e ss).speaker (registers_of e.speaker ss)
+removals_change e [] once = nothing_changes e.speaker
 removals_change e (s ∷ ss) once =
-    more_changes e.voice (key_of s) Withdrawn (after_removals (after_removal e s) ss).voice (registers_of e.voice ss)
-    (λ in'. let there = stands_among e.voice s ss in' in let not = once.0 in
+    more_changes e.speaker (key_of s) Withdrawn (after_removals (after_removal e s) ss).speaker
+    (registers_of e.speaker ss)
+    (λ in'. let there = stands_among e.speaker s ss in' in let not = once.0 in
     let bad : false ≡ true = sym not ∙ there in cc) (removals_change (after_removal e s) ss once.1)
 
-pub removals_entries : (e : Claims) (ss : List Station) (s : Station)
+pub removals_entries : (e : LocalRoutes) (ss : List Station) (s : Station)
     → entry_at (after_removals e ss).learned s ≡ cond (stands ss s) None (entry_at e.learned s)
 removals_entries e [] s = refl
 removals_entries e (x ∷ ss) s = removals_entries (after_removal e x) ss s ∙ go (is_same x s) refl (stands ss s)
@@ -139,7 +140,7 @@ due_once t limit (x ∷ ss) h = go (is_due limit (entry_at t x)) (due_once t lim
     go true rest = (due_stands t limit ss x h.0, rest)
     go false rest = tt
 
-pub ages_out : (e : Claims) (limit : ℕ) → AreGood e → AgesOut e limit
+pub ages_out : (e : LocalRoutes) (limit : ℕ) → AreGood e → AgesOut e limit
 ages_out e limit h = record {
   exactly = λ s. removals_entries e (due_in e.learned limit) s
       ∙ ap (λ b. cond b None (entry_at e.learned s)) (due_exact e.learned limit h.lists s);
@@ -329,12 +330,12 @@ port_range ports (suc l) v at few = record {
   most = (let low = slice_get_within ports l v at in omega (arith, low, few));
 }
 
-pub flushes_out : (e : Claims) (set : ℕ) → AreGood e → FlushesOut e set
+pub flushes_out : (e : LocalRoutes) (set : ℕ) → AreGood e → FlushesOut e set
 flushes_out e set h = record {
   exactly = λ s. removals_entries e (flushed_in e.learned set) s ∙ ap (λ b. cond b None (entry_at e.learned s))
       (flushed_stands e.learned h.lists 0 (ports_of set) s (ports_climb set)
-      ∙ flush_test set (entry_at e.learned s) (λ x at. port_range e.ports x.port s.vni (h.claims.ports s x at)
-      h.claims.few));
+      ∙ flush_test set (entry_at e.learned s) (λ x at. port_range e.ports x.port s.vni (h.routes.ports s x at)
+      h.routes.few));
   changes = removals_change e (flushed_in e.learned set)
       (flushed_once e.learned h.lists 0 (ports_of set) (ports_climb set));
 }

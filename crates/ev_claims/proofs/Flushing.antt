@@ -15,7 +15,7 @@ use Rattle.mac_arena.specs.Learning.{Learning, entry_at, is_pinned, stations_at,
 use Rattle.mac_arena.specs.Learning.{after_removal_at}
 use Rattle.mac_arena.specs.ListsName.{ListsName, stands, is_on, AreOnce}
 use Rattle.mac_arena.proofs.Entries.{same_self, same_true}
-use Rattle.ev_claims.specs.Claims.{Claims, after_removal, after_removals}
+use Rattle.ev_claims.specs.LocalRoutes.{LocalRoutes, after_removal, after_removals}
 use Rattle.mac_arena.specs.Laws.{unpinned_among, unpinned_on}
 use Rattle.ev_claims.specs.Leaving.{flushed_at, AreKept}
 use Rattle.ev_claims.proofs.Learnt.{removal_there}
@@ -150,7 +150,7 @@ nobody_left [] e = refl
 nobody_left (x ∷ xs) e = cc
 
 -- ---- several ports
-pub removals_joined : (e : Claims) (xs ys : List Station)
+pub removals_joined : (e : LocalRoutes) (xs ys : List Station)
     → after_removals e (xs ++ ys) ≡ after_removals (after_removals e xs) ys
 removals_joined e [] ys = refl
 removals_joined e (x ∷ xs) ys = removals_joined (after_removal e x) xs ys

@@ -1,4 +1,4 @@
--- what an own update of an earlier life does to what an edge says
+-- what an own update of an earlier incarnation does to what an edge says
 use Rattle.std.proofs.Common.{◌≡◌, ◌≢◌, inl, inr, ℕ, zero, suc, ◌+◌, ◌≤◌, ◌<◌, Bool, true, false, cond, nat_lt, eqb}
 use Rattle.std.proofs.Common.{Option, Some, None, List, [], ◌∷◌, Result, Ok, Err, drop, refl, sym, ap, subst, ◌∙◌}
 use Rattle.std.proofs.Common.{arith}
@@ -25,34 +25,37 @@ use Rattle.route_join.specs.Owner.{advert_of, advert_in}
 use Rattle.route_join.proofs.Tables.{same_or_other, at_same, at_other}
 use Rattle.route_join.proofs.Joins.{update_other}
 use Rattle.route_join.proofs.Merging.{same_listeners}
-use Rattle.ev_claims.specs.Voice.{Voice, own_register, own, own_advert, IsPresent, IsVoice, KeepsNumbers, HasRooms}
-use Rattle.ev_claims.specs.Voice.{is_newest, is_ahead, is_returning, after_saying, after_hearing, after_hearing_own}
-use Rattle.ev_claims.specs.Voice.{after_announcing, silent}
+use Rattle.ev_claims.specs.Speaker.{Speaker, own_register, own, own_advert, IsPresent, IsSpeaker, KeepsNumbers}
+use Rattle.ev_claims.specs.Speaker.{HasRooms}
+use Rattle.ev_claims.specs.Speaker.{is_newest, is_ahead, is_returning, after_originating, after_importing}
+use Rattle.ev_claims.specs.Speaker.{after_importing_own}
+use Rattle.ev_claims.specs.Speaker.{after_announcing, silent}
 use Rattle.ev_claims.proofs.Numbers.{key_or_other, own_same, key_stays}
 use Rattle.ev_claims.proofs.Values.{not_newer_earlier}
 
 -- ---- a look-up by number
 
 -- none of the first ones of these registers has the number
-abbrev pub IsNoneBefore : Voice → List Register → ℕ → ℕ → Type 0
+abbrev pub IsNoneBefore : Speaker → List Register → ℕ → ℕ → Type 0
 IsNoneBefore e known n places = (j : ℕ) (r : Register) → j < places → slice_get known j ≡ Some r → (v : Value)
     → own e r.key ≡ Some v → IsPresent e v → v.counter ≢ n
 
--- ---- an own update of an earlier life
+-- ---- an own update of an earlier incarnation
 
--- a register whose newest update is of an earlier life says nothing of this one
-pub not_present : (e : Voice) (u : Fields) (v : Value) → is_newest e u ≡ true → u.value.incarnation < e.incarnation
+-- a register whose newest update is of an earlier incarnation says nothing of this one
+pub not_present : (e : Speaker) (u : Fields) (v : Value) → is_newest e u ≡ true → u.value.incarnation < e.incarnation
     → value_at e.table u.register ≡ Some v → v.incarnation ≢ e.incarnation
 not_present e u v newest past at present =
     let older = not_newer_earlier v u.value (let q = present in omega (arith, q, past)) in
     let newer : is_newer u.value v ≡ true = ap (λ o. is_news o u.value) (sym at) ∙ newest in
     cc
 
-register_is : (e : Voice) (u : Fields) → u.register.originator ≡ e.address → u.register ≡ own_register e u.register.key
+register_is : (e : Speaker) (u : Fields) → u.register.originator ≡ e.address → u.register
+    ≡ own_register e u.register.key
 register_is e u same = λ i. record { originator = same i; key = u.register.key }
 
--- it isn't advertised in this life
-pub not_said : (e : Voice) (u : Fields) → KeepsNumbers e → u.register.originator ≡ e.address → is_newest e u ≡ true
+-- it isn't advertised in this incarnation
+pub not_said : (e : Speaker) (u : Fields) → KeepsNumbers e → u.register.originator ≡ e.address → is_newest e u ≡ true
     → u.value.incarnation < e.incarnation → own_advert e u.register.key ≡ None
 not_said e u h mine newest past = go (own e u.register.key) refl
   where
@@ -66,99 +69,103 @@ not_said e u h mine newest past = go (own e u.register.key) refl
         (λ some. not_present e u v newest past (ap (value_at e.table) (register_is e u mine) ∙ at)
         (h.alive u.register.key v at some))
 
--- the value that a withdrawal of an earlier life leaves
-pub there_now : (e : Voice) (u : Fields) → u.register.originator ≡ e.address → is_newest e u ≡ true
-    → own (after_hearing e u) u.register.key ≡ Some u.value
+-- the value that a withdrawal of an earlier incarnation leaves
+pub there_now : (e : Speaker) (u : Fields) → u.register.originator ≡ e.address → is_newest e u ≡ true
+    → own (after_importing e u) u.register.key ≡ Some u.value
 there_now e u mine newest =
     ap (λ t. value_at t (own_register e u.register.key))
     (ap (λ b. cond b (with_value e.table u.register u.value) e.table) newest)
     ∙ ap (value_at (with_value e.table u.register u.value)) (sym (register_is e u mine))
     ∙ at_same e.table u.register u.value
 
-pub elsewhere : (e : Voice) (u : Fields) (k : Key) → k ≢ u.register.key → own (after_hearing e u) k ≡ own e k
+pub elsewhere : (e : Speaker) (u : Fields) (k : Key) → k ≢ u.register.key → own (after_importing e u) k ≡ own e k
 elsewhere e u k ne = update_other e.table u.register u.value (own_register e k)
     (λ same. ne (ap (λ (r : Register). r.key) same))
 
 -- ---- what is said of each key stays
 
-pub unheard : (e : Voice) (u : Fields) → is_newest e u ≡ false → after_hearing e u ≡ e
+pub unheard : (e : Speaker) (u : Fields) → is_newest e u ≡ false → after_importing e u ≡ e
 unheard e u known = λ i. record e { table = cond (known i) (with_value e.table u.register u.value) e.table }
 
-withdrawn_said : (e : Voice) (u : Fields) → KeepsNumbers e → u.register.originator ≡ e.address → is_newest e u ≡ true
+withdrawn_said : (e : Speaker) (u : Fields) → KeepsNumbers e → u.register.originator ≡ e.address → is_newest e u ≡ true
     → u.value.incarnation < e.incarnation → advert_in u.value.content ≡ None → (k : Key)
-    → own_advert (after_hearing e u) k ≡ own_advert e k
+    → own_advert (after_importing e u) k ≡ own_advert e k
 withdrawn_said e u h mine newest past none k = elim (key_or_other k u.register.key) as (λ _. own_advert
-    (after_hearing e u) k ≡ own_advert e k) [
-      | inl same ↦ subst (λ j. own_advert (after_hearing e u) j ≡ own_advert e j) (sym same)
+    (after_importing e u) k ≡ own_advert e k) [
+      | inl same ↦ subst (λ j. own_advert (after_importing e u) j ≡ own_advert e j) (sym same)
           (ap advert_of (there_now e u mine newest) ∙ none ∙ sym (not_said e u h mine newest past))
       | inr ne ↦ ap advert_of (elsewhere e u k ne)
     ]
 
-refuted_said : (e : Voice) (u : Fields) → KeepsNumbers e → u.register.originator ≡ e.address → is_newest e u ≡ true
+refuted_said : (e : Speaker) (u : Fields) → KeepsNumbers e → u.register.originator ≡ e.address → is_newest e u ≡ true
     → u.value.incarnation < e.incarnation → (k : Key) → own_advert
-    (after_saying (after_hearing e u) u.register.key Withdrawn) k ≡ own_advert e k
+    (after_originating (after_importing e u) u.register.key Withdrawn) k ≡ own_advert e k
 refuted_said e u h mine newest past k = elim (key_or_other k u.register.key) as (λ _. own_advert
-    (after_saying (after_hearing e u) u.register.key Withdrawn) k ≡ own_advert e k) [
-      | inl same ↦ subst (λ j. own_advert (after_saying (after_hearing e u) u.register.key Withdrawn) j ≡ own_advert e j)
+    (after_originating (after_importing e u) u.register.key Withdrawn) k ≡ own_advert e k) [
+      | inl same ↦ subst (λ j. own_advert (after_originating (after_importing e u) u.register.key Withdrawn) j
+          ≡ own_advert e j)
           (sym same)
-          (ap advert_of (own_same (after_hearing e u) u.register.key Withdrawn) ∙ sym (not_said e u h mine newest past))
-      | inr ne ↦ key_stays (after_hearing e u) u.register.key Withdrawn k e.address ne ∙ ap advert_of (elsewhere e u k ne)
+          (ap advert_of (own_same (after_importing e u) u.register.key Withdrawn)
+          ∙ sym (not_said e u h mine newest past))
+      | inr ne ↦ key_stays (after_importing e u) u.register.key Withdrawn k e.address ne
+          ∙ ap advert_of (elsewhere e u k ne)
     ]
 
--- not ahead: of an earlier life, or no news
-pub past_if_newest : (e : Voice) (u : Fields) → is_ahead e u ≡ false → is_newest e u ≡ true
+-- not ahead: of an earlier incarnation, or no news
+pub past_if_newest : (e : Speaker) (u : Fields) → is_ahead e u ≡ false → is_newest e u ≡ true
     → u.value.incarnation < e.incarnation
 past_if_newest e u behind newest =
     let late : nat_le e.incarnation u.value.incarnation ≡ false =
     sym (ap (λ b. b && nat_le e.incarnation u.value.incarnation) newest) ∙ behind in
     grind (arith, nat_tests)
 
-pub own_said : (e : Voice) (u : Fields) → KeepsNumbers e → u.register.originator ≡ e.address → is_ahead e u ≡ false
-    → (k : Key) → own_advert (after_hearing_own e u) k ≡ own_advert e k
+pub own_said : (e : Speaker) (u : Fields) → KeepsNumbers e → u.register.originator ≡ e.address → is_ahead e u ≡ false
+    → (k : Key) → own_advert (after_importing_own e u) k ≡ own_advert e k
 own_said e u h mine behind k = go (is_newest e u) refl
   where
     Same : Bool → Type 0
-    Same b = own_advert (cond b (after_saying (after_hearing e u) u.register.key Withdrawn) (after_hearing e u)) k
+    Same b = own_advert (cond b (after_originating (after_importing e u) u.register.key Withdrawn)
+        (after_importing e u)) k
         ≡ own_advert e k
 
     past : is_newest e u ≡ true → nat_lt u.value.incarnation e.incarnation ≡ true
     past newest = let less = past_if_newest e u behind newest in grind (arith, nat_tests)
 
     said : (c : Content) → u.value.content ≡ c → is_newest e u ≡ true
-        → own_advert (cond (is_some (advert_in c)) (after_saying (after_hearing e u) u.register.key Withdrawn)
-        (after_hearing e u)) k ≡ own_advert e k
+        → own_advert (cond (is_some (advert_in c)) (after_originating (after_importing e u) u.register.key Withdrawn)
+        (after_importing e u)) k ≡ own_advert e k
     said Withdrawn is newest = withdrawn_said e u h mine newest (past_if_newest e u behind newest) (ap advert_in is) k
     said (Advertised a) is newest = refuted_said e u h mine newest (past_if_newest e u behind newest) k
 
-    go : (b : Bool) → is_newest e u ≡ b → own_advert (after_hearing_own e u) k ≡ own_advert e k
+    go : (b : Bool) → is_newest e u ≡ b → own_advert (after_importing_own e u) k ≡ own_advert e k
     go false newest =
         ap (λ b. own_advert (cond (b && (nat_lt u.value.incarnation e.incarnation
-        && is_some (advert_in u.value.content))) (after_saying (after_hearing e u) u.register.key Withdrawn)
-        (after_hearing e u)) k) newest
+        && is_some (advert_in u.value.content))) (after_originating (after_importing e u) u.register.key Withdrawn)
+        (after_importing e u)) k) newest
         ∙ ap (λ v. own_advert v k) (unheard e u newest)
     go true newest =
         ap (λ b. own_advert (cond (b && (nat_lt u.value.incarnation e.incarnation
-        && is_some (advert_in u.value.content))) (after_saying (after_hearing e u) u.register.key Withdrawn)
-        (after_hearing e u)) k) newest
+        && is_some (advert_in u.value.content))) (after_originating (after_importing e u) u.register.key Withdrawn)
+        (after_importing e u)) k) newest
         ∙ ap (λ b. own_advert (cond (b && is_some (advert_in u.value.content))
-        (after_saying (after_hearing e u) u.register.key Withdrawn) (after_hearing e u)) k) (past newest)
+        (after_originating (after_importing e u) u.register.key Withdrawn) (after_importing e u)) k) (past newest)
         ∙ said u.value.content refl newest
 
 -- the counter goes up by one at the most, and only where an advert returns
-pub own_counter : (e : Voice) (u : Fields) (bound : ℕ) → (is_returning e u ≡ true → e.counter + 1 ≤ bound)
-    → e.counter ≤ bound → (after_hearing_own e u).counter ≤ bound
+pub own_counter : (e : Speaker) (u : Fields) (bound : ℕ) → (is_returning e u ≡ true → e.counter + 1 ≤ bound)
+    → e.counter ≤ bound → (after_importing_own e u).counter ≤ bound
 own_counter e u bound more low = go (is_returning e u) refl
   where
-    go : (b : Bool) → is_returning e u ≡ b → (cond b (after_saying (after_hearing e u) u.register.key Withdrawn)
-        (after_hearing e u)).counter ≤ bound
+    go : (b : Bool) → is_returning e u ≡ b → (cond b (after_originating (after_importing e u) u.register.key Withdrawn)
+        (after_importing e u)).counter ≤ bound
     go true is = more is
     go false is = low
 
--- ---- a withdrawal of an earlier life is heard
+-- ---- a withdrawal of an earlier incarnation is heard
 
-pub earlier_numbers : (e : Voice) (u : Fields) → KeepsNumbers e → u.register.originator ≡ e.address
+pub earlier_numbers : (e : Speaker) (u : Fields) → KeepsNumbers e → u.register.originator ≡ e.address
     → is_newest e u ≡ true → u.value.incarnation < e.incarnation → advert_in u.value.content ≡ None
-    → KeepsNumbers (after_hearing e u)
+    → KeepsNumbers (after_importing e u)
 earlier_numbers e u h mine newest past none = record {
   counted = λ k v at present. elim (key_or_other k u.register.key) as (λ _. v.counter ≤ e.counter) [
     | inl same ↦ absurd (late k v same at present)
@@ -192,44 +199,44 @@ earlier_numbers e u h mine newest past none = record {
       );
 }
   where
-    before : (k : Key) (v : Value) → k ≢ u.register.key → own (after_hearing e u) k ≡ Some v → own e k ≡ Some v
+    before : (k : Key) (v : Value) → k ≢ u.register.key → own (after_importing e u) k ≡ Some v → own e k ≡ Some v
     before k v ne at = sym (elsewhere e u k ne) ∙ at
 
-    now : (k : Key) (v : Value) → k ≡ u.register.key → own (after_hearing e u) k ≡ Some v → u.value ≡ v
+    now : (k : Key) (v : Value) → k ≡ u.register.key → own (after_importing e u) k ≡ Some v → u.value ≡ v
     now k v same at = let both : Some u.value ≡ Some v = sym (there_now e u mine newest)
-        ∙ subst (λ j. own (after_hearing e u) j ≡ Some v) same at in cc
+        ∙ subst (λ j. own (after_importing e u) j ≡ Some v) same at in cc
 
-    late : (k : Key) (v : Value) → k ≡ u.register.key → own (after_hearing e u) k ≡ Some v
+    late : (k : Key) (v : Value) → k ≡ u.register.key → own (after_importing e u) k ≡ Some v
         → v.incarnation ≢ e.incarnation
     late k v same at present = let is = ap (λ (w : Value). w.incarnation) (now k v same at) in
         omega (arith, is, past, present)
 
-pub earlier_rooms : (e : Voice) (u : Fields) (known : List Register) → HasRooms e known
+pub earlier_rooms : (e : Speaker) (u : Fields) (known : List Register) → HasRooms e known
     → u.register.originator ≡ e.address → is_newest e u ≡ true → u.value.incarnation < e.incarnation
-    → HasRooms (after_hearing e u) known
+    → HasRooms (after_importing e u) known
 earlier_rooms e u known h mine newest past k v at present =
     elim (key_or_other k u.register.key) as (λ _. Contains known (own_register e k)) [
       | inl same ↦
           let both : Some u.value ≡ Some v = sym (there_now e u mine newest)
-          ∙ subst (λ j. own (after_hearing e u) j ≡ Some v) same at in
+          ∙ subst (λ j. own (after_importing e u) j ≡ Some v) same at in
           let is : u.value ≡ v = cc in
           absurd (let life = ap (λ (w : Value). w.incarnation) is in omega (arith, life, past, present))
       | inr ne ↦ h k v (sym (elsewhere e u k ne) ∙ at) present
     ]
 
-pub earlier_voice : (e : Voice) (known : List Register) (t : Table) (u : Fields) (r : Result Taken TakeError)
-    → IsVoice e known → u.register.originator ≡ e.address → is_newest e u ≡ true → u.value.incarnation < e.incarnation
+pub earlier_speaker : (e : Speaker) (known : List Register) (t : Table) (u : Fields) (r : Result Taken TakeError)
+    → IsSpeaker e known → u.register.originator ≡ e.address → is_newest e u ≡ true → u.value.incarnation < e.incarnation
     → u.value.content ≡ Withdrawn
-    → OnOk r (t ≡ with_update e.table u) → OnErr r (t ≡ e.table) → IsVoice (record e { table = t }) known
-earlier_voice e known t u (Ok x) h mine newest past withdrawn ok err =
-    subst (λ q. IsVoice (record e { table = q }) known) (sym ok) (record {
+    → OnOk r (t ≡ with_update e.table u) → OnErr r (t ≡ e.table) → IsSpeaker (record e { table = t }) known
+earlier_speaker e known t u (Ok x) h mine newest past withdrawn ok err =
+    subst (λ q. IsSpeaker (record e { table = q }) known) (sym ok) (record {
       numbers = earlier_numbers e u h.numbers mine newest past (ap advert_in withdrawn);
       rooms = earlier_rooms e u known h.rooms mine newest past;
     })
-earlier_voice e known t u (Err x) h mine newest past withdrawn ok err =
-    subst (λ q. IsVoice (record e { table = q }) known) (sym err) h
+earlier_speaker e known t u (Err x) h mine newest past withdrawn ok err =
+    subst (λ q. IsSpeaker (record e { table = q }) known) (sym err) h
 
--- ---- an advert of an earlier life is withdrawn without being taken first
+-- ---- an advert of an earlier incarnation is withdrawn without being taken first
 
 value_twice : (t : Table) (r : Register) (v w : Value) → with_value (with_value t r v) r w ≡ with_value t r w
 value_twice t r v w = λ i. record { originators = t.originators; registers = twice i }
@@ -243,9 +250,9 @@ value_twice t r v w = λ i. record { originators = t.originators; registers = tw
           | inr ne ↦ at_other (with_value t r v) r w q ne ∙ at_other t r v q ne ∙ sym (at_other t r w q ne)
         ])
 
-pub refuted_is : (e : Voice) (u : Fields) (c : Content) → u.register.originator ≡ e.address
-    → after_saying (after_hearing e u) u.register.key c ≡ after_saying e u.register.key c
-refuted_is e u c mine = λ i. record (after_saying e u.register.key c) { table = go (is_newest e u) i }
+pub refuted_is : (e : Speaker) (u : Fields) (c : Content) → u.register.originator ≡ e.address
+    → after_originating (after_importing e u) u.register.key c ≡ after_originating e u.register.key c
+refuted_is e u c mine = λ i. record (after_originating e u.register.key c) { table = go (is_newest e u) i }
   where
     go : (b : Bool) → with_value (cond b (with_value e.table u.register u.value) e.table)
         (own_register e u.register.key) (record { incarnation = e.incarnation; counter = e.counter + 1; content = c })
@@ -263,8 +270,8 @@ pub dropped_contains : (rs : List Register) (r : Register) → Contains (drop 1 
 dropped_contains [] r h = h
 dropped_contains (x ∷ rs) r (k, less, is) = (suc k, omega (arith, less), is)
 
-pub announced_voice : (e : Voice) (known : List Register) → IsVoice e known → IsVoice (after_announcing e) known
-announced_voice e known h = record {
+pub announced_speaker : (e : Speaker) (known : List Register) → IsSpeaker e known → IsSpeaker (after_announcing e) known
+announced_speaker e known h = record {
   numbers = record {
     counted = h.numbers.counted;
     distinct = h.numbers.distinct;
@@ -285,7 +292,7 @@ somebody_first [] r e = cc
 somebody_first (x ∷ rs) r e = (0, omega arith, let same : r ≡ x = cc in sym same)
 
 -- what is announced is there
-pub announced_there : (e : Voice) (r : Register) (o : Option Fields) (P : Type 0) → KeepsNumbers e
+pub announced_there : (e : Speaker) (r : Register) (o : Option Fields) (P : Type 0) → KeepsNumbers e
     → Some r ≡ slice_get e.pending 0 → o ≡ update_at e.table r → IfNone o P
 announced_there e r None P h first is =
     let p = h.pending r (somebody_first e.pending r first) in
@@ -304,13 +311,13 @@ listed (x ∷ os) a (suc k, less, is) = go (eqb x a) (listed os a (k, omega (ari
     go true h = refl
     go false h = h
 
-nothing_at : (e : Voice) (r : Register) (v : Value) → e.table.registers ≡ empty → value_at e.table r ≢ Some v
+nothing_at : (e : Speaker) (r : Register) (v : Value) → e.table.registers ≡ empty → value_at e.table r ≢ Some v
 nothing_at e r v is at = let none = ap (λ m. get m r) is ∙ get-empty {X = Value} register_cmp r in
     let bad : None ≡ Some v = sym none ∙ at in cc
 
-pub silent_voice : (address incarnation : ℕ) (originators : List ℕ) → Contains originators address
-    → IsVoice (silent address incarnation originators) []
-silent_voice address incarnation originators there = record {
+pub silent_speaker : (address incarnation : ℕ) (originators : List ℕ) → Contains originators address
+    → IsSpeaker (silent address incarnation originators) []
+silent_speaker address incarnation originators there = record {
   numbers = record {
     counted = λ k v at present. absurd (nothing_at e (own_register e k) v refl at);
     distinct = λ k j v w at_k at_j here there same. absurd (nothing_at e (own_register e k) v refl at_k);
@@ -322,5 +329,5 @@ silent_voice address incarnation originators there = record {
   rooms = λ k v at present. absurd (nothing_at e (own_register e k) v refl at);
 }
   where
-    e : Voice
+    e : Speaker
     e = silent address incarnation originators

@@ -23,11 +23,13 @@ use Rattle.mac_arena.specs.declared.table.Learnt.TheVariants.{New}
 use Rattle.mac_arena.specs.Entry.{pinned_at, heard_at}
 use Rattle.mac_arena.proofs.Entries.{same_or_other, get_here, get_there}
 use Rattle.mac_arena.proofs.Values.{ports_removal}
-use Rattle.ev_claims.specs.declared.voice.OwnError.{OwnError}
-use Rattle.ev_claims.specs.declared.voice.OwnError.TheVariants.{Ahead, Spent}
-use Rattle.ev_claims.specs.Voice.{Voice, own_advert, KeepsNumbers, after_saying, after_hearing, after_hearing_own}
-use Rattle.ev_claims.specs.Voice.{is_ahead, is_spent, is_returning}
-use Rattle.ev_claims.specs.Claims.{Claims, KeepsClaims, key_of, entries, capacity, vni_at, moving, fixed, after_removal}
+use Rattle.ev_claims.specs.declared.speaker.OwnError.{OwnError}
+use Rattle.ev_claims.specs.declared.speaker.OwnError.TheVariants.{Ahead, Spent}
+use Rattle.ev_claims.specs.Speaker.{Speaker, own_advert, KeepsNumbers, after_originating, after_importing}
+use Rattle.ev_claims.specs.Speaker.{after_importing_own}
+use Rattle.ev_claims.specs.Speaker.{is_ahead, is_spent, is_returning}
+use Rattle.ev_claims.specs.LocalRoutes.{LocalRoutes, KeepsRoutes, key_of, entries, capacity, vni_at, moving, fixed}
+use Rattle.ev_claims.specs.LocalRoutes.{after_removal}
 use Rattle.ev_claims.proofs.Numbers.{own_same, key_stays, own_stays}
 use Rattle.ev_claims.proofs.Hearing.{own_said, own_counter}
 use Rattle.ev_claims.proofs.Learnt.{Sets, sets_new, sets_refresh, sets_pin, size_new, size_known, room_left, size_gone}
@@ -41,9 +43,10 @@ fixes o = option_map (λ (a : Advert). a.is_static) o
 
 -- ---- other adverts than the edge's own change, and the counter
 
-pub spoken_claims : (e : Claims) (v : Voice) → KeepsClaims e → ((k : Key) → own_advert v k ≡ own_advert e.voice k)
-    → v.counter + entries e ≤ 2 ^ 63 + capacity e → KeepsClaims (record e { voice = v })
-spoken_claims e v h same left = record {
+pub spoken_routes : (e : LocalRoutes) (v : Speaker) → KeepsRoutes e
+    → ((k : Key) → own_advert v k ≡ own_advert e.speaker k)
+    → v.counter + entries e ≤ 2 ^ 63 + capacity e → KeepsRoutes (record e { speaker = v })
+spoken_routes e v h same left = record {
   kinds = λ s. h.kinds s ∙ ap fixes (sym (same (key_of s)));
   bare = λ s ip. same (Mac s.vni s.mac (Some ip)) ∙ h.bare s ip;
   ports = h.ports;
@@ -68,25 +71,26 @@ key_apart r s ne e =
     ne (λ i. record { vni = vnis i; mac = macs i })
 
 -- the station has this entry, and is advertised as the entry says; nothing else is advertised anew
-pub record Enters (e : Claims) (t : Learning) (v : Voice) (s : Station) (x : Entry) : Type 0 where
+pub record Enters (e : LocalRoutes) (t : Learning) (v : Speaker) (s : Station) (x : Entry) : Type 0 where
   pub sets : Sets e.learned t s x
   pub port : vni_at e.ports x.port ≡ Some s.vni
   pub kind : Some x.pinned ≡ fixes (own_advert v (key_of s))
-  pub others : (k : Key) → k ≢ key_of s → own_advert v k ≡ own_advert e.voice k
+  pub others : (k : Key) → k ≢ key_of s → own_advert v k ≡ own_advert e.speaker k
   pub fits : len t.entries ≤ capacity e
   pub left : v.counter + len t.entries ≤ 2 ^ 63 + capacity e
 
-entry_here : (e : Claims) (t : Learning) (v : Voice) (s : Station) (x : Entry) → Enters e t v s x
+entry_here : (e : LocalRoutes) (t : Learning) (v : Speaker) (s : Station) (x : Entry) → Enters e t v s x
     → entry_at t s ≡ Some x
 entry_here e t v s x h = ap (λ m. get m s) h.sets.entries ∙ get_here e.learned.entries s x
 
-entry_there : (e : Claims) (t : Learning) (v : Voice) (s : Station) (x : Entry) → Enters e t v s x → (r : Station)
+entry_there : (e : LocalRoutes) (t : Learning) (v : Speaker) (s : Station) (x : Entry) → Enters e t v s x
+    → (r : Station)
     → r ≢ s → entry_at t r ≡ entry_at e.learned r
 entry_there e t v s x h r ne = ap (λ m. get m r) h.sets.entries ∙ get_there e.learned.entries s x r ne
 
-pub entered_claims : (e : Claims) (t : Learning) (v : Voice) (s : Station) (x : Entry) → KeepsClaims e
-    → Enters e t v s x → KeepsClaims (record e { learned = t; voice = v })
-entered_claims e t v s x h n = record {
+pub entered_routes : (e : LocalRoutes) (t : Learning) (v : Speaker) (s : Station) (x : Entry) → KeepsRoutes e
+    → Enters e t v s x → KeepsRoutes (record e { learned = t; speaker = v })
+entered_routes e t v s x h n = record {
   kinds = λ r. elim (same_or_other r s) as (λ _. pins (entry_at t r) ≡ fixes (own_advert v (key_of r))) [
     | inl is ↦ subst (λ q. pins (entry_at t q) ≡ fixes (own_advert v (key_of q))) (sym is)
         (ap pins (entry_here e t v s x n) ∙ n.kind)
@@ -113,14 +117,14 @@ entered_claims e t v s x h n = record {
 
 -- ---- a station goes, and is withdrawn
 
-pub removal_claims : (e : Claims) (s : Station) (x : Entry) → entry_at e.learned s ≡ Some x → KeepsClaims e
-    → KeepsClaims (after_removal e s)
-removal_claims e s x known h = record {
+pub removal_routes : (e : LocalRoutes) (s : Station) (x : Entry) → entry_at e.learned s ≡ Some x → KeepsRoutes e
+    → KeepsRoutes (after_removal e s)
+removal_routes e s x known h = record {
   kinds = λ r. elim (same_or_other r s) as (λ _. pins (entry_at (gone e.learned s) r)
       ≡ fixes (own_advert v (key_of r))) [
         | inl is ↦ subst (λ r. pins (entry_at (gone e.learned s) r) ≡ fixes (own_advert v (key_of r))) (sym is)
             (ap pins (removal_here e.learned s) ∙ ap (λ o. fixes (advert_of o))
-            (sym (own_same e.voice (key_of s) Withdrawn)))
+            (sym (own_same e.speaker (key_of s) Withdrawn)))
         | inr ne ↦ ap pins (removal_there e.learned s r ne) ∙ h.kinds r
             ∙ ap fixes (sym (stays (key_of r) (key_apart r s ne)))
       ];
@@ -142,11 +146,12 @@ removal_claims e s x known h = record {
   few = h.few;
 }
   where
-    v : Voice
-    v = after_saying e.voice (key_of s) Withdrawn
+    v : Speaker
+    v = after_originating e.speaker (key_of s) Withdrawn
 
-    stays : (k : Key) → k ≢ key_of s → own_advert (after_saying e.voice (key_of s) Withdrawn) k ≡ own_advert e.voice k
-    stays k ne = key_stays e.voice (key_of s) Withdrawn k e.voice.address ne
+    stays : (k : Key) → k ≢ key_of s → own_advert (after_originating e.speaker (key_of s) Withdrawn) k
+        ≡ own_advert e.speaker k
+    stays k ne = key_stays e.speaker (key_of s) Withdrawn k e.speaker.address ne
 
     places : length (gone e.learned s).places ≡ length e.learned.places
     places = removal_places e.learned s
@@ -155,19 +160,19 @@ removal_claims e s x known h = record {
     size = size_gone e.learned s x known
 
 -- a station that is learnt is advertised, and its withdrawal finds a number
-pub known_advert : (e : Claims) (s : Station) → KeepsClaims e → IsSome (entry_at e.learned s)
-    → IsSome (own_advert e.voice (key_of s))
-known_advert e s h there = go (entry_at e.learned s) (own_advert e.voice (key_of s)) (h.kinds s) there
+pub known_advert : (e : LocalRoutes) (s : Station) → KeepsRoutes e → IsSome (entry_at e.learned s)
+    → IsSome (own_advert e.speaker (key_of s))
+known_advert e s h there = go (entry_at e.learned s) (own_advert e.speaker (key_of s)) (h.kinds s) there
   where
     go : (o : Option Entry) (a : Option Advert) → pins o ≡ fixes a → IsSome o → IsSome a
     go None a same some = cc
     go (Some x) None same some = absurd (let no : Some x.pinned ≡ None = same in cc)
     go (Some x) (Some a) same some = refl
 
-pub number_left : (e : Claims) → KeepsClaims e → 0 < entries e → e.voice.counter + 1 < 2 ^ 64
+pub number_left : (e : LocalRoutes) → KeepsRoutes e → 0 < entries e → e.speaker.counter + 1 < 2 ^ 64
 number_left e h more = let left = h.left in let small = h.small in omega (arith, left, small, more)
 
-pub known_entry : (e : Claims) (s : Station) → IsSome (entry_at e.learned s)
+pub known_entry : (e : LocalRoutes) (s : Station) → IsSome (entry_at e.learned s)
     → (x : Entry) × (entry_at e.learned s ≡ Some x)
 known_entry e s there = go (entry_at e.learned s) refl there
   where
@@ -181,23 +186,23 @@ new_answer : (t : Learning) (s : Station) (port : ℕ) → entry_at t s ≡ None
     → learnt_of t s port ≡ New
 new_answer t s port none room = λ i. answer_of (none i) (room i) port
 
-said_others : (e : Voice) (s : Station) (c : Content) (k : Key) → k ≢ key_of s
-    → own_advert (after_saying e (key_of s) c) k ≡ own_advert e k
+said_others : (e : Speaker) (s : Station) (c : Content) (k : Key) → k ≢ key_of s
+    → own_advert (after_originating e (key_of s) c) k ≡ own_advert e k
 said_others e s c k ne = key_stays e (key_of s) c k e.address ne
 
-pub advert_claims : (e : Claims) (t : Learning) (v : Voice) (s : Station) (port second n : ℕ) (a : Learnt)
-    → KeepsClaims e → entry_at e.learned s ≡ None → is_full e.learned ≡ false → e.voice.counter < 2 ^ 63
+pub advert_routes : (e : LocalRoutes) (t : Learning) (v : Speaker) (s : Station) (port second n : ℕ) (a : Learnt)
+    → KeepsRoutes e → entry_at e.learned s ≡ None → is_full e.learned ≡ false → e.speaker.counter < 2 ^ 63
     → vni_at e.ports port ≡ Some s.vni
     → t ≡ after_learn e.learned s port second a → a ≡ learnt_of e.learned s port
-    → v ≡ after_saying e.voice (key_of s) (moving n) → KeepsClaims (record e { learned = t; voice = v })
-advert_claims e t v s port second n a h none room number behind t_is a_is v_is =
-    subst (λ (q : Claims). KeepsClaims q) (λ i. record e { learned = sym whole i; voice = sym v_is i })
-    (entered_claims e (after_learn e.learned s port second New) (after_saying e.voice (key_of s) (moving n)) s
+    → v ≡ after_originating e.speaker (key_of s) (moving n) → KeepsRoutes (record e { learned = t; speaker = v })
+advert_routes e t v s port second n a h none room number behind t_is a_is v_is =
+    subst (λ (q : LocalRoutes). KeepsRoutes q) (λ i. record e { learned = sym whole i; speaker = sym v_is i })
+    (entered_routes e (after_learn e.learned s port second New) (after_originating e.speaker (key_of s) (moving n)) s
     (heard_at port second) h (record {
       sets = sets;
       port = behind;
-      kind = sym (ap (λ o. fixes (advert_of o)) (own_same e.voice (key_of s) (moving n)));
-      others = said_others e.voice s (moving n);
+      kind = sym (ap (λ o. fixes (advert_of o)) (own_same e.speaker (key_of s) (moving n)));
+      others = said_others e.speaker s (moving n);
       fits = let low = room_left e.learned h.fits room in omega (arith, size, low);
       left = let low = room_left e.learned h.fits room in omega (arith, size, low, number);
     }))
@@ -215,23 +220,23 @@ advert_claims e t v s port second n a h none room number behind t_is a_is v_is =
 pinned_is : (o : Option Entry) (x : Entry) (b : Bool) → o ≡ Some x → is_pinned o ≡ b → x.pinned ≡ b
 pinned_is o x b is pinned = ap is_pinned (sym is) ∙ pinned
 
-pub refresh_claims : (e : Claims) (t : Learning) (s : Station) (port second : ℕ) (a : Learnt) → KeepsClaims e
+pub refresh_routes : (e : LocalRoutes) (t : Learning) (s : Station) (port second : ℕ) (a : Learnt) → KeepsRoutes e
     → IsSome (entry_at e.learned s) → is_pinned (entry_at e.learned s) ≡ false → vni_at e.ports port ≡ Some s.vni
     → t ≡ after_learn e.learned s port second a → a ≡ learnt_of e.learned s port
-    → KeepsClaims (record e { learned = t })
-refresh_claims e t s port second a h there loose behind t_is a_is = go (known_entry e s there)
+    → KeepsRoutes (record e { learned = t })
+refresh_routes e t s port second a h there loose behind t_is a_is = go (known_entry e s there)
   where
     whole : t ≡ after_learn e.learned s port second (learnt_of e.learned s port)
     whole = t_is ∙ ap (after_learn e.learned s port second) a_is
 
-    go : (x : Entry) × (entry_at e.learned s ≡ Some x) → KeepsClaims (record e { learned = t })
+    go : (x : Entry) × (entry_at e.learned s ≡ Some x) → KeepsRoutes (record e { learned = t })
     go (x, known) =
         let free = pinned_is (entry_at e.learned s) x false known loose in
         let sets = sets_refresh e.learned s port second x known free in
         let size = size_known e.learned (after_learn e.learned s port second (learnt_of e.learned s port)) s
         (heard_at port second) x sets.entries known in
-        subst (λ (q : Learning). KeepsClaims (record e { learned = q })) (sym whole)
-        (entered_claims e (after_learn e.learned s port second (learnt_of e.learned s port)) e.voice s
+        subst (λ (q : Learning). KeepsRoutes (record e { learned = q })) (sym whole)
+        (entered_routes e (after_learn e.learned s port second (learnt_of e.learned s port)) e.speaker s
         (heard_at port second) h (record {
           sets = sets;
           port = behind;
@@ -242,7 +247,7 @@ refresh_claims e t s port second a h there loose behind t_is a_is = go (known_en
         }))
 
 -- how many stations are learnt after one was pinned
-pin_size : (e : Claims) (s : Station) (port : ℕ) → KeepsClaims e
+pin_size : (e : LocalRoutes) (s : Station) (port : ℕ) → KeepsRoutes e
     → (entry_at e.learned s ≡ None → is_full e.learned ≡ false) → len (pinned_on e.learned s port).entries ≤ capacity e
 pin_size e s port h room = go (entry_at e.learned s) refl
   where
@@ -255,36 +260,36 @@ pin_size e s port h room = go (entry_at e.learned s) refl
     go (Some x) known = let size = size_known e.learned (pinned_on e.learned s port) s (pinned_at port) x sets.entries
         known in let low = h.fits in omega (arith, size, low)
 
-pub pin_claims : (e : Claims) (t : Learning) (v : Voice) (s : Station) (port : ℕ) → KeepsClaims e
-    → (entry_at e.learned s ≡ None → is_full e.learned ≡ false) → e.voice.counter < 2 ^ 63
+pub pin_routes : (e : LocalRoutes) (t : Learning) (v : Speaker) (s : Station) (port : ℕ) → KeepsRoutes e
+    → (entry_at e.learned s ≡ None → is_full e.learned ≡ false) → e.speaker.counter < 2 ^ 63
     → vni_at e.ports port ≡ Some s.vni
-    → t ≡ pinned_on e.learned s port → v ≡ after_saying e.voice (key_of s) fixed
-    → KeepsClaims (record e { learned = t; voice = v })
-pin_claims e t v s port h room number behind t_is v_is =
-    subst (λ (q : Claims). KeepsClaims q) (λ i. record e { learned = sym t_is i; voice = sym v_is i })
-    (entered_claims e (pinned_on e.learned s port) (after_saying e.voice (key_of s) fixed) s (pinned_at port) h
+    → t ≡ pinned_on e.learned s port → v ≡ after_originating e.speaker (key_of s) fixed
+    → KeepsRoutes (record e { learned = t; speaker = v })
+pin_routes e t v s port h room number behind t_is v_is =
+    subst (λ (q : LocalRoutes). KeepsRoutes q) (λ i. record e { learned = sym t_is i; speaker = sym v_is i })
+    (entered_routes e (pinned_on e.learned s port) (after_originating e.speaker (key_of s) fixed) s (pinned_at port) h
     (record {
       sets = sets_pin e.learned s port room;
       port = behind;
-      kind = sym (ap (λ o. fixes (advert_of o)) (own_same e.voice (key_of s) fixed));
-      others = said_others e.voice s fixed;
+      kind = sym (ap (λ o. fixes (advert_of o)) (own_same e.speaker (key_of s) fixed));
+      others = said_others e.speaker s fixed;
       fits = pin_size e s port h room;
       left = let low = pin_size e s port h room in omega (arith, low, number);
     }))
 
-pub shift_claims : (e : Claims) (t : Learning) (s : Station) (port : ℕ) → KeepsClaims e
+pub shift_routes : (e : LocalRoutes) (t : Learning) (s : Station) (port : ℕ) → KeepsRoutes e
     → is_pinned (entry_at e.learned s) ≡ true → vni_at e.ports port ≡ Some s.vni → t ≡ pinned_on e.learned s port
-    → KeepsClaims (record e { learned = t })
-shift_claims e t s port h pinned behind t_is = go (entry_at e.learned s) refl
+    → KeepsRoutes (record e { learned = t })
+shift_routes e t s port h pinned behind t_is = go (entry_at e.learned s) refl
   where
-    go : (o : Option Entry) → entry_at e.learned s ≡ o → KeepsClaims (record e { learned = t })
+    go : (o : Option Entry) → entry_at e.learned s ≡ o → KeepsRoutes (record e { learned = t })
     go None none = absurd (let bad : false ≡ true = ap is_pinned (sym none) ∙ pinned in cc)
     go (Some x) known =
         let held = pinned_is (entry_at e.learned s) x true known pinned in
         let sets = sets_pin e.learned s port (λ none. absurd (let bad : None ≡ Some x = sym none ∙ known in cc)) in
         let size = size_known e.learned (pinned_on e.learned s port) s (pinned_at port) x sets.entries known in
-        subst (λ (q : Learning). KeepsClaims (record e { learned = q })) (sym t_is)
-        (entered_claims e (pinned_on e.learned s port) e.voice s (pinned_at port) h (record {
+        subst (λ (q : Learning). KeepsRoutes (record e { learned = q })) (sym t_is)
+        (entered_routes e (pinned_on e.learned s port) e.speaker s (pinned_at port) h (record {
           sets = sets;
           port = behind;
           kind = ap Some (sym held) ∙ ap pins (sym known) ∙ h.kinds s;
@@ -293,38 +298,40 @@ shift_claims e t s port h pinned behind t_is = go (entry_at e.learned s) refl
           left = let low = h.left in omega (arith, size, low);
         }))
 
--- another's update, or an own one of an earlier life
-pub heard_claims : (e : Claims) (v : Voice) (u : Fields) (r : Result Taken TakeError)
-    → u.register.originator ≢ e.voice.address → KeepsClaims e → OnOk r (v ≡ after_hearing e.voice u)
-    → OnErr r (v ≡ e.voice) → KeepsClaims (record e { voice = v })
-heard_claims e v u (Ok x) other h ok err = subst (λ w. KeepsClaims (record e { voice = w })) (sym ok)
-    (spoken_claims e (after_hearing e.voice u) h (λ k. ap advert_of (own_stays e.voice u other k)) h.left)
-heard_claims e v u (Err x) other h ok err = subst (λ w. KeepsClaims (record e { voice = w })) (sym err) h
+-- another's update, or an own one of an earlier incarnation
+pub heard_routes : (e : LocalRoutes) (v : Speaker) (u : Fields) (r : Result Taken TakeError)
+    → u.register.originator ≢ e.speaker.address → KeepsRoutes e → OnOk r (v ≡ after_importing e.speaker u)
+    → OnErr r (v ≡ e.speaker) → KeepsRoutes (record e { speaker = v })
+heard_routes e v u (Ok x) other h ok err = subst (λ w. KeepsRoutes (record e { speaker = w })) (sym ok)
+    (spoken_routes e (after_importing e.speaker u) h (λ k. ap advert_of (own_stays e.speaker u other k)) h.left)
+heard_routes e v u (Err x) other h ok err = subst (λ w. KeepsRoutes (record e { speaker = w })) (sym err) h
 
 not_true : (b : Bool) → (b ≡ true → ⊥) → b ≡ false
 not_true true never = absurd (never refl)
 not_true false never = refl
 
-pub own_claims : (e : Claims) (v : Voice) (u : Fields) (r : Result Taken OwnError)
-    → u.register.originator ≡ e.voice.address → KeepsNumbers e.voice → KeepsClaims e
-    → OnOk r (v ≡ after_hearing_own e.voice u) → OnErr r (v ≡ e.voice) → (r ≡ Err Ahead) ↔ (is_ahead e.voice u ≡ true)
-    → (r ≡ Err Spent) ↔ (is_spent e.voice u ≡ true) → KeepsClaims (record e { voice = v })
-own_claims e v u (Err x) mine n h ok err ahead spent = subst (λ w. KeepsClaims (record e { voice = w })) (sym err) h
-own_claims e v u (Ok x) mine n h ok err ahead spent = subst (λ w. KeepsClaims (record e { voice = w })) (sym ok)
-    (spoken_claims e (after_hearing_own e.voice u) h (own_said e.voice u n mine
-    (not_true (is_ahead e.voice u) (λ t. let no = ahead.1 t in cc))) bound)
+pub own_routes : (e : LocalRoutes) (v : Speaker) (u : Fields) (r : Result Taken OwnError)
+    → u.register.originator ≡ e.speaker.address → KeepsNumbers e.speaker → KeepsRoutes e
+    → OnOk r (v ≡ after_importing_own e.speaker u) → OnErr r (v ≡ e.speaker) → (r ≡ Err Ahead)
+    ↔ (is_ahead e.speaker u ≡ true)
+    → (r ≡ Err Spent) ↔ (is_spent e.speaker u ≡ true) → KeepsRoutes (record e { speaker = v })
+own_routes e v u (Err x) mine n h ok err ahead spent = subst (λ w. KeepsRoutes (record e { speaker = w })) (sym err) h
+own_routes e v u (Ok x) mine n h ok err ahead spent = subst (λ w. KeepsRoutes (record e { speaker = w })) (sym ok)
+    (spoken_routes e (after_importing_own e.speaker u) h (own_said e.speaker u n mine
+    (not_true (is_ahead e.speaker u) (λ t. let no = ahead.1 t in cc))) bound)
   where
-    few : is_returning e.voice u ≡ true → e.voice.counter + 1 ≤ 2 ^ 63
+    few : is_returning e.speaker u ≡ true → e.speaker.counter + 1 ≤ 2 ^ 63
     few back =
-        let full : (is_returning e.voice u && nat_le (2 ^ 63) e.voice.counter) ≡ false =
-        not_true (is_spent e.voice u) (λ t. let no = spent.1 t in cc) in
-        let room : nat_le (2 ^ 63) e.voice.counter ≡ false = sym (ap (λ b. b && nat_le (2 ^ 63) e.voice.counter) back)
+        let full : (is_returning e.speaker u && nat_le (2 ^ 63) e.speaker.counter) ≡ false =
+        not_true (is_spent e.speaker u) (λ t. let no = spent.1 t in cc) in
+        let room : nat_le (2 ^ 63) e.speaker.counter ≡ false = sym
+        (ap (λ b. b && nat_le (2 ^ 63) e.speaker.counter) back)
         ∙ full in
         grind (arith, nat_tests)
 
-    bound : (after_hearing_own e.voice u).counter + entries e ≤ 2 ^ 63 + capacity e
+    bound : (after_importing_own e.speaker u).counter + entries e ≤ 2 ^ 63 + capacity e
     bound =
-        let low = own_counter e.voice u (2 ^ 63 + capacity e - entries e) (λ back. let one = few back in
+        let low = own_counter e.speaker u (2 ^ 63 + capacity e - entries e) (λ back. let one = few back in
         let fits = h.fits in omega (arith, one, fits)) (let left = h.left in omega (arith, left)) in
         let left = h.left in
         omega (arith, low, left)

@@ -10,7 +10,7 @@ use Rattle.mac_arena.specs.Station.{is_same}
 use Rattle.mac_arena.specs.Learning.{Learning, entry_at, is_pinned, left, after_removal as gone, after_removal_at}
 use Rattle.mac_arena.specs.ListsName.{stands, ages, AreOnce}
 use Rattle.mac_arena.proofs.Entries.{same_true}
-use Rattle.ev_claims.specs.Claims.{Claims, AreGood, entries, after_removal, after_removals}
+use Rattle.ev_claims.specs.LocalRoutes.{LocalRoutes, AreGood, entries, after_removal, after_removals}
 use Rattle.mac_arena.specs.Laws.{is_due, due_among}
 use Rattle.ev_claims.specs.Leaving.{due_in, flushed_in, after_flush, after_ageing}
 use Rattle.ev_claims.proofs.Learnt.{removal_there}
@@ -20,7 +20,7 @@ use Rattle.ev_claims.proofs.Changed.{removals_entries}
 use Rattle.ev_claims.proofs.Sayings.{removals_size}
 
 -- these stations go, each once, and all were learnt
-pub record Leaves (e e' : Claims) : Type 0 where
+pub record Leaves (e e' : LocalRoutes) : Type 0 where
   pub stations : List Station
   pub are : e' ≡ after_removals e stations
   pub once : AreOnce stations
@@ -28,7 +28,7 @@ pub record Leaves (e e' : Claims) : Type 0 where
 
 -- ---- by a flush
 
-flush_known : (e : Claims) (set : ℕ) → AreGood e → (s : Station) → stands (flushed_in e.learned set) s ≡ true
+flush_known : (e : LocalRoutes) (set : ℕ) → AreGood e → (s : Station) → stands (flushed_in e.learned set) s ≡ true
     → IsSome (entry_at e.learned s)
 flush_known e set h s in' = go (entry_at e.learned s) (sym
     (flushed_stands e.learned h.lists 0 (ports_of set) s (ports_climb set)) ∙ in')
@@ -37,10 +37,10 @@ flush_known e set h s in' = go (entry_at e.learned s) (sym
     go None on = let none = none_on (ports_of set) in let bad : false ≡ true = sym (ap (λ b. b && true) none) ∙ on in cc
     go (Some x) on = refl
 
-flush_once : (e : Claims) (set : ℕ) → AreGood e → AreOnce (flushed_in e.learned set)
+flush_once : (e : LocalRoutes) (set : ℕ) → AreGood e → AreOnce (flushed_in e.learned set)
 flush_once e set h = flushed_once e.learned h.lists 0 (ports_of set) (ports_climb set)
 
-pub flush_leaves : (e : Claims) (set : ℕ) → AreGood e → Leaves e (after_flush e set)
+pub flush_leaves : (e : LocalRoutes) (set : ℕ) → AreGood e → Leaves e (after_flush e set)
 flush_leaves e set h = record {
   stations = flushed_in e.learned set;
   are = refl;
@@ -116,7 +116,7 @@ removal_ageing t s h = go (entry_at t s) refl
             let bad : false ≡ true = sym out ∙ in'' in cc)) in
             subst IsSome (sym (removal_there t s q other)) (h.known q (left_stands s q t.ageing there))
 
-removals_ageing : (e : Claims) (ss : List Station) → IsAgeing e.learned → IsAgeing (after_removals e ss).learned
+removals_ageing : (e : LocalRoutes) (ss : List Station) → IsAgeing e.learned → IsAgeing (after_removals e ss).learned
 removals_ageing e [] h = h
 removals_ageing e (s ∷ ss) h = removals_ageing (after_removal e s) ss (removal_ageing e.learned s h)
 
@@ -136,7 +136,7 @@ due_in_list t limit (x ∷ xs) s h = go (is_due limit (entry_at t x)) h (due_in_
     go true e rest = or_both (is_same x s) (stands (due_among t limit xs) s) (stands xs s) e rest
     go false e rest = cc
 
-good_ageing : (e : Claims) → AreGood e → IsAgeing e.learned
+good_ageing : (e : LocalRoutes) → AreGood e → IsAgeing e.learned
 good_ageing e h = record {
   once = h.lists.ageing_once;
   known =
@@ -147,7 +147,7 @@ good_ageing e h = record {
     go None a = cc
     go (Some x) a = refl
 
-pub second_leaves : (e : Claims) (set limit : ℕ) → AreGood e → Leaves e (after_ageing (after_flush e set) limit)
+pub second_leaves : (e : LocalRoutes) (set limit : ℕ) → AreGood e → Leaves e (after_ageing (after_flush e set) limit)
 second_leaves e set limit h = record {
   stations = flushed_in e.learned set ++ due_in f.learned limit;
   are = sym (removals_joined e (flushed_in e.learned set) (due_in f.learned limit));
@@ -158,7 +158,7 @@ second_leaves e set limit h = record {
       omega (arith, first, second, both);
 }
   where
-    f : Claims
+    f : LocalRoutes
     f = after_flush e set
 
     age : IsAgeing (after_flush e set).learned

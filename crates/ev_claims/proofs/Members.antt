@@ -5,8 +5,8 @@ use Rattle.std.specs.Prelude.{slice_get, nat_le, ◌&&◌, ◌||◌}
 use Rattle.std.proofs.lemmas.Bool.{eq-eqb, ne_eqb, cases_eq, cases_lt}
 use Rattle.std.proofs.lemmas.Bool.Decides.{nat_tests}
 use Rattle.std.proofs.lemmas.Option.{slice_get_past}
-use Rattle.ev_claims.specs.Claims.{is_member}
-use Rattle.ev_claims.specs.Voice.{is_at}
+use Rattle.ev_claims.specs.LocalRoutes.{is_member}
+use Rattle.ev_claims.specs.Speaker.{is_at}
 
 abbrev pub Counted : List ℕ → ℕ → ℕ → ℕ → Bool
 Counted ports vni place p = nat_le p place && is_member ports vni p

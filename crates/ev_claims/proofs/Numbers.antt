@@ -17,23 +17,23 @@ use Rattle.route_join.proofs.Tables.{same_or_other, at_same, at_other}
 use Rattle.route_join.proofs.Joins.{update_other}
 use Rattle.route_join.proofs.Merging.{same_listeners}
 use Rattle.ev_claims.specs.Pending.{marked}
-use Rattle.ev_claims.specs.Voice.{Voice, own_register, own, KeepsNumbers, HasRooms, next_value, after_saying}
-use Rattle.ev_claims.specs.Voice.{after_hearing}
+use Rattle.ev_claims.specs.Speaker.{Speaker, own_register, own, KeepsNumbers, HasRooms, next_value, after_originating}
+use Rattle.ev_claims.specs.Speaker.{after_importing}
 use Rattle.route_wire.proofs.Newer.{next_newer}
 
 pub key_or_other : (k j : Key) → (k ≡ j) ⊎ (k ≢ j)
 key_or_other k j = elim (same_or_other (register_of 0 k) (register_of 0 j)) as (λ _. (k ≡ j)
     ⊎ (k ≢ j)) [ inl e ↦ inl (ap (λ (r : Register). r.key) e) | inr ne ↦ inr (λ e. ne (ap (register_of 0) e)) ]
 
-pub own_same : (e : Voice) (k : Key) (c : Content) → own (after_saying e k c) k ≡ Some (next_value e c)
+pub own_same : (e : Speaker) (k : Key) (c : Content) → own (after_originating e k c) k ≡ Some (next_value e c)
 own_same e k c = at_same e.table (own_register e k) (next_value e c)
 
-pub own_other : (e : Voice) (k : Key) (c : Content) (j : Key) → j ≢ k → own (after_saying e k c) j ≡ own e j
+pub own_other : (e : Speaker) (k : Key) (c : Content) (j : Key) → j ≢ k → own (after_originating e k c) j ≡ own e j
 own_other e k c j ne = at_other e.table (own_register e k) _ (own_register e j)
     (λ h. ne (ap (λ (r : Register). r.key) h))
 
-pub key_stays : (e : Voice) (k : Key) (c : Content) (j : Key) (o : ℕ) → j ≢ k
-    → advert_at (after_saying e k c).table o j ≡ advert_at e.table o j
+pub key_stays : (e : Speaker) (k : Key) (c : Content) (j : Key) (o : ℕ) → j ≢ k
+    → advert_at (after_originating e k c).table o j ≡ advert_at e.table o j
 key_stays e k c j o ne = ap advert_of (at_other e.table (own_register e k) _ (register_of o j)
     (λ h. ne (ap (λ (q : Register). q.key) h)))
 
@@ -47,14 +47,14 @@ marked_only rs r q = go (list_any (eq_by_cmp register_cmp r) rs)
     go false h = Contains-push_cases rs r q h
 
 -- ---- saying something
-now_said : (e : Voice) (k j : Key) (c : Content) (v : Value) → j ≡ k → own (after_saying e k c) j ≡ Some v
+now_said : (e : Speaker) (k j : Key) (c : Content) (v : Value) → j ≡ k → own (after_originating e k c) j ≡ Some v
     → next_value e c ≡ v
 now_said e k j c v same is =
     let is' : Some (next_value e c) ≡ Some v = sym (own_same e k c)
-    ∙ subst (λ q. own (after_saying e k c) q ≡ Some v) same is in
+    ∙ subst (λ q. own (after_originating e k c) q ≡ Some v) same is in
     cc
 
-pub said_numbers : (e : Voice) (k : Key) (c : Content) → KeepsNumbers e → KeepsNumbers (after_saying e k c)
+pub said_numbers : (e : Speaker) (k : Key) (c : Content) → KeepsNumbers e → KeepsNumbers (after_originating e k c)
 said_numbers e k c h = record {
   counted = λ j v is present. elim (key_or_other j k) as (λ _. v.counter ≤ e.counter + 1) [
     | inl same ↦ let number = ap (λ (q : Value). q.counter) (now_said e k j c v same is) in omega (arith, number)
@@ -86,16 +86,16 @@ said_numbers e k c h = record {
   ];
   known = h.known;
   pending = λ r in'. elim (same_or_other r (own_register e k)) as (λ _. (v : Value)
-      × (value_at (after_saying e k c).table r ≡ Some v) × (v.incarnation ≡ e.incarnation)
+      × (value_at (after_originating e k c).table r ≡ Some v) × (v.incarnation ≡ e.incarnation)
       × (r.originator ≡ e.address)) [
         | inl same ↦ (
           next_value e c,
-          ap (value_at (after_saying e k c).table) same ∙ own_same e k c,
+          ap (value_at (after_originating e k c).table) same ∙ own_same e k c,
           refl,
           ap (λ (q : Register). q.originator) same,
         )
         | inr ne ↦ elim (marked_only e.pending (own_register e k) r in') as (λ _. (v : Value)
-            × (value_at (after_saying e k c).table r ≡ Some v) × (v.incarnation ≡ e.incarnation)
+            × (value_at (after_originating e k c).table r ≡ Some v) × (v.incarnation ≡ e.incarnation)
             × (r.originator ≡ e.address)) [
               | inl earlier ↦ let p = h.pending r earlier in (
                 p.0,
@@ -108,11 +108,11 @@ said_numbers e k c h = record {
       ];
 }
   where
-    before : (j : Key) (v : Value) → j ≢ k → own (after_saying e k c) j ≡ Some v → own e j ≡ Some v
+    before : (j : Key) (v : Value) → j ≢ k → own (after_originating e k c) j ≡ Some v → own e j ≡ Some v
     before j v ne is = sym (own_other e k c j ne) ∙ is
 
 -- what is said next is news
-pub said_is_news : (e : Voice) (k : Key) (c : Content) → KeepsNumbers e → is_news (own e k) (next_value e c) ≡ true
+pub said_is_news : (e : Speaker) (k : Key) (c : Content) → KeepsNumbers e → is_news (own e k) (next_value e c) ≡ true
 said_is_news e k c h = go (own e k) refl
   where
     go : (o : Option Value) → own e k ≡ o → is_news o (next_value e c) ≡ true
@@ -120,25 +120,26 @@ said_is_news e k c h = go (own e k) refl
     go (Some v) is = next_newer v _ (h.past k v is) (λ same. let bound = h.counted k v is same in omega (arith, bound))
 
 -- so the table that takes it has it
-pub said_joins : (e : Voice) (k : Key) (c : Content) → KeepsNumbers e
-    → with_update e.table (record { register = own_register e k; value = next_value e c }) ≡ (after_saying e k c).table
-said_joins e k c h = ap (λ b. cond b (after_saying e k c).table e.table) (said_is_news e k c h)
+pub said_joins : (e : Speaker) (k : Key) (c : Content) → KeepsNumbers e
+    → with_update e.table (record { register = own_register e k; value = next_value e c })
+    ≡ (after_originating e k c).table
+said_joins e k c h = ap (λ b. cond b (after_originating e k c).table e.table) (said_is_news e k c h)
 
-pub said_rooms : (e : Voice) (k : Key) (c : Content) (known : List Register) → Contains known (own_register e k)
-    → HasRooms e known → HasRooms (after_saying e k c) known
+pub said_rooms : (e : Speaker) (k : Key) (c : Content) (known : List Register) → Contains known (own_register e k)
+    → HasRooms e known → HasRooms (after_originating e k c) known
 said_rooms e k c known here h j v is present = elim (key_or_other j k) as (λ _. Contains known (own_register e j)) [
   | inl same ↦ subst (λ q. Contains known (own_register e q)) (sym same) here
   | inr ne ↦ h j v (sym (own_other e k c j ne) ∙ is) present
 ]
 
 -- ---- hearing something of another
-pub own_stays : (e : Voice) (u : Fields) → u.register.originator ≢ e.address → (k : Key)
-    → own (after_hearing e u) k ≡ own e k
+pub own_stays : (e : Speaker) (u : Fields) → u.register.originator ≢ e.address → (k : Key)
+    → own (after_importing e u) k ≡ own e k
 own_stays e u other k = update_other e.table u.register u.value (own_register e k)
     (λ same. other (ap (λ (r : Register). r.originator) (sym same)))
 
-pub heard_numbers : (e : Voice) (u : Fields) → u.register.originator ≢ e.address → KeepsNumbers e
-    → KeepsNumbers (after_hearing e u)
+pub heard_numbers : (e : Speaker) (u : Fields) → u.register.originator ≢ e.address → KeepsNumbers e
+    → KeepsNumbers (after_importing e u)
 heard_numbers e u other h = record {
   counted = λ k v is present. h.counted k v (before k v is) present;
   distinct = λ k j v w at_k at_j here there same. h.distinct k j v w (before k v at_k) (before j w at_j) here there
@@ -155,9 +156,9 @@ heard_numbers e u other h = record {
   );
 }
   where
-    before : (k : Key) (v : Value) → own (after_hearing e u) k ≡ Some v → own e k ≡ Some v
+    before : (k : Key) (v : Value) → own (after_importing e u) k ≡ Some v → own e k ≡ Some v
     before k v is = sym (own_stays e u other k) ∙ is
 
-pub heard_rooms : (e : Voice) (u : Fields) (known : List Register) → u.register.originator ≢ e.address
-    → HasRooms e known → HasRooms (after_hearing e u) known
+pub heard_rooms : (e : Speaker) (u : Fields) (known : List Register) → u.register.originator ≢ e.address
+    → HasRooms e known → HasRooms (after_importing e u) known
 heard_rooms e u known other h k v is present = h k v (sym (own_stays e u other k) ∙ is) present

@@ -18,25 +18,26 @@ use Rattle.mac_arena.specs.declared.station.Station.{Station}
 use Rattle.mac_arena.specs.declared.station.Entry.{Entry}
 use Rattle.mac_arena.specs.Station.{station_cmp}
 use Rattle.mac_arena.specs.Learning.{entry_at, nothing_learnt}
-use Rattle.ev_claims.specs.Voice.{Voice, own_register, own_advert, after_saying, silent}
+use Rattle.ev_claims.specs.Speaker.{Speaker, own_register, own_advert, after_originating, silent}
 use Rattle.ev_claims.specs.Opening.{after_floods}
-use Rattle.ev_claims.specs.Claims.{KeepsClaims, claims_of}
+use Rattle.ev_claims.specs.LocalRoutes.{KeepsRoutes, routes_of}
 use Rattle.ev_claims.proofs.Numbers.{key_or_other, own_same, key_stays}
 
 -- other keys are as they were
-pub floods_other : (e : Voice) (vs : List ℕ) (k : Key) → ((v : ℕ) → k ≢ Flood v)
+pub floods_other : (e : Speaker) (vs : List ℕ) (k : Key) → ((v : ℕ) → k ≢ Flood v)
     → own_advert (after_floods e vs) k ≡ own_advert e k
 floods_other e [] k ne = refl
-floods_other e (v ∷ vs) k ne = floods_other (after_saying e (Flood v) (Advertised flood_advert)) vs k ne
+floods_other e (v ∷ vs) k ne = floods_other (after_originating e (Flood v) (Advertised flood_advert)) vs k ne
     ∙ key_stays e (Flood v) (Advertised flood_advert) k e.address (ne v)
 
-said_there : (e : Voice) (v : ℕ) → IsSome (own_advert (after_saying e (Flood v) (Advertised flood_advert)) (Flood v))
+said_there : (e : Speaker) (v : ℕ) → IsSome (own_advert (after_originating e (Flood v) (Advertised flood_advert))
+    (Flood v))
 said_there e v = subst IsSome (sym (ap advert_of (own_same e (Flood v) (Advertised flood_advert)))) refl
 
 -- one list more
-floods_more : (e : Voice) (w : ℕ) (ws : List ℕ) (v : ℕ)
-    → IsSome (own_advert (after_floods (after_saying e (Flood w) (Advertised flood_advert)) ws) (Flood v))
-    ↔ (IsSome (own_advert (after_saying e (Flood w) (Advertised flood_advert)) (Flood v)) ⊎ Contains ws v)
+floods_more : (e : Speaker) (w : ℕ) (ws : List ℕ) (v : ℕ)
+    → IsSome (own_advert (after_floods (after_originating e (Flood w) (Advertised flood_advert)) ws) (Flood v))
+    ↔ (IsSome (own_advert (after_originating e (Flood w) (Advertised flood_advert)) (Flood v)) ⊎ Contains ws v)
     → IsSome (own_advert (after_floods e (w ∷ ws)) (Flood v)) ↔ (IsSome (own_advert e (Flood v)) ⊎ Contains (w ∷ ws) v)
 floods_more e w ws v rest = (
   λ p. elim (rest.0 p) as (λ _. IsSome (own_advert e (Flood v)) ⊎ Contains (w ∷ ws) v) [
@@ -47,11 +48,12 @@ floods_more e w ws v rest = (
         ]
     | inr later ↦ inr (suc later.0, (let less = later.1 in omega (arith, less)), later.2)
   ],
-  λ q. elim q as (λ _. IsSome (own_advert (after_floods (after_saying e (Flood w) (Advertised flood_advert)) ws)
+  λ q. elim q as (λ _. IsSome (own_advert (after_floods (after_originating e (Flood w) (Advertised flood_advert)) ws)
       (Flood v))) [
         | inl there ↦ elim (key_or_other (Flood v) (Flood w)) as (λ _. IsSome
-            (own_advert (after_floods (after_saying e (Flood w) (Advertised flood_advert)) ws) (Flood v))) [
-              | inl same ↦ rest.1 (inl (subst (λ k. IsSome (own_advert (after_saying e (Flood w) (Advertised flood_advert)) k))
+            (own_advert (after_floods (after_originating e (Flood w) (Advertised flood_advert)) ws) (Flood v))) [
+              | inl same ↦ rest.1 (inl (subst (λ k. IsSome (own_advert
+                  (after_originating e (Flood w) (Advertised flood_advert)) k))
                   (sym same) (said_there e w)))
               | inr ne ↦ rest.1 (inl (subst IsSome (sym (key_stays e (Flood w) (Advertised flood_advert) (Flood v) e.address
                   ne)) there))
@@ -61,13 +63,13 @@ floods_more e w ws v rest = (
 )
   where
     among : (k : ℕ) → k < length (w ∷ ws) → get_or (w ∷ ws) k v ≡ v
-        → IsSome (own_advert (after_floods (after_saying e (Flood w) (Advertised flood_advert)) ws) (Flood v))
+        → IsSome (own_advert (after_floods (after_originating e (Flood w) (Advertised flood_advert)) ws) (Flood v))
     among zero less is = rest.1 (inl (subst (λ x. IsSome
-        (own_advert (after_saying e (Flood w) (Advertised flood_advert)) (Flood x))) is (said_there e w)))
+        (own_advert (after_originating e (Flood w) (Advertised flood_advert)) (Flood x))) is (said_there e w)))
     among (suc k) less is = rest.1 (inr (k, omega (arith, less), is))
 
 -- a flood list is advertised where it was, or is said
-pub floods_are : (e : Voice) (vs : List ℕ) (v : ℕ) → IsSome (own_advert (after_floods e vs) (Flood v))
+pub floods_are : (e : Speaker) (vs : List ℕ) (v : ℕ) → IsSome (own_advert (after_floods e vs) (Flood v))
     ↔ (IsSome (own_advert e (Flood v)) ⊎ Contains vs v)
 floods_are e [] v = (
   λ p. inl p,
@@ -76,11 +78,12 @@ floods_are e [] v = (
     | inr c ↦ absurd (let less = c.1 in omega (arith, less))
   ],
 )
-floods_are e (w ∷ ws) v = floods_more e w ws v (floods_are (after_saying e (Flood w) (Advertised flood_advert)) ws v)
+floods_are e (w ∷ ws) v = floods_more e w ws v (floods_are (after_originating e (Flood w) (Advertised flood_advert)) ws
+    v)
 
-pub floods_counter : (e : Voice) (vs : List ℕ) → (after_floods e vs).counter ≡ e.counter + length vs
+pub floods_counter : (e : Speaker) (vs : List ℕ) → (after_floods e vs).counter ≡ e.counter + length vs
 floods_counter e [] = omega arith
-floods_counter e (v ∷ vs) = let rest = floods_counter (after_saying e (Flood v) (Advertised flood_advert)) vs in
+floods_counter e (v ∷ vs) = let rest = floods_counter (after_originating e (Flood v) (Advertised flood_advert)) vs in
     omega (arith, rest)
 
 nothing_said : (address incarnation : ℕ) (originators : List ℕ) (k : Key)
@@ -92,11 +95,11 @@ nobody : (capacity ports buckets salt : ℕ) (s : Station)
     → entry_at (nothing_learnt capacity ports buckets salt) s ≡ None
 nobody capacity ports buckets salt s = get-empty {X = Entry} station_cmp s
 
-pub opened_claims : (address incarnation : ℕ) (originators vs ports : List ℕ) (capacity buckets salt : ℕ)
+pub opened_routes : (address incarnation : ℕ) (originators vs ports : List ℕ) (capacity buckets salt : ℕ)
     → capacity ≤ 65536 → length ports ≤ 64 → length vs ≤ 64
-    → KeepsClaims (claims_of (after_floods (silent address incarnation originators) vs)
+    → KeepsRoutes (routes_of (after_floods (silent address incarnation originators) vs)
     (nothing_learnt capacity (length ports) buckets salt) ports vs)
-opened_claims address incarnation originators vs ports capacity buckets salt small few listed = record {
+opened_routes address incarnation originators vs ports capacity buckets salt small few listed = record {
   kinds = λ s. ap (option_map (λ (x : Entry). x.pinned)) (nobody capacity (length ports) buckets salt s)
       ∙ ap (option_map (λ (a : Advert). a.is_static)) (sym (none (Mac s.vni s.mac None) (λ v q. cc)));
   bare = λ s ip. none (Mac s.vni s.mac (Some ip)) (λ v q. cc);
@@ -117,7 +120,7 @@ opened_claims address incarnation originators vs ports capacity buckets salt sma
   few = few;
 }
   where
-    start : Voice
+    start : Speaker
     start = silent address incarnation originators
 
     none : (k : Key) → ((v : ℕ) → k ≢ Flood v) → own_advert (after_floods (silent address incarnation originators) vs) k

@@ -1,4 +1,4 @@
--- the fields of a voice once it has said or heard something
+-- the fields of a speaker once it has said or heard something
 use Rattle.std.proofs.Common.{◌≡◌, ◌≢◌, true, false, Option, Some, None, List, Result, Ok, Err, refl, sym, ap, subst}
 use Rattle.std.proofs.Common.{◌∙◌}
 use Rattle.std.specs.Prelude.{OnOk, OnErr, IsSome, ◌↔◌}
@@ -13,7 +13,7 @@ use Rattle.route_join.specs.declared.table.TakeError.{TakeError}
 use Rattle.route_join.specs.declared.table.TakeError.TheVariants.{UnknownOriginator, NoMemory}
 use Rattle.route_join.specs.Table.{Table, value_at, update_at, is_listed, with_update}
 use Rattle.route_join.specs.Owner.{advert_of}
-use Rattle.ev_claims.specs.Voice.{Voice, own_register, own_advert, IsVoice, next_value, after_saying}
+use Rattle.ev_claims.specs.Speaker.{Speaker, own_register, own_advert, IsSpeaker, next_value, after_originating}
 use Rattle.ev_claims.proofs.Numbers.{said_numbers, said_rooms, said_joins, heard_numbers, heard_rooms}
 
 -- what a look-up of a register gave
@@ -48,12 +48,13 @@ taken_there t t' u v (Ok x) at listed ok unknown full = ok
 taken_there t t' u v (Err UnknownOriginator) at listed ok unknown full = absurd (let no = unknown.0 refl in cc)
 taken_there t t' u v (Err NoMemory) at listed ok unknown full = absurd (let no = full refl in cc)
 
-pub said_is : (e : Voice) (known : List Register) (t' : Table) (k : Key) (c : Content) (last u : Fields) (q : Register)
-    (r : Result Taken TakeError) → IsVoice e known → Some last ≡ update_at e.table (own_register e k)
+pub said_is : (e : Speaker) (known : List Register) (t' : Table) (k : Key) (c : Content) (last u : Fields)
+    (q : Register)
+    (r : Result Taken TakeError) → IsSpeaker e known → Some last ≡ update_at e.table (own_register e k)
     → u ≡ record { register = q; value = next_value e c } → q ≡ last.register
     → OnOk r (t' ≡ with_update e.table u) → (r ≡ Err UnknownOriginator)
     ↔ (is_listed e.table u.register.originator ≡ false) → (r ≡ Err NoMemory → value_at e.table u.register ≡ None)
-    → t' ≡ (after_saying e k c).table
+    → t' ≡ (after_originating e k c).table
 said_is e known t' k c last u q r h found is named ok unknown full =
     let is_there = there e.table (own_register e k) last found in
     let register : u.register ≡ own_register e k = ap (λ (x : Fields). x.register) is ∙ named ∙ is_there.named in
@@ -63,9 +64,10 @@ said_is e known t' k c last u q r h found is named ok unknown full =
     (ap (λ (x : Register). is_listed e.table x.originator) register ∙ h.numbers.known) ok unknown full
     ∙ ap (with_update e.table) whole ∙ said_joins e k c h.numbers
 
-pub said_voice : (e : Voice) (known : List Register) (k : Key) (c : Content) (last : Fields) → IsVoice e known
-    → IsSome (own_advert e k) → Some last ≡ update_at e.table (own_register e k) → IsVoice (after_saying e k c) known
-said_voice e known k c last h said found =
+pub said_speaker : (e : Speaker) (known : List Register) (k : Key) (c : Content) (last : Fields) → IsSpeaker e known
+    → IsSome (own_advert e k) → Some last ≡ update_at e.table (own_register e k)
+    → IsSpeaker (after_originating e k c) known
+said_speaker e known k c last h said found =
     let is_there = there e.table (own_register e k) last found in
     let present = h.numbers.alive k is_there.value is_there.at (subst IsSome (ap advert_of is_there.at) said) in
     record {
@@ -74,9 +76,9 @@ said_voice e known k c last h said found =
           said_rooms e k c known (h.rooms k is_there.value is_there.at present) h.rooms;
     }
 
-pub heard_voice : (e : Voice) (known : List Register) (t' : Table) (u : Fields) (r : Result Taken TakeError)
-    → u.register.originator ≢ e.address → IsVoice e known
-    → OnOk r (t' ≡ with_update e.table u) → OnErr r (t' ≡ e.table) → IsVoice (record e { table = t' }) known
-heard_voice e known t' u (Ok x) other h ok err = subst (λ t. IsVoice (record e { table = t }) known) (sym ok)
+pub heard_speaker : (e : Speaker) (known : List Register) (t' : Table) (u : Fields) (r : Result Taken TakeError)
+    → u.register.originator ≢ e.address → IsSpeaker e known
+    → OnOk r (t' ≡ with_update e.table u) → OnErr r (t' ≡ e.table) → IsSpeaker (record e { table = t' }) known
+heard_speaker e known t' u (Ok x) other h ok err = subst (λ t. IsSpeaker (record e { table = t }) known) (sym ok)
     (record { numbers = heard_numbers e u other h.numbers; rooms = heard_rooms e u known other h.rooms })
-heard_voice e known t' u (Err x) other h ok err = subst (λ t. IsVoice (record e { table = t }) known) (sym err) h
+heard_speaker e known t' u (Err x) other h ok err = subst (λ t. IsSpeaker (record e { table = t }) known) (sym err) h

@@ -23,12 +23,13 @@ use Rattle.mac_arena.specs.Station.{is_same}
 use Rattle.mac_arena.specs.Learning.{entry_at}
 use Rattle.mac_arena.specs.ListsName.{stands, AreOnce}
 use Rattle.mac_arena.proofs.Entries.{same_self}
-use Rattle.ev_claims.specs.Voice.{Voice, own_register, own, IsPresent, IsOwnAt, KeepsNumbers, next_value, after_saying}
-use Rattle.ev_claims.specs.Voice.{after_hearing, silent}
+use Rattle.ev_claims.specs.Speaker.{Speaker, own_register, own, IsPresent, IsOwnAt, KeepsNumbers, next_value}
+use Rattle.ev_claims.specs.Speaker.{after_originating}
+use Rattle.ev_claims.specs.Speaker.{after_importing, silent}
 use Rattle.ev_claims.specs.declared.opening.Start.{Start}
 use Rattle.ev_claims.specs.Opening.{IsOpening, Opens, after_floods, floods_of}
-use Rattle.ev_claims.specs.Claims.{Claims, entries, key_of, after_removal, after_removals}
-use Rattle.ev_claims.specs.Changes.{OwnChanges, Says, registers_in, after_sayings, said_updates}
+use Rattle.ev_claims.specs.LocalRoutes.{LocalRoutes, entries, key_of, after_removal, after_removals}
+use Rattle.ev_claims.specs.Changes.{OwnChanges, Says, registers_in, after_originations, said_updates}
 use Rattle.ev_claims.proofs.Numbers.{key_or_other, own_same, own_other, own_stays}
 use Rattle.route_wire.proofs.Newer.{next_newer}
 use Rattle.ev_claims.proofs.Learnt.{size_gone, removal_there}
@@ -37,15 +38,15 @@ use Rattle.ev_claims.proofs.Changed.{nothing_changes, more_changes}
 
 -- ---- what the next number is newer than
 
--- no own value is of a later life, nor of this one with a number above the counter
-pub record IsBehind (e : Voice) : Type 0 where
+-- no own value is of a later incarnation, nor of this one with a number above the counter
+pub record IsBehind (e : Speaker) : Type 0 where
   pub past : (k : Key) (v : Value) → own e k ≡ Some v → v.incarnation ≤ e.incarnation
   pub counted : (k : Key) (v : Value) → own e k ≡ Some v → IsPresent e v → v.counter ≤ e.counter
 
-pub kept_behind : (e : Voice) → KeepsNumbers e → IsBehind e
+pub kept_behind : (e : Speaker) → KeepsNumbers e → IsBehind e
 kept_behind e h = record { past = h.past; counted = h.counted }
 
-said_behind : (e : Voice) (k : Key) (c : Content) → IsBehind e → IsBehind (after_saying e k c)
+said_behind : (e : Speaker) (k : Key) (c : Content) → IsBehind e → IsBehind (after_originating e k c)
 said_behind e k c h = record {
   past = λ j v is. elim (key_or_other j k) as (λ _. v.incarnation ≤ e.incarnation) [
     | inl same ↦ let life = ap (λ (q : Value). q.incarnation) (now j v same is) in omega (arith, life)
@@ -57,38 +58,39 @@ said_behind e k c h = record {
   ];
 }
   where
-    now : (j : Key) (v : Value) → j ≡ k → own (after_saying e k c) j ≡ Some v → next_value e c ≡ v
+    now : (j : Key) (v : Value) → j ≡ k → own (after_originating e k c) j ≡ Some v → next_value e c ≡ v
     now j v same is =
         let both : Some (next_value e c) ≡ Some v = sym (own_same e k c)
-        ∙ subst (λ q. own (after_saying e k c) q ≡ Some v) same is in
+        ∙ subst (λ q. own (after_originating e k c) q ≡ Some v) same is in
         cc
 
-    before : (j : Key) (v : Value) → j ≢ k → own (after_saying e k c) j ≡ Some v → own e j ≡ Some v
+    before : (j : Key) (v : Value) → j ≢ k → own (after_originating e k c) j ≡ Some v → own e j ≡ Some v
     before j v ne is = sym (own_other e k c j ne) ∙ is
 
 -- another's update changes no own value
-pub heard_behind : (e : Voice) (u : Fields) → u.register.originator ≢ e.address → IsBehind e
-    → IsBehind (after_hearing e u)
+pub heard_behind : (e : Speaker) (u : Fields) → u.register.originator ≢ e.address → IsBehind e
+    → IsBehind (after_importing e u)
 heard_behind e u other h = record {
   past = λ k v is. h.past k v (sym (own_stays e u other k) ∙ is);
   counted = λ k v is present. h.counted k v (sym (own_stays e u other k) ∙ is) present;
 }
 
 -- so what is said next is taken by the table
-joined : (e : Voice) (k : Key) (c : Content) → IsBehind e
-    → with_update e.table (record { register = own_register e k; value = next_value e c }) ≡ (after_saying e k c).table
-joined e k c h = ap (λ b. cond b (after_saying e k c).table e.table) (go (own e k) refl)
+joined : (e : Speaker) (k : Key) (c : Content) → IsBehind e
+    → with_update e.table (record { register = own_register e k; value = next_value e c })
+    ≡ (after_originating e k c).table
+joined e k c h = ap (λ b. cond b (after_originating e k c).table e.table) (go (own e k) refl)
   where
     go : (o : Option Value) → own e k ≡ o → is_news o (next_value e c) ≡ true
     go None is = refl
     go (Some v) is = next_newer v _ (h.past k v is) (λ same. let bound = h.counted k v is same in omega (arith, bound))
 
-sayings_join : (e : Voice) (ss : List (Key × Content)) → IsBehind e
-    → (after_sayings e ss).table ≡ with_updates e.table (said_updates e ss)
+sayings_join : (e : Speaker) (ss : List (Key × Content)) → IsBehind e
+    → (after_originations e ss).table ≡ with_updates e.table (said_updates e ss)
 sayings_join e [] h = refl
 sayings_join e (s ∷ ss) h =
-    sayings_join (after_saying e s.0 s.1) ss (said_behind e s.0 s.1 h)
-    ∙ ap (λ t. with_updates t (said_updates (after_saying e s.0 s.1) ss)) (sym (joined e s.0 s.1 h))
+    sayings_join (after_originating e s.0 s.1) ss (said_behind e s.0 s.1 h)
+    ∙ ap (λ t. with_updates t (said_updates (after_originating e s.0 s.1) ss)) (sym (joined e s.0 s.1 h))
 
 -- ---- no key twice
 
@@ -96,39 +98,40 @@ abbrev pub AreApart : List (Key × Content) → Type 0
 AreApart [] = Unit {0}
 AreApart (s ∷ ss) = ((i : ℕ) (t : Key × Content) → slice_get ss i ≡ Some t → t.0 ≢ s.0) × AreApart ss
 
-said_count : (e : Voice) (ss : List (Key × Content)) → length (said_updates e ss) ≡ length ss
+said_count : (e : Speaker) (ss : List (Key × Content)) → length (said_updates e ss) ≡ length ss
 said_count e [] = refl
-said_count e (s ∷ ss) = ap suc (said_count (after_saying e s.0 s.1) ss)
+said_count e (s ∷ ss) = ap suc (said_count (after_originating e s.0 s.1) ss)
 
 -- a register of which something is said is that of one of the keys
-said_of : (e : Voice) (ss : List (Key × Content)) (r : Register) → Contains (registers_in (said_updates e ss)) r
+said_of : (e : Speaker) (ss : List (Key × Content)) (r : Register) → Contains (registers_in (said_updates e ss)) r
     → (i : ℕ) × (t : Key × Content) × (slice_get ss i ≡ Some t) × (own_register e t.0 ≡ r)
 said_of e [] r (k, less, is) = absurd (omega (arith, less))
 said_of e (s ∷ ss) r (zero, less, is) = (0, s, refl, is)
-said_of e (s ∷ ss) r (suc k, less, is) = let h = said_of (after_saying e s.0 s.1) ss r (k, omega (arith, less), is) in
+said_of e (s ∷ ss) r (suc k, less, is) = let h = said_of (after_originating e s.0 s.1) ss r (k, omega (arith, less), is)
+    in
     (suc h.0, h.1, h.2, h.3)
 
-not_again : (e : Voice) (s : Key × Content) (ss : List (Key × Content)) → AreApart (s ∷ ss)
-    → Contains (registers_in (said_updates (after_saying e s.0 s.1) ss)) (own_register e s.0) → ⊥
-not_again e s ss apart in' = let h = said_of (after_saying e s.0 s.1) ss (own_register e s.0) in' in
+not_again : (e : Speaker) (s : Key × Content) (ss : List (Key × Content)) → AreApart (s ∷ ss)
+    → Contains (registers_in (said_updates (after_originating e s.0 s.1) ss)) (own_register e s.0) → ⊥
+not_again e s ss apart in' = let h = said_of (after_originating e s.0 s.1) ss (own_register e s.0) in' in
     apart.0 h.0 h.1 h.2 (ap (λ (r : Register). r.key) h.3)
 
-sayings_change : (e : Voice) (ss : List (Key × Content)) → AreApart ss
-    → OwnChanges e (after_sayings e ss) (registers_in (said_updates e ss))
+sayings_change : (e : Speaker) (ss : List (Key × Content)) → AreApart ss
+    → OwnChanges e (after_originations e ss) (registers_in (said_updates e ss))
 sayings_change e [] apart = nothing_changes e
 sayings_change e (s ∷ ss) apart =
-    more_changes e s.0 s.1 (after_sayings (after_saying e s.0 s.1) ss)
-    (registers_in (said_updates (after_saying e s.0 s.1) ss)) (not_again e s ss apart)
-    (sayings_change (after_saying e s.0 s.1) ss apart.1)
+    more_changes e s.0 s.1 (after_originations (after_originating e s.0 s.1) ss)
+    (registers_in (said_updates (after_originating e s.0 s.1) ss)) (not_again e s ss apart)
+    (sayings_change (after_originating e s.0 s.1) ss apart.1)
 
-sayings_numbered : (e : Voice) (ss : List (Key × Content)) → AreApart ss → (i : ℕ) (u : Fields)
-    → slice_get (said_updates e ss) i ≡ Some u → IsOwnAt (after_sayings e ss) (e.counter + (i + 1)) u
+sayings_numbered : (e : Speaker) (ss : List (Key × Content)) → AreApart ss → (i : ℕ) (u : Fields)
+    → slice_get (said_updates e ss) i ≡ Some u → IsOwnAt (after_originations e ss) (e.counter + (i + 1)) u
 sayings_numbered e [] apart i u at = cc
 sayings_numbered e (s ∷ ss) apart zero u at =
     let first : Fields = record { register = own_register e s.0; value = next_value e s.1 } in
     let same : first ≡ u = cc in
-    let rest = sayings_change (after_saying e s.0 s.1) ss apart.1 in
-    subst (λ q. IsOwnAt (after_sayings (after_saying e s.0 s.1) ss) (e.counter + (0 + 1)) q) same (record {
+    let rest = sayings_change (after_originating e s.0 s.1) ss apart.1 in
+    subst (λ q. IsOwnAt (after_originations (after_originating e s.0 s.1) ss) (e.counter + (0 + 1)) q) same (record {
       own = sym rest.address;
       there = rest.others (own_register e s.0) refl (not_again e s ss apart)
           ∙ at_same e.table (own_register e s.0) (next_value e s.1);
@@ -136,7 +139,7 @@ sayings_numbered e (s ∷ ss) apart zero u at =
       numbered = omega arith;
     })
 sayings_numbered e (s ∷ ss) apart (suc i) u at =
-    let later = sayings_numbered (after_saying e s.0 s.1) ss apart.1 i u at in
+    let later = sayings_numbered (after_originating e s.0 s.1) ss apart.1 i u at in
     record {
       own = later.own;
       there = later.there;
@@ -145,14 +148,14 @@ sayings_numbered e (s ∷ ss) apart (suc i) u at =
           omega (arith, is);
     }
 
-sayings_foreign : (e : Voice) (ss : List (Key × Content)) (r : Register) → r.originator ≢ e.address
-    → value_at (after_sayings e ss).table r ≡ value_at e.table r
+sayings_foreign : (e : Speaker) (ss : List (Key × Content)) (r : Register) → r.originator ≢ e.address
+    → value_at (after_originations e ss).table r ≡ value_at e.table r
 sayings_foreign e [] r ne = refl
-sayings_foreign e (s ∷ ss) r ne = sayings_foreign (after_saying e s.0 s.1) ss r ne
+sayings_foreign e (s ∷ ss) r ne = sayings_foreign (after_originating e s.0 s.1) ss r ne
     ∙ at_other e.table (own_register e s.0) (next_value e s.1) r (λ same. ne (ap (λ (q : Register). q.originator) same))
 
 -- whoever says these things, says them and no other
-pub says : (e new : Voice) (ss : List (Key × Content)) → new ≡ after_sayings e ss → AreApart ss → IsBehind e
+pub says : (e new : Speaker) (ss : List (Key × Content)) → new ≡ after_originations e ss → AreApart ss → IsBehind e
     → Says e new ss
 says e new ss is apart h = subst (λ v. Says e v ss) (sym is) (record {
   after = refl;
@@ -172,8 +175,8 @@ abbrev pub withdrawals : List Station → List (Key × Content)
 withdrawals [] = []
 withdrawals (s ∷ ss) = (key_of s, Withdrawn) ∷ withdrawals ss
 
-pub removals_say : (e : Claims) (ss : List Station) → (after_removals e ss).voice
-    ≡ after_sayings e.voice (withdrawals ss)
+pub removals_say : (e : LocalRoutes) (ss : List Station) → (after_removals e ss).speaker
+    ≡ after_originations e.speaker (withdrawals ss)
 removals_say e [] = refl
 removals_say e (s ∷ ss) = removals_say (after_removal e s) ss
 
@@ -208,7 +211,7 @@ withdrawals_apart [] once = tt
 withdrawals_apart (s ∷ ss) once = (not_withdrawn s ss once.0, withdrawals_apart ss once.1)
 
 -- as many are learnt fewer as go
-pub removals_size : (e : Claims) (ss : List Station) → AreOnce ss
+pub removals_size : (e : LocalRoutes) (ss : List Station) → AreOnce ss
     → ((s : Station) → stands ss s ≡ true → IsSome (entry_at e.learned s))
     → entries (after_removals e ss) + length ss ≡ entries e
 removals_size e [] once known = omega arith
@@ -230,9 +233,9 @@ removals_size e (s ∷ ss) once known =
 
 -- ---- the opening
 
-floods_say : (e : Voice) (vs : List ℕ) → after_floods e vs ≡ after_sayings e (floods_of vs)
+floods_say : (e : Speaker) (vs : List ℕ) → after_floods e vs ≡ after_originations e (floods_of vs)
 floods_say e [] = refl
-floods_say e (v ∷ vs) = floods_say (after_saying e (Flood v) (Advertised flood_advert)) vs
+floods_say e (v ∷ vs) = floods_say (after_originating e (Flood v) (Advertised flood_advert)) vs
 
 not_flooded : (v : ℕ) (vs : List ℕ) → AllByRecursion (λ w. eqb v w ≡ false) vs → (i : ℕ) (t : Key × Content)
     → slice_get (floods_of vs) i ≡ Some t → t.0 ≢ Flood v
@@ -272,9 +275,9 @@ silent_behind address incarnation originators = record {
     nothing k v is = let none = get-empty {X = Value} register_cmp
         (own_register (silent address incarnation originators) k) in let bad : None ≡ Some v = sym none ∙ is in cc
 
-pub opens : (s : Start) (e : Claims) → IsOpening s e → IsDistinct eqb s.vnis.items → Opens s e
+pub opens : (s : Start) (e : LocalRoutes) → IsOpening s e → IsDistinct eqb s.vnis.items → Opens s e
 opens s e h distinct = record {
-  says = says (silent s.address s.incarnation s.originators.items) e.voice (floods_of e.vnis) (h.voice
+  says = says (silent s.address s.incarnation s.originators.items) e.speaker (floods_of e.vnis) (h.speaker
       ∙ floods_say (silent s.address s.incarnation s.originators.items) e.vnis)
       (floods_apart e.vnis (IsDistinct-IsPermutation eqb flips s.vnis.items e.vnis h.vnis distinct))
       (silent_behind s.address s.incarnation s.originators.items);

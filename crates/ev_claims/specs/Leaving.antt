@@ -6,7 +6,7 @@ use Rattle.mac_arena.specs.Learning.{Learning}
 use Rattle.mac_arena.specs.Laws.{is_due, due_in as taken_by_age, unpinned_on}
 use Rattle.mac_arena.specs.ListsName.{ages}
 use Rattle.ether_wire.specs.Ports.{has_port, ports_of}
-use Rattle.ev_claims.specs.Claims.{Claims, after_removals}
+use Rattle.ev_claims.specs.LocalRoutes.{LocalRoutes, after_removals}
 
 -- ---- by age
 
@@ -14,7 +14,7 @@ use Rattle.ev_claims.specs.Claims.{Claims, after_removals}
 abbrev pub due_in : Learning → ℕ → List Station
 due_in t limit = taken_by_age t limit
 
-abbrev pub after_ageing : Claims → ℕ → Claims
+abbrev pub after_ageing : LocalRoutes → ℕ → LocalRoutes
 after_ageing e limit = after_removals e (due_in e.learned limit)
 
 -- ---- by port
@@ -32,7 +32,7 @@ flushed_at t (port ∷ ports) = unpinned_on t port ++ flushed_at t ports
 abbrev pub flushed_in : Learning → ℕ → List Station
 flushed_in t set = flushed_at t (ports_of set)
 
-abbrev pub after_flush : Claims → ℕ → Claims
+abbrev pub after_flush : LocalRoutes → ℕ → LocalRoutes
 after_flush e set = after_removals e (flushed_in e.learned set)
 
 -- ---- the same by a test on each entry

@@ -1,6 +1,6 @@
 pub mod Pending
-pub mod Voice
-pub mod Claims
+pub mod Speaker
+pub mod LocalRoutes
 pub mod Leaving
 pub mod Opening
 pub mod Changes

@@ -1,16 +1,16 @@
-//! What an edge says and has learnt: its own routes with their numbers, the stations behind its
-//! ports, and that each names the other.
+//! What an edge originates and has learnt: its own routes with their numbers, the stations behind
+//! its ports, and that each names the other.
 #![tactic(auto)]
 
-mod claims;
 mod laws;
-mod named;
+mod local_routes;
 mod opening;
 mod pending;
+mod register_key;
+mod speaker;
 #[cfg(test)]
 mod tests;
-mod voice;
 
-pub use claims::{Claims, Heard, OwnError};
-pub use laws::{aged_out, flushed_out, opening_says};
+pub use laws::{aged_out, flushed_out, opening_originates};
+pub use local_routes::{Imported, LocalRoutes, OwnError};
 pub use opening::Start;

@@ -7,7 +7,7 @@ use ether_wire::{Addr, Vni};
 pub struct Start {
     /// The address under which the edge speaks. It is one of the originators.
     pub address: Addr,
-    /// Which life of this originator begins, from 0.
+    /// Which incarnation of this originator begins, from 0.
     pub incarnation: u32,
     /// The originators that the edge listens to, which all differ.
     pub originators: ArrayVec<Addr, 64>,

@@ -3,7 +3,7 @@ ghost use Rattle.std.specs.Prelude.{◌≡◌, ◌++◌, ◌∷◌, [], ℕ, ◌
 ghost use Rattle.idx_links.specs.Families.{lists_of};
 ghost use Rattle.ev_claims.specs.Pending.{marked};
 
-use crate::named::Named;
+use crate::register_key::RegisterKey;
 use idx_links::Family;
 use route_wire::Register;
 use std::alloc::{AllocError, Global};
@@ -16,8 +16,8 @@ use std::marker::Model;
 #[derive(Drop)]
 pub struct Pending {
     links: Family<1>,
-    registers: Vec<Named>,
-    nodes: BTreeMap<Named, usize>,
+    registers: Vec<RegisterKey>,
+    nodes: BTreeMap<RegisterKey, usize>,
     room: usize,
     marks: Vec<usize>,
 }
@@ -60,17 +60,21 @@ impl Pending {
         ensures kept { (r : Register) → Contains self.old.known r → Contains self.new.known r }
         ensures err { OnErr result (self.new ≡ self.old) }
     {
-        if let Some(_node) = self.nodes.get(&Named::new(*register)) {
+        if let Some(_node) = self.nodes.get(&RegisterKey::new(*register)) {
             return Ok(());
         }
         let registers = self.registers.as_slice();
         let node = registers.len();
         self.registers.reserve(1)?;
         spare_node(&mut self.links, &mut self.room, node)?;
-        if self.nodes.insert(Named::new(*register), node).is_err() {
+        if self
+            .nodes
+            .insert(RegisterKey::new(*register), node)
+            .is_err()
+        {
             return Err(AllocError);
         }
-        self.registers.push_reserved(Named::new(*register));
+        self.registers.push_reserved(RegisterKey::new(*register));
         Ok(())
     }
 
@@ -80,7 +84,7 @@ impl Pending {
         requires { Contains self.old.known register }
         ensures { self.new ≡ record self.old { waiting = marked self.old.waiting register } }
     {
-        let Some(node) = self.nodes.get(&Named::new(register)) else {
+        let Some(node) = self.nodes.get(&RegisterKey::new(register)) else {
             return
         };
         let node = *node;

@@ -7,27 +7,27 @@ mod memory;
 mod steps;
 mod updates;
 
-use crate::{Claims, Start};
+use crate::{LocalRoutes, Start};
 use arrayvec::ArrayVec;
 use ether_wire::{Addr, Mac, Vni};
 use mac_arena::{Entry, Station};
 use route_wire::{Advert, Content, Key, Register, Update, Value};
 use std::alloc::{AllocError, Global};
 
-/// What an edge claims, and the greatest second at which it learnt.
+/// An edge's local routes, and the greatest second at which it learnt.
 #[derive(Drop)]
 struct Edge {
-    claims: Claims,
+    routes: LocalRoutes,
     now: u64,
-    ghost latest: { IsLatest claims.learned now },
+    ghost latest: { IsLatest routes.learned now },
 }
 
 impl Edge {
     /// The edge 10.0.0.2, by the first try that isn't refused memory.
     fn made(alloc: Global, incarnation: u32, both: bool) -> Option<Edge> {
         for _ in 0..60 {
-            if let Ok(claims) = opened(alloc, incarnation, both) {
-                return Some(Edge { claims, now: 0 });
+            if let Ok(routes) = opened(alloc, incarnation, both) {
+                return Some(Edge { routes, now: 0 });
             }
         }
         None
@@ -42,17 +42,17 @@ impl Edge {
         sequence: u32,
     ) -> Option<bool> {
         if station.mac.is_group()
-            || self.claims.vni_of(port) != Some(station.vni)
-            || self.claims.look(&station).is_some()
-            || self.claims.is_full()
-            || self.claims.counter() >= 0x8000_0000_0000_0000
+            || self.routes.vni_of(port) != Some(station.vni)
+            || self.routes.look(&station).is_some()
+            || self.routes.is_full()
+            || self.routes.counter() >= 0x8000_0000_0000_0000
             || second < self.now
         {
             return None;
         }
         self.now = second;
         Some(
-            self.claims
+            self.routes
                 .advertise(&station, port, second, sequence)
                 .is_ok(),
         )
@@ -60,21 +60,21 @@ impl Edge {
 
     /// Whether a station that is learnt and not pinned could be heard again.
     fn refresh(&mut self, station: Station, port: u8, second: u64) -> bool {
-        let Some(entry) = self.claims.look(&station) else {
+        let Some(entry) = self.routes.look(&station) else {
             return false
         };
-        if entry.pinned || self.claims.vni_of(port) != Some(station.vni) || second < self.now {
+        if entry.pinned || self.routes.vni_of(port) != Some(station.vni) || second < self.now {
             return false;
         }
         self.now = second;
-        self.claims.refresh(&station, port, second);
+        self.routes.refresh(&station, port, second);
         true
     }
 
     /// A station is learnt, or heard again; false where that isn't possible.
     fn teach(&mut self, lesson: &Lesson) -> bool {
         let station = station(lesson.name);
-        if self.claims.look(&station).is_some() {
+        if self.routes.look(&station).is_some() {
             return self.refresh(station, lesson.port, lesson.second);
         }
         self.advertise(station, lesson.port, lesson.second, lesson.sequence) == Some(true)
@@ -128,7 +128,7 @@ fn networks(both: bool) -> ArrayVec<Vni, 64> {
     networks
 }
 
-fn opened(alloc: Global, incarnation: u32, both: bool) -> Result<Claims, AllocError>
+fn opened(alloc: Global, incarnation: u32, both: bool) -> Result<LocalRoutes, AllocError>
     ensures { IfOk result (λ c. IsLatest c.learned 0) }
 {
     let start = Start {
@@ -141,7 +141,7 @@ fn opened(alloc: Global, incarnation: u32, both: bool) -> Result<Claims, AllocEr
         buckets: 4,
         salt: 0,
     };
-    Claims::open(alloc, start)
+    LocalRoutes::open(alloc, start)
 }
 
 /// The network 500N.
@@ -246,16 +246,16 @@ impl Said {
 }
 
 /// What the table says of a station under the edge's name.
-fn says(claims: &Claims, name: Name) -> Option<Update> {
-    claims.table().register(claims.address(), key_of(name))
+fn says(routes: &LocalRoutes, name: Name) -> Option<Update> {
+    routes.table().register(routes.address(), key_of(name))
 }
 
 /// Whether a station is learnt or pinned on the port, and when it was heard last.
-fn knows(claims: &Claims, name: Name, port: u8, last: u64, pinned: bool) -> bool {
-    claims.look(&station(name)) == Some(Entry { port, last, pinned })
+fn knows(routes: &LocalRoutes, name: Name, port: u8, last: u64, pinned: bool) -> bool {
+    routes.look(&station(name)) == Some(Entry { port, last, pinned })
 }
 
 /// Whether a station isn't known.
-fn knows_not(claims: &Claims, name: Name) -> bool {
-    claims.look(&station(name)).is_none()
+fn knows_not(routes: &LocalRoutes, name: Name) -> bool {
+    routes.look(&station(name)).is_none()
 }

@@ -5,7 +5,7 @@ use Rattle.toml.specs.Data.{Items, no_items, item, Members, as_table}
 use Rattle.toml.specs.Parse.{parse_document}
 use Rattle.arrayvec.specs.ArrayVec.{ArrayVec}
 use Rattle.ev_edge.specs.declared.config.EdgeConfig.{EdgeConfig}
-use Rattle.ev_config.specs.declared.endpoint.Link.{Link}
+use Rattle.ev_config.specs.declared.endpoint.PortEndpoints.{PortEndpoints}
 use Rattle.ev_config.specs.declared.edge.Described.{Described}
 use Rattle.ev_config.specs.declared.edges.Edges as code
 use Rattle.ev_config.specs.declared.whole.Config.{Config}
@@ -19,7 +19,7 @@ pub record Edges : Type 0 where
   pub addresses : List ℕ
   pub bridges : List ℕ
   pub configs : List EdgeConfig
-  pub links : List (ArrayVec Link)
+  pub links : List (ArrayVec PortEndpoints)
 
 abbrev pub no_edges : Edges
 no_edges = record { addresses = []; bridges = []; configs = []; links = [] }
@@ -54,7 +54,7 @@ listening addresses c = record c { originators = record { items = addresses } }
 
 -- each edge, told of all edges' addresses, and the links of each one's ports
 abbrev pub Whole : Type 0
-Whole = List EdgeConfig × List (ArrayVec Link)
+Whole = List EdgeConfig × List (ArrayVec PortEndpoints)
 
 abbrev pub whole_of : Edges → Whole
 whole_of edges = (map (listening edges.addresses) edges.configs, edges.links)

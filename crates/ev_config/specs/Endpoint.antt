@@ -1,6 +1,6 @@
 -- A UDP endpoint as text.
 use Rattle.std.specs.Prelude.{ℕ, List, Option, Some}
-use Rattle.ether_wire.specs.Spelling.{◌>>=◌, parted, addr_of_text, decimal_of_text}
+use Rattle.ether_wire.specs.Parse.{◌>>=◌, parted, addr_of_text, decimal_of_text}
 use Rattle.ev_config.specs.declared.endpoint.Endpoint.{Endpoint}
 
 -- an IPv4 address, a colon (58), a UDP port

@@ -5,8 +5,8 @@ use Rattle.std.specs.Str.{bytes_eq}
 use Rattle.std.specs.List.{list_any}
 use Rattle.toml.specs.Data.{Data, Items, no_items, item, Members, no_members, member, get_member, as_integer, as_bool}
 use Rattle.toml.specs.Data.{as_str, as_array, as_table}
-use Rattle.ether_wire.specs.Names.{is_group}
-use Rattle.ether_wire.specs.Spelling.{addr_of_text, mac_of_text}
+use Rattle.ether_wire.specs.Addr.{is_group}
+use Rattle.ether_wire.specs.Parse.{addr_of_text, mac_of_text}
 use Rattle.ev_config.specs.declared.endpoint.Endpoint.{Endpoint}
 use Rattle.ev_config.specs.Endpoint.{endpoint_of_text}
 use Rattle.ev_config.specs.declared.keys.Fault.{Fault}

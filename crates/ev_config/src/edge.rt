@@ -6,7 +6,7 @@ ghost use Rattle.ev_config.specs.Keys.{Gives, required, addr_in, bridge_in, new_
 ghost use Rattle.ev_config.specs.Fitting.{Fits};
 ghost use Rattle.ev_config.specs.ConfigEdge.{names_of, tree_of, limits_of, related, edge_from, edge_of};
 
-use crate::endpoint::Link;
+use crate::endpoint::PortEndpoints;
 use crate::keys::{Fault, addr_in, bridge_in, number, only, steps, tables_at, value_at, vnis_at};
 use crate::port::{Ports, ports_of};
 use arrayvec::ArrayVec;
@@ -56,7 +56,7 @@ pub(crate) struct Limits {
     pub(crate) buckets: u64,
     /// What keeps a stranger from choosing the buckets.
     pub(crate) salt: u64,
-    /// Which life of the originator begins.
+    /// Which incarnation of the originator begins.
     pub(crate) incarnation: u64,
 }
 
@@ -68,7 +68,7 @@ pub(crate) struct Described {
     /// What it is opened with.
     pub(crate) config: EdgeConfig,
     /// Where its ports' frames go and come from.
-    pub(crate) links: ArrayVec<Link, 64>,
+    pub(crate) links: ArrayVec<PortEndpoints, 64>,
 }
 
 /// Whether the address is one of these.

@@ -8,7 +8,7 @@ ghost use Rattle.ev_config.specs.Keys.{Gives};
 ghost use Rattle.ev_config.specs.Config.{no_edges, with_edge, edges_view, edges_from, listening, whole_of, config_in, view_of};
 
 use crate::edge::{Described, edge_of};
-use crate::endpoint::Link;
+use crate::endpoint::PortEndpoints;
 use crate::keys::{Fault, only, tables_at};
 use crate::whole::Config;
 use arrayvec::ArrayVec;
@@ -27,7 +27,7 @@ struct Edges {
     addresses: ArrayVec<Addr, 64>,
     bridges: ArrayVec<Mac, 64>,
     configs: Vec<EdgeConfig>,
-    links: Vec<ArrayVec<Link, 64>>,
+    links: Vec<ArrayVec<PortEndpoints, 64>>,
 }
 
 /// One edge more.

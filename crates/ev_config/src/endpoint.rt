@@ -1,6 +1,6 @@
 //! Where a port's frames go and come from.
 ghost use Rattle.std.specs.Prelude.{◌≡◌, Some};
-ghost use Rattle.ether_wire.specs.Spelling.{decimal_of_text};
+ghost use Rattle.ether_wire.specs.Parse.{decimal_of_text};
 ghost use Rattle.ev_config.specs.Endpoint.{endpoint_of_text};
 
 use ether_wire::{Addr, parted, read_decimal};
@@ -16,7 +16,7 @@ pub struct Endpoint {
 
 /// The two ends of the link that stands for a port's cable.
 #[derive(Clone, Copy, Debug, Default, PartialEq, Eq)]
-pub struct Link {
+pub struct PortEndpoints {
     /// Where the port's frames are taken.
     pub local: Option<Endpoint>,
     /// Where they are sent.

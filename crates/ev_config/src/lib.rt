@@ -13,5 +13,5 @@ mod whole;
 
 pub use advice::{Line, refusal_line, summary_line};
 pub use config::{ConfigRefusal, config_of};
-pub use endpoint::{Endpoint, Link};
+pub use endpoint::{Endpoint, PortEndpoints};
 pub use whole::Config;

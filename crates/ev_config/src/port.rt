@@ -6,7 +6,7 @@ ghost use Rattle.ev_edge.specs.Config.{vnis_of};
 ghost use Rattle.ev_config.specs.Fitting.{AreServed};
 ghost use Rattle.ev_config.specs.ConfigPort.{endpoint_of, port_of, no_ports, with_port, ports_from};
 
-use crate::endpoint::{Endpoint, Link};
+use crate::endpoint::{Endpoint, PortEndpoints};
 use crate::keys::{Fault, endpoint_in, flag, has_vni, number, only, steps, value_at, vni_in};
 use arrayvec::ArrayVec;
 use ether_wire::Vni;
@@ -33,7 +33,7 @@ pub(crate) struct Port {
     /// What the edge is opened with.
     pub(crate) config: PortConfig,
     /// Where its frames go and come from.
-    pub(crate) link: Link,
+    pub(crate) link: PortEndpoints,
 }
 
 /// The ports of an edge, port 1 first.
@@ -42,7 +42,7 @@ pub(crate) struct Ports {
     /// What the edge is opened with.
     pub(crate) configs: ArrayVec<PortConfig, 64>,
     /// Where their frames go and come from.
-    pub(crate) links: ArrayVec<Link, 64>,
+    pub(crate) links: ArrayVec<PortEndpoints, 64>,
 }
 
 /// The network of the port, one of the edge's.
@@ -102,7 +102,7 @@ pub(crate) fn port_of<'a>(for_run: bool, vnis: &[Vni], table: &'a Table) -> Resu
     };
     Ok(Port {
         config: PortConfig { vni, settings },
-        link: Link { local, remote },
+        link: PortEndpoints { local, remote },
     })
 }
 
@@ -116,9 +116,9 @@ fn add_port(ports: &mut Ports, port: Port)
     ensures served { (vnis : List ℕ) → AreServed (vnis_of ports.old.configs.items) vnis →
         Contains vnis port.config.vni → AreServed (vnis_of ports.new.configs.items) vnis }
 {
-    let Link { local, remote } = port.link;
+    let PortEndpoints { local, remote } = port.link;
     ports.configs.push(port.config);
-    ports.links.push(Link { local, remote });
+    ports.links.push(PortEndpoints { local, remote });
 }
 
 /// The ports of these tables.

@@ -1,7 +1,7 @@
 //! What a document describes, whole.
 ghost use Rattle.std.specs.Prelude.{◌≡◌, vec_len};
 
-use crate::endpoint::Link;
+use crate::endpoint::PortEndpoints;
 use arrayvec::ArrayVec;
 use ev_edge::EdgeConfig;
 
@@ -11,6 +11,6 @@ pub struct Config {
     /// What each edge is opened with. Each listens to all.
     pub edges: Vec<EdgeConfig>,
     /// For each edge, where its ports' frames go and come from.
-    pub links: Vec<ArrayVec<Link, 64>>,
+    pub links: Vec<ArrayVec<PortEndpoints, 64>>,
     ghost each: { vec_len links ≡ vec_len edges },
 }

@@ -6,8 +6,8 @@ use Rattle.route_wire.specs.declared.update.Advert.{Advert}
 use Rattle.mac_arena.specs.declared.station.Station.{Station}
 use Rattle.mac_arena.specs.declared.station.Entry.{Entry}
 use Rattle.mac_arena.specs.Learning.{entry_at}
-use Rattle.ev_claims.specs.Voice.{own_advert}
-use Rattle.ev_claims.specs.Claims.{key_of}
+use Rattle.ev_claims.specs.Speaker.{own_advert}
+use Rattle.ev_claims.specs.LocalRoutes.{key_of}
 use Rattle.ev_edge.specs.Edge.{Edge, IsGoodEdge}
 use Rattle.ev_edge.specs.Laws.{AdvertisesItsOwn}
 
@@ -26,11 +26,11 @@ both (Some x) (Some a) same = (λ p. refl, λ p. refl)
 pub advertises_own : (e : Edge) → IsGoodEdge e → AdvertisesItsOwn e
 advertises_own e h = record {
   learnt = names;
-  pinned = λ s x a at said. (let same : Some x.pinned ≡ Some a.is_static = ap pins (sym at) ∙ h.claims.claims.kinds s
+  pinned = λ s x a at said. (let same : Some x.pinned ≡ Some a.is_static = ap pins (sym at) ∙ h.routes.routes.kinds s
       ∙ ap fixes said in cc);
-  bare = h.claims.claims.bare;
+  bare = h.routes.routes.bare;
   owned = λ s there. h.keeps.owns s ((names s).0 there);
 }
   where
-    names : (s : Station) → IsSome (entry_at e.claims.learned s) ↔ IsSome (own_advert e.claims.voice (key_of s))
-    names s = both (entry_at e.claims.learned s) (own_advert e.claims.voice (key_of s)) (h.claims.claims.kinds s)
+    names : (s : Station) → IsSome (entry_at e.routes.learned s) ↔ IsSome (own_advert e.routes.speaker (key_of s))
+    names s = both (entry_at e.routes.learned s) (own_advert e.routes.speaker (key_of s)) (h.routes.routes.kinds s)

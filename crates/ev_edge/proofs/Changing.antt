@@ -3,7 +3,7 @@ use Rattle.std.proofs.Common.{◌≡◌, ◌≢◌, inl, inr, ℕ, suc, ◌+◌,
 use Rattle.std.proofs.Common.{None, Result, Ok, Err, List, [], ◌∷◌, length, refl, sym, ap, subst, ◌∙◌, arith}
 use Rattle.std.specs.Prelude.{nat_le, not, ◌&&◌}
 use Rattle.std.proofs.lemmas.Bool.Decides.{nat_tests}
-use Rattle.ether_wire.specs.Names.{is_group}
+use Rattle.ether_wire.specs.Addr.{is_group}
 use Rattle.route_wire.specs.declared.update.Key.{Key}
 use Rattle.route_wire.specs.declared.update.Key.TheVariants.{Flood, Mac}
 use Rattle.route_wire.specs.declared.update.Content.{Content}
@@ -16,12 +16,13 @@ use Rattle.mac_arena.specs.declared.station.Station.{Station}
 use Rattle.mac_arena.specs.Learning.{entry_at, is_pinned}
 use Rattle.ev_mobility.specs.declared.alert.Alert.{Alert}
 use Rattle.rstp_run.specs.declared.event.Event as tree
-use Rattle.ev_claims.specs.Voice.{Voice, KeepsNumbers, own, is_newest, is_ahead, is_returning, after_saying}
-use Rattle.ev_claims.specs.Voice.{after_hearing, after_announcing}
-use Rattle.ev_claims.specs.Claims.{Claims, entries, key_of, moving, fixed, vni_at, is_lost, after_removal, after_update}
-use Rattle.ev_claims.specs.Claims.{after_losing}
+use Rattle.ev_claims.specs.Speaker.{Speaker, KeepsNumbers, own, is_newest, is_ahead, is_returning, after_originating}
+use Rattle.ev_claims.specs.Speaker.{after_importing, after_announcing}
+use Rattle.ev_claims.specs.LocalRoutes.{LocalRoutes, entries, key_of, moving, fixed, vni_at, is_lost, after_removal}
+use Rattle.ev_claims.specs.LocalRoutes.{after_update}
+use Rattle.ev_claims.specs.LocalRoutes.{after_losing}
 use Rattle.ev_claims.specs.Leaving.{after_flush, after_ageing}
-use Rattle.ev_claims.specs.Changes.{Says, after_sayings, said_updates, registers_in}
+use Rattle.ev_claims.specs.Changes.{Says, after_originations, said_updates, registers_in}
 use Rattle.ev_claims.specs.Opening.{Opens}
 use Rattle.ev_claims.proofs.Hearing.{past_if_newest, there_now, elsewhere, unheard}
 use Rattle.ev_claims.proofs.Numbers.{key_or_other}
@@ -52,62 +53,62 @@ use Rattle.ev_edge.specs.Steps.{TakesOther, TakesOwn, Pins}
 use Rattle.ev_edge.specs.Changes.{Changes, accepted, heard, heard_in}
 
 -- what is said from a base on
-record Saying (base : Voice) (e e' : Edge) : Type 0 where
+record Saying (base : Speaker) (e e' : Edge) : Type 0 where
   pub said : List (Key × Content)
-  pub few : length said ≤ entries e.claims + 1
-  pub after : e'.claims.voice ≡ after_sayings base said
+  pub few : length said ≤ entries e.routes + 1
+  pub after : e'.routes.speaker ≡ after_originations base said
   pub apart : AreApart said
 
-nothing_said : (base : Voice) (e e' : Edge) → e'.claims.voice ≡ base → Saying base e e'
+nothing_said : (base : Speaker) (e e' : Edge) → e'.routes.speaker ≡ base → Saying base e e'
 nothing_said base e e' is = record { said = []; few = omega arith; after = is; apart = tt }
 
-same : (e e' : Edge) → e' ≡ e → Saying e.claims.voice e e'
-same e e' is = nothing_said e.claims.voice e e' (ap (λ (x : Edge). x.claims.voice) is)
+same : (e e' : Edge) → e' ≡ e → Saying e.routes.speaker e e'
+same e e' is = nothing_said e.routes.speaker e e' (ap (λ (x : Edge). x.routes.speaker) is)
 
-one_said : (base : Voice) (e e' : Edge) (k : Key) (c : Content) → e'.claims.voice ≡ after_saying base k c
+one_said : (base : Speaker) (e e' : Edge) (k : Key) (c : Content) → e'.routes.speaker ≡ after_originating base k c
     → Saying base e e'
 one_said base e e' k c is = record { said = (k, c) ∷ []; few = omega arith; after = is; apart = one_apart k c }
 
-left_behind : (e e' : Edge) (d : Claims) → e'.claims ≡ d → Leaves e.claims d → Saying e.claims.voice e e'
+left_behind : (e e' : Edge) (d : LocalRoutes) → e'.routes ≡ d → Leaves e.routes d → Saying e.routes.speaker e e'
 left_behind e e' d is h = record {
   said = withdrawals h.stations;
   few = let count = withdrawals_count h.stations in let few = h.few in omega (arith, count, few);
-  after = ap (λ (c : Claims). c.voice) (is ∙ h.are) ∙ removals_say e.claims h.stations;
+  after = ap (λ (c : LocalRoutes). c.speaker) (is ∙ h.are) ∙ removals_say e.routes h.stations;
   apart = withdrawals_apart h.stations h.once;
 }
 
 -- ---- frames
 
 learn_says : (e : Edge) (s : Station) (port : ℕ) (told : Option Alert) (e' : Edge) (c : Case) → Does c e s port told e'
-    → Saying e.claims.voice e e'
+    → Saying e.routes.speaker e e'
 learn_says e s port told e' Leave h = same e e' h.1
-learn_says e s port told e' Refresh h = nothing_said e.claims.voice e e' (ap (λ (x : Edge). x.claims.voice) h.1)
+learn_says e s port told e' Refresh h = nothing_said e.routes.speaker e e' (ap (λ (x : Edge). x.routes.speaker) h.1)
 learn_says e s port told e' (Refuse alert) h = same e e' h.1
 learn_says e s port told e' Freeze h =
-    nothing_said e.claims.voice e e' (ap (λ (x : Edge). x.claims.voice) h.1)
-learn_says e s port told e' (Learn n) h = elim h as (λ _. Saying e.claims.voice e e') [
-  | inl done ↦ one_said e.claims.voice e e' (key_of s) (moving n) (ap (λ (x : Edge). x.claims.voice) done.1)
+    nothing_said e.routes.speaker e e' (ap (λ (x : Edge). x.routes.speaker) h.1)
+learn_says e s port told e' (Learn n) h = elim h as (λ _. Saying e.routes.speaker e e') [
+  | inl done ↦ one_said e.routes.speaker e e' (key_of s) (moving n) (ap (λ (x : Edge). x.routes.speaker) done.1)
   | inr refused ↦ same e e' refused.1
 ]
 
 learnt_if : (e : Edge) (s : Station) (port : ℕ) (told : Option Alert) (e' : Edge) (b : Bool)
-    → LearnsIf b e s port told e' → Saying e.claims.voice e e'
+    → LearnsIf b e s port told e' → Saying e.routes.speaker e e'
 learnt_if e s port told e' true h = learn_says e s port told e' (case_of e s) h
 learnt_if e s port told e' false h = same e e' h.1
 
 bridge_says : (event : tree.Event) (e : Edge) (result : Result Reply Refusal) (e' : Edge) → IsGoodEdge e
-    → Bridges event e result e' → Saying e.claims.voice e e'
-bridge_says event e (Ok reply) e' good h = left_behind e e' (after_flush e.claims h.flush)
-    (ap (λ (x : Edge). x.claims) h.after) (flush_leaves e.claims h.flush good.claims)
+    → Bridges event e result e' → Saying e.routes.speaker e e'
+bridge_says event e (Ok reply) e' good h = left_behind e e' (after_flush e.routes h.flush)
+    (ap (λ (x : Edge). x.routes) h.after) (flush_leaves e.routes h.flush good.routes)
 bridge_says event e (Err r) e' good h = absurd h
 
 bridge_at : (vni : Option ℕ) (event : tree.Event) (e : Edge) (result : Result Reply Refusal) (e' : Edge) → IsGoodEdge e
-    → BridgesAt vni event e result e' → Saying e.claims.voice e e'
+    → BridgesAt vni event e result e' → Saying e.routes.speaker e e'
 bridge_at None event e result e' good h = same e e' h.1
 bridge_at (Some vni) event e result e' good h = bridge_says event e result e' good h
 
 frame_says : (arrival : Result Arrival Refusal) (e : Edge) (port : ℕ) (result : Result Reply Refusal) (e' : Edge)
-    → IsGoodEdge e → FrameSteps arrival e port result e' → Saying e.claims.voice e e'
+    → IsGoodEdge e → FrameSteps arrival e port result e' → Saying e.routes.speaker e e'
 frame_says (Err r) e port result e' good h = same e e' h.1
 frame_says (Ok Dropped) e port result e' good h = same e e' h.1
 frame_says (Ok (Message b)) e port result e' good h = bridge_says _ e result e' good h
@@ -117,7 +118,7 @@ frame_says (Ok (Data vni destination source)) e port (Ok reply) e' good h =
 frame_says (Ok (Data vni destination source)) e port (Err r) e' good h = absurd h
 
 tunnel_says : (arrival : Result Arrival Refusal) (e : Edge) (result : Result Reply Refusal) (e' : Edge)
-    → TunnelSteps arrival e result e' → Saying e.claims.voice e e'
+    → TunnelSteps arrival e result e' → Saying e.routes.speaker e e'
 tunnel_says (Err r) e result e' h = same e e' h.1
 tunnel_says (Ok Dropped) e result e' h = same e e' h.1
 tunnel_says (Ok (Message b)) e result e' h = absurd h
@@ -127,75 +128,76 @@ tunnel_says (Ok (Data vni destination source)) e (Err r) e' h = absurd h
 -- ---- seconds, pins
 
 second_says : (e : Edge) (result : Result Reply Refusal) (e' : Edge) → IsGoodEdge e → Seconds e result e'
-    → Saying e.claims.voice e e'
+    → Saying e.routes.speaker e e'
 second_says e (Err r) e' good h = absurd h
-second_says e (Ok reply) e' good h = left_behind e e' (aged (after_flush e.claims h.flush) e.ageing
-    (next_second e.clock)) (ap (λ (x : Edge). x.claims) h.after) (go (nat_le e.ageing (next_second e.clock)))
+second_says e (Ok reply) e' good h = left_behind e e' (aged (after_flush e.routes h.flush) e.ageing
+    (next_second e.clock)) (ap (λ (x : Edge). x.routes) h.after) (go (nat_le e.ageing (next_second e.clock)))
   where
-    go : (b : Bool) → Leaves e.claims (cond b (after_ageing (after_flush e.claims h.flush)
-        (next_second e.clock - e.ageing)) (after_flush e.claims h.flush))
-    go true = second_leaves e.claims h.flush (next_second e.clock - e.ageing) good.claims
-    go false = flush_leaves e.claims h.flush good.claims
+    go : (b : Bool) → Leaves e.routes (cond b (after_ageing (after_flush e.routes h.flush)
+        (next_second e.clock - e.ageing)) (after_flush e.routes h.flush))
+    go true = second_leaves e.routes h.flush (next_second e.clock - e.ageing) good.routes
+    go false = flush_leaves e.routes h.flush good.routes
 
 pin_says : (e : Edge) (s : Station) (port : ℕ) (told : Option Alert) (e' : Edge) (c : PinCase)
-    → DoesPin c e s port told e' → Saying e.claims.voice e e'
+    → DoesPin c e s port told e' → Saying e.routes.speaker e e'
 pin_says e s port told e' Keep h = same e e' h.1
-pin_says e s port told e' Shift h = nothing_said e.claims.voice e e' (ap (λ (x : Edge). x.claims.voice) h.1)
+pin_says e s port told e' Shift h = nothing_said e.routes.speaker e e' (ap (λ (x : Edge). x.routes.speaker) h.1)
 pin_says e s port told e' (Deny alert) h = same e e' h.1
-pin_says e s port told e' Pin h = elim h as (λ _. Saying e.claims.voice e e') [
-  | inl done ↦ one_said e.claims.voice e e' (key_of s) fixed (ap (λ (x : Edge). x.claims.voice) done.1)
+pin_says e s port told e' Pin h = elim h as (λ _. Saying e.routes.speaker e e') [
+  | inl done ↦ one_said e.routes.speaker e e' (key_of s) fixed (ap (λ (x : Edge). x.routes.speaker) done.1)
   | inr refused ↦ same e e' refused.1
 ]
 
 pins_say : (refused : Option EdgeRefusal) (e : Edge) (s : Station) (port : ℕ) (result : Result Reply Refusal)
-    (e' : Edge) → Pins refused e s port result e' → Saying e.claims.voice e e'
+    (e' : Edge) → Pins refused e s port result e' → Saying e.routes.speaker e e'
 pins_say (Some r) e s port result e' h = same e e' h.1
 pins_say None e s port (Ok reply) e' h = pin_says e s port reply.alert e' (pin_case e s port) h.0
 pins_say None e s port (Err r) e' h = absurd h
 
-unpin_says : (e : Edge) (s : Station) (e' : Edge) → e' ≡ after_unpin e s → Saying e.claims.voice e e'
-unpin_says e s e' is = go (is_pinned (entry_at e.claims.learned s)) is
+unpin_says : (e : Edge) (s : Station) (e' : Edge) → e' ≡ after_unpin e s → Saying e.routes.speaker e e'
+unpin_says e s e' is = go (is_pinned (entry_at e.routes.learned s)) is
   where
-    go : (b : Bool) → e' ≡ cond b (record e { claims = after_removal e.claims s }) e → Saying e.claims.voice e e'
-    go true is = one_said e.claims.voice e e' (key_of s) Withdrawn (ap (λ (x : Edge). x.claims.voice) is)
+    go : (b : Bool) → e' ≡ cond b (record e { routes = after_removal e.routes s }) e → Saying e.routes.speaker e e'
+    go true is = one_said e.routes.speaker e e' (key_of s) Withdrawn (ap (λ (x : Edge). x.routes.speaker) is)
     go false is = same e e' is
 
 -- ---- updates
 
-taken_says : (e : Edge) (u : Fields) (e' : Edge) (k : Key) → e'.claims ≡ after_losing (after_update e.claims u) k
-    → Saying (after_hearing e.claims.voice u) e e'
-taken_says e u e' (Flood v) is = nothing_said (after_hearing e.claims.voice u) e e' (ap (λ (c : Claims). c.voice) is)
-taken_says e u e' (Mac v m ip) is = go (is_lost (after_update e.claims u) (record { vni = v; mac = m })) is
+taken_says : (e : Edge) (u : Fields) (e' : Edge) (k : Key) → e'.routes ≡ after_losing (after_update e.routes u) k
+    → Saying (after_importing e.routes.speaker u) e e'
+taken_says e u e' (Flood v) is = nothing_said (after_importing e.routes.speaker u) e e'
+    (ap (λ (c : LocalRoutes). c.speaker) is)
+taken_says e u e' (Mac v m ip) is = go (is_lost (after_update e.routes u) (record { vni = v; mac = m })) is
   where
-    go : (b : Bool) → e'.claims ≡ cond b (after_removal (after_update e.claims u) (record { vni = v; mac = m }))
-        (after_update e.claims u) → Saying (after_hearing e.claims.voice u) e e'
-    go true is = one_said (after_hearing e.claims.voice u) e e' (key_of (record { vni = v; mac = m })) Withdrawn
-        (ap (λ (c : Claims). c.voice) is)
-    go false is = nothing_said (after_hearing e.claims.voice u) e e' (ap (λ (c : Claims). c.voice) is)
+    go : (b : Bool) → e'.routes ≡ cond b (after_removal (after_update e.routes u) (record { vni = v; mac = m }))
+        (after_update e.routes u) → Saying (after_importing e.routes.speaker u) e e'
+    go true is = one_said (after_importing e.routes.speaker u) e e' (key_of (record { vni = v; mac = m })) Withdrawn
+        (ap (λ (c : LocalRoutes). c.speaker) is)
+    go false is = nothing_said (after_importing e.routes.speaker u) e e' (ap (λ (c : LocalRoutes). c.speaker) is)
 
 own_says : (e : Edge) (u : Fields) (e' : Edge) (b : Bool)
-    → e'.claims.voice ≡ cond b (after_saying (after_hearing e.claims.voice u) u.register.key Withdrawn)
-    (after_hearing e.claims.voice u) → Saying (after_hearing e.claims.voice u) e e'
-own_says e u e' true is = one_said (after_hearing e.claims.voice u) e e' u.register.key Withdrawn is
-own_says e u e' false is = nothing_said (after_hearing e.claims.voice u) e e' is
+    → e'.routes.speaker ≡ cond b (after_originating (after_importing e.routes.speaker u) u.register.key Withdrawn)
+    (after_importing e.routes.speaker u) → Saying (after_importing e.routes.speaker u) e e'
+own_says e u e' true is = one_said (after_importing e.routes.speaker u) e e' u.register.key Withdrawn is
+own_says e u e' false is = nothing_said (after_importing e.routes.speaker u) e e' is
 
--- an own update that isn't ahead leaves no value of a later life or with a later number
-own_behind : (v : Voice) (u : Fields) → KeepsNumbers v → u.register.originator ≡ v.address → is_ahead v u ≡ false
-    → IsBehind (after_hearing v u)
+-- an own update that isn't ahead leaves no value of a later incarnation or with a later number
+own_behind : (v : Speaker) (u : Fields) → KeepsNumbers v → u.register.originator ≡ v.address → is_ahead v u ≡ false
+    → IsBehind (after_importing v u)
 own_behind v u h mine behind = go (is_newest v u) refl
   where
-    known : is_newest v u ≡ false → IsBehind (after_hearing v u)
+    known : is_newest v u ≡ false → IsBehind (after_importing v u)
     known old = subst IsBehind (sym (unheard v u old)) (kept_behind v h)
 
-    now : is_newest v u ≡ true → (k : Key) (w : Value) → k ≡ u.register.key → own (after_hearing v u) k ≡ Some w
+    now : is_newest v u ≡ true → (k : Key) (w : Value) → k ≡ u.register.key → own (after_importing v u) k ≡ Some w
         → u.value ≡ w
     now new k w same at = let both : Some u.value ≡ Some w = sym (there_now v u mine new)
-        ∙ subst (λ j. own (after_hearing v u) j ≡ Some w) same at in cc
+        ∙ subst (λ j. own (after_importing v u) j ≡ Some w) same at in cc
 
-    before : (k : Key) (w : Value) → k ≢ u.register.key → own (after_hearing v u) k ≡ Some w → own v k ≡ Some w
+    before : (k : Key) (w : Value) → k ≢ u.register.key → own (after_importing v u) k ≡ Some w → own v k ≡ Some w
     before k w ne at = sym (elsewhere v u k ne) ∙ at
 
-    news : is_newest v u ≡ true → IsBehind (after_hearing v u)
+    news : is_newest v u ≡ true → IsBehind (after_importing v u)
     news new = record {
       past = λ k w at. elim (key_or_other k u.register.key) as (λ _. w.incarnation ≤ v.incarnation) [
         | inl same ↦ let is = ap (λ (x : Value). x.incarnation) (now new k w same at) in
@@ -209,15 +211,16 @@ own_behind v u h mine behind = go (is_newest v u) refl
       ];
     }
 
-    go : (b : Bool) → is_newest v u ≡ b → IsBehind (after_hearing v u)
+    go : (b : Bool) → is_newest v u ≡ b → IsBehind (after_importing v u)
     go true new = news new
     go false old = known old
 
 -- ---- each event
 
--- hearing and announcing leave a part of a voice as it was: so does every event
-heard_same : {A : Type 0} (part : Voice → A) → ((v : Voice) (u : Fields) → part (after_hearing v u) ≡ part v)
-    → ((v : Voice) → part (after_announcing v) ≡ part v) → (event : Event) (result : Result Reply Refusal) (v : Voice)
+-- hearing and announcing leave a part of a speaker as it was: so does every event
+heard_same : {A : Type 0} (part : Speaker → A) → ((v : Speaker) (u : Fields) → part (after_importing v u) ≡ part v)
+    → ((v : Speaker) → part (after_announcing v) ≡ part v) → (event : Event) (result : Result Reply Refusal)
+    (v : Speaker)
     → part (heard event result v) ≡ part v
 heard_same part hears announces event (Err r) v = refl
 heard_same part hears announces (events.Frame port octets) (Ok reply) v = refl
@@ -232,18 +235,19 @@ heard_same part hears announces (events.PortDown port) (Ok reply) v = refl
 heard_same part hears announces (events.Mcheck port) (Ok reply) v = refl
 heard_same part hears announces events.Announce (Ok reply) v = announces v
 
-heard_address : (event : Event) (result : Result Reply Refusal) (v : Voice) → (heard event result v).address ≡ v.address
-heard_address event result v = heard_same (λ (w : Voice). w.address) (λ w u. refl) (λ w. refl) event result v
+heard_address : (event : Event) (result : Result Reply Refusal) (v : Speaker) → (heard event result v).address
+    ≡ v.address
+heard_address event result v = heard_same (λ (w : Speaker). w.address) (λ w u. refl) (λ w. refl) event result v
 
-heard_incarnation : (event : Event) (result : Result Reply Refusal) (v : Voice)
+heard_incarnation : (event : Event) (result : Result Reply Refusal) (v : Speaker)
     → (heard event result v).incarnation ≡ v.incarnation
-heard_incarnation event result v = heard_same (λ (w : Voice). w.incarnation) (λ w u. refl) (λ w. refl) event result v
+heard_incarnation event result v = heard_same (λ (w : Speaker). w.incarnation) (λ w u. refl) (λ w. refl) event result v
 
-pub heard_counter : (event : Event) (result : Result Reply Refusal) (v : Voice)
+pub heard_counter : (event : Event) (result : Result Reply Refusal) (v : Speaker)
     → (heard event result v).counter ≡ v.counter
-heard_counter event result v = heard_same (λ (w : Voice). w.counter) (λ w u. refl) (λ w. refl) event result v
+heard_counter event result v = heard_same (λ (w : Speaker). w.counter) (λ w u. refl) (λ w. refl) event result v
 
-pub heard_table : (event : Event) (result : Result Reply Refusal) (v : Voice)
+pub heard_table : (event : Event) (result : Result Reply Refusal) (v : Speaker)
     → (heard event result v).table ≡ with_updates v.table (accepted event result)
 heard_table event (Err r) v = refl
 heard_table (events.Frame port octets) (Ok reply) v = refl
@@ -263,60 +267,61 @@ length_map [] = refl
 length_map (u ∷ us) = ap suc (length_map us)
 
 changed : (e : Edge) (event : Event) (result : Result Reply Refusal) (e' : Edge)
-    → Saying (heard event result e.claims.voice) e e' → IsBehind (heard event result e.claims.voice)
+    → Saying (heard event result e.routes.speaker) e e' → IsBehind (heard event result e.routes.speaker)
     → Changes e event result e'
 changed e event result e' h behind = record {
   said = h.said;
   few = h.few;
   says = it;
-  address = it.changes.address ∙ heard_address event result e.claims.voice;
-  incarnation = it.changes.incarnation ∙ heard_incarnation event result e.claims.voice;
+  address = it.changes.address ∙ heard_address event result e.routes.speaker;
+  incarnation = it.changes.incarnation ∙ heard_incarnation event result e.routes.speaker;
   counter = let counter = it.changes.counter in let count = it.count in let size = length_map (said_updates v h.said) in
-      let before = heard_counter event result e.claims.voice in omega (arith, counter, count, size, before);
-  table = it.table ∙ ap (λ t. with_updates t (said_updates v h.said)) (heard_table event result e.claims.voice)
-      ∙ sym (updates_append e.claims.voice.table (accepted event result) (said_updates v h.said));
+      let before = heard_counter event result e.routes.speaker in omega (arith, counter, count, size, before);
+  table = it.table ∙ ap (λ t. with_updates t (said_updates v h.said)) (heard_table event result e.routes.speaker)
+      ∙ sym (updates_append e.routes.speaker.table (accepted event result) (said_updates v h.said));
 }
   where
-    v : Voice
-    v = heard event result e.claims.voice
+    v : Speaker
+    v = heard event result e.routes.speaker
 
-    it : Says (heard event result e.claims.voice) e'.claims.voice h.said
-    it = says (heard event result e.claims.voice) e'.claims.voice h.said h.after h.apart behind
+    it : Says (heard event result e.routes.speaker) e'.routes.speaker h.said
+    it = says (heard event result e.routes.speaker) e'.routes.speaker h.said h.after h.apart behind
 
 -- an event by which nothing is heard
-still : (event : Event) → ((v : Voice) → heard_in event v ≡ v) → (result : Result Reply Refusal) (v : Voice)
+still : (event : Event) → ((v : Speaker) → heard_in event v ≡ v) → (result : Result Reply Refusal) (v : Speaker)
     → heard event result v ≡ v
 still event h (Ok reply) v = h v
 still event h (Err r) v = refl
 
-quiet : (e : Edge) (event : Event) (result : Result Reply Refusal) (e' : Edge) → ((v : Voice) → heard_in event v ≡ v)
-    → IsGoodEdge e → Saying e.claims.voice e e' → Changes e event result e'
+quiet : (e : Edge) (event : Event) (result : Result Reply Refusal) (e' : Edge) → ((v : Speaker) → heard_in event v ≡ v)
+    → IsGoodEdge e → Saying e.routes.speaker e e' → Changes e event result e'
 quiet e event result e' h good said = changed e event result e'
-    (subst (λ v. Saying v e e') (sym (still event h result e.claims.voice)) said)
-    (subst IsBehind (sym (still event h result e.claims.voice)) (kept_behind e.claims.voice good.claims.numbers))
+    (subst (λ v. Saying v e e') (sym (still event h result e.routes.speaker)) said)
+    (subst IsBehind (sym (still event h result e.routes.speaker)) (kept_behind e.routes.speaker good.routes.numbers))
 
 other_change : (e : Edge) (u : Fields) (result : Result Reply Refusal) (e' : Edge) → IsGoodEdge e
-    → u.register.originator ≢ e.claims.voice.address → TakesOther e u result e' → Changes e (events.Take u) result e'
+    → u.register.originator ≢ e.routes.speaker.address → TakesOther e u result e' → Changes e (events.Take u) result e'
 other_change e u (Ok reply) e' good other h =
-    changed e (events.Take u) (Ok reply) e' (taken_says e u e' u.register.key (ap (λ (x : Edge). x.claims) h.2))
-    (heard_behind e.claims.voice u other (kept_behind e.claims.voice good.claims.numbers))
+    changed e (events.Take u) (Ok reply) e' (taken_says e u e' u.register.key (ap (λ (x : Edge). x.routes) h.2))
+    (heard_behind e.routes.speaker u other (kept_behind e.routes.speaker good.routes.numbers))
 other_change e u (Err r) e' good other h = changed e (events.Take u) (Err r) e' (same e e' h.1)
-    (kept_behind e.claims.voice good.claims.numbers)
+    (kept_behind e.routes.speaker good.routes.numbers)
 
 own_change : (e : Edge) (u : Fields) (result : Result Reply Refusal) (e' : Edge) → IsGoodEdge e
-    → u.register.originator ≡ e.claims.voice.address → TakesOwn e u result e' → Changes e (events.Take u) result e'
+    → u.register.originator ≡ e.routes.speaker.address → TakesOwn e u result e' → Changes e (events.Take u) result e'
 own_change e u (Ok reply) e' good mine h =
-    changed e (events.Take u) (Ok reply) e' (own_says e u e' (is_returning e.claims.voice u)
-    (ap (λ (x : Edge). x.claims.voice) h.3)) (own_behind e.claims.voice u good.claims.numbers mine h.0)
+    changed e (events.Take u) (Ok reply) e' (own_says e u e' (is_returning e.routes.speaker u)
+    (ap (λ (x : Edge). x.routes.speaker) h.3)) (own_behind e.routes.speaker u good.routes.numbers mine h.0)
 own_change e u (Err r) e' good mine h = changed e (events.Take u) (Err r) e' (same e e' h.1)
-    (kept_behind e.claims.voice good.claims.numbers)
+    (kept_behind e.routes.speaker good.routes.numbers)
 
 take_change : (e : Edge) (u : Fields) (result : Result Reply Refusal) (e' : Edge) → IsGoodEdge e → (b : Bool)
-    → eqb u.register.originator e.claims.voice.address ≡ b → Takes b e u result e' → Changes e (events.Take u) result e'
+    → eqb u.register.originator e.routes.speaker.address ≡ b → Takes b e u result e'
+    → Changes e (events.Take u) result e'
 take_change e u result e' good true t h = own_change e u result e' good (grind (arith, nat_tests)) h
 take_change e u result e' good false t h = other_change e u result e' good (λ same. grind (arith, nat_tests)) h
 
-announced_behind : (v : Voice) → KeepsNumbers v → IsBehind (after_announcing v)
+announced_behind : (v : Speaker) → KeepsNumbers v → IsBehind (after_announcing v)
 announced_behind v h = record { past = h.past; counted = h.counted }
 
 pub steps_change : (e : Edge) (event : Event) (result : Result Reply Refusal) (e' : Edge) → IsGoodEdge e
@@ -334,22 +339,22 @@ steps_change e (events.Pin s port) result e' good h = quiet e (events.Pin s port
 steps_change e (events.Unpin s) result e' good h = quiet e (events.Unpin s) result e' (λ v. refl) good
     (unpin_says e s e' h.1)
 steps_change e (events.Thaw s) result e' good h = quiet e (events.Thaw s) result e' (λ v. refl) good
-    (nothing_said e.claims.voice e e' (ap (λ (x : Edge). x.claims.voice) h.1))
+    (nothing_said e.routes.speaker e e' (ap (λ (x : Edge). x.routes.speaker) h.1))
 steps_change e events.Second result e' good h = quiet e events.Second result e' (λ v. refl) good
     (second_says e result e' good h)
 steps_change e (events.PortUp port) result e' good h = quiet e (events.PortUp port) result e' (λ v. refl) good
-    (bridge_at (vni_at e.claims.ports port) _ e result e' good h)
+    (bridge_at (vni_at e.routes.ports port) _ e result e' good h)
 steps_change e (events.PortDown port) result e' good h =
     quiet e (events.PortDown port) result e' (λ v. refl) good
-    (bridge_at (vni_at e.claims.ports port) _ e result e' good h)
+    (bridge_at (vni_at e.routes.ports port) _ e result e' good h)
 steps_change e (events.Mcheck port) result e' good h = quiet e (events.Mcheck port) result e' (λ v. refl) good
-    (bridge_at (vni_at e.claims.ports port) _ e result e' good h)
+    (bridge_at (vni_at e.routes.ports port) _ e result e' good h)
 steps_change e events.Announce result e' good h =
     subst (λ r. Changes e events.Announce r e') (sym h.0)
-    (changed e events.Announce (Ok _) e' (nothing_said (after_announcing e.claims.voice) e e'
-    (ap (λ (x : Edge). x.claims.voice) h.1)) (announced_behind e.claims.voice good.claims.numbers))
+    (changed e events.Announce (Ok _) e' (nothing_said (after_announcing e.routes.speaker) e e'
+    (ap (λ (x : Edge). x.routes.speaker) h.1)) (announced_behind e.routes.speaker good.routes.numbers))
 
 -- ---- the opening
 
-pub opening_changes : (c : EdgeConfig) (e : Edge) → IsConfig c → IsOpening c e → Opens (start_of c) e.claims
-opening_changes c e config h = opens (start_of c) e.claims h.claims config.distinct
+pub opening_changes : (c : EdgeConfig) (e : Edge) → IsConfig c → IsOpening c e → Opens (start_of c) e.routes
+opening_changes c e config h = opens (start_of c) e.routes h.routes config.distinct

@@ -10,9 +10,9 @@ use Rattle.ether_wire.specs.declared.frame.FrameRefusal.{FrameRefusal}
 use Rattle.ether_wire.proofs.PortLemmas.{has_port-none}
 use Rattle.bpdu_wire.specs.Reading.{reading}
 use Rattle.bpdu_wire.specs.declared.bpdu.Bpdu.{Bpdu}
-use Rattle.bpdu_wire.specs.declared.refusal.Refusal as bpdu
+use Rattle.bpdu_wire.specs.declared.refusal.BpduRefusal as bpdu
 use Rattle.vxlan_wire.specs.Vxlan.{instance_of}
-use Rattle.vxlan_wire.specs.declared.vxlan.Refusal as vxlan
+use Rattle.vxlan_wire.specs.declared.vxlan.VxlanRefusal as vxlan
 use Rattle.route_join.specs.Owner.{owner}
 use Rattle.mac_arena.specs.declared.station.Station.{Station}
 use Rattle.mac_arena.specs.declared.station.Entry.{Entry}
@@ -25,8 +25,8 @@ use Rattle.ev_tunnel.specs.declared.decision.Source.TheVariants.{Port, Tunnel}
 use Rattle.ev_tunnel.specs.Place.{place_of}
 use Rattle.ev_tunnel.proofs.DecisionLemmas.{local_passes, member_is, never_back}
 use Rattle.ev_mobility.specs.declared.alert.Alert.{Alert}
-use Rattle.ev_claims.specs.Voice.{is_at}
-use Rattle.ev_claims.specs.Claims.{KeepsClaims, vni_at, is_member}
+use Rattle.ev_claims.specs.Speaker.{is_at}
+use Rattle.ev_claims.specs.LocalRoutes.{KeepsRoutes, vni_at, is_member}
 use Rattle.ev_edge.specs.declared.arrival.Arrival.TheVariants.{Dropped}
 use Rattle.ev_edge.specs.declared.refusal.EdgeRefusal.TheVariants.{UnknownOriginator, NoSuchVni}
 use Rattle.ev_edge.specs.declared.refusal.Refusal.TheVariants.{Edge as OfEdge}
@@ -60,7 +60,8 @@ reserved_none : (e : Edge) (port : ℕ) (frame : List ℕ) (result : Result Repl
     → FrameSteps (reserved_arrival frame) e port result e' → decision_in result ≡ None
 reserved_none e port frame result e' h = held (holds_bpdu frame) h
   where
-    message : (r : Result Bpdu bpdu.Refusal) → FrameSteps (message_in r) e port result e' → decision_in result ≡ None
+    message : (r : Result Bpdu bpdu.BpduRefusal) → FrameSteps (message_in r) e port result e' → decision_in result
+        ≡ None
     message (Ok b) h = bridged _ e result e' h
     message (Err r) h = ap decision_in h.0
 
@@ -76,26 +77,26 @@ at_true None v h = cc
 at_true (Some w) v h = ap Some (let same : w ≡ v = grind (arith, nat_tests) in same)
 
 -- by members that pass
-decided : (e : Edge) (vni destination : ℕ) (from : Source) (d : Decision) → KeepsClaims e.claims
+decided : (e : Edge) (vni destination : ℕ) (from : Source) (d : Decision) → KeepsRoutes e.routes
     → IsDecision e vni destination from d → (p : ℕ) → IsPort p → has_port d.local p ≡ true
-    → (vni_at e.claims.ports p ≡ Some vni) × Passes e.tree p
+    → (vni_at e.routes.ports p ≡ Some vni) × Passes e.tree p
 decided e vni destination from d keeps i p port there =
     let both = local_passes (place_of destination (port_of e vni destination) (owner (table_of e) vni destination)
     (address_of e)) from (record { members = i.members; passing = i.passing }) i.passing_fit
     (member_is destination (port_of e vni destination) (owner (table_of e) vni destination) (address_of e) i.members
-    (λ q at. i.are_members q ∙ member (entry_at e.claims.learned s) refl q at)) p port
+    (λ q at. i.are_members q ∙ member (entry_at e.routes.learned s) refl q at)) p port
     (ap (λ n. has_port n p) (sym i.local) ∙ there) in
-    (at_true (vni_at e.claims.ports p) vni (sym (i.are_members p) ∙ both.0), ((i.are_passing p).0 both.1).1)
+    (at_true (vni_at e.routes.ports p) vni (sym (i.are_members p) ∙ both.0), ((i.are_passing p).0 both.1).1)
   where
     s : Station
     s = record { vni = vni; mac = destination }
 
-    member : (o : Option Entry) → entry_at e.claims.learned (record { vni = vni; mac = destination }) ≡ o → (q : ℕ)
-        → option_map (λ (x : Entry). x.port) o ≡ Some q → is_member e.claims.ports vni q ≡ true
+    member : (o : Option Entry) → entry_at e.routes.learned (record { vni = vni; mac = destination }) ≡ o → (q : ℕ)
+        → option_map (λ (x : Entry). x.port) o ≡ Some q → is_member e.routes.ports vni q ≡ true
     member None is q at = cc
     member (Some x) is q at =
         let same : x.port ≡ q = cc in
-        ap (is_member e.claims.ports vni) (sym same) ∙ ap (λ o. is_at o vni)
+        ap (is_member e.routes.ports vni) (sym same) ∙ ap (λ o. is_at o vni)
         (keeps.ports (record { vni = vni; mac = destination }) x is) ∙ eq-eqb vni vni refl
 
 -- and not by the frame's own port
@@ -110,25 +111,25 @@ not_back e vni destination port d is i =
 
 -- what stays while a source is learnt
 record Stays (e e' : Edge) : Type 0 where
-  pub ports : e'.claims.ports ≡ e.claims.ports
+  pub ports : e'.routes.ports ≡ e.routes.ports
   pub tree : e'.tree ≡ e.tree
 
 same_stays : (e e' : Edge) → e' ≡ e → Stays e e'
-same_stays e e' is = record { ports = ap (λ (x : Edge). x.claims.ports) is; tree = ap (λ (x : Edge). x.tree) is }
+same_stays e e' is = record { ports = ap (λ (x : Edge). x.routes.ports) is; tree = ap (λ (x : Edge). x.tree) is }
 
 learn_stays : (e : Edge) (s : Station) (port : ℕ) (told : Option Alert) (e' : Edge) (c : Case) → Does c e s port told e'
     → Stays e e'
 learn_stays e s port told e' Leave h = same_stays e e' h.1
 learn_stays e s port told e' Refresh h = record {
-  ports = ap (λ (x : Edge). x.claims.ports) h.1;
+  ports = ap (λ (x : Edge). x.routes.ports) h.1;
   tree = ap (λ (x : Edge). x.tree) h.1;
 }
 learn_stays e s port told e' (Refuse alert) h = same_stays e e' h.1
 learn_stays e s port told e' Freeze h =
-    record { ports = ap (λ (x : Edge). x.claims.ports) h.1; tree = ap (λ (x : Edge). x.tree) h.1 }
+    record { ports = ap (λ (x : Edge). x.routes.ports) h.1; tree = ap (λ (x : Edge). x.tree) h.1 }
 learn_stays e s port told e' (Learn n) h = elim h as (λ _. Stays e e') [
   | inl done ↦ record {
-    ports = ap (λ (x : Edge). x.claims.ports) done.1;
+    ports = ap (λ (x : Edge). x.routes.ports) done.1;
     tree = ap (λ (x : Edge). x.tree) done.1 ∙ go (eqb n 0);
   }
   | inr refused ↦ same_stays e e' refused.1
@@ -143,34 +144,34 @@ learnt_stays : (e : Edge) (s : Station) (port : ℕ) (told : Option Alert) (e' :
 learnt_stays e s port told e' true h = learn_stays e s port told e' (case_of e s) h
 learnt_stays e s port told e' false h = same_stays e e' h.1
 
-module _ (e : Edge) (port : ℕ) (result : Result Reply Refusal) (e' : Edge) (keeps : KeepsClaims e'.claims) where
-  sent : (vni destination : ℕ) (d : Decision) → vni_at e.claims.ports port ≡ Some vni → Stays e e' → (b : Bool)
+module _ (e : Edge) (port : ℕ) (result : Result Reply Refusal) (e' : Edge) (keeps : KeepsRoutes e'.routes) where
+  sent : (vni destination : ℕ) (d : Decision) → vni_at e.routes.ports port ≡ Some vni → Stays e e' → (b : Bool)
       → SendsIf b e' vni destination (Port port) (Some d) → LeavesBy e port d
   sent vni destination d at stays false h p is there = absurd (let no : false ≡ true = sym (has_port-none p)
       ∙ ap (λ n. has_port n p) (sym h.0) ∙ there in cc)
   sent vni destination d at stays true h p is there =
       let both = decided e' vni destination (Port port) d keeps h p is there in
-      let own : vni_at e'.claims.ports port ≡ Some vni = ap (λ ps. vni_at ps port) stays.ports ∙ at in
-      let back = not_back e' vni destination port d (set_port e'.claims.ports port vni keeps.few own) h in (
+      let own : vni_at e'.routes.ports port ≡ Some vni = ap (λ ps. vni_at ps port) stays.ports ∙ at in
+      let back = not_back e' vni destination port d (set_port e'.routes.ports port vni keeps.few own) h in (
         ap (λ ps. vni_at ps p) (sym stays.ports) ∙ both.0 ∙ sym at,
         subst (λ t. Passes t p) stays.tree both.1,
         λ same. (let no : false ≡ true = sym back ∙ ap (has_port d.local) (sym same) ∙ there in cc),
       )
 
-  data_leaves : (vni destination source : ℕ) (reply : Reply) → vni_at e.claims.ports port ≡ Some vni
+  data_leaves : (vni destination source : ℕ) (reply : Reply) → vni_at e.routes.ports port ≡ Some vni
       → DataSteps e port vni destination source reply e' → ForSome reply.decision (LeavesBy e port)
   data_leaves vni destination source reply at h d is =
       sent vni destination d at (learnt_stays e (record { vni = vni; mac = source }) port reply.alert e' _
       h.learning.learning) h.passes (subst (SendsIf h.passes e' vni destination (Port port)) is h.sending)
 
-  in_frame : (vni : ℕ) (frame : List ℕ) → vni_at e.claims.ports port ≡ Some vni → (b : Bool)
+  in_frame : (vni : ℕ) (frame : List ℕ) → vni_at e.routes.ports port ≡ Some vni → (b : Bool)
       → (r : Result Reply Refusal) → FrameSteps (cond b (reserved_arrival frame) (Ok (data_in vni frame))) e port r e'
       → ForSome (decision_in r) (LeavesBy e port)
   in_frame vni frame at true r h = none r (reserved_none e port frame r e' h) (LeavesBy e port)
   in_frame vni frame at false (Ok reply) h = data_leaves vni (destination_of frame) (source_of frame) reply at h
   in_frame vni frame at false (Err r) h = absurd h
 
-  at_port : (vni : ℕ) (up : Bool) (f : Result (List ℕ) FrameRefusal) → vni_at e.claims.ports port ≡ Some vni
+  at_port : (vni : ℕ) (up : Bool) (f : Result (List ℕ) FrameRefusal) → vni_at e.routes.ports port ≡ Some vni
       → FrameSteps (arrival_at up vni f) e port result e' → ForSome (decision_in result) (LeavesBy e port)
   at_port vni up (Err r) at h = none result (ap decision_in h.0) (LeavesBy e port)
   at_port vni false (Ok frame) at h = none result (ap decision_in h.0) (LeavesBy e port)
@@ -178,9 +179,9 @@ module _ (e : Edge) (port : ℕ) (result : Result Reply Refusal) (e' : Edge) (ke
 
   pub frame_leaves : (octets : List ℕ) → FrameSteps (frame_arrival e port octets) e port result e'
       → ForSome (decision_in result) (LeavesBy e port)
-  frame_leaves octets h = go (vni_at e.claims.ports port) refl h
+  frame_leaves octets h = go (vni_at e.routes.ports port) refl h
     where
-      go : (o : Option ℕ) → vni_at e.claims.ports port ≡ o
+      go : (o : Option ℕ) → vni_at e.routes.ports port ≡ o
           → FrameSteps (arrival_on o (is_up e.tree port) octets) e port result e'
           → ForSome (decision_in result) (LeavesBy e port)
       go None at h = none result (ap decision_in h.0) (LeavesBy e port)
@@ -188,7 +189,7 @@ module _ (e : Edge) (port : ℕ) (result : Result Reply Refusal) (e' : Edge) (ke
 
 pub reserved_frame : (e : Edge) (port : ℕ) (octets : List ℕ) (result : Result Reply Refusal) (e' : Edge)
     → IsReserved octets → FrameSteps (frame_arrival e port octets) e port result e' → decision_in result ≡ None
-reserved_frame e port octets result e' (frame, is, reserved) h = go (vni_at e.claims.ports port) h
+reserved_frame e port octets result e' (frame, is, reserved) h = go (vni_at e.routes.ports port) h
   where
     up_or_down : (vni : ℕ) (up : Bool) → FrameSteps (arrival_at up vni (Ok frame)) e port result e'
         → decision_in result ≡ None
@@ -204,7 +205,7 @@ reserved_frame e port octets result e' (frame, is, reserved) h = go (vni_at e.cl
 
 -- ---- from a tunnel
 
-module _ (e : Edge) (octets : List ℕ) (result : Result Reply Refusal) (e' : Edge) (keeps : KeepsClaims e.claims) where
+module _ (e : Edge) (octets : List ℕ) (result : Result Reply Refusal) (e' : Edge) (keeps : KeepsRoutes e.routes) where
   Leaves : Decision → Type 0
   Leaves = LeavesTunnel e octets
 
@@ -231,7 +232,7 @@ module _ (e : Edge) (octets : List ℕ) (result : Result Reply Refusal) (e' : Ed
           (subst (SendsIf true e inner.0 (destination_of frame) Tunnel) at h.0)
       go false (Err r) h = absurd h
 
-  datagram_leaves : (i : Result (ℕ × List ℕ) vxlan.Refusal) → instance_of octets ≡ i
+  datagram_leaves : (i : Result (ℕ × List ℕ) vxlan.VxlanRefusal) → instance_of octets ≡ i
       → TunnelSteps (datagram_arrival e i) e result e' → ForSome (decision_in result) (LeavesTunnel e octets)
   datagram_leaves (Err r) is h = none result (ap decision_in h.0) (LeavesTunnel e octets)
   datagram_leaves (Ok inner) is h = go (serves e inner.0) h

@@ -1,9 +1,9 @@
--- An edge stays good when what it claims changes.
+-- An edge stays good when its local routes change.
 use Rattle.std.proofs.Common.{◌≡◌, ℕ, ◌+◌, ◌≤◌, ◌^◌, Bool, true, false, cond, Result, Ok, Err, List, [], ◌∷◌, length}
 use Rattle.std.proofs.Common.{refl, sym, ap, subst, ◌∙◌, arith}
 use Rattle.std.specs.Prelude.{OnOk, OnErr, nat_le, ◌==◌, ◌-◌}
 use Rattle.std.proofs.lemmas.Bool.Decides.{nat_tests}
-use Rattle.ether_wire.specs.Names.{is_group}
+use Rattle.ether_wire.specs.Addr.{is_group}
 use Rattle.route_wire.specs.declared.update.Key.{Key}
 use Rattle.route_wire.specs.declared.update.Key.TheVariants.{Flood, Mac}
 use Rattle.route_wire.specs.Fields.{Fields}
@@ -11,8 +11,9 @@ use Rattle.mac_arena.specs.declared.station.Station.{Station}
 use Rattle.mac_arena.proofs.Looking.{learn_entry, pin_entry}
 use Rattle.mac_arena.proofs.Values.{latest_learn, latest_pin, latest_later, chains_learn, chains_pin}
 use Rattle.mac_arena.specs.Learning.{learnt_of}
-use Rattle.ev_claims.specs.Claims.{Claims, after_removals, after_removal, after_update, after_losing, after_take}
-use Rattle.ev_claims.specs.Claims.{after_refresh, after_shift, after_announcement, is_lost}
+use Rattle.ev_claims.specs.LocalRoutes.{LocalRoutes, after_removals, after_removal, after_update, after_losing}
+use Rattle.ev_claims.specs.LocalRoutes.{after_take}
+use Rattle.ev_claims.specs.LocalRoutes.{after_refresh, after_shift, after_announcement, is_lost}
 use Rattle.ev_edge.specs.Edge.{Edge, IsEdge}
 use Rattle.std.specs.FinMap.{FinMap}
 use Rattle.mac_arena.specs.Station.{station_cmp}
@@ -23,7 +24,7 @@ use Rattle.ev_edge.specs.Edge.{ArePassing}
 use Rattle.ev_edge.specs.Bridging.{next_second, aged}
 use Rattle.ev_edge.proofs.Owning.{Holds, changed_individual, some_bucket, removals_hold}
 
-pub holds_of : (e : Edge) (passing : ℕ) → IsEdge e passing → Holds e.claims e.clock
+pub holds_of : (e : Edge) (passing : ℕ) → IsEdge e passing → Holds e.routes e.clock
 holds_of e passing h = record {
   owns = h.keeps.owns;
   latest = h.keeps.latest;
@@ -33,11 +34,11 @@ holds_of e passing h = record {
 }
 
 -- ---- the same ports
-pub removals_ports : (c : Claims) (ss : List Station) → (after_removals c ss).ports ≡ c.ports
+pub removals_ports : (c : LocalRoutes) (ss : List Station) → (after_removals c ss).ports ≡ c.ports
 removals_ports c [] = refl
 removals_ports c (s ∷ ss) = removals_ports (after_removal c s) ss
 
-pub taken_ports : (c : Claims) (u : Fields) → (after_take c u).ports ≡ c.ports
+pub taken_ports : (c : LocalRoutes) (u : Fields) → (after_take c u).ports ≡ c.ports
 taken_ports c u = go u.register.key
   where
     pick : (s : Station) (b : Bool) → (cond b (after_removal (after_update c u) s) (after_update c u)).ports ≡ c.ports
@@ -48,10 +49,10 @@ taken_ports c u = go u.register.key
     go (Flood v) = refl
     go (Mac v m ip) = pick (record { vni = v; mac = m }) (is_lost (after_update c u) (record { vni = v; mac = m }))
 
--- ---- other claims
-pub kept : (e : Edge) (passing : ℕ) (c d : Claims) → IsEdge e passing → d ≡ c → Holds c e.clock
-    → c.ports ≡ e.claims.ports → IsEdge (record e { claims = d }) passing
-kept e passing c d h is holds ports = subst (λ x. IsEdge (record e { claims = x }) passing) (sym is) (record {
+-- ---- other local routes
+pub kept : (e : Edge) (passing : ℕ) (c d : LocalRoutes) → IsEdge e passing → d ≡ c → Holds c e.clock
+    → c.ports ≡ e.routes.ports → IsEdge (record e { routes = d }) passing
+kept e passing c d h is holds ports = subst (λ x. IsEdge (record e { routes = x }) passing) (sym is) (record {
   keeps = record {
     owns = holds.owns;
     latest = holds.latest;
@@ -64,13 +65,14 @@ kept e passing c d h is holds ports = subst (λ x. IsEdge (record e { claims = x
   exact = h.exact;
 })
 
-pub either : {X E : Type 0} (e : Edge) (passing : ℕ) (c d : Claims) (r : Result X E) → IsEdge e passing → OnOk r (d ≡ c)
-    → OnErr r (d ≡ e.claims) → Holds c e.clock → c.ports ≡ e.claims.ports
-    → IsEdge (record e { claims = d }) passing
+pub either : {X E : Type 0} (e : Edge) (passing : ℕ) (c d : LocalRoutes) (r : Result X E) → IsEdge e passing
+    → OnOk r (d ≡ c)
+    → OnErr r (d ≡ e.routes) → Holds c e.clock → c.ports ≡ e.routes.ports
+    → IsEdge (record e { routes = d }) passing
 either e passing c d (Ok x) h ok err holds ports = kept e passing c d h ok holds ports
-either e passing c d (Err x) h ok err holds ports = kept e passing e.claims d h err (holds_of e passing h) refl
+either e passing c d (Err x) h ok err holds ports = kept e passing e.routes d h err (holds_of e passing h) refl
 
-pub refresh_holds : (c : Claims) (s : Station) (port second : ℕ) → is_group s.mac ≡ false → Holds c second
+pub refresh_holds : (c : LocalRoutes) (s : Station) (port second : ℕ) → is_group s.mac ≡ false → Holds c second
     → Holds (after_refresh c s port second) second
 refresh_holds c s port second single h = record {
   owns = h.owns;
@@ -82,7 +84,7 @@ refresh_holds c s port second single h = record {
       (chains_learn c.learned s port second (learnt_of c.learned s port)) h.buckets;
 }
 
-pub shift_holds : (c : Claims) (s : Station) (port second : ℕ) → is_group s.mac ≡ false → Holds c second
+pub shift_holds : (c : LocalRoutes) (s : Station) (port second : ℕ) → is_group s.mac ≡ false → Holds c second
     → Holds (after_shift c s port) second
 shift_holds c s port second single h = record {
   owns = h.owns;
@@ -94,7 +96,7 @@ shift_holds c s port second single h = record {
 }
 
 -- an announcement
-pub announced_holds : (c : Claims) (second : ℕ) → Holds c second → Holds (after_announcement c) second
+pub announced_holds : (c : LocalRoutes) (second : ℕ) → Holds c second → Holds (after_announcement c) second
 announced_holds c second h = record {
   owns = h.owns;
   latest = h.latest;
@@ -120,12 +122,12 @@ other_windows e passing windows h = record {
 }
 
 -- ---- the bridge goes on
-pub bridged : (e : Edge) (was passing clock : ℕ) (tree : Tree) (c d : Claims) → IsEdge e was
+pub bridged : (e : Edge) (was passing clock : ℕ) (tree : Tree) (c d : LocalRoutes) → IsEdge e was
     → length tree.ports ≡ length e.tree.ports → ArePassing tree passing → clock ≤ 2 ^ 63 → d ≡ c → Holds c clock
-    → c.ports ≡ e.claims.ports
-    → IsEdge (record e { tree = tree; clock = clock; claims = d }) passing
+    → c.ports ≡ e.routes.ports
+    → IsEdge (record e { tree = tree; clock = clock; routes = d }) passing
 bridged e was passing clock tree c d h size exact early is holds ports =
-    subst (λ x. IsEdge (record e { tree = tree; clock = clock; claims = x }) passing) (sym is) (record {
+    subst (λ x. IsEdge (record e { tree = tree; clock = clock; routes = x }) passing) (sym is) (record {
       keeps = record {
         owns = holds.owns;
         latest = holds.latest;
@@ -145,7 +147,7 @@ second_early clock low = go (clock == 2 ^ 63) refl
     go true e = (omega arith, low)
     go false e = (omega arith, grind (arith, nat_tests))
 
-pub later_holds : (c : Claims) (second later : ℕ) → second ≤ later → Holds c second → Holds c later
+pub later_holds : (c : LocalRoutes) (second later : ℕ) → second ≤ later → Holds c second → Holds c later
 later_holds c second later less h = record {
   owns = h.owns;
   latest = latest_later c.learned second later less h.latest;
@@ -154,17 +156,17 @@ later_holds c second later less h = record {
   buckets = h.buckets;
 }
 
-pub flush_holds : (c : Claims) (set second : ℕ) → Holds c second → Holds (after_flush c set) second
+pub flush_holds : (c : LocalRoutes) (set second : ℕ) → Holds c second → Holds (after_flush c set) second
 flush_holds c set second h = removals_hold c (flushed_in c.learned set) second h
 
-pub aged_holds : (c : Claims) (ageing clock : ℕ) → Holds c clock → Holds (aged c ageing clock) clock
+pub aged_holds : (c : LocalRoutes) (ageing clock : ℕ) → Holds c clock → Holds (aged c ageing clock) clock
 aged_holds c ageing clock h = go (nat_le ageing clock)
   where
     go : (b : Bool) → Holds (cond b (after_ageing c (clock - ageing)) c) clock
     go true = removals_hold c (due_in c.learned (clock - ageing)) clock h
     go false = h
 
-pub aged_ports : (c : Claims) (ageing clock : ℕ) → (aged c ageing clock).ports ≡ c.ports
+pub aged_ports : (c : LocalRoutes) (ageing clock : ℕ) → (aged c ageing clock).ports ≡ c.ports
 aged_ports c ageing clock = go (nat_le ageing clock)
   where
     go : (b : Bool) → (cond b (after_ageing c (clock - ageing)) c).ports ≡ c.ports

@@ -6,15 +6,15 @@ use Rattle.ether_wire.specs.Frame.{frame_of, destination_of, payload_of}
 use Rattle.ether_wire.specs.declared.frame.FrameRefusal.{FrameRefusal}
 use Rattle.bpdu_wire.specs.Reading.{reading}
 use Rattle.bpdu_wire.specs.declared.bpdu.Bpdu.{Bpdu}
-use Rattle.bpdu_wire.specs.declared.refusal.Refusal as bpdu
+use Rattle.bpdu_wire.specs.declared.refusal.BpduRefusal as bpdu
 use Rattle.vxlan_wire.specs.Vxlan.{instance_of}
-use Rattle.vxlan_wire.specs.declared.vxlan.Refusal as vxlan
+use Rattle.vxlan_wire.specs.declared.vxlan.VxlanRefusal as vxlan
 use Rattle.route_wire.specs.declared.update.Value.{Value}
 use Rattle.route_wire.specs.Fields.{Fields}
 use Rattle.route_join.specs.Table.{value_at}
 use Rattle.rstp_run.specs.declared.event.Event as tree
 use Rattle.ev_mobility.specs.declared.alert.Alert.TheVariants.{LostStatic, NoMemory as Unroomed}
-use Rattle.ev_claims.specs.Claims.{vni_at, loses_pinned}
+use Rattle.ev_claims.specs.LocalRoutes.{vni_at, loses_pinned}
 use Rattle.ev_edge.specs.declared.arrival.Arrival.TheVariants.{Dropped}
 use Rattle.ev_edge.specs.declared.event.Event.{Event}
 use Rattle.ev_edge.specs.declared.event.Event.TheVariants as events
@@ -64,7 +64,7 @@ seconds e (Err r) e' h = absurd h
 -- ---- frames
 
 module _ (e : Edge) (port : ℕ) (result : Result Reply Refusal) (e' : Edge) where
-  message : (r : Result Bpdu bpdu.Refusal) → FrameSteps (message_in r) e port result e' → TellsNoMemory result → ⊥
+  message : (r : Result Bpdu bpdu.BpduRefusal) → FrameSteps (message_in r) e port result e' → TellsNoMemory result → ⊥
   message (Ok b) h = bridged _ e result e' h
   message (Err r) h = refused result _ h.0 (λ same. cc)
 
@@ -108,7 +108,7 @@ module _ (e : Edge) (result : Result Reply Refusal) (e' : Edge) where
   served vni octets true h = inner vni (frame_of octets) h
   served vni octets false h = refused result _ h.0 (λ same. cc)
 
-  datagram : (i : Result (ℕ × List ℕ) vxlan.Refusal) → TunnelSteps (datagram_arrival e i) e result e'
+  datagram : (i : Result (ℕ × List ℕ) vxlan.VxlanRefusal) → TunnelSteps (datagram_arrival e i) e result e'
       → TellsNoMemory result → ⊥
   datagram (Err r) h = refused result _ h.0 (λ same. cc)
   datagram (Ok inside) h = served inside.0 inside.1 (serves e inside.0) h
@@ -130,7 +130,7 @@ there_not_none (Some v) there is = cc
 
 others : (e : Edge) (u : Fields) (result : Result Reply Refusal) (e' : Edge)
     → is_some (value_at (table_of e) u.register) ≡ true → TakesOther e u result e' → TellsNoMemory result → ⊥
-others e u (Ok reply) e' there h told = lost (loses_pinned e.claims u) (sym (ap (λ (r : Reply). r.alert) h.1) ∙ told)
+others e u (Ok reply) e' there h told = lost (loses_pinned e.routes u) (sym (ap (λ (r : Reply). r.alert) h.1) ∙ told)
 others e u (Err r) e' there h told = elim h.0 as (λ _. ⊥) [
   | inl unknown ↦ (let bad : OfEdge UnknownOriginator ≡ OfEdge NoMemory = sym unknown.0 ∙ told in absurd cc)
   | inr full ↦ there_not_none (value_at (table_of e) u.register) there full.2
@@ -144,14 +144,14 @@ taken e u result e' false there h = others e u result e' there h
 pub tells_none : (e : Edge) (event : Event) (result : Result Reply Refusal) (e' : Edge) → takes_none e event ≡ true
     → Steps e event result e' → TellsNoMemory result → ⊥
 tells_none e (events.Frame port octets) result e' idle h =
-    frames e port result e' (vni_at e.claims.ports port) octets.now idle h
+    frames e port result e' (vni_at e.routes.ports port) octets.now idle h
 tells_none e (events.TunnelFrame from octets) result e' idle h = tunnels e result e' octets.now (is_other e from) h
 tells_none e (events.Take u) result e' idle h = taken e u result e' (eqb u.register.originator (address_of e)) idle h
 tells_none e (events.Pin s port) result e' idle h = absurd (let bad : false ≡ true = idle in cc)
 tells_none e (events.Unpin s) result e' idle h = silent result _ h.0 refl
 tells_none e (events.Thaw s) result e' idle h = silent result _ h.0 refl
 tells_none e events.Second result e' idle h = seconds e result e' h
-tells_none e (events.PortUp port) result e' idle h = bridged_at (vni_at e.claims.ports port) _ e result e' h
-tells_none e (events.PortDown port) result e' idle h = bridged_at (vni_at e.claims.ports port) _ e result e' h
-tells_none e (events.Mcheck port) result e' idle h = bridged_at (vni_at e.claims.ports port) _ e result e' h
+tells_none e (events.PortUp port) result e' idle h = bridged_at (vni_at e.routes.ports port) _ e result e' h
+tells_none e (events.PortDown port) result e' idle h = bridged_at (vni_at e.routes.ports port) _ e result e' h
+tells_none e (events.Mcheck port) result e' idle h = bridged_at (vni_at e.routes.ports port) _ e result e' h
 tells_none e events.Announce result e' idle h = silent result _ h.0 refl

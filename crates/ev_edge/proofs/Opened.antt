@@ -26,23 +26,23 @@ use Rattle.rstp_state.specs.Port.{test_at}
 use Rattle.rstp_run.specs.Events.{start}
 use Rattle.rstp_run.specs.Rules.{Tree}
 use Rattle.ev_claims.specs.declared.opening.Start.{Start}
-use Rattle.ev_claims.specs.Voice.{Voice, own_advert, after_saying, silent}
-use Rattle.ev_claims.specs.Claims.{Claims, key_of}
+use Rattle.ev_claims.specs.Speaker.{Speaker, own_advert, after_originating, silent}
+use Rattle.ev_claims.specs.LocalRoutes.{LocalRoutes, key_of}
 use Rattle.ev_claims.specs.Opening.{IsOpening, after_floods}
 use Rattle.ev_mobility.specs.Moves.{Moves}
 use Rattle.ev_edge.specs.Edge.{ArePassing, AreIndividual, IsEdge, edge_of}
 use Rattle.ev_edge.proofs.Owning.{said_other}
 
 -- ---- nothing is advertised but flood lists
-floods_address : (e : Voice) (vs : List ℕ) → (after_floods e vs).address ≡ e.address
+floods_address : (e : Speaker) (vs : List ℕ) → (after_floods e vs).address ≡ e.address
 floods_address e [] = refl
-floods_address e (v ∷ vs) = floods_address (after_saying e (Flood v) (Advertised flood_advert)) vs
+floods_address e (v ∷ vs) = floods_address (after_originating e (Flood v) (Advertised flood_advert)) vs
 
-floods_silent : (e : Voice) (vs : List ℕ) (s : Station)
+floods_silent : (e : Speaker) (vs : List ℕ) (s : Station)
     → own_advert (after_floods e vs) (key_of s) ≡ own_advert e (key_of s)
 floods_silent e [] s = refl
 floods_silent e (v ∷ vs) s =
-    floods_silent (after_saying e (Flood v) (Advertised flood_advert)) vs s
+    floods_silent (after_originating e (Flood v) (Advertised flood_advert)) vs s
     ∙ said_other e (Flood v) (Advertised flood_advert) (key_of s) e.address
     (λ same. let both : Mac s.vni s.mac None ≡ Flood v = same in cc)
 
@@ -79,7 +79,7 @@ abbrev none_there : List Station
 none_there = []
 
 -- nobody is learnt
-nobody_individual : (s : Start) (c : Claims) → IsOpening s c → AreIndividual c.learned
+nobody_individual : (s : Start) (c : LocalRoutes) → IsOpening s c → AreIndividual c.learned
 nobody_individual s c h = subst AreIndividual (sym h.learned)
     (λ r some. absurd (never_learnt (entry_at (nothing_learnt s.capacity (length s.ports.items) s.buckets s.salt) r)
     (get-empty {X = Entry} station_cmp r) some))
@@ -88,14 +88,15 @@ nobody_individual s c h = subst AreIndividual (sym h.learned)
     never_learnt None is some = cc
     never_learnt (Some a) is some = cc
 
-pub opened : (s : Start) (c : Claims) (settings : Settings) (ports : List PortSettings) (ageing : ℕ) (tree : Tree)
+pub opened : (s : Start) (c : LocalRoutes) (settings : Settings) (ports : List PortSettings) (ageing : ℕ) (tree : Tree)
     (moves : Moves) → IsOpening s c → tree ≡ start settings ports → length s.ports.items ≡ length ports
     → ((v : ℕ) → Contains s.ports.items v → Contains s.vnis.items v) → 0 < s.buckets
     → IsEdge (edge_of c 0 ageing tree moves) 0
 opened s c settings ports ageing tree moves h is size serves some =
     subst (λ t. IsEdge (edge_of c 0 ageing t moves) 0) (sym is) (record {
       keeps = record {
-        owns = λ r some. absurd (never_some (own_advert c.voice (key_of r)) (ap (λ v. own_advert v (key_of r)) h.voice
+        owns = λ r some. absurd (never_some (own_advert c.speaker (key_of r))
+            (ap (λ v. own_advert v (key_of r)) h.speaker
             ∙ nothing_said s.address s.incarnation s.originators.items c.vnis r) some);
         latest = subst (λ l. IsLatest l 0) (sym h.learned) (latest_nothing s.capacity (length s.ports.items) s.buckets
             s.salt 0);

@@ -1,9 +1,9 @@
--- An edge owns what it advertises, and has heard no station later than now, through each change of what it claims.
+-- An edge owns what it advertises, and has heard no station later than now, through each change of its local routes.
 use Rattle.std.proofs.Common.{◌≡◌, ◌≢◌, inl, inr, ℕ, ◌<◌, Bool, true, false, cond, not, Option, Some, None, List, []}
 use Rattle.std.proofs.Common.{◌∷◌, length, refl, sym, ap, subst, ◌∙◌, arith}
 use Rattle.std.specs.Prelude.{IsSome, is_some, ◌&&◌, MatchOption}
 use Rattle.std.proofs.lemmas.Bool.Decides.{nat_tests}
-use Rattle.ether_wire.specs.Names.{is_group}
+use Rattle.ether_wire.specs.Addr.{is_group}
 use Rattle.route_wire.specs.declared.update.Ip.{Ip}
 use Rattle.route_wire.specs.declared.update.Key.{Key}
 use Rattle.route_wire.specs.declared.update.Key.TheVariants.{Flood, Mac}
@@ -24,9 +24,10 @@ use Rattle.mac_arena.specs.Laws.{ChangesEntry}
 use Rattle.mac_arena.proofs.Entries.{same_or_other}
 use Rattle.mac_arena.proofs.Looking.{removal_entry}
 use Rattle.mac_arena.proofs.Values.{latest_removal, chains_removal}
-use Rattle.ev_claims.specs.Voice.{Voice, own_register, own_advert, is_at, next_value, after_saying}
-use Rattle.ev_claims.specs.Claims.{Claims, key_of, after_removal, after_removals, after_update, after_losing_at}
-use Rattle.ev_claims.specs.Claims.{after_losing, after_take, is_lost}
+use Rattle.ev_claims.specs.Speaker.{Speaker, own_register, own_advert, is_at, next_value, after_originating}
+use Rattle.ev_claims.specs.LocalRoutes.{LocalRoutes, key_of, after_removal, after_removals, after_update}
+use Rattle.ev_claims.specs.LocalRoutes.{after_losing_at}
+use Rattle.ev_claims.specs.LocalRoutes.{after_losing, after_take, is_lost}
 use Rattle.ev_edge.specs.Edge.{OwnsAt, AreIndividual, ServesPorts}
 
 -- ---- another key is said
@@ -36,29 +37,30 @@ other_key r s i j ne e =
     let macs : r.mac ≡ s.mac = cc in
     ne (λ k. record { vni = vnis k; mac = macs k })
 
-pub said_other : (e : Voice) (k : Key) (c : Content) (j : Key) (o : ℕ) → j ≢ k
-    → advert_at (after_saying e k c).table o j ≡ advert_at e.table o j
+pub said_other : (e : Speaker) (k : Key) (c : Content) (j : Key) (o : ℕ) → j ≢ k
+    → advert_at (after_originating e k c).table o j ≡ advert_at e.table o j
 said_other e k c j o ne = ap advert_of (at_other e.table (own_register e k) (next_value e c) (register_of o j)
     (λ h. ne (ap (λ (q : Register). q.key) h)))
 
 -- a station whose key isn't said, by whatever IP address, is owned as it was
-pub saying_owns : (c : Claims) (k : Key) (content : Content) (r : Station) → ((j : Option Ip) → Mac r.vni r.mac j ≢ k)
-    → OwnsAt c r → OwnsAt (record c { voice = after_saying c.voice k content }) r
+pub saying_owns : (c : LocalRoutes) (k : Key) (content : Content) (r : Station)
+    → ((j : Option Ip) → Mac r.vni r.mac j ≢ k)
+    → OwnsAt c r → OwnsAt (record c { speaker = after_originating c.speaker k content }) r
 saying_owns c k content r ne h some =
-    owner_along c.voice.table (after_saying c.voice k content).table r.vni r.mac c.voice.address
-    (λ o j. sym (said_other c.voice k content (Mac r.vni r.mac j) o (ne j)))
-    (h (subst IsSome (said_other c.voice k content (key_of r) c.voice.address (ne None)) some))
+    owner_along c.speaker.table (after_originating c.speaker k content).table r.vni r.mac c.speaker.address
+    (λ o j. sym (said_other c.speaker k content (Mac r.vni r.mac j) o (ne j)))
+    (h (subst IsSome (said_other c.speaker k content (key_of r) c.speaker.address (ne None)) some))
 
 -- ---- a removal
 never_some : (o : Option Advert) → o ≡ None → IsSome o → ⊥
 never_some None is some = cc
 never_some (Some a) is some = cc
 
-removed_owns : (c : Claims) (s : Station) → OwnsAt (after_removal c s) s
-removed_owns c s some = absurd (never_some (own_advert (after_removal c s).voice (key_of s))
-    (ap advert_of (at_same c.voice.table (own_register c.voice (key_of s)) (next_value c.voice Withdrawn))) some)
+removed_owns : (c : LocalRoutes) (s : Station) → OwnsAt (after_removal c s) s
+removed_owns c s some = absurd (never_some (own_advert (after_removal c s).speaker (key_of s))
+    (ap advert_of (at_same c.speaker.table (own_register c.speaker (key_of s)) (next_value c.speaker Withdrawn))) some)
 
-pub removal_owns : (c : Claims) (s : Station) → ((r : Station) → r ≢ s → OwnsAt c r) → (r : Station)
+pub removal_owns : (c : LocalRoutes) (s : Station) → ((r : Station) → r ≢ s → OwnsAt c r) → (r : Station)
     → OwnsAt (after_removal c s) r
 removal_owns c s others r = elim (same_or_other r s) as (λ _. OwnsAt (after_removal c s) r) [
   | inl same ↦ subst (OwnsAt (after_removal c s)) (sym same) (removed_owns c s)
@@ -82,7 +84,7 @@ no_entry some = cc
 pub removal_individual : (t : Learning) (s : Station) → AreIndividual t → AreIndividual (gone t s)
 removal_individual t s h = changed_individual t (gone t s) s None (removal_entry t s) no_entry h
 
-pub record Holds (c : Claims) (second : ℕ) : Type 0 where
+pub record Holds (c : LocalRoutes) (second : ℕ) : Type 0 where
   pub owns : (s : Station) → OwnsAt c s
   pub latest : IsLatest c.learned second
   pub individual : AreIndividual c.learned
@@ -93,7 +95,7 @@ pub record Holds (c : Claims) (second : ℕ) : Type 0 where
 pub some_bucket : (t t' : Learning) → length t'.chains ≡ length t.chains → 0 < length t.chains → 0 < length t'.chains
 some_bucket t t' same h = omega (arith, same, h)
 
-pub removal_holds : (c : Claims) (s : Station) (second : ℕ) → Holds c second → Holds (after_removal c s) second
+pub removal_holds : (c : LocalRoutes) (s : Station) (second : ℕ) → Holds c second → Holds (after_removal c s) second
 removal_holds c s second h = record {
   owns = removal_owns c s (λ r ne. h.owns r);
   latest = latest_removal c.learned s second h.latest;
@@ -102,7 +104,8 @@ removal_holds c s second h = record {
   buckets = some_bucket c.learned (gone c.learned s) (chains_removal c.learned s) h.buckets;
 }
 
-pub removals_hold : (c : Claims) (ss : List Station) (second : ℕ) → Holds c second → Holds (after_removals c ss) second
+pub removals_hold : (c : LocalRoutes) (ss : List Station) (second : ℕ) → Holds c second
+    → Holds (after_removals c ss) second
 removals_hold c [] second h = h
 removals_hold c (s ∷ ss) second h = removals_hold (after_removal c s) ss second (removal_holds c s second h)
 
@@ -112,35 +115,36 @@ update_stays : (t : Table) (u : Fields) (k : Key) (o : ℕ) → k ≢ u.register
 update_stays t u k o ne = ap advert_of (others_stay t u (register_of o k)
     (λ same. ne (ap (λ (r : Register). r.key) same)))
 
-elsewhere : (c : Claims) (u : Fields) (r : Station) → ((j : Option Ip) → Mac r.vni r.mac j ≢ u.register.key)
+elsewhere : (c : LocalRoutes) (u : Fields) (r : Station) → ((j : Option Ip) → Mac r.vni r.mac j ≢ u.register.key)
     → OwnsAt c r → OwnsAt (after_update c u) r
 elsewhere c u r ne h some =
-    owner_along c.voice.table (with_update c.voice.table u) r.vni r.mac c.voice.address
-    (λ o j. sym (update_stays c.voice.table u (Mac r.vni r.mac j) o (ne j)))
-    (h (subst IsSome (update_stays c.voice.table u (key_of r) c.voice.address (ne None)) some))
+    owner_along c.speaker.table (with_update c.speaker.table u) r.vni r.mac c.speaker.address
+    (λ o j. sym (update_stays c.speaker.table u (Mac r.vni r.mac j) o (ne j)))
+    (h (subst IsSome (update_stays c.speaker.table u (key_of r) c.speaker.address (ne None)) some))
 
 -- an edge that isn't beaten is the owner
-not_lost : (c : Claims) (s : Station) → is_lost c s ≡ false → OwnsAt c s
-not_lost c s h some = go (owner c.voice.table s.vni s.mac) (at (own_advert c.voice (key_of s)) some h)
-    (owner_is c.voice.table s.vni s.mac)
+not_lost : (c : LocalRoutes) (s : Station) → is_lost c s ≡ false → OwnsAt c s
+not_lost c s h some = go (owner c.speaker.table s.vni s.mac) (at (own_advert c.speaker (key_of s)) some h)
+    (owner_is c.speaker.table s.vni s.mac)
   where
-    at : (o : Option Advert) → IsSome o → (is_some o && not (is_at (owner c.voice.table s.vni s.mac) c.voice.address))
-        ≡ false → is_at (owner c.voice.table s.vni s.mac) c.voice.address ≡ true
+    at : (o : Option Advert) → IsSome o → (is_some o && not (is_at (owner c.speaker.table s.vni s.mac)
+        c.speaker.address))
+        ≡ false → is_at (owner c.speaker.table s.vni s.mac) c.speaker.address ≡ true
     at None some h = cc
-    at (Some a) some h = tests (is_at (owner c.voice.table s.vni s.mac) c.voice.address) h
+    at (Some a) some h = tests (is_at (owner c.speaker.table s.vni s.mac) c.speaker.address) h
       where
         tests : (b : Bool) → not b ≡ false → b ≡ true
         tests true e = refl
         tests false e = absurd cc
 
-    go : (o : Option ℕ) → is_at o c.voice.address ≡ true
-        → MatchOption o (IsUnowned c.voice.table s.vni s.mac) (IsOwner c.voice.table s.vni s.mac)
-        → IsOwner c.voice.table s.vni s.mac c.voice.address
+    go : (o : Option ℕ) → is_at o c.speaker.address ≡ true
+        → MatchOption o (IsUnowned c.speaker.table s.vni s.mac) (IsOwner c.speaker.table s.vni s.mac)
+        → IsOwner c.speaker.table s.vni s.mac c.speaker.address
     go None p q = cc
-    go (Some o) p q = let same : o ≡ c.voice.address = grind (arith, nat_tests) in
-        subst (IsOwner c.voice.table s.vni s.mac) same q
+    go (Some o) p q = let same : o ≡ c.speaker.address = grind (arith, nat_tests) in
+        subst (IsOwner c.speaker.table s.vni s.mac) same q
 
-losing_holds : (c : Claims) (s : Station) (second : ℕ) → ((r : Station) → r ≢ s → OwnsAt c r)
+losing_holds : (c : LocalRoutes) (s : Station) (second : ℕ) → ((r : Station) → r ≢ s → OwnsAt c r)
     → IsLatest c.learned second → AreIndividual c.learned → ServesPorts c → 0 < length c.learned.chains
     → Holds (after_losing_at c s) second
 losing_holds c s second others latest single served buckets = go (is_lost c s) refl
@@ -165,7 +169,7 @@ losing_holds c s second others latest single served buckets = go (is_lost c s) r
       buckets = buckets;
     }
 
-pub taken_holds : (c : Claims) (u : Fields) (second : ℕ) → Holds c second → Holds (after_take c u) second
+pub taken_holds : (c : LocalRoutes) (u : Fields) (second : ℕ) → Holds c second → Holds (after_take c u) second
 taken_holds c u second h = go u.register.key refl
   where
     go : (k : Key) → u.register.key ≡ k → Holds (after_losing (after_update c u) k) second

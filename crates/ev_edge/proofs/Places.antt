@@ -7,7 +7,7 @@ use Rattle.std.specs.List.{list_any}
 use Rattle.ether_wire.specs.Ports as ports_of_sets
 use Rattle.std.specs.Prelude.{slice_get, slice_index_or, is_some, true, ◌↔◌}
 use Rattle.rstp_run.specs.Events.{IsPort}
-use Rattle.ev_claims.specs.Claims.{vni_at}
+use Rattle.ev_claims.specs.LocalRoutes.{vni_at}
 
 get_within : {X : Type 0} (xs : List X) (n : ℕ) → is_some (slice_get xs n) ≡ true → n < length xs
 get_within [] n h = cc

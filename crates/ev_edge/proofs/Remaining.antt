@@ -7,13 +7,13 @@ use Rattle.std.specs.FinMap.{FinMap, get}
 use Rattle.std.proofs.lemmas.List.{length-map}
 use Rattle.std.proofs.lemmas.Bool.{false≢true}
 use Rattle.std.proofs.lemmas.Bool.Decides.{nat_tests}
-use Rattle.ether_wire.specs.Names.{is_group}
+use Rattle.ether_wire.specs.Addr.{is_group}
 use Rattle.ether_wire.specs.Frame.{frame_of, destination_of, payload_of}
 use Rattle.ether_wire.specs.declared.frame.FrameRefusal.{FrameRefusal}
 use Rattle.ether_wire.specs.Ports.{place_of_port}
 use Rattle.bpdu_wire.specs.Reading.{reading}
 use Rattle.bpdu_wire.specs.declared.bpdu.Bpdu.{Bpdu}
-use Rattle.bpdu_wire.specs.declared.refusal.Refusal as bpdu
+use Rattle.bpdu_wire.specs.declared.refusal.BpduRefusal as bpdu
 use Rattle.route_wire.specs.Fields.{Fields}
 use Rattle.mac_arena.specs.declared.station.Station.{Station}
 use Rattle.mac_arena.specs.declared.station.Entry.{Entry}
@@ -33,8 +33,9 @@ use Rattle.ev_mobility.specs.declared.seq.Seq.TheVariants.{Next, Static, Spent}
 use Rattle.ev_mobility.specs.declared.window.Window.{Window}
 use Rattle.ev_mobility.specs.Window.{is_frozen, is_fifth}
 use Rattle.ev_mobility.specs.Seq.{seq_for}
-use Rattle.ev_claims.specs.Claims.{Claims, vni_at, after_advert, after_refresh, after_pin, after_shift, after_removal}
-use Rattle.ev_claims.specs.Claims.{after_take, after_own, after_announcement}
+use Rattle.ev_claims.specs.LocalRoutes.{LocalRoutes, vni_at, after_advert, after_refresh, after_pin, after_shift}
+use Rattle.ev_claims.specs.LocalRoutes.{after_removal}
+use Rattle.ev_claims.specs.LocalRoutes.{after_take, after_own, after_announcement}
 use Rattle.ev_claims.specs.Leaving.{after_flush, flushed_in}
 use Rattle.ev_edge.specs.declared.arrival.Arrival.{Arrival}
 use Rattle.ev_edge.specs.declared.arrival.Arrival.TheVariants.{Dropped, Message, Data}
@@ -65,26 +66,26 @@ use Rattle.ev_edge.proofs.Staying.{announced_keeps}
 same_good : (e e' : Edge) → e' ≡ e → IsGoodEdge e → IsGoodEdge e'
 same_good e e' is h = subst IsGoodEdge (sym is) h
 
--- other claims, of the same ports
-claims_good : (e e' : Edge) (c : Claims) → IsGoodEdge e → Keeps c e.clock → c.ports ≡ e.claims.ports
-    → e' ≡ record e { claims = c } → IsGoodEdge e'
-claims_good e e' c h k ports is = subst IsGoodEdge (sym is)
-    (good_by (record e { claims = c }) k (h.keeps.ports ∙ sym (ap length ports)) h.keeps.early)
+-- other local routes, of the same ports
+routes_good : (e e' : Edge) (c : LocalRoutes) → IsGoodEdge e → Keeps c e.clock → c.ports ≡ e.routes.ports
+    → e' ≡ record e { routes = c } → IsGoodEdge e'
+routes_good e e' c h k ports is = subst IsGoodEdge (sym is)
+    (good_by (record e { routes = c }) k (h.keeps.ports ∙ sym (ap length ports)) h.keeps.early)
 
 windows_good : (e : Edge) (windows : FinMap station_cmp Window) → IsGoodEdge e
     → IsGoodEdge (record e { windows = windows })
 windows_good e windows h = good_by (record e { windows = windows }) (keeps_of e h) h.keeps.ports h.keeps.early
 
-number_left : (c : Claims) → is_spent c ≡ false → c.voice.counter < 2 ^ 63
+number_left : (c : LocalRoutes) → is_spent c ≡ false → c.speaker.counter < 2 ^ 63
 number_left c few = grind (arith, nat_tests)
 
 -- ---- learning
 
 -- what holds where a station is learnt with this number
 record IsNew (e : Edge) (s : Station) (n : ℕ) : Type 0 where
-  none : entry_at e.claims.learned s ≡ None
-  room : is_full e.claims.learned ≡ false
-  few : is_spent e.claims ≡ false
+  none : entry_at e.routes.learned s ≡ None
+  room : is_full e.routes.learned ≡ false
+  few : is_spent e.routes ≡ false
   next : seq_for (table_of e) (address_of e) s.vni s.mac ≡ Next n
 
 moved_number : (window : Option Window) (second m n : ℕ) → move_case window second m ≡ Learn n → m ≡ n
@@ -99,7 +100,7 @@ moved_number window second m n is = go (eqb m 0) refl is
     go false t q = fifth (is_fifth window second) q
 
 case_new : (e : Edge) (s : Station) (n : ℕ) → case_of e s ≡ Learn n → IsNew e s n
-case_new e s n is = go (entry_at e.claims.learned s) refl is
+case_new e s n is = go (entry_at e.routes.learned s) refl is
   where
     window : Option Window
     window = get e.windows s
@@ -108,9 +109,9 @@ case_new e s n is = go (entry_at e.claims.learned s) refl is
     loose true q = cc
     loose false q = cc
 
-    room : (m : ℕ) → entry_at e.claims.learned s ≡ None → seq_for (table_of e) (address_of e) s.vni s.mac ≡ Next m
-        → is_spent e.claims ≡ false
-        → (b : Bool) → is_full e.claims.learned ≡ b → cond b (Refuse TableFull) (move_case (get e.windows s) e.clock m)
+    room : (m : ℕ) → entry_at e.routes.learned s ≡ None → seq_for (table_of e) (address_of e) s.vni s.mac ≡ Next m
+        → is_spent e.routes ≡ false
+        → (b : Bool) → is_full e.routes.learned ≡ b → cond b (Refuse TableFull) (move_case (get e.windows s) e.clock m)
         ≡ Learn n → IsNew e s n
     room m at next few true t q = cc
     room m at next few false t q = record {
@@ -120,33 +121,33 @@ case_new e s n is = go (entry_at e.claims.learned s) refl is
       next = next ∙ ap Next (moved_number (get e.windows s) e.clock m n q);
     }
 
-    spent : (m : ℕ) → entry_at e.claims.learned s ≡ None → seq_for (table_of e) (address_of e) s.vni s.mac ≡ Next m
-        → (b : Bool) → is_spent e.claims ≡ b
-        → cond b (Refuse CounterSpent) (cond (is_full e.claims.learned) (Refuse TableFull)
+    spent : (m : ℕ) → entry_at e.routes.learned s ≡ None → seq_for (table_of e) (address_of e) s.vni s.mac ≡ Next m
+        → (b : Bool) → is_spent e.routes ≡ b
+        → cond b (Refuse CounterSpent) (cond (is_full e.routes.learned) (Refuse TableFull)
         (move_case (get e.windows s) e.clock m)) ≡ Learn n → IsNew e s n
     spent m at next true t q = cc
-    spent m at next false t q = room m at next t (is_full e.claims.learned) refl q
+    spent m at next false t q = room m at next t (is_full e.routes.learned) refl q
 
-    numbered : entry_at e.claims.learned s ≡ None → (q : Seq) → seq_for (table_of e) (address_of e) s.vni s.mac ≡ q
+    numbered : entry_at e.routes.learned s ≡ None → (q : Seq) → seq_for (table_of e) (address_of e) s.vni s.mac ≡ q
         → numbered_case e (get e.windows s) q ≡ Learn n → IsNew e s n
     numbered at Static next q = cc
     numbered at Spent next q = cc
-    numbered at (Next m) next q = spent m at next (is_spent e.claims) refl q
+    numbered at (Next m) next q = spent m at next (is_spent e.routes) refl q
 
-    frozen : entry_at e.claims.learned s ≡ None → (b : Bool)
+    frozen : entry_at e.routes.learned s ≡ None → (b : Bool)
         → cond b Leave (numbered_case e (get e.windows s) (seq_for (table_of e) (address_of e) s.vni s.mac)) ≡ Learn n
         → IsNew e s n
     frozen at true q = cc
     frozen at false q = numbered at (seq_for (table_of e) (address_of e) s.vni s.mac) refl q
 
-    go : (o : Option Entry) → entry_at e.claims.learned s ≡ o → case_at e s o ≡ Learn n → IsNew e s n
+    go : (o : Option Entry) → entry_at e.routes.learned s ≡ o → case_at e s o ≡ Learn n → IsNew e s n
     go (Some x) at q = absurd (loose x.pinned q)
     go None at q = frozen at (is_frozen (get e.windows s)) q
 
 -- what is heard again is learnt, and not pinned
 case_known : (e : Edge) (s : Station) → case_of e s ≡ Refresh
-    → IsSome (entry_at e.claims.learned s) × (is_pinned (entry_at e.claims.learned s) ≡ false)
-case_known e s is = go (entry_at e.claims.learned s) refl is
+    → IsSome (entry_at e.routes.learned s) × (is_pinned (entry_at e.routes.learned s) ≡ false)
+case_known e s is = go (entry_at e.routes.learned s) refl is
   where
     move : (m : ℕ) (b d : Bool) → cond b (Learn 0) (cond d Freeze (Learn m)) ≡ Refresh → ⊥
     move m true d q = cc
@@ -162,7 +163,7 @@ case_known e s is = go (entry_at e.claims.learned s) refl is
     numbered : (q : Seq) → numbered_case e (get e.windows s) q ≡ Refresh → ⊥
     numbered Static q = cc
     numbered Spent q = cc
-    numbered (Next m) q = spent m (is_spent e.claims) (is_full e.claims.learned) q
+    numbered (Next m) q = spent m (is_spent e.routes) (is_full e.routes.learned) q
 
     frozen : (b : Bool) → cond b Leave (numbered_case e (get e.windows s)
         (seq_for (table_of e) (address_of e) s.vni s.mac)) ≡ Refresh → ⊥
@@ -173,8 +174,8 @@ case_known e s is = go (entry_at e.claims.learned s) refl is
     loose true q = cc
     loose false q = refl
 
-    go : (o : Option Entry) → entry_at e.claims.learned s ≡ o → case_at e s o ≡ Refresh
-        → IsSome (entry_at e.claims.learned s) × (is_pinned (entry_at e.claims.learned s) ≡ false)
+    go : (o : Option Entry) → entry_at e.routes.learned s ≡ o → case_at e s o ≡ Refresh
+        → IsSome (entry_at e.routes.learned s) × (is_pinned (entry_at e.routes.learned s) ≡ false)
     go (Some x) at q = (subst IsSome (sym at) refl, ap is_pinned at ∙ loose x.pinned q)
     go None at q = absurd (frozen (is_frozen (get e.windows s)) q)
 
@@ -184,29 +185,29 @@ either_good needs e after e' alert told h g (inl d) = same_good after e' d.1 g
 either_good needs e after e' alert told h g (inr d) = same_good e e' d.1 h
 
 learnt_good : (e : Edge) (s : Station) (port n : ℕ) → IsGoodEdge e
-    → Keeps (after_advert e.claims s port e.clock n) e.clock → (b : Bool)
-    → IsGoodEdge (record (cond b e (moved e s)) { claims = after_advert e.claims s port e.clock n })
+    → Keeps (after_advert e.routes s port e.clock n) e.clock → (b : Bool)
+    → IsGoodEdge (record (cond b e (moved e s)) { routes = after_advert e.routes s port e.clock n })
 learnt_good e s port n h k true = good_by _ k h.keeps.ports h.keeps.early
 learnt_good e s port n h k false = good_by _ k h.keeps.ports h.keeps.early
 
 does_good : (e : Edge) (s : Station) (port : ℕ) (told : Option Alert) (e' : Edge) → IsGoodEdge e
-    → vni_at e.claims.ports port ≡ Some s.vni → is_group s.mac ≡ false → (c : Case) → case_of e s ≡ c
+    → vni_at e.routes.ports port ≡ Some s.vni → is_group s.mac ≡ false → (c : Case) → case_of e s ≡ c
     → Does c e s port told e' → IsGoodEdge e'
 does_good e s port told e' h behind single Leave is d = same_good e e' d.1 h
 does_good e s port told e' h behind single Refresh is d =
     let known = case_known e s is in
-    claims_good e e' (after_refresh e.claims s port e.clock) h
-    (refresh_keeps e.claims s port e.clock (keeps_of e h) known.0 known.1 behind single) refl d.1
+    routes_good e e' (after_refresh e.routes s port e.clock) h
+    (refresh_keeps e.routes s port e.clock (keeps_of e h) known.0 known.1 behind single) refl d.1
 does_good e s port told e' h behind single (Refuse alert) is d = same_good e e' d.1 h
 does_good e s port told e' h behind single Freeze is d = same_good (moved e s) e' d.1 (windows_good e _ h)
 does_good e s port told e' h behind single (Learn n) is d =
     let new = case_new e s n is in
     either_good (needs_memory e s n) e _ e' _ told h
-    (learnt_good e s port n h (advert_keeps e.claims s port e.clock n (keeps_of e h) new.none new.room
-    (number_left e.claims new.few) behind single new.next) (eqb n 0)) d
+    (learnt_good e s port n h (advert_keeps e.routes s port e.clock n (keeps_of e h) new.none new.room
+    (number_left e.routes new.few) behind single new.next) (eqb n 0)) d
 
 learns_good : (e : Edge) (s : Station) (port : ℕ) (told : Option Alert) (e' : Edge) → IsGoodEdge e
-    → vni_at e.claims.ports port ≡ Some s.vni → (learns group : Bool) → is_group s.mac ≡ group
+    → vni_at e.routes.ports port ≡ Some s.vni → (learns group : Bool) → is_group s.mac ≡ group
     → LearnsIf (learns && not group) e s port told e' → IsGoodEdge e'
 learns_good e s port told e' h behind true false single d =
     does_good e s port told e' h behind single (case_of e s) refl d
@@ -236,9 +237,9 @@ bridges_good : (event : tree.Event) (e : Edge) (result : Result Reply Refusal) (
     → Bridges event e result e' → IsGoodEdge e'
 bridges_good event e (Ok reply) e' h d =
     subst IsGoodEdge (sym d.after)
-    (good_by _ (flush_keeps e.claims d.flush e.clock (keeps_of e h))
+    (good_by _ (flush_keeps e.routes d.flush e.clock (keeps_of e h))
     (goes_length event e.tree e'.tree d.goes.happens.firings d.goes.happens.run ∙ h.keeps.ports
-    ∙ sym (ap length (removals_ports e.claims (flushed_in e.claims.learned d.flush)))) h.keeps.early)
+    ∙ sym (ap length (removals_ports e.routes (flushed_in e.routes.learned d.flush)))) h.keeps.early)
 bridges_good event e (Err r) e' h d = absurd d
 
 bridges_at_good : (vni : Option ℕ) (event : tree.Event) (e : Edge) (result : Result Reply Refusal) (e' : Edge)
@@ -252,21 +253,21 @@ seconds_good e (Err r) e' h d = absurd d
 seconds_good e (Ok reply) e' h d =
     let times = second_early e.clock h.keeps.early in
     subst IsGoodEdge (sym d.after)
-    (good_by _ (aged_keeps (after_flush e.claims d.flush) e.ageing (next_second e.clock)
-    (later_keeps (after_flush e.claims d.flush) e.clock (next_second e.clock) times.0
-    (flush_keeps e.claims d.flush e.clock (keeps_of e h))))
+    (good_by _ (aged_keeps (after_flush e.routes d.flush) e.ageing (next_second e.clock)
+    (later_keeps (after_flush e.routes d.flush) e.clock (next_second e.clock) times.0
+    (flush_keeps e.routes d.flush e.clock (keeps_of e h))))
     (goes_length tree_events.Second e.tree e'.tree d.goes.happens.firings d.goes.happens.run ∙ h.keeps.ports
-    ∙ sym (ap length (aged_ports (after_flush e.claims d.flush) e.ageing (next_second e.clock)
-    ∙ removals_ports e.claims (flushed_in e.claims.learned d.flush)))) times.1)
+    ∙ sym (ap length (aged_ports (after_flush e.routes d.flush) e.ageing (next_second e.clock)
+    ∙ removals_ports e.routes (flushed_in e.routes.learned d.flush)))) times.1)
 
 -- ---- frames
 
 -- a frame of a network came at a port of it
 data_port : (e : Edge) (port : ℕ) (octets : List ℕ) (vni destination source : ℕ)
-    → frame_arrival e port octets ≡ Ok (Data vni destination source) → vni_at e.claims.ports port ≡ Some vni
-data_port e port octets vni destination source is = go (vni_at e.claims.ports port) refl is
+    → frame_arrival e port octets ≡ Ok (Data vni destination source) → vni_at e.routes.ports port ≡ Some vni
+data_port e port octets vni destination source is = go (vni_at e.routes.ports port) refl is
   where
-    reserved : (b : Bool) (r : Result Bpdu bpdu.Refusal)
+    reserved : (b : Bool) (r : Result Bpdu bpdu.BpduRefusal)
         → cond b (message_in r) (Ok Dropped) ≡ Ok (Data vni destination source) → ⊥
     reserved true (Ok m) q = cc
     reserved true (Err r) q = cc
@@ -283,15 +284,15 @@ data_port e port octets vni destination source is = go (vni_at e.claims.ports po
     at_port v true (Ok frame) q = of_data v frame (is_reserved (destination_of frame)) q
     at_port v false (Ok frame) q = cc
 
-    go : (o : Option ℕ) → vni_at e.claims.ports port ≡ o
+    go : (o : Option ℕ) → vni_at e.routes.ports port ≡ o
         → arrival_on o (is_up e.tree port) octets ≡ Ok (Data vni destination source)
-        → vni_at e.claims.ports port ≡ Some vni
+        → vni_at e.routes.ports port ≡ Some vni
     go None at q = cc
     go (Some v) at q = at ∙ ap Some (at_port v (is_up e.tree port) (frame_of octets) q)
 
 frame_good : (arrival : Result Arrival Refusal) (e : Edge) (port : ℕ) (result : Result Reply Refusal) (e' : Edge)
     → IsGoodEdge e → ((vni destination source : ℕ) → arrival ≡ Ok (Data vni destination source)
-    → vni_at e.claims.ports port ≡ Some vni)
+    → vni_at e.routes.ports port ≡ Some vni)
     → FrameSteps arrival e port result e' → IsGoodEdge e'
 frame_good (Err r) e port result e' h at d = same_good e e' d.1 h
 frame_good (Ok Dropped) e port result e' h at d = same_good e e' d.1 h
@@ -319,22 +320,22 @@ tunnel_good (Ok (Data vni destination source)) e (Err r) e' h d = absurd d
 
 takes_good : (e : Edge) (u : Fields) (result : Result Reply Refusal) (e' : Edge) → IsGoodEdge e → (b : Bool)
     → eqb u.register.originator (address_of e) ≡ b → Takes b e u result e' → IsGoodEdge e'
-takes_good e u (Ok reply) e' h true t d = claims_good e e' (after_own e.claims u) h
-    (own_keeps e.claims u e.clock (grind (arith, nat_tests)) d.0 d.1 (keeps_of e h)) refl d.3
+takes_good e u (Ok reply) e' h true t d = routes_good e e' (after_own e.routes u) h
+    (own_keeps e.routes u e.clock (grind (arith, nat_tests)) d.0 d.1 (keeps_of e h)) refl d.3
 takes_good e u (Err r) e' h true t d = same_good e e' d.1 h
-takes_good e u (Ok reply) e' h false t d = claims_good e e' (after_take e.claims u) h
-    (other_keeps e.claims u e.clock (λ same. grind (arith, nat_tests)) (keeps_of e h)) (taken_ports e.claims u) d.2
+takes_good e u (Ok reply) e' h false t d = routes_good e e' (after_take e.routes u) h
+    (other_keeps e.routes u e.clock (λ same. grind (arith, nat_tests)) (keeps_of e h)) (taken_ports e.routes u) d.2
 takes_good e u (Err r) e' h false t d = same_good e e' d.1 h
 
 -- a station that is pinned anew finds a number, and a place
 record IsPinnable (e : Edge) (s : Station) : Type 0 where
-  few : is_spent e.claims ≡ false
-  room : entry_at e.claims.learned s ≡ None → is_full e.claims.learned ≡ false
+  few : is_spent e.routes ≡ false
+  room : entry_at e.routes.learned s ≡ None → is_full e.routes.learned ≡ false
 
 unpinned_fits : (e : Edge) (s : Station) (known : Bool) → unpinned_case e s known ≡ Pin
-    → (is_spent e.claims ≡ false) × ((not known && is_full e.claims.learned) ≡ false)
-unpinned_fits e s known is = go (is_static (seq_for (table_of e) (address_of e) s.vni s.mac)) (is_spent e.claims)
-    (not known && is_full e.claims.learned) is
+    → (is_spent e.routes ≡ false) × ((not known && is_full e.routes.learned) ≡ false)
+unpinned_fits e s known is = go (is_static (seq_for (table_of e) (address_of e) s.vni s.mac)) (is_spent e.routes)
+    (not known && is_full e.routes.learned) is
   where
     go : (a b d : Bool) → cond a (Deny StaticElsewhere) (cond b (Deny CounterSpent) (cond d (Deny TableFull) Pin)) ≡ Pin
         → (b ≡ false) × (d ≡ false)
@@ -343,7 +344,7 @@ unpinned_fits e s known is = go (is_static (seq_for (table_of e) (address_of e) 
     go false false true q = cc
     go false false false q = (refl, refl)
 
-pinnable : (e : Edge) (s : Station) (port : ℕ) (o : Option Entry) → entry_at e.claims.learned s ≡ o
+pinnable : (e : Edge) (s : Station) (port : ℕ) (o : Option Entry) → entry_at e.routes.learned s ≡ o
     → pin_case_at e s port o ≡ Pin → IsPinnable e s
 pinnable e s port None at is = let f = unpinned_fits e s false is in record { few = f.0; room = λ none. f.1 }
 pinnable e s port (Some x) at is = go x.pinned (eqb x.port port) is
@@ -362,8 +363,8 @@ shifts_pinned : (e : Edge) (s : Station) (port : ℕ) (o : Option Entry) → pin
 shifts_pinned e s port None is = absurd (never false is)
   where
     never : (known : Bool) → unpinned_case e s known ≡ Shift → ⊥
-    never known q = go (is_static (seq_for (table_of e) (address_of e) s.vni s.mac)) (is_spent e.claims)
-        (not known && is_full e.claims.learned) q
+    never known q = go (is_static (seq_for (table_of e) (address_of e) s.vni s.mac)) (is_spent e.routes)
+        (not known && is_full e.routes.learned) q
       where
         go : (a b d : Bool) → cond a (Deny StaticElsewhere) (cond b (Deny CounterSpent) (cond d (Deny TableFull) Pin))
             ≡ Shift → ⊥
@@ -382,24 +383,24 @@ shifts_pinned e s port (Some x) is = go x.pinned (eqb x.port port) is
 
     go : (b d : Bool) → cond b (cond d Keep Shift) (unpinned_case e s true) ≡ Shift → b ≡ true
     go true d q = refl
-    go false d q = absurd (never (is_static (seq_for (table_of e) (address_of e) s.vni s.mac)) (is_spent e.claims)
-        (not true && is_full e.claims.learned) q)
+    go false d q = absurd (never (is_static (seq_for (table_of e) (address_of e) s.vni s.mac)) (is_spent e.routes)
+        (not true && is_full e.routes.learned) q)
 
 does_pin_good : (e : Edge) (s : Station) (port : ℕ) (told : Option Alert) (e' : Edge) → IsGoodEdge e
     → refused_pin e s port ≡ None → (c : PinCase) → pin_case e s port ≡ c → DoesPin c e s port told e' → IsGoodEdge e'
 does_pin_good e s port told e' h free Keep is d = same_good e e' d.1 h
 does_pin_good e s port told e' h free Shift is d =
     let fits = pin_fits e s port free in
-    claims_good e e' (after_shift e.claims s port) h (shift_keeps e.claims s port e.clock (keeps_of e h)
-    (shifts_pinned e s port (entry_at e.claims.learned s) is) fits.0 fits.1) refl d.1
+    routes_good e e' (after_shift e.routes s port) h (shift_keeps e.routes s port e.clock (keeps_of e h)
+    (shifts_pinned e s port (entry_at e.routes.learned s) is) fits.0 fits.1) refl d.1
 does_pin_good e s port told e' h free (Deny alert) is d = same_good e e' d.1 h
 does_pin_good e s port told e' h free Pin is d =
     let fits = pin_fits e s port free in
-    let f = pinnable e s port (entry_at e.claims.learned s) refl is in
-    let alone = pinned_alone e s port (entry_at e.claims.learned s) is in
-    either_good (needs_register e s) e (record e { claims = after_pin e.claims s port }) e' _ told h
-    (claims_good e _ (after_pin e.claims s port) h (pin_keeps e.claims s port e.clock (keeps_of e h) f.room
-    (number_left e.claims f.few) fits.0 fits.1 alone) refl refl) d
+    let f = pinnable e s port (entry_at e.routes.learned s) refl is in
+    let alone = pinned_alone e s port (entry_at e.routes.learned s) is in
+    either_good (needs_register e s) e (record e { routes = after_pin e.routes s port }) e' _ told h
+    (routes_good e _ (after_pin e.routes s port) h (pin_keeps e.routes s port e.clock (keeps_of e h) f.room
+    (number_left e.routes f.few) fits.0 fits.1 alone) refl refl) d
 
 pins_good : (e : Edge) (s : Station) (port : ℕ) (result : Result Reply Refusal) (e' : Edge) → IsGoodEdge e
     → (refused : Option EdgeRefusal) → refused_pin e s port ≡ refused → Pins refused e s port result e' → IsGoodEdge e'
@@ -408,16 +409,16 @@ pins_good e s port (Ok reply) e' h None is d = does_pin_good e s port reply.aler
 pins_good e s port (Err r) e' h None is d = absurd d
 
 unpin_good : (e : Edge) (s : Station) → IsGoodEdge e → IsGoodEdge (after_unpin e s)
-unpin_good e s h = go (is_pinned (entry_at e.claims.learned s)) refl
+unpin_good e s h = go (is_pinned (entry_at e.routes.learned s)) refl
   where
     known : (o : Option Entry) → is_pinned o ≡ true → IsSome o
     known None is = absurd (false≢true is)
     known (Some x) is = refl
 
-    go : (b : Bool) → is_pinned (entry_at e.claims.learned s) ≡ b
-        → IsGoodEdge (cond b (record e { claims = after_removal e.claims s }) e)
-    go true is = claims_good e _ (after_removal e.claims s) h
-        (removal_keeps e.claims s e.clock (keeps_of e h) (known (entry_at e.claims.learned s) is)) refl refl
+    go : (b : Bool) → is_pinned (entry_at e.routes.learned s) ≡ b
+        → IsGoodEdge (cond b (record e { routes = after_removal e.routes s }) e)
+    go true is = routes_good e _ (after_removal e.routes s) h
+        (removal_keeps e.routes s e.clock (keeps_of e h) (known (entry_at e.routes.learned s) is)) refl refl
     go false is = h
 
 -- ---- all events
@@ -434,8 +435,8 @@ steps_good e (events.Pin s port) result e' h d = pins_good e s port result e' h 
 steps_good e (events.Unpin s) result e' h d = same_good _ e' d.1 (unpin_good e s h)
 steps_good e (events.Thaw s) result e' h d = same_good _ e' d.1 (windows_good e _ h)
 steps_good e events.Second result e' h d = seconds_good e result e' h d
-steps_good e (events.PortUp port) result e' h d = bridges_at_good (vni_at e.claims.ports port) _ e result e' h d
-steps_good e (events.PortDown port) result e' h d = bridges_at_good (vni_at e.claims.ports port) _ e result e' h d
-steps_good e (events.Mcheck port) result e' h d = bridges_at_good (vni_at e.claims.ports port) _ e result e' h d
-steps_good e events.Announce result e' h d = claims_good e e' (after_announcement e.claims) h
-    (announced_keeps e.claims e.clock (keeps_of e h)) refl d.1
+steps_good e (events.PortUp port) result e' h d = bridges_at_good (vni_at e.routes.ports port) _ e result e' h d
+steps_good e (events.PortDown port) result e' h d = bridges_at_good (vni_at e.routes.ports port) _ e result e' h d
+steps_good e (events.Mcheck port) result e' h d = bridges_at_good (vni_at e.routes.ports port) _ e result e' h d
+steps_good e events.Announce result e' h d = routes_good e e' (after_announcement e.routes) h
+    (announced_keeps e.routes e.clock (keeps_of e h)) refl d.1

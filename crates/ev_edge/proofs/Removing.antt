@@ -23,8 +23,8 @@ use Rattle.mac_arena.proofs.Looking.{learn_entry, pin_entry}
 use Rattle.rstp_run.specs.declared.event.Event as tree
 use Rattle.rstp_run.specs.declared.event.Event.TheVariants as tree_events
 use Rattle.ev_mobility.specs.declared.alert.Alert.{Alert}
-use Rattle.ev_claims.specs.Claims.{Claims, AreGood, vni_at, after_removal, after_removals}
-use Rattle.ev_claims.specs.Claims.{after_update, after_losing, after_losing_at, is_lost, station_of}
+use Rattle.ev_claims.specs.LocalRoutes.{LocalRoutes, AreGood, vni_at, after_removal, after_removals}
+use Rattle.ev_claims.specs.LocalRoutes.{after_update, after_losing, after_losing_at, is_lost, station_of}
 use Rattle.ev_claims.specs.Leaving.{after_ageing, after_flush, due_in, flushed_in, goes_by_age, goes_by_flush}
 use Rattle.ev_claims.proofs.Changed.{flushes_out, removals_entries}
 use Rattle.ev_claims.proofs.Lists.{removal_lists}
@@ -66,23 +66,23 @@ still (Some x) known = (λ gone. (let f : ⊥ = cc in absurd f), λ bad. (let f 
 
 -- ---- what takes nobody
 
-same_table : (e e' : Edge) → e'.claims.learned ≡ e.claims.learned → GoExactly e e' nobody
+same_table : (e e' : Edge) → e'.routes.learned ≡ e.routes.learned → GoExactly e e' nobody
 same_table e e' is = λ s known.
-    either_way (entry_at e.claims.learned s) (entry_at e'.claims.learned s) false known
+    either_way (entry_at e.routes.learned s) (entry_at e'.routes.learned s) false known
     (ap (λ t. entry_at t s) is)
 
 same : (e e' : Edge) → e' ≡ e → GoExactly e e' nobody
-same e e' is = same_table e e' (ap (λ (x : Edge). x.claims.learned) is)
+same e e' is = same_table e e' (ap (λ (x : Edge). x.routes.learned) is)
 
 -- one entry changes, and is there
-changed : (e e' : Edge) (q : Station) (x : Option Entry) → ChangesEntry e.claims.learned e'.claims.learned q x
-    → (IsSome (entry_at e.claims.learned q) → IsSome x) → GoExactly e e' nobody
-changed e e' q x c there = λ s known. elim (same_or_other s q) as (λ _. (entry_at e'.claims.learned s ≡ None)
+changed : (e e' : Edge) (q : Station) (x : Option Entry) → ChangesEntry e.routes.learned e'.routes.learned q x
+    → (IsSome (entry_at e.routes.learned q) → IsSome x) → GoExactly e e' nobody
+changed e e' q x c there = λ s known. elim (same_or_other s q) as (λ _. (entry_at e'.routes.learned s ≡ None)
     ↔ (false ≡ true)) [
-      | inl is ↦ still (entry_at e'.claims.learned s)
-          (subst IsSome (sym (ap (entry_at e'.claims.learned) is ∙ c.here))
-          (there (subst (λ r. IsSome (entry_at e.claims.learned r)) is known)))
-      | inr ne ↦ still (entry_at e'.claims.learned s) (subst IsSome (sym (c.others s ne)) known)
+      | inl is ↦ still (entry_at e'.routes.learned s)
+          (subst IsSome (sym (ap (entry_at e'.routes.learned) is ∙ c.here))
+          (there (subst (λ r. IsSome (entry_at e.routes.learned r)) is known)))
+      | inr ne ↦ still (entry_at e'.routes.learned s) (subst IsSome (sym (c.others s ne)) known)
     ]
 
 changes_to : (t u v : Learning) (q : Station) (x : Option Entry) → v ≡ u → ChangesEntry t u q x → ChangesEntry t v q x
@@ -97,44 +97,44 @@ learnt_there o port second Pinned known = known
 learnt_there o port second Full known = known
 
 learnt : (e e' : Edge) (q : Station) (port second : ℕ) (answer : Learnt)
-    → e'.claims.learned ≡ after_learn e.claims.learned q port second answer → GoExactly e e' nobody
+    → e'.routes.learned ≡ after_learn e.routes.learned q port second answer → GoExactly e e' nobody
 learnt e e' q port second answer is =
-    changed e e' q (entry_learnt (entry_at e.claims.learned q) port second answer)
-    (changes_to e.claims.learned (after_learn e.claims.learned q port second answer) e'.claims.learned q _ is
-    (learn_entry e.claims.learned q port second answer))
-    (learnt_there (entry_at e.claims.learned q) port second answer)
+    changed e e' q (entry_learnt (entry_at e.routes.learned q) port second answer)
+    (changes_to e.routes.learned (after_learn e.routes.learned q port second answer) e'.routes.learned q _ is
+    (learn_entry e.routes.learned q port second answer))
+    (learnt_there (entry_at e.routes.learned q) port second answer)
 
 pinned_there : (o : Option Entry) (full : Bool) (port : ℕ) → IsSome o
     → IsSome (cond (cond (is_some o) true (cond full false true)) (Some (pinned_at port)) None)
 pinned_there None full port known = let f : ⊥ = cc in absurd f
 pinned_there (Some x) full port known = refl
 
-pinned : (e e' : Edge) (q : Station) (port : ℕ) → e'.claims.learned ≡ pinned_on e.claims.learned q port
+pinned : (e e' : Edge) (q : Station) (port : ℕ) → e'.routes.learned ≡ pinned_on e.routes.learned q port
     → GoExactly e e' nobody
 pinned e e' q port is =
-    changed e e' q _ (changes_to e.claims.learned (pinned_on e.claims.learned q port) e'.claims.learned q _ is
-    (pin_entry e.claims.learned q port))
-    (pinned_there (entry_at e.claims.learned q) (is_full e.claims.learned) port)
+    changed e e' q _ (changes_to e.routes.learned (pinned_on e.routes.learned q port) e'.routes.learned q _ is
+    (pin_entry e.routes.learned q port))
+    (pinned_there (entry_at e.routes.learned q) (is_full e.routes.learned) port)
 
 does : (c : Case) (e : Edge) (q : Station) (port : ℕ) (told : Option Alert) (e' : Edge) → Does c e q port told e'
     → GoExactly e e' nobody
 does Leave e q port told e' h = same e e' h.1
-does Refresh e q port told e' h = learnt e e' q port e.clock (learnt_of e.claims.learned q port)
-    (ap (λ (x : Edge). x.claims.learned) h.1)
+does Refresh e q port told e' h = learnt e e' q port e.clock (learnt_of e.routes.learned q port)
+    (ap (λ (x : Edge). x.routes.learned) h.1)
 does (Refuse alert) e q port told e' h = same e e' h.1
-does Freeze e q port told e' h = same_table e e' (ap (λ (x : Edge). x.claims.learned) h.1)
+does Freeze e q port told e' h = same_table e e' (ap (λ (x : Edge). x.routes.learned) h.1)
 does (Learn n) e q port told e' h = elim h as (λ _. GoExactly e e' nobody) [
-  | inl done ↦ learnt e e' q port e.clock New (ap (λ (x : Edge). x.claims.learned) done.1)
+  | inl done ↦ learnt e e' q port e.clock New (ap (λ (x : Edge). x.routes.learned) done.1)
   | inr refused ↦ same e e' refused.1
 ]
 
 does_pin : (c : PinCase) (e : Edge) (q : Station) (port : ℕ) (told : Option Alert) (e' : Edge)
     → DoesPin c e q port told e' → GoExactly e e' nobody
 does_pin pins.Keep e q port told e' h = same e e' h.1
-does_pin pins.Shift e q port told e' h = pinned e e' q port (ap (λ (x : Edge). x.claims.learned) h.1)
+does_pin pins.Shift e q port told e' h = pinned e e' q port (ap (λ (x : Edge). x.routes.learned) h.1)
 does_pin (pins.Deny alert) e q port told e' h = same e e' h.1
 does_pin pins.Pin e q port told e' h = elim h as (λ _. GoExactly e e' nobody) [
-  | inl done ↦ pinned e e' q port (ap (λ (x : Edge). x.claims.learned) done.1)
+  | inl done ↦ pinned e e' q port (ap (λ (x : Edge). x.routes.learned) done.1)
   | inr refused ↦ same e e' refused.1
 ]
 
@@ -146,13 +146,13 @@ learns false e q port told e' h = same e e' h.1
 -- ---- what goes by one test
 
 exactly : (e e' : Edge) (goes : Station → Bool)
-    → ((s : Station) → entry_at e'.claims.learned s ≡ cond (goes s) None (entry_at e.claims.learned s))
+    → ((s : Station) → entry_at e'.routes.learned s ≡ cond (goes s) None (entry_at e.routes.learned s))
     → GoExactly e e' goes
-exactly e e' goes is = λ s known. either_way (entry_at e.claims.learned s) (entry_at e'.claims.learned s) (goes s) known
+exactly e e' goes is = λ s known. either_way (entry_at e.routes.learned s) (entry_at e'.routes.learned s) (goes s) known
     (is s)
 
 -- one station goes
-one_gone : (c : Claims) (q s : Station) → entry_at (after_removal c q).learned s
+one_gone : (c : LocalRoutes) (q s : Station) → entry_at (after_removal c q).learned s
     ≡ cond (is_same q s) None (entry_at c.learned s)
 one_gone c q s = removals_entries c (q ∷ []) s ∙ go (is_same q s)
   where
@@ -166,7 +166,7 @@ pick true d o h = ap (λ x. cond x None o) (sym (h refl))
 pick false d o h = refl
 
 -- the station goes if it is so, which is asked of it as of the one that goes
-one_if : (c : Claims) (q s : Station) (test : Station → Bool)
+one_if : (c : LocalRoutes) (q s : Station) (test : Station → Bool)
     → entry_at (cond (test q) (after_removal c q) c).learned s
     ≡ cond (is_same q s && test s) None (entry_at c.learned s)
 one_if c q s test = go (test q) refl (is_same q s) refl
@@ -182,43 +182,43 @@ one_if c q s test = go (test q) refl (is_same q s) refl
     go false is true there = ap (λ x. cond x None (entry_at c.learned s)) (sym (goes_on there ∙ is))
     go false is false there = refl
 
-unpinned : (e : Edge) (q s : Station) → entry_at (after_unpin e q).claims.learned s
-    ≡ cond (goes_by_unpin e q s) None (entry_at e.claims.learned s)
+unpinned : (e : Edge) (q s : Station) → entry_at (after_unpin e q).routes.learned s
+    ≡ cond (goes_by_unpin e q s) None (entry_at e.routes.learned s)
 unpinned e q s =
-    go (is_pinned (entry_at e.claims.learned q)) ∙ one_if e.claims q s (λ r. is_pinned (entry_at e.claims.learned r))
+    go (is_pinned (entry_at e.routes.learned q)) ∙ one_if e.routes q s (λ r. is_pinned (entry_at e.routes.learned r))
   where
-    go : (p : Bool) → entry_at (cond p (record e { claims = after_removal e.claims q }) e).claims.learned s
-        ≡ entry_at (cond p (after_removal e.claims q) e.claims).learned s
+    go : (p : Bool) → entry_at (cond p (record e { routes = after_removal e.routes q }) e).routes.learned s
+        ≡ entry_at (cond p (after_removal e.routes q) e.routes).learned s
     go true = refl
     go false = refl
 
-lost : (c : Claims) (k : Key) (s : Station) → entry_at (after_losing c k).learned s
+lost : (c : LocalRoutes) (k : Key) (s : Station) → entry_at (after_losing c k).learned s
     ≡ cond (is_of (station_of k) s && is_lost c s) None (entry_at c.learned s)
 lost c (Flood v) s = refl
 lost c (Mac v m ip) s = one_if c (record { vni = v; mac = m }) s (is_lost c)
 
 -- ---- the bridge
 
-flushed : (e e' : Edge) (flush : ℕ) → IsGoodEdge e → e'.claims ≡ after_flush e.claims flush
+flushed : (e e' : Edge) (flush : ℕ) → IsGoodEdge e → e'.routes ≡ after_flush e.routes flush
     → GoExactly e e' (is_flushed e flush)
 flushed e e' flush good is = exactly e e' (is_flushed e flush)
-    (λ s. ap (λ (c : Claims). entry_at c.learned s) is ∙ (flushes_out e.claims flush good.claims).exactly s)
+    (λ s. ap (λ (c : LocalRoutes). entry_at c.learned s) is ∙ (flushes_out e.routes flush good.routes).exactly s)
 
 bridged : (event : tree.Event) (e : Edge) (reply : Reply) (e' : Edge) → IsGoodEdge e → Bridges event e (Ok reply) e'
     → FlushRemoves event e reply e'
 bridged event e reply e' good h = record {
   flush = h.flush;
   goes = h.goes;
-  gone = flushed e e' h.flush good (ap (λ (x : Edge). x.claims) h.after);
+  gone = flushed e e' h.flush good (ap (λ (x : Edge). x.routes) h.after);
 }
 
 -- ---- a second
 
-removals_lists : (c : Claims) (ss : List Station) → ListsName c.learned → ListsName (after_removals c ss).learned
+removals_lists : (c : LocalRoutes) (ss : List Station) → ListsName c.learned → ListsName (after_removals c ss).learned
 removals_lists c [] h = h
 removals_lists c (s ∷ ss) h = removals_lists (after_removal c s) ss (removal_lists c.learned s h)
 
-due_goes : (c : Claims) (limit : ℕ) (s : Station) → ListsName c.learned
+due_goes : (c : LocalRoutes) (limit : ℕ) (s : Station) → ListsName c.learned
     → entry_at (after_ageing c limit).learned s ≡ cond (goes_by_age limit (entry_at c.learned s)) None
     (entry_at c.learned s)
 due_goes c limit s h = removals_entries c (due_in c.learned limit) s
@@ -245,7 +245,7 @@ young ageing now (Some x) off = go x.pinned (nat_le (x.last + ageing) now) refl
     go false false bt = refl
     go false true bt = let f : ⊥ = grind (arith, nat_tests) in absurd f
 
-aged_goes : (c : Claims) (ageing now : ℕ) (s : Station) → ListsName c.learned
+aged_goes : (c : LocalRoutes) (ageing now : ℕ) (s : Station) → ListsName c.learned
     → entry_at (aged c ageing now).learned s ≡ cond (is_old ageing now (entry_at c.learned s)) None
     (entry_at c.learned s)
 aged_goes c ageing now s h = go (nat_le ageing now) refl
@@ -270,12 +270,12 @@ second e reply e' good h = record {
   goes = h.goes;
   gone = exactly e e' (goes_in_second e h.flush) (λ s.
       let now = next_second e.clock in
-      let c = after_flush e.claims h.flush in
-      let out = (flushes_out e.claims h.flush good.claims).exactly s in
-      ap (λ (x : Edge). entry_at x.claims.learned s) h.after
-      ∙ aged_goes c e.ageing now s (removals_lists e.claims (flushed_in e.claims.learned h.flush) good.claims.lists)
+      let c = after_flush e.routes h.flush in
+      let out = (flushes_out e.routes h.flush good.routes).exactly s in
+      ap (λ (x : Edge). entry_at x.routes.learned s) h.after
+      ∙ aged_goes c e.ageing now s (removals_lists e.routes (flushed_in e.routes.learned h.flush) good.routes.lists)
       ∙ (λ i. cond (is_old e.ageing now (out i)) None (out i))
-      ∙ twice e.ageing now (is_flushed e h.flush s) (entry_at e.claims.learned s));
+      ∙ twice e.ageing now (is_flushed e h.flush s) (entry_at e.routes.learned s));
 }
 
 -- ---- all events
@@ -304,10 +304,10 @@ by_tunnel (Ok (Data vni destination source)) e (Ok reply) e' h = same e e' h.2
 by_tunnel (Ok (Data vni destination source)) e (Err r) e' h = absurd h
 
 by_take : (b : Bool) (e : Edge) (u : Fields) (reply : Reply) (e' : Edge) → Takes b e u (Ok reply) e'
-    → GoExactly e e' (λ s. not b && (is_of (station_of u.register.key) s && is_lost (after_update e.claims u) s))
-by_take true e u reply e' h = same_table e e' (ap (λ (x : Edge). x.claims.learned) h.3)
+    → GoExactly e e' (λ s. not b && (is_of (station_of u.register.key) s && is_lost (after_update e.routes u) s))
+by_take true e u reply e' h = same_table e e' (ap (λ (x : Edge). x.routes.learned) h.3)
 by_take false e u reply e' h = exactly e e' _
-    (λ s. ap (λ (x : Edge). entry_at x.claims.learned s) h.2 ∙ lost (after_update e.claims u) u.register.key s)
+    (λ s. ap (λ (x : Edge). entry_at x.routes.learned s) h.2 ∙ lost (after_update e.routes u) u.register.key s)
 
 no_take : (b : Bool) (e : Edge) (u : Fields) (r : Refusal) (e' : Edge) → Takes b e u (Err r) e' → GoExactly e e' nobody
 no_take true e u r e' h = same e e' h.1
@@ -337,16 +337,16 @@ taken (events.TunnelFrame from octets) e reply e' good h =
 taken (events.Take u) e reply e' good h = by_take (eqb u.register.originator (address_of e)) e u reply e' h
 taken (events.Pin q port) e reply e' good h = by_pin (refused_pin e q port) e q port (Ok reply) e' h
 taken (events.Unpin q) e reply e' good h = exactly e e' (goes_by_unpin e q)
-    (λ s. ap (λ (x : Edge). entry_at x.claims.learned s) h.1 ∙ unpinned e q s)
-taken (events.Thaw q) e reply e' good h = same_table e e' (ap (λ (x : Edge). x.claims.learned) h.1)
+    (λ s. ap (λ (x : Edge). entry_at x.routes.learned s) h.1 ∙ unpinned e q s)
+taken (events.Thaw q) e reply e' good h = same_table e e' (ap (λ (x : Edge). x.routes.learned) h.1)
 taken events.Second e reply e' good h = second e reply e' good h
-taken (events.PortUp port) e reply e' good h = by_port (vni_at e.claims.ports port) (tree_events.PortUp port) e reply e'
+taken (events.PortUp port) e reply e' good h = by_port (vni_at e.routes.ports port) (tree_events.PortUp port) e reply e'
     good h
-taken (events.PortDown port) e reply e' good h = by_port (vni_at e.claims.ports port) (tree_events.PortDown port) e
+taken (events.PortDown port) e reply e' good h = by_port (vni_at e.routes.ports port) (tree_events.PortDown port) e
     reply e' good h
-taken (events.Mcheck port) e reply e' good h = by_port (vni_at e.claims.ports port) (tree_events.Mcheck port) e reply e'
+taken (events.Mcheck port) e reply e' good h = by_port (vni_at e.routes.ports port) (tree_events.Mcheck port) e reply e'
     good h
-taken events.Announce e reply e' good h = same_table e e' (ap (λ (x : Edge). x.claims.learned) h.1)
+taken events.Announce e reply e' good h = same_table e e' (ap (λ (x : Edge). x.routes.learned) h.1)
 
 refused : (event : Event) (e : Edge) (r : Refusal) (e' : Edge) → Steps e event (Err r) e' → GoExactly e e' nobody
 refused (events.Frame port octets) e r e' h = no_frame (frame_arrival e port octets.now) e port r e' h
@@ -356,9 +356,9 @@ refused (events.Pin q port) e r e' h = by_pin (refused_pin e q port) e q port (E
 refused (events.Unpin q) e r e' h = let f : ⊥ = (let bad = h.0 in cc) in absurd f
 refused (events.Thaw q) e r e' h = let f : ⊥ = (let bad = h.0 in cc) in absurd f
 refused events.Second e r e' h = absurd h
-refused (events.PortUp port) e r e' h = no_port (vni_at e.claims.ports port) (tree_events.PortUp port) e r e' h
-refused (events.PortDown port) e r e' h = no_port (vni_at e.claims.ports port) (tree_events.PortDown port) e r e' h
-refused (events.Mcheck port) e r e' h = no_port (vni_at e.claims.ports port) (tree_events.Mcheck port) e r e' h
+refused (events.PortUp port) e r e' h = no_port (vni_at e.routes.ports port) (tree_events.PortUp port) e r e' h
+refused (events.PortDown port) e r e' h = no_port (vni_at e.routes.ports port) (tree_events.PortDown port) e r e' h
+refused (events.Mcheck port) e r e' h = no_port (vni_at e.routes.ports port) (tree_events.Mcheck port) e r e' h
 refused events.Announce e r e' h = let f : ⊥ = (let bad = h.0 in cc) in absurd f
 
 -- so it is at each event

@@ -5,10 +5,10 @@ use Rattle.route_wire.specs.Fields.{Fields}
 use Rattle.route_join.specs.declared.table.Taken.{Taken}
 use Rattle.route_join.specs.Table.{value_at}
 use Rattle.route_join.specs.Taken.{taken_of}
-use Rattle.ev_claims.specs.declared.voice.OwnError.{OwnError}
-use Rattle.ev_claims.specs.declared.voice.OwnError.TheVariants.{Ahead, Spent, NoMemory}
-use Rattle.ev_claims.specs.Voice.{KeepsNumbers, is_ahead, is_spent, is_returning}
-use Rattle.ev_claims.specs.Claims.{Claims, after_own}
+use Rattle.ev_claims.specs.declared.speaker.OwnError.{OwnError}
+use Rattle.ev_claims.specs.declared.speaker.OwnError.TheVariants.{Ahead, Spent, NoMemory}
+use Rattle.ev_claims.specs.Speaker.{KeepsNumbers, is_ahead, is_spent, is_returning}
+use Rattle.ev_claims.specs.LocalRoutes.{LocalRoutes, after_own}
 use Rattle.ev_edge.specs.Edge.{Edge, IsEdge, table_of}
 use Rattle.ev_edge.specs.Steps.{TakesOwn, own_result, nothing}
 use Rattle.ev_edge.proofs.Keeping.{kept, holds_of}
@@ -18,32 +18,33 @@ never : (b : Bool) (P : Type 0) → P ↔ (b ≡ true) → (P → ⊥) → b ≡
 never true P h free = absurd (free (h.1 refl))
 never false P h free = refl
 
-pub own_steps : (e : Edge) (u : Fields) (d : Claims) (r : Result Taken OwnError)
-    → IfOk r (λ t. t ≡ taken_of (table_of e) u) → OnOk r (d ≡ after_own e.claims u)
-    → (r ≡ Err Ahead) ↔ (is_ahead e.claims.voice u ≡ true) → (r ≡ Err Spent) ↔ (is_spent e.claims.voice u ≡ true)
-    → (r ≡ Err NoMemory → (value_at (table_of e) u.register ≡ None) ⊎ (is_returning e.claims.voice u ≡ true))
-    → OnErr r (d ≡ e.claims)
-    → TakesOwn e u (own_result r) (record e { claims = d })
+pub own_steps : (e : Edge) (u : Fields) (d : LocalRoutes) (r : Result Taken OwnError)
+    → IfOk r (λ t. t ≡ taken_of (table_of e) u) → OnOk r (d ≡ after_own e.routes u)
+    → (r ≡ Err Ahead) ↔ (is_ahead e.routes.speaker u ≡ true) → (r ≡ Err Spent) ↔ (is_spent e.routes.speaker u ≡ true)
+    → (r ≡ Err NoMemory → (value_at (table_of e) u.register ≡ None) ⊎ (is_returning e.routes.speaker u ≡ true))
+    → OnErr r (d ≡ e.routes)
+    → TakesOwn e u (own_result r) (record e { routes = d })
 own_steps e u d (Ok t) taken ok ahead spent memory err = (
   never _ _ ahead (λ p. cc),
   never _ _ spent (λ p. cc),
   (λ i. record nothing { taken = Some (taken i) }),
-  λ i. record e { claims = ok i },
+  λ i. record e { routes = ok i },
 )
 own_steps e u d (Err Ahead) taken ok ahead spent memory err =
-    (inl (refl, ahead.0 refl), λ i. record e { claims = err i })
+    (inl (refl, ahead.0 refl), λ i. record e { routes = err i })
 own_steps e u d (Err Spent) taken ok ahead spent memory err =
-    (inr (inl (refl, spent.0 refl)), λ i. record e { claims = err i })
+    (inr (inl (refl, spent.0 refl)), λ i. record e { routes = err i })
 own_steps e u d (Err NoMemory) taken ok ahead spent memory err = (
   inr (inr (refl, never _ _ ahead (λ p. cc), never _ _ spent (λ p. cc), memory refl)),
-  λ i. record e { claims = err i },
+  λ i. record e { routes = err i },
 )
 
-pub own_kept : (e : Edge) (passing : ℕ) (u : Fields) (d : Claims) (r : Result Taken OwnError) → IsEdge e passing
-    → KeepsNumbers e.claims.voice → u.register.originator ≡ e.claims.voice.address → OnOk r (d ≡ after_own e.claims u)
-    → (r ≡ Err Ahead) ↔ (is_ahead e.claims.voice u ≡ true) → OnErr r (d ≡ e.claims)
-    → IsEdge (record e { claims = d }) passing
+pub own_kept : (e : Edge) (passing : ℕ) (u : Fields) (d : LocalRoutes) (r : Result Taken OwnError) → IsEdge e passing
+    → KeepsNumbers e.routes.speaker → u.register.originator ≡ e.routes.speaker.address
+    → OnOk r (d ≡ after_own e.routes u)
+    → (r ≡ Err Ahead) ↔ (is_ahead e.routes.speaker u ≡ true) → OnErr r (d ≡ e.routes)
+    → IsEdge (record e { routes = d }) passing
 own_kept e passing u d (Ok t) h numbers own ok ahead err =
-    kept e passing (after_own e.claims u) d h ok (own_holds e.claims u e.clock numbers own (never _ _ ahead (λ p. cc))
+    kept e passing (after_own e.routes u) d h ok (own_holds e.routes u e.clock numbers own (never _ _ ahead (λ p. cc))
     (holds_of e passing h)) refl
-own_kept e passing u d (Err x) h numbers own ok ahead err = kept e passing e.claims d h err (holds_of e passing h) refl
+own_kept e passing u d (Err x) h numbers own ok ahead err = kept e passing e.routes d h err (holds_of e passing h) refl

@@ -7,7 +7,7 @@ use Rattle.std.specs.Option.{option_map}
 use Rattle.std.proofs.lemmas.List.{length-map}
 use Rattle.std.proofs.lemmas.Bool.{false≢true}
 use Rattle.std.proofs.lemmas.Bool.Decides.{nat_tests}
-use Rattle.ether_wire.specs.Names.{is_group}
+use Rattle.ether_wire.specs.Addr.{is_group}
 use Rattle.ether_wire.specs.Ports.{ports_of}
 use Rattle.route_wire.specs.declared.update.Key.{Key}
 use Rattle.route_wire.specs.declared.update.Key.TheVariants.{Flood, Mac}
@@ -28,16 +28,20 @@ use Rattle.mac_arena.proofs.Entries.{same_true, eq_same}
 use Rattle.mac_arena.proofs.Going.{due_exact}
 use Rattle.mac_arena.proofs.Held.{learn_names, hear_names, pin_names, removal_names}
 use Rattle.mac_arena.proofs.Placing.{IsBased}
-use Rattle.ev_claims.specs.Voice.{Voice, KeepsNumbers, own_advert, is_at, is_newest, is_ahead, is_spent as has_spent}
-use Rattle.ev_claims.specs.Voice.{is_returning, after_saying, after_hearing, after_hearing_own, after_announcing}
-use Rattle.ev_claims.specs.Claims.{Claims, KeepsClaims, AreGood, key_of, moving, fixed, vni_at, is_lost, after_advert}
-use Rattle.ev_claims.specs.Claims.{after_refresh, after_pin, after_shift, after_removal, after_removals, after_update}
-use Rattle.ev_claims.specs.Claims.{after_losing, after_take, after_own, after_announcement}
+use Rattle.ev_claims.specs.Speaker.{Speaker, KeepsNumbers, own_advert, is_at, is_newest, is_ahead}
+use Rattle.ev_claims.specs.Speaker.{is_spent as has_spent}
+use Rattle.ev_claims.specs.Speaker.{is_returning, after_originating, after_importing, after_importing_own}
+use Rattle.ev_claims.specs.Speaker.{after_announcing}
+use Rattle.ev_claims.specs.LocalRoutes.{LocalRoutes, KeepsRoutes, AreGood, key_of, moving, fixed, vni_at, is_lost}
+use Rattle.ev_claims.specs.LocalRoutes.{after_advert}
+use Rattle.ev_claims.specs.LocalRoutes.{after_refresh, after_pin, after_shift, after_removal, after_removals}
+use Rattle.ev_claims.specs.LocalRoutes.{after_update}
+use Rattle.ev_claims.specs.LocalRoutes.{after_losing, after_take, after_own, after_announcement}
 use Rattle.ev_claims.specs.Leaving.{after_flush, after_ageing, due_in, flushed_in}
 use Rattle.ev_claims.proofs.Numbers.{own_stays, said_numbers, heard_numbers}
 use Rattle.ev_claims.proofs.Hearing.{dropped_contains, past_if_newest, earlier_numbers, unheard, refuted_is}
-use Rattle.ev_claims.proofs.Keeping.{spoken_claims, advert_claims, refresh_claims, pin_claims, shift_claims}
-use Rattle.ev_claims.proofs.Keeping.{removal_claims, own_claims, known_entry}
+use Rattle.ev_claims.proofs.Keeping.{spoken_routes, advert_routes, refresh_routes, pin_routes, shift_routes}
+use Rattle.ev_claims.proofs.Keeping.{removal_routes, own_routes, known_entry}
 use Rattle.ev_claims.proofs.Learnt.{removal_there}
 use Rattle.ev_claims.proofs.Changed.{on_any, none_on, ports_climb, flushed_stands, flushed_once, due_once}
 use Rattle.ev_edge.specs.Edge.{Edge, IsGoodEdge, KeepsEdge}
@@ -51,18 +55,18 @@ use Rattle.ev_mobility.specs.declared.seq.Seq.TheVariants.{Next}
 use Rattle.ev_edge.specs.Pinning.{is_static}
 use Rattle.ev_edge.specs.Bridging.{aged}
 
--- what a good edge keeps of its claims, at a second
-pub record Keeps (c : Claims) (second : ℕ) : Type 0 where
-  pub claims : KeepsClaims c
-  pub numbers : KeepsNumbers c.voice
+-- what a good edge keeps of its local routes, at a second
+pub record Keeps (c : LocalRoutes) (second : ℕ) : Type 0 where
+  pub routes : KeepsRoutes c
+  pub numbers : KeepsNumbers c.speaker
   pub lists : ListsName c.learned
   pub holds : Holds c second
 
-pub keeps_of : (e : Edge) → IsGoodEdge e → Keeps e.claims e.clock
+pub keeps_of : (e : Edge) → IsGoodEdge e → Keeps e.routes e.clock
 keeps_of e h = record {
-  claims = h.claims.claims;
-  numbers = h.claims.numbers;
-  lists = h.claims.lists;
+  routes = h.routes.routes;
+  numbers = h.routes.numbers;
+  lists = h.routes.lists;
   holds = record {
     owns = h.keeps.owns;
     latest = h.keeps.latest;
@@ -72,10 +76,10 @@ keeps_of e h = record {
   };
 }
 
-pub good_by : (e : Edge) → Keeps e.claims e.clock → length e.tree.ports ≡ length e.claims.ports → e.clock ≤ 2 ^ 63
+pub good_by : (e : Edge) → Keeps e.routes e.clock → length e.tree.ports ≡ length e.routes.ports → e.clock ≤ 2 ^ 63
     → IsGoodEdge e
 good_by e k ports early = record {
-  claims = record { claims = k.claims; numbers = k.numbers; lists = k.lists };
+  routes = record { routes = k.routes; numbers = k.numbers; lists = k.lists };
   keeps = record {
     owns = k.holds.owns;
     latest = k.holds.latest;
@@ -90,14 +94,14 @@ good_by e k ports early = record {
 -- ---- ports
 
 -- each station is behind a port that is there
-pub based : (c : Claims) → KeepsClaims c → IsBased c.learned
+pub based : (c : LocalRoutes) → KeepsRoutes c → IsBased c.learned
 based c h s x at = go x.port (h.ports s x at)
   where
     go : (p : ℕ) → vni_at c.ports p ≡ Some s.vni → 0 < p
     go zero is = cc
     go (suc p) is = omega arith
 
-port_there : (c : Claims) (s : Station) (port : ℕ) → KeepsClaims c → vni_at c.ports port ≡ Some s.vni
+port_there : (c : LocalRoutes) (s : Station) (port : ℕ) → KeepsRoutes c → vni_at c.ports port ≡ Some s.vni
     → (0 < port) × (port - 1 < length c.learned.ports)
 port_there c s port h is =
     let there = there_port c.ports port (ap is_some is) in
@@ -112,51 +116,53 @@ new_answer : (t : Learning) (s : Station) (port : ℕ) → entry_at t s ≡ None
     → New ≡ learnt_of t s port
 new_answer t s port none room = sym (λ i. answer_of (none i) (room i) port)
 
-pub advert_keeps : (c : Claims) (s : Station) (port second n : ℕ) → Keeps c second → entry_at c.learned s ≡ None
-    → is_full c.learned ≡ false → c.voice.counter < 2 ^ 63 → vni_at c.ports port ≡ Some s.vni → is_group s.mac ≡ false
-    → seq_for c.voice.table c.voice.address s.vni s.mac ≡ Next n → Keeps (after_advert c s port second n) second
+pub advert_keeps : (c : LocalRoutes) (s : Station) (port second n : ℕ) → Keeps c second → entry_at c.learned s ≡ None
+    → is_full c.learned ≡ false → c.speaker.counter < 2 ^ 63 → vni_at c.ports port ≡ Some s.vni → is_group s.mac ≡ false
+    → seq_for c.speaker.table c.speaker.address s.vni s.mac ≡ Next n → Keeps (after_advert c s port second n) second
 advert_keeps c s port second n h none room number behind single next = record {
-  claims = advert_claims c (after_learn c.learned s port second New) (after_saying c.voice (key_of s) (moving n)) s port
-      second n New h.claims none room number behind refl (new_answer c.learned s port none room) refl;
-  numbers = said_numbers c.voice (key_of s) (moving n) h.numbers;
-  lists = let at = port_there c s port h.claims behind in
-      learn_names c.learned s port second h.lists h.holds.buckets (based c h.claims) none room at.0 at.1 h.holds.latest;
-  holds = advert_holds c s port second n h.claims next single h.holds;
+  routes = advert_routes c (after_learn c.learned s port second New) (after_originating c.speaker (key_of s) (moving n))
+      s port
+      second n New h.routes none room number behind refl (new_answer c.learned s port none room) refl;
+  numbers = said_numbers c.speaker (key_of s) (moving n) h.numbers;
+  lists = let at = port_there c s port h.routes behind in
+      learn_names c.learned s port second h.lists h.holds.buckets (based c h.routes) none room at.0 at.1 h.holds.latest;
+  holds = advert_holds c s port second n h.routes next single h.holds;
 }
 
-pub refresh_keeps : (c : Claims) (s : Station) (port second : ℕ) → Keeps c second → IsSome (entry_at c.learned s)
+pub refresh_keeps : (c : LocalRoutes) (s : Station) (port second : ℕ) → Keeps c second → IsSome (entry_at c.learned s)
     → is_pinned (entry_at c.learned s) ≡ false → vni_at c.ports port ≡ Some s.vni → is_group s.mac ≡ false
     → Keeps (after_refresh c s port second) second
 refresh_keeps c s port second h known loose behind single = record {
-  claims = refresh_claims c (after_learn c.learned s port second (learnt_of c.learned s port)) s port second
-      (learnt_of c.learned s port) h.claims known loose behind refl refl;
+  routes = refresh_routes c (after_learn c.learned s port second (learnt_of c.learned s port)) s port second
+      (learnt_of c.learned s port) h.routes known loose behind refl refl;
   numbers = h.numbers;
-  lists = let at = port_there c s port h.claims behind in
-      hear_names c.learned s port second h.lists h.holds.buckets (based c h.claims) at.0 at.1 h.holds.latest known;
+  lists = let at = port_there c s port h.routes behind in
+      hear_names c.learned s port second h.lists h.holds.buckets (based c h.routes) at.0 at.1 h.holds.latest known;
   holds = refresh_holds c s port second single h.holds;
 }
 
-pub pin_keeps : (c : Claims) (s : Station) (port second : ℕ) → Keeps c second
-    → (entry_at c.learned s ≡ None → is_full c.learned ≡ false) → c.voice.counter < 2 ^ 63
+pub pin_keeps : (c : LocalRoutes) (s : Station) (port second : ℕ) → Keeps c second
+    → (entry_at c.learned s ≡ None → is_full c.learned ≡ false) → c.speaker.counter < 2 ^ 63
     → vni_at c.ports port ≡ Some s.vni → is_group s.mac ≡ false
-    → is_static (seq_for c.voice.table c.voice.address s.vni s.mac) ≡ false → Keeps (after_pin c s port) second
+    → is_static (seq_for c.speaker.table c.speaker.address s.vni s.mac) ≡ false → Keeps (after_pin c s port) second
 pin_keeps c s port second h room number behind single free = record {
-  claims = pin_claims c (pinned_on c.learned s port) (after_saying c.voice (key_of s) fixed) s port h.claims room number
+  routes = pin_routes c (pinned_on c.learned s port) (after_originating c.speaker (key_of s) fixed) s port h.routes room
+      number
       behind refl refl;
-  numbers = said_numbers c.voice (key_of s) fixed h.numbers;
-  lists = let at = port_there c s port h.claims behind in
-      pin_names c.learned s port h.lists h.holds.buckets (based c h.claims) at.0 at.1 room;
-  holds = pin_holds c s port second h.claims free single h.holds;
+  numbers = said_numbers c.speaker (key_of s) fixed h.numbers;
+  lists = let at = port_there c s port h.routes behind in
+      pin_names c.learned s port h.lists h.holds.buckets (based c h.routes) at.0 at.1 room;
+  holds = pin_holds c s port second h.routes free single h.holds;
 }
 
-pub shift_keeps : (c : Claims) (s : Station) (port second : ℕ) → Keeps c second
+pub shift_keeps : (c : LocalRoutes) (s : Station) (port second : ℕ) → Keeps c second
     → is_pinned (entry_at c.learned s) ≡ true → vni_at c.ports port ≡ Some s.vni → is_group s.mac ≡ false
     → Keeps (after_shift c s port) second
 shift_keeps c s port second h pinned behind single = record {
-  claims = shift_claims c (pinned_on c.learned s port) s port h.claims pinned behind refl;
+  routes = shift_routes c (pinned_on c.learned s port) s port h.routes pinned behind refl;
   numbers = h.numbers;
-  lists = let at = port_there c s port h.claims behind in
-      pin_names c.learned s port h.lists h.holds.buckets (based c h.claims) at.0 at.1
+  lists = let at = port_there c s port h.routes behind in
+      pin_names c.learned s port h.lists h.holds.buckets (based c h.routes) at.0 at.1
       (known (entry_at c.learned s) pinned);
   holds = shift_holds c s port second single h.holds;
 }
@@ -167,18 +173,18 @@ shift_keeps c s port second h pinned behind single = record {
 
 -- ---- stations go
 
-pub removal_keeps : (c : Claims) (s : Station) (second : ℕ) → Keeps c second → IsSome (entry_at c.learned s)
+pub removal_keeps : (c : LocalRoutes) (s : Station) (second : ℕ) → Keeps c second → IsSome (entry_at c.learned s)
     → Keeps (after_removal c s) second
 removal_keeps c s second h there =
     let x = known_entry c s there in
     record {
-      claims = removal_claims c s x.0 x.1 h.claims;
-      numbers = said_numbers c.voice (key_of s) Withdrawn h.numbers;
-      lists = removal_names c.learned s h.lists h.holds.buckets (based c h.claims);
+      routes = removal_routes c s x.0 x.1 h.routes;
+      numbers = said_numbers c.speaker (key_of s) Withdrawn h.numbers;
+      lists = removal_names c.learned s h.lists h.holds.buckets (based c h.routes);
       holds = removal_holds c s second h.holds;
     }
 
-pub removals_keep : (c : Claims) (ss : List Station) (second : ℕ) → Keeps c second → AreOnce ss
+pub removals_keep : (c : LocalRoutes) (ss : List Station) (second : ℕ) → Keeps c second → AreOnce ss
     → ((s : Station) → stands ss s ≡ true → IsSome (entry_at c.learned s)) → Keeps (after_removals c ss) second
 removals_keep c [] second h once known = h
 removals_keep c (s ∷ ss) second h once known = removals_keep (after_removal c s) ss second
@@ -195,7 +201,8 @@ removals_keep c (s ∷ ss) second h once known = removals_keep (after_removal c 
 
 -- ---- by a flush, and by age
 
-flush_known : (c : Claims) (set : ℕ) → ListsName c.learned → (s : Station) → stands (flushed_in c.learned set) s ≡ true
+flush_known : (c : LocalRoutes) (set : ℕ) → ListsName c.learned → (s : Station) → stands (flushed_in c.learned set) s
+    ≡ true
     → IsSome (entry_at c.learned s)
 flush_known c set lists s on = go (entry_at c.learned s)
     (sym (flushed_stands c.learned lists 0 (ports_of set) s (ports_climb set)) ∙ on)
@@ -205,11 +212,12 @@ flush_known c set lists s on = go (entry_at c.learned s)
         ∙ on in cc)
     go (Some x) on = refl
 
-pub flush_keeps : (c : Claims) (set second : ℕ) → Keeps c second → Keeps (after_flush c set) second
+pub flush_keeps : (c : LocalRoutes) (set second : ℕ) → Keeps c second → Keeps (after_flush c set) second
 flush_keeps c set second h = removals_keep c (flushed_in c.learned set) second h
     (flushed_once c.learned h.lists 0 (ports_of set) (ports_climb set)) (flush_known c set h.lists)
 
-age_known : (c : Claims) (limit : ℕ) → ListsName c.learned → (s : Station) → stands (due_in c.learned limit) s ≡ true
+age_known : (c : LocalRoutes) (limit : ℕ) → ListsName c.learned → (s : Station) → stands (due_in c.learned limit) s
+    ≡ true
     → IsSome (entry_at c.learned s)
 age_known c limit lists s on = go (entry_at c.learned s) (sym (due_exact c.learned limit lists s) ∙ on)
   where
@@ -217,20 +225,20 @@ age_known c limit lists s on = go (entry_at c.learned s) (sym (due_exact c.learn
     go None on = absurd (false≢true on)
     go (Some x) on = refl
 
-age_keeps : (c : Claims) (limit second : ℕ) → Keeps c second → Keeps (after_ageing c limit) second
+age_keeps : (c : LocalRoutes) (limit second : ℕ) → Keeps c second → Keeps (after_ageing c limit) second
 age_keeps c limit second h = removals_keep c (due_in c.learned limit) second h
     (due_once c.learned limit c.learned.ageing h.lists.ageing_once) (age_known c limit h.lists)
 
-pub aged_keeps : (c : Claims) (ageing second : ℕ) → Keeps c second → Keeps (aged c ageing second) second
+pub aged_keeps : (c : LocalRoutes) (ageing second : ℕ) → Keeps c second → Keeps (aged c ageing second) second
 aged_keeps c ageing second h = go (nat_le ageing second)
   where
     go : (b : Bool) → Keeps (cond b (after_ageing c (second - ageing)) c) second
     go true = age_keeps c (second - ageing) second h
     go false = h
 
-pub later_keeps : (c : Claims) (second later : ℕ) → second ≤ later → Keeps c second → Keeps c later
+pub later_keeps : (c : LocalRoutes) (second later : ℕ) → second ≤ later → Keeps c second → Keeps c later
 later_keeps c second later less h = record {
-  claims = h.claims;
+  routes = h.routes;
   numbers = h.numbers;
   lists = h.lists;
   holds = later_holds c second later less h.holds;
@@ -239,9 +247,9 @@ later_keeps c second later less h = record {
 -- ---- updates come
 
 -- what is advertised is learnt
-advert_known : (c : Claims) (s : Station) → KeepsClaims c → is_some (own_advert c.voice (key_of s)) ≡ true
+advert_known : (c : LocalRoutes) (s : Station) → KeepsRoutes c → is_some (own_advert c.speaker (key_of s)) ≡ true
     → IsSome (entry_at c.learned s)
-advert_known c s h some = go (entry_at c.learned s) (own_advert c.voice (key_of s)) (h.kinds s) some
+advert_known c s h some = go (entry_at c.learned s) (own_advert c.speaker (key_of s)) (h.kinds s) some
   where
     go : (x : Option Entry) (y : Option Advert) → option_map (λ (x : Entry). x.pinned) x
         ≡ option_map (λ (a : Advert). a.is_static) y → is_some y ≡ true → IsSome x
@@ -249,19 +257,20 @@ advert_known c s h some = go (entry_at c.learned s) (own_advert c.voice (key_of 
     go None None same yes' = absurd (false≢true yes')
     go None (Some y) same yes' = absurd (let bad : None ≡ Some y.is_static = same in cc)
 
-pub other_keeps : (c : Claims) (u : Fields) (second : ℕ) → u.register.originator ≢ c.voice.address → Keeps c second
+pub other_keeps : (c : LocalRoutes) (u : Fields) (second : ℕ) → u.register.originator ≢ c.speaker.address
+    → Keeps c second
     → Keeps (after_take c u) second
 other_keeps c u second other h = losing u.register.key (taken_holds c u second h.holds)
   where
-    mid : Claims
+    mid : LocalRoutes
     mid = after_update c u
 
-    heard : KeepsClaims (after_update c u)
-    heard = spoken_claims c (after_hearing c.voice u) h.claims (λ k. ap advert_of (own_stays c.voice u other k))
-        h.claims.left
+    heard : KeepsRoutes (after_update c u)
+    heard = spoken_routes c (after_importing c.speaker u) h.routes (λ k. ap advert_of (own_stays c.speaker u other k))
+        h.routes.left
 
-    told : KeepsNumbers (after_hearing c.voice u)
-    told = heard_numbers c.voice u other h.numbers
+    told : KeepsNumbers (after_importing c.speaker u)
+    told = heard_numbers c.speaker u other h.numbers
 
     first : (x y : Bool) → (x && not y) ≡ true → x ≡ true
     first true y e = refl
@@ -270,27 +279,27 @@ other_keeps c u second other h = losing u.register.key (taken_holds c u second h
     pick : (s : Station) (b : Bool) → is_lost (after_update c u) s ≡ b
         → Holds (cond b (after_removal (after_update c u) s) (after_update c u)) second
         → Keeps (cond b (after_removal (after_update c u) s) (after_update c u)) second
-    pick s false is holds = record { claims = heard; numbers = told; lists = h.lists; holds = holds }
+    pick s false is holds = record { routes = heard; numbers = told; lists = h.lists; holds = holds }
     pick s true is holds =
         let known = advert_known (after_update c u) s heard
-        (first (is_some (own_advert (after_hearing c.voice u) (key_of s)))
-        (is_at (owner (after_hearing c.voice u).table s.vni s.mac) c.voice.address) is) in
+        (first (is_some (own_advert (after_importing c.speaker u) (key_of s)))
+        (is_at (owner (after_importing c.speaker u).table s.vni s.mac) c.speaker.address) is) in
         let x = known_entry (after_update c u) s known in
         record {
-          claims = removal_claims (after_update c u) s x.0 x.1 heard;
-          numbers = said_numbers (after_hearing c.voice u) (key_of s) Withdrawn told;
-          lists = removal_names c.learned s h.lists h.holds.buckets (based c h.claims);
+          routes = removal_routes (after_update c u) s x.0 x.1 heard;
+          numbers = said_numbers (after_importing c.speaker u) (key_of s) Withdrawn told;
+          lists = removal_names c.learned s h.lists h.holds.buckets (based c h.routes);
           holds = holds;
         }
 
     losing : (k : Key) → Holds (after_losing (after_update c u) k) second
         → Keeps (after_losing (after_update c u) k) second
-    losing (Flood v) holds = record { claims = heard; numbers = told; lists = h.lists; holds = holds }
+    losing (Flood v) holds = record { routes = heard; numbers = told; lists = h.lists; holds = holds }
     losing (Mac v m ip) holds = pick (record { vni = v; mac = m })
         (is_lost (after_update c u) (record { vni = v; mac = m })) refl holds
 
-own_numbers : (e : Voice) (u : Fields) → KeepsNumbers e → u.register.originator ≡ e.address → is_ahead e u ≡ false
-    → KeepsNumbers (after_hearing_own e u)
+own_numbers : (e : Speaker) (u : Fields) → KeepsNumbers e → u.register.originator ≡ e.address → is_ahead e u ≡ false
+    → KeepsNumbers (after_importing_own e u)
 own_numbers e u n mine ahead = go (is_returning e u) refl
   where
     none : (past : Bool) (o : Option Advert) → past ≡ true → (past && is_some o) ≡ false → o ≡ None
@@ -298,7 +307,7 @@ own_numbers e u n mine ahead = go (is_returning e u) refl
     none true (Some a) p e = absurd (false≢true (sym e))
     none false o p e = absurd (false≢true p)
 
-    quiet : (b : Bool) → is_newest e u ≡ b → is_returning e u ≡ false → KeepsNumbers (after_hearing e u)
+    quiet : (b : Bool) → is_newest e u ≡ b → is_returning e u ≡ false → KeepsNumbers (after_importing e u)
     quiet false newest is = subst KeepsNumbers (sym (unheard e u newest)) n
     quiet true newest is =
         let less = past_if_newest e u ahead newest in
@@ -310,36 +319,36 @@ own_numbers e u n mine ahead = go (is_returning e u) refl
         (advert_in u.value.content) past rest)
 
     go : (b : Bool) → is_returning e u ≡ b → KeepsNumbers
-        (cond b (after_saying (after_hearing e u) u.register.key Withdrawn) (after_hearing e u))
+        (cond b (after_originating (after_importing e u) u.register.key Withdrawn) (after_importing e u))
     go true is = subst KeepsNumbers (sym (refuted_is e u Withdrawn mine)) (said_numbers e u.register.key Withdrawn n)
     go false is = quiet (is_newest e u) refl is
 
-pub own_keeps : (c : Claims) (u : Fields) (second : ℕ) → u.register.originator ≡ c.voice.address
-    → is_ahead c.voice u ≡ false → has_spent c.voice u ≡ false → Keeps c second → Keeps (after_own c u) second
+pub own_keeps : (c : LocalRoutes) (u : Fields) (second : ℕ) → u.register.originator ≡ c.speaker.address
+    → is_ahead c.speaker u ≡ false → has_spent c.speaker u ≡ false → Keeps c second → Keeps (after_own c u) second
 own_keeps c u second mine ahead spent h = record {
-  claims = own_claims c (after_hearing_own c.voice u) u (Ok Known) mine h.numbers h.claims refl tt
+  routes = own_routes c (after_importing_own c.speaker u) u (Ok Known) mine h.numbers h.routes refl tt
       ((λ q. absurd cc), (λ t. absurd (false≢true (sym ahead ∙ t)))) (
         (λ q. absurd cc),
         (λ t. absurd (false≢true (sym spent ∙ t))),
       );
-  numbers = own_numbers c.voice u h.numbers mine ahead;
+  numbers = own_numbers c.speaker u h.numbers mine ahead;
   lists = h.lists;
   holds = own_holds c u second h.numbers mine ahead h.holds;
 }
 
 -- an announcement says and learns nothing
-pub announced_keeps : (c : Claims) (second : ℕ) → Keeps c second → Keeps (after_announcement c) second
+pub announced_keeps : (c : LocalRoutes) (second : ℕ) → Keeps c second → Keeps (after_announcement c) second
 announced_keeps c second h = record {
-  claims = record {
-    kinds = h.claims.kinds;
-    bare = h.claims.bare;
-    ports = h.claims.ports;
-    floods = h.claims.floods;
-    fits = h.claims.fits;
-    small = h.claims.small;
-    left = h.claims.left;
-    lists = h.claims.lists;
-    few = h.claims.few;
+  routes = record {
+    kinds = h.routes.kinds;
+    bare = h.routes.bare;
+    ports = h.routes.ports;
+    floods = h.routes.floods;
+    fits = h.routes.fits;
+    small = h.routes.small;
+    left = h.routes.left;
+    lists = h.routes.lists;
+    few = h.routes.few;
   };
   numbers = record {
     counted = h.numbers.counted;
@@ -347,7 +356,7 @@ announced_keeps c second h = record {
     past = h.numbers.past;
     alive = h.numbers.alive;
     known = h.numbers.known;
-    pending = λ r in'. h.numbers.pending r (dropped_contains c.voice.pending r in');
+    pending = λ r in'. h.numbers.pending r (dropped_contains c.speaker.pending r in');
   };
   lists = h.lists;
   holds = record {

@@ -4,7 +4,7 @@ use Rattle.std.proofs.Common.{refl, sym, ap, subst, ◌∙◌, arith}
 use Rattle.std.specs.declared.cmp.Ordering.{Ordering}
 use Rattle.std.proofs.lemmas.Bool.{eq-eqb}
 use Rattle.std.proofs.lemmas.Bool.Decides.{nat_tests}
-use Rattle.ether_wire.specs.Names.{is_group}
+use Rattle.ether_wire.specs.Addr.{is_group}
 use Rattle.route_wire.specs.declared.update.Ip.{Ip}
 use Rattle.route_wire.specs.declared.update.Key.TheVariants.{Mac}
 use Rattle.route_wire.specs.declared.update.Advert.{Advert}
@@ -28,8 +28,8 @@ use Rattle.ev_mobility.specs.declared.seq.Seq.TheVariants.{Next, Static, Spent}
 use Rattle.ev_mobility.specs.Seq.{EveryElsewhere, IsSeqFor, seq_for}
 use Rattle.ev_mobility.proofs.Hearing.{seq_is}
 use Rattle.ev_mobility.specs.declared.alert.Alert.TheVariants.{StaticElsewhere, CounterSpent, TableFull}
-use Rattle.ev_claims.specs.Voice.{Voice, own_register, next_value, after_saying}
-use Rattle.ev_claims.specs.Claims.{Claims, KeepsClaims, key_of, vni_at, after_advert, after_pin}
+use Rattle.ev_claims.specs.Speaker.{Speaker, own_register, next_value, after_originating}
+use Rattle.ev_claims.specs.LocalRoutes.{LocalRoutes, KeepsRoutes, key_of, vni_at, after_advert, after_pin}
 use Rattle.ev_edge.specs.declared.pinning.PinCase.TheVariants.{Keep, Shift, Deny, Pin}
 use Rattle.ev_edge.specs.Edge.{Edge, OwnsAt, table_of, address_of}
 use Rattle.ev_edge.specs.Learning.{is_spent}
@@ -42,69 +42,72 @@ pub seq_exact : (t : Table) (own vni mac : ℕ) → IsSeqFor t own vni mac (seq_
 seq_exact t own vni mac = seq_is t own vni mac (updates_of t vni mac) (updates_of_are t vni mac)
 
 -- what beats every other edge's advert
-abbrev Beats : Claims → Station → Advert → Type 0
-Beats c s a = (b : Advert) (o : Ordering) (p : ℕ) (j : Option Ip) → p ≢ c.voice.address
-    → advert_at c.voice.table p (Mac s.vni s.mac j) ≡ Some b
+abbrev Beats : LocalRoutes → Station → Advert → Type 0
+Beats c s a = (b : Advert) (o : Ordering) (p : ℕ) (j : Option Ip) → p ≢ c.speaker.address
+    → advert_at c.speaker.table p (Mac s.vni s.mac j) ≡ Some b
     → IsBetterBy a.is_static b.is_static a.sequence b.sequence o
 
-said_owns : (c : Claims) (s : Station) (a : Advert) → KeepsClaims c → Beats c s a
-    → OwnsAt (record c { voice = after_saying c.voice (key_of s) (Advertised a) }) s
+said_owns : (c : LocalRoutes) (s : Station) (a : Advert) → KeepsRoutes c → Beats c s a
+    → OwnsAt (record c { speaker = after_originating c.speaker (key_of s) (Advertised a) }) s
 said_owns c s a good beats some = record {
   ip = None;
   advert = a;
-  own = ap advert_of (at_same c.voice.table (own_register c.voice (key_of s)) (next_value c.voice (Advertised a)));
-  best = λ p j b ne is. go p j b ne is (eqb p c.voice.address) refl;
+  own = ap advert_of (at_same c.speaker.table (own_register c.speaker (key_of s))
+      (next_value c.speaker (Advertised a)));
+  best = λ p j b ne is. go p j b ne is (eqb p c.speaker.address) refl;
 }
   where
-    now : Voice
-    now = after_saying c.voice (key_of s) (Advertised a)
+    now : Speaker
+    now = after_originating c.speaker (key_of s) (Advertised a)
 
-    same_ip : (p : ℕ) (j : Option Ip) (b : Advert) → p ≡ c.voice.address
-        → register_of p (Mac s.vni s.mac j) ≢ register_of c.voice.address (Mac s.vni s.mac None)
+    same_ip : (p : ℕ) (j : Option Ip) (b : Advert) → p ≡ c.speaker.address
+        → register_of p (Mac s.vni s.mac j) ≢ register_of c.speaker.address (Mac s.vni s.mac None)
         → advert_at now.table p (Mac s.vni s.mac j) ≡ Some b → ⊥
     same_ip p None b same ne is = ne (λ i. register_of (same i) (Mac s.vni s.mac None))
     same_ip p (Some ip) b same ne is =
         let differ : Mac s.vni s.mac (Some ip) ≢ key_of s = λ e. (let no : Some ip ≡ None = cc in cc) in
         let none : advert_at now.table p (Mac s.vni s.mac (Some ip)) ≡ None =
-        said_other c.voice (key_of s) (Advertised a) (Mac s.vni s.mac (Some ip)) p differ
-        ∙ ap (λ o. advert_at c.voice.table o (Mac s.vni s.mac (Some ip))) same ∙ good.bare s ip in
+        said_other c.speaker (key_of s) (Advertised a) (Mac s.vni s.mac (Some ip)) p differ
+        ∙ ap (λ o. advert_at c.speaker.table o (Mac s.vni s.mac (Some ip))) same ∙ good.bare s ip in
         let no : None ≡ Some b = sym none ∙ is in cc
 
-    key_other : (p : ℕ) (j : Option Ip) → p ≢ c.voice.address
-        → advert_at now.table p (Mac s.vni s.mac j) ≡ advert_at c.voice.table p (Mac s.vni s.mac j)
-    key_other p j ne = ap advert_of (at_other c.voice.table (own_register c.voice (key_of s))
-        (next_value c.voice (Advertised a)) (register_of p (Mac s.vni s.mac j))
+    key_other : (p : ℕ) (j : Option Ip) → p ≢ c.speaker.address
+        → advert_at now.table p (Mac s.vni s.mac j) ≡ advert_at c.speaker.table p (Mac s.vni s.mac j)
+    key_other p j ne = ap advert_of (at_other c.speaker.table (own_register c.speaker (key_of s))
+        (next_value c.speaker (Advertised a)) (register_of p (Mac s.vni s.mac j))
         (λ h. ne (ap (λ (q : Register). q.originator) h)))
 
-    go : (p : ℕ) (j : Option Ip) (b : Advert) → register_of p (Mac s.vni s.mac j) ≢ register_of c.voice.address
+    go : (p : ℕ) (j : Option Ip) (b : Advert) → register_of p (Mac s.vni s.mac j) ≢ register_of c.speaker.address
         (Mac s.vni s.mac None) → advert_at now.table p (Mac s.vni s.mac j) ≡ Some b → (x : Bool)
-        → eqb p c.voice.address ≡ x
-        → IsBetter a (register_of c.voice.address (Mac s.vni s.mac None)) b (register_of p (Mac s.vni s.mac j))
-    go p j b ne is true t = let same : p ≡ c.voice.address = grind (arith, nat_tests) in
+        → eqb p c.speaker.address ≡ x
+        → IsBetter a (register_of c.speaker.address (Mac s.vni s.mac None)) b (register_of p (Mac s.vni s.mac j))
+    go p j b ne is true t = let same : p ≡ c.speaker.address = grind (arith, nat_tests) in
         absurd (same_ip p j b same ne is)
     go p j b ne is false t =
-        let other : p ≢ c.voice.address = λ same. (let yes = eq-eqb p c.voice.address same in cc) in
-        beats b (register_cmp (register_of c.voice.address (Mac s.vni s.mac None)) (register_of p (Mac s.vni s.mac j)))
+        let other : p ≢ c.speaker.address = λ same. (let yes = eq-eqb p c.speaker.address same in cc) in
+        beats b (register_cmp (register_of c.speaker.address (Mac s.vni s.mac None))
+        (register_of p (Mac s.vni s.mac j)))
         p j other (sym (key_other p j other) ∙ is)
 
-said_holds : (c : Claims) (s : Station) (a : Advert) → KeepsClaims c → Beats c s a → ((r : Station) → OwnsAt c r)
-    → (r : Station) → OwnsAt (record c { voice = after_saying c.voice (key_of s) (Advertised a) }) r
+said_holds : (c : LocalRoutes) (s : Station) (a : Advert) → KeepsRoutes c → Beats c s a → ((r : Station) → OwnsAt c r)
+    → (r : Station) → OwnsAt (record c { speaker = after_originating c.speaker (key_of s) (Advertised a) }) r
 said_holds c s a good beats owns r = elim (same_or_other r s) as (λ _. OwnsAt
-    (record c { voice = after_saying c.voice (key_of s) (Advertised a) }) r) [
-      | inl same ↦ subst (OwnsAt (record c { voice = after_saying c.voice (key_of s) (Advertised a) })) (sym same)
+    (record c { speaker = after_originating c.speaker (key_of s) (Advertised a) }) r) [
+      | inl same ↦ subst (OwnsAt (record c { speaker = after_originating c.speaker (key_of s) (Advertised a) }))
+          (sym same)
           (said_owns c s a good beats)
       | inr ne ↦ saying_owns c (key_of s) (Advertised a) r (λ j. other_key r s j None ne) (owns r)
     ]
 
 -- ---- learning
 
-next_beats : (c : Claims) (s : Station) (n : ℕ) → seq_for c.voice.table c.voice.address s.vni s.mac ≡ Next n
+next_beats : (c : LocalRoutes) (s : Station) (n : ℕ) → seq_for c.speaker.table c.speaker.address s.vni s.mac ≡ Next n
     → Beats c s (record { is_static = false; sequence = n; label2 = None })
 next_beats c s n next b o p j other is = pick b.is_static loose
   where
-    exact : IsSeqFor c.voice.table c.voice.address s.vni s.mac (Next n)
-    exact = subst (IsSeqFor c.voice.table c.voice.address s.vni s.mac) next
-        (seq_exact c.voice.table c.voice.address s.vni s.mac)
+    exact : IsSeqFor c.speaker.table c.speaker.address s.vni s.mac (Next n)
+    exact = subst (IsSeqFor c.speaker.table c.speaker.address s.vni s.mac) next
+        (seq_exact c.speaker.table c.speaker.address s.vni s.mac)
 
     loose : b.is_static ≡ false
     loose = exact.0 p j b other is
@@ -116,8 +119,8 @@ next_beats c s n next b o p j other is = pick b.is_static loose
     pick true e = cc
     pick false e = (omega (arith, less), λ same. absurd (omega (arith, less, same)))
 
-pub advert_holds : (c : Claims) (s : Station) (port second n : ℕ) → KeepsClaims c
-    → seq_for c.voice.table c.voice.address s.vni s.mac ≡ Next n → is_group s.mac ≡ false → Holds c second
+pub advert_holds : (c : LocalRoutes) (s : Station) (port second n : ℕ) → KeepsRoutes c
+    → seq_for c.speaker.table c.speaker.address s.vni s.mac ≡ Next n → is_group s.mac ≡ false → Holds c second
     → Holds (after_advert c s port second n) second
 advert_holds c s port second n good next single h = record {
   owns = said_holds c s (record { is_static = false; sequence = n; label2 = None }) good (next_beats c s n next) h.owns;
@@ -131,14 +134,15 @@ advert_holds c s port second n good next single h = record {
 
 -- ---- pinning
 
-static_beats : (c : Claims) (s : Station) → is_static (seq_for c.voice.table c.voice.address s.vni s.mac) ≡ false
+static_beats : (c : LocalRoutes) (s : Station) → is_static (seq_for c.speaker.table c.speaker.address s.vni s.mac)
+    ≡ false
     → Beats c s (record { is_static = true; sequence = 0; label2 = None })
 static_beats c s free b o p j other is = pick b.is_static
-    (loose (seq_for c.voice.table c.voice.address s.vni s.mac) free
-    (seq_exact c.voice.table c.voice.address s.vni s.mac) p j b other is)
+    (loose (seq_for c.speaker.table c.speaker.address s.vni s.mac) free
+    (seq_exact c.speaker.table c.speaker.address s.vni s.mac) p j b other is)
   where
-    loose : (q : Seq) → is_static q ≡ false → IsSeqFor c.voice.table c.voice.address s.vni s.mac q
-        → EveryElsewhere c.voice.table c.voice.address s.vni s.mac (λ a. a.is_static ≡ false)
+    loose : (q : Seq) → is_static q ≡ false → IsSeqFor c.speaker.table c.speaker.address s.vni s.mac q
+        → EveryElsewhere c.speaker.table c.speaker.address s.vni s.mac (λ a. a.is_static ≡ false)
     loose Static e x = cc
     loose Spent e x = x.0
     loose (Next n) e x = x.0
@@ -147,8 +151,9 @@ static_beats c s free b o p j other is = pick b.is_static
     pick true e = cc
     pick false e = tt
 
-pub pin_holds : (c : Claims) (s : Station) (port second : ℕ) → KeepsClaims c
-    → is_static (seq_for c.voice.table c.voice.address s.vni s.mac) ≡ false → is_group s.mac ≡ false → Holds c second
+pub pin_holds : (c : LocalRoutes) (s : Station) (port second : ℕ) → KeepsRoutes c
+    → is_static (seq_for c.speaker.table c.speaker.address s.vni s.mac) ≡ false → is_group s.mac ≡ false
+    → Holds c second
     → Holds (after_pin c s port) second
 pin_holds c s port second good free single h = record {
   owns = said_holds c s (record { is_static = true; sequence = 0; label2 = None }) good (static_beats c s free) h.owns;
@@ -161,24 +166,24 @@ pin_holds c s port second good free single h = record {
 
 -- what isn't refused is an individual address, and the port is of its network
 pub pin_fits : (e : Edge) (s : Station) (port : ℕ) → refused_pin e s port ≡ None
-    → (vni_at e.claims.ports port ≡ Some s.vni) × (is_group s.mac ≡ false)
-pin_fits e s port is = go (vni_at e.claims.ports port) refl is
+    → (vni_at e.routes.ports port ≡ Some s.vni) × (is_group s.mac ≡ false)
+pin_fits e s port is = go (vni_at e.routes.ports port) refl is
   where
     single : (b : Bool) → cond b (Some BadMac) None ≡ None → b ≡ false
     single true q = cc
     single false q = refl
 
-    there : (vni : ℕ) → vni_at e.claims.ports port ≡ Some vni → (b : Bool) → eqb vni s.vni ≡ b
+    there : (vni : ℕ) → vni_at e.routes.ports port ≡ Some vni → (b : Bool) → eqb vni s.vni ≡ b
         → cond b (cond (is_group s.mac) (Some BadMac) None) (Some NoSuchVni) ≡ None
-        → (vni_at e.claims.ports port ≡ Some s.vni) × (is_group s.mac ≡ false)
+        → (vni_at e.routes.ports port ≡ Some s.vni) × (is_group s.mac ≡ false)
     there vni at true t q = (
       at ∙ ap Some (let same : vni ≡ s.vni = grind (arith, nat_tests) in same),
       single (is_group s.mac) q,
     )
     there vni at false t q = cc
 
-    go : (o : Option ℕ) → vni_at e.claims.ports port ≡ o → pin_refusal o s ≡ None
-        → (vni_at e.claims.ports port ≡ Some s.vni) × (is_group s.mac ≡ false)
+    go : (o : Option ℕ) → vni_at e.routes.ports port ≡ o → pin_refusal o s ≡ None
+        → (vni_at e.routes.ports port ≡ Some s.vni) × (is_group s.mac ≡ false)
     go None at q = cc
     go (Some vni) at q = there vni at (eqb vni s.vni) refl q
 
@@ -188,8 +193,8 @@ not_static : (e : Edge) (s : Station) (known : Bool) → unpinned_case e s known
 not_static e s known is = go (is_static (seq_for (table_of e) (address_of e) s.vni s.mac)) refl is
   where
     go : (b : Bool) → is_static (seq_for (table_of e) (address_of e) s.vni s.mac) ≡ b
-        → cond b (Deny StaticElsewhere) (cond (is_spent e.claims) (Deny CounterSpent)
-        (cond (not known && is_full e.claims.learned) (Deny TableFull) Pin)) ≡ Pin
+        → cond b (Deny StaticElsewhere) (cond (is_spent e.routes) (Deny CounterSpent)
+        (cond (not known && is_full e.routes.learned) (Deny TableFull) Pin)) ≡ Pin
         → is_static (seq_for (table_of e) (address_of e) s.vni s.mac) ≡ false
     go true t q = cc
     go false t q = t

@@ -7,13 +7,13 @@ use Rattle.ether_wire.specs.Ports.{place_of_port}
 use Rattle.ether_wire.specs.declared.frame.FrameRefusal.{FrameRefusal}
 use Rattle.bpdu_wire.specs.Reading.{reading}
 use Rattle.bpdu_wire.specs.declared.bpdu.Bpdu.{Bpdu}
-use Rattle.bpdu_wire.specs.declared.refusal.Refusal as bpdu
+use Rattle.bpdu_wire.specs.declared.refusal.BpduRefusal as bpdu
 use Rattle.vxlan_wire.specs.Vxlan.{instance_of}
-use Rattle.vxlan_wire.specs.declared.vxlan.Refusal as vxlan
+use Rattle.vxlan_wire.specs.declared.vxlan.VxlanRefusal as vxlan
 use Rattle.rstp_state.specs.Port.{test_at}
 use Rattle.rstp_run.specs.Rules.{Tree}
 use Rattle.route_join.specs.Table.{is_listed}
-use Rattle.ev_claims.specs.Claims.{vni_at}
+use Rattle.ev_claims.specs.LocalRoutes.{vni_at}
 use Rattle.ev_edge.specs.declared.arrival.Arrival.{Arrival}
 use Rattle.ev_edge.specs.declared.arrival.Arrival.TheVariants.{Dropped, Message, Data}
 use Rattle.ev_edge.specs.declared.refusal.Refusal.{Refusal}
@@ -38,7 +38,7 @@ has_llc payload = nat_le 3 (length payload) && (slice_index payload 0 == 0x42
 abbrev pub holds_bpdu : List ℕ → Bool
 holds_bpdu frame = is_bridge_group (destination_of frame) && (has_length frame && has_llc (payload_of frame))
 
-abbrev pub message_in : Result Bpdu bpdu.Refusal → Result Arrival Refusal
+abbrev pub message_in : Result Bpdu bpdu.BpduRefusal → Result Arrival Refusal
 message_in (Ok b) = Ok (Message b)
 message_in (Err r) = Err (OfBpdu r)
 
@@ -67,19 +67,19 @@ arrival_on (Some vni) up octets = arrival_at up vni (frame_of octets)
 
 -- these octets come at port p
 abbrev pub frame_arrival : Edge → ℕ → List ℕ → Result Arrival Refusal
-frame_arrival e p octets = arrival_on (vni_at e.claims.ports p) (is_up e.tree p) octets
+frame_arrival e p octets = arrival_on (vni_at e.routes.ports p) (is_up e.tree p) octets
 
 -- ---- from a tunnel
 
 -- the network is one of the edge's
 abbrev pub serves : Edge → ℕ → Bool
-serves e vni = list_any (λ v. v == vni) e.claims.vnis
+serves e vni = list_any (λ v. v == vni) e.routes.vnis
 
 abbrev pub inner_arrival : ℕ → Result (List ℕ) FrameRefusal → Result Arrival Refusal
 inner_arrival vni (Err r) = Err (Ether r)
 inner_arrival vni (Ok frame) = if is_reserved (destination_of frame) then Ok Dropped else Ok (data_in vni frame)
 
-abbrev pub datagram_arrival : Edge → Result (ℕ × List ℕ) vxlan.Refusal → Result Arrival Refusal
+abbrev pub datagram_arrival : Edge → Result (ℕ × List ℕ) vxlan.VxlanRefusal → Result Arrival Refusal
 datagram_arrival e (Err r) = Err (Vxlan r)
 datagram_arrival e (Ok inner) = if serves e inner.0 then inner_arrival inner.0 (frame_of inner.1) else Err
     (OfEdge NoSuchVni)

@@ -5,7 +5,7 @@ use Rattle.bpdu_wire.specs.declared.bpdu.Bpdu.{Bpdu}
 use Rattle.rstp_run.specs.declared.event.Event.{Event}
 use Rattle.rstp_run.specs.Events.{Happens, Passes, firings_at, sent_from}
 use Rattle.rstp_run.specs.Rules.{Tree}
-use Rattle.ev_claims.specs.Claims.{Claims}
+use Rattle.ev_claims.specs.LocalRoutes.{LocalRoutes}
 use Rattle.ev_claims.specs.Leaving.{after_ageing, after_flush}
 use Rattle.ev_edge.specs.Edge.{Edge}
 
@@ -19,14 +19,14 @@ pub record BridgeGoes (event : Event) (old new : Tree) (flush : ℕ) (sent : Lis
 
 -- the unpinned stations behind flushed ports go
 abbrev pub after_bridge : Edge → Tree → ℕ → Edge
-after_bridge e tree flush = record e { tree = tree; claims = after_flush e.claims flush }
+after_bridge e tree flush = record e { tree = tree; routes = after_flush e.routes flush }
 
 -- the clock counts up to 2^63
 abbrev pub next_second : ℕ → ℕ
 next_second clock = if clock == 2 ^ 63 then clock else clock + 1
 
 -- those go that were last heard so many seconds ago, or longer
-abbrev pub aged : Claims → ℕ → ℕ → Claims
+abbrev pub aged : LocalRoutes → ℕ → ℕ → LocalRoutes
 aged c ageing clock = if nat_le ageing clock then after_ageing c (clock - ageing) else c
 
 -- a second passes: the unpinned stations behind flushed ports go first, then those that are due
@@ -34,7 +34,7 @@ abbrev pub after_second : Edge → Tree → ℕ → Edge
 after_second e tree flush = record e {
   clock = next_second e.clock;
   tree = tree;
-  claims = aged (after_flush e.claims flush) e.ageing (next_second e.clock);
+  routes = aged (after_flush e.routes flush) e.ageing (next_second e.clock);
 }
 
 -- one port more of those that pass

@@ -4,8 +4,8 @@ use Rattle.route_wire.specs.declared.update.Key.{Key}
 use Rattle.route_wire.specs.declared.update.Content.{Content}
 use Rattle.route_wire.specs.Fields.{Fields}
 use Rattle.route_join.specs.Table.{with_updates}
-use Rattle.ev_claims.specs.Voice.{Voice, after_hearing, after_announcing}
-use Rattle.ev_claims.specs.Claims.{entries}
+use Rattle.ev_claims.specs.Speaker.{Speaker, after_importing, after_announcing}
+use Rattle.ev_claims.specs.LocalRoutes.{entries}
 use Rattle.ev_claims.specs.Changes.{Says, said_updates}
 use Rattle.ev_edge.specs.declared.event.Event.{Event}
 use Rattle.ev_edge.specs.declared.event.Event.TheVariants as events
@@ -33,10 +33,10 @@ accepted event (Ok reply) = brought event
 accepted event (Err r) = []
 
 -- what an edge says once it has heard what the event brings, or has announced the first register that was pending
-abbrev pub heard_in : Event → Voice → Voice
+abbrev pub heard_in : Event → Speaker → Speaker
 heard_in (events.Frame port octets) v = v
 heard_in (events.TunnelFrame from octets) v = v
-heard_in (events.Take u) v = after_hearing v u
+heard_in (events.Take u) v = after_importing v u
 heard_in (events.Pin s port) v = v
 heard_in (events.Unpin s) v = v
 heard_in (events.Thaw s) v = v
@@ -46,7 +46,7 @@ heard_in (events.PortDown port) v = v
 heard_in (events.Mcheck port) v = v
 heard_in events.Announce v = after_announcing v
 
-abbrev pub heard : Event → Result Reply Refusal → Voice → Voice
+abbrev pub heard : Event → Result Reply Refusal → Speaker → Speaker
 heard event (Ok reply) v = heard_in event v
 heard event (Err r) v = v
 
@@ -54,10 +54,10 @@ heard event (Err r) v = v
 -- They are one more at the most than it had stations. The table takes the accepted update, and then what is said.
 pub record Changes (e : Edge) (event : Event) (result : Result Reply Refusal) (e' : Edge) : Type 0 where
   pub said : List (Key × Content)
-  pub few : length said ≤ entries e.claims + 1
-  pub says : Says (heard event result e.claims.voice) e'.claims.voice said
-  pub address : e'.claims.voice.address ≡ e.claims.voice.address
-  pub incarnation : e'.claims.voice.incarnation ≡ e.claims.voice.incarnation
-  pub counter : e'.claims.voice.counter ≡ e.claims.voice.counter + length said
+  pub few : length said ≤ entries e.routes + 1
+  pub says : Says (heard event result e.routes.speaker) e'.routes.speaker said
+  pub address : e'.routes.speaker.address ≡ e.routes.speaker.address
+  pub incarnation : e'.routes.speaker.incarnation ≡ e.routes.speaker.incarnation
+  pub counter : e'.routes.speaker.counter ≡ e.routes.speaker.counter + length said
   pub table : table_of e' ≡ with_updates (table_of e) (accepted event result
-      ++ said_updates (heard event result e.claims.voice) said)
+      ++ said_updates (heard event result e.routes.speaker) said)

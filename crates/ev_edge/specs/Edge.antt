@@ -1,7 +1,7 @@
 -- An edge, and when it is good.
 use Rattle.std.specs.Prelude.{◌≡◌, ℕ, ◌<◌, ◌≤◌, ◌^◌, ◌↔◌, true, false, IsSome, Contains, length}
 use Rattle.std.specs.FinMap.{FinMap}
-use Rattle.ether_wire.specs.Names.{is_group}
+use Rattle.ether_wire.specs.Addr.{is_group}
 use Rattle.ether_wire.specs.Ports.{has_port}
 use Rattle.route_join.specs.Table.{Table}
 use Rattle.route_join.specs.Owner.{IsOwner}
@@ -12,21 +12,21 @@ use Rattle.rstp_run.specs.Rules.{Tree}
 use Rattle.rstp_run.specs.Events.{IsPort, Passes}
 use Rattle.ev_mobility.specs.declared.window.Window.{Window}
 use Rattle.ev_mobility.specs.Moves.{Moves}
-use Rattle.ev_claims.specs.Voice.{own_advert}
-use Rattle.ev_claims.specs.Claims.{Claims, AreGood, key_of}
+use Rattle.ev_claims.specs.Speaker.{own_advert}
+use Rattle.ev_claims.specs.LocalRoutes.{LocalRoutes, AreGood, key_of}
 
 -- What it says and has learnt, the second, how many seconds an entry lives, its bridge, and the windows of the stations
 -- that have moved. Ports are counted from 1.
 pub record Edge : Type 0 where
-  pub claims : Claims
+  pub routes : LocalRoutes
   pub clock : ℕ
   pub ageing : ℕ
   pub tree : Tree
   pub windows : FinMap station_cmp Window
 
-abbrev pub edge_of : Claims → ℕ → ℕ → Tree → Moves → Edge
-edge_of claims clock ageing tree moves = record {
-  claims = claims;
+abbrev pub edge_of : LocalRoutes → ℕ → ℕ → Tree → Moves → Edge
+edge_of routes clock ageing tree moves = record {
+  routes = routes;
   clock = clock;
   ageing = ageing;
   tree = tree;
@@ -34,37 +34,37 @@ edge_of claims clock ageing tree moves = record {
 }
 
 abbrev pub table_of : Edge → Table
-table_of e = e.claims.voice.table
+table_of e = e.routes.speaker.table
 
 abbrev pub address_of : Edge → ℕ
-address_of e = e.claims.voice.address
+address_of e = e.routes.speaker.address
 
 -- a station that the edge advertises is its own
-abbrev pub OwnsAt : Claims → Station → Type 0
-OwnsAt c s = IsSome (own_advert c.voice (key_of s)) → IsOwner c.voice.table s.vni s.mac c.voice.address
+abbrev pub OwnsAt : LocalRoutes → Station → Type 0
+OwnsAt c s = IsSome (own_advert c.speaker (key_of s)) → IsOwner c.speaker.table s.vni s.mac c.speaker.address
 
 -- no group address is learnt
 abbrev pub AreIndividual : Learning → Type 0
 AreIndividual t = (s : Station) → IsSome (entry_at t s) → is_group s.mac ≡ false
 
 -- each port is of a network that the edge serves
-abbrev pub ServesPorts : Claims → Type 0
+abbrev pub ServesPorts : LocalRoutes → Type 0
 ServesPorts c = (v : ℕ) → Contains c.ports v → Contains c.vnis v
 
 -- The edge owns what it advertises, has heard no station later than now, and learns no group address; it serves the
 -- networks of its ports; its learning table has a bucket; and its bridge has its ports.
 pub record KeepsEdge (e : Edge) : Type 0 where
-  pub owns : (s : Station) → OwnsAt e.claims s
-  pub latest : IsLatest e.claims.learned e.clock
-  pub individual : AreIndividual e.claims.learned
-  pub served : ServesPorts e.claims
-  pub buckets : 0 < length e.claims.learned.chains
-  pub ports : length e.tree.ports ≡ length e.claims.ports
+  pub owns : (s : Station) → OwnsAt e.routes s
+  pub latest : IsLatest e.routes.learned e.clock
+  pub individual : AreIndividual e.routes.learned
+  pub served : ServesPorts e.routes
+  pub buckets : 0 < length e.routes.learned.chains
+  pub ports : length e.tree.ports ≡ length e.routes.ports
   pub early : e.clock ≤ 2 ^ 63
 
 -- the good edge: also what is said and what is learnt name each other, and the lists name the learning map
 pub record IsGoodEdge (e : Edge) : Type 0 where
-  pub claims : AreGood e.claims
+  pub routes : AreGood e.routes
   pub keeps : KeepsEdge e
 
 -- the set of the ports that pass

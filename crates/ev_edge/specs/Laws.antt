@@ -16,8 +16,8 @@ use Rattle.mac_arena.specs.Learning.{entry_at}
 use Rattle.rstp_run.specs.Events.{Passes}
 use Rattle.ev_tunnel.specs.declared.decision.Decision.{Decision}
 use Rattle.ev_mobility.specs.declared.alert.Alert.TheVariants.{NoMemory as Unroomed}
-use Rattle.ev_claims.specs.Voice.{own_advert}
-use Rattle.ev_claims.specs.Claims.{key_of, vni_at}
+use Rattle.ev_claims.specs.Speaker.{own_advert}
+use Rattle.ev_claims.specs.LocalRoutes.{key_of, vni_at}
 use Rattle.ev_edge.specs.declared.arrival.Arrival.{Arrival}
 use Rattle.ev_edge.specs.declared.arrival.Arrival.TheVariants.{Dropped, Message, Data}
 use Rattle.ev_edge.specs.declared.event.Event.{Event}
@@ -41,13 +41,13 @@ decision_in (Err r) = None
 -- each access port that a frame from this port leaves by is of its network, passes, and is another one
 abbrev pub LeavesBy : Edge → ℕ → Decision → Type 0
 LeavesBy e port d = (p : ℕ) → IsPort p → has_port d.local p ≡ true
-    → (vni_at e.claims.ports p ≡ vni_at e.claims.ports port) × Passes e.tree p × (p ≢ port)
+    → (vni_at e.routes.ports p ≡ vni_at e.routes.ports port) × Passes e.tree p × (p ≢ port)
 
 -- a frame of this network from a tunnel goes into no tunnel, and leaves only by ports of the network that pass
 pub record LeavesTunnel (e : Edge) (octets : List ℕ) (d : Decision) : Type 0 where
   pub remote : d.remote.items ≡ []
   pub local : (vni : ℕ) (inner : List ℕ) → instance_of octets ≡ Ok (vni, inner) → (p : ℕ) → IsPort p
-      → has_port d.local p ≡ true → (vni_at e.claims.ports p ≡ Some vni) × Passes e.tree p
+      → has_port d.local p ≡ true → (vni_at e.routes.ports p ≡ Some vni) × Passes e.tree p
 
 -- the octets are a frame whose destination is reserved
 abbrev pub IsReserved : List ℕ → Type 0
@@ -62,11 +62,11 @@ HoldsReserved octets = (vni : ℕ) × (inner : List ℕ) × (instance_of octets 
 -- The stations that the edge has learnt or pinned are exactly those that it advertises, as static exactly the pinned
 -- ones, none of them with an IP address, and it owns each.
 pub record AdvertisesItsOwn (e : Edge) : Type 0 where
-  pub learnt : (s : Station) → IsSome (entry_at e.claims.learned s) ↔ IsSome (own_advert e.claims.voice (key_of s))
-  pub pinned : (s : Station) (x : Entry) (a : Advert) → entry_at e.claims.learned s ≡ Some x
-      → own_advert e.claims.voice (key_of s) ≡ Some a → x.pinned ≡ a.is_static
-  pub bare : (s : Station) (ip : Ip) → own_advert e.claims.voice (Mac s.vni s.mac (Some ip)) ≡ None
-  pub owned : (s : Station) → IsSome (entry_at e.claims.learned s) → IsOwner (table_of e) s.vni s.mac (address_of e)
+  pub learnt : (s : Station) → IsSome (entry_at e.routes.learned s) ↔ IsSome (own_advert e.routes.speaker (key_of s))
+  pub pinned : (s : Station) (x : Entry) (a : Advert) → entry_at e.routes.learned s ≡ Some x
+      → own_advert e.routes.speaker (key_of s) ≡ Some a → x.pinned ≡ a.is_static
+  pub bare : (s : Station) (ip : Ip) → own_advert e.routes.speaker (Mac s.vni s.mac (Some ip)) ≡ None
+  pub owned : (s : Station) → IsSome (entry_at e.routes.learned s) → IsOwner (table_of e) s.vni s.mac (address_of e)
 
 -- ---- memory
 

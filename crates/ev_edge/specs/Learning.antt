@@ -14,8 +14,8 @@ use Rattle.ev_mobility.specs.declared.seq.Seq.{Seq}
 use Rattle.ev_mobility.specs.declared.seq.Seq.TheVariants.{Next, Static, Spent}
 use Rattle.ev_mobility.specs.Seq.{seq_for}
 use Rattle.ev_mobility.specs.Window.{is_fifth, is_frozen, after_move}
-use Rattle.ev_claims.specs.Voice.{is_said}
-use Rattle.ev_claims.specs.Claims.{Claims, key_of, after_advert, after_refresh}
+use Rattle.ev_claims.specs.Speaker.{is_originated}
+use Rattle.ev_claims.specs.LocalRoutes.{LocalRoutes, key_of, after_advert, after_refresh}
 use Rattle.ev_edge.specs.declared.learning.Case.{Case}
 use Rattle.ev_edge.specs.declared.learning.Case.TheVariants.{Leave, Refresh, Refuse, Freeze, Learn}
 use Rattle.ev_edge.specs.Edge.{Edge, table_of, address_of}
@@ -23,8 +23,8 @@ use Rattle.ev_edge.specs.Edge.{Edge, table_of, address_of}
 -- ---- the cases
 
 -- few numbers are left, and they are kept for withdrawals
-abbrev pub is_spent : Claims → Bool
-is_spent c = nat_le (2 ^ 63) c.voice.counter
+abbrev pub is_spent : LocalRoutes → Bool
+is_spent c = nat_le (2 ^ 63) c.speaker.counter
 
 -- Another edge advertises the station where its next number isn't 0: then it moves here, and the fifth move of one
 -- window freezes it. A number of 0: nobody else advertises it.
@@ -35,8 +35,8 @@ abbrev pub numbered_case : Edge → Option Window → Seq → Case
 numbered_case e window Static = Refuse StaticElsewhere
 numbered_case e window Spent = Refuse SequenceSpent
 numbered_case e window (Next n) =
-    if is_spent e.claims then Refuse CounterSpent
-    else if is_full e.claims.learned then Refuse TableFull
+    if is_spent e.routes then Refuse CounterSpent
+    else if is_full e.routes.learned then Refuse TableFull
     else move_case window e.clock n
 
 -- a station that isn't learnt
@@ -50,12 +50,12 @@ case_at e s None = new_case e s (get e.windows s)
 
 -- the first case that applies to a station
 abbrev pub case_of : Edge → Station → Case
-case_of e s = case_at e s (entry_at e.claims.learned s)
+case_of e s = case_at e s (entry_at e.routes.learned s)
 
 -- ---- what they do
 
 abbrev pub refreshed : Edge → Station → ℕ → Edge
-refreshed e s port = record e { claims = after_refresh e.claims s port e.clock }
+refreshed e s port = record e { routes = after_refresh e.routes s port e.clock }
 
 -- one more move of the station
 abbrev pub moved : Edge → Station → Edge
@@ -63,13 +63,13 @@ moved e s = record e { windows = insert e.windows s (after_move (get e.windows s
 
 -- learnt and advertised; a number above 0 is a move
 abbrev pub learnt : Edge → Station → ℕ → ℕ → Edge
-learnt e s port n = record (if n == 0 then e else moved e s) { claims = after_advert e.claims s port e.clock n }
+learnt e s port n = record (if n == 0 then e else moved e s) { routes = after_advert e.routes s port e.clock n }
 
 -- ---- memory
 
--- a register has to be made for what is said of the station: nothing was said of it in this life
+-- a register has to be made for what is said of the station: nothing was said of it in this incarnation
 abbrev pub needs_register : Edge → Station → Bool
-needs_register e s = not (is_said e.claims.voice (key_of s))
+needs_register e s = not (is_originated e.routes.speaker (key_of s))
 
 -- a window has to be made for its move: none is kept of it
 abbrev pub needs_window : Edge → Station → Bool

@@ -3,12 +3,12 @@ use Rattle.std.specs.Prelude.{◌≡◌}
 use Rattle.std.specs.FinMap.{empty}
 use Rattle.rstp_run.specs.Events.{start}
 use Rattle.ev_claims.specs.declared.opening.Start.{Start}
-use Rattle.ev_claims.specs.Opening as claims
+use Rattle.ev_claims.specs.Opening as routes
 use Rattle.ev_edge.specs.declared.config.EdgeConfig.{EdgeConfig}
 use Rattle.ev_edge.specs.Config.{vnis_of, settings_of}
 use Rattle.ev_edge.specs.Edge.{Edge}
 
--- what the claims are opened with
+-- what the local routes are opened with
 abbrev pub start_of : EdgeConfig → Start
 start_of c = record {
   address = c.address;
@@ -25,7 +25,7 @@ start_of c = record {
 -- from
 -- 1 and pending in this order. No station has moved, and the bridge is as it starts.
 pub record IsOpening (c : EdgeConfig) (e : Edge) : Type 0 where
-  pub claims : claims.IsOpening (start_of c) e.claims
+  pub routes : routes.IsOpening (start_of c) e.routes
   pub clock : e.clock ≡ 0
   pub ageing : e.ageing ≡ c.ageing
   pub tree : e.tree ≡ start c.tree (settings_of c.ports.items)

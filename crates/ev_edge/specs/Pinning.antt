@@ -1,7 +1,7 @@
 -- Pinning a station on a port: the first of these cases that applies, with what it does.
 use Rattle.std.specs.Prelude.{◌≡◌, ℕ, ◌==◌, ◌&&◌, Bool, true, false, not, Option, Some, None, if◌then◌else◌}
 use Rattle.std.specs.FinMap.{remove}
-use Rattle.ether_wire.specs.Names.{is_group}
+use Rattle.ether_wire.specs.Addr.{is_group}
 use Rattle.mac_arena.specs.declared.station.Station.{Station}
 use Rattle.mac_arena.specs.declared.station.Entry.{Entry}
 use Rattle.mac_arena.specs.Learning.{entry_at, is_full, is_pinned}
@@ -10,7 +10,7 @@ use Rattle.ev_mobility.specs.declared.alert.Alert.TheVariants.{StaticElsewhere, 
 use Rattle.ev_mobility.specs.declared.seq.Seq.{Seq}
 use Rattle.ev_mobility.specs.declared.seq.Seq.TheVariants.{Next, Static, Spent}
 use Rattle.ev_mobility.specs.Seq.{seq_for}
-use Rattle.ev_claims.specs.Claims.{vni_at, after_pin, after_shift, after_removal}
+use Rattle.ev_claims.specs.LocalRoutes.{vni_at, after_pin, after_shift, after_removal}
 use Rattle.ev_edge.specs.declared.pinning.PinCase.{PinCase}
 use Rattle.ev_edge.specs.declared.pinning.PinCase.TheVariants.{Keep, Shift, Deny, Pin}
 use Rattle.ev_edge.specs.declared.refusal.EdgeRefusal.{EdgeRefusal}
@@ -24,7 +24,7 @@ pin_refusal None s = Some NoSuchPort
 pin_refusal (Some vni) s = if vni == s.vni then (if is_group s.mac then Some BadMac else None) else Some NoSuchVni
 
 abbrev pub refused_pin : Edge → Station → ℕ → Option EdgeRefusal
-refused_pin e s port = pin_refusal (vni_at e.claims.ports port) s
+refused_pin e s port = pin_refusal (vni_at e.routes.ports port) s
 
 abbrev pub is_static : Seq → Bool
 is_static Static = true
@@ -37,8 +37,8 @@ is_static (Next n) = false
 abbrev pub unpinned_case : Edge → Station → Bool → PinCase
 unpinned_case e s known =
     if is_static (seq_for (table_of e) (address_of e) s.vni s.mac) then Deny StaticElsewhere
-    else if is_spent e.claims then Deny CounterSpent
-    else if not known && is_full e.claims.learned then Deny TableFull
+    else if is_spent e.routes then Deny CounterSpent
+    else if not known && is_full e.routes.learned then Deny TableFull
     else Pin
 
 abbrev pub pin_case_at : Edge → Station → ℕ → Option Entry → PinCase
@@ -46,14 +46,14 @@ pin_case_at e s port None = unpinned_case e s false
 pin_case_at e s port (Some x) = if x.pinned then (if x.port == port then Keep else Shift) else unpinned_case e s true
 
 abbrev pub pin_case : Edge → Station → ℕ → PinCase
-pin_case e s port = pin_case_at e s port (entry_at e.claims.learned s)
+pin_case e s port = pin_case_at e s port (entry_at e.routes.learned s)
 
 abbrev pub DoesPin : PinCase → Edge → Station → ℕ → Option Alert → Edge → Type 0
 DoesPin Keep e s port told e' = (told ≡ None) × (e' ≡ e)
-DoesPin Shift e s port told e' = (told ≡ None) × (e' ≡ record e { claims = after_shift e.claims s port })
+DoesPin Shift e s port told e' = (told ≡ None) × (e' ≡ record e { routes = after_shift e.routes s port })
 DoesPin (Deny alert) e s port told e' = (told ≡ Some alert) × (e' ≡ e)
 DoesPin Pin e s port told e' =
-    OrNoMemory (needs_register e s) e None (record e { claims = after_pin e.claims s port }) told e'
+    OrNoMemory (needs_register e s) e None (record e { routes = after_pin e.routes s port }) told e'
 
 -- pinning the station on the port
 abbrev pub Pinning : Edge → Station → ℕ → Option Alert → Edge → Type 0
@@ -61,7 +61,7 @@ Pinning e s port told e' = DoesPin (pin_case e s port) e s port told e'
 
 -- a pinned station goes; any other one stays
 abbrev pub after_unpin : Edge → Station → Edge
-after_unpin e s = if is_pinned (entry_at e.claims.learned s) then record e { claims = after_removal e.claims s } else e
+after_unpin e s = if is_pinned (entry_at e.routes.learned s) then record e { routes = after_removal e.routes s } else e
 
 -- the station's window ends
 abbrev pub after_thawing : Edge → Station → Edge

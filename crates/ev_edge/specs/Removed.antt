@@ -8,7 +8,7 @@ use Rattle.mac_arena.specs.Station.{is_same}
 use Rattle.mac_arena.specs.Learning.{entry_at, is_pinned}
 use Rattle.rstp_run.specs.declared.event.Event as tree
 use Rattle.rstp_run.specs.declared.event.Event.TheVariants as tree_events
-use Rattle.ev_claims.specs.Claims.{after_update, is_lost, station_of}
+use Rattle.ev_claims.specs.LocalRoutes.{after_update, is_lost, station_of}
 use Rattle.ev_claims.specs.Leaving.{goes_by_flush}
 use Rattle.ev_edge.specs.declared.arrival.Arrival.{Arrival}
 use Rattle.ev_edge.specs.declared.arrival.Arrival.TheVariants.{Dropped, Message, Data}
@@ -24,8 +24,8 @@ use Rattle.ev_edge.specs.Steps.{Steps}
 -- of the stations that are learnt exactly those go that pass the test
 abbrev pub GoExactly : Edge → Edge → (Station → Bool) → Type 0
 GoExactly e e' goes =
-    (s : Station) → IsSome (entry_at e.claims.learned s)
-    → (entry_at e'.claims.learned s ≡ None) ↔ (goes s ≡ true)
+    (s : Station) → IsSome (entry_at e.routes.learned s)
+    → (entry_at e'.routes.learned s ≡ None) ↔ (goes s ≡ true)
 
 -- ---- the tests
 
@@ -34,7 +34,7 @@ nobody s = false
 
 -- an unpinned one behind a port that is flushed
 abbrev pub is_flushed : Edge → ℕ → Station → Bool
-is_flushed e flush s = goes_by_flush flush (entry_at e.claims.learned s)
+is_flushed e flush s = goes_by_flush flush (entry_at e.routes.learned s)
 
 -- an unpinned one that was last heard so many seconds before this one, or earlier
 abbrev pub is_old : ℕ → ℕ → Option Entry → Bool
@@ -44,7 +44,7 @@ is_old ageing now (Some x) = not x.pinned && nat_le (x.last + ageing) now
 -- as a second passes: behind a port that is flushed, or too old by the new second
 abbrev pub goes_in_second : Edge → ℕ → Station → Bool
 goes_in_second e flush s =
-    is_flushed e flush s || is_old e.ageing (next_second e.clock) (entry_at e.claims.learned s)
+    is_flushed e flush s || is_old e.ageing (next_second e.clock) (entry_at e.routes.learned s)
 
 abbrev pub is_of : Option Station → Station → Bool
 is_of None s = false
@@ -55,11 +55,11 @@ is_of (Some q) s = is_same q s
 abbrev pub goes_by_take : Edge → Fields → Station → Bool
 goes_by_take e u s =
     not (u.register.originator == address_of e)
-    && (is_of (station_of u.register.key) s && is_lost (after_update e.claims u) s)
+    && (is_of (station_of u.register.key) s && is_lost (after_update e.routes u) s)
 
 -- the station itself, if it is pinned
 abbrev pub goes_by_unpin : Edge → Station → Station → Bool
-goes_by_unpin e q s = is_same q s && is_pinned (entry_at e.claims.learned s)
+goes_by_unpin e q s = is_same q s && is_pinned (entry_at e.routes.learned s)
 
 -- ---- by event
 

@@ -7,19 +7,19 @@ use Rattle.mac_arena.specs.Learning.{entry_at}
 use Rattle.ev_tunnel.specs.declared.decision.Decision.{Decision}
 use Rattle.ev_tunnel.specs.declared.decision.Source.{Source}
 use Rattle.ev_tunnel.specs.Decision.{local_for, remote_for}
-use Rattle.ev_claims.specs.Claims.{is_member}
+use Rattle.ev_claims.specs.LocalRoutes.{is_member}
 use Rattle.ev_edge.specs.Edge.{Edge, table_of, address_of, ArePassing}
 
 -- the port where the destination is learnt
 abbrev pub port_of : Edge → ℕ → ℕ → Option ℕ
-port_of e vni mac = option_map (λ (x : Entry). x.port) (entry_at e.claims.learned (record { vni = vni; mac = mac }))
+port_of e vni mac = option_map (λ (x : Entry). x.port) (entry_at e.routes.learned (record { vni = vni; mac = mac }))
 
 -- The decision for a frame of this network and destination: by what the edge has learnt and heard, over the ports of
 -- the network and those that pass, each set a word.
 pub record IsDecision (e : Edge) (vni destination : ℕ) (from : Source) (d : Decision) : Type 0 where
   pub members : ℕ
   pub members_fit : members < 2 ^ 64
-  pub are_members : (p : ℕ) → has_port members p ≡ is_member e.claims.ports vni p
+  pub are_members : (p : ℕ) → has_port members p ≡ is_member e.routes.ports vni p
   pub passing : ℕ
   pub passing_fit : passing < 2 ^ 64
   pub are_passing : ArePassing e.tree passing

@@ -1,7 +1,7 @@
 -- What an event makes of an edge, and what is answered: a table by event and answer.
 use Rattle.std.specs.Prelude.{◌≡◌, ◌⊎◌, ◌↔◌, ℕ, ◌==◌, ◌&&◌, Bool, true, false, not, IsTrue, Option, Some, None, Result}
 use Rattle.std.specs.Prelude.{Ok, Err, [], if◌then◌else◌}
-use Rattle.ether_wire.specs.Names.{is_group}
+use Rattle.ether_wire.specs.Addr.{is_group}
 use Rattle.route_wire.specs.Fields.{Fields}
 use Rattle.route_join.specs.Table.{is_listed, value_at}
 use Rattle.route_join.specs.Taken.{taken_of}
@@ -15,10 +15,10 @@ use Rattle.rstp_run.specs.declared.event.Event as tree
 use Rattle.rstp_run.specs.declared.event.Event.TheVariants as tree_events
 use Rattle.rstp_run.specs.Events.{Learns, Passes}
 use Rattle.route_join.specs.declared.table.Taken.{Taken}
-use Rattle.ev_claims.specs.declared.voice.OwnError.{OwnError}
-use Rattle.ev_claims.specs.declared.voice.OwnError.TheVariants.{Ahead, Spent, NoMemory as Unroomed}
-use Rattle.ev_claims.specs.Voice.{announced, is_ahead, is_spent, is_returning}
-use Rattle.ev_claims.specs.Claims.{vni_at, after_take, after_own, after_announcement, loses_pinned}
+use Rattle.ev_claims.specs.declared.speaker.OwnError.{OwnError}
+use Rattle.ev_claims.specs.declared.speaker.OwnError.TheVariants.{Ahead, Spent, NoMemory as Unroomed}
+use Rattle.ev_claims.specs.Speaker.{announced, is_ahead, is_spent, is_returning}
+use Rattle.ev_claims.specs.LocalRoutes.{vni_at, after_take, after_own, after_announcement, loses_pinned}
 use Rattle.ev_edge.specs.declared.arrival.Arrival.{Arrival}
 use Rattle.ev_edge.specs.declared.arrival.Arrival.TheVariants.{Dropped, Message, Data}
 use Rattle.ev_edge.specs.declared.event.Event.{Event}
@@ -142,19 +142,19 @@ OtherRefused e u r =
 abbrev pub TakesOther : Edge → Fields → Result Reply Refusal → Edge → Type 0
 TakesOther e u (Ok reply) e' =
     (is_listed (table_of e) u.register.originator ≡ true)
-    × (reply ≡ record nothing { taken = Some (taken_of (table_of e) u); alert = lost_alert (loses_pinned e.claims u) })
-    × (e' ≡ record e { claims = after_take e.claims u })
+    × (reply ≡ record nothing { taken = Some (taken_of (table_of e) u); alert = lost_alert (loses_pinned e.routes u) })
+    × (e' ≡ record e { routes = after_take e.routes u })
 TakesOther e u (Err r) e' = OtherRefused e u r × (e' ≡ e)
 
 -- why an update under the edge's own name isn't taken; the memory for a new register, or for the withdrawal of an
 -- advert
--- of an earlier life, may be refused
+-- of an earlier incarnation, may be refused
 abbrev pub OwnRefused : Edge → Fields → Refusal → Type 0
 OwnRefused e u r =
-    ((r ≡ OfEdge OwnNameAhead) × (is_ahead e.claims.voice u ≡ true))
-    ⊎ ((r ≡ OfEdge OwnSpent) × (is_spent e.claims.voice u ≡ true))
-    ⊎ ((r ≡ OfEdge NoMemory) × (is_ahead e.claims.voice u ≡ false) × (is_spent e.claims.voice u ≡ false)
-    × ((value_at (table_of e) u.register ≡ None) ⊎ (is_returning e.claims.voice u ≡ true)))
+    ((r ≡ OfEdge OwnNameAhead) × (is_ahead e.routes.speaker u ≡ true))
+    ⊎ ((r ≡ OfEdge OwnSpent) × (is_spent e.routes.speaker u ≡ true))
+    ⊎ ((r ≡ OfEdge NoMemory) × (is_ahead e.routes.speaker u ≡ false) × (is_spent e.routes.speaker u ≡ false)
+    × ((value_at (table_of e) u.register ≡ None) ⊎ (is_returning e.routes.speaker u ≡ true)))
 
 abbrev pub own_result : Result Taken OwnError → Result Reply Refusal
 own_result (Ok taken) = Ok (record nothing { taken = Some taken })
@@ -164,9 +164,9 @@ own_result (Err Unroomed) = Err (OfEdge NoMemory)
 
 abbrev pub TakesOwn : Edge → Fields → Result Reply Refusal → Edge → Type 0
 TakesOwn e u (Ok reply) e' =
-    (is_ahead e.claims.voice u ≡ false) × (is_spent e.claims.voice u ≡ false)
+    (is_ahead e.routes.speaker u ≡ false) × (is_spent e.routes.speaker u ≡ false)
     × (reply ≡ record nothing { taken = Some (taken_of (table_of e) u) })
-    × (e' ≡ record e { claims = after_own e.claims u })
+    × (e' ≡ record e { routes = after_own e.routes u })
 TakesOwn e u (Err r) e' = OwnRefused e u r × (e' ≡ e)
 
 abbrev pub Takes : Bool → Edge → Fields → Result Reply Refusal → Edge → Type 0
@@ -190,10 +190,10 @@ Steps e (events.Pin s port) result e' = Pins (refused_pin e s port) e s port res
 Steps e (events.Unpin s) result e' = (result ≡ Ok nothing) × (e' ≡ after_unpin e s)
 Steps e (events.Thaw s) result e' = (result ≡ Ok nothing) × (e' ≡ after_thawing e s)
 Steps e events.Second result e' = Seconds e result e'
-Steps e (events.PortUp port) result e' = BridgesAt (vni_at e.claims.ports port) (tree_events.PortUp port) e result e'
-Steps e (events.PortDown port) result e' = BridgesAt (vni_at e.claims.ports port) (tree_events.PortDown port) e result
+Steps e (events.PortUp port) result e' = BridgesAt (vni_at e.routes.ports port) (tree_events.PortUp port) e result e'
+Steps e (events.PortDown port) result e' = BridgesAt (vni_at e.routes.ports port) (tree_events.PortDown port) e result
     e'
-Steps e (events.Mcheck port) result e' = BridgesAt (vni_at e.claims.ports port) (tree_events.Mcheck port) e result e'
+Steps e (events.Mcheck port) result e' = BridgesAt (vni_at e.routes.ports port) (tree_events.Mcheck port) e result e'
 Steps e events.Announce result e' =
-    (result ≡ Ok (record nothing { announced = announced e.claims.voice }))
-    × (e' ≡ record e { claims = after_announcement e.claims })
+    (result ≡ Ok (record nothing { announced = announced e.routes.speaker }))
+    × (e' ≡ record e { routes = after_announcement e.routes })

@@ -1,7 +1,7 @@
 //! Events of the bridge: what it sends, and the stations that go by them.
 ghost use Rattle.std.specs.Prelude.{◌≡◌, ◌≤◌, ◌^◌, true, is_some, length};
 ghost use Rattle.rstp_run.specs.Events.{IsAt, IsPort};
-ghost use Rattle.ev_claims.specs.Claims.{vni_at};
+ghost use Rattle.ev_claims.specs.LocalRoutes.{vni_at};
 ghost use Rattle.ev_edge.specs.Edge.{ArePassing};
 ghost use Rattle.ev_edge.specs.Bridging.{AddsPassing, BridgeGoes, next_second, aged};
 ghost use Rattle.ev_edge.specs.Steps.{BridgeSteps, BridgesAt, SecondSteps, answered};
@@ -12,7 +12,7 @@ use crate::reply::Reply;
 use arrayvec::ArrayVec;
 use bpdu_wire::Bpdu;
 use ether_wire::{NO_PORTS, with_port};
-use ev_claims::Claims;
+use ev_claims::LocalRoutes;
 use rstp_run::bridge::Bridge;
 use rstp_run::event::Event;
 
@@ -66,11 +66,11 @@ fn next_second(clock: u64) -> u64
 }
 
 // The stations that weren't heard for so many seconds go.
-fn age(claims: &mut Claims, ageing: u64, clock: u64)
-    ensures { claims.new ≡ aged claims.old ageing clock }
+fn age(routes: &mut LocalRoutes, ageing: u64, clock: u64)
+    ensures { routes.new ≡ aged routes.old ageing clock }
 {
     if clock >= ageing {
-        claims.age(clock - ageing);
+        routes.age(clock - ageing);
     }
 }
 
@@ -84,7 +84,7 @@ impl Edge {
         reply.clear();
         let flush = go_on(&mut self.bridge, event, &mut reply.bpdus);
         self.passing = passing_ports(&self.bridge);
-        self.claims.flush(flush);
+        self.routes.flush(flush);
     }
 
     /// A second passes. The stations behind the ports that the bridge flushes go first, then those
@@ -96,21 +96,21 @@ impl Edge {
         let flush = go_on(&mut self.bridge, Event::Second, &mut reply.bpdus);
         self.passing = passing_ports(&self.bridge);
         self.clock = next_second(self.clock);
-        self.claims.flush(flush);
-        age(&mut self.claims, self.ageing, self.clock);
+        self.routes.flush(flush);
+        age(&mut self.routes, self.ageing, self.clock);
     }
 
     // Whether there is such a port.
     fn is_there(&self, port: u8) -> bool
-        ensures value { result ≡ is_some (vni_at self.now.claims.ports port) }
+        ensures value { result ≡ is_some (vni_at self.now.routes.ports port) }
         ensures port { result ≡ true → IsPort port (length self.now.tree.ports) }
     {
-        self.claims.vni_of(port).is_some()
+        self.routes.vni_of(port).is_some()
     }
 
     /// A port comes up.
     pub(crate) fn port_up(&mut self, port: u8, reply: &mut Reply) -> Result<(), Refusal>
-        ensures { BridgesAt (vni_at self.old.claims.ports port) (Event.PortUp port) self.old
+        ensures { BridgesAt (vni_at self.old.routes.ports port) (Event.PortUp port) self.old
             (answered result reply.new) self.new }
     {
         if !self.is_there(port) {
@@ -122,7 +122,7 @@ impl Edge {
 
     /// A port goes down.
     pub(crate) fn port_down(&mut self, port: u8, reply: &mut Reply) -> Result<(), Refusal>
-        ensures { BridgesAt (vni_at self.old.claims.ports port) (Event.PortDown port) self.old
+        ensures { BridgesAt (vni_at self.old.routes.ports port) (Event.PortDown port) self.old
             (answered result reply.new) self.new }
     {
         if !self.is_there(port) {
@@ -134,7 +134,7 @@ impl Edge {
 
     /// A port's protocol is to be found out anew.
     pub(crate) fn mcheck(&mut self, port: u8, reply: &mut Reply) -> Result<(), Refusal>
-        ensures { BridgesAt (vni_at self.old.claims.ports port) (Event.Mcheck port) self.old
+        ensures { BridgesAt (vni_at self.old.routes.ports port) (Event.Mcheck port) self.old
             (answered result reply.new) self.new }
     {
         if !self.is_there(port) {

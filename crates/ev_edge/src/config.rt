@@ -36,7 +36,7 @@ impl Default for PortConfig {
 pub struct EdgeConfig {
     /// The address under which the edge speaks. It is one of the originators.
     pub address: Addr,
-    /// Which life of this originator begins, from 0.
+    /// Which incarnation of this originator begins, from 0.
     pub incarnation: u32,
     /// The originators that the edge listens to: 1 to 64 that all differ.
     pub originators: ArrayVec<Addr, 64>,

@@ -1,8 +1,8 @@
 ghost use Rattle.std.specs.Prelude.{◌≡◌, IfOk, IfSome, IfNone, is_some, slice_get};
 ghost use Rattle.ether_wire.specs.Ends.{IsOpen, Puts};
 ghost use Rattle.route_join.specs.Report.{report_of};
-ghost use Rattle.ev_claims.specs.Voice.{IsOwnAt, IsNoOwnAt};
-ghost use Rattle.ev_claims.specs.Claims.{entries};
+ghost use Rattle.ev_claims.specs.Speaker.{IsOwnAt, IsNoOwnAt};
+ghost use Rattle.ev_claims.specs.LocalRoutes.{entries};
 ghost use Rattle.ev_edge.specs.Config.{IsConfig};
 ghost use Rattle.ev_edge.specs.Edge.{IsGoodEdge, table_of};
 ghost use Rattle.ev_edge.specs.Opening.{IsOpening};
@@ -13,7 +13,7 @@ use crate::event::Event;
 use crate::refusal::Refusal;
 use crate::reply::Reply;
 use ether_wire::{Device, NO_PORTS, Out};
-use ev_claims::{Claims, Start};
+use ev_claims::{LocalRoutes, Start};
 use ev_mobility::Moves;
 use route_join::Table;
 use route_wire::Update;
@@ -27,7 +27,7 @@ use std::marker::Model;
 /// and owns each of them.
 #[derive(Drop)]
 pub struct Edge {
-    pub(crate) claims: Claims,
+    pub(crate) routes: LocalRoutes,
     pub(crate) clock: u64,
     pub(crate) ageing: u64,
     pub(crate) bridge: Bridge,
@@ -45,10 +45,10 @@ impl Model for Edge {
 
     ghost coded = { Prim.hlevel (codes, code) };
 
-    ghost view = { λ e. edge_of e.claims e.clock e.ageing e.bridge e.moves };
+    ghost view = { λ e. edge_of e.routes e.clock e.ageing e.bridge e.moves };
 
     ghost invariant = { λ e. IsEdge
-        (edge_of e.claims e.clock e.ageing e.bridge e.moves) e.passing };
+        (edge_of e.routes e.clock e.ageing e.bridge e.moves) e.passing };
 }
 
 impl Edge {
@@ -78,9 +78,9 @@ impl Edge {
             buckets: config.buckets,
             salt: config.salt,
         };
-        let claims = Claims::open(alloc, start)?;
+        let routes = LocalRoutes::open(alloc, start)?;
         Ok(Edge {
-            claims,
+            routes,
             clock: 0,
             ageing: config.ageing,
             bridge,
@@ -146,14 +146,14 @@ impl Edge {
     pub fn always_good(&self)
         ensures { IsGoodEdge self.now }
     {
-        self.claims.always_good();
+        self.routes.always_good();
     }
 
     /// What the edge has heard and said.
     pub fn table(&self) -> &Table
         ensures { result.now ≡ table_of self.now }
     {
-        self.claims.table()
+        self.routes.table()
     }
 
     /// Writes the report of the edge's table: a line for each register, and one for the owner of
@@ -178,30 +178,30 @@ impl Edge {
 
     /// How many stations are learnt.
     pub fn entries(&self) -> usize
-        ensures { result ≡ entries self.now.claims }
+        ensures { result ≡ entries self.now.routes }
     {
-        self.claims.entries()
+        self.routes.entries()
     }
 
     /// The last number that was given to an own update.
     pub fn counter(&self) -> u64
-        ensures { result ≡ self.now.claims.voice.counter }
+        ensures { result ≡ self.now.routes.speaker.counter }
     {
-        self.claims.counter()
+        self.routes.counter()
     }
 
-    /// The own update of this life with this number, if it is still its register's value.
+    /// The own update of this incarnation with this number, if it is still its register's value.
     pub fn own_at(&self, counter: u64) -> Option<Update>
-        ensures some { IfSome result (IsOwnAt self.now.claims.voice counter) }
-        ensures none { IfNone result (IsNoOwnAt self.now.claims.voice counter) }
+        ensures some { IfSome result (IsOwnAt self.now.routes.speaker counter) }
+        ensures none { IfNone result (IsNoOwnAt self.now.routes.speaker counter) }
     {
-        self.claims.own_at(counter)
+        self.routes.own_at(counter)
     }
 
     /// Whether an own register waits to be announced.
     pub fn has_pending(&self) -> bool
-        ensures { result ≡ is_some (slice_get self.now.claims.voice.pending 0) }
+        ensures { result ≡ is_some (slice_get self.now.routes.speaker.pending 0) }
     {
-        self.claims.has_pending()
+        self.routes.has_pending()
     }
 }

@@ -11,7 +11,7 @@ pub enum Event<'a> {
     Frame(u8, &'a [u8]),
     /// This datagram comes from another edge.
     TunnelFrame(Addr, &'a [u8]),
-    /// This update comes, of another edge or of the edge itself in an earlier life.
+    /// This update comes, of another edge or of the edge itself in an earlier incarnation.
     Take(Update),
     /// The station is to be pinned on the port.
     Pin(Station, u8),

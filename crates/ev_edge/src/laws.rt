@@ -31,10 +31,10 @@ pub fn own_changes()
 
 /// The opening is such a change from nothing: the flood list of each network is
 /// said, numbered from 1.
-pub fn opening_says(config: &EdgeConfig, edge: &Edge)
+pub fn opening_originates(config: &EdgeConfig, edge: &Edge)
     requires config { IsConfig config.now }
     requires opening { IsOpening config.now edge.now }
-    ensures { Opens (start_of config.now) edge.now.claims }
+    ensures { Opens (start_of config.now) edge.now.routes }
 {}
 
 /// A frame that comes at an access port of a good edge leaves only by ports of its network that

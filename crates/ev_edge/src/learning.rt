@@ -1,10 +1,10 @@
 //! Learning the source of a frame: which of the ten cases it is, and what that does.
 ghost use Rattle.std.specs.Prelude.{◌≡◌, ◌<◌, ◌^◌, ◌==◌, true, false, None, Some};
 ghost use Rattle.std.specs.FinMap.{get};
-ghost use Rattle.ether_wire.specs.Names.{is_group};
+ghost use Rattle.ether_wire.specs.Addr.{is_group};
 ghost use Rattle.mac_arena.specs.Learning.{entry_at, is_full};
 ghost use Rattle.ev_mobility.specs.Seq.{seq_for};
-ghost use Rattle.ev_claims.specs.Claims.{vni_at};
+ghost use Rattle.ev_claims.specs.LocalRoutes.{vni_at};
 ghost use Rattle.ev_edge.specs.Edge.{table_of, address_of};
 ghost use Rattle.ev_mobility.specs.Window.{is_fifth};
 ghost use Rattle.ev_edge.specs.Learning.{case_of, new_case, numbered_case, moved, learnt, needs_memory, OrNoMemory, Learning};
@@ -35,13 +35,13 @@ impl Edge {
     /// Learns a station on a port of its network, and tells what the operator is to know.
     pub(crate) fn learn(&mut self, station: &Station, port: u8) -> Option<Alert>
         requires individual { is_group station.now.mac ≡ false }
-        requires port { vni_at self.old.claims.ports port ≡ Some station.now.vni }
+        requires port { vni_at self.old.routes.ports port ≡ Some station.now.vni }
         ensures { Learning self.old station.now port result self.new }
     {
         match self.case_of(station) {
             Case::Leave => None,
             Case::Refresh => {
-                self.claims.refresh(station, port, self.clock);
+                self.routes.refresh(station, port, self.clock);
                 None
             }
             Case::Refuse(alert) => Some(alert),
@@ -54,7 +54,7 @@ impl Edge {
     fn case_of(&self, station: &Station) -> Case
         ensures { result ≡ case_of self.now station.now }
     {
-        match self.claims.look(station) {
+        match self.routes.look(station) {
             Some(entry) => if entry.pinned {
                 Case::Leave
             } else {
@@ -83,10 +83,10 @@ impl Edge {
         ensures { result
             ≡ numbered_case self.now (get self.now.windows station.now) (Seq.Next number) }
     {
-        if self.claims.counter() >= SPENT {
+        if self.routes.counter() >= SPENT {
             return Case::Refuse(Alert::CounterSpent);
         }
-        if self.claims.is_full() {
+        if self.routes.is_full() {
             return Case::Refuse(Alert::TableFull);
         }
         if number != 0 && self.moves.fifth(station, self.clock) {
@@ -101,8 +101,8 @@ impl Edge {
             ≡ seq_for (table_of self.now) (address_of self.now) station.now.vni station.now.mac }
     {
         next_seq(
-            self.claims.table(),
-            self.claims.address(),
+            self.routes.table(),
+            self.routes.address(),
             station.vni,
             station.mac,
         )
@@ -124,17 +124,17 @@ impl Edge {
     // want memory.
     fn learn_first(&mut self, station: &Station, port: u8) -> Option<Alert>
         requires individual { is_group station.now.mac ≡ false }
-        requires port { vni_at self.old.claims.ports port ≡ Some station.now.vni }
-        requires new { entry_at self.old.claims.learned station.now ≡ None }
-        requires room { is_full self.old.claims.learned ≡ false }
-        requires counter { self.old.claims.voice.counter < 2 ^ 63 }
+        requires port { vni_at self.old.routes.ports port ≡ Some station.now.vni }
+        requires new { entry_at self.old.routes.learned station.now ≡ None }
+        requires room { is_full self.old.routes.learned ≡ false }
+        requires counter { self.old.routes.speaker.counter < 2 ^ 63 }
         requires next { seq_for (table_of self.old)
             (address_of self.old) station.now.vni station.now.mac ≡ Seq.Next 0 }
         ensures { OrNoMemory (needs_memory self.old station.now 0) self.old None
             (learnt self.old station.now port 0) result self.new }
     {
-        self.claims.always_good();
-        if self.claims.advertise(station, port, self.clock, 0).is_err() {
+        self.routes.always_good();
+        if self.routes.advertise(station, port, self.clock, 0).is_err() {
             return Some(Alert::NoMemory);
         }
         None
@@ -144,23 +144,23 @@ impl Edge {
     // that has to be made can want memory.
     fn learn_moved(&mut self, station: &Station, port: u8, number: u32) -> Option<Alert>
         requires individual { is_group station.now.mac ≡ false }
-        requires port { vni_at self.old.claims.ports port ≡ Some station.now.vni }
-        requires new { entry_at self.old.claims.learned station.now ≡ None }
-        requires room { is_full self.old.claims.learned ≡ false }
-        requires counter { self.old.claims.voice.counter < 2 ^ 63 }
+        requires port { vni_at self.old.routes.ports port ≡ Some station.now.vni }
+        requires new { entry_at self.old.routes.learned station.now ≡ None }
+        requires room { is_full self.old.routes.learned ≡ false }
+        requires counter { self.old.routes.speaker.counter < 2 ^ 63 }
         requires next { seq_for (table_of self.old)
             (address_of self.old) station.now.vni station.now.mac ≡ Seq.Next number }
         requires moves { (number == 0) ≡ false }
         ensures { OrNoMemory (needs_memory self.old station.now number) self.old None
             (learnt self.old station.now port number) result self.new }
     {
-        self.claims.always_good();
+        self.routes.always_good();
         self.moves.always_placed();
         if self.moves.room(station).is_err() {
             return Some(Alert::NoMemory);
         }
         let clock = self.clock;
-        if self.claims.advertise(station, port, clock, number).is_err() {
+        if self.routes.advertise(station, port, clock, number).is_err() {
             return Some(Alert::NoMemory);
         }
         self.moves.note(station, clock);

@@ -5,6 +5,7 @@
 mod arrival;
 mod bridging;
 mod config;
+mod display;
 mod edge;
 mod event;
 mod laws;
@@ -16,16 +17,15 @@ mod sending;
 mod taking;
 #[cfg(test)]
 mod tests;
-mod words;
 
 pub use arrival::Arrival;
 pub use config::{EdgeConfig, PortConfig};
 pub use edge::Edge;
 pub use event::Event;
 pub use laws::{
-    advertises_its_own, leaves_by_members_that_pass, never_from_tunnel_to_tunnel, opening_says,
-    own_changes, reserved_goes_nowhere, reserved_in_tunnel_goes_nowhere, stays_good, steps_remove,
-    takes_no_memory,
+    advertises_its_own, leaves_by_members_that_pass, never_from_tunnel_to_tunnel,
+    opening_originates, own_changes, reserved_goes_nowhere, reserved_in_tunnel_goes_nowhere,
+    stays_good, steps_remove, takes_no_memory,
 };
 pub use learning::Case;
 pub use pinning::PinCase;

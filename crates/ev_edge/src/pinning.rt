@@ -46,7 +46,7 @@ impl Edge {
     fn refused_pin(&self, station: &Station, port: u8) -> Option<EdgeRefusal>
         ensures { result ≡ refused_pin self.now station.now port }
     {
-        let Some(vni) = self.claims.vni_of(port) else {
+        let Some(vni) = self.routes.vni_of(port) else {
             return Some(EdgeRefusal::NoSuchPort)
         };
         if vni != station.vni {
@@ -62,7 +62,7 @@ impl Edge {
     fn pin_case(&self, station: &Station, port: u8) -> PinCase
         ensures { result ≡ pin_case self.now station.now port }
     {
-        match self.claims.look(station) {
+        match self.routes.look(station) {
             Some(entry) if entry.pinned => if entry.port == port {
                 PinCase::Keep
             } else {
@@ -80,10 +80,10 @@ impl Edge {
         if self.next_seq(station) == Seq::Static {
             return PinCase::Deny(Alert::StaticElsewhere);
         }
-        if self.claims.counter() >= SPENT {
+        if self.routes.counter() >= SPENT {
             return PinCase::Deny(Alert::CounterSpent);
         }
-        if !known && self.claims.is_full() {
+        if !known && self.routes.is_full() {
             return PinCase::Deny(Alert::TableFull);
         }
         PinCase::Pin
@@ -94,15 +94,15 @@ impl Edge {
         requires { refused_pin self.old station.now port ≡ None }
         ensures { Pinning self.old station.now port result self.new }
     {
-        self.claims.always_good();
+        self.routes.always_good();
         match self.pin_case(station, port) {
             PinCase::Keep => None,
             PinCase::Shift => {
-                self.claims.shift(station, port);
+                self.routes.shift(station, port);
                 None
             }
             PinCase::Deny(alert) => Some(alert),
-            PinCase::Pin => match self.claims.pin(station, port) {
+            PinCase::Pin => match self.routes.pin(station, port) {
                 Ok(()) => None,
                 Err(_) => Some(Alert::NoMemory),
             },
@@ -114,9 +114,9 @@ impl Edge {
         ensures reply { reply.new ≡ nothing }
         ensures after { self.new ≡ after_unpin self.old station.now }
     {
-        if let Some(entry) = self.claims.look(station) {
+        if let Some(entry) = self.routes.look(station) {
             if entry.pinned {
-                self.claims.remove(station);
+                self.routes.remove(station);
             }
         }
         reply.clear();

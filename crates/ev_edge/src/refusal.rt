@@ -13,7 +13,7 @@ pub enum EdgeRefusal {
     /// It comes from nobody that the edge listens to; or it came through a tunnel under
     /// the edge's own name.
     UnknownOriginator,
-    /// It is under the edge's own name and of no earlier life, and newer than
+    /// It is under the edge's own name and of no earlier incarnation, and newer than
     /// what the edge has said.
     OwnNameAhead,
     /// There is no memory for it.
@@ -22,8 +22,8 @@ pub enum EdgeRefusal {
     NoSuchPort,
     /// The edge doesn't serve the network, or the port doesn't belong to it.
     NoSuchVni,
-    /// It is an own advert of an earlier life that would have to be withdrawn, and the edge has few
-    /// numbers left.
+    /// It is an own advert of an earlier incarnation that would have to be withdrawn, and the edge
+    /// has few numbers left.
     OwnSpent,
 }
 
@@ -65,9 +65,9 @@ pub enum Refusal {
     /// The octets are no frame.
     Ether(FrameRefusal),
     /// The frame holds no BPDU, though it is addressed as one.
-    Bpdu(bpdu_wire::Refusal),
+    Bpdu(bpdu_wire::BpduRefusal),
     /// The datagram has no VXLAN header.
-    Vxlan(vxlan_wire::Refusal),
+    Vxlan(vxlan_wire::VxlanRefusal),
     /// The edge refuses it.
     Edge(EdgeRefusal),
 }

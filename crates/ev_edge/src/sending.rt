@@ -1,6 +1,6 @@
 //! Frames: what comes is learnt from, and sent where it belongs.
 ghost use Rattle.std.specs.Prelude.{◌≡◌, Some, IsSome, []};
-ghost use Rattle.ev_claims.specs.Claims.{vni_at};
+ghost use Rattle.ev_claims.specs.LocalRoutes.{vni_at};
 ghost use Rattle.ev_tunnel.specs.Decision.{IsFrom};
 ghost use Rattle.ev_edge.specs.Arrival.{frame_arrival, serves, tunnel_arrival};
 ghost use Rattle.std.specs.Option.{ForSome};
@@ -65,7 +65,7 @@ impl Edge {
     fn frame_arrival(&self, port: u8, octets: &[u8]) -> Result<Arrival, Refusal>
         ensures { result ≡ frame_arrival self.now port octets.now }
     {
-        let Some(vni) = self.claims.vni_of(port) else {
+        let Some(vni) = self.routes.vni_of(port) else {
             return Err(Refusal::Edge(EdgeRefusal::NoSuchPort))
         };
         arrival_at(self.bridge.port(port).enabled, vni, octets)
@@ -73,10 +73,10 @@ impl Edge {
 
     // A frame of a network comes at a port.
     fn data(&mut self, port: u8, vni: Vni, destination: Mac, source: Mac, reply: &mut Reply)
-        requires { vni_at self.old.claims.ports port ≡ Some vni }
+        requires { vni_at self.old.routes.ports port ≡ Some vni }
         ensures { DataSteps self.old port vni destination source reply.new self.new }
     {
-        self.claims.always_good();
+        self.routes.always_good();
         let passes = self.bridge.passes(port);
         reply.keep_decision();
         reply.alert = self.learn_source(port, vni, source);
@@ -91,7 +91,7 @@ impl Edge {
 
     // Learns the source of a frame, if the port learns and it is no group address.
     fn learn_source(&mut self, port: u8, vni: Vni, source: Mac) -> Option<Alert>
-        requires { vni_at self.old.claims.ports port ≡ Some vni }
+        requires { vni_at self.old.routes.ports port ≡ Some vni }
         ensures { LearnsAt self.old port vni source result self.new }
     {
         if self.bridge.learns(port) && !source.is_group() {
@@ -127,8 +127,8 @@ impl Edge {
         ensures value { result ≡ port_of self.now vni mac }
         ensures port { ForSome result IsPort }
     {
-        self.claims.always_good();
-        match self.claims.look(&Station { vni, mac }) {
+        self.routes.always_good();
+        match self.routes.look(&Station { vni, mac }) {
             Some(entry) => Some(entry.port),
             None => None,
         }
@@ -144,9 +144,9 @@ impl Edge {
             vni,
             from,
             self.port_of(vni, destination),
-            self.claims.table(),
-            self.claims.address(),
-            self.claims.members(vni),
+            self.routes.table(),
+            self.routes.address(),
+            self.routes.members(vni),
             self.passing,
             decision,
         );
@@ -176,15 +176,15 @@ impl Edge {
     fn serves(&self, vni: Vni) -> bool
         ensures { result ≡ serves self.now vni }
     {
-        self.claims.has_vni(vni)
+        self.routes.has_vni(vni)
     }
 
     // What comes from a tunnel, or why it is refused.
     fn tunnel_arrival(&self, from: Addr, octets: &[u8]) -> Result<Arrival, Refusal>
         ensures { result ≡ tunnel_arrival self.now from octets.now }
     {
-        let listed = self.claims.table().originators().contains(&from);
-        if !listed || from == self.claims.address() {
+        let listed = self.routes.table().originators().contains(&from);
+        if !listed || from == self.routes.address() {
             return Err(Refusal::Edge(EdgeRefusal::UnknownOriginator));
         }
         let (vni, inner) = match unwrap_datagram(octets) {

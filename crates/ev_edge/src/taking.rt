@@ -1,7 +1,7 @@
 //! Taking updates, and announcing own ones.
 ghost use Rattle.std.specs.Prelude.{◌≡◌, ◌≢◌, ◌==◌, Some};
-ghost use Rattle.ev_claims.specs.Voice.{announced};
-ghost use Rattle.ev_claims.specs.Claims.{after_announcement};
+ghost use Rattle.ev_claims.specs.Speaker.{announced};
+ghost use Rattle.ev_claims.specs.LocalRoutes.{after_announcement};
 ghost use Rattle.ev_edge.specs.Edge.{address_of};
 ghost use Rattle.ev_edge.specs.Steps.{Takes, TakesOwn, TakesOther, answered, nothing, lost_alert, own_result};
 
@@ -40,12 +40,12 @@ fn tell_own(outcome: Result<Taken, OwnError>, reply: &mut Reply) -> Result<(), R
 }
 
 impl Edge {
-    /// Takes an update, of another edge or of this one in an earlier life.
+    /// Takes an update, of another edge or of this one in an earlier incarnation.
     pub(crate) fn take(&mut self, update: &Update, reply: &mut Reply) -> Result<(), Refusal>
         ensures { Takes (update.now.register.originator == address_of self.old) self.old update.now
             (answered result reply.new) self.new }
     {
-        if update.register().originator == self.claims.address() {
+        if update.register().originator == self.routes.address() {
             self.take_own(update, reply)
         } else {
             self.take_other(update, reply)
@@ -56,7 +56,7 @@ impl Edge {
         requires { update.now.register.originator ≢ address_of self.old }
         ensures { TakesOther self.old update.now (answered result reply.new) self.new }
     {
-        match self.claims.hear(update) {
+        match self.routes.import(update) {
             Ok(heard) => {
                 tell_taken(heard.taken, heard.lost_pinned, reply);
                 Ok(())
@@ -70,16 +70,19 @@ impl Edge {
         requires { update.now.register.originator ≡ address_of self.old }
         ensures { TakesOwn self.old update.now (answered result reply.new) self.new }
     {
-        self.claims.always_good();
-        tell_own(self.claims.hear_own(update), reply)
+        self.routes.always_good();
+        tell_own(self.routes.import_own(update), reply)
     }
 
     /// Gives the next own update that isn't announced yet.
     pub(crate) fn announce(&mut self, reply: &mut Reply)
-        ensures reply { reply.new ≡ record nothing { announced = announced self.old.claims.voice } }
-        ensures after { self.new ≡ record self.old { claims = after_announcement self.old.claims } }
+        ensures reply { reply.new ≡ record nothing {
+          announced = announced
+              self.old.routes.speaker;
+        } }
+        ensures after { self.new ≡ record self.old { routes = after_announcement self.old.routes } }
     {
         reply.clear();
-        reply.announced = self.claims.announce();
+        reply.announced = self.routes.announce();
     }
 }

@@ -115,7 +115,7 @@ fn tree() -> Settings
     }
 }
 
-// The edge 10.0.0.2 with three ports of network 5001, in this life.
+// The edge 10.0.0.2 with three ports of network 5001, in this incarnation.
 fn config(incarnation: u32, capacity: usize, ageing: u64) -> EdgeConfig
     requires some { 1 ≤ capacity }
     requires few { capacity ≤ 65536 }
@@ -135,8 +135,8 @@ fn config(incarnation: u32, capacity: usize, ageing: u64) -> EdgeConfig
     }
 }
 
-// The edge's first or later life, with room for so many stations, which it forgets after so many
-// seconds. Its ports 1 and 2 are up.
+// The edge's first or later incarnation, with room for so many stations, which it forgets after so
+// many seconds. Its ports 1 and 2 are up.
 fn open(alloc: Global, incarnation: u32, capacity: usize, ageing: u64) -> Result<Edge, AllocError>
     requires some { 1 ≤ capacity }
     requires few { capacity ≤ 65536 }
@@ -238,7 +238,7 @@ fn told(edge: &mut Edge, event: &Event<'_>) -> u8 {
 }
 
 // A broadcast frame of this station comes at the port: what the operator is told.
-fn hear(edge: &mut Edge, port: u8, source: u64) -> u8 {
+fn import(edge: &mut Edge, port: u8, source: u64) -> u8 {
     told(edge, &Event::Frame(port, &frame(BROADCAST, source)))
 }
 

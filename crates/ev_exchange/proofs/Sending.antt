@@ -8,7 +8,7 @@ use Rattle.ether_wire.specs.declared.ends.Device.{Device}
 use Rattle.ether_wire.proofs.Appending.{with_text_twice}
 use Rattle.route_wire.specs.Fields.{Fields}
 use Rattle.route_wire.specs.Record.{ReadsUpTo, Reads}
-use Rattle.route_wire.specs.Spelling.{spelling_of}
+use Rattle.route_wire.specs.Encode.{spelling_of}
 use Rattle.ev_exchange.specs.Sending.{Sending, records_of, all_ok, HasSent}
 
 -- answers, and then those of what is left

@@ -6,7 +6,7 @@ use Rattle.route_wire.specs.declared.update.Register.{Register}
 use Rattle.route_wire.specs.declared.update.Value.{Value}
 use Rattle.route_wire.specs.Fields.{Fields}
 use Rattle.route_wire.specs.Record.{Reads}
-use Rattle.route_wire.specs.Spelling.{spelling_of}
+use Rattle.route_wire.specs.Encode.{spelling_of}
 use Rattle.route_join.specs.Table.{Table, value_at, IsOrdered}
 use Rattle.route_join.specs.Updates.{all_updates}
 

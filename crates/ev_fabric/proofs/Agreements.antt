@@ -5,7 +5,7 @@ use Rattle.std.proofs.lemmas.Bool.{cases_eq}
 use Rattle.std.specs.Prelude.{Contains, IsSome}
 use Rattle.std.specs.FinMap.{get}
 use Rattle.std.specs.Option.{option_map}
-use Rattle.ether_wire.specs.Names.{is_group}
+use Rattle.ether_wire.specs.Addr.{is_group}
 use Rattle.route_wire.specs.declared.update.Ip.{Ip}
 use Rattle.route_wire.specs.declared.update.Key.TheVariants.{Mac}
 use Rattle.route_wire.specs.declared.update.Register.{Register}
@@ -21,10 +21,10 @@ use Rattle.route_join.proofs.Owners.{one_owner, owner_along}
 use Rattle.mac_arena.specs.declared.station.Station.{Station}
 use Rattle.mac_arena.specs.declared.station.Entry.{Entry}
 use Rattle.mac_arena.specs.Learning.{entry_at}
-use Rattle.ev_claims.specs.Voice.{own_advert}
-use Rattle.ev_claims.specs.Claims.{key_of}
+use Rattle.ev_claims.specs.Speaker.{own_advert}
+use Rattle.ev_claims.specs.LocalRoutes.{key_of}
 use Rattle.ev_edge.specs.Edge.{Edge, IsGoodEdge, table_of, address_of}
-use Rattle.ev_fabric.specs.Fabric.{Fabric, IsEdge, life_of}
+use Rattle.ev_fabric.specs.Fabric.{Fabric, IsEdge, incarnation_of}
 use Rattle.ev_fabric.specs.Sound.{update_of, IsBehind, IsSound}
 use Rattle.ev_fabric.specs.Agreed.{AllAgree, Advertises}
 use Rattle.ev_fabric.specs.Laws.{IsNotAhead, NoneAhead, Announced, OneOfTwo, AgreedTables, AgreedReports, IsBehindPort}
@@ -32,7 +32,7 @@ use Rattle.ev_fabric.specs.Laws.{Learnt, NoneBack}
 
 -- ---- no table is ahead of its originator
 
-not_ahead : (b : Edge) (u : Fields) → IsBehind (life_of b) (table_of b) u → IsNotAhead b u.register u.value
+not_ahead : (b : Edge) (u : Fields) → IsBehind (incarnation_of b) (table_of b) u → IsNotAhead b u.register u.value
 not_ahead b u h = inr (h.says, h.there, go h.order)
   where
     go : (u.value ≡ h.says) ⊎ (u.value.counter < h.says.counter) → is_newer u.value h.says ≡ false
@@ -65,13 +65,13 @@ announced f h i a at r v is quiet = elim (cases_eq r.originator (address_of a)) 
 
 -- what a good edge advertises has no IP address
 pub advert_bare : (a : Edge) (s : Station) → IsGoodEdge a → Advertises a s
-    → (x : Advert) × (own_advert a.claims.voice (key_of s) ≡ Some x)
+    → (x : Advert) × (own_advert a.routes.speaker (key_of s) ≡ Some x)
 advert_bare a s h y = go y.0 y.2
   where
-    go : (ip : Option Ip) → own_advert a.claims.voice (Mac s.vni s.mac ip) ≡ Some y.1
-        → (x : Advert) × (own_advert a.claims.voice (key_of s) ≡ Some x)
+    go : (ip : Option Ip) → own_advert a.routes.speaker (Mac s.vni s.mac ip) ≡ Some y.1
+        → (x : Advert) × (own_advert a.routes.speaker (key_of s) ≡ Some x)
     go None is = (y.1, is)
-    go (Some n) is = let none = h.claims.claims.bare s n in cc
+    go (Some n) is = let none = h.routes.routes.bare s n in cc
 
 pub owns : (a : Edge) (s : Station) → IsGoodEdge a → Advertises a s → IsOwner (table_of a) s.vni s.mac (address_of a)
 owns a s h y = let x = advert_bare a s h y in h.keeps.owns s (subst IsSome (sym x.1) refl)
@@ -111,18 +111,18 @@ agreed_reports f h agree i j a b at_a at_b = ap (λ registers. report_of
     (record { originators = []; registers = registers })) (agreed_registers f h agree i j a b at_a at_b)
 
 pub learnt : Learnt
-learnt a s h says = go (entry_at a.claims.learned s) refl
+learnt a s h says = go (entry_at a.routes.learned s) refl
   where
-    y : (x : Advert) × (own_advert a.claims.voice (key_of s) ≡ Some x)
+    y : (x : Advert) × (own_advert a.routes.speaker (key_of s) ≡ Some x)
     y = advert_bare a s h says
 
-    go : (o : Option Entry) → entry_at a.claims.learned s ≡ o → (x : Entry) × IsBehindPort a s x
-    go (Some x) is = (x, record { learnt = is; port = h.claims.claims.ports s x is })
+    go : (o : Option Entry) → entry_at a.routes.learned s ≡ o → (x : Entry) × IsBehindPort a s x
+    go (Some x) is = (x, record { learnt = is; port = h.routes.routes.ports s x is })
     go None is =
-        let k = h.claims.claims.kinds s in
-        let left : option_map {U = Bool} (λ (x : Entry). x.pinned) (entry_at a.claims.learned s) ≡ None =
+        let k = h.routes.routes.kinds s in
+        let left : option_map {U = Bool} (λ (x : Entry). x.pinned) (entry_at a.routes.learned s) ≡ None =
         ap (option_map (λ (x : Entry). x.pinned)) is in
-        let right : option_map {U = Bool} (λ (x : Advert). x.is_static) (own_advert a.claims.voice (key_of s))
+        let right : option_map {U = Bool} (λ (x : Advert). x.is_static) (own_advert a.routes.speaker (key_of s))
         ≡ Some y.0.is_static = ap (option_map (λ (x : Advert). x.is_static)) y.1 in
         absurd (let bad : None ≡ Some y.0.is_static = sym left ∙ k ∙ right in cc)
 
@@ -130,10 +130,10 @@ learnt a s h says = go (entry_at a.claims.learned s) refl
 pub individual : (a : Edge) (s : Station) → IsGoodEdge a → Advertises a s → is_group s.mac ≡ false
 individual a s h says = h.keeps.individual s (subst IsSome (sym (learnt a s h says).1.learnt) refl)
 
--- no advert of an earlier life is left
+-- no advert of an earlier incarnation is left
 pub none_back : NoneBack
 none_back f h agree i j a b at_a at_b r v mine is some =
-    (h.good j b at_b).claims.numbers.alive r.key v (ap (value_at (table_of b)) (sym named)
+    (h.good j b at_b).routes.numbers.alive r.key v (ap (value_at (table_of b)) (sym named)
     ∙ ap (λ m. get m r) (agreed_registers f h agree j i b a at_b at_a) ∙ is) some
   where
     named : r ≡ register_of (address_of b) r.key

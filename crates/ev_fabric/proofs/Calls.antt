@@ -9,20 +9,20 @@ use Rattle.ev_edge.specs.declared.reply.Reply.{Reply}
 use Rattle.ev_edge.specs.declared.refusal.Refusal as edge
 use Rattle.ev_edge.specs.declared.event.Event.TheVariants as events
 use Rattle.route_wire.specs.declared.update.Register.{Register}
-use Rattle.ev_claims.specs.Voice.{Voice, announced, announced_of}
+use Rattle.ev_claims.specs.Speaker.{Speaker, announced, announced_of}
 use Rattle.ev_edge.specs.Edge.{Edge, IsGoodEdge}
 use Rattle.ev_edge.specs.Opening.{IsOpening}
 use Rattle.ev_edge.specs.Steps.{Steps, nothing}
-use Rattle.ev_fabric.specs.declared.refusal.Refusal.{Refusal}
-use Rattle.ev_fabric.specs.declared.refusal.Refusal.TheVariants.{NoSuchEdge, NoSuchUpdate, NoHigher, NoMemory}
-use Rattle.ev_fabric.specs.declared.refusal.Refusal.TheVariants.{Edge as OfEdge}
+use Rattle.ev_fabric.specs.declared.refusal.FabricRefusal.{FabricRefusal}
+use Rattle.ev_fabric.specs.declared.refusal.FabricRefusal.TheVariants.{NoSuchEdge, NoSuchUpdate, NoHigher, NoMemory}
+use Rattle.ev_fabric.specs.declared.refusal.FabricRefusal.TheVariants.{Edge as OfEdge}
 use Rattle.ev_fabric.specs.declared.step.LocalEvent.{LocalEvent}
 use Rattle.ev_fabric.specs.declared.step.Step.{Step}
 use Rattle.ev_fabric.specs.declared.step.Step.TheVariants.{Local, Announce, Deliver, Restart}
-use Rattle.ev_fabric.specs.Fabric.{Fabric, fabric_of, nth, life_of}
+use Rattle.ev_fabric.specs.Fabric.{Fabric, fabric_of, nth, incarnation_of}
 use Rattle.ev_fabric.specs.Local.{event_of}
 use Rattle.ev_fabric.specs.Sound.{IsSound}
-use Rattle.ev_fabric.specs.Steps.{of_edge, with_announced, IsRefused, OneSteps, StepsAt, AnnouncesAt, in_life}
+use Rattle.ev_fabric.specs.Steps.{of_edge, with_announced, IsRefused, OneSteps, StepsAt, AnnouncesAt, in_incarnation}
 use Rattle.ev_fabric.specs.Steps.{with_opened, RestartsAt, FabricSteps}
 use Rattle.ev_fabric.proofs.Places.{at_some, at_none}
 use Rattle.ev_edge.specs.Config.{IsConfig}
@@ -32,15 +32,16 @@ use Rattle.ev_fabric.proofs.Fabrics.{step_sound}
 -- ---- steps
 
 -- a step of the fabric and what is kept
-pub record Does (old new : Fabric) (step : Step) (result : Result Reply Refusal) : Type 0 where
+pub record Does (old new : Fabric) (step : Step) (result : Result Reply FabricRefusal) : Type 0 where
   pub steps : FabricSteps old step result new
   pub sound : IsSound new
 
-refuses : (f : Fabric) (step : Step) (why : Refusal) → IsSound f → FabricSteps f step (Err why) f
+refuses : (f : Fabric) (step : Step) (why : FabricRefusal) → IsSound f → FabricSteps f step (Err why) f
     → Does f f step (Err why)
 refuses f step why h s = record { steps = s; sound = h }
 
-pub local_does : (f : Fabric) (ys : List Edge) (e : ℕ) (event : LocalEvent) (result : Result Reply Refusal) → IsSound f
+pub local_does : (f : Fabric) (ys : List Edge) (e : ℕ) (event : LocalEvent) (result : Result Reply FabricRefusal)
+    → IsSound f
     → OneSteps f.edges e (event_of event) result ys → Does f (fabric_of ys f.configs f.pool) (Local e event) result
 local_does f ys e event result h s = record {
   steps = steps;
@@ -58,7 +59,8 @@ local_does f ys e event result h s = record {
           new_is = ap (λ l. fabric_of l f.configs f.pool) s.new_is;
         })
 
-pub deliver_does : (f : Fabric) (ys : List Edge) (e k : ℕ) (u : Fields) (result : Result Reply Refusal) → IsSound f
+pub deliver_does : (f : Fabric) (ys : List Edge) (e k : ℕ) (u : Fields) (result : Result Reply FabricRefusal)
+    → IsSound f
     → nth f.pool k ≡ Some u → OneSteps f.edges e (events.Take u) result ys
     → Does f (fabric_of ys f.configs f.pool) (Deliver e k) result
 deliver_does f ys e k u result h at s = record {
@@ -110,22 +112,23 @@ announce_does f ys grown e reply h s pool = record {
           (λ i. fabric_of (s.new_is i) f.configs (pool i)),
         )
 
-first_announced : (v : Voice) (rs : List Register) → IsSome (announced_of v rs) → is_some (slice_get rs 0) ≡ true
+first_announced : (v : Speaker) (rs : List Register) → IsSome (announced_of v rs) → is_some (slice_get rs 0) ≡ true
 first_announced v [] some = some
 first_announced v (r ∷ rs) some = refl
 
 -- what is announced was waiting
 pub announced_waits : (ys zs : List Edge) (e : ℕ) (a : Edge) (reply : Reply) → nth ys e ≡ Some a
     → OneSteps ys e events.Announce (Ok reply) zs → IsSome reply.announced
-    → is_some (slice_get a.claims.voice.pending 0) ≡ true
+    → is_some (slice_get a.routes.speaker.pending 0) ≡ true
 announced_waits ys zs e a reply there s some =
     let steps = subst (λ r. Steps s.before events.Announce r s.after) (answered reply s.answer s.result_is) s.steps in
     let both : Some s.before ≡ Some a = sym s.there ∙ there in
     let same : s.before ≡ a = cc in
-    let is = told steps.0 ∙ ap (λ (x : Edge). announced x.claims.voice) same in
-    first_announced a.claims.voice a.claims.voice.pending (subst IsSome is some)
+    let is = told steps.0 ∙ ap (λ (x : Edge). announced x.routes.speaker) same in
+    first_announced a.routes.speaker a.routes.speaker.pending (subst IsSome is some)
   where
-    told : {o : Option Fields} → ◌≡◌ {A = Result Reply edge.Refusal} (Ok reply) (Ok (record nothing { announced = o }))
+    told : {o : Option Fields} → ◌≡◌ {A = Result Reply edge.Refusal} (Ok reply)
+        (Ok (record nothing { announced = o }))
         → reply.announced ≡ o
     told e = let same = ap (λ (x : Result Reply edge.Refusal). elim x as (λ _. Option Fields) [
       | Ok r ↦ r.announced
@@ -133,27 +136,31 @@ announced_waits ys zs e a reply there s some =
     ]) e in same
 
 -- ---- a restart
-pub not_higher : (f : Fabric) (e n : ℕ) (a : Edge) → IsSound f → nth f.edges e ≡ Some a → n ≤ life_of a
+pub not_higher : (f : Fabric) (e n : ℕ) (a : Edge) → IsSound f → nth f.edges e ≡ Some a → n ≤ incarnation_of a
     → Does f f (Restart e n) (Err NoHigher)
 not_higher f e n a h there low = refuses f (Restart e n) NoHigher h
     (at_some (IsRefused NoSuchEdge f (Err NoHigher) f) (λ b. RestartsAt f e b n (Err NoHigher) f) a there
     (inl (refl, low), refl))
 
-pub not_opened : (f : Fabric) (e n : ℕ) (a : Edge) → IsSound f → nth f.edges e ≡ Some a → life_of a < n
+pub not_opened : (f : Fabric) (e n : ℕ) (a : Edge) → IsSound f → nth f.edges e ≡ Some a → incarnation_of a < n
     → Does f f (Restart e n) (Err NoMemory)
 not_opened f e n a h there high = refuses f (Restart e n) NoMemory h
     (at_some (IsRefused NoSuchEdge f (Err NoMemory) f) (λ b. RestartsAt f e b n (Err NoMemory) f) a there
     (inr (refl, high), refl))
 
 pub restart_does : (f : Fabric) (e n : ℕ) (a b : Edge) (c : EdgeConfig) → IsSound f → nth f.edges e ≡ Some a
-    → nth f.configs e ≡ Some c → life_of a < n → IsOpening (in_life c n) b → IsGoodEdge b
-    → Does f (with_opened f e b (in_life c n)) (Restart e n) (Ok nothing)
+    → nth f.configs e ≡ Some c → incarnation_of a < n → IsOpening (in_incarnation c n) b → IsGoodEdge b
+    → Does f (with_opened f e b (in_incarnation c n)) (Restart e n) (Ok nothing)
 restart_does f e n a b c h there config high opened good =
-    record { steps = steps; sound = step_sound f (with_opened f e b (in_life c n)) (Restart e n) (Ok nothing) steps h }
+    record {
+      steps = steps;
+      sound = step_sound f (with_opened f e b (in_incarnation c n)) (Restart e n) (Ok nothing)
+          steps h;
+    }
   where
-    steps : FabricSteps f (Restart e n) (Ok nothing) (with_opened f e b (in_life c n))
-    steps = at_some (IsRefused NoSuchEdge f (Ok nothing) (with_opened f e b (in_life c n)))
-        (λ a. RestartsAt f e a n (Ok nothing) (with_opened f e b (in_life c n))) a there
+    steps : FabricSteps f (Restart e n) (Ok nothing) (with_opened f e b (in_incarnation c n))
+    steps = at_some (IsRefused NoSuchEdge f (Ok nothing) (with_opened f e b (in_incarnation c n)))
+        (λ a. RestartsAt f e a n (Ok nothing) (with_opened f e b (in_incarnation c n))) a there
         (record {
           higher = high;
           config = c;
@@ -165,14 +172,14 @@ restart_does f e n a b c h there config high opened good =
           new_is = refl;
         })
 
--- the life that a restart has to be above
-pub life_is : (f : Fabric) (e : ℕ) (a : Edge) (c : EdgeConfig) → IsSound f → nth f.edges e ≡ Some a
-    → nth f.configs e ≡ Some c → life_of a ≡ c.incarnation
-life_is f zero a c h there config = absurd cc
-life_is f (suc i) a c h there config = (h.configs i c a config there).life
+-- the incarnation that a restart has to be above
+pub incarnation_is : (f : Fabric) (e : ℕ) (a : Edge) (c : EdgeConfig) → IsSound f → nth f.edges e ≡ Some a
+    → nth f.configs e ≡ Some c → incarnation_of a ≡ c.incarnation
+incarnation_is f zero a c h there config = absurd cc
+incarnation_is f (suc i) a c h there config = (h.configs i c a config there).life
 
 -- what an edge was opened with
 pub config_fits : (f : Fabric) (e n : ℕ) (a : Edge) (c : EdgeConfig) → IsSound f → nth f.edges e ≡ Some a
-    → nth f.configs e ≡ Some c → IsConfig (in_life c n)
+    → nth f.configs e ≡ Some c → IsConfig (in_incarnation c n)
 config_fits f zero n a c h there config = absurd cc
 config_fits f (suc i) n a c h there config = fit_in_life c n (h.configs i c a config there).config

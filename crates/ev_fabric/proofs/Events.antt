@@ -3,7 +3,7 @@ use Rattle.std.proofs.Common.{◌≡◌, ◌≢◌, ◌⊎◌, inl, inr, ℕ, �
 use Rattle.std.proofs.Common.{Option, Some, None, Result, Ok, Err, List, [], ◌∷◌, refl, sym, ap, subst, ◌∙◌, arith}
 use Rattle.std.specs.Prelude.{not}
 use Rattle.std.proofs.lemmas.Bool.Decides.{nat_tests}
-use Rattle.ether_wire.specs.Names.{is_group}
+use Rattle.ether_wire.specs.Addr.{is_group}
 use Rattle.route_wire.specs.declared.update.Key.{Key}
 use Rattle.route_wire.specs.declared.update.Key.TheVariants.{Flood, Mac}
 use Rattle.route_wire.specs.declared.update.Content.TheVariants.{Withdrawn}
@@ -13,9 +13,10 @@ use Rattle.mac_arena.specs.Learning.{entry_at, is_pinned}
 use Rattle.ev_mobility.specs.declared.alert.Alert.{Alert}
 use Rattle.rstp_run.specs.declared.event.Event as tree
 use Rattle.rstp_run.specs.declared.event.Event.TheVariants as tree_events
-use Rattle.ev_claims.specs.Voice.{Voice, KeepsNumbers, after_saying, after_hearing}
-use Rattle.ev_claims.specs.Claims.{Claims, vni_at, key_of, after_removal, after_removals, after_update, after_losing}
-use Rattle.ev_claims.specs.Claims.{after_take, is_lost}
+use Rattle.ev_claims.specs.Speaker.{Speaker, KeepsNumbers, after_originating, after_importing}
+use Rattle.ev_claims.specs.LocalRoutes.{LocalRoutes, vni_at, key_of, after_removal, after_removals, after_update}
+use Rattle.ev_claims.specs.LocalRoutes.{after_losing}
+use Rattle.ev_claims.specs.LocalRoutes.{after_take, is_lost}
 use Rattle.ev_claims.specs.Leaving.{after_ageing, after_flush, due_in, flushed_in}
 use Rattle.ev_claims.proofs.Numbers.{heard_numbers}
 use Rattle.ev_edge.specs.declared.arrival.Arrival.{Arrival}
@@ -47,20 +48,21 @@ use Rattle.std.specs.Prelude.{Contains}
 
 -- one edge's words after another's
 abbrev pub Goes : Edge → Edge → Type 0
-Goes e e' = Talks e.claims.voice e'.claims.voice
+Goes e e' = Talks e.routes.speaker e'.routes.speaker
 
 stays : (e e' : Edge) → e' ≡ e → Goes e e'
 stays e e' is = subst (Goes e) (sym is) Quiet
 
-removals_talk : (c : Claims) (ss : List Station) → Talks c.voice (after_removals c ss).voice
+removals_talk : (c : LocalRoutes) (ss : List Station) → Talks c.speaker (after_removals c ss).speaker
 removals_talk c [] = Quiet
-removals_talk c (s ∷ ss) = talks_further c.voice (after_removal c s).voice (after_removals (after_removal c s) ss).voice
-    (Says c.voice (key_of s) Withdrawn Quiet) (removals_talk (after_removal c s) ss)
+removals_talk c (s ∷ ss) = talks_further c.speaker (after_removal c s).speaker
+    (after_removals (after_removal c s) ss).speaker
+    (Says c.speaker (key_of s) Withdrawn Quiet) (removals_talk (after_removal c s) ss)
 
-aged_talks : (c : Claims) (ageing clock : ℕ) → Talks c.voice (aged c ageing clock).voice
+aged_talks : (c : LocalRoutes) (ageing clock : ℕ) → Talks c.speaker (aged c ageing clock).speaker
 aged_talks c ageing clock = go (nat_le ageing clock)
   where
-    go : (b : Bool) → Talks c.voice (cond b (after_ageing c (clock - ageing)) c).voice
+    go : (b : Bool) → Talks c.speaker (cond b (after_ageing c (clock - ageing)) c).speaker
     go true = removals_talk c (due_in c.learned (clock - ageing))
     go false = Quiet
 
@@ -76,7 +78,7 @@ does_talk Leave e s port told e' h = stays e e' h.1
 does_talk Refresh e s port told e' h = subst (Goes e) (sym h.1) Quiet
 does_talk (Refuse alert) e s port told e' h = stays e e' h.1
 does_talk Freeze e s port told e' h = subst (Goes e) (sym h.1) Quiet
-does_talk (Learn n) e s port told e' h = either _ e _ e' _ told (Says e.claims.voice (key_of s) _ Quiet) h
+does_talk (Learn n) e s port told e' h = either _ e _ e' _ told (Says e.routes.speaker (key_of s) _ Quiet) h
 
 learns_talk : (b : Bool) (e : Edge) (s : Station) (port : ℕ) (told : Option Alert) (e' : Edge)
     → LearnsIf b e s port told e' → Goes e e'
@@ -84,10 +86,11 @@ learns_talk true e s port told e' h = does_talk (case_of e s) e s port told e' h
 learns_talk false e s port told e' h = stays e e' h.1
 
 -- ---- the bridge
-bridges_talk : (event : tree.Event) (e : Edge) (result : Result Reply Refusal) (e' : Edge) → Bridges event e result e'
+bridges_talk : (event : tree.Event) (e : Edge) (result : Result Reply Refusal) (e' : Edge)
+    → Bridges event e result e'
     → Goes e e'
 bridges_talk event e (Ok reply) e' h = subst (Goes e) (sym h.after)
-    (removals_talk e.claims (flushed_in e.claims.learned h.flush))
+    (removals_talk e.routes (flushed_in e.routes.learned h.flush))
 bridges_talk event e (Err r) e' h = absurd h
 
 bridges_at_talk : (o : Option ℕ) (event : tree.Event) (e : Edge) (result : Result Reply Refusal) (e' : Edge)
@@ -98,9 +101,9 @@ bridges_at_talk (Some vni) event e result e' h = bridges_talk event e result e' 
 seconds_talk : (e : Edge) (result : Result Reply Refusal) (e' : Edge) → Seconds e result e' → Goes e e'
 seconds_talk e (Ok reply) e' h =
     subst (Goes e) (sym h.after)
-    (talks_further e.claims.voice (after_flush e.claims h.flush).voice _
-    (removals_talk e.claims (flushed_in e.claims.learned h.flush))
-    (aged_talks (after_flush e.claims h.flush) e.ageing (next_second e.clock)))
+    (talks_further e.routes.speaker (after_flush e.routes h.flush).speaker _
+    (removals_talk e.routes (flushed_in e.routes.learned h.flush))
+    (aged_talks (after_flush e.routes h.flush) e.ageing (next_second e.clock)))
 seconds_talk e (Err r) e' h = absurd h
 
 -- ---- frames
@@ -128,19 +131,20 @@ does_pin_talk : (c : PinCase) (e : Edge) (s : Station) (port : ℕ) (told : Opti
 does_pin_talk pins.Keep e s port told e' h = stays e e' h.1
 does_pin_talk pins.Shift e s port told e' h = subst (Goes e) (sym h.1) Quiet
 does_pin_talk (pins.Deny alert) e s port told e' h = stays e e' h.1
-does_pin_talk pins.Pin e s port told e' h = either _ e _ e' _ told (Says e.claims.voice (key_of s) _ Quiet) h
+does_pin_talk pins.Pin e s port told e' h = either _ e _ e' _ told (Says e.routes.speaker (key_of s) _ Quiet) h
 
-pins_talk : (o : Option EdgeRefusal) (e : Edge) (s : Station) (port : ℕ) (result : Result Reply Refusal) (e' : Edge)
+pins_talk : (o : Option EdgeRefusal) (e : Edge) (s : Station) (port : ℕ) (result : Result Reply Refusal)
+    (e' : Edge)
     → Pins o e s port result e' → Goes e e'
 pins_talk (Some r) e s port result e' h = stays e e' h.1
 pins_talk None e s port (Ok reply) e' h = does_pin_talk (pin_case e s port) e s port reply.alert e' h.0
 pins_talk None e s port (Err r) e' h = absurd h
 
 unpin_talks : (e : Edge) (s : Station) → Goes e (after_unpin e s)
-unpin_talks e s = go (is_pinned (entry_at e.claims.learned s))
+unpin_talks e s = go (is_pinned (entry_at e.routes.learned s))
   where
-    go : (b : Bool) → Goes e (cond b (record e { claims = after_removal e.claims s }) e)
-    go true = Says e.claims.voice (key_of s) Withdrawn Quiet
+    go : (b : Bool) → Goes e (cond b (record e { routes = after_removal e.routes s }) e)
+    go true = Says e.routes.speaker (key_of s) Withdrawn Quiet
     go false = Quiet
 
 -- ---- all events from outside
@@ -152,59 +156,63 @@ local_talks e (Pin s port) result e' h = pins_talk (refused_pin e s port) e s po
 local_talks e (Unpin s) result e' h = subst (Goes e) (sym h.1) (unpin_talks e s)
 local_talks e (Thaw s) result e' h = subst (Goes e) (sym h.1) Quiet
 local_talks e Second result e' h = seconds_talk e result e' h
-local_talks e (PortUp port) result e' h = bridges_at_talk (vni_at e.claims.ports port) (tree_events.PortUp port) e
+local_talks e (PortUp port) result e' h = bridges_at_talk (vni_at e.routes.ports port) (tree_events.PortUp port) e
     result e' h
-local_talks e (PortDown port) result e' h = bridges_at_talk (vni_at e.claims.ports port) (tree_events.PortDown port) e
+local_talks e (PortDown port) result e' h = bridges_at_talk (vni_at e.routes.ports port) (tree_events.PortDown port) e
     result e' h
-local_talks e (Mcheck port) result e' h = bridges_at_talk (vni_at e.claims.ports port) (tree_events.Mcheck port) e
+local_talks e (Mcheck port) result e' h = bridges_at_talk (vni_at e.routes.ports port) (tree_events.Mcheck port) e
     result e' h
 
 -- ---- an update
-losing_talks : (c : Claims) (k : Key) → Talks c.voice (after_losing c k).voice
+losing_talks : (c : LocalRoutes) (k : Key) → Talks c.speaker (after_losing c k).speaker
 losing_talks c (Flood v) = Quiet
 losing_talks c (Mac v m ip) = go (record { vni = v; mac = m }) (is_lost c (record { vni = v; mac = m }))
   where
-    go : (s : Station) (b : Bool) → Talks c.voice (cond b (after_removal c s) c).voice
-    go s true = Says c.voice (key_of s) Withdrawn Quiet
+    go : (s : Station) (b : Bool) → Talks c.speaker (cond b (after_removal c s) c).speaker
+    go s true = Says c.speaker (key_of s) Withdrawn Quiet
     go s false = Quiet
 
 -- what a take leaves of what the pool and the edge know of each other, and who the edge is
-pub record Leaves (pool : List Fields) (e e' : Voice) : Type 0 where
+pub record Leaves (pool : List Fields) (e e' : Speaker) : Type 0 where
   pub told : IsTold pool e → IsTold pool e'
   pub one : AreOne e e'
 
-unchanged : (pool : List Fields) (e e' : Edge) → e' ≡ e → Leaves pool e.claims.voice e'.claims.voice
-unchanged pool e e' is = subst (λ x. Leaves pool e.claims.voice x.claims.voice) (sym is)
-    (record { told = λ told. told; one = one_itself e.claims.voice })
+unchanged : (pool : List Fields) (e e' : Edge) → e' ≡ e → Leaves pool e.routes.speaker e'.routes.speaker
+unchanged pool e e' is = subst (λ x. Leaves pool e.routes.speaker x.routes.speaker) (sym is)
+    (record { told = λ told. told; one = one_itself e.routes.speaker })
 
-takes_own : (pool : List Fields) (e : Edge) (u : Fields) (result : Result Reply Refusal) (e' : Edge) → Contains pool u
-    → KeepsNumbers e.claims.voice → u.register.originator ≡ address_of e → TakesOwn e u result e'
-    → Leaves pool e.claims.voice e'.claims.voice
-takes_own pool e u (Ok reply) e' in' h mine steps = subst (λ x. Leaves pool e.claims.voice x.claims.voice) (sym steps.3)
-    (record { told = own_told pool e.claims.voice u in' h mine steps.0; one = own_one e.claims.voice u })
+takes_own : (pool : List Fields) (e : Edge) (u : Fields) (result : Result Reply Refusal) (e' : Edge)
+    → Contains pool u
+    → KeepsNumbers e.routes.speaker → u.register.originator ≡ address_of e → TakesOwn e u result e'
+    → Leaves pool e.routes.speaker e'.routes.speaker
+takes_own pool e u (Ok reply) e' in' h mine steps = subst (λ x. Leaves pool e.routes.speaker x.routes.speaker)
+    (sym steps.3)
+    (record { told = own_told pool e.routes.speaker u in' h mine steps.0; one = own_one e.routes.speaker u })
 takes_own pool e u (Err r) e' in' h mine steps = unchanged pool e e' steps.1
 
-takes_other : (pool : List Fields) (e : Edge) (u : Fields) (result : Result Reply Refusal) (e' : Edge) → Contains pool u
-    → KeepsNumbers e.claims.voice → u.register.originator ≢ address_of e → TakesOther e u result e'
-    → Leaves pool e.claims.voice e'.claims.voice
-takes_other pool e u (Ok reply) e' in' h other steps = subst (λ x. Leaves pool e.claims.voice x.claims.voice)
+takes_other : (pool : List Fields) (e : Edge) (u : Fields) (result : Result Reply Refusal) (e' : Edge)
+    → Contains pool u
+    → KeepsNumbers e.routes.speaker → u.register.originator ≢ address_of e → TakesOther e u result e'
+    → Leaves pool e.routes.speaker e'.routes.speaker
+takes_other pool e u (Ok reply) e' in' h other steps = subst (λ x. Leaves pool e.routes.speaker x.routes.speaker)
     (sym steps.2) (record {
-      told = λ told. talks_told pool (after_hearing e.claims.voice u) _ lost (heard_numbers e.claims.voice u other h)
-          (heard_told pool e.claims.voice u in' other told);
-      one = one_further e.claims.voice (after_hearing e.claims.voice u) _ (heard_one e.claims.voice u)
-          (talks_one (after_hearing e.claims.voice u) _ lost);
+      told = λ told. talks_told pool (after_importing e.routes.speaker u) _ lost
+          (heard_numbers e.routes.speaker u other h)
+          (heard_told pool e.routes.speaker u in' other told);
+      one = one_further e.routes.speaker (after_importing e.routes.speaker u) _ (heard_one e.routes.speaker u)
+          (talks_one (after_importing e.routes.speaker u) _ lost);
     })
   where
-    lost : Talks (after_hearing e.claims.voice u) (after_take e.claims u).voice
-    lost = losing_talks (after_update e.claims u) u.register.key
+    lost : Talks (after_importing e.routes.speaker u) (after_take e.routes u).speaker
+    lost = losing_talks (after_update e.routes u) u.register.key
 takes_other pool e u (Err r) e' in' h other steps = unchanged pool e e' steps.1
 
 pub takes_told : (pool : List Fields) (e : Edge) (u : Fields) (result : Result Reply Refusal) (e' : Edge)
-    → Contains pool u → KeepsNumbers e.claims.voice → Steps e (events.Take u) result e'
-    → Leaves pool e.claims.voice e'.claims.voice
+    → Contains pool u → KeepsNumbers e.routes.speaker → Steps e (events.Take u) result e'
+    → Leaves pool e.routes.speaker e'.routes.speaker
 takes_told pool e u result e' in' h steps = go (u.register.originator == address_of e) refl steps
   where
     go : (b : Bool) → (u.register.originator == address_of e) ≡ b → Takes b e u result e'
-        → Leaves pool e.claims.voice e'.claims.voice
+        → Leaves pool e.routes.speaker e'.routes.speaker
     go true is steps = takes_own pool e u result e' in' h (grind (arith, nat_tests)) steps
     go false is steps = takes_other pool e u result e' in' h (grind (arith, nat_tests)) steps

@@ -17,12 +17,12 @@ use Rattle.mac_arena.specs.ListsName.{ListsName, AreOnce, stands, is_on, ages}
 use Rattle.idx_links.specs.Links.{has}
 use Rattle.rstp_state.specs.declared.start.Settings.{Settings}
 use Rattle.rstp_run.specs.Events.{start}
-use Rattle.ev_claims.specs.Voice.{Voice, after_saying, silent}
-use Rattle.ev_claims.specs.Claims.{Claims}
-use Rattle.ev_claims.specs.Opening as claims
-use Rattle.ev_claims.proofs.Hearing.{silent_voice}
+use Rattle.ev_claims.specs.Speaker.{Speaker, after_originating, silent}
+use Rattle.ev_claims.specs.LocalRoutes.{LocalRoutes}
+use Rattle.ev_claims.specs.Opening as routes
+use Rattle.ev_claims.proofs.Hearing.{silent_speaker}
 use Rattle.ev_claims.proofs.Numbers.{said_numbers}
-use Rattle.ev_claims.proofs.Opened.{opened_claims}
+use Rattle.ev_claims.proofs.Opened.{opened_routes}
 use Rattle.ev_edge.specs.declared.config.PortConfig.{PortConfig}
 use Rattle.ev_edge.specs.declared.config.EdgeConfig.{EdgeConfig}
 use Rattle.ev_edge.specs.Config.{IsConfig, settings_of}
@@ -118,12 +118,12 @@ are_configs tree hello = record {
 abbrev pub nobody_learnt : Learning
 nobody_learnt = nothing_learnt 1 2 1 0
 
-abbrev pub opened_voice : ℕ → Voice
-opened_voice address = after_saying (silent address 0 addresses) (Flood 5001) (Advertised flood_advert)
+abbrev pub opened_speaker : ℕ → Speaker
+opened_speaker address = after_originating (silent address 0 addresses) (Flood 5001) (Advertised flood_advert)
 
-abbrev pub opened_claims_of : ℕ → Claims
-opened_claims_of address = record {
-  voice = opened_voice address;
+abbrev pub opened_routes_of : ℕ → LocalRoutes
+opened_routes_of address = record {
+  speaker = opened_speaker address;
   learned = nobody_learnt;
   ports = 5001 ∷ 5001 ∷ [];
   vnis = 5001 ∷ [];
@@ -131,7 +131,7 @@ opened_claims_of address = record {
 
 abbrev pub edge_of : Settings → ℕ → Edge
 edge_of tree address = record {
-  claims = opened_claims_of address;
+  routes = opened_routes_of address;
   clock = 0;
   ageing = 300;
   tree = start tree (settings_of (port_of ∷ port_of ∷ []));
@@ -145,19 +145,19 @@ fabric_of tree = record {
   pool = [];
 }
 
-opens_claims : (tree : Settings) (address : ℕ) → claims.IsOpening (start_of (config_of tree address))
-    (opened_claims_of address)
-opens_claims tree address = record {
+opens_routes : (tree : Settings) (address : ℕ) → routes.IsOpening (start_of (config_of tree address))
+    (opened_routes_of address)
+opens_routes tree address = record {
   vnis = IsPermutation-refl (5001 ∷ []);
   ascending = λ k d from within. absurd (omega (arith, within));
-  voice = refl;
+  speaker = refl;
   learned = refl;
   ports = refl;
 }
 
 opens : (tree : Settings) (address : ℕ) → IsOpening (config_of tree address) (edge_of tree address)
 opens tree address = record {
-  claims = opens_claims tree address;
+  routes = opens_routes tree address;
   clock = refl;
   ageing = refl;
   tree = refl;
@@ -212,15 +212,15 @@ lists_name = record {
 
 good : (tree : Settings) (address : ℕ) → Contains addresses address → IsGoodEdge (edge_of tree address)
 good tree address listed = record {
-  claims = record {
-    claims = opened_claims address 0 addresses (5001 ∷ []) (5001 ∷ 5001 ∷ []) 1 1 0 (lit≤ tt) (lit≤ tt) (lit≤ tt);
+  routes = record {
+    routes = opened_routes address 0 addresses (5001 ∷ []) (5001 ∷ 5001 ∷ []) 1 1 0 (lit≤ tt) (lit≤ tt) (lit≤ tt);
     numbers = said_numbers (silent address 0 addresses) (Flood 5001) (Advertised flood_advert)
-        (silent_voice address 0 addresses listed).numbers;
+        (silent_speaker address 0 addresses listed).numbers;
     lists = lists_name;
   };
-  keeps = (edge.opened (start_of (config_of tree address)) (opened_claims_of address) tree
+  keeps = (edge.opened (start_of (config_of tree address)) (opened_routes_of address) tree
       (settings_of (port_of ∷ port_of ∷ [])) 300 (start tree (settings_of (port_of ∷ port_of ∷ [])))
-      (record { windows = empty; places = [] }) (opens_claims tree address) refl refl served (lit< tt)).keeps;
+      (record { windows = empty; places = [] }) (opens_routes tree address) refl refl served (lit< tt)).keeps;
 }
 
 -- ---- the fabric

@@ -11,8 +11,8 @@ use Rattle.route_wire.specs.declared.update.Register.{Register}
 use Rattle.route_wire.specs.declared.update.Value.{Value}
 use Rattle.route_wire.specs.Fields.{Fields}
 use Rattle.route_join.specs.Table.{value_at, is_listed}
-use Rattle.ev_claims.specs.Voice.{Voice, KeepsNumbers, announced, announced_of, after_announcing}
-use Rattle.ev_claims.specs.Claims.{after_announcement}
+use Rattle.ev_claims.specs.Speaker.{Speaker, KeepsNumbers, announced, announced_of, after_announcing}
+use Rattle.ev_claims.specs.LocalRoutes.{after_announcement}
 use Rattle.ev_edge.specs.declared.config.EdgeConfig.{EdgeConfig}
 use Rattle.ev_edge.specs.declared.reply.Reply.{Reply}
 use Rattle.ev_edge.specs.declared.refusal.Refusal as edge
@@ -22,18 +22,19 @@ use Rattle.ev_edge.specs.Config.{IsConfig}
 use Rattle.ev_edge.specs.Edge.{Edge, IsGoodEdge, table_of, address_of}
 use Rattle.ev_edge.specs.Steps.{Steps, nothing}
 use Rattle.ev_edge.proofs.Remaining.{steps_good}
-use Rattle.ev_fabric.specs.declared.refusal.Refusal.{Refusal}
-use Rattle.ev_fabric.specs.declared.refusal.Refusal.TheVariants.{NoSuchEdge, NoSuchUpdate, Edge as OfEdge}
+use Rattle.ev_fabric.specs.declared.refusal.FabricRefusal.{FabricRefusal}
+use Rattle.ev_fabric.specs.declared.refusal.FabricRefusal.TheVariants.{NoSuchEdge, NoSuchUpdate, Edge as OfEdge}
 use Rattle.ev_fabric.specs.declared.step.LocalEvent.{LocalEvent}
 use Rattle.ev_fabric.specs.declared.step.Step.{Step}
 use Rattle.ev_fabric.specs.declared.step.Step.TheVariants.{Local, Announce, Deliver, Restart}
-use Rattle.ev_fabric.specs.Fabric.{Fabric, IsEdge, nth, life_of}
+use Rattle.ev_fabric.specs.Fabric.{Fabric, IsEdge, nth, incarnation_of}
 use Rattle.ev_fabric.specs.Local.{event_of}
 use Rattle.ev_fabric.specs.Sound.{update_of, IsTold, SaidOnce, IsOf, IsSound}
-use Rattle.ev_fabric.specs.Steps.{with_announced, IsRefused, StepsAt, AnnouncesAt, in_life, OpensAnew, RestartsAt}
+use Rattle.ev_fabric.specs.Steps.{with_announced, IsRefused, StepsAt, AnnouncesAt, in_incarnation, OpensAnew}
+use Rattle.ev_fabric.specs.Steps.{RestartsAt}
 use Rattle.ev_fabric.specs.Steps.{FabricSteps}
 use Rattle.ev_fabric.specs.Runs.{Runs}
-use Rattle.ev_fabric.specs.Rest.{Rests}
+use Rattle.ev_fabric.specs.Convergence.{Rests}
 use Rattle.ev_fabric.proofs.Places.{set_cases, set_same, set_other, set_length, contains_at}
 use Rattle.ev_fabric.proofs.Voices.{AreOne, talks_told, talks_one, grown_told, announced_told, one_itself}
 use Rattle.ev_fabric.proofs.Events.{Leaves, local_talks, takes_told}
@@ -128,7 +129,7 @@ source_still old new i before after step h u in' = go (h.sources u in')
         ]
 
 -- what an edge was opened with, where it goes on
-goes_on : (c : EdgeConfig) (a b : Edge) → AreOne a.claims.voice b.claims.voice → IsOf c a → IsOf c b
+goes_on : (c : EdgeConfig) (a b : Edge) → AreOne a.routes.speaker b.routes.speaker → IsOf c a → IsOf c b
 goes_on c a b one h = record {
   config = h.config;
   address = one.address ∙ h.address;
@@ -137,7 +138,7 @@ goes_on c a b one h = record {
 }
 
 configs_still : (old new : Fabric) (i : ℕ) (before after : Edge) → Becomes old new i before after
-    → new.configs ≡ old.configs → AreOne before.claims.voice after.claims.voice → IsSound old
+    → new.configs ≡ old.configs → AreOne before.routes.speaker after.routes.speaker → IsSound old
     → (j : ℕ) (c : EdgeConfig) (a : Edge) → slice_get new.configs j ≡ Some c → IsEdge new j a → IsOf c a
 configs_still old new i before after step same one h j c a at_c at_a =
     elim (at_place old new i before after step j a at_a) as (λ _. IsOf c a) [
@@ -155,14 +156,14 @@ count_still old new i after edges same h = same ∙ h.count ∙ sym (ap length e
 
 -- ---- the pool stays
 pool_stays : (old new : Fabric) (i : ℕ) (before after : Edge) → Becomes old new i before after → new.pool ≡ old.pool
-    → new.configs ≡ old.configs → AreOne before.claims.voice after.claims.voice → IsGoodEdge after
-    → IsTold old.pool after.claims.voice → IsSound old → IsSound new
+    → new.configs ≡ old.configs → AreOne before.routes.speaker after.routes.speaker → IsGoodEdge after
+    → IsTold old.pool after.routes.speaker → IsSound old → IsSound new
 pool_stays old new i before after step pool configs one good told h = record {
   apart = apart_still old new i before after step h;
   good = goods old new i before after step good h;
-  told = λ j a at_a. subst (λ l. IsTold l a.claims.voice) (sym pool)
-      (elim (at_place old new i before after step j a at_a) as (λ _. IsTold old.pool a.claims.voice) [
-        | inl p ↦ subst (λ (x : Edge). IsTold old.pool x.claims.voice) (sym p.1) told
+  told = λ j a at_a. subst (λ l. IsTold l a.routes.speaker) (sym pool)
+      (elim (at_place old new i before after step j a at_a) as (λ _. IsTold old.pool a.routes.speaker) [
+        | inl p ↦ subst (λ (x : Edge). IsTold old.pool x.routes.speaker) (sym p.1) told
         | inr p ↦ h.told j a p.1
       ]);
   once = subst SaidOnce (sym pool) h.once;
@@ -173,8 +174,9 @@ pool_stays old new i before after step pool configs one good told h = record {
 }
 
 -- the edge steps
-steps_at : (old new : Fabric) (i : ℕ) (a : Edge) (event : Event) (result : Result Reply Refusal) → IsEdge old i a
-    → (s : StepsAt old (suc i) a event result new) → Leaves old.pool a.claims.voice s.after.claims.voice → IsSound old
+steps_at : (old new : Fabric) (i : ℕ) (a : Edge) (event : Event) (result : Result Reply FabricRefusal) → IsEdge old i a
+    → (s : StepsAt old (suc i) a event result new) → Leaves old.pool a.routes.speaker s.after.routes.speaker
+    → IsSound old
     → IsSound new
 steps_at old new i a event result at s leaves h = pool_stays old new i a s.after step
     (ap (λ (f : Fabric). f.pool) s.new_is) (ap (λ (f : Fabric). f.configs) s.new_is) leaves.one
@@ -191,16 +193,17 @@ steps_at old new i a event result at s leaves h = pool_stays old new i a s.after
       originators = leaves.one.originators;
     }
 
-numbers_of : (f : Fabric) (i : ℕ) (a : Edge) → IsSound f → IsEdge f i a → KeepsNumbers a.claims.voice
-numbers_of f i a h at = (h.good i a at).claims.numbers
+numbers_of : (f : Fabric) (i : ℕ) (a : Edge) → IsSound f → IsEdge f i a → KeepsNumbers a.routes.speaker
+numbers_of f i a h at = (h.good i a at).routes.numbers
 
 local_leaves : (old : Fabric) (i : ℕ) (a b : Edge) (event : LocalEvent) (answer : Result Reply edge.Refusal)
-    → IsSound old → IsEdge old i a → Steps a (event_of event) answer b → Leaves old.pool a.claims.voice b.claims.voice
+    → IsSound old → IsEdge old i a → Steps a (event_of event) answer b
+    → Leaves old.pool a.routes.speaker b.routes.speaker
 local_leaves old i a b event answer h at steps =
     let talks = local_talks a event answer b steps in
     record {
-      told = talks_told old.pool a.claims.voice b.claims.voice talks (numbers_of old i a h at);
-      one = talks_one a.claims.voice b.claims.voice talks;
+      told = talks_told old.pool a.routes.speaker b.routes.speaker talks (numbers_of old i a h at);
+      one = talks_one a.routes.speaker b.routes.speaker talks;
     }
 
 -- ---- an announcement
@@ -209,16 +212,16 @@ local_leaves old i a b event answer h at steps =
 record IsAnnounced (a : Edge) (o : Option Fields) (rs : List Register) : Type 0 where
   register : Register
   value : Value
-  first : a.claims.voice.pending ≡ register ∷ rs
+  first : a.routes.speaker.pending ≡ register ∷ rs
   there : value_at (table_of a) register ≡ Some value
-  alive : value.incarnation ≡ life_of a
+  alive : value.incarnation ≡ incarnation_of a
   own : register.originator ≡ address_of a
   is : o ≡ Some (update_of register value)
 
 -- nothing is pending, or the first register is
-announced_cases : (a : Edge) (rs : List Register) → a.claims.voice.pending ≡ rs → KeepsNumbers a.claims.voice
-    → ((rs ≡ []) × (announced a.claims.voice ≡ None)) ⊎ IsAnnounced a (announced a.claims.voice) (drop 1 rs)
-announced_cases a [] at h = inl (refl, ap (announced_of a.claims.voice) at)
+announced_cases : (a : Edge) (rs : List Register) → a.routes.speaker.pending ≡ rs → KeepsNumbers a.routes.speaker
+    → ((rs ≡ []) × (announced a.routes.speaker ≡ None)) ⊎ IsAnnounced a (announced a.routes.speaker) (drop 1 rs)
+announced_cases a [] at h = inl (refl, ap (announced_of a.routes.speaker) at)
 announced_cases a (r ∷ rs) at h =
     let p = h.pending r (subst (λ l. Contains l r) (sym at) (0, omega arith, refl)) in
     inr (record {
@@ -228,11 +231,11 @@ announced_cases a (r ∷ rs) at h =
       there = p.1;
       alive = p.2;
       own = p.3;
-      is = ap (announced_of a.claims.voice) at ∙ ap (option_map (λ (v : Value). update_of r v)) p.1;
+      is = ap (announced_of a.routes.speaker) at ∙ ap (option_map (λ (v : Value). update_of r v)) p.1;
     })
 
 -- an update of the present number is the one that the edge says
-present_once : (pool : List Fields) (e : Voice) (r : Register) (v : Value) → r.originator ≡ e.address
+present_once : (pool : List Fields) (e : Speaker) (r : Register) (v : Value) → r.originator ≡ e.address
     → value_at e.table r ≡ Some v → v.incarnation ≡ e.incarnation → IsTold pool e
     → (w : Fields) → Contains pool w → w.register ≡ r → w.value.incarnation ≡ v.incarnation
     → w.value.counter ≡ v.counter → w ≡ update_of r v
@@ -270,22 +273,22 @@ grown_once pool u one once w x in_w in_x same life number = elim (Contains-push_
 -- something is announced
 pool_grows : (old new : Fabric) (i : ℕ) (a b : Edge) (rs : List Register) (r : Register) (v : Value)
     → Becomes old new i a b → new.pool ≡ old.pool ++ update_of r v ∷ [] → new.configs ≡ old.configs
-    → b.claims.voice ≡ record a.claims.voice { pending = rs }
-    → a.claims.voice.pending ≡ r ∷ rs → value_at (table_of a) r ≡ Some v → v.incarnation ≡ life_of a
+    → b.routes.speaker ≡ record a.routes.speaker { pending = rs }
+    → a.routes.speaker.pending ≡ r ∷ rs → value_at (table_of a) r ≡ Some v → v.incarnation ≡ incarnation_of a
     → r.originator ≡ address_of a → IsGoodEdge b → IsSound old → IsSound new
-pool_grows old new i a b rs r v step pool configs voice at is alive mine good h = record {
+pool_grows old new i a b rs r v step pool configs speaker at is alive mine good h = record {
   apart = apart_still old new i a b step h;
   good = goods old new i a b step good h;
-  told = λ j x at_x. subst (λ l. IsTold l x.claims.voice) (sym pool)
-      (elim (at_place old new i a b step j x at_x) as (λ _. IsTold (old.pool ++ update_of r v ∷ []) x.claims.voice) [
-        | inl p ↦ subst (λ (y : Edge). IsTold (old.pool ++ update_of r v ∷ []) y.claims.voice) (sym p.1)
-            (subst (IsTold (old.pool ++ update_of r v ∷ [])) (sym voice)
-            (announced_told old.pool a.claims.voice r rs v at is alive (h.told i a step.is)))
-        | inr p ↦ grown_told old.pool (update_of r v) x.claims.voice
+  told = λ j x at_x. subst (λ l. IsTold l x.routes.speaker) (sym pool)
+      (elim (at_place old new i a b step j x at_x) as (λ _. IsTold (old.pool ++ update_of r v ∷ []) x.routes.speaker) [
+        | inl p ↦ subst (λ (y : Edge). IsTold (old.pool ++ update_of r v ∷ []) y.routes.speaker) (sym p.1)
+            (subst (IsTold (old.pool ++ update_of r v ∷ [])) (sym speaker)
+            (announced_told old.pool a.routes.speaker r rs v at is alive (h.told i a step.is)))
+        | inr p ↦ grown_told old.pool (update_of r v) x.routes.speaker
             (λ same. p.0 (h.apart j i x a p.1 step.is (sym same ∙ mine))) (h.told j x p.1)
       ]);
   once = subst SaidOnce (sym pool) (grown_once old.pool (update_of r v)
-      (present_once old.pool a.claims.voice r v mine is alive (h.told i a step.is)) h.once);
+      (present_once old.pool a.routes.speaker r v mine is alive (h.told i a step.is)) h.once);
   sources = λ u in'. elim (Contains-push_cases old.pool (update_of r v) u (subst (λ l. Contains l u) pool in')) as (λ _.
       (j : ℕ) × (x : Edge) × IsEdge new j x × (address_of x ≡ u.register.originator)) [
         | inl before ↦ source_still old new i a b step h u before
@@ -298,14 +301,14 @@ pool_grows old new i a b rs r v step pool configs voice at is alive mine good h 
       ];
   listed = listed_still old new i a b step h;
   count = count_still old new i b step.edges (ap length configs) h;
-  configs = configs_still old new i a b step configs (subst (AreOne a.claims.voice) (sym voice)
+  configs = configs_still old new i a b step configs (subst (AreOne a.routes.speaker) (sym speaker)
       (record { address = refl; incarnation = refl; originators = refl })) h;
 }
 
-announces_at : (old new : Fabric) (i : ℕ) (a : Edge) (result : Result Reply Refusal) → IsEdge old i a
+announces_at : (old new : Fabric) (i : ℕ) (a : Edge) (result : Result Reply FabricRefusal) → IsEdge old i a
     → AnnouncesAt old (suc i) a result new → IsSound old → IsSound new
 announces_at old new i a (Err why) at s h = subst IsSound (sym s.1) h
-announces_at old new i a (Ok reply) at s h = go (announced_cases a a.claims.voice.pending refl
+announces_at old new i a (Ok reply) at s h = go (announced_cases a a.routes.speaker.pending refl
     (numbers_of old i a h at))
   where
     b : Edge
@@ -317,10 +320,10 @@ announces_at old new i a (Ok reply) at s h = go (announced_cases a a.claims.voic
     good : IsGoodEdge b
     good = steps_good a events.Announce (Ok reply) b (h.good i a at) s.1
 
-    says : reply ≡ record nothing { announced = announced a.claims.voice }
+    says : reply ≡ record nothing { announced = announced a.routes.speaker }
     says = let p = s.1.0 in cc
 
-    after : b ≡ record a { claims = after_announcement a.claims }
+    after : b ≡ record a { routes = after_announcement a.routes }
     after = s.1.1
 
     step : Becomes old new i a b
@@ -331,26 +334,26 @@ announces_at old new i a (Ok reply) at s h = go (announced_cases a a.claims.voic
       originators = ap (λ (x : Edge). (table_of x).originators) after;
     }
 
-    pool : new.pool ≡ with_announced old.pool (announced a.claims.voice)
+    pool : new.pool ≡ with_announced old.pool (announced a.routes.speaker)
     pool = ap (λ (f : Fabric). f.pool) s.2 ∙ ap (λ (r : Reply). with_announced old.pool r.announced) says
 
     configs : new.configs ≡ old.configs
     configs = ap (λ (f : Fabric). f.configs) s.2
 
-    voice : b.claims.voice ≡ after_announcing a.claims.voice
-    voice = ap (λ (x : Edge). x.claims.voice) after
+    speaker : b.routes.speaker ≡ after_announcing a.routes.speaker
+    speaker = ap (λ (x : Edge). x.routes.speaker) after
 
-    quiet : a.claims.voice.pending ≡ [] → b.claims.voice ≡ a.claims.voice
-    quiet none = voice ∙ ap (λ l. record a.claims.voice { pending = l }) (ap (drop 1) none ∙ sym none)
+    quiet : a.routes.speaker.pending ≡ [] → b.routes.speaker ≡ a.routes.speaker
+    quiet none = speaker ∙ ap (λ l. record a.routes.speaker { pending = l }) (ap (drop 1) none ∙ sym none)
 
-    go : ((a.claims.voice.pending ≡ []) × (announced a.claims.voice ≡ None))
-        ⊎ IsAnnounced a (announced a.claims.voice) (drop 1 a.claims.voice.pending) → IsSound new
+    go : ((a.routes.speaker.pending ≡ []) × (announced a.routes.speaker ≡ None))
+        ⊎ IsAnnounced a (announced a.routes.speaker) (drop 1 a.routes.speaker.pending) → IsSound new
     go (inl none) = pool_stays old new i a b step (pool ∙ ap (with_announced old.pool) none.1) configs
-        (subst (AreOne a.claims.voice) (sym (quiet none.0)) (one_itself a.claims.voice)) good
+        (subst (AreOne a.routes.speaker) (sym (quiet none.0)) (one_itself a.routes.speaker)) good
         (subst (IsTold old.pool) (sym (quiet none.0)) (h.told i a at)) h
     go (inr first) =
-        pool_grows old new i a b (drop 1 a.claims.voice.pending) first.register first.value step (pool
-        ∙ ap (with_announced old.pool) first.is) configs voice
+        pool_grows old new i a b (drop 1 a.routes.speaker.pending) first.register first.value step (pool
+        ∙ ap (with_announced old.pool) first.is) configs speaker
         first.first first.there first.alive first.own good h
 
 -- ---- a restart
@@ -359,23 +362,24 @@ restart_sound : (old new : Fabric) (i : ℕ) (a : Edge) (n : ℕ) (reply : Reply
 restart_sound old new i a n reply at s h = record {
   apart = apart_still old new i a s.after step h;
   good = goods old new i a s.after step s.good h;
-  told = λ j x at_x. subst (λ l. IsTold l x.claims.voice) (sym pool)
-      (elim (at_place old new i a s.after step j x at_x) as (λ _. IsTold old.pool x.claims.voice) [
-        | inl p ↦ subst (λ (y : Edge). IsTold old.pool y.claims.voice) (sym p.1) told
+  told = λ j x at_x. subst (λ l. IsTold l x.routes.speaker) (sym pool)
+      (elim (at_place old new i a s.after step j x at_x) as (λ _. IsTold old.pool x.routes.speaker) [
+        | inl p ↦ subst (λ (y : Edge). IsTold old.pool y.routes.speaker) (sym p.1) told
         | inr p ↦ h.told j x p.1
       ]);
   once = subst SaidOnce (sym pool) h.once;
   sources = λ u in'. source_still old new i a s.after step h u (subst (λ l. Contains l u) pool in');
   listed = listed_still old new i a s.after step h;
-  count = count_still old new i s.after step.edges (ap length configs ∙ set_length old.configs i (in_life s.config n))
+  count = count_still old new i s.after step.edges (ap length configs
+      ∙ set_length old.configs i (in_incarnation s.config n))
       h;
   configs = λ j c x at_c at_x. elim (at_place old new i a s.after step j x at_x) as (λ _. IsOf c x) [
-    | inl p ↦ elim (set_cases old.configs i (in_life s.config n) j c
+    | inl p ↦ elim (set_cases old.configs i (in_incarnation s.config n) j c
         (subst (λ l. slice_get l j ≡ Some c) configs at_c)) as (λ _. IsOf c x) [
-          | inl q ↦ subst (λ d. IsOf d x) (sym q.1) (subst (IsOf (in_life s.config n)) (sym p.1) anew)
+          | inl q ↦ subst (λ d. IsOf d x) (sym q.1) (subst (IsOf (in_incarnation s.config n)) (sym p.1) anew)
           | inr q ↦ absurd (q.0 p.0)
         ]
-    | inr p ↦ elim (set_cases old.configs i (in_life s.config n) j c
+    | inr p ↦ elim (set_cases old.configs i (in_incarnation s.config n) j c
         (subst (λ l. slice_get l j ≡ Some c) configs at_c)) as (λ _. IsOf c x) [
           | inl q ↦ absurd (p.0 q.0)
           | inr q ↦ h.configs j c x q.1 p.1
@@ -389,11 +393,11 @@ restart_sound old new i a n reply at s h = record {
     was : IsOf s.config a
     was = h.configs i s.config a s.config_is at
 
-    fit : IsConfig (in_life s.config n)
+    fit : IsConfig (in_incarnation s.config n)
     fit = fit_in_life s.config n was.config
 
-    anew : IsOf (in_life s.config n) s.after
-    anew = opened_of (in_life s.config n) s.after fit s.opened
+    anew : IsOf (in_incarnation s.config n) s.after
+    anew = opened_of (in_incarnation s.config n) s.after fit s.opened
 
     step : Becomes old new i a s.after
     step = record {
@@ -406,10 +410,11 @@ restart_sound old new i a n reply at s h = record {
     pool : new.pool ≡ old.pool
     pool = ap (λ (f : Fabric). f.pool) s.new_is
 
-    configs : new.configs ≡ slice_set old.configs i (in_life s.config n)
-    configs = ap (λ (f : Fabric). f.configs) s.new_is ∙ ap (λ m. slice_set old.configs m (in_life s.config n)) index
+    configs : new.configs ≡ slice_set old.configs i (in_incarnation s.config n)
+    configs = ap (λ (f : Fabric). f.configs) s.new_is ∙ ap (λ m. slice_set old.configs m (in_incarnation s.config n))
+        index
 
-    -- what was announced under this name was said in the old life, or earlier
+    -- what was announced under this name was said in the old incarnation, or earlier
     earlier : (u : Fields) → Contains old.pool u → u.register.originator ≡ s.config.address → u.value.incarnation < n
     earlier u in' mine = elim ((h.told i a at).behind u in' (mine ∙ sym was.address)) as (λ _. u.value.incarnation <
         n) [
@@ -417,16 +422,16 @@ restart_sound old new i a n reply at s h = record {
           | inr b ↦ let higher = s.higher in let present = b.present in omega (arith, present, higher)
         ]
 
-    told : IsTold old.pool s.after.claims.voice
-    told = opened_told old.pool (in_life s.config n) s.after fit s.opened earlier
+    told : IsTold old.pool s.after.routes.speaker
+    told = opened_told old.pool (in_incarnation s.config n) s.after fit s.opened earlier
 
-restarts_at : (old new : Fabric) (i : ℕ) (a : Edge) (n : ℕ) (result : Result Reply Refusal) → IsEdge old i a
+restarts_at : (old new : Fabric) (i : ℕ) (a : Edge) (n : ℕ) (result : Result Reply FabricRefusal) → IsEdge old i a
     → RestartsAt old (suc i) a n result new → IsSound old → IsSound new
 restarts_at old new i a n (Ok reply) at s h = restart_sound old new i a n reply at s h
 restarts_at old new i a n (Err why) at s h = subst IsSound (sym s.1) h
 
 -- ---- one step
-delivers_at : (old new : Fabric) (i : ℕ) (a : Edge) (result : Result Reply Refusal) (k : ℕ) (o : Option Fields)
+delivers_at : (old new : Fabric) (i : ℕ) (a : Edge) (result : Result Reply FabricRefusal) (k : ℕ) (o : Option Fields)
     → nth old.pool k ≡ o → IsEdge old i a
     → MatchOption o (IsRefused NoSuchUpdate old result new) (λ u. StepsAt old (suc i) a (events.Take u) result new)
     → IsSound old → IsSound new
@@ -436,7 +441,8 @@ delivers_at old new i a result (suc k) (Some u) is at s h =
     steps_at old new i a (events.Take u) result at s (takes_told old.pool a u s.answer s.after
     (contains_at old.pool k u is) (numbers_of old i a h at) s.steps) h
 
-pub step_sound : (old new : Fabric) (step : Step) (result : Result Reply Refusal) → FabricSteps old step result new
+pub step_sound : (old new : Fabric) (step : Step) (result : Result Reply FabricRefusal)
+    → FabricSteps old step result new
     → IsSound old → IsSound new
 step_sound old new (Local e event) result s h = go e (nth old.edges e) refl s
   where

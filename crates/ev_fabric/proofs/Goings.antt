@@ -10,26 +10,27 @@ use Rattle.route_wire.specs.declared.update.Value.{Value}
 use Rattle.route_wire.specs.Fields.{Fields}
 use Rattle.route_join.specs.Table.{value_at}
 use Rattle.route_join.specs.Owner.{advert_in}
-use Rattle.ev_claims.specs.Voice.{KeepsNumbers}
+use Rattle.ev_claims.specs.Speaker.{KeepsNumbers}
 use Rattle.ev_edge.specs.declared.reply.Reply.{Reply}
 use Rattle.ev_edge.specs.declared.refusal.Refusal as edge
 use Rattle.ev_edge.specs.declared.event.Event.{Event}
 use Rattle.ev_edge.specs.declared.event.Event.TheVariants as events
 use Rattle.ev_edge.specs.Edge.{Edge, table_of, address_of}
 use Rattle.ev_edge.specs.Steps.{Steps}
-use Rattle.ev_fabric.specs.declared.refusal.Refusal.{Refusal}
-use Rattle.ev_fabric.specs.declared.refusal.Refusal.TheVariants.{NoSuchEdge, NoSuchUpdate}
+use Rattle.ev_fabric.specs.declared.refusal.FabricRefusal.{FabricRefusal}
+use Rattle.ev_fabric.specs.declared.refusal.FabricRefusal.TheVariants.{NoSuchEdge, NoSuchUpdate}
 use Rattle.ev_fabric.specs.declared.step.LocalEvent.{LocalEvent}
 use Rattle.ev_fabric.specs.declared.step.Step.{Step}
 use Rattle.ev_fabric.specs.declared.step.Step.TheVariants.{Local, Announce, Deliver, Restart}
-use Rattle.ev_fabric.specs.Fabric.{Fabric, IsEdge, nth, life_of}
+use Rattle.ev_fabric.specs.Fabric.{Fabric, IsEdge, nth, incarnation_of}
 use Rattle.ev_fabric.specs.Local.{event_of}
 use Rattle.ev_fabric.specs.Sound.{IsSound, IsOf}
-use Rattle.ev_fabric.specs.Steps.{with_announced, IsRefused, StepsAt, AnnouncesAt, in_life, OpensAnew, RestartsAt}
+use Rattle.ev_fabric.specs.Steps.{with_announced, IsRefused, StepsAt, AnnouncesAt, in_incarnation, OpensAnew}
+use Rattle.ev_fabric.specs.Steps.{RestartsAt}
 use Rattle.ev_fabric.specs.Steps.{FabricSteps}
 use Rattle.ev_fabric.specs.Agreed.{AllAgree}
 use Rattle.ev_fabric.specs.Runs.{Runs}
-use Rattle.ev_fabric.specs.Rest.{Rests}
+use Rattle.ev_fabric.specs.Convergence.{Rests}
 use Rattle.ev_fabric.specs.Later.{IsLaterEdge, IsLaterFabric, RunsLead, RestsRun, AdvertsAreAnew}
 use Rattle.ev_fabric.proofs.Places.{set_same, set_other, set_length, contains_at}
 use Rattle.ev_fabric.proofs.Voices.{AreOne, talks_told, talks_one}
@@ -50,7 +51,7 @@ edge_further a b c h g = record {
       omega (arith, low, high);
 }
 
-same_life : (a b : Edge) → AreOne a.claims.voice b.claims.voice → IsLaterEdge a b
+same_life : (a b : Edge) → AreOne a.routes.speaker b.routes.speaker → IsLaterEdge a b
 same_life a b one = record { address = one.address; life = let life = one.incarnation in omega (arith, life) }
 
 -- ---- one step
@@ -92,8 +93,9 @@ one_later old new i a b more at edges later pool = record {
 back : (i : ℕ) → suc i - 1 ≡ i
 back i = omega arith
 
-steps_later : (old new : Fabric) (i : ℕ) (a : Edge) (event : Event) (result : Result Reply Refusal) → IsEdge old i a
-    → (s : StepsAt old (suc i) a event result new) → Leaves old.pool a.claims.voice s.after.claims.voice
+steps_later : (old new : Fabric) (i : ℕ) (a : Edge) (event : Event) (result : Result Reply FabricRefusal)
+    → IsEdge old i a
+    → (s : StepsAt old (suc i) a event result new) → Leaves old.pool a.routes.speaker s.after.routes.speaker
     → IsLaterFabric old new
 steps_later old new i a event result at s leaves =
     one_later old new i a s.after [] at (ap (λ (f : Fabric). f.edges) s.new_is
@@ -105,21 +107,21 @@ grown : (pool : List Fields) (o : Option Fields) → (more : List Fields) × (wi
 grown pool None = ([], sym (append-nil pool))
 grown pool (Some u) = (u ∷ [], refl)
 
-announces_later : (old new : Fabric) (i : ℕ) (a : Edge) (result : Result Reply Refusal) → IsEdge old i a
+announces_later : (old new : Fabric) (i : ℕ) (a : Edge) (result : Result Reply FabricRefusal) → IsEdge old i a
     → AnnouncesAt old (suc i) a result new → IsLaterFabric old new
 announces_later old new i a (Err why) at s = unchanged old new s.1
 announces_later old new i a (Ok reply) at s =
     let more = grown old.pool reply.announced in
-    let voice = s.1.1 in
+    let speaker = s.1.1 in
     one_later old new i a s.0 more.0 at (ap (λ (f : Fabric). f.edges) s.2
     ∙ ap (λ n. slice_set old.edges n s.0) (back i))
-    (record { address = ap address_of voice; life = let life = ap life_of voice in omega (arith, life) })
+    (record { address = ap address_of speaker; life = let life = ap incarnation_of speaker in omega (arith, life) })
     (ap (λ (f : Fabric). f.pool) s.2 ∙ more.1)
 
 -- the edge that is opened anew
 anew : (old new : Fabric) (i : ℕ) (a : Edge) (n : ℕ) (reply : Reply) → IsSound old → IsEdge old i a
-    → (s : OpensAnew old (suc i) a n reply new) → IsOf (in_life s.config n) s.after
-anew old new i a n reply h at s = opened_of (in_life s.config n) s.after
+    → (s : OpensAnew old (suc i) a n reply new) → IsOf (in_incarnation s.config n) s.after
+anew old new i a n reply h at s = opened_of (in_incarnation s.config n) s.after
     (fit_in_life s.config n (h.configs i s.config a s.config_is at).config) s.opened
 
 restart_later : (old new : Fabric) (i : ℕ) (a : Edge) (n : ℕ) (reply : Reply) → IsSound old → IsEdge old i a
@@ -137,24 +139,25 @@ restart_later old new i a n reply h at s =
     was : IsOf s.config a
     was = h.configs i s.config a s.config_is at
 
-    after : IsOf (in_life s.config n) s.after
+    after : IsOf (in_incarnation s.config n) s.after
     after = anew old new i a n reply h at s
 
-restarts_later : (old new : Fabric) (i : ℕ) (a : Edge) (n : ℕ) (result : Result Reply Refusal) → IsSound old
+restarts_later : (old new : Fabric) (i : ℕ) (a : Edge) (n : ℕ) (result : Result Reply FabricRefusal) → IsSound old
     → IsEdge old i a → RestartsAt old (suc i) a n result new → IsLaterFabric old new
 restarts_later old new i a n (Ok reply) h at s = restart_later old new i a n reply h at s
 restarts_later old new i a n (Err why) h at s = unchanged old new s.1
 
-numbers_of : (f : Fabric) (i : ℕ) (a : Edge) → IsSound f → IsEdge f i a → KeepsNumbers a.claims.voice
-numbers_of f i a h at = (h.good i a at).claims.numbers
+numbers_of : (f : Fabric) (i : ℕ) (a : Edge) → IsSound f → IsEdge f i a → KeepsNumbers a.routes.speaker
+numbers_of f i a h at = (h.good i a at).routes.numbers
 
 local_leaves : (old : Fabric) (i : ℕ) (a b : Edge) (event : LocalEvent) (answer : Result Reply edge.Refusal)
-    → IsSound old → IsEdge old i a → Steps a (event_of event) answer b → Leaves old.pool a.claims.voice b.claims.voice
+    → IsSound old → IsEdge old i a → Steps a (event_of event) answer b
+    → Leaves old.pool a.routes.speaker b.routes.speaker
 local_leaves old i a b event answer h at steps =
     let talks = local_talks a event answer b steps in
     record {
-      told = talks_told old.pool a.claims.voice b.claims.voice talks (numbers_of old i a h at);
-      one = talks_one a.claims.voice b.claims.voice talks;
+      told = talks_told old.pool a.routes.speaker b.routes.speaker talks (numbers_of old i a h at);
+      one = talks_one a.routes.speaker b.routes.speaker talks;
     }
 
 nth_there : (us : List Fields) (k : ℕ) (u : Fields) → nth us k ≡ Some u → Contains us u
@@ -167,11 +170,11 @@ nth_there us (suc k) u is = contains_at us k u is
 -- a delivery
 given_leaves : (f : Fabric) (i k : ℕ) (a b : Edge) (u : Fields) (answer : Result Reply edge.Refusal) → IsSound f
     → IsEdge f i a → nth f.pool k ≡ Some u → Steps a (events.Take u) answer b
-    → Leaves f.pool a.claims.voice b.claims.voice
+    → Leaves f.pool a.routes.speaker b.routes.speaker
 given_leaves f i k a b u answer h at is steps = takes_told f.pool a u answer b (nth_there f.pool k u is)
     (numbers_of f i a h at) steps
 
-delivers_later : (old new : Fabric) (i : ℕ) (a : Edge) (result : Result Reply Refusal) (k : ℕ) (o : Option Fields)
+delivers_later : (old new : Fabric) (i : ℕ) (a : Edge) (result : Result Reply FabricRefusal) (k : ℕ) (o : Option Fields)
     → IsSound old → nth old.pool k ≡ o → IsEdge old i a
     → MatchOption o (IsRefused NoSuchUpdate old result new) (λ u. StepsAt old (suc i) a (events.Take u) result new)
     → IsLaterFabric old new
@@ -182,7 +185,7 @@ delivers_later old new i a result k (Some u) h is at s =
 no_edge : (a : Edge) → ◌≡◌ {A = Option Edge} None (Some a) → ⊥
 no_edge a q = cc
 
-pub step_later : (old new : Fabric) (step : Step) (result : Result Reply Refusal) → IsSound old
+pub step_later : (old new : Fabric) (step : Step) (result : Result Reply FabricRefusal) → IsSound old
     → FabricSteps old step result new → IsLaterFabric old new
 step_later old new (Local e event) result h s = go e (nth old.edges e) refl s
   where
@@ -240,17 +243,17 @@ rests_run (step ∷ steps) old new s = (s.0, s.1, s.4, rests_run steps s.0 new s
 
 -- ---- after a restart
 
-no_answer : (reply : Reply) → ◌≡◌ {A = Result Reply Refusal} (Ok reply) (Err NoSuchEdge) → ⊥
+no_answer : (reply : Reply) → ◌≡◌ {A = Result Reply FabricRefusal} (Ok reply) (Err NoSuchEdge) → ⊥
 no_answer reply q = cc
 
--- the edge that was opened anew is there, in its new life
+-- the edge that was opened anew is there, in its new incarnation
 opened_there : (old mid : Fabric) (e n : ℕ) (reply : Reply) → IsSound old → FabricSteps old (Restart e n) (Ok reply) mid
-    → (a : Edge) × (nth mid.edges e ≡ Some a) × (life_of a ≡ n)
+    → (a : Edge) × (nth mid.edges e ≡ Some a) × (incarnation_of a ≡ n)
 opened_there old mid e n reply h s = go e (nth old.edges e) refl s
   where
     go : (e : ℕ) (o : Option Edge) → nth old.edges e ≡ o
         → MatchOption o (IsRefused NoSuchEdge old (Ok reply) mid) (λ a. RestartsAt old e a n (Ok reply) mid)
-        → (a : Edge) × (nth mid.edges e ≡ Some a) × (life_of a ≡ n)
+        → (a : Edge) × (nth mid.edges e ≡ Some a) × (incarnation_of a ≡ n)
     go e None is s = absurd (no_answer reply s.0)
     go zero (Some a) is s = absurd (no_edge a is)
     go (suc i) (Some a) is s = (
@@ -270,7 +273,7 @@ adverts_are_anew old mid new e n reply steps h restart runs agree i b c at_b at_
     sound : IsSound new
     sound = runs_sound steps mid new runs sound_mid
 
-    go : (e : ℕ) → nth new.edges e ≡ Some b → (a : Edge) × (nth mid.edges e ≡ Some a) × (life_of a ≡ n)
+    go : (e : ℕ) → nth new.edges e ≡ Some b → (a : Edge) × (nth mid.edges e ≡ Some a) × (incarnation_of a ≡ n)
         → n ≤ v.incarnation
     go zero at anew = absurd (no_edge b at)
     go (suc j) at anew =
@@ -279,6 +282,6 @@ adverts_are_anew old mid new e n reply steps h restart runs agree i b c at_b at_
         let same : x.0 ≡ b = one_there new j x.0 b x.1 here in
         let lives = x.2.life in
         let life = anew.2 in
-        let equal = ap life_of same in
+        let equal = ap incarnation_of same in
         let own = none_back new sound agree i j c b at_c here r v mine is some in
         omega (arith, lives, life, equal, own)

@@ -6,14 +6,14 @@ use Rattle.ether_wire.specs.Frame.{frame_of, destination_of, payload_of}
 use Rattle.ether_wire.specs.declared.frame.FrameRefusal.{FrameRefusal}
 use Rattle.bpdu_wire.specs.Reading.{reading}
 use Rattle.bpdu_wire.specs.declared.bpdu.Bpdu.{Bpdu}
-use Rattle.bpdu_wire.specs.declared.refusal.Refusal as bpdu
+use Rattle.bpdu_wire.specs.declared.refusal.BpduRefusal as bpdu
 use Rattle.vxlan_wire.specs.Vxlan.{instance_of}
 use Rattle.vxlan_wire.proofs.VxlanLemmas.{instance_of-header_of}
 use Rattle.route_join.specs.Table.{is_listed}
 use Rattle.mac_arena.specs.declared.station.Station.{Station}
 use Rattle.mac_arena.specs.declared.station.Entry.{Entry}
 use Rattle.ev_tunnel.specs.Datagram.{datagram_of}
-use Rattle.ev_claims.specs.Claims.{vni_at}
+use Rattle.ev_claims.specs.LocalRoutes.{vni_at}
 use Rattle.ev_edge.specs.declared.arrival.Arrival.{Arrival}
 use Rattle.ev_edge.specs.declared.arrival.Arrival.TheVariants.{Dropped, Message, Data}
 use Rattle.ev_edge.specs.declared.event.Event.{Event}
@@ -42,10 +42,11 @@ use Rattle.ev_fabric.proofs.Sends.{station_frames_go, tunnel_frames_come_out, tu
 arrives_inner : (e : Edge) (port : ℕ) (octets : List ℕ) (vni destination source : ℕ)
     → frame_arrival e port octets ≡ Ok (Data vni destination source)
     → inner_arrival vni (frame_of octets) ≡ Ok (Data vni destination source)
-arrives_inner e port octets vni destination source is = go (vni_at e.claims.ports port) is
+arrives_inner e port octets vni destination source is = go (vni_at e.routes.ports port) is
   where
-    reserved : (b : Bool) (r : Result Bpdu bpdu.Refusal)
-        → ◌≡◌ {A = Result Arrival Refusal} (cond b (message_in r) (Ok Dropped)) (Ok (Data vni destination source)) → ⊥
+    reserved : (b : Bool) (r : Result Bpdu bpdu.BpduRefusal)
+        → ◌≡◌ {A = Result Arrival Refusal} (cond b (message_in r) (Ok Dropped)) (Ok (Data vni destination source))
+        → ⊥
     reserved true (Ok m) q = cc
     reserved true (Err r) q = cc
     reserved false r q = cc
@@ -73,10 +74,10 @@ arrives_inner e port octets vni destination source is = go (vni_at e.claims.port
     go (Some v) q = at_port v (is_up e.tree port) (frame_of octets) q
 
 -- a good edge serves the networks of its ports
-serves_own : (o : Edge) (vni q : ℕ) → IsGoodEdge o → vni_at o.claims.ports q ≡ Some vni → serves o vni ≡ true
+serves_own : (o : Edge) (vni q : ℕ) → IsGoodEdge o → vni_at o.routes.ports q ≡ Some vni → serves o vni ≡ true
 serves_own o vni zero good is = cc
-serves_own o vni (suc l) good is = sym (any_is true o.claims.vnis vni
-    ((λ t. good.keeps.served vni (contains_at o.claims.ports l vni is)), (λ c. refl)))
+serves_own o vni (suc l) good is = sym (any_is true o.routes.vnis vni
+    ((λ t. good.keeps.served vni (contains_at o.routes.ports l vni is)), (λ c. refl)))
 
 both : (x y : Bool) → x ≡ true → y ≡ true → (x && y) ≡ true
 both x y p q = ap (λ b. b && y) p ∙ q

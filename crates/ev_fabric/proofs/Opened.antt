@@ -12,8 +12,8 @@ use Rattle.route_wire.specs.declared.update.Register.{Register}
 use Rattle.route_wire.specs.declared.update.Value.{Value}
 use Rattle.route_wire.specs.Order.{register_cmp}
 use Rattle.route_join.specs.Table.{value_at}
-use Rattle.ev_claims.specs.Voice.{Voice, after_saying, silent}
-use Rattle.ev_claims.proofs.Hearing.{silent_voice}
+use Rattle.ev_claims.specs.Speaker.{Speaker, after_originating, silent}
+use Rattle.ev_claims.proofs.Hearing.{silent_speaker}
 use Rattle.ev_claims.specs.Opening.{after_floods}
 use Rattle.ev_edge.specs.declared.config.EdgeConfig.{EdgeConfig}
 use Rattle.ev_edge.specs.Config.{IsConfig}
@@ -21,35 +21,37 @@ use Rattle.ev_edge.specs.Edge.{Edge, IsGoodEdge, address_of}
 use Rattle.ev_edge.specs.Opening.{IsOpening}
 use Rattle.ev_fabric.specs.Fabric.{Fabric, IsEdge, addresses_of}
 use Rattle.ev_fabric.specs.Opening.{AreConfigs, AreOpened, IsStart}
-use Rattle.ev_fabric.specs.Steps.{in_life}
+use Rattle.ev_fabric.specs.Steps.{in_incarnation}
 use Rattle.ev_fabric.specs.Sound.{IsTold, IsOf, IsSound}
 use Rattle.ev_fabric.proofs.Voices.{Talks, Quiet, Says, talks_one, talks_told, talks_further}
 use Rattle.ev_fabric.proofs.Places.{contains_at, there_at, below_length, take_get, get_take, take_length, push_get}
 use Rattle.ev_fabric.proofs.Places.{push_length}
 
 -- opening is saying
-floods_talk : (e : Voice) (vs : List ℕ) → Talks e (after_floods e vs)
+floods_talk : (e : Speaker) (vs : List ℕ) → Talks e (after_floods e vs)
 floods_talk e [] = Quiet
-floods_talk e (v ∷ vs) = talks_further e (after_saying e (Flood v) (Advertised flood_advert))
-    (after_floods (after_saying e (Flood v) (Advertised flood_advert)) vs)
-    (Says e (Flood v) (Advertised flood_advert) Quiet) (floods_talk (after_saying e (Flood v) (Advertised flood_advert))
+floods_talk e (v ∷ vs) = talks_further e (after_originating e (Flood v) (Advertised flood_advert))
+    (after_floods (after_originating e (Flood v) (Advertised flood_advert)) vs)
+    (Says e (Flood v) (Advertised flood_advert) Quiet) (floods_talk
+    (after_originating e (Flood v) (Advertised flood_advert))
     vs)
 
-abbrev start_voice : EdgeConfig → Voice
-start_voice c = silent c.address c.incarnation c.originators.items
+abbrev start_speaker : EdgeConfig → Speaker
+start_speaker c = silent c.address c.incarnation c.originators.items
 
-opened_talks : (c : EdgeConfig) (a : Edge) → IsOpening c a → Talks (start_voice c) a.claims.voice
-opened_talks c a h = subst (Talks (start_voice c)) (sym h.claims.voice) (floods_talk (start_voice c) a.claims.vnis)
+opened_talks : (c : EdgeConfig) (a : Edge) → IsOpening c a → Talks (start_speaker c) a.routes.speaker
+opened_talks c a h = subst (Talks (start_speaker c)) (sym h.routes.speaker)
+    (floods_talk (start_speaker c) a.routes.vnis)
 
 pub opened_of : (c : EdgeConfig) (a : Edge) → IsConfig c → IsOpening c a → IsOf c a
-opened_of c a fit h = let one = talks_one (start_voice c) a.claims.voice (opened_talks c a h) in
+opened_of c a fit h = let one = talks_one (start_speaker c) a.routes.speaker (opened_talks c a h) in
     record { config = fit; address = one.address; life = one.incarnation; originators = one.originators }
 
-nothing_there : (e : Voice) (r : Register) (v : Value) → e.table.registers ≡ empty → value_at e.table r ≡ Some v → ⊥
+nothing_there : (e : Speaker) (r : Register) (v : Value) → e.table.registers ≡ empty → value_at e.table r ≡ Some v → ⊥
 nothing_there e r v is at = let none = ap (λ m. get m r) is ∙ get-empty {X = Value} register_cmp r in
     let bad : None ≡ Some v = sym none ∙ at in cc
 
--- nothing is said yet, and what was announced under this name was said in an earlier life
+-- nothing is said yet, and what was announced under this name was said in an earlier incarnation
 silent_told : (pool : List Fields) (address incarnation : ℕ) (originators : List ℕ)
     → ((u : Fields) → Contains pool u → u.register.originator ≡ address → u.value.incarnation < incarnation)
     → IsTold pool (silent address incarnation originators)
@@ -61,10 +63,10 @@ silent_told pool address incarnation originators earlier = record {
 
 pub opened_told : (pool : List Fields) (c : EdgeConfig) (a : Edge) → IsConfig c → IsOpening c a
     → ((u : Fields) → Contains pool u → u.register.originator ≡ c.address → u.value.incarnation < c.incarnation)
-    → IsTold pool a.claims.voice
+    → IsTold pool a.routes.speaker
 opened_told pool c a fit h earlier =
-    talks_told pool (start_voice c) a.claims.voice (opened_talks c a h)
-    (silent_voice c.address c.incarnation c.originators.items fit.listed).numbers
+    talks_told pool (start_speaker c) a.routes.speaker (opened_talks c a h)
+    (silent_speaker c.address c.incarnation c.originators.items fit.listed).numbers
     (silent_told pool c.address c.incarnation c.originators.items earlier)
 
 -- ---- lists whose elements differ
@@ -179,7 +181,7 @@ opened_more cs edges i c b less at h opened good = record {
     size : length edges ≡ i
     size = h.count ∙ take_length cs i (omega (arith, less))
 
-pub fit_in_life : (c : EdgeConfig) (n : ℕ) → IsConfig c → IsConfig (in_life c n)
+pub fit_in_life : (c : EdgeConfig) (n : ℕ) → IsConfig c → IsConfig (in_incarnation c n)
 fit_in_life c n h = record {
   originators = h.originators;
   listed = h.listed;

@@ -5,7 +5,7 @@ use Rattle.std.specs.Prelude.{IsTrue, ◌↔◌, ◌||◌}
 use Rattle.std.specs.Option.{MatchOption, option_map}
 use Rattle.std.proofs.lemmas.Bool.{eq-eqb}
 use Rattle.std.proofs.lemmas.Bool.Decides.{nat_tests}
-use Rattle.ether_wire.specs.Names.{is_group}
+use Rattle.ether_wire.specs.Addr.{is_group}
 use Rattle.ether_wire.specs.Ports.{IsPort, has_port, with_port}
 use Rattle.ether_wire.proofs.PortLemmas.{has_port-none, has_port-with}
 use Rattle.route_wire.specs.declared.update.Ip.{Ip}
@@ -24,8 +24,8 @@ use Rattle.ev_tunnel.specs.declared.decision.Decision.{Decision}
 use Rattle.ev_tunnel.specs.declared.decision.Source.{Source}
 use Rattle.ev_tunnel.specs.declared.decision.Source.TheVariants.{Port, Tunnel}
 use Rattle.ev_tunnel.specs.Decision.{local_for, remote_for}
-use Rattle.ev_claims.specs.Voice.{own_advert}
-use Rattle.ev_claims.specs.Claims.{key_of, vni_at, moving}
+use Rattle.ev_claims.specs.Speaker.{own_advert}
+use Rattle.ev_claims.specs.LocalRoutes.{key_of, vni_at, moving}
 use Rattle.ev_edge.specs.declared.arrival.Arrival.TheVariants.{Data}
 use Rattle.ev_edge.specs.declared.learning.Case.{Case}
 use Rattle.ev_edge.specs.declared.learning.Case.TheVariants.{Leave, Refresh, Refuse, Freeze, Learn}
@@ -53,7 +53,7 @@ use Rattle.ev_fabric.proofs.Stations.{agree_on_each, station_one, station_owner}
 record LeavesBe (a b : Edge) (s : Station) : Type 0 where
   address : address_of b ≡ address_of a
   tree : b.tree ≡ a.tree
-  entry : entry_at b.claims.learned s ≡ entry_at a.claims.learned s
+  entry : entry_at b.routes.learned s ≡ entry_at a.routes.learned s
   adverts : (o : ℕ) (ip : Option Ip) → advert_at (table_of b) o (Mac s.vni s.mac ip)
       ≡ advert_at (table_of a) o (Mac s.vni s.mac ip)
 
@@ -67,8 +67,8 @@ learning_leaves : (e : Edge) (q : Station) (port n : ℕ) (s : Station) → s �
 learning_leaves e q port n s ne = record {
   address = refl;
   tree = elim (n == 0) as (λ b. (cond b e (moved e q)).tree ≡ e.tree) [ true ↦ refl | false ↦ refl ];
-  entry = (learn_entry e.claims.learned q port e.clock New).others s ne;
-  adverts = λ o ip. said_other e.claims.voice (key_of q) (moving n) (Mac s.vni s.mac ip) o (other_key s q ip None ne);
+  entry = (learn_entry e.routes.learned q port e.clock New).others s ne;
+  adverts = λ o ip. said_other e.routes.speaker (key_of q) (moving n) (Mac s.vni s.mac ip) o (other_key s q ip None ne);
 }
 
 either_leaves : (needs : Bool) (e after e' : Edge) (alert told : Option Alert) (s : Station)
@@ -83,8 +83,8 @@ does_leave Refresh e q port told e' s ne h = subst (λ x. LeavesBe e x s) (sym h
     (record {
       address = refl;
       tree = refl;
-      entry = (learn_entry e.claims.learned q port e.clock
-          (learnt_of e.claims.learned q port)).others s ne;
+      entry = (learn_entry e.routes.learned q port e.clock
+          (learnt_of e.routes.learned q port)).others s ne;
       adverts = λ o ip. refl;
     })
 does_leave (Refuse alert) e q port told e' s ne h = same_leaves e e' s h.1
@@ -128,7 +128,8 @@ frame_step a (events.PortDown p) result b port octets is h = absurd cc
 frame_step a (events.Mcheck p) result b port octets is h = absurd cc
 frame_step a events.Announce result b port octets is h = absurd cc
 
-pub tunnel_step : (a : Edge) (event : Event) (result : Result Reply Refusal) (b : Edge) (from : ℕ) (octets : List ℕ)
+pub tunnel_step : (a : Edge) (event : Event) (result : Result Reply Refusal) (b : Edge) (from : ℕ)
+    (octets : List ℕ)
     → tunnel_frame_in event ≡ Some (from, octets) → Steps a event result b
     → TunnelSteps (tunnel_arrival a from octets) a result b
 tunnel_step a (events.TunnelFrame o bytes) result b from octets is h =
@@ -202,18 +203,19 @@ owner_found t vni mac o h = go (owner t vni mac) (owner_is t vni mac)
     go (Some p) is = ap Some (one_owner t vni mac p o is h)
 
 -- what an edge doesn't advertise it hasn't learnt
-no_entry : (a : Edge) (s : Station) → IsGoodEdge a → (Advertises a s → ⊥) → entry_at a.claims.learned s ≡ None
-no_entry a s h none = go (entry_at a.claims.learned s) refl (own_advert a.claims.voice (key_of s)) refl
+no_entry : (a : Edge) (s : Station) → IsGoodEdge a → (Advertises a s → ⊥) → entry_at a.routes.learned s ≡ None
+no_entry a s h none = go (entry_at a.routes.learned s) refl (own_advert a.routes.speaker (key_of s)) refl
   where
-    go : (x : Option Entry) → entry_at a.claims.learned s ≡ x → (y : Option Advert)
-        → own_advert a.claims.voice (key_of s) ≡ y → entry_at a.claims.learned s ≡ None
+    go : (x : Option Entry) → entry_at a.routes.learned s ≡ x → (y : Option Advert)
+        → own_advert a.routes.speaker (key_of s) ≡ y → entry_at a.routes.learned s ≡ None
     go None e y q = e
     go (Some x) e (Some y) q = absurd (none (None, y, q))
     go (Some x) e None q =
-        let k = h.claims.claims.kinds s in
-        let left : option_map {U = Bool} (λ (x : Entry). x.pinned) (entry_at a.claims.learned s) ≡ Some x.pinned =
+        let k = h.routes.routes.kinds s in
+        let left : option_map {U = Bool} (λ (x : Entry). x.pinned) (entry_at a.routes.learned s) ≡ Some x.pinned =
         ap (option_map (λ (x : Entry). x.pinned)) e in
-        let right : option_map {U = Bool} (λ (x : Advert). x.is_static) (own_advert a.claims.voice (key_of s)) ≡ None =
+        let right : option_map {U = Bool} (λ (x : Advert). x.is_static) (own_advert a.routes.speaker (key_of s))
+        ≡ None =
         ap (option_map (λ (x : Advert). x.is_static)) q in
         absurd (let bad : Some x.pinned ≡ None = sym left ∙ k ∙ right in cc)
 
@@ -289,12 +291,12 @@ record IsThere (o : Edge) (q : ℕ) : Type 0 where
   most : q ≤ length o.tree.ports
   few : q ≤ 64
 
-there : (o : Edge) (vni q : ℕ) → IsGoodEdge o → vni_at o.claims.ports q ≡ Some vni → IsThere o q
+there : (o : Edge) (vni q : ℕ) → IsGoodEdge o → vni_at o.routes.ports q ≡ Some vni → IsThere o q
 there o vni zero h is = absurd cc
 there o vni (suc l) h is =
-    let less = below_length o.claims.ports l vni is in
+    let less = below_length o.routes.ports l vni is in
     let same = h.keeps.ports in
-    let few = h.claims.claims.few in
+    let few = h.routes.routes.few in
     record { least = omega arith; most = omega (arith, less, same); few = omega (arith, less, few) }
 
 both : (x y : Bool) → (x && y) ≡ true → (x ≡ true) × (y ≡ true)

@@ -10,31 +10,32 @@ use Rattle.route_wire.specs.declared.update.Register.{Register}
 use Rattle.route_wire.specs.Fields.{Fields}
 use Rattle.route_join.specs.Table.{value_at, register_of}
 use Rattle.mac_arena.specs.declared.station.Station.{Station}
-use Rattle.ev_claims.specs.Voice.{Voice, own_register, own_advert, is_newest}
-use Rattle.ev_claims.specs.Claims.{Claims, key_of}
+use Rattle.ev_claims.specs.Speaker.{Speaker, own_register, own_advert, is_newest}
+use Rattle.ev_claims.specs.LocalRoutes.{LocalRoutes, key_of}
 use Rattle.ev_edge.specs.declared.event.Event.TheVariants as events
 use Rattle.ev_edge.specs.declared.reply.Reply.{Reply}
 use Rattle.ev_edge.specs.Edge.{Edge, table_of, address_of}
-use Rattle.ev_fabric.specs.declared.refusal.Refusal.{Refusal}
-use Rattle.ev_fabric.specs.declared.refusal.Refusal.TheVariants.{NoSuchEdge, NoSuchUpdate}
+use Rattle.ev_fabric.specs.declared.refusal.FabricRefusal.{FabricRefusal}
+use Rattle.ev_fabric.specs.declared.refusal.FabricRefusal.TheVariants.{NoSuchEdge, NoSuchUpdate}
 use Rattle.ev_fabric.specs.declared.step.Step.{Step}
 use Rattle.ev_fabric.specs.declared.step.Step.TheVariants.{Local, Announce, Deliver, Restart}
 use Rattle.ev_fabric.specs.Fabric.{Fabric, IsEdge, nth}
 use Rattle.ev_fabric.specs.Steps.{IsRefused, StepsAt, FabricSteps}
 use Rattle.ev_fabric.specs.Sound.{update_of, IsSound}
-use Rattle.ev_fabric.specs.Rest.{Rests, HasNumbers, announcing}
+use Rattle.ev_fabric.specs.Convergence.{Rests, HasNumbers, announcing}
 use Rattle.ev_fabric.specs.Station.{is_of, AgreesOn, StationComes, RunsBeside, updates_on, all_take, StationArrives}
 use Rattle.ev_fabric.proofs.Agreements.{none_pending}
 use Rattle.ev_fabric.proofs.Stations.{station_one}
 use Rattle.ev_fabric.proofs.Places.{set_cases, below_length, push_length}
 use Rattle.ev_fabric.proofs.Fabrics.{step_sound, rests_sound}
-use Rattle.ev_fabric.proofs.RestingSums.{later_one, place_of}
-use Rattle.ev_fabric.proofs.RestingEdge.{Heard, Back, Lost, Kept as HeardKept, heard, hears, marked_length}
-use Rattle.ev_fabric.proofs.RestingGood.{quieter}
-use Rattle.ev_fabric.proofs.RestingMoves.{Kept, Move, Stays, Tells, Takes, minus, moved, move_kept, sound_kept}
-use Rattle.ev_fabric.proofs.RestingMoves.{rests_before}
-use Rattle.ev_fabric.proofs.RestingRounds.{IsReady, move_ready, rests_ready, Has, rests_has, given, deliver_pool, Few}
-use Rattle.ev_fabric.proofs.RestingRounds.{announcing_few, announcing_none, arrived_value}
+use Rattle.ev_fabric.proofs.ConvergingSums.{later_one, place_of}
+use Rattle.ev_fabric.proofs.ConvergingEdge.{Heard, Back, Lost, Kept as HeardKept, heard, hears, marked_length}
+use Rattle.ev_fabric.proofs.ConvergingGood.{quieter}
+use Rattle.ev_fabric.proofs.ConvergingMoves.{Kept, Move, Stays, Tells, Takes, minus, moved, move_kept, sound_kept}
+use Rattle.ev_fabric.proofs.ConvergingMoves.{rests_before}
+use Rattle.ev_fabric.proofs.ConvergingRounds.{IsReady, move_ready, rests_ready, Has, rests_has, given, deliver_pool}
+use Rattle.ev_fabric.proofs.ConvergingRounds.{Few}
+use Rattle.ev_fabric.proofs.ConvergingRounds.{announcing_few, announcing_none, arrived_value}
 use Rattle.ev_fabric.proofs.StationStages.{filter_has, filter_push, filter_past, no_push, waiting}
 use Rattle.ev_fabric.proofs.StationMotion.{At, one_edge, push_after, StageOf, Stage, AtFirst, AtTold, AtLost, AtOver}
 use Rattle.ev_fabric.proofs.StationMotion.{runs_stage, agreed_known, said_news, begins, u, base, first_stage, some_is}
@@ -85,37 +86,37 @@ rests_longer s (step ∷ steps) old new kept h =
     omega (arith, here, rest)
 
 -- a step makes one register more pending at an edge, at most
-heard_pending : (c : Claims) (w : Fields) (d : Claims) → Heard c w d
-    → length d.voice.pending ≤ length c.voice.pending + 1
-heard_pending c w _ (Back back) = marked_length c.voice.pending (own_register c.voice w.register.key)
-heard_pending c w _ (Lost s other lost) = marked_length c.voice.pending (own_register c.voice (key_of s))
+heard_pending : (c : LocalRoutes) (w : Fields) (d : LocalRoutes) → Heard c w d
+    → length d.speaker.pending ≤ length c.speaker.pending + 1
+heard_pending c w _ (Back back) = marked_length c.speaker.pending (own_register c.speaker w.register.key)
+heard_pending c w _ (Lost s other lost) = marked_length c.speaker.pending (own_register c.speaker (key_of s))
 heard_pending c w _ (HeardKept never) = omega arith
 
 move_few : (old new : Fabric) → Move old new → (i n : ℕ) → Few old i n → Few new i (suc n)
 move_few old _ Stays i n few c at_c = let h = few c at_c in omega (arith, h)
 move_few old _ (Tells x a r rs v at pend is) i n few c at_c =
-    elim (set_cases old.edges x (record a { claims = quieter a.claims rs }) i c at_c) as (λ _. length
-    c.claims.voice.pending ≤ suc n) [
+    elim (set_cases old.edges x (record a { routes = quieter a.routes rs }) i c at_c) as (λ _. length
+    c.routes.speaker.pending ≤ suc n) [
       | inl p ↦
           let h = few a (subst (λ y. IsEdge old y a) (sym p.0) at) in
           let longer = ap length pend in
-          let c_is = ap (λ (e : Edge). length e.claims.voice.pending) p.1 in
+          let c_is = ap (λ (e : Edge). length e.routes.speaker.pending) p.1 in
           omega (arith, h, longer, c_is)
       | inr p ↦ let h = few c p.1 in omega (arith, h)
     ]
 move_few old _ (Takes x a w at in' ok) i n few c at_c =
-    elim (set_cases old.edges x (record a { claims = heard a.claims w }) i c at_c) as (λ _. length
-    c.claims.voice.pending ≤ suc n) [
+    elim (set_cases old.edges x (record a { routes = heard a.routes w }) i c at_c) as (λ _. length
+    c.routes.speaker.pending ≤ suc n) [
       | inl p ↦
           let h = few a (subst (λ y. IsEdge old y a) (sym p.0) at) in
-          let more = heard_pending a.claims w (heard a.claims w) (hears a.claims w) in
-          let c_is = ap (λ (e : Edge). length e.claims.voice.pending) p.1 in
+          let more = heard_pending a.routes w (heard a.routes w) (hears a.routes w) in
+          let c_is = ap (λ (e : Edge). length e.routes.speaker.pending) p.1 in
           omega (arith, h, more, c_is)
       | inr p ↦ let h = few c p.1 in omega (arith, h)
     ]
 
 -- a delivery to another edge leaves this one
-deliver_else : (old new : Fabric) (x k : ℕ) (result : Result Reply Refusal)
+deliver_else : (old new : Fabric) (x k : ℕ) (result : Result Reply FabricRefusal)
     → FabricSteps old (Deliver (suc x) k) result new → (i : ℕ) → i ≢ x → (c : Edge) → IsEdge new i c → IsEdge old i c
 deliver_else old new x k result h i ne c at_c = go (slice_get old.edges x) h
   where
@@ -175,11 +176,11 @@ all_have (suc m) k old new ready h i lt w at = elim (cases_eq i m) as (λ _. Has
     mid = move_ready old h.0 (moved old h.0 (Deliver (suc m) (suc k)) h.1 ready.kept h.2 h.4) ready
 
 -- ---- agreement, where nothing waits and all have what the pool has
-agrees_at : (f : Fabric) (s : Station) → ((y : ℕ) (c : Edge) → IsEdge f y c → waiting s c.claims.voice ≡ [])
+agrees_at : (f : Fabric) (s : Station) → ((y : ℕ) (c : Edge) → IsEdge f y c → waiting s c.routes.speaker ≡ [])
     → ((y : ℕ) (w : Fields) → Contains (updates_on s f.pool) w → Has f y w) → AgreesOn f s
 agrees_at f s waits has = record {
   quiet = λ y c r at of in'. none_pending (subst (λ l. Contains l r) (waits y c at)
-      (filter_has (is_of s) c.claims.voice.pending r of in'));
+      (filter_has (is_of s) c.routes.speaker.pending r of in'));
   arrived = λ y c w at of in'. arrived_value (value_at (table_of c) w.register) w.value
       (has y w (filter_has (λ (x : Fields). is_of s x.register) f.pool w of in') c at);
 }
@@ -187,13 +188,13 @@ agrees_at f s waits has = record {
 -- at a stage at which nothing waits
 stage_waits : {base extra : List Fields} {i j : ℕ} {s : Station} {o : ℕ} {w : Fields} {says : Bool} {pool : List Fields}
     {edges : List Edge} → StageOf base extra i j s o w [] [] says pool edges → (y : ℕ) (c : Edge) → At edges y c
-    → waiting s c.claims.voice ≡ []
+    → waiting s c.routes.speaker ≡ []
 stage_waits {base} {extra} {i} {j} {s} {o} {w} {says} {pool} {edges} g y c at =
-    elim (cases_eq y i) as (λ _. waiting s c.claims.voice ≡ []) [
-      | inl p ↦ subst (λ (e : Edge). waiting s e.claims.voice ≡ []) (one_edge edges y i c g.from p at g.at_from)
+    elim (cases_eq y i) as (λ _. waiting s c.routes.speaker ≡ []) [
+      | inl p ↦ subst (λ (e : Edge). waiting s e.routes.speaker ≡ []) (one_edge edges y i c g.from p at g.at_from)
           g.is_from.waits
-      | inr ne_i ↦ elim (cases_eq y j) as (λ _. waiting s c.claims.voice ≡ []) [
-        | inl p ↦ subst (λ (e : Edge). waiting s e.claims.voice ≡ []) (one_edge edges y j c g.to p at g.at_to)
+      | inr ne_i ↦ elim (cases_eq y j) as (λ _. waiting s c.routes.speaker ≡ []) [
+        | inl p ↦ subst (λ (e : Edge). waiting s e.routes.speaker ≡ []) (one_edge edges y j c g.to p at g.at_to)
             g.is_to.waits
         | inr ne_j ↦ (g.asides y c ne_i ne_j at).waits
       ]
@@ -242,12 +243,13 @@ module _ (old : Fabric) (i j : ℕ) (s : Station) (mid : Fabric) (sound : IsSoun
       sound_mid = step_sound old mid (Local (suc j) m.event) m.result m.step sound
 
       known : (y : ℕ) (w : Fields) → Contains old.pool w → is_of s w.register ≡ true → (c : Edge)
-          → slice_get (slice_set old.edges j begun.after) y ≡ Some c → is_newest c.claims.voice w ≡ false
-      known y w in' of c at = elim (set_cases old.edges j begun.after y c at) as (λ _. is_newest c.claims.voice w
+          → slice_get (slice_set old.edges j begun.after) y ≡ Some c → is_newest c.routes.speaker w ≡ false
+      known y w in' of c at = elim (set_cases old.edges j begun.after y c at) as (λ _. is_newest c.routes.speaker w
           ≡ false) [
-            | inl p ↦ ap (λ (e : Edge). is_newest e.claims.voice w) p.1
-                ∙ ap (λ (e : Voice). is_newest e w) begun.learns.voice
-                ∙ said_news m.to.claims.voice (key_of s) begun.learns.content (sound.good j m.to m.at_to).claims.numbers
+            | inl p ↦ ap (λ (e : Edge). is_newest e.routes.speaker w) p.1
+                ∙ ap (λ (e : Speaker). is_newest e w) begun.learns.speaker
+                ∙ said_news m.to.routes.speaker (key_of s) begun.learns.content
+                (sound.good j m.to m.at_to).routes.numbers
                 w
                 (agreed_known old s m.agree j m.to w m.at_to in' of)
             | inr p ↦ agreed_known old s m.agree y c w p.1 in' of
@@ -296,7 +298,7 @@ module _ (old : Fabric) (i j : ℕ) (s : Station) (mid : Fabric) (sound : IsSoun
 
       go : Stage before i j s (address_of m.from) advert f.pool f.edges
           → length before + 1 ≤ length (updates_on s f.pool)
-      go (AtFirst g) = absurd (empty g.to.claims.voice.pending (few g.to g.at_to) advert.register g.is_to.waits)
+      go (AtFirst g) = absurd (empty g.to.routes.speaker.pending (few g.to g.at_to) advert.register g.is_to.waits)
       go (AtTold g) = longer_by_one f (LateTold g)
       go (AtLost g) = longer_by_one f (LateLost g)
       go (AtOver w named none g) = longer_by_one f (LateOver w g)
@@ -305,7 +307,7 @@ module _ (old : Fabric) (i j : ℕ) (s : Station) (mid : Fabric) (sound : IsSoun
   not_told : (f : Fabric) → Point f → ((y : ℕ) → Has f y advert)
       → StageOf before (advert ∷ []) i j s (address_of m.from) advert [] [] true f.pool f.edges → ⊥
   not_told f p has g =
-      let y = some_is (own_advert g.from.claims.voice (key_of s)) g.is_from.said in
+      let y = some_is (own_advert g.from.routes.speaker (key_of s)) g.is_from.said in
       begun.apart (station_one f s p.sound_still agree i j g.from g.to g.at_from g.at_to (
         None,
         y.0,
@@ -324,36 +326,37 @@ module _ (old : Fabric) (i j : ℕ) (s : Station) (mid : Fabric) (sound : IsSoun
   all_advert f g k w p q at h y c at_c = all_have (length mid.edges) k f g p.ready h y (q.places y c at_c) w at c at_c
 
   -- ---- the way
-  told_few : (told : Fabric) → Rests mid (announcing (suc j) (length m.to.claims.voice.pending + 1)) told → Few told j 0
-  told_few told h = announcing_none (length m.to.claims.voice.pending + 1) j mid told h few
+  told_few : (told : Fabric) → Rests mid (announcing (suc j) (length m.to.routes.speaker.pending + 1)) told
+      → Few told j 0
+  told_few told h = announcing_none (length m.to.routes.speaker.pending + 1) j mid told h few
     where
-      few : Few mid j (length m.to.claims.voice.pending + 1)
+      few : Few mid j (length m.to.routes.speaker.pending + 1)
       few c at = elim (set_cases old.edges j begun.after j c (subst (λ f. IsEdge f j c) begun.is at)) as (λ _. length
-          c.claims.voice.pending ≤ length m.to.claims.voice.pending + 1) [
+          c.routes.speaker.pending ≤ length m.to.routes.speaker.pending + 1) [
             | inl p ↦
-                let c_is = ap (λ (e : Edge). length e.claims.voice.pending) p.1
-                ∙ ap (λ (e : Voice). length e.pending) begun.learns.voice in
-                let marks = marked_length m.to.claims.voice.pending (own_register m.to.claims.voice (key_of s)) in
+                let c_is = ap (λ (e : Edge). length e.routes.speaker.pending) p.1
+                ∙ ap (λ (e : Speaker). length e.pending) begun.learns.speaker in
+                let marks = marked_length m.to.routes.speaker.pending (own_register m.to.routes.speaker (key_of s)) in
                 omega (arith, c_is, marks)
             | inr p ↦ absurd (p.0 refl)
           ]
 
-  from_few : Few mid i (length m.from.claims.voice.pending)
+  from_few : Few mid i (length m.from.routes.speaker.pending)
   from_few c at = elim (set_cases old.edges j begun.after i c (subst (λ f. IsEdge f i c) begun.is at)) as (λ _. length
-      c.claims.voice.pending ≤ length m.from.claims.voice.pending) [
+      c.routes.speaker.pending ≤ length m.from.routes.speaker.pending) [
         | inl p ↦ absurd (begun.apart p.0)
-        | inr p ↦ let same = ap (λ (e : Edge). length e.claims.voice.pending)
+        | inr p ↦ let same = ap (λ (e : Edge). length e.routes.speaker.pending)
             (one_edge old.edges i i m.from c refl m.at_from p.1) in omega (arith, same)
       ]
 
-  arrives : (told : Fabric) → Rests mid (announcing (suc j) (length m.to.claims.voice.pending + 1)) told
+  arrives : (told : Fabric) → Rests mid (announcing (suc j) (length m.to.routes.speaker.pending + 1)) told
       → (k : ℕ) × ((heard left : Fabric) → Rests told (all_take (length mid.edges) (suc k)) heard
-      → Rests heard (announcing (suc i) (length m.from.claims.voice.pending + 1)) left
+      → Rests heard (announcing (suc i) (length m.from.routes.speaker.pending + 1)) left
       → (l : ℕ) × ((new : Fabric) → Rests left (all_take (length mid.edges) (suc l)) new → AgreesOn new s))
   arrives told runs = (place.0, next)
     where
       p : Point told
-      p = point_rests (announcing (suc j) (length m.to.claims.voice.pending + 1)) mid told runs point_mid
+      p = point_rests (announcing (suc j) (length m.to.routes.speaker.pending + 1)) mid told runs point_mid
 
       more : length before + 1 ≤ length (updates_on s told.pool)
       more = none_left told (told_few told runs) p
@@ -362,7 +365,7 @@ module _ (old : Fabric) (i j : ℕ) (s : Station) (mid : Fabric) (sound : IsSoun
       place = place_of told.pool advert (late_has told (late told p more))
 
       next : (heard left : Fabric) → Rests told (all_take (length mid.edges) (suc place.0)) heard
-          → Rests heard (announcing (suc i) (length m.from.claims.voice.pending + 1)) left
+          → Rests heard (announcing (suc i) (length m.from.routes.speaker.pending + 1)) left
           → (l : ℕ) × ((new : Fabric) → Rests left (all_take (length mid.edges) (suc l)) new → AgreesOn new s)
       next heard left taken said = finish (late left at_left longer)
         where
@@ -370,33 +373,35 @@ module _ (old : Fabric) (i j : ℕ) (s : Station) (mid : Fabric) (sound : IsSoun
           at_heard = point_rests (all_take (length mid.edges) (suc place.0)) told heard taken p
 
           at_left : Point left
-          at_left = point_rests (announcing (suc i) (length m.from.claims.voice.pending + 1)) heard left said at_heard
+          at_left = point_rests (announcing (suc i) (length m.from.routes.speaker.pending + 1)) heard left said at_heard
 
           longer : length before + 1 ≤ length (updates_on s left.pool)
           longer =
               let one = more in
               let two = rests_longer s (all_take (length mid.edges) (suc place.0)) told heard p.ready.kept taken in
-              let three = rests_longer s (announcing (suc i) (length m.from.claims.voice.pending + 1)) heard left
+              let three = rests_longer s (announcing (suc i) (length m.from.routes.speaker.pending + 1)) heard left
               at_heard.ready.kept said in
               omega (arith, one, two, three)
 
           has : (y : ℕ) → Has left y advert
-          has y = rests_has (announcing (suc i) (length m.from.claims.voice.pending + 1)) heard left at_heard.ready.kept
+          has y = rests_has (announcing (suc i) (length m.from.routes.speaker.pending + 1)) heard left
+              at_heard.ready.kept
               said y advert (all_advert told heard place.0 advert p at_heard place.1 taken y)
 
           few : Few left i 0
-          few = announcing_none (length m.from.claims.voice.pending + 1) i heard left said (λ c at. let bound =
+          few = announcing_none (length m.from.routes.speaker.pending + 1) i heard left said (λ c at. let bound =
               heard_few c at in omega (arith, bound))
             where
-              heard_few : Few heard i (suc (length m.from.claims.voice.pending))
+              heard_few : Few heard i (suc (length m.from.routes.speaker.pending))
               heard_few = all_few (length mid.edges) (suc place.0) told heard p.ready.kept taken i
-                  (length m.from.claims.voice.pending) (announcing_few (length m.to.claims.voice.pending + 1) (suc j)
-                  mid told runs i (length m.from.claims.voice.pending) from_few)
+                  (length m.from.routes.speaker.pending) (announcing_few (length m.to.routes.speaker.pending + 1)
+                  (suc j)
+                  mid told runs i (length m.from.routes.speaker.pending) from_few)
 
           finish : Late left → (l : ℕ) × ((new : Fabric) → Rests left (all_take (length mid.edges) (suc l)) new
               → AgreesOn new s)
           finish (LateTold g) = absurd (not_told left at_left has g)
-          finish (LateLost g) = absurd (empty g.from.claims.voice.pending (few g.from g.at_from) _ g.is_from.waits)
+          finish (LateLost g) = absurd (empty g.from.routes.speaker.pending (few g.from g.at_from) _ g.is_from.waits)
             where
               empty : (rs : List Register) → length rs ≤ 0 → (r : Register) → filter (is_of s) rs ≡ r ∷ [] → ⊥
               empty [] le r is = cc
@@ -434,7 +439,7 @@ module _ (old : Fabric) (i j : ℕ) (s : Station) (mid : Fabric) (sound : IsSoun
                         | inr now ↦ subst (Has new y) now (all_advert left new there.0 w at_left q there.1 h y)
                       ]
 
-                  waits : (y : ℕ) (c : Edge) → IsEdge new y c → waiting s c.claims.voice ≡ []
+                  waits : (y : ℕ) (c : Edge) → IsEdge new y c → waiting s c.routes.speaker ≡ []
                   waits = go q.stage
                     where
                       long : length before + 2 ≤ length (updates_on s new.pool)
@@ -444,7 +449,7 @@ module _ (old : Fabric) (i j : ℕ) (s : Station) (mid : Fabric) (sound : IsSoun
                           omega (arith, same)
 
                       go : Stage before i j s (address_of m.from) advert new.pool new.edges → (y : ℕ) (c : Edge)
-                          → IsEdge new y c → waiting s c.claims.voice ≡ []
+                          → IsEdge new y c → waiting s c.routes.speaker ≡ []
                       go (AtFirst k) = let same = ap length (k.grown ∙ no_push before) in let more' = long in
                           absurd (omega (arith, same, more'))
                       go (AtTold k) = let same = ap length k.grown ∙ push_length before advert in let more' = long in

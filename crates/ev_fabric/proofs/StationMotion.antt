@@ -17,22 +17,22 @@ use Rattle.route_join.specs.Owner.{advert_in, advert_of, IsOwner}
 use Rattle.route_join.proofs.Tables.{not_newer_itself}
 use Rattle.mac_arena.specs.declared.station.Station.{Station}
 use Rattle.mac_arena.specs.Learning.{entry_at}
-use Rattle.ev_claims.specs.Voice.{Voice, KeepsNumbers, own_register, own, own_advert, next_value, is_newest}
-use Rattle.ev_claims.specs.Voice.{after_saying, silent}
-use Rattle.ev_claims.specs.Claims.{key_of}
+use Rattle.ev_claims.specs.Speaker.{Speaker, KeepsNumbers, own_register, own, own_advert, next_value, is_newest}
+use Rattle.ev_claims.specs.Speaker.{after_originating, silent}
+use Rattle.ev_claims.specs.LocalRoutes.{key_of}
 use Rattle.ev_claims.proofs.Numbers.{own_same, said_joins}
 use Rattle.ev_edge.specs.declared.config.EdgeConfig.{EdgeConfig}
 use Rattle.ev_edge.specs.declared.reply.Reply.{Reply}
 use Rattle.ev_edge.specs.Edge.{Edge, table_of, address_of}
 use Rattle.ev_edge.specs.Steps.{Steps}
-use Rattle.ev_fabric.specs.declared.refusal.Refusal.{Refusal}
-use Rattle.ev_fabric.specs.declared.refusal.Refusal.TheVariants.{NoSuchEdge}
+use Rattle.ev_fabric.specs.declared.refusal.FabricRefusal.{FabricRefusal}
+use Rattle.ev_fabric.specs.declared.refusal.FabricRefusal.TheVariants.{NoSuchEdge}
 use Rattle.ev_fabric.specs.declared.step.LocalEvent.{LocalEvent}
 use Rattle.ev_fabric.specs.declared.step.Step.{Step}
 use Rattle.ev_fabric.specs.declared.step.Step.TheVariants.{Local, Announce, Deliver, Restart}
 use Rattle.ev_fabric.specs.Fabric.{Fabric, IsEdge, nth}
 use Rattle.ev_fabric.specs.Local.{event_of}
-use Rattle.ev_fabric.specs.Steps.{IsRefused, StepsAt, in_life, OpensAnew, RestartsAt, FabricSteps}
+use Rattle.ev_fabric.specs.Steps.{IsRefused, StepsAt, in_incarnation, OpensAnew, RestartsAt, FabricSteps}
 use Rattle.ev_fabric.specs.Sound.{update_of, IsSound}
 use Rattle.ev_fabric.specs.Agreed.{Advertises}
 use Rattle.ev_fabric.specs.Station.{is_of, AgreesOn, StationComes, RestartsElsewhere, LeavesStation, RunsBeside}
@@ -42,10 +42,10 @@ use Rattle.ev_fabric.proofs.Stations.{about_station, station_one, station_owner}
 use Rattle.ev_fabric.proofs.Places.{set_cases, set_same, set_other}
 use Rattle.ev_fabric.proofs.Events.{local_talks}
 use Rattle.ev_fabric.proofs.Fabrics.{step_sound}
-use Rattle.ev_fabric.proofs.RestingEdge.{heard, news_stay}
-use Rattle.ev_fabric.proofs.RestingGood.{quieter}
-use Rattle.ev_fabric.proofs.RestingMoves.{Kept, Move, Stays, Tells, Takes, minus, moved, own_pending, sound_kept}
-use Rattle.ev_fabric.proofs.RestingLearning.{LearnsIt, learns_anew}
+use Rattle.ev_fabric.proofs.ConvergingEdge.{heard, news_stay}
+use Rattle.ev_fabric.proofs.ConvergingGood.{quieter}
+use Rattle.ev_fabric.proofs.ConvergingMoves.{Kept, Move, Stays, Tells, Takes, minus, moved, own_pending, sound_kept}
+use Rattle.ev_fabric.proofs.ConvergingLearning.{LearnsIt, learns_anew}
 use Rattle.ev_fabric.proofs.StationStages.{filter_none, filter_push, filter_past, no_push, waiting, marked_first}
 use Rattle.ev_fabric.proofs.StationStages.{SameOf, same_own, left_same, floods_same, silent_quiet, heard_other, IsTo}
 use Rattle.ev_fabric.proofs.StationStages.{IsFrom, IsAside, to_same, from_same, aside_same, to_push, from_push}
@@ -75,11 +75,11 @@ pub record StageOf (base extra : List Fields) (i j : ℕ) (s : Station) (o : ℕ
   pub grown : updates_on s pool ≡ base ++ extra
   pub to : Edge
   pub at_to : At edges j to
-  pub is_to : IsTo pool extra s u there to.claims.voice
+  pub is_to : IsTo pool extra s u there to.routes.speaker
   pub from : Edge
   pub at_from : At edges i from
-  pub is_from : IsFrom pool extra s o here says from.claims.voice
-  pub asides : (x : ℕ) (c : Edge) → x ≢ i → x ≢ j → At edges x c → IsAside pool s c.claims.voice
+  pub is_from : IsFrom pool extra s o here says from.routes.speaker
+  pub asides : (x : ℕ) (c : Edge) → x ≢ i → x ≢ j → At edges x c → IsAside pool s c.routes.speaker
 
 -- the four stages, one after another
 pub data Stage (base : List Fields) (i j : ℕ) (s : Station) (o : ℕ) (u : Fields) (pool : List Fields)
@@ -98,14 +98,15 @@ module _ (base : List Fields) (i j : ℕ) (s : Station) (o : ℕ) (u : Fields) (
       {pool pool' : List Fields} {edges : List Edge} (x : ℕ) (a b : Edge)
       → StageOf base extra i j s o u here there says pool edges → At edges x a
       → updates_on s pool' ≡ base ++ extra'
-      → (x ≡ j → IsTo pool extra s u there a.claims.voice → IsTo pool' extra' s u there' b.claims.voice)
-      → (x ≢ j → (c : Edge) → At edges j c → IsTo pool extra s u there c.claims.voice
-      → IsTo pool' extra' s u there' c.claims.voice)
-      → (x ≡ i → IsFrom pool extra s o here says a.claims.voice → IsFrom pool' extra' s o here' says' b.claims.voice)
-      → (x ≢ i → (c : Edge) → At edges i c → IsFrom pool extra s o here says c.claims.voice
-      → IsFrom pool' extra' s o here' says' c.claims.voice)
-      → (x ≢ i → x ≢ j → IsAside pool s a.claims.voice → IsAside pool' s b.claims.voice)
-      → ((y : ℕ) (c : Edge) → y ≢ x → At edges y c → IsAside pool s c.claims.voice → IsAside pool' s c.claims.voice)
+      → (x ≡ j → IsTo pool extra s u there a.routes.speaker → IsTo pool' extra' s u there' b.routes.speaker)
+      → (x ≢ j → (c : Edge) → At edges j c → IsTo pool extra s u there c.routes.speaker
+      → IsTo pool' extra' s u there' c.routes.speaker)
+      → (x ≡ i → IsFrom pool extra s o here says a.routes.speaker
+      → IsFrom pool' extra' s o here' says' b.routes.speaker)
+      → (x ≢ i → (c : Edge) → At edges i c → IsFrom pool extra s o here says c.routes.speaker
+      → IsFrom pool' extra' s o here' says' c.routes.speaker)
+      → (x ≢ i → x ≢ j → IsAside pool s a.routes.speaker → IsAside pool' s b.routes.speaker)
+      → ((y : ℕ) (c : Edge) → y ≢ x → At edges y c → IsAside pool s c.routes.speaker → IsAside pool' s c.routes.speaker)
       → StageOf base extra' i j s o u here' there' says' pool' (slice_set edges x b)
   stage_set {extra} {extra'} {here} {here'} {there} {there'} {says} {says'} {pool} {pool'} {edges} x a b g at grown to_b
       to_c from_b from_c aside_b aside_c = record {
@@ -116,33 +117,33 @@ module _ (base : List Fields) (i j : ℕ) (s : Station) (o : ℕ) (u : Fields) (
         from = from.0;
         at_from = from.1;
         is_from = from.2;
-        asides = λ y c ne_i ne_j at_c. elim (set_cases edges x b y c at_c) as (λ _. IsAside pool' s c.claims.voice) [
-          | inl p ↦ subst (λ (e : Edge). IsAside pool' s e.claims.voice) (sym p.1)
+        asides = λ y c ne_i ne_j at_c. elim (set_cases edges x b y c at_c) as (λ _. IsAside pool' s c.routes.speaker) [
+          | inl p ↦ subst (λ (e : Edge). IsAside pool' s e.routes.speaker) (sym p.1)
               (aside_b (λ q. ne_i (p.0 ∙ q)) (λ q. ne_j (p.0 ∙ q))
               (g.asides x a (λ q. ne_i (p.0 ∙ q)) (λ q. ne_j (p.0 ∙ q)) at))
           | inr p ↦ aside_c y c p.0 p.1 (g.asides y c ne_i ne_j p.1)
         ];
       }
     where
-      to : (c : Edge) × At (slice_set edges x b) j c × IsTo pool' extra' s u there' c.claims.voice
+      to : (c : Edge) × At (slice_set edges x b) j c × IsTo pool' extra' s u there' c.routes.speaker
       to = elim (cases_eq x j) as (λ _. (c : Edge) × At (slice_set edges x b) j c
-          × IsTo pool' extra' s u there' c.claims.voice) [
+          × IsTo pool' extra' s u there' c.routes.speaker) [
             | inl p ↦ (
               b,
               subst (λ n. At (slice_set edges x b) n b) p (set_same edges x a b at),
-              to_b p (subst (λ (e : Edge). IsTo pool extra s u there e.claims.voice)
+              to_b p (subst (λ (e : Edge). IsTo pool extra s u there e.routes.speaker)
                   (one_edge edges x j a g.to p at g.at_to) g.is_to),
             )
             | inr ne ↦ (g.to, set_other edges x b j g.to (λ q. ne (sym q)) g.at_to, to_c ne g.to g.at_to g.is_to)
           ]
 
-      from : (c : Edge) × At (slice_set edges x b) i c × IsFrom pool' extra' s o here' says' c.claims.voice
+      from : (c : Edge) × At (slice_set edges x b) i c × IsFrom pool' extra' s o here' says' c.routes.speaker
       from = elim (cases_eq x i) as (λ _. (c : Edge) × At (slice_set edges x b) i c
-          × IsFrom pool' extra' s o here' says' c.claims.voice) [
+          × IsFrom pool' extra' s o here' says' c.routes.speaker) [
             | inl p ↦ (
               b,
               subst (λ n. At (slice_set edges x b) n b) p (set_same edges x a b at),
-              from_b p (subst (λ (e : Edge). IsFrom pool extra s o here says e.claims.voice)
+              from_b p (subst (λ (e : Edge). IsFrom pool extra s o here says e.routes.speaker)
                   (one_edge edges x i a g.from p at g.at_from) g.is_from),
             )
             | inr ne ↦ (
@@ -155,16 +156,16 @@ module _ (base : List Fields) (i j : ℕ) (s : Station) (o : ℕ) (u : Fields) (
   -- ---- a step that leaves what an edge has of the station
   stage_same : {extra : List Fields} {here there : List Register} {says : Bool} {pool : List Fields} {edges : List Edge}
       (x : ℕ) (a b : Edge) → StageOf base extra i j s o u here there says pool edges → At edges x a
-      → SameOf s a.claims.voice b.claims.voice
+      → SameOf s a.routes.speaker b.routes.speaker
       → StageOf base extra i j s o u here there says pool (slice_set edges x b)
   stage_same {extra} {here} {there} {says} {pool} {edges} x a b g at same =
       stage_set x a b g at g.grown
-      (λ p t. to_same pool extra s u there a.claims.voice b.claims.voice same t) (λ ne c at_c t. t)
-      (λ p t. from_same pool extra s o here says a.claims.voice b.claims.voice same t) (λ ne c at_c t. t)
-      (λ ne_i ne_j t. aside_same pool s a.claims.voice b.claims.voice same t) (λ y c ne at_c t. t)
+      (λ p t. to_same pool extra s u there a.routes.speaker b.routes.speaker same t) (λ ne c at_c t. t)
+      (λ p t. from_same pool extra s o here says a.routes.speaker b.routes.speaker same t) (λ ne c at_c t. t)
+      (λ ne_i ne_j t. aside_same pool s a.routes.speaker b.routes.speaker same t) (λ y c ne at_c t. t)
 
   stays_same : {pool : List Fields} {edges : List Edge} (x : ℕ) (a b : Edge) → At edges x a
-      → SameOf s a.claims.voice b.claims.voice → Stage base i j s o u pool edges
+      → SameOf s a.routes.speaker b.routes.speaker → Stage base i j s o u pool edges
       → Stage base i j s o u pool (slice_set edges x b)
   stays_same x a b at same (AtFirst g) = AtFirst (stage_same x a b g at same)
   stays_same x a b at same (AtTold g) = AtTold (stage_same x a b g at same)
@@ -174,14 +175,14 @@ module _ (base : List Fields) (i j : ℕ) (s : Station) (o : ℕ) (u : Fields) (
   -- ---- another edge than the two changes, and says nothing of the station
   stage_aside : {extra : List Fields} {here there : List Register} {says : Bool} {pool : List Fields}
       {edges : List Edge} (x : ℕ) (a b : Edge) → x ≢ i → x ≢ j → StageOf base extra i j s o u here there says pool edges
-      → At edges x a → IsAside pool s b.claims.voice
+      → At edges x a → IsAside pool s b.routes.speaker
       → StageOf base extra i j s o u here there says pool (slice_set edges x b)
   stage_aside x a b ne_i ne_j g at quiet =
       stage_set x a b g at g.grown (λ p t. absurd (ne_j p)) (λ ne c at_c t. t) (λ p t. absurd (ne_i p))
       (λ ne c at_c t. t) (λ p q t. quiet) (λ y c ne at_c t. t)
 
   stays_aside : {pool : List Fields} {edges : List Edge} (x : ℕ) (a b : Edge) → x ≢ i → x ≢ j → At edges x a
-      → IsAside pool s b.claims.voice → Stage base i j s o u pool edges
+      → IsAside pool s b.routes.speaker → Stage base i j s o u pool edges
       → Stage base i j s o u pool (slice_set edges x b)
   stays_aside x a b ne_i ne_j at quiet (AtFirst g) = AtFirst (stage_aside x a b ne_i ne_j g at quiet)
   stays_aside x a b ne_i ne_j at quiet (AtTold g) = AtTold (stage_aside x a b ne_i ne_j g at quiet)
@@ -196,7 +197,7 @@ module _ (base : List Fields) (i j : ℕ) (s : Station) (o : ℕ) (u : Fields) (
   News extra = (w : Fields) → Contains extra w → (w ≡ u) ⊎ (advert_in w.value.content ≡ None)
 
   abbrev took : Edge → Fields → Edge
-  took a w = record a { claims = heard a.claims w }
+  took a w = record a { routes = heard a.routes w }
 
   -- the stage afterwards: the same, or the first edge withdraws the station
   abbrev Taken : List Fields → List Register → List Register → Bool → List Fields → List Edge → Type 0
@@ -208,75 +209,77 @@ module _ (base : List Fields) (i j : ℕ) (s : Station) (o : ℕ) (u : Fields) (
   stage_takes : {extra : List Fields} {here there : List Register} {says : Bool} {pool : List Fields}
       {edges : List Edge} (x : ℕ) (a : Edge) (w : Fields)
       → StageOf base extra i j s o u here there says pool edges → News extra → At edges x a → Contains pool w
-      → is_of s w.register ≡ true → Hears a.claims w
+      → is_of s w.register ≡ true → Hears a.routes w
       → ((c d : Edge) → At edges j c → At edges i d → address_of c ≢ address_of d)
       → Taken extra here there says pool (slice_set edges x (took a w))
   stage_takes {extra} {here} {there} {says} {pool} {edges} x a w g news at in' of h differ =
       elim (cases_eq x i) as (λ _. Taken extra here there says pool after) [
         | inl p ↦ elim ((is_from p).known w in' of) as (λ _. Taken extra here there says pool after) [
-          | inl old ↦ inl (first p (from_grows pool extra s o here says a.claims w h (idle_grows a.claims w h (inl old))
+          | inl old ↦ inl (first p (from_grows pool extra s o here says a.routes w h (idle_grows a.routes w h (inl old))
               (is_from p)))
           | inr new ↦ elim (news w new) as (λ _. Taken extra here there says pool after) [
-            | inl same ↦ elim (from_hears pool extra s o here says a.claims w of (foreign p same) h
+            | inl same ↦ elim (from_hears pool extra s o here says a.routes w of (foreign p same) h
                 (is_from p)) as (λ _.
                 Taken extra here there says pool after) [
                   | inl t ↦ inl (first p t)
                   | inr t ↦ inr (subst (Contains extra) same new, t.0, λ none. first p (t.1 none))
                 ]
-            | inr none ↦ inl (first p (from_grows pool extra s o here says a.claims w h
-                (idle_grows a.claims w h (inr none))
+            | inr none ↦ inl (first p (from_grows pool extra s o here says a.routes w h
+                (idle_grows a.routes w h (inr none))
                 (is_from p)))
           ]
         ]
         | inr ne_i ↦ elim (cases_eq x j) as (λ _. Taken extra here there says pool after) [
           | inl p ↦ elim ((is_to p).known w in' of) as (λ _. Taken extra here there says pool after) [
-            | inl old ↦ inl (second p (to_grows pool extra s u there a.claims w some h
-                (idle_grows a.claims w h (inl old))
+            | inl old ↦ inl (second p (to_grows pool extra s u there a.routes w some h
+                (idle_grows a.routes w h (inl old))
                 (is_to p)))
             | inr new ↦ elim (news w new) as (λ _. Taken extra here there says pool after) [
-              | inl same ↦ inl (second p (to_grows pool extra s u there a.claims w some h
-                  (idle_grows a.claims w h (inl (said p same))) (is_to p)))
-              | inr none ↦ inl (second p (to_grows pool extra s u there a.claims w some h
-                  (idle_grows a.claims w h (inr none)) (is_to p)))
+              | inl same ↦ inl (second p (to_grows pool extra s u there a.routes w some h
+                  (idle_grows a.routes w h (inl (said p same))) (is_to p)))
+              | inr none ↦ inl (second p (to_grows pool extra s u there a.routes w some h
+                  (idle_grows a.routes w h (inr none)) (is_to p)))
             ]
           ]
           | inr ne_j ↦ inl (stage_aside x a (took a w) ne_i ne_j g at
-              (aside_hears pool s a.claims w in' of h (g.asides x a ne_i ne_j at)))
+              (aside_hears pool s a.routes w in' of h (g.asides x a ne_i ne_j at)))
         ]
       ]
     where
       after : List Edge
       after = slice_set edges x (took a w)
 
-      is_from : x ≡ i → IsFrom pool extra s o here says a.claims.voice
-      is_from p = subst (λ (e : Edge). IsFrom pool extra s o here says e.claims.voice)
+      is_from : x ≡ i → IsFrom pool extra s o here says a.routes.speaker
+      is_from p = subst (λ (e : Edge). IsFrom pool extra s o here says e.routes.speaker)
           (one_edge edges x i a g.from p at g.at_from) g.is_from
 
-      is_to : x ≡ j → IsTo pool extra s u there a.claims.voice
-      is_to p = subst (λ (e : Edge). IsTo pool extra s u there e.claims.voice) (one_edge edges x j a g.to p at g.at_to)
+      is_to : x ≡ j → IsTo pool extra s u there a.routes.speaker
+      is_to p = subst (λ (e : Edge). IsTo pool extra s u there e.routes.speaker)
+          (one_edge edges x j a g.to p at g.at_to)
           g.is_to
 
-      first : {here' : List Register} {says' : Bool} → x ≡ i → IsFrom pool extra s o here' says' (took a w).claims.voice
+      first : {here' : List Register} {says' : Bool} → x ≡ i → IsFrom pool extra s o here' says'
+          (took a w).routes.speaker
           → StageOf base extra i j s o u here' there says' pool after
       first p t = stage_set x a (took a w) g at g.grown (λ q _. absurd (apart (sym p ∙ q))) (λ ne c at_c k. k)
           (λ q _. t) (λ ne. absurd (ne p)) (λ ne. absurd (ne p)) (λ y c ne at_c k. k)
 
-      second : x ≡ j → IsTo pool extra s u there (took a w).claims.voice
+      second : x ≡ j → IsTo pool extra s u there (took a w).routes.speaker
           → StageOf base extra i j s o u here there says pool after
       second p t = stage_set x a (took a w) g at g.grown (λ q _. t) (λ ne. absurd (ne p))
           (λ q _. absurd (apart (sym q ∙ p))) (λ ne c at_c k. k) (λ ne_i ne_j. absurd (ne_j p)) (λ y c ne at_c k. k)
 
-      foreign : x ≡ i → w ≡ u → w.register.originator ≢ a.claims.voice.address
+      foreign : x ≡ i → w ≡ u → w.register.originator ≢ a.routes.speaker.address
       foreign p same mine = differ g.to a g.at_to (subst (λ n. At edges n a) p at)
           (ap (λ (r : Register). r.originator) g.is_to.register ∙ ap (λ (y : Fields). y.register.originator) (sym same)
           ∙ mine)
 
-      said : x ≡ j → w ≡ u → is_newest a.claims.voice w ≡ false
+      said : x ≡ j → w ≡ u → is_newest a.routes.speaker w ≡ false
       said p same =
           let t = is_to p in
           let has : value_at (table_of a) u.register ≡ Some u.value = ap (value_at (table_of a)) (sym t.register)
           ∙ t.says in
-          subst (λ (y : Fields). is_newest a.claims.voice y ≡ false) (sym same) (ap (λ v. is_news v u.value) has
+          subst (λ (y : Fields). is_newest a.routes.speaker y ≡ false) (sym same) (ap (λ v. is_news v u.value) has
           ∙ not_newer_itself u.value)
 
   no_update : {w : Fields} → Contains [] w → ⊥
@@ -295,7 +298,7 @@ module _ (base : List Fields) (i j : ℕ) (s : Station) (o : ℕ) (u : Fields) (
   two_news v none w (suc (suc n), lt, is) = absurd (omega (arith, lt))
 
   takes_stage : {pool : List Fields} {edges : List Edge} (x : ℕ) (a : Edge) (w : Fields) → At edges x a
-      → Contains pool w → is_of s w.register ≡ true → Hears a.claims w
+      → Contains pool w → is_of s w.register ≡ true → Hears a.routes w
       → ((c d : Edge) → At edges j c → At edges i d → address_of c ≢ address_of d) → Stage base i j s o u pool edges
       → Stage base i j s o u pool (slice_set edges x (took a w))
   takes_stage {pool} {edges} x a w at in' of h differ (AtFirst g) =
@@ -327,16 +330,16 @@ module _ (base : List Fields) (i j : ℕ) (s : Station) (o : ℕ) (u : Fields) (
 
   -- the pool gets an update of the register that waits first at the edge a
   module _ (pool : List Fields) (edges : List Edge) (x : ℕ) (a : Edge) (r : Register) (rs : List Register) (v : Value)
-      (at : At edges x a) (pend : a.claims.voice.pending ≡ r ∷ rs) (is : value_at (table_of a) r ≡ Some v)
+      (at : At edges x a) (pend : a.routes.speaker.pending ≡ r ∷ rs) (is : value_at (table_of a) r ≡ Some v)
       (mine : r.originator ≡ address_of a) (others : (y : ℕ) (c : Edge) → y ≢ x → At edges y c
       → address_of a ≢ address_of c) where
     abbrev hushed : Edge
-    hushed = record a { claims = quieter a.claims rs }
+    hushed = record a { routes = quieter a.routes rs }
 
     abbrev left : List Register
     left = filter (is_of s) rs
 
-    waits_first : waiting s a.claims.voice ≡ cond (is_of s r) (r ∷ left) left
+    waits_first : waiting s a.routes.speaker ≡ cond (is_of s r) (r ∷ left) left
     waits_first = ap (filter (is_of s)) pend
 
     abbrev grew : List Fields
@@ -352,15 +355,15 @@ module _ (base : List Fields) (i j : ℕ) (s : Station) (o : ℕ) (u : Fields) (
     tells_other {extra} {here} {there} {says} other g =
         stage_set x a hushed g at (filter_past (λ (y : Fields). is_of s y.register) pool (update_of r v) other
         ∙ g.grown)
-        (λ p t. to_push pool extra extra s u there hushed.claims.voice (update_of r v) never same
-        (to_same pool extra s u there a.claims.voice hushed.claims.voice kept t))
-        (λ ne c at_c t. to_push pool extra extra s u there c.claims.voice (update_of r v) never same t)
-        (λ p t. from_push pool extra extra s o here says hushed.claims.voice (update_of r v) never same
-        (from_same pool extra s o here says a.claims.voice hushed.claims.voice kept t))
-        (λ ne c at_c t. from_push pool extra extra s o here says c.claims.voice (update_of r v) never same t)
-        (λ ne_i ne_j t. aside_push pool s hushed.claims.voice (update_of r v) (λ of. absurd (not_both of other))
-        (aside_same pool s a.claims.voice hushed.claims.voice kept t))
-        (λ y c ne at_c t. aside_push pool s c.claims.voice (update_of r v) (λ of. absurd (not_both of other)) t)
+        (λ p t. to_push pool extra extra s u there hushed.routes.speaker (update_of r v) never same
+        (to_same pool extra s u there a.routes.speaker hushed.routes.speaker kept t))
+        (λ ne c at_c t. to_push pool extra extra s u there c.routes.speaker (update_of r v) never same t)
+        (λ p t. from_push pool extra extra s o here says hushed.routes.speaker (update_of r v) never same
+        (from_same pool extra s o here says a.routes.speaker hushed.routes.speaker kept t))
+        (λ ne c at_c t. from_push pool extra extra s o here says c.routes.speaker (update_of r v) never same t)
+        (λ ne_i ne_j t. aside_push pool s hushed.routes.speaker (update_of r v) (λ of. absurd (not_both of other))
+        (aside_same pool s a.routes.speaker hushed.routes.speaker kept t))
+        (λ y c ne at_c t. aside_push pool s c.routes.speaker (update_of r v) (λ of. absurd (not_both of other)) t)
       where
         never : is_of s r ≡ true → Contains extra (update_of r v)
         never of = absurd (not_both of other)
@@ -368,7 +371,7 @@ module _ (base : List Fields) (i j : ℕ) (s : Station) (o : ℕ) (u : Fields) (
         same : (z : Fields) → Contains extra z → Contains extra z
         same z in' = in'
 
-        kept : SameOf s a.claims.voice hushed.claims.voice
+        kept : SameOf s a.routes.speaker hushed.routes.speaker
         kept = record {
           address = refl;
           incarnation = refl;
@@ -378,10 +381,10 @@ module _ (base : List Fields) (i j : ℕ) (s : Station) (o : ℕ) (u : Fields) (
 
     -- a register of the station: it waits at one of the two edges
     module _ (of : is_of s r ≡ true) where
-      waits_mine : waiting s a.claims.voice ≡ r ∷ left
+      waits_mine : waiting s a.routes.speaker ≡ r ∷ left
       waits_mine = waits_first ∙ ap (λ b. cond b (r ∷ left) left) of
 
-      waits_not : waiting s a.claims.voice ≡ [] → ⊥
+      waits_not : waiting s a.routes.speaker ≡ [] → ⊥
       waits_not none = let bad : [] ≡ r ∷ left = sym none ∙ waits_mine in cc
 
       grown_by : (extra : List Fields) → updates_on s pool ≡ base ++ extra
@@ -389,9 +392,9 @@ module _ (base : List Fields) (i j : ℕ) (s : Station) (o : ℕ) (u : Fields) (
       grown_by extra grown = filter_push (λ (y : Fields). is_of s y.register) pool (update_of r v) of
           ∙ ap (λ l. l ++ update_of r v ∷ []) grown ∙ push_after base extra (update_of r v)
 
-      aside_still : (y : ℕ) (c : Edge) → y ≢ x → At edges y c → IsAside pool s c.claims.voice
-          → IsAside grew s c.claims.voice
-      aside_still y c ne at_c t = aside_push pool s c.claims.voice (update_of r v)
+      aside_still : (y : ℕ) (c : Edge) → y ≢ x → At edges y c → IsAside pool s c.routes.speaker
+          → IsAside grew s c.routes.speaker
+      aside_still y c ne at_c t = aside_push pool s c.routes.speaker (update_of r v)
           (λ _ names. others y c ne at_c (sym mine ∙ names)) t
 
       tells_to : {extra : List Fields} {here there : List Register} {says : Bool} → x ≡ j
@@ -399,12 +402,12 @@ module _ (base : List Fields) (i j : ℕ) (s : Station) (o : ℕ) (u : Fields) (
           → StageOf base (extra ++ update_of r v ∷ []) i j s o u here left says grew after
       tells_to {extra} {here} {there} {says} p g =
           stage_set x a hushed g at (grown_by extra g.grown)
-          (λ q t. to_push pool extra (extra ++ update_of r v ∷ []) s u left hushed.claims.voice (update_of r v)
+          (λ q t. to_push pool extra (extra ++ update_of r v ∷ []) s u left hushed.routes.speaker (update_of r v)
           (λ _. Contains-push extra (update_of r v))
           (λ z in'. Contains-append_left extra (update_of r v ∷ []) z in')
           (record { register = t.register; says = t.says; waits = refl; known = t.known }))
           (λ ne. absurd (ne p)) (λ q. absurd (apart (sym q ∙ p)))
-          (λ ne c at_c t. from_push pool extra (extra ++ update_of r v ∷ []) s o here says c.claims.voice
+          (λ ne c at_c t. from_push pool extra (extra ++ update_of r v ∷ []) s o here says c.routes.speaker
           (update_of r v) (λ _. Contains-push extra (update_of r v))
           (λ z in'. Contains-append_left extra (update_of r v ∷ []) z in') t)
           (λ ne_i ne_j. absurd (ne_j p)) aside_still
@@ -415,10 +418,10 @@ module _ (base : List Fields) (i j : ℕ) (s : Station) (o : ℕ) (u : Fields) (
       tells_from {extra} {here} {there} {says} p g =
           stage_set x a hushed g at (grown_by extra g.grown)
           (λ q. absurd (apart (sym p ∙ q)))
-          (λ ne c at_c t. to_push pool extra (extra ++ update_of r v ∷ []) s u there c.claims.voice (update_of r v)
+          (λ ne c at_c t. to_push pool extra (extra ++ update_of r v ∷ []) s u there c.routes.speaker (update_of r v)
           (λ _. Contains-push extra (update_of r v))
           (λ z in'. Contains-append_left extra (update_of r v ∷ []) z in') t)
-          (λ q t. from_push pool extra (extra ++ update_of r v ∷ []) s o left says hushed.claims.voice (update_of r v)
+          (λ q t. from_push pool extra (extra ++ update_of r v ∷ []) s o left says hushed.routes.speaker (update_of r v)
           (λ _. Contains-push extra (update_of r v))
           (λ z in'. Contains-append_left extra (update_of r v ∷ []) z in')
           (record { name = t.name; said = t.said; waits = refl; known = t.known }))
@@ -438,13 +441,13 @@ module _ (base : List Fields) (i j : ℕ) (s : Station) (o : ℕ) (u : Fields) (
       to_waits : {extra : List Fields} {here there : List Register} {says : Bool} → x ≡ j
           → StageOf base extra i j s o u here there says pool edges → r ∷ left ≡ there
       to_waits {extra} {here} {there} {says} p g = sym waits_mine
-          ∙ subst (λ (e : Edge). waiting s e.claims.voice ≡ there) (one_edge edges x j a g.to p at g.at_to)
+          ∙ subst (λ (e : Edge). waiting s e.routes.speaker ≡ there) (one_edge edges x j a g.to p at g.at_to)
           g.is_to.waits
 
       from_waits : {extra : List Fields} {here there : List Register} {says : Bool} → x ≡ i
           → StageOf base extra i j s o u here there says pool edges → r ∷ left ≡ here
       from_waits {extra} {here} {there} {says} p g = sym waits_mine
-          ∙ subst (λ (e : Edge). waiting s e.claims.voice ≡ here) (one_edge edges x i a g.from p at g.at_from)
+          ∙ subst (λ (e : Edge). waiting s e.routes.speaker ≡ here) (one_edge edges x i a g.from p at g.at_from)
           g.is_from.waits
 
       no_first : {rest : List Register} → r ∷ rest ≡ [] → ⊥
@@ -497,10 +500,10 @@ module _ (base : List Fields) (i j : ℕ) (s : Station) (o : ℕ) (u : Fields) (
 
           withdrawn : x ≡ i → advert_in v.content ≡ None
           withdrawn p =
-              let t : IsFrom pool (u ∷ []) s o (register_of o (key_of s) ∷ []) false a.claims.voice =
-              subst (λ (e : Edge). IsFrom pool (u ∷ []) s o (register_of o (key_of s) ∷ []) false e.claims.voice)
+              let t : IsFrom pool (u ∷ []) s o (register_of o (key_of s) ∷ []) false a.routes.speaker =
+              subst (λ (e : Edge). IsFrom pool (u ∷ []) s o (register_of o (key_of s) ∷ []) false e.routes.speaker)
               (one_edge edges x i a g.from p at g.at_from) g.is_from in
-              let own_is : own_register a.claims.voice (key_of s) ≡ register_of o (key_of s) =
+              let own_is : own_register a.routes.speaker (key_of s) ≡ register_of o (key_of s) =
               ap (λ q. register_of q (key_of s)) t.name in
               none_in (advert_in v.content) (ap (λ q. is_some (advert_of q)) (sym is
               ∙ ap (value_at (table_of a)) (register p ∙ sym own_is)) ∙ t.said)
@@ -525,7 +528,7 @@ module _ (base : List Fields) (i j : ℕ) (s : Station) (o : ℕ) (u : Fields) (
   stage_moves old _ kept Stays stage = stage
   stage_moves old _ kept (Tells x a r rs v at pend is) stage =
       tells_stage old.pool old.edges x a r rs v at pend is
-      (own_pending a.claims.voice r rs (kept.keeps x a at).numbers pend)
+      (own_pending a.routes.speaker r rs (kept.keeps x a at).numbers pend)
       (λ y c ne at_c same. ne (kept.apart y x c a at_c at (sym same))) stage
   stage_moves old _ kept (Takes x a w at in' ok) stage = go (is_of s w.register) refl
     where
@@ -538,10 +541,11 @@ module _ (base : List Fields) (i j : ℕ) (s : Station) (o : ℕ) (u : Fields) (
         owns = (kept.keeps x a at).holds.owns;
         accepts = ok;
       }) differ stage
-      go false other = stays_same x a (took a w) at (heard_other s a.claims w other) stage
+      go false other = stays_same x a (took a w) at (heard_other s a.routes w other) stage
 
   -- an event from outside that leaves what the edge says of the station
-  local_stage : (old new : Fabric) (x : ℕ) (a : Edge) (event : LocalEvent) (result : Result Reply Refusal) → IsSound old
+  local_stage : (old new : Fabric) (x : ℕ) (a : Edge) (event : LocalEvent) (result : Result Reply FabricRefusal)
+      → IsSound old
       → IsEdge old x a → (h : StepsAt old (suc x) a (event_of event) result new)
       → ((b : Edge) → IsEdge new x b → SaysTheSame s a b)
       → Stage base i j s o u old.pool old.edges → Stage base i j s o u new.pool new.edges
@@ -550,8 +554,8 @@ module _ (base : List Fields) (i j : ℕ) (s : Station) (o : ℕ) (u : Fields) (
       ∙ (λ n. record old { edges = slice_set old.edges (minus x n) h.after }) in
       let here : IsEdge new x h.after = subst (λ f. IsEdge f x h.after) (sym whole)
       (set_same old.edges x a h.after at) in
-      let left = left_same s a.claims.voice h.after.claims.voice (local_talks a event h.answer h.after h.steps)
-      (sound.good x a at).claims.numbers (same h.after here) in
+      let left = left_same s a.routes.speaker h.after.routes.speaker (local_talks a event h.answer h.after h.steps)
+      (sound.good x a at).routes.numbers (same h.after here) in
       subst (λ (f : Fabric). Stage base i j s o u f.pool f.edges) (sym whole) (stays_same x a h.after at left stage)
 
   -- another edge restarts
@@ -561,36 +565,36 @@ module _ (base : List Fields) (i j : ℕ) (s : Station) (o : ℕ) (u : Fields) (
   opened_stage old new x a n reply sound at h elsewhere stage =
       let whole : new ≡ record old {
         edges = slice_set old.edges x h.after;
-        configs = slice_set old.configs x (in_life h.config n);
+        configs = slice_set old.configs x (in_incarnation h.config n);
       } =
       h.new_is ∙ (λ m. record old {
         edges = slice_set old.edges (minus x m) h.after;
-        configs = slice_set old.configs (minus x m) (in_life h.config n);
+        configs = slice_set old.configs (minus x m) (in_incarnation h.config n);
       }) in
       subst (λ (f : Fabric). Stage base i j s o u f.pool f.edges) (sym whole)
       (stays_aside x a h.after elsewhere.not_from elsewhere.not_to at quiet stage)
     where
       config : EdgeConfig
-      config = in_life h.config n
+      config = in_incarnation h.config n
 
-      start : Voice
+      start : Speaker
       start = silent config.address config.incarnation config.originators.items
 
-      same : SameOf s start h.after.claims.voice
-      same = subst (SameOf s start) (sym h.opened.claims.voice) (floods_same s start h.after.claims.vnis)
+      same : SameOf s start h.after.routes.speaker
+      same = subst (SameOf s start) (sym h.opened.routes.speaker) (floods_same s start h.after.routes.vnis)
 
       address : address_of h.after ≡ address_of a
       address = same.address ∙ sym (sound.configs x h.config a h.config_is at).address
 
-      quiet : IsAside old.pool s h.after.claims.voice
+      quiet : IsAside old.pool s h.after.routes.speaker
       quiet = record {
-        quiet = ap advert_of (same_own s start h.after.claims.voice same)
+        quiet = ap advert_of (same_own s start h.after.routes.speaker same)
             ∙ silent_quiet s config.address config.incarnation config.originators.items;
         waits = same.waits;
         away = λ w in' of mine. inr (elsewhere.never a at w in' (mine ∙ address) of);
       }
 
-  restart_stage : (old new : Fabric) (x : ℕ) (a : Edge) (n : ℕ) (result : Result Reply Refusal) → IsSound old
+  restart_stage : (old new : Fabric) (x : ℕ) (a : Edge) (n : ℕ) (result : Result Reply FabricRefusal) → IsSound old
       → IsEdge old x a → RestartsAt old (suc x) a n result new → RestartsElsewhere i j s old x
       → Stage base i j s o u old.pool old.edges → Stage base i j s o u new.pool new.edges
   restart_stage old new x a n (Ok reply) sound at h elsewhere stage =
@@ -598,7 +602,7 @@ module _ (base : List Fields) (i j : ℕ) (s : Station) (o : ℕ) (u : Fields) (
   restart_stage old new x a n (Err why) sound at h elsewhere stage =
       subst (λ (f : Fabric). Stage base i j s o u f.pool f.edges) (sym h.1) stage
 
-  step_stage : (old new : Fabric) (step : Step) (result : Result Reply Refusal) → IsSound old
+  step_stage : (old new : Fabric) (step : Step) (result : Result Reply FabricRefusal) → IsSound old
       → FabricSteps old step result new → LeavesStation i j s old step new → Stage base i j s o u old.pool old.edges
       → Stage base i j s o u new.pool new.edges
   step_stage old new (Local e event) result sound h leaves stage = go e (nth old.edges e) refl h leaves
@@ -640,16 +644,16 @@ module _ (base : List Fields) (i j : ℕ) (s : Station) (o : ℕ) (u : Fields) (
 
 -- what an edge agrees on it has
 pub agreed_known : (f : Fabric) (s : Station) → AgreesOn f s → (i : ℕ) (a : Edge) (u : Fields) → IsEdge f i a
-    → Contains f.pool u → is_of s u.register ≡ true → is_newest a.claims.voice u ≡ false
+    → Contains f.pool u → is_of s u.register ≡ true → is_newest a.routes.speaker u ≡ false
 agreed_known f s agree i a u at in' of = let v = agree.arrived i a u at of in' in ap (λ o. is_news o u.value) v.1 ∙ v.2
 
 pub agreed_waits : (f : Fabric) (s : Station) → AgreesOn f s → (i : ℕ) (a : Edge) → IsEdge f i a
-    → waiting s a.claims.voice ≡ []
-agreed_waits f s agree i a at = filter_none (is_of s) a.claims.voice.pending (λ r in' of. agree.quiet i a r at of in')
+    → waiting s a.routes.speaker ≡ []
+agreed_waits f s agree i a at = filter_none (is_of s) a.routes.speaker.pending (λ r in' of. agree.quiet i a r at of in')
 
 -- a station that is said leaves what was no news
-pub said_news : (e : Voice) (k : Key) (c : Content) → KeepsNumbers e → (u : Fields) → is_newest e u ≡ false
-    → is_newest (after_saying e k c) u ≡ false
+pub said_news : (e : Speaker) (k : Key) (c : Content) → KeepsNumbers e → (u : Fields) → is_newest e u ≡ false
+    → is_newest (after_originating e k c) u ≡ false
 said_news e k c h u old = ap (λ t. is_news (value_at t u.register) u.value) (sym (said_joins e k c h))
     ∙ news_stay e.table (record { register = own_register e k; value = next_value e c }) u.register u.value old
 
@@ -668,8 +672,8 @@ begins old i j s new sound m = go (slice_get old.edges j) refl m.step
     apart same =
         let is : m.from ≡ m.to = one_edge old.edges j i m.to m.from (sym same) m.at_to m.at_from in
         let entry = learnt m.from s (sound.good i m.from m.at_from) m.had in
-        let some : entry_at m.to.claims.learned s ≡ Some entry.0 =
-        subst (λ (e : Edge). entry_at e.claims.learned s ≡ Some entry.0) is entry.1.learnt in
+        let some : entry_at m.to.routes.learned s ≡ Some entry.0 =
+        subst (λ (e : Edge). entry_at e.routes.learned s ≡ Some entry.0) is entry.1.learnt in
         let bad : None ≡ Some entry.0 = sym m.unknown ∙ some in
         cc
 
@@ -686,7 +690,7 @@ begins old i j s new sound m = go (slice_get old.edges j) refl m.step
         record {
           after = h.after;
           learns = learns_anew m.to s h.after m.unknown
-              (subst (λ (e : Edge). IsSome (entry_at e.claims.learned s)) after_is m.learnt) m.event h.answer
+              (subst (λ (e : Edge). IsSome (entry_at e.routes.learned s)) after_is m.learnt) m.event h.answer
               (subst (λ (e : Edge). Steps e (event_of m.event) h.answer h.after) (sym b_is) h.steps);
           is = whole;
           apart = apart;
@@ -699,7 +703,7 @@ module _ (old : Fabric) (i j : ℕ) (s : Station) (new : Fabric) (sound : IsSoun
   b = begins old i j s new sound m
 
   abbrev said : Value
-  said = next_value m.to.claims.voice b.learns.content
+  said = next_value m.to.routes.speaker b.learns.content
 
   abbrev pub u : Fields
   u = update_of (register_of (address_of m.to) (key_of s)) said
@@ -707,14 +711,15 @@ module _ (old : Fabric) (i j : ℕ) (s : Station) (new : Fabric) (sound : IsSoun
   abbrev pub base : List Fields
   base = updates_on s old.pool
 
-  quiet_aside : (x : ℕ) (c : Edge) → x ≢ i → IsEdge old x c → IsAside old.pool s c.claims.voice
+  quiet_aside : (x : ℕ) (c : Edge) → x ≢ i → IsEdge old x c → IsAside old.pool s c.routes.speaker
   quiet_aside x c ne at = record {
-    quiet = go (own_advert c.claims.voice (key_of s)) refl;
+    quiet = go (own_advert c.routes.speaker (key_of s)) refl;
     waits = agreed_waits old s m.agree x c at;
     away = λ w in' of mine. inl (agreed_known old s m.agree x c w at in' of);
   }
     where
-      go : (y : Option Advert) → own_advert c.claims.voice (key_of s) ≡ y → own_advert c.claims.voice (key_of s) ≡ None
+      go : (y : Option Advert) → own_advert c.routes.speaker (key_of s) ≡ y → own_advert c.routes.speaker (key_of s)
+          ≡ None
       go None e = e
       go (Some y) e = absurd (ne (station_one old s sound m.agree x i c m.from at m.at_from (None, y, e) m.had))
 
@@ -725,14 +730,14 @@ module _ (old : Fabric) (i j : ℕ) (s : Station) (new : Fabric) (sound : IsSoun
         to = b.after;
         at_to = set_same old.edges j m.to b.after m.at_to;
         is_to = record {
-          register = ap (λ (e : Voice). own_register e (key_of s)) b.learns.voice;
-          says = ap (λ (e : Voice). own e (key_of s)) b.learns.voice
-              ∙ own_same m.to.claims.voice (key_of s) b.learns.content;
-          waits = ap (waiting s) b.learns.voice ∙ marked_first s m.to.claims.voice.pending
-              (own_register m.to.claims.voice (key_of s)) (agreed_waits old s m.agree j m.to m.at_to)
+          register = ap (λ (e : Speaker). own_register e (key_of s)) b.learns.speaker;
+          says = ap (λ (e : Speaker). own e (key_of s)) b.learns.speaker
+              ∙ own_same m.to.routes.speaker (key_of s) b.learns.content;
+          waits = ap (waiting s) b.learns.speaker ∙ marked_first s m.to.routes.speaker.pending
+              (own_register m.to.routes.speaker (key_of s)) (agreed_waits old s m.agree j m.to m.at_to)
               (about_station s None);
-          known = λ w in' of. inl (ap (λ (e : Voice). is_newest e w) b.learns.voice
-              ∙ said_news m.to.claims.voice (key_of s) b.learns.content (sound.good j m.to m.at_to).claims.numbers w
+          known = λ w in' of. inl (ap (λ (e : Speaker). is_newest e w) b.learns.speaker
+              ∙ said_news m.to.routes.speaker (key_of s) b.learns.content (sound.good j m.to m.at_to).routes.numbers w
               (agreed_known old s m.agree j m.to w m.at_to in' of));
         };
         from = m.from;
@@ -744,7 +749,7 @@ module _ (old : Fabric) (i j : ℕ) (s : Station) (new : Fabric) (sound : IsSoun
           known = λ w in' of. inl (agreed_known old s m.agree i m.from w m.at_from in' of);
         };
         asides = λ x c ne_i ne_j at. elim (set_cases old.edges j b.after x c at) as (λ _. IsAside old.pool s
-            c.claims.voice) [
+            c.routes.speaker) [
               | inl p ↦ absurd (ne_j p.0)
               | inr p ↦ quiet_aside x c ne_i p.1
             ];
@@ -762,7 +767,7 @@ some_is None is = cc
 
 -- what the edge of this stage says of the station
 pub to_advertises : (pool extra : List Fields) (s : Station) (u : Fields) (there : List Register) (c : Edge)
-    → IsSome (advert_in u.value.content) → IsTo pool extra s u there c.claims.voice → Advertises c s
+    → IsSome (advert_in u.value.content) → IsTo pool extra s u there c.routes.speaker → Advertises c s
 to_advertises pool extra s u there c some t = let x = some_in (advert_in u.value.content) some in
     (None, x.0, ap advert_of t.says ∙ x.1)
 
@@ -780,14 +785,14 @@ station_moves i j s old mid new steps sound m runs agree = go end.0
     end = runs_stage (updates_on s old.pool) i j s (address_of m.from) (u old i j s mid sound m) b.apart some steps mid
         new (step_sound old mid (Local (suc j) m.event) m.result m.step sound) runs (first_stage old i j s mid sound m)
 
-    waits_none : (x : ℕ) (c : Edge) (r : Register) → IsEdge new x c → waiting s c.claims.voice ≡ r ∷ [] → ⊥
+    waits_none : (x : ℕ) (c : Edge) (r : Register) → IsEdge new x c → waiting s c.routes.speaker ≡ r ∷ [] → ⊥
     waits_none x c r at is = let bad : [] ≡ r ∷ [] = sym (agreed_waits new s agree x c at) ∙ is in cc
 
     go : Stage (updates_on s old.pool) i j s (address_of m.from) (u old i j s mid sound m) new.pool new.edges
         → StationMoved old i s (address_of m.from) (address_of m.to) new
     go (AtFirst g) = absurd (waits_none j g.to _ g.at_to g.is_to.waits)
     go (AtTold g) =
-        let y = some_is (own_advert g.from.claims.voice (key_of s)) g.is_from.said in
+        let y = some_is (own_advert g.from.routes.speaker (key_of s)) g.is_from.said in
         absurd (b.apart (station_one new s end.1 agree i j g.from g.to g.at_from g.at_to (
           None,
           y.0,
@@ -810,8 +815,8 @@ station_moves i j s old mid new steps sound m runs agree = go end.0
       gone = λ c at says.
           let c_is = one_edge new.edges i i c g.from refl at g.at_from in
           let x = advert_bare c s (end.1.good i c at) says in
-          let none : is_some (own_advert c.claims.voice (key_of s)) ≡ false =
-          subst (λ (e : Edge). is_some (own_advert e.claims.voice (key_of s)) ≡ false) c_is g.is_from.said in
+          let none : is_some (own_advert c.routes.speaker (key_of s)) ≡ false =
+          subst (λ (e : Edge). is_some (own_advert e.routes.speaker (key_of s)) ≡ false) c_is g.is_from.said in
           let bad : false ≡ true = sym none ∙ ap is_some x.1 in
           cc;
     }

@@ -18,24 +18,24 @@ use Rattle.route_join.specs.Table.{value_at}
 use Rattle.route_join.specs.Owner.{advert_of}
 use Rattle.mac_arena.specs.declared.station.Station.{Station}
 use Rattle.ev_claims.specs.Pending.{marked}
-use Rattle.ev_claims.specs.Voice.{Voice, own_register, own_advert, silent, after_hearing}
-use Rattle.ev_claims.specs.Claims.{Claims, key_of}
+use Rattle.ev_claims.specs.Speaker.{Speaker, own_register, own_advert, silent, after_importing}
+use Rattle.ev_claims.specs.LocalRoutes.{LocalRoutes, key_of}
 use Rattle.ev_claims.proofs.Numbers.{own_same}
 use Rattle.ev_edge.specs.declared.config.EdgeConfig.{EdgeConfig}
 use Rattle.ev_edge.specs.declared.reply.Reply.{Reply}
 use Rattle.ev_edge.specs.Edge.{Edge, table_of, address_of}
-use Rattle.ev_fabric.specs.declared.refusal.Refusal.{Refusal}
-use Rattle.ev_fabric.specs.declared.refusal.Refusal.TheVariants.{NoSuchEdge}
+use Rattle.ev_fabric.specs.declared.refusal.FabricRefusal.{FabricRefusal}
+use Rattle.ev_fabric.specs.declared.refusal.FabricRefusal.TheVariants.{NoSuchEdge}
 use Rattle.ev_fabric.specs.declared.step.LocalEvent.{LocalEvent}
 use Rattle.ev_fabric.specs.declared.step.Step.{Step}
 use Rattle.ev_fabric.specs.declared.step.Step.TheVariants.{Local, Announce, Deliver, Restart}
 use Rattle.ev_fabric.specs.Fabric.{Fabric, IsEdge, nth}
 use Rattle.ev_fabric.specs.Local.{event_of}
-use Rattle.ev_fabric.specs.Steps.{IsRefused, StepsAt, in_life, OpensAnew, RestartsAt, FabricSteps}
+use Rattle.ev_fabric.specs.Steps.{IsRefused, StepsAt, in_incarnation, OpensAnew, RestartsAt, FabricSteps}
 use Rattle.ev_fabric.specs.Sound.{update_of, IsSound}
-use Rattle.ev_fabric.specs.RestEdge.{comes_back, IsLater}
+use Rattle.ev_fabric.specs.ConvergenceEdge.{comes_back, IsLater}
 use Rattle.ev_fabric.specs.Agreed.{AllAgree}
-use Rattle.ev_fabric.specs.Rest.{Rests, two_rounds, full_pool}
+use Rattle.ev_fabric.specs.Convergence.{Rests, two_rounds, full_pool}
 use Rattle.ev_fabric.specs.Station.{is_of, AgreesOn, SaysTheSame, NeverAdvertised, updates_on, IsLeftAlone}
 use Rattle.ev_fabric.specs.Station.{StationLasts, StationReached, unannounced_on, to_come_on, StationSettles}
 use Rattle.ev_fabric.proofs.Agreements.{none_pending}
@@ -44,16 +44,16 @@ use Rattle.ev_fabric.proofs.Places.{set_cases, set_same, push_length}
 use Rattle.ev_fabric.proofs.Events.{local_talks}
 use Rattle.ev_fabric.proofs.Fabrics.{step_sound, rests_sound}
 use Rattle.ev_fabric.proofs.Opened.{start_sound}
-use Rattle.ev_fabric.proofs.RestingSums.{sum_set, count_le, count_less, count_push, later_one}
-use Rattle.ev_fabric.proofs.RestingEdge.{comes, comes_when, Heard, Back, Lost, Kept as HeardKept, heard, hears}
-use Rattle.ev_fabric.proofs.RestingEdge.{heard_later, heard_has, comes_before, others_stay_away, known_stays_away}
-use Rattle.ev_fabric.proofs.RestingIdle.{known_hearing}
-use Rattle.ev_fabric.proofs.RestingGood.{quieter}
-use Rattle.ev_fabric.proofs.RestingMoves.{Kept, Move, Stays, Tells, Takes, minus, moved, own_pending, announced_away}
-use Rattle.ev_fabric.proofs.RestingMoves.{sound_kept}
-use Rattle.ev_fabric.proofs.RestingRounds.{IsReady, two_rounds_agree, enough_itself, may_rest, quiet_rounds}
-use Rattle.ev_fabric.proofs.RestingNumbers.{start_numbers}
-use Rattle.ev_fabric.proofs.RestingStages.{hear_cases}
+use Rattle.ev_fabric.proofs.ConvergingSums.{sum_set, count_le, count_less, count_push, later_one}
+use Rattle.ev_fabric.proofs.ConvergingEdge.{comes, comes_when, Heard, Back, Lost, Kept as HeardKept, heard, hears}
+use Rattle.ev_fabric.proofs.ConvergingEdge.{heard_later, heard_has, comes_before, others_stay_away, known_stays_away}
+use Rattle.ev_fabric.proofs.ConvergingIdle.{known_hearing}
+use Rattle.ev_fabric.proofs.ConvergingGood.{quieter}
+use Rattle.ev_fabric.proofs.ConvergingMoves.{Kept, Move, Stays, Tells, Takes, minus, moved, own_pending, announced_away}
+use Rattle.ev_fabric.proofs.ConvergingMoves.{sound_kept}
+use Rattle.ev_fabric.proofs.ConvergingRounds.{IsReady, two_rounds_agree, enough_itself, may_rest, quiet_rounds}
+use Rattle.ev_fabric.proofs.ConvergingNumbers.{start_numbers}
+use Rattle.ev_fabric.proofs.ConvergingStages.{hear_cases}
 use Rattle.ev_fabric.proofs.StationStages.{filter_has, filter_push, filter_past, waiting, SameOf, same_own, same_newest}
 use Rattle.ev_fabric.proofs.StationStages.{same_itself, left_same, floods_same, silent_quiet, heard_other, Hears}
 use Rattle.ev_fabric.proofs.StationStages.{loses_it}
@@ -66,15 +66,15 @@ not_both yes' no' = let bad : true ≡ false = sym yes' ∙ no' in cc
 
 -- the edge at one place has the same of the station, and the pool the same of it
 agrees_still : (s : Station) (old new : Fabric) (x : ℕ) (a b : Edge) → IsEdge old x a
-    → new.edges ≡ slice_set old.edges x b → SameOf s a.claims.voice b.claims.voice
+    → new.edges ≡ slice_set old.edges x b → SameOf s a.routes.speaker b.routes.speaker
     → ((u : Fields) → is_of s u.register ≡ true → Contains new.pool u → Contains old.pool u) → AgreesOn old s
     → AgreesOn new s
 agrees_still s old new x a b at edges same pool agree = record {
   quiet = λ y c r at_c of in'. elim (set_cases old.edges x b y c
       (subst (λ l. slice_get l y ≡ Some c) edges at_c)) as (λ _. ⊥) [
         | inl p ↦ none_pending (subst (λ l. Contains l r) (same.waits ∙ agreed_waits old s agree x a at)
-            (subst (λ (e : Edge). Contains (waiting s e.claims.voice) r) p.1
-            (filter_has (is_of s) c.claims.voice.pending r of in')))
+            (subst (λ (e : Edge). Contains (waiting s e.routes.speaker) r) p.1
+            (filter_has (is_of s) c.routes.speaker.pending r of in')))
         | inr p ↦ agree.quiet y c r p.1 of in'
       ];
   arrived = λ y c u at_c of in'. elim (set_cases old.edges x b y c
@@ -103,7 +103,7 @@ lasts_move s old _ kept (Tells x a r rs v at pend is) agree = (
 )
   where
     hushed : Edge
-    hushed = record a { claims = quieter a.claims rs }
+    hushed = record a { routes = quieter a.routes rs }
 
     next : Fabric
     next = record old { edges = slice_set old.edges x hushed; pool = old.pool ++ update_of r v ∷ [] }
@@ -116,7 +116,7 @@ lasts_move s old _ kept (Tells x a r rs v at pend is) agree = (
         go false e = e
         go true e = absurd (agree.quiet x a r at e (subst (λ l. Contains l r) (sym pend) (0, omega arith, refl)))
 
-    same : is_of s r ≡ false → filter (is_of s) rs ≡ filter (is_of s) a.claims.voice.pending
+    same : is_of s r ≡ false → filter (is_of s) rs ≡ filter (is_of s) a.routes.speaker.pending
     same e = sym (ap (filter (is_of s)) pend ∙ ap (λ b. cond b (r ∷ filter (is_of s) rs) (filter (is_of s) rs)) e)
 
     past : (u : Fields) → is_of s u.register ≡ true → Contains next.pool u → Contains old.pool u
@@ -131,32 +131,33 @@ lasts_move s old _ kept (Takes x a w at in' ok) agree = (
 )
   where
     took : Edge
-    took = record a { claims = heard a.claims w }
+    took = record a { routes = heard a.routes w }
 
-    go : (b : Bool) → is_of s w.register ≡ b → SameOf s a.claims.voice took.claims.voice
-    go false other = heard_other s a.claims w other
-    go true of = subst (λ (c : Claims). SameOf s a.claims.voice c.voice)
-        (sym (known_hearing a.claims w (kept.keeps x a at).holds.owns (agreed_known old s agree x a w at in' of)))
-        (same_itself s a.claims.voice)
+    go : (b : Bool) → is_of s w.register ≡ b → SameOf s a.routes.speaker took.routes.speaker
+    go false other = heard_other s a.routes w other
+    go true of = subst (λ (c : LocalRoutes). SameOf s a.routes.speaker c.speaker)
+        (sym (known_hearing a.routes w (kept.keeps x a at).holds.owns (agreed_known old s agree x a w at in' of)))
+        (same_itself s a.routes.speaker)
 
 -- an event from outside
-local_same : (s : Station) (old new : Fabric) (x : ℕ) (a : Edge) (event : LocalEvent) (result : Result Reply Refusal)
+local_same : (s : Station) (old new : Fabric) (x : ℕ) (a : Edge) (event : LocalEvent)
+    (result : Result Reply FabricRefusal)
     → IsSound old → IsEdge old x a → (h : StepsAt old (suc x) a (event_of event) result new)
     → ((b : Edge) → IsEdge new x b → SaysTheSame s a b)
-    → (new ≡ record old { edges = slice_set old.edges x h.after }) × SameOf s a.claims.voice h.after.claims.voice
+    → (new ≡ record old { edges = slice_set old.edges x h.after }) × SameOf s a.routes.speaker h.after.routes.speaker
 local_same s old new x a event result sound at h same =
     let whole : new ≡ record old { edges = slice_set old.edges x h.after } = h.new_is
     ∙ (λ n. record old { edges = slice_set old.edges (minus x n) h.after }) in
     let here : IsEdge new x h.after = subst (λ f. IsEdge f x h.after) (sym whole) (set_same old.edges x a h.after at) in (
       whole,
-      left_same s a.claims.voice h.after.claims.voice (local_talks a event h.answer h.after h.steps)
-          (sound.good x a at).claims.numbers (same h.after here),
+      left_same s a.routes.speaker h.after.routes.speaker (local_talks a event h.answer h.after h.steps)
+          (sound.good x a at).routes.numbers (same h.after here),
     )
 
 same_fabric : (s : Station) (old new : Fabric) → new ≡ old → AgreesOn old s → GoesOn s old new
 same_fabric s old new is agree = subst (λ f. GoesOn s old f) (sym is) (agree, refl)
 
-lasts_local : (s : Station) (old new : Fabric) (event : LocalEvent) (result : Result Reply Refusal) → IsSound old
+lasts_local : (s : Station) (old new : Fabric) (event : LocalEvent) (result : Result Reply FabricRefusal) → IsSound old
     → AgreesOn old s → (e : ℕ) (c : Option Edge) → nth old.edges e ≡ c
     → MatchOption c (IsRefused NoSuchEdge old result new) (λ a. StepsAt old e a (event_of event) result new)
     → ((x : ℕ) (a b : Edge) → e ≡ suc x → IsEdge old x a → IsEdge new x b → SaysTheSame s a b) → GoesOn s old new
@@ -221,7 +222,7 @@ both_true true true e = (refl, refl)
 both_true true false e = absurd cc
 both_true false y e = absurd cc
 
-abbrev back_on : Station → Voice → Fields → Bool
+abbrev back_on : Station → Speaker → Fields → Bool
 back_on s e u = is_of s u.register && comes_back e u
 
 marked_more : (s : Station) (rs : List Register) (r : Register)
@@ -237,7 +238,7 @@ marked_more s rs r = go (list_any (eq_by_cmp register_cmp r) rs)
     go true = omega arith
     go false = pick (is_of s r) refl
 
-advert_less : (s : Station) (e v : Voice) → IsLater e v
+advert_less : (s : Station) (e v : Speaker) → IsLater e v
     → one (is_some (own_advert v (key_of s))) ≤ one (is_some (own_advert e (key_of s)))
 advert_less s e v h = elim (h.fades (key_of s)) as (λ _. one (is_some (own_advert v (key_of s))) ≤ one
     (is_some (own_advert e (key_of s)))) [
@@ -246,67 +247,68 @@ advert_less s e v h = elim (h.fades (key_of s)) as (λ _. one (is_some (own_adve
           ap (λ (o : Option Advert). one (is_some o)) none in omega (arith, zero')
     ]
 
-back_before : (s : Station) (e v : Voice) → IsLater e v → (u : Fields) → back_on s v u ≡ true → back_on s e u ≡ true
+back_before : (s : Station) (e v : Speaker) → IsLater e v → (u : Fields) → back_on s v u ≡ true → back_on s e u ≡ true
 back_before s e v h u is = let t = both_true (is_of s u.register) (comes_back v u) is in let of = t.0 in
     let back = comes_before e v h u t.1 in rw (of, back) refl
 
 -- an update of the station is heard
-heard_pays_on : (s : Station) (pool : List Fields) (c : Claims) (w : Fields) → Hears c w → Contains pool w
-    → is_of s w.register ≡ true → unannounced_on s pool (heard c w).voice ≤ unannounced_on s pool c.voice
-heard_pays_on s pool c w h in' of = go (comes_back c.voice w) refl
+heard_pays_on : (s : Station) (pool : List Fields) (c : LocalRoutes) (w : Fields) → Hears c w → Contains pool w
+    → is_of s w.register ≡ true → unannounced_on s pool (heard c w).speaker ≤ unannounced_on s pool c.speaker
+heard_pays_on s pool c w h in' of = go (comes_back c.speaker w) refl
   where
-    later : IsLater c.voice (heard c w).voice
+    later : IsLater c.speaker (heard c w).speaker
     later = heard_later c w h.numbers h.accepts
 
-    fewer : count_by (back_on s (heard c w).voice) pool ≤ count_by (back_on s c.voice) pool
-    fewer = count_le (back_on s c.voice) (back_on s (heard c w).voice) pool
-        (back_before s c.voice (heard c w).voice later)
+    fewer : count_by (back_on s (heard c w).speaker) pool ≤ count_by (back_on s c.speaker) pool
+    fewer = count_le (back_on s c.speaker) (back_on s (heard c w).speaker) pool
+        (back_before s c.speaker (heard c w).speaker later)
 
-    marks : (d : Claims) → Heard c w d → comes_back c.voice w ≡ true
-        → length (waiting s d.voice) ≤ length (waiting s c.voice) + 1
-    marks _ (Back b) is = marked_more s c.voice.pending (own_register c.voice w.register.key)
-    marks _ (Lost st foreign lost) is = absurd (not_both is (others_stay_away c.voice w foreign))
+    marks : (d : LocalRoutes) → Heard c w d → comes_back c.speaker w ≡ true
+        → length (waiting s d.speaker) ≤ length (waiting s c.speaker) + 1
+    marks _ (Back b) is = marked_more s c.speaker.pending (own_register c.speaker w.register.key)
+    marks _ (Lost st foreign lost) is = absurd (not_both is (others_stay_away c.speaker w foreign))
     marks _ (HeardKept never) is = absurd (not_both is never)
 
     and_false : (x : Bool) → (x && false) ≡ false
     and_false true = refl
     and_false false = refl
 
-    go : (b : Bool) → comes_back c.voice w ≡ b → unannounced_on s pool (heard c w).voice ≤ unannounced_on s pool c.voice
+    go : (b : Bool) → comes_back c.speaker w ≡ b → unannounced_on s pool (heard c w).speaker
+        ≤ unannounced_on s pool c.speaker
     go true back =
-        let gone : back_on s (heard c w).voice w ≡ false =
-        ap (λ b. is_of s w.register && b) (known_stays_away (heard c w).voice w (heard_has c w h.numbers))
+        let gone : back_on s (heard c w).speaker w ≡ false =
+        ap (λ b. is_of s w.register && b) (known_stays_away (heard c w).speaker w (heard_has c w h.numbers))
         ∙ and_false (is_of s w.register) in
-        let counts : back_on s c.voice w ≡ true = rw (of, back) refl in
-        let less = count_less (back_on s c.voice) (back_on s (heard c w).voice) pool w
-        (back_before s c.voice (heard c w).voice later) in' counts gone in
+        let counts : back_on s c.speaker w ≡ true = rw (of, back) refl in
+        let less = count_less (back_on s c.speaker) (back_on s (heard c w).speaker) pool w
+        (back_before s c.speaker (heard c w).speaker later) in' counts gone in
         let more = marks (heard c w) (hears c w) back in
-        let adverts = advert_less s c.voice (heard c w).voice later in
+        let adverts = advert_less s c.speaker (heard c w).speaker later in
         omega (arith, less, more, adverts)
-    go false never = elim (hear_cases c w never) as (λ _. unannounced_on s pool (heard c w).voice ≤ unannounced_on s
-        pool c.voice) [
+    go false never = elim (hear_cases c w never) as (λ _. unannounced_on s pool (heard c w).speaker ≤ unannounced_on s
+        pool c.speaker) [
           | inl is ↦
-              let waits : length (waiting s (heard c w).voice) ≡ length (waiting s c.voice) =
-              ap (λ (d : Claims). length (waiting s d.voice)) is in
-              let adverts = advert_less s c.voice (heard c w).voice later in
+              let waits : length (waiting s (heard c w).speaker) ≡ length (waiting s c.speaker) =
+              ap (λ (d : LocalRoutes). length (waiting s d.speaker)) is in
+              let adverts = advert_less s c.speaker (heard c w).speaker later in
               let less = fewer in
               omega (arith, waits, adverts, less)
           | inr l ↦
               let it = loses_it s c w h of never l in
-              let said : one (is_some (own_advert c.voice (key_of s))) ≡ 1 = ap (λ b. one b) it.said in
-              let none : one (is_some (own_advert (heard c w).voice (key_of s))) ≡ 0 =
-              ap (λ (d : Claims). one (is_some (own_advert d.voice (key_of s)))) it.is
-              ∙ ap (λ o. one (is_some (advert_of o))) (own_same (after_hearing c.voice w) (key_of s) Withdrawn) in
-              let waits : length (waiting s (heard c w).voice)
-              ≡ length (filter (is_of s) (marked c.voice.pending (own_register c.voice (key_of s)))) =
-              ap (λ (d : Claims). length (waiting s d.voice)) it.is in
-              let more = marked_more s c.voice.pending (own_register c.voice (key_of s)) in
+              let said : one (is_some (own_advert c.speaker (key_of s))) ≡ 1 = ap (λ b. one b) it.said in
+              let none : one (is_some (own_advert (heard c w).speaker (key_of s))) ≡ 0 =
+              ap (λ (d : LocalRoutes). one (is_some (own_advert d.speaker (key_of s)))) it.is
+              ∙ ap (λ o. one (is_some (advert_of o))) (own_same (after_importing c.speaker w) (key_of s) Withdrawn) in
+              let waits : length (waiting s (heard c w).speaker)
+              ≡ length (filter (is_of s) (marked c.speaker.pending (own_register c.speaker (key_of s)))) =
+              ap (λ (d : LocalRoutes). length (waiting s d.speaker)) it.is in
+              let more = marked_more s c.speaker.pending (own_register c.speaker (key_of s)) in
               let less = fewer in
               omega (arith, said, none, waits, more, less)
         ]
 
 -- what stays the same
-same_pays : (s : Station) (pool : List Fields) (e v : Voice) → SameOf s e v
+same_pays : (s : Station) (pool : List Fields) (e v : Speaker) → SameOf s e v
     → unannounced_on s pool v ≤ unannounced_on s pool e
 same_pays s pool e v h =
     let waits : length (waiting s v) ≡ length (waiting s e) = ap length h.waits in
@@ -329,7 +331,7 @@ same_pays s pool e v h =
         rw (of, so) refl
 
 -- an update that isn't one's own, or is no news, leaves what may come back
-push_pays : (s : Station) (pool : List Fields) (e : Voice) (u : Fields) → comes_back e u ≡ false
+push_pays : (s : Station) (pool : List Fields) (e : Speaker) (u : Fields) → comes_back e u ≡ false
     → unannounced_on s (pool ++ u ∷ []) e ≤ unannounced_on s pool e
 push_pays s pool e u none = let same = count_push (back_on s e) pool u (ap (λ b. is_of s u.register && b) none
     ∙ and_false (is_of s u.register)) in omega (arith, same)
@@ -344,53 +346,53 @@ total s f = length (updates_on s f.pool) + to_come_on s f
 
 -- one edge becomes another
 becomes_total : (s : Station) (old : Fabric) (x : ℕ) (a b : Edge) → IsEdge old x a
-    → unannounced_on s old.pool b.claims.voice ≤ unannounced_on s old.pool a.claims.voice
+    → unannounced_on s old.pool b.routes.speaker ≤ unannounced_on s old.pool a.routes.speaker
     → total s (record old { edges = slice_set old.edges x b }) ≤ total s old
 becomes_total s old x a b at less =
-    let sums = sum_set (λ (y : Edge). unannounced_on s old.pool y.claims.voice)
-    (λ (y : Edge). unannounced_on s old.pool y.claims.voice) 0 old.edges x a b at (omega (arith, less))
+    let sums = sum_set (λ (y : Edge). unannounced_on s old.pool y.routes.speaker)
+    (λ (y : Edge). unannounced_on s old.pool y.routes.speaker) 0 old.edges x a b at (omega (arith, less))
     (λ j y ne at_y. omega arith) in
     omega (arith, sums)
 
 move_total : (s : Station) (old new : Fabric) → Kept old → Move old new → total s new ≤ total s old
 move_total s old _ kept Stays = omega arith
-move_total s old _ kept (Takes x a w at in' ok) = becomes_total s old x a (record a { claims = heard a.claims w }) at
+move_total s old _ kept (Takes x a w at in' ok) = becomes_total s old x a (record a { routes = heard a.routes w }) at
     (go (is_of s w.register) refl)
   where
-    go : (b : Bool) → is_of s w.register ≡ b → unannounced_on s old.pool (heard a.claims w).voice ≤ unannounced_on s
-        old.pool a.claims.voice
-    go true of = heard_pays_on s old.pool a.claims w (record {
+    go : (b : Bool) → is_of s w.register ≡ b → unannounced_on s old.pool (heard a.routes w).speaker ≤ unannounced_on s
+        old.pool a.routes.speaker
+    go true of = heard_pays_on s old.pool a.routes w (record {
       numbers = (kept.keeps x a at).numbers;
       owns = (kept.keeps x a at).holds.owns;
       accepts = ok;
     }) in' of
-    go false other = same_pays s old.pool a.claims.voice (heard a.claims w).voice (heard_other s a.claims w other)
+    go false other = same_pays s old.pool a.routes.speaker (heard a.routes w).speaker (heard_other s a.routes w other)
 move_total s old _ kept (Tells x a r rs v at pend is) = go (is_of s r) refl
   where
     u : Fields
     u = update_of r v
 
     hushed : Edge
-    hushed = record a { claims = quieter a.claims rs }
+    hushed = record a { routes = quieter a.routes rs }
 
     next : Fabric
     next = record old { edges = slice_set old.edges x hushed; pool = old.pool ++ u ∷ [] }
 
     others : (j : ℕ) (y : Edge) → j ≢ x → IsEdge old j y
-        → unannounced_on s (old.pool ++ u ∷ []) y.claims.voice ≤ unannounced_on s old.pool y.claims.voice
-    others j y ne at_y = push_pays s old.pool y.claims.voice u
-        (others_stay_away y.claims.voice u (λ same. ne (kept.apart j x y a at_y at (sym same
-        ∙ own_pending a.claims.voice r rs (kept.keeps x a at).numbers pend))))
+        → unannounced_on s (old.pool ++ u ∷ []) y.routes.speaker ≤ unannounced_on s old.pool y.routes.speaker
+    others j y ne at_y = push_pays s old.pool y.routes.speaker u
+        (others_stay_away y.routes.speaker u (λ same. ne (kept.apart j x y a at_y at (sym same
+        ∙ own_pending a.routes.speaker r rs (kept.keeps x a at).numbers pend))))
 
-    mine : unannounced_on s (old.pool ++ u ∷ []) hushed.claims.voice ≤ unannounced_on s old.pool hushed.claims.voice
-    mine = push_pays s old.pool hushed.claims.voice u (announced_away hushed.claims.voice r v is)
+    mine : unannounced_on s (old.pool ++ u ∷ []) hushed.routes.speaker ≤ unannounced_on s old.pool hushed.routes.speaker
+    mine = push_pays s old.pool hushed.routes.speaker u (announced_away hushed.routes.speaker r v is)
 
-    summed : (d : ℕ) → unannounced_on s (old.pool ++ u ∷ []) hushed.claims.voice
-        + d ≤ unannounced_on s old.pool a.claims.voice → to_come_on s next + d ≤ to_come_on s old
-    summed d less = sum_set (λ (y : Edge). unannounced_on s old.pool y.claims.voice)
-        (λ (y : Edge). unannounced_on s (old.pool ++ u ∷ []) y.claims.voice) d old.edges x a hushed at less others
+    summed : (d : ℕ) → unannounced_on s (old.pool ++ u ∷ []) hushed.routes.speaker
+        + d ≤ unannounced_on s old.pool a.routes.speaker → to_come_on s next + d ≤ to_come_on s old
+    summed d less = sum_set (λ (y : Edge). unannounced_on s old.pool y.routes.speaker)
+        (λ (y : Edge). unannounced_on s (old.pool ++ u ∷ []) y.routes.speaker) d old.edges x a hushed at less others
 
-    waits : (b : Bool) → is_of s r ≡ b → length (waiting s a.claims.voice)
+    waits : (b : Bool) → is_of s r ≡ b → length (waiting s a.routes.speaker)
         ≡ length (cond b (r ∷ filter (is_of s) rs) (filter (is_of s) rs))
     waits b e = ap (λ l. length (filter (is_of s) l)) pend
         ∙ ap (λ b. length (cond b (r ∷ filter (is_of s) rs) (filter (is_of s) rs))) e
@@ -425,11 +427,11 @@ opened_total : (s : Station) (old new : Fabric) (x : ℕ) (a : Edge) (n : ℕ) (
 opened_total s old new x a n reply sound at h never =
     let whole : new ≡ record old {
       edges = slice_set old.edges x h.after;
-      configs = slice_set old.configs x (in_life h.config n);
+      configs = slice_set old.configs x (in_incarnation h.config n);
     } =
     h.new_is ∙ (λ m. record old {
       edges = slice_set old.edges (minus x m) h.after;
-      configs = slice_set old.configs (minus x m) (in_life h.config n);
+      configs = slice_set old.configs (minus x m) (in_incarnation h.config n);
     }) in
     let same_total : total s new ≡ total s (record old { edges = slice_set old.edges x h.after }) =
     ap (total s) whole in
@@ -438,44 +440,44 @@ opened_total s old new x a n reply sound at h never =
     omega (arith, same_total, less)
   where
     config : EdgeConfig
-    config = in_life h.config n
+    config = in_incarnation h.config n
 
-    start : Voice
+    start : Speaker
     start = silent config.address config.incarnation config.originators.items
 
-    same : SameOf s start h.after.claims.voice
-    same = subst (SameOf s start) (sym h.opened.claims.voice) (floods_same s start h.after.claims.vnis)
+    same : SameOf s start h.after.routes.speaker
+    same = subst (SameOf s start) (sym h.opened.routes.speaker) (floods_same s start h.after.routes.vnis)
 
     address : address_of h.after ≡ address_of a
     address = same.address ∙ sym (sound.configs x h.config a h.config_is at).address
 
-    away : (u : Fields) → Contains old.pool u → back_on s h.after.claims.voice u ≡ false
-    away u in' = go (back_on s h.after.claims.voice u) refl
+    away : (u : Fields) → Contains old.pool u → back_on s h.after.routes.speaker u ≡ false
+    away u in' = go (back_on s h.after.routes.speaker u) refl
       where
-        go : (b : Bool) → back_on s h.after.claims.voice u ≡ b → back_on s h.after.claims.voice u ≡ false
+        go : (b : Bool) → back_on s h.after.routes.speaker u ≡ b → back_on s h.after.routes.speaker u ≡ false
         go false e = e
         go true e =
-            let t = both_true (is_of s u.register) (comes_back h.after.claims.voice u) e in
-            let c = comes h.after.claims.voice u t.1 in
+            let t = both_true (is_of s u.register) (comes_back h.after.routes.speaker u) e in
+            let c = comes h.after.routes.speaker u t.1 in
             absurd (not_both c.advert (ap (λ (o : Option Advert). is_some o) (never u in' (c.mine ∙ address) t.0)))
 
-    nothing : unannounced_on s old.pool h.after.claims.voice ≡ 0
+    nothing : unannounced_on s old.pool h.after.routes.speaker ≡ 0
     nothing =
-        let waits : length (waiting s h.after.claims.voice) ≡ 0 = ap length same.waits in
-        let advert : one (is_some (own_advert h.after.claims.voice (key_of s))) ≡ 0 =
-        ap (λ o. one (is_some (advert_of o))) (same_own s start h.after.claims.voice same)
+        let waits : length (waiting s h.after.routes.speaker) ≡ 0 = ap length same.waits in
+        let advert : one (is_some (own_advert h.after.routes.speaker (key_of s))) ≡ 0 =
+        ap (λ o. one (is_some (advert_of o))) (same_own s start h.after.routes.speaker same)
         ∙ ap (λ (o : Option Advert). one (is_some o))
         (silent_quiet s config.address config.incarnation config.originators.items) in
-        let backs = count_none (back_on s h.after.claims.voice) old.pool away in
+        let backs = count_none (back_on s h.after.routes.speaker) old.pool away in
         omega (arith, waits, advert, backs)
 
-restart_total : (s : Station) (old new : Fabric) (x : ℕ) (a : Edge) (n : ℕ) (result : Result Reply Refusal)
+restart_total : (s : Station) (old new : Fabric) (x : ℕ) (a : Edge) (n : ℕ) (result : Result Reply FabricRefusal)
     → IsSound old → IsEdge old x a → RestartsAt old (suc x) a n result new → NeverAdvertised old.pool s (address_of a)
     → total s new ≤ total s old
 restart_total s old new x a n (Ok reply) sound at h never = opened_total s old new x a n reply sound at h never
 restart_total s old new x a n (Err why) sound at h never = let same = ap (total s) h.1 in omega (arith, same)
 
-step_total : (s : Station) (old new : Fabric) (step : Step) (result : Result Reply Refusal) → IsSound old
+step_total : (s : Station) (old new : Fabric) (step : Step) (result : Result Reply FabricRefusal) → IsSound old
     → FabricSteps old step result new → IsLeftAlone s old step new → total s new ≤ total s old
 step_total s old new (Local e event) result sound h alone = go e (nth old.edges e) refl h alone
   where
@@ -488,7 +490,8 @@ step_total s old new (Local e event) result sound h alone = go e (nth old.edges 
     go (suc x) (Some a) is h alone =
         let l = local_same s old new x a event result sound is h (λ b. alone x a b refl is) in
         let same : total s new ≡ total s (record old { edges = slice_set old.edges x h.after }) = ap (total s) l.0 in
-        let less = becomes_total s old x a h.after is (same_pays s old.pool a.claims.voice h.after.claims.voice l.1) in
+        let less = becomes_total s old x a h.after is (same_pays s old.pool a.routes.speaker h.after.routes.speaker l.1)
+        in
         omega (arith, same, less)
 step_total s old new (Announce e) result sound h alone = let kept = sound_kept old sound in
     move_total s old new kept (moved old new (Announce e) result kept tt h)

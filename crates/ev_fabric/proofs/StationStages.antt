@@ -23,21 +23,21 @@ use Rattle.route_join.proofs.Tables.{at_other}
 use Rattle.route_join.proofs.Joins.{update_other}
 use Rattle.mac_arena.specs.declared.station.Station.{Station}
 use Rattle.ev_claims.specs.Pending.{marked}
-use Rattle.ev_claims.specs.Voice.{Voice, KeepsNumbers, own_register, own, own_advert, is_at, is_newest, next_value}
-use Rattle.ev_claims.specs.Voice.{after_saying, after_hearing, silent}
-use Rattle.ev_claims.specs.Claims.{Claims, key_of, after_update, after_removal}
+use Rattle.ev_claims.specs.Speaker.{Speaker, KeepsNumbers, own_register, own, own_advert, is_at, is_newest, next_value}
+use Rattle.ev_claims.specs.Speaker.{after_originating, after_importing, silent}
+use Rattle.ev_claims.specs.LocalRoutes.{LocalRoutes, key_of, after_update, after_removal}
 use Rattle.ev_claims.specs.Opening.{after_floods}
 use Rattle.ev_claims.proofs.Numbers.{own_same, own_other}
 use Rattle.ev_edge.specs.Edge.{OwnsAt}
-use Rattle.ev_fabric.specs.RestEdge.{comes_back}
+use Rattle.ev_fabric.specs.ConvergenceEdge.{comes_back}
 use Rattle.ev_fabric.specs.Station.{is_of}
 use Rattle.ev_fabric.proofs.Voices.{Talks, Quiet, Says, talks_one, found}
 use Rattle.ev_fabric.proofs.Stations.{about_station, station_key}
 use Rattle.ev_fabric.proofs.Agreements.{none_pending}
-use Rattle.ev_fabric.proofs.RestingEdge.{Accepts, Heard, Back, Lost, Kept, heard, hears, heard_later, stays_away}
-use Rattle.ev_fabric.proofs.RestingEdge.{others_stay_away, known_stays_away}
-use Rattle.ev_fabric.proofs.RestingIdle.{idle_hearing}
-use Rattle.ev_fabric.proofs.RestingStages.{Loses, hear_cases, advert_kept, advert_stays}
+use Rattle.ev_fabric.proofs.ConvergingEdge.{Accepts, Heard, Back, Lost, Kept, heard, hears, heard_later, stays_away}
+use Rattle.ev_fabric.proofs.ConvergingEdge.{others_stay_away, known_stays_away}
+use Rattle.ev_fabric.proofs.ConvergingIdle.{idle_hearing}
+use Rattle.ev_fabric.proofs.ConvergingStages.{Loses, hear_cases, advert_kept, advert_stays}
 
 -- ---- the elements of a list that pass a test
 
@@ -77,7 +77,7 @@ filter_past p xs x e = filter-append p xs (x ∷ []) ∙ ap (λ b. filter p xs +
 
 -- ---- what waits of a station
 
-abbrev pub waiting : Station → Voice → List Register
+abbrev pub waiting : Station → Speaker → List Register
 waiting s e = filter (is_of s) e.pending
 
 marked_other : (s : Station) (rs : List Register) (r : Register) → is_of s r ≡ false
@@ -98,16 +98,16 @@ marked_first s rs r none mine = go (list_any (eq_by_cmp register_cmp r) rs) refl
 
 -- ---- what an edge has of a station, says of it and has to announce of it stays
 
-pub record SameOf (s : Station) (e v : Voice) : Type 0 where
+pub record SameOf (s : Station) (e v : Speaker) : Type 0 where
   pub address : v.address ≡ e.address
   pub incarnation : v.incarnation ≡ e.incarnation
   pub values : (r : Register) → is_of s r ≡ true → value_at v.table r ≡ value_at e.table r
   pub waits : waiting s v ≡ waiting s e
 
-pub same_itself : (s : Station) (e : Voice) → SameOf s e e
+pub same_itself : (s : Station) (e : Speaker) → SameOf s e e
 same_itself s e = record { address = refl; incarnation = refl; values = λ r of. refl; waits = refl }
 
-pub same_trans : (s : Station) (e v w : Voice) → SameOf s e v → SameOf s v w → SameOf s e w
+pub same_trans : (s : Station) (e v w : Speaker) → SameOf s e v → SameOf s v w → SameOf s e w
 same_trans s e v w h g = record {
   address = g.address ∙ h.address;
   incarnation = g.incarnation ∙ h.incarnation;
@@ -118,17 +118,17 @@ same_trans s e v w h g = record {
 not_both : {b : Bool} → b ≡ true → b ≡ false → ⊥
 not_both yes' no' = let bad : true ≡ false = sym yes' ∙ no' in cc
 
-pub same_own : (s : Station) (e v : Voice) → SameOf s e v → own v (key_of s) ≡ own e (key_of s)
+pub same_own : (s : Station) (e v : Speaker) → SameOf s e v → own v (key_of s) ≡ own e (key_of s)
 same_own s e v h = (λ n. value_at v.table (register_of (h.address n) (key_of s)))
     ∙ h.values (own_register e (key_of s)) (about_station s None)
 
-pub same_newest : (s : Station) (e v : Voice) (w : Fields) → SameOf s e v → is_of s w.register ≡ true
+pub same_newest : (s : Station) (e v : Speaker) (w : Fields) → SameOf s e v → is_of s w.register ≡ true
     → is_newest v w ≡ is_newest e w
 same_newest s e v w h of = ap (λ o. is_news o w.value) (h.values w.register of)
 
 -- what is said of something else
-pub says_other : (s : Station) (e : Voice) (k : Key) (c : Content) → is_about s.vni s.mac k ≡ false
-    → SameOf s e (after_saying e k c)
+pub says_other : (s : Station) (e : Speaker) (k : Key) (c : Content) → is_about s.vni s.mac k ≡ false
+    → SameOf s e (after_originating e k c)
 says_other s e k c other = record {
   address = refl;
   incarnation = refl;
@@ -137,45 +137,45 @@ says_other s e k c other = record {
   waits = marked_other s e.pending (own_register e k) other;
 }
 
-pub floods_same : (s : Station) (e : Voice) (vs : List ℕ) → SameOf s e (after_floods e vs)
+pub floods_same : (s : Station) (e : Speaker) (vs : List ℕ) → SameOf s e (after_floods e vs)
 floods_same s e [] = same_itself s e
 floods_same s e (v ∷ vs) =
-    same_trans s e (after_saying e (Flood v) (Advertised flood_advert))
-    (after_floods (after_saying e (Flood v) (Advertised flood_advert)) vs)
+    same_trans s e (after_originating e (Flood v) (Advertised flood_advert))
+    (after_floods (after_originating e (Flood v) (Advertised flood_advert)) vs)
     (says_other s e (Flood v) (Advertised flood_advert) refl)
-    (floods_same s (after_saying e (Flood v) (Advertised flood_advert)) vs)
+    (floods_same s (after_originating e (Flood v) (Advertised flood_advert)) vs)
 
 -- ---- words of an edge
 
 -- something was said of the station: under a number above all that there were
-record Changed (s : Station) (e v : Voice) : Type 0 where
+record Changed (s : Station) (e v : Speaker) : Type 0 where
   ip : Option Ip
   value : Value
   there : own v (Mac s.vni s.mac ip) ≡ Some value
   present : value.incarnation ≡ e.incarnation
   more : e.counter < value.counter
 
-talk_counter : (e v : Voice) → Talks e v → e.counter ≤ v.counter
+talk_counter : (e v : Speaker) → Talks e v → e.counter ≤ v.counter
 talk_counter e _ Quiet = omega arith
 talk_counter e _ (Says v k c t) = let h = talk_counter e v t in omega (arith, h)
 
-talks_of : (s : Station) (e v : Voice) → Talks e v → SameOf s e v ⊎ Changed s e v
+talks_of : (s : Station) (e v : Speaker) → Talks e v → SameOf s e v ⊎ Changed s e v
 talks_of s e _ Quiet = inl (same_itself s e)
 talks_of s e _ (Says v k c t) = go (is_about s.vni s.mac k) refl (talks_of s e v t)
   where
     go : (b : Bool) → is_about s.vni s.mac k ≡ b → SameOf s e v ⊎ Changed s e v
-        → SameOf s e (after_saying v k c) ⊎ Changed s e (after_saying v k c)
+        → SameOf s e (after_originating v k c) ⊎ Changed s e (after_originating v k c)
     go true mine before =
         let ip = station_key s k mine in
         let low = talk_counter e v t in
         inr (record {
           ip = ip.0;
           value = next_value v c;
-          there = ap (own (after_saying v k c)) (sym ip.1) ∙ own_same v k c;
+          there = ap (own (after_originating v k c)) (sym ip.1) ∙ own_same v k c;
           present = (talks_one e v t).incarnation;
           more = omega (arith, low);
         })
-    go false other (inl h) = inl (same_trans s e v (after_saying v k c) h (says_other s v k c other))
+    go false other (inl h) = inl (same_trans s e v (after_originating v k c) h (says_other s v k c other))
     go false other (inr h) = inr (record {
       ip = h.ip;
       value = h.value;
@@ -186,7 +186,7 @@ talks_of s e _ (Says v k c t) = go (is_about s.vni s.mac k) refl (talks_of s e v
     })
 
 -- words that leave what the edge says of the station leave all of it
-pub left_same : (s : Station) (e v : Voice) → Talks e v → KeepsNumbers e
+pub left_same : (s : Station) (e v : Speaker) → Talks e v → KeepsNumbers e
     → ((ip : Option Ip) → own v (Mac s.vni s.mac ip) ≡ own e (Mac s.vni s.mac ip)) → SameOf s e v
 left_same s e v t n same = elim (talks_of s e v t) as (λ _. SameOf s e v) [
   | inl h ↦ h
@@ -196,46 +196,48 @@ left_same s e v t n same = elim (talks_of s e v t) as (λ _. SameOf s e v) [
 
 -- ---- an update of something else
 
-pub heard_other : (s : Station) (c : Claims) (w : Fields) → is_of s w.register ≡ false
-    → SameOf s c.voice (heard c w).voice
-heard_other s c w other = go (comes_back c.voice w) refl
+pub heard_other : (s : Station) (c : LocalRoutes) (w : Fields) → is_of s w.register ≡ false
+    → SameOf s c.speaker (heard c w).speaker
+heard_other s c w other = go (comes_back c.speaker w) refl
   where
-    hearing : SameOf s c.voice (after_hearing c.voice w)
+    hearing : SameOf s c.speaker (after_importing c.speaker w)
     hearing = record {
       address = refl;
       incarnation = refl;
-      values = λ r of. update_other c.voice.table w.register w.value r
+      values = λ r of. update_other c.speaker.table w.register w.value r
           (λ same. not_both (ap (is_of s) (sym same) ∙ of) other);
       waits = refl;
     }
 
-    back : (d : Claims) → Heard c w d → comes_back c.voice w ≡ true → SameOf s c.voice d.voice
-    back _ (Back b) is = says_other s c.voice w.register.key Withdrawn other
-    back _ (Lost st foreign lost) is = absurd (not_both is (others_stay_away c.voice w foreign))
+    back : (d : LocalRoutes) → Heard c w d → comes_back c.speaker w ≡ true → SameOf s c.speaker d.speaker
+    back _ (Back b) is = says_other s c.speaker w.register.key Withdrawn other
+    back _ (Lost st foreign lost) is = absurd (not_both is (others_stay_away c.speaker w foreign))
     back _ (Kept never) is = absurd (not_both is never)
 
-    go : (b : Bool) → comes_back c.voice w ≡ b → SameOf s c.voice (heard c w).voice
+    go : (b : Bool) → comes_back c.speaker w ≡ b → SameOf s c.speaker (heard c w).speaker
     go true is = back (heard c w) (hears c w) is
-    go false is = elim (hear_cases c w is) as (λ _. SameOf s c.voice (heard c w).voice) [
-      | inl h ↦ subst (λ (d : Claims). SameOf s c.voice d.voice) (sym h) hearing
-      | inr h ↦ subst (λ (d : Claims). SameOf s c.voice d.voice) (sym h.is)
-          (same_trans s c.voice (after_hearing c.voice w)
-          (after_saying (after_hearing c.voice w) (key_of h.station) Withdrawn) hearing
-          (says_other s (after_hearing c.voice w) (key_of h.station) Withdrawn (ap (is_about s.vni s.mac) (sym h.key)
+    go false is = elim (hear_cases c w is) as (λ _. SameOf s c.speaker (heard c w).speaker) [
+      | inl h ↦ subst (λ (d : LocalRoutes). SameOf s c.speaker d.speaker) (sym h) hearing
+      | inr h ↦ subst (λ (d : LocalRoutes). SameOf s c.speaker d.speaker) (sym h.is)
+          (same_trans s c.speaker (after_importing c.speaker w)
+          (after_originating (after_importing c.speaker w) (key_of h.station) Withdrawn) hearing
+          (says_other s (after_importing c.speaker w) (key_of h.station) Withdrawn
+          (ap (is_about s.vni s.mac) (sym h.key)
           ∙ other)))
     ]
 
 -- ---- the edges of a move
 
 -- the edge to which the station came says u of it
-pub record IsTo (pool extra : List Fields) (s : Station) (u : Fields) (there : List Register) (e : Voice) : Type 0 where
-  pub register : own_register e (key_of s) ≡ u.register
-  pub says : own e (key_of s) ≡ Some u.value
-  pub waits : waiting s e ≡ there
-  pub known : (w : Fields) → Contains pool w → is_of s w.register ≡ true → (is_newest e w ≡ false) ⊎ Contains extra w
+pub record IsTo (pool extra : List Fields) (s : Station) (u : Fields) (there : List Register) (e : Speaker) : Type 0
+  where
+    pub register : own_register e (key_of s) ≡ u.register
+    pub says : own e (key_of s) ≡ Some u.value
+    pub waits : waiting s e ≡ there
+    pub known : (w : Fields) → Contains pool w → is_of s w.register ≡ true → (is_newest e w ≡ false) ⊎ Contains extra w
 
 -- the edge of the address o, from which it came
-pub record IsFrom (pool extra : List Fields) (s : Station) (o : ℕ) (here : List Register) (says : Bool) (e : Voice) :
+pub record IsFrom (pool extra : List Fields) (s : Station) (o : ℕ) (here : List Register) (says : Bool) (e : Speaker) :
     Type 0 where
   pub name : e.address ≡ o
   pub said : is_some (own_advert e (key_of s)) ≡ says
@@ -243,14 +245,15 @@ pub record IsFrom (pool extra : List Fields) (s : Station) (o : ℕ) (here : Lis
   pub known : (w : Fields) → Contains pool w → is_of s w.register ≡ true → (is_newest e w ≡ false) ⊎ Contains extra w
 
 -- any other edge: it says nothing of the station, and nothing of its own comes back
-pub record IsAside (pool : List Fields) (s : Station) (e : Voice) : Type 0 where
+pub record IsAside (pool : List Fields) (s : Station) (e : Speaker) : Type 0 where
   pub quiet : own_advert e (key_of s) ≡ None
   pub waits : waiting s e ≡ []
   pub away : (w : Fields) → Contains pool w → is_of s w.register ≡ true → w.register.originator ≡ e.address
       → (is_newest e w ≡ false) ⊎ (advert_in w.value.content ≡ None)
 
 -- what stays the same
-pub to_same : (pool extra : List Fields) (s : Station) (u : Fields) (there : List Register) (e v : Voice) → SameOf s e v
+pub to_same : (pool extra : List Fields) (s : Station) (u : Fields) (there : List Register) (e v : Speaker)
+    → SameOf s e v
     → IsTo pool extra s u there e → IsTo pool extra s u there v
 to_same pool extra s u there e v h t = record {
   register = (λ n. register_of (h.address n) (key_of s)) ∙ t.register;
@@ -260,7 +263,7 @@ to_same pool extra s u there e v h t = record {
       ⊎ Contains extra w) [ inl old ↦ inl (same_newest s e v w h of ∙ old) | inr new ↦ inr new ];
 }
 
-pub from_same : (pool extra : List Fields) (s : Station) (o : ℕ) (here : List Register) (says : Bool) (e v : Voice)
+pub from_same : (pool extra : List Fields) (s : Station) (o : ℕ) (here : List Register) (says : Bool) (e v : Speaker)
     → SameOf s e v → IsFrom pool extra s o here says e → IsFrom pool extra s o here says v
 from_same pool extra s o here says e v h t = record {
   name = h.address ∙ t.name;
@@ -270,7 +273,7 @@ from_same pool extra s o here says e v h t = record {
       ⊎ Contains extra w) [ inl old ↦ inl (same_newest s e v w h of ∙ old) | inr new ↦ inr new ];
 }
 
-pub aside_same : (pool : List Fields) (s : Station) (e v : Voice) → SameOf s e v → IsAside pool s e → IsAside pool s v
+pub aside_same : (pool : List Fields) (s : Station) (e v : Speaker) → SameOf s e v → IsAside pool s e → IsAside pool s v
 aside_same pool s e v h t = record {
   quiet = ap advert_of (same_own s e v h) ∙ t.quiet;
   waits = h.waits ∙ t.waits;
@@ -279,7 +282,7 @@ aside_same pool s e v h t = record {
 }
 
 -- where the pool gets an update, which is new if it is of the station
-pub to_push : (pool extra extra' : List Fields) (s : Station) (u : Fields) (there : List Register) (e : Voice)
+pub to_push : (pool extra extra' : List Fields) (s : Station) (u : Fields) (there : List Register) (e : Speaker)
     (w : Fields) → (is_of s w.register ≡ true → Contains extra' w)
     → ((z : Fields) → Contains extra z → Contains extra' z) → IsTo pool extra s u there e
     → IsTo (pool ++ w ∷ []) extra' s u there e
@@ -294,7 +297,8 @@ to_push pool extra extra' s u there e w new more t = record {
   ];
 }
 
-pub from_push : (pool extra extra' : List Fields) (s : Station) (o : ℕ) (here : List Register) (says : Bool) (e : Voice)
+pub from_push : (pool extra extra' : List Fields) (s : Station) (o : ℕ) (here : List Register) (says : Bool)
+    (e : Speaker)
     (w : Fields) → (is_of s w.register ≡ true → Contains extra' w)
     → ((z : Fields) → Contains extra z → Contains extra' z) → IsFrom pool extra s o here says e
     → IsFrom (pool ++ w ∷ []) extra' s o here says e
@@ -309,7 +313,7 @@ from_push pool extra extra' s o here says e w new more t = record {
   ];
 }
 
-pub aside_push : (pool : List Fields) (s : Station) (e : Voice) (w : Fields)
+pub aside_push : (pool : List Fields) (s : Station) (e : Speaker) (w : Fields)
     → (is_of s w.register ≡ true → w.register.originator ≢ e.address) → IsAside pool s e → IsAside (pool ++ w ∷ []) s e
 aside_push pool s e w other t = record {
   quiet = t.quiet;
@@ -324,7 +328,7 @@ aside_push pool s e w other t = record {
 
 -- ---- an update of the station is heard
 
-idle_away : (e : Voice) (w : Fields) → (is_newest e w ≡ false) ⊎ (advert_in w.value.content ≡ None)
+idle_away : (e : Speaker) (w : Fields) → (is_newest e w ≡ false) ⊎ (advert_in w.value.content ≡ None)
     → comes_back e w ≡ false
 idle_away e w h = elim h as (λ _. comes_back e w ≡ false) [
   | inl old ↦ known_stays_away e w old
@@ -333,59 +337,60 @@ idle_away e w h = elim h as (λ _. comes_back e w ≡ false) [
 ]
 
 -- what is known of an edge that hears an update
-pub record Hears (c : Claims) (w : Fields) : Type 0 where
-  pub numbers : KeepsNumbers c.voice
+pub record Hears (c : LocalRoutes) (w : Fields) : Type 0 where
+  pub numbers : KeepsNumbers c.speaker
   pub owns : (s : Station) → OwnsAt c s
-  pub accepts : Accepts c.voice w
+  pub accepts : Accepts c.speaker w
 
 -- the table grows alone
-abbrev pub Grows : Claims → Fields → Type 0
-Grows c w = (comes_back c.voice w ≡ false) × (heard c w ≡ after_update c w)
+abbrev pub Grows : LocalRoutes → Fields → Type 0
+Grows c w = (comes_back c.speaker w ≡ false) × (heard c w ≡ after_update c w)
 
-pub idle_grows : (c : Claims) (w : Fields) → Hears c w → (is_newest c.voice w ≡ false)
+pub idle_grows : (c : LocalRoutes) (w : Fields) → Hears c w → (is_newest c.speaker w ≡ false)
     ⊎ (advert_in w.value.content ≡ None) → Grows c w
-idle_grows c w h idle = (idle_away c.voice w idle, idle_hearing c w h.owns idle)
+idle_grows c w h idle = (idle_away c.speaker w idle, idle_hearing c w h.owns idle)
 
-still_known : (c : Claims) (w z : Fields) → Hears c w → is_newest c.voice z ≡ false
-    → is_newest (heard c w).voice z ≡ false
+still_known : (c : LocalRoutes) (w z : Fields) → Hears c w → is_newest c.speaker z ≡ false
+    → is_newest (heard c w).speaker z ≡ false
 still_known c w z h old = (heard_later c w h.numbers h.accepts).news z.register z.value old
 
-pub to_grows : (pool extra : List Fields) (s : Station) (u : Fields) (there : List Register) (c : Claims) (w : Fields)
-    → IsSome (advert_in u.value.content) → Hears c w → Grows c w → IsTo pool extra s u there c.voice
-    → IsTo pool extra s u there (heard c w).voice
+pub to_grows : (pool extra : List Fields) (s : Station) (u : Fields) (there : List Register) (c : LocalRoutes)
+    (w : Fields)
+    → IsSome (advert_in u.value.content) → Hears c w → Grows c w → IsTo pool extra s u there c.speaker
+    → IsTo pool extra s u there (heard c w).speaker
 to_grows pool extra s u there c w some h g t = record {
-  register = ap (λ (d : Claims). own_register d.voice (key_of s)) g.1 ∙ t.register;
-  says = ap (λ (d : Claims). own d.voice (key_of s)) g.1 ∙ stays (advert_in u.value.content) refl some;
-  waits = ap (λ (d : Claims). waiting s d.voice) g.1 ∙ t.waits;
-  known = λ z in' of. elim (t.known z in' of) as (λ _. (is_newest (heard c w).voice z ≡ false)
+  register = ap (λ (d : LocalRoutes). own_register d.speaker (key_of s)) g.1 ∙ t.register;
+  says = ap (λ (d : LocalRoutes). own d.speaker (key_of s)) g.1 ∙ stays (advert_in u.value.content) refl some;
+  waits = ap (λ (d : LocalRoutes). waiting s d.speaker) g.1 ∙ t.waits;
+  known = λ z in' of. elim (t.known z in' of) as (λ _. (is_newest (heard c w).speaker z ≡ false)
       ⊎ Contains extra z) [ inl old ↦ inl (still_known c w z h old) | inr new ↦ inr new ];
 }
   where
     stays : (x : Option Advert) → advert_in u.value.content ≡ x → IsSome x
-        → own (after_hearing c.voice w) (key_of s) ≡ Some u.value
-    stays (Some y) p yes' = advert_stays c.voice w (key_of s) y h.numbers h.accepts (ap advert_of t.says ∙ p) ∙ t.says
+        → own (after_importing c.speaker w) (key_of s) ≡ Some u.value
+    stays (Some y) p yes' = advert_stays c.speaker w (key_of s) y h.numbers h.accepts (ap advert_of t.says ∙ p) ∙ t.says
     stays None p yes' = absurd (let no' : IsSome {T = Advert} None = yes' in cc)
 
-pub from_grows : (pool extra : List Fields) (s : Station) (o : ℕ) (here : List Register) (says : Bool) (c : Claims)
-    (w : Fields) → Hears c w → Grows c w → IsFrom pool extra s o here says c.voice
-    → IsFrom pool extra s o here says (heard c w).voice
+pub from_grows : (pool extra : List Fields) (s : Station) (o : ℕ) (here : List Register) (says : Bool) (c : LocalRoutes)
+    (w : Fields) → Hears c w → Grows c w → IsFrom pool extra s o here says c.speaker
+    → IsFrom pool extra s o here says (heard c w).speaker
 from_grows pool extra s o here says c w h g t = record {
-  name = ap (λ (d : Claims). d.voice.address) g.1 ∙ t.name;
-  said = ap (λ (d : Claims). is_some (own_advert d.voice (key_of s))) g.1
-      ∙ ap is_some (advert_kept c.voice w (key_of s) h.numbers h.accepts g.0) ∙ t.said;
-  waits = ap (λ (d : Claims). waiting s d.voice) g.1 ∙ t.waits;
-  known = λ z in' of. elim (t.known z in' of) as (λ _. (is_newest (heard c w).voice z ≡ false)
+  name = ap (λ (d : LocalRoutes). d.speaker.address) g.1 ∙ t.name;
+  said = ap (λ (d : LocalRoutes). is_some (own_advert d.speaker (key_of s))) g.1
+      ∙ ap is_some (advert_kept c.speaker w (key_of s) h.numbers h.accepts g.0) ∙ t.said;
+  waits = ap (λ (d : LocalRoutes). waiting s d.speaker) g.1 ∙ t.waits;
+  known = λ z in' of. elim (t.known z in' of) as (λ _. (is_newest (heard c w).speaker z ≡ false)
       ⊎ Contains extra z) [ inl old ↦ inl (still_known c w z h old) | inr new ↦ inr new ];
 }
 
-pub aside_grows : (pool : List Fields) (s : Station) (c : Claims) (w : Fields) → Hears c w → Grows c w
-    → IsAside pool s c.voice → IsAside pool s (heard c w).voice
+pub aside_grows : (pool : List Fields) (s : Station) (c : LocalRoutes) (w : Fields) → Hears c w → Grows c w
+    → IsAside pool s c.speaker → IsAside pool s (heard c w).speaker
 aside_grows pool s c w h g t = record {
-  quiet = ap (λ (d : Claims). own_advert d.voice (key_of s)) g.1
-      ∙ advert_kept c.voice w (key_of s) h.numbers h.accepts g.0 ∙ t.quiet;
-  waits = ap (λ (d : Claims). waiting s d.voice) g.1 ∙ t.waits;
-  away = λ z in' of mine. elim (t.away z in' of (mine ∙ ap (λ (d : Claims). d.voice.address) g.1)) as (λ _.
-      (is_newest (heard c w).voice z ≡ false) ⊎ (advert_in z.value.content ≡ None)) [
+  quiet = ap (λ (d : LocalRoutes). own_advert d.speaker (key_of s)) g.1
+      ∙ advert_kept c.speaker w (key_of s) h.numbers h.accepts g.0 ∙ t.quiet;
+  waits = ap (λ (d : LocalRoutes). waiting s d.speaker) g.1 ∙ t.waits;
+  away = λ z in' of mine. elim (t.away z in' of (mine ∙ ap (λ (d : LocalRoutes). d.speaker.address) g.1)) as (λ _.
+      (is_newest (heard c w).speaker z ≡ false) ⊎ (advert_in z.value.content ≡ None)) [
         | inl old ↦
             inl (still_known c w z h old)
         | inr none ↦ inr none
@@ -393,15 +398,15 @@ aside_grows pool s c w h g t = record {
 }
 
 -- who loses a station to an update of another one's registers loses that station, and has advertised it
-pub record LosesIt (s : Station) (c : Claims) (w : Fields) : Type 0 where
-  pub said : is_some (own_advert c.voice (key_of s)) ≡ true
+pub record LosesIt (s : Station) (c : LocalRoutes) (w : Fields) : Type 0 where
+  pub said : is_some (own_advert c.speaker (key_of s)) ≡ true
   pub is : heard c w ≡ after_removal (after_update c w) s
 
-pub loses_it : (s : Station) (c : Claims) (w : Fields) → Hears c w → is_of s w.register ≡ true
-    → comes_back c.voice w ≡ false → Loses c w → LosesIt s c w
+pub loses_it : (s : Station) (c : LocalRoutes) (w : Fields) → Hears c w → is_of s w.register ≡ true
+    → comes_back c.speaker w ≡ false → Loses c w → LosesIt s c w
 loses_it s c w h of never l = record {
-  said = ap is_some (sym (advert_kept c.voice w (key_of s) h.numbers h.accepts never))
-      ∙ subst (λ r. is_some (own_advert (after_hearing c.voice w) (key_of r)) ≡ true) station some;
+  said = ap is_some (sym (advert_kept c.speaker w (key_of s) h.numbers h.accepts never))
+      ∙ subst (λ r. is_some (own_advert (after_importing c.speaker w) (key_of r)) ≡ true) station some;
   is = l.is ∙ ap (after_removal (after_update c w)) station;
 }
   where
@@ -409,9 +414,9 @@ loses_it s c w h of never l = record {
     first true y e = refl
     first false y e = cc
 
-    some : is_some (own_advert (after_hearing c.voice w) (key_of l.station)) ≡ true
-    some = first (is_some (own_advert (after_hearing c.voice w) (key_of l.station)))
-        (is_at (owner (after_hearing c.voice w).table l.station.vni l.station.mac) c.voice.address) l.lost
+    some : is_some (own_advert (after_importing c.speaker w) (key_of l.station)) ≡ true
+    some = first (is_some (own_advert (after_importing c.speaker w) (key_of l.station)))
+        (is_at (owner (after_importing c.speaker w).table l.station.vni l.station.mac) c.speaker.address) l.lost
 
     ip : (j : Option Ip) × (w.register.key ≡ Mac s.vni s.mac j)
     ip = station_key s w.register.key of
@@ -424,49 +429,49 @@ loses_it s c w h of never l = record {
         λ n. record { vni = vnis n; mac = macs n }
 
 -- another edge that hears an update of the station says nothing of it
-pub aside_hears : (pool : List Fields) (s : Station) (c : Claims) (w : Fields) → Contains pool w
-    → is_of s w.register ≡ true → Hears c w → IsAside pool s c.voice → IsAside pool s (heard c w).voice
+pub aside_hears : (pool : List Fields) (s : Station) (c : LocalRoutes) (w : Fields) → Contains pool w
+    → is_of s w.register ≡ true → Hears c w → IsAside pool s c.speaker → IsAside pool s (heard c w).speaker
 aside_hears pool s c w in' of h t = aside_grows pool s c w h grows t
   where
     grows : Grows c w
-    grows = elim (cases_eq w.register.originator c.voice.address) as (λ _. Grows c w) [
+    grows = elim (cases_eq w.register.originator c.speaker.address) as (λ _. Grows c w) [
       | inl mine ↦ idle_grows c w h (t.away w in' of mine)
-      | inr other ↦ foreign (others_stay_away c.voice w other)
+      | inr other ↦ foreign (others_stay_away c.speaker w other)
     ]
       where
-        foreign : comes_back c.voice w ≡ false → Grows c w
+        foreign : comes_back c.speaker w ≡ false → Grows c w
         foreign never = elim (hear_cases c w never) as (λ _. Grows c w) [
           | inl is ↦ (never, is)
           | inr l ↦ absurd (not_both (loses_it s c w h of never l).said (ap is_some t.quiet))
         ]
 
 -- what the edge from which the station came makes of the new advert: it stays, or it withdraws the station
-pub from_hears : (pool extra : List Fields) (s : Station) (o : ℕ) (here : List Register) (says : Bool) (c : Claims)
-    (w : Fields) → is_of s w.register ≡ true → w.register.originator ≢ c.voice.address → Hears c w
-    → IsFrom pool extra s o here says c.voice
-    → IsFrom pool extra s o here says (heard c w).voice
-    ⊎ ((says ≡ true) × (here ≡ [] → IsFrom pool extra s o (register_of o (key_of s) ∷ []) false (heard c w).voice))
+pub from_hears : (pool extra : List Fields) (s : Station) (o : ℕ) (here : List Register) (says : Bool) (c : LocalRoutes)
+    (w : Fields) → is_of s w.register ≡ true → w.register.originator ≢ c.speaker.address → Hears c w
+    → IsFrom pool extra s o here says c.speaker
+    → IsFrom pool extra s o here says (heard c w).speaker
+    ⊎ ((says ≡ true) × (here ≡ [] → IsFrom pool extra s o (register_of o (key_of s) ∷ []) false (heard c w).speaker))
 from_hears pool extra s o here says c w of other h t =
-    elim (hear_cases c w never) as (λ _. IsFrom pool extra s o here says (heard c w).voice
+    elim (hear_cases c w never) as (λ _. IsFrom pool extra s o here says (heard c w).speaker
     ⊎ ((says ≡ true) × (here ≡ [] → IsFrom pool extra s o (register_of o (key_of s) ∷ []) false
-    (heard c w).voice))) [
+    (heard c w).speaker))) [
       | inl is ↦ inl (from_grows pool extra s o here says c w h (never, is) t)
       | inr l ↦ let it = loses_it s c w h of never l in inr (sym t.said ∙ it.said, lost it.is)
     ]
   where
-    never : comes_back c.voice w ≡ false
-    never = others_stay_away c.voice w other
+    never : comes_back c.speaker w ≡ false
+    never = others_stay_away c.speaker w other
 
     lost : heard c w ≡ after_removal (after_update c w) s → here ≡ []
-        → IsFrom pool extra s o (register_of o (key_of s) ∷ []) false (heard c w).voice
+        → IsFrom pool extra s o (register_of o (key_of s) ∷ []) false (heard c w).speaker
     lost is none = record {
-      name = ap (λ (d : Claims). d.voice.address) is ∙ t.name;
-      said = ap (λ (d : Claims). is_some (own_advert d.voice (key_of s))) is
-          ∙ ap (λ x. is_some (advert_of x)) (own_same (after_hearing c.voice w) (key_of s) Withdrawn);
-      waits = ap (λ (d : Claims). waiting s d.voice) is
-          ∙ marked_first s c.voice.pending (own_register c.voice (key_of s)) (t.waits ∙ none) (about_station s None)
+      name = ap (λ (d : LocalRoutes). d.speaker.address) is ∙ t.name;
+      said = ap (λ (d : LocalRoutes). is_some (own_advert d.speaker (key_of s))) is
+          ∙ ap (λ x. is_some (advert_of x)) (own_same (after_importing c.speaker w) (key_of s) Withdrawn);
+      waits = ap (λ (d : LocalRoutes). waiting s d.speaker) is
+          ∙ marked_first s c.speaker.pending (own_register c.speaker (key_of s)) (t.waits ∙ none) (about_station s None)
           ∙ ap (λ p. register_of p (key_of s) ∷ []) t.name;
-      known = λ z in' of'. elim (t.known z in' of') as (λ _. (is_newest (heard c w).voice z ≡ false)
+      known = λ z in' of'. elim (t.known z in' of') as (λ _. (is_newest (heard c w).speaker z ≡ false)
           ⊎ Contains extra z) [ inl old ↦ inl (still_known c w z h old) | inr new ↦ inr new ];
     }
 

@@ -21,7 +21,7 @@ use Rattle.ev_fabric.specs.Sound.{update_of, IsSound}
 use Rattle.ev_fabric.specs.Agreed.{AllAgree, Advertises}
 use Rattle.ev_fabric.specs.Laws.{OneOfAll, OwnerOfAll}
 use Rattle.ev_fabric.specs.Station.{is_of, is_flood_list, is_flood, AgreesAbout, AgreesOn, AgreesOnEach}
-use Rattle.ev_fabric.specs.Station.{IsOfPresentLife, AgreedStation}
+use Rattle.ev_fabric.specs.Station.{IsOfPresentIncarnation, AgreedStation}
 use Rattle.ev_fabric.proofs.Agreements.{announced, owns, learnt, none_pending}
 
 -- ---- registers of a station
@@ -64,18 +64,18 @@ agree_on_each f h = record { stations = λ s. about (is_of s); floods = λ vni. 
 
 pub each_agree : (f : Fabric) → AgreesOnEach f → AllAgree f
 each_agree f h = record {
-  quiet = λ i a at. empty i a at a.claims.voice.pending refl;
+  quiet = λ i a at. empty i a at a.routes.speaker.pending refl;
   arrived = λ i a at u in'. got i a at u in' u.register.key refl;
 }
   where
-    waits : (i : ℕ) (a : Edge) → IsEdge f i a → (r : Register) → Contains a.claims.voice.pending r → (k : Key)
+    waits : (i : ℕ) (a : Edge) → IsEdge f i a → (r : Register) → Contains a.routes.speaker.pending r → (k : Key)
         → r.key ≡ k → ⊥
     waits i a at r in' (Flood v) key = (h.floods v).quiet i a r at (ap (is_flood_list v) key ∙ same_number v) in'
     waits i a at r in' (Mac v m ip) key = let s : Station = record { vni = v; mac = m } in
         (h.stations s).quiet i a r at (of_station s r ip key) in'
 
-    empty : (i : ℕ) (a : Edge) → IsEdge f i a → (rs : List Register) → a.claims.voice.pending ≡ rs
-        → a.claims.voice.pending ≡ []
+    empty : (i : ℕ) (a : Edge) → IsEdge f i a → (rs : List Register) → a.routes.speaker.pending ≡ rs
+        → a.routes.speaker.pending ≡ []
     empty i a at [] is = is
     empty i a at (r ∷ rs) is = absurd (waits i a at r (subst (λ l. Contains l r) (sym is) (0, omega arith, refl)) r.key
         refl)
@@ -134,19 +134,20 @@ module _ (f : Fabric) (s : Station) (h : IsSound f) (agree : AgreesOn f s) where
       (one_owner (table_of a) s.vni s.mac (address_of a) (address_of b) (owns a s (h.good i a at_a) x)
       (station_owner j i b a at_b at_a y))
 
-  -- an advert is of the present life of an edge of the fabric
+  -- an advert is of the present incarnation of an edge of the fabric
   pub station_present : (i : ℕ) (a : Edge) (r : Register) (v : Value) → IsEdge f i a → is_of s r ≡ true
-      → value_at (table_of a) r ≡ Some v → IsSome (advert_in v.content) → IsOfPresentLife f r.originator v.incarnation
+      → value_at (table_of a) r ≡ Some v → IsSome (advert_in v.content)
+      → IsOfPresentIncarnation f r.originator v.incarnation
   station_present i a r v at of is some = go (h.sources (update_of r v) (station_from i a r v at of is))
     where
       go : ((j : ℕ) × (b : Edge) × IsEdge f j b × (address_of b ≡ r.originator))
-          → IsOfPresentLife f r.originator v.incarnation
+          → IsOfPresentIncarnation f r.originator v.incarnation
       go (j, b, at_b, names) = record {
         place = j;
         edge = b;
         there = at_b;
         address = names;
-        present = (h.good j b at_b).claims.numbers.alive r.key v (ap (value_at (table_of b)) (sym named)
+        present = (h.good j b at_b).routes.numbers.alive r.key v (ap (value_at (table_of b)) (sym named)
             ∙ station_equal j i b a r at_b at of ∙ is) some;
       }
         where

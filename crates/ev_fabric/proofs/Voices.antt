@@ -17,8 +17,8 @@ use Rattle.route_join.proofs.Tables.{same_or_other, same_register, at_same, at_o
 use Rattle.route_join.proofs.Joins.{update_other}
 use Rattle.route_join.proofs.Merging.{same_listeners}
 use Rattle.ev_claims.specs.Pending.{marked}
-use Rattle.ev_claims.specs.Voice.{Voice, KeepsNumbers, own_register, next_value, after_saying, after_hearing}
-use Rattle.ev_claims.specs.Voice.{after_hearing_own, after_announcing, is_newest, is_ahead, is_returning}
+use Rattle.ev_claims.specs.Speaker.{Speaker, KeepsNumbers, own_register, next_value, after_originating, after_importing}
+use Rattle.ev_claims.specs.Speaker.{after_importing_own, after_announcing, is_newest, is_ahead, is_returning}
 use Rattle.ev_claims.proofs.Numbers.{said_numbers}
 use Rattle.ev_claims.proofs.Hearing.{not_present, past_if_newest, refuted_is}
 use Rattle.ev_fabric.specs.Sound.{update_of, IsBehind, IsTold}
@@ -48,14 +48,15 @@ marked_has rs r = go (list_any (eq_by_cmp register_cmp r) rs) refl
     go false e = Contains-push rs r
 
 -- ---- an own register says something
-said_behind : (e : Voice) (k : Key) (c : Content) → KeepsNumbers e → (u : Fields) → u.register.originator ≡ e.address
-    → IsBehind e.incarnation e.table u → IsBehind e.incarnation (after_saying e k c).table u
+said_behind : (e : Speaker) (k : Key) (c : Content) → KeepsNumbers e → (u : Fields) → u.register.originator ≡ e.address
+    → IsBehind e.incarnation e.table u → IsBehind e.incarnation (after_originating e k c).table u
 said_behind e k c h u mine b = elim (same_or_other u.register (own_register e k)) as (λ _. IsBehind e.incarnation
-    (after_saying e k c).table u) [
+    (after_originating e k c).table u) [
       | inl same ↦ record {
         present = b.present;
         says = next_value e c;
-        there = ap (value_at (after_saying e k c).table) same ∙ at_same e.table (own_register e k) (next_value e c);
+        there = ap (value_at (after_originating e k c).table) same
+            ∙ at_same e.table (own_register e k) (next_value e c);
         alive = refl;
         order = inr (lower b.order);
       }
@@ -79,8 +80,8 @@ said_behind e k c h u mine b = elim (same_or_other u.register (own_register e k)
     lower (inl same) = let equal = ap (λ (w : Value). w.counter) same in let less = bound in omega (arith, less, equal)
     lower (inr less) = let more = bound in omega (arith, more, less)
 
-pub said_told : (pool : List Fields) (e : Voice) (k : Key) (c : Content) → KeepsNumbers e → IsTold pool e
-    → IsTold pool (after_saying e k c)
+pub said_told : (pool : List Fields) (e : Speaker) (k : Key) (c : Content) → KeepsNumbers e → IsTold pool e
+    → IsTold pool (after_originating e k c)
 said_told pool e k c h told = record {
   foreign = λ r v other is. told.foreign r v other (sym
       (at_other e.table (own_register e k) (next_value e c) r
@@ -92,7 +93,7 @@ said_told pool e k c h told = record {
         (λ in'. quiet (marked_keeps e.pending (own_register e k) r in'))
   ];
   behind = λ u in' mine. elim (told.behind u in' mine) as (λ _. (u.value.incarnation < e.incarnation)
-      ⊎ IsBehind e.incarnation (after_saying e k c).table u) [
+      ⊎ IsBehind e.incarnation (after_originating e k c).table u) [
         | inl earlier ↦ inl earlier
         | inr b ↦ inr (said_behind e k c h u mine b)
       ];
@@ -120,8 +121,8 @@ was_announced : (pool : List Fields) (u : Fields) (r : Register) (v : Value) →
 was_announced pool u r v in' same equal = subst (Contains pool) (λ i. update_of (sym same i) (sym equal i)) in'
 
 -- another's
-pub heard_told : (pool : List Fields) (e : Voice) (u : Fields) → Contains pool u → u.register.originator ≢ e.address
-    → IsTold pool e → IsTold pool (after_hearing e u)
+pub heard_told : (pool : List Fields) (e : Speaker) (u : Fields) → Contains pool u → u.register.originator ≢ e.address
+    → IsTold pool e → IsTold pool (after_importing e u)
 heard_told pool e u in' other told = record {
   foreign = λ r v ne is. elim (heard_cases e.table u r v is) as (λ _. Contains pool (update_of r v)) [
     | inl before ↦ told.foreign r v ne before
@@ -132,7 +133,7 @@ heard_told pool e u in' other told = record {
     | inr new ↦ was_announced pool u r v in' new.0 new.1
   ];
   behind = λ w there mine. elim (told.behind w there mine) as (λ _. (w.value.incarnation < e.incarnation)
-      ⊎ IsBehind e.incarnation (after_hearing e u).table w) [
+      ⊎ IsBehind e.incarnation (after_importing e u).table w) [
         | inl earlier ↦ inl earlier
         | inr b ↦ inr (record {
           present = b.present;
@@ -145,9 +146,9 @@ heard_told pool e u in' other told = record {
       ];
 }
 
--- one under the edge's own name, of an earlier life
-pub earlier_told : (pool : List Fields) (e : Voice) (u : Fields) → Contains pool u → is_newest e u ≡ true
-    → u.value.incarnation < e.incarnation → IsTold pool e → IsTold pool (after_hearing e u)
+-- one under the edge's own name, of an earlier incarnation
+pub earlier_told : (pool : List Fields) (e : Speaker) (u : Fields) → Contains pool u → is_newest e u ≡ true
+    → u.value.incarnation < e.incarnation → IsTold pool e → IsTold pool (after_importing e u)
 earlier_told pool e u in' newest past told = record {
   foreign = λ r v ne is. elim (heard_cases e.table u r v is) as (λ _. Contains pool (update_of r v)) [
     | inl before ↦ told.foreign r v ne before
@@ -158,7 +159,7 @@ earlier_told pool e u in' newest past told = record {
     | inr new ↦ was_announced pool u r v in' new.0 new.1
   ];
   behind = λ w there mine. elim (told.behind w there mine) as (λ _. (w.value.incarnation < e.incarnation)
-      ⊎ IsBehind e.incarnation (after_hearing e u).table w) [
+      ⊎ IsBehind e.incarnation (after_importing e u).table w) [
         | inl earlier ↦ inl earlier
         | inr b ↦ inr (record {
           present = b.present;
@@ -173,21 +174,21 @@ earlier_told pool e u in' newest past told = record {
 }
 
 -- where the update isn't news, nothing changes
-pub known_told : (pool : List Fields) (e : Voice) (u : Fields) → is_newest e u ≡ false → IsTold pool e
-    → IsTold pool (after_hearing e u)
+pub known_told : (pool : List Fields) (e : Speaker) (u : Fields) → is_newest e u ≡ false → IsTold pool e
+    → IsTold pool (after_importing e u)
 known_told pool e u known told = subst (λ t. IsTold pool (record e { table = t }))
     (ap (λ b. cond b (with_value e.table u.register u.value) e.table) (sym known)) told
 
-pub own_told : (pool : List Fields) (e : Voice) (u : Fields) → Contains pool u → KeepsNumbers e
-    → u.register.originator ≡ e.address → is_ahead e u ≡ false → IsTold pool e → IsTold pool (after_hearing_own e u)
+pub own_told : (pool : List Fields) (e : Speaker) (u : Fields) → Contains pool u → KeepsNumbers e
+    → u.register.originator ≡ e.address → is_ahead e u ≡ false → IsTold pool e → IsTold pool (after_importing_own e u)
 own_told pool e u in' h mine ahead told = go (is_returning e u)
   where
-    heard : (b : Bool) → is_newest e u ≡ b → IsTold pool (after_hearing e u)
+    heard : (b : Bool) → is_newest e u ≡ b → IsTold pool (after_importing e u)
     heard true newest = earlier_told pool e u in' newest (past_if_newest e u ahead newest) told
     heard false known = known_told pool e u known told
 
-    go : (b : Bool) → IsTold pool (cond b (after_saying (after_hearing e u) u.register.key Withdrawn)
-        (after_hearing e u))
+    go : (b : Bool) → IsTold pool (cond b (after_originating (after_importing e u) u.register.key Withdrawn)
+        (after_importing e u))
     go true = subst (IsTold pool) (sym (refuted_is e u Withdrawn mine))
         (said_told pool e u.register.key Withdrawn h told)
     go false = heard (is_newest e u) refl
@@ -195,7 +196,7 @@ own_told pool e u in' h mine ahead told = go (is_returning e u)
 -- ---- announcing
 
 -- the pool grows by another's update
-pub grown_told : (pool : List Fields) (u : Fields) (e : Voice) → u.register.originator ≢ e.address → IsTold pool e
+pub grown_told : (pool : List Fields) (u : Fields) (e : Speaker) → u.register.originator ≢ e.address → IsTold pool e
     → IsTold (pool ++ u ∷ []) e
 grown_told pool u e other told = record {
   foreign = λ r v ne is. Contains-append_left pool (u ∷ []) _ (told.foreign r v ne is);
@@ -208,7 +209,7 @@ grown_told pool u e other told = record {
 }
 
 -- the edge itself announces: its first pending register, with what it says
-pub announced_told : (pool : List Fields) (e : Voice) (r : Register) (rs : List Register) (v : Value)
+pub announced_told : (pool : List Fields) (e : Speaker) (r : Register) (rs : List Register) (v : Value)
     → e.pending ≡ r ∷ rs → value_at e.table r ≡ Some v → v.incarnation ≡ e.incarnation → IsTold pool e
     → IsTold (pool ++ update_of r v ∷ []) (record e { pending = rs })
 announced_told pool e r rs v at is present told = record {
@@ -241,47 +242,48 @@ announced_told pool e r rs v at is present told = record {
     first_gone q ne (suc i, lt, is) = (i, omega (arith, lt), is)
 
 -- ---- what the edge says goes on by own words alone
-pub data Talks (e : Voice) : Voice → Type 0 where
+pub data Talks (e : Speaker) : Speaker → Type 0 where
   Quiet : Talks e e
-  Says : (v : Voice) (k : Key) (c : Content) → Talks e v → Talks e (after_saying v k c)
+  Says : (v : Speaker) (k : Key) (c : Content) → Talks e v → Talks e (after_originating v k c)
 
-pub talks_numbers : (e v : Voice) → Talks e v → KeepsNumbers e → KeepsNumbers v
+pub talks_numbers : (e v : Speaker) → Talks e v → KeepsNumbers e → KeepsNumbers v
 talks_numbers e _ Quiet h = h
 talks_numbers e _ (Says v k c t) h = said_numbers v k c (talks_numbers e v t h)
 
-pub talks_told : (pool : List Fields) (e v : Voice) → Talks e v → KeepsNumbers e → IsTold pool e → IsTold pool v
+pub talks_told : (pool : List Fields) (e v : Speaker) → Talks e v → KeepsNumbers e → IsTold pool e → IsTold pool v
 talks_told pool e _ Quiet h told = told
 talks_told pool e _ (Says v k c t) h told = said_told pool v k c (talks_numbers e v t h) (talks_told pool e v t h told)
 
-pub talks_further : (e v w : Voice) → Talks e v → Talks v w → Talks e w
+pub talks_further : (e v w : Speaker) → Talks e v → Talks v w → Talks e w
 talks_further e v _ t Quiet = t
 talks_further e v _ t (Says w k c s) = Says w k c (talks_further e v w t s)
 
--- who speaks, in which life, and who is listened to
-pub record AreOne (e v : Voice) : Type 0 where
+-- who speaks, in which incarnation, and who is listened to
+pub record AreOne (e v : Speaker) : Type 0 where
   pub address : v.address ≡ e.address
   pub incarnation : v.incarnation ≡ e.incarnation
   pub originators : v.table.originators ≡ e.table.originators
 
-pub one_itself : (e : Voice) → AreOne e e
+pub one_itself : (e : Speaker) → AreOne e e
 one_itself e = record { address = refl; incarnation = refl; originators = refl }
 
-pub talks_one : (e v : Voice) → Talks e v → AreOne e v
+pub talks_one : (e v : Speaker) → Talks e v → AreOne e v
 talks_one e _ Quiet = one_itself e
 talks_one e _ (Says v k c t) = let h = talks_one e v t in
     record { address = h.address; incarnation = h.incarnation; originators = h.originators }
 
-pub heard_one : (e : Voice) (u : Fields) → AreOne e (after_hearing e u)
+pub heard_one : (e : Speaker) (u : Fields) → AreOne e (after_importing e u)
 heard_one e u = record { address = refl; incarnation = refl; originators = same_listeners e.table u }
 
-pub own_one : (e : Voice) (u : Fields) → AreOne e (after_hearing_own e u)
+pub own_one : (e : Speaker) (u : Fields) → AreOne e (after_importing_own e u)
 own_one e u = go (is_returning e u)
   where
-    go : (b : Bool) → AreOne e (cond b (after_saying (after_hearing e u) u.register.key Withdrawn) (after_hearing e u))
+    go : (b : Bool) → AreOne e (cond b (after_originating (after_importing e u) u.register.key Withdrawn)
+        (after_importing e u))
     go true = record { address = refl; incarnation = refl; originators = same_listeners e.table u }
     go false = heard_one e u
 
-pub one_further : (e v w : Voice) → AreOne e v → AreOne v w → AreOne e w
+pub one_further : (e v w : Speaker) → AreOne e v → AreOne v w → AreOne e w
 one_further e v w h g = record {
   address = g.address ∙ h.address;
   incarnation = g.incarnation ∙ h.incarnation;

@@ -23,8 +23,8 @@ nth xs (suc i) = slice_get xs i
 abbrev pub IsEdge : Fabric → ℕ → Edge → Type 0
 IsEdge f i a = slice_get f.edges i ≡ Some a
 
-abbrev pub life_of : Edge → ℕ
-life_of a = a.claims.voice.incarnation
+abbrev pub incarnation_of : Edge → ℕ
+incarnation_of a = a.routes.speaker.incarnation
 
 abbrev pub addresses_of : List EdgeConfig → List ℕ
 addresses_of cs = map (λ c. c.address) cs

@@ -9,17 +9,17 @@ use Rattle.ev_edge.specs.declared.reply.Reply.{Reply}
 use Rattle.ev_edge.specs.Edge.{Edge, table_of, address_of}
 use Rattle.ev_fabric.specs.declared.step.Step.{Step}
 use Rattle.ev_fabric.specs.declared.step.Step.TheVariants.{Restart}
-use Rattle.ev_fabric.specs.Fabric.{Fabric, IsEdge, nth, life_of}
+use Rattle.ev_fabric.specs.Fabric.{Fabric, IsEdge, nth, incarnation_of}
 use Rattle.ev_fabric.specs.Steps.{FabricSteps}
 use Rattle.ev_fabric.specs.Sound.{IsSound}
 use Rattle.ev_fabric.specs.Agreed.{AllAgree}
 use Rattle.ev_fabric.specs.Runs.{Runs}
-use Rattle.ev_fabric.specs.Rest.{Rests}
+use Rattle.ev_fabric.specs.Convergence.{Rests}
 
--- the edge b has the name of the edge a, and leads its life or a later one
+-- the edge b has the name of the edge a, and leads its incarnation or a later one
 pub record IsLaterEdge (a b : Edge) : Type 0 where
   pub address : address_of b ≡ address_of a
-  pub life : life_of a ≤ life_of b
+  pub life : incarnation_of a ≤ incarnation_of b
 
 -- there are as many edges, each at its place later on, and the pool has all its updates still, at their places
 pub record IsLaterFabric (old new : Fabric) : Type 0 where
@@ -36,8 +36,8 @@ RunsLead = (steps : List Step) (old new : Fabric) → IsSound old → Runs old s
 abbrev pub RestsRun : Type 0
 RestsRun = (steps : List Step) (old new : Fabric) → Rests old steps new → Runs old steps new
 
--- Edge e was opened anew in the life n, and then whatever came. Where all agree, each advert of it in any table is of
--- the life n or a later one.
+-- Edge e was opened anew in the incarnation n, and then whatever came. Where all agree, each advert of it in any table
+-- is of the incarnation n or a later one.
 abbrev pub AdvertsAreAnew : Type 0
 AdvertsAreAnew =
     (old mid new : Fabric) (e n : ℕ) (reply : Reply) (steps : List Step) → IsSound old

@@ -16,7 +16,7 @@ use Rattle.mac_arena.specs.Learning.{entry_at}
 use Rattle.rstp_run.specs.Events.{Passes}
 use Rattle.ev_tunnel.specs.declared.decision.Decision.{Decision}
 use Rattle.ev_tunnel.specs.Datagram.{datagram_of}
-use Rattle.ev_claims.specs.Claims.{vni_at}
+use Rattle.ev_claims.specs.LocalRoutes.{vni_at}
 use Rattle.ev_edge.specs.declared.arrival.Arrival.TheVariants.{Data}
 use Rattle.ev_edge.specs.declared.config.EdgeConfig.{EdgeConfig}
 use Rattle.ev_edge.specs.declared.event.Event.{Event}
@@ -27,7 +27,7 @@ use Rattle.ev_edge.specs.Arrival.{frame_arrival, tunnel_arrival}
 use Rattle.ev_edge.specs.Edge.{Edge, IsGoodEdge, table_of, address_of}
 use Rattle.ev_edge.specs.Steps.{Steps}
 use Rattle.ev_fabric.specs.declared.step.Step.{Step}
-use Rattle.ev_fabric.specs.Fabric.{Fabric, IsEdge, life_of}
+use Rattle.ev_fabric.specs.Fabric.{Fabric, IsEdge, incarnation_of}
 use Rattle.ev_fabric.specs.Opening.{AreConfigs, IsStart}
 use Rattle.ev_fabric.specs.Sound.{update_of, IsSound}
 use Rattle.ev_fabric.specs.Agreed.{AllAgree, Advertises}
@@ -45,9 +45,9 @@ EveryRun = (steps : List Step) (old new : Fabric) → Runs old steps new → IsS
 
 -- ---- no table is ahead
 
--- the value is of an earlier life of the edge b, or isn't newer than what b says of the register itself
+-- the value is of an earlier incarnation of the edge b, or isn't newer than what b says of the register itself
 abbrev pub IsNotAhead : Edge → Register → Value → Type 0
-IsNotAhead b r v = (v.incarnation < life_of b) ⊎ ((w : Value) × (value_at (table_of b) r ≡ Some w)
+IsNotAhead b r v = (v.incarnation < incarnation_of b) ⊎ ((w : Value) × (value_at (table_of b) r ≡ Some w)
     × (is_newer v w ≡ false))
 
 abbrev pub NoneAhead : Type 0
@@ -58,9 +58,9 @@ NoneAhead = (f : Fabric) → IsSound f → (i j : ℕ) (a b : Edge) → IsEdge f
 abbrev pub Announced : Type 0
 Announced = (f : Fabric) → IsSound f → (i : ℕ) (a : Edge) → IsEdge f i a → (r : Register) (v : Value)
     → value_at (table_of a) r ≡ Some v
-    → (r.originator ≡ address_of a → Contains a.claims.voice.pending r → ⊥) → Contains f.pool (update_of r v)
+    → (r.originator ≡ address_of a → Contains a.routes.speaker.pending r → ⊥) → Contains f.pool (update_of r v)
 
--- two updates of one register, life and number are one
+-- two updates of one register, incarnation and number are one
 abbrev pub SaidOnce : Type 0
 SaidOnce = (f : Fabric) → IsSound f → (u w : Fields) → Contains f.pool u → Contains f.pool w → u.register ≡ w.register
     → u.value.incarnation ≡ w.value.incarnation → u.value.counter ≡ w.value.counter → u ≡ w
@@ -88,8 +88,8 @@ OneOfAll = (f : Fabric) → IsSound f → AllAgree f → (i j : ℕ) (a b : Edge
 
 -- it has learnt it, behind a port of the station's network
 pub record IsBehindPort (a : Edge) (s : Station) (x : Entry) : Type 0 where
-  pub learnt : entry_at a.claims.learned s ≡ Some x
-  pub port : vni_at a.claims.ports x.port ≡ Some s.vni
+  pub learnt : entry_at a.routes.learned s ≡ Some x
+  pub port : vni_at a.routes.ports x.port ≡ Some s.vni
 
 abbrev pub Learnt : Type 0
 Learnt = (a : Edge) (s : Station) → IsGoodEdge a → Advertises a s → (x : Entry) × IsBehindPort a s x
@@ -99,11 +99,11 @@ abbrev pub OwnerOfAll : Type 0
 OwnerOfAll = (f : Fabric) → IsSound f → AllAgree f → (i j : ℕ) (a b : Edge) (s : Station) → IsEdge f i a → IsEdge f j b
     → Advertises a s → IsOwner (table_of b) s.vni s.mac (address_of a)
 
--- no table has an advert of an earlier life of its originator
+-- no table has an advert of an earlier incarnation of its originator
 abbrev pub NoneBack : Type 0
 NoneBack = (f : Fabric) → IsSound f → AllAgree f → (i j : ℕ) (a b : Edge) → IsEdge f i a → IsEdge f j b
     → (r : Register) (v : Value) → r.originator ≡ address_of b → value_at (table_of a) r ≡ Some v
-    → IsSome (advert_in v.content) → v.incarnation ≡ life_of b
+    → IsSome (advert_in v.content) → v.incarnation ≡ incarnation_of b
 
 -- ---- where frames go
 

@@ -7,9 +7,9 @@ pub mod Sound
 pub mod Agreed
 pub mod Runs
 pub mod Laws
-pub mod RestEdge
-pub mod Rest
-pub mod RestMove
+pub mod ConvergenceEdge
+pub mod Convergence
+pub mod ConvergenceMove
 pub mod Station
 pub mod Later
 pub mod Witnesses

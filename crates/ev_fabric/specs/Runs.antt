@@ -1,7 +1,7 @@
 -- Lists of steps.
 use Rattle.std.specs.Prelude.{◌≡◌, Result, List, [], ◌∷◌}
 use Rattle.ev_edge.specs.declared.reply.Reply.{Reply}
-use Rattle.ev_fabric.specs.declared.refusal.Refusal.{Refusal}
+use Rattle.ev_fabric.specs.declared.refusal.FabricRefusal.{FabricRefusal}
 use Rattle.ev_fabric.specs.declared.step.Step.{Step}
 use Rattle.ev_fabric.specs.Fabric.{Fabric}
 use Rattle.ev_fabric.specs.Steps.{FabricSteps}
@@ -9,5 +9,5 @@ use Rattle.ev_fabric.specs.Steps.{FabricSteps}
 -- a list of steps, each from where the one before has led, with whatever answers
 abbrev pub Runs : Fabric → List Step → Fabric → Type 0
 Runs old [] new = new ≡ old
-Runs old (step ∷ steps) new = (mid : Fabric) × (result : Result Reply Refusal) × FabricSteps old step result mid
+Runs old (step ∷ steps) new = (mid : Fabric) × (result : Result Reply FabricRefusal) × FabricSteps old step result mid
     × Runs mid steps new

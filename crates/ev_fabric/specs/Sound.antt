@@ -5,16 +5,17 @@ use Rattle.route_wire.specs.declared.update.Register.{Register}
 use Rattle.route_wire.specs.declared.update.Value.{Value}
 use Rattle.route_wire.specs.Fields.{Fields}
 use Rattle.route_join.specs.Table.{Table, value_at, is_listed}
-use Rattle.ev_claims.specs.Voice.{Voice}
+use Rattle.ev_claims.specs.Speaker.{Speaker}
 use Rattle.ev_edge.specs.declared.config.EdgeConfig.{EdgeConfig}
 use Rattle.ev_edge.specs.Config.{IsConfig}
 use Rattle.ev_edge.specs.Edge.{Edge, IsGoodEdge, table_of, address_of}
-use Rattle.ev_fabric.specs.Fabric.{Fabric, IsEdge, life_of}
+use Rattle.ev_fabric.specs.Fabric.{Fabric, IsEdge, incarnation_of}
 
 abbrev pub update_of : Register → Value → Fields
 update_of r v = record { register = r; value = v }
 
--- It was said in the present life n, and the table has it still, or something of that life with a higher number.
+-- It was said in the present incarnation n, and the table has it still, or something of that incarnation with a higher
+-- number.
 pub record IsBehind (n : ℕ) (t : Table) (u : Fields) : Type 0 where
   pub present : u.value.incarnation ≡ n
   pub says : Value
@@ -23,8 +24,8 @@ pub record IsBehind (n : ℕ) (t : Table) (u : Fields) : Type 0 where
   pub order : (u.value ≡ says) ⊎ (u.value.counter < says.counter)
 
 -- What the pool and what an edge says know of each other: what the edge has of others was announced; what it says
--- itself was announced or is pending; what it announced in this life is what it says, or has a lower number.
-pub record IsTold (pool : List Fields) (e : Voice) : Type 0 where
+-- itself was announced or is pending; what it announced in this incarnation is what it says, or has a lower number.
+pub record IsTold (pool : List Fields) (e : Speaker) : Type 0 where
   pub foreign : (r : Register) (v : Value) → r.originator ≢ e.address → value_at e.table r ≡ Some v
       → Contains pool (update_of r v)
   pub own : (r : Register) (v : Value) → r.originator ≡ e.address → value_at e.table r ≡ Some v
@@ -32,7 +33,7 @@ pub record IsTold (pool : List Fields) (e : Voice) : Type 0 where
   pub behind : (u : Fields) → Contains pool u → u.register.originator ≡ e.address
       → (u.value.incarnation < e.incarnation) ⊎ IsBehind e.incarnation e.table u
 
--- of one register, life and number there is one update
+-- of one register, incarnation and number there is one update
 abbrev pub SaidOnce : List Fields → Type 0
 SaidOnce pool = (u w : Fields) → Contains pool u → Contains pool w → u.register ≡ w.register
     → u.value.incarnation ≡ w.value.incarnation → u.value.counter ≡ w.value.counter → u ≡ w
@@ -41,13 +42,13 @@ SaidOnce pool = (u w : Fields) → Contains pool u → Contains pool w → u.reg
 pub record IsOf (c : EdgeConfig) (a : Edge) : Type 0 where
   pub config : IsConfig c
   pub address : address_of a ≡ c.address
-  pub life : life_of a ≡ c.incarnation
+  pub life : incarnation_of a ≡ c.incarnation
   pub originators : (table_of a).originators ≡ c.originators.items
 
 pub record IsSound (f : Fabric) : Type 0 where
   pub apart : (i j : ℕ) (a b : Edge) → IsEdge f i a → IsEdge f j b → address_of a ≡ address_of b → i ≡ j
   pub good : (i : ℕ) (a : Edge) → IsEdge f i a → IsGoodEdge a
-  pub told : (i : ℕ) (a : Edge) → IsEdge f i a → IsTold f.pool a.claims.voice
+  pub told : (i : ℕ) (a : Edge) → IsEdge f i a → IsTold f.pool a.routes.speaker
   pub once : SaidOnce f.pool
   pub sources : (u : Fields) → Contains f.pool u → (i : ℕ) × (a : Edge) × IsEdge f i a
       × (address_of a ≡ u.register.originator)

@@ -16,26 +16,26 @@ use Rattle.mac_arena.specs.declared.station.Station.{Station}
 use Rattle.mac_arena.specs.declared.station.Entry.{Entry}
 use Rattle.mac_arena.specs.Learning.{entry_at}
 use Rattle.ev_tunnel.specs.Datagram.{datagram_of}
-use Rattle.ev_claims.specs.Voice.{Voice, own, own_advert}
-use Rattle.ev_claims.specs.Claims.{key_of}
+use Rattle.ev_claims.specs.Speaker.{Speaker, own, own_advert}
+use Rattle.ev_claims.specs.LocalRoutes.{key_of}
 use Rattle.ev_edge.specs.declared.config.EdgeConfig.{EdgeConfig}
 use Rattle.ev_edge.specs.declared.event.Event.{Event}
 use Rattle.ev_edge.specs.declared.reply.Reply.{Reply}
 use Rattle.ev_edge.specs.Edge.{Edge, table_of, address_of}
 use Rattle.ev_edge.specs.Steps.{Steps}
-use Rattle.ev_fabric.specs.declared.refusal.Refusal.{Refusal}
+use Rattle.ev_fabric.specs.declared.refusal.FabricRefusal.{FabricRefusal}
 use Rattle.ev_fabric.specs.declared.step.LocalEvent.{LocalEvent}
 use Rattle.ev_fabric.specs.declared.step.Step.{Step}
 use Rattle.ev_fabric.specs.declared.step.Step.TheVariants.{Local, Announce, Deliver, Restart}
-use Rattle.ev_fabric.specs.Fabric.{Fabric, IsEdge, life_of}
+use Rattle.ev_fabric.specs.Fabric.{Fabric, IsEdge, incarnation_of}
 use Rattle.ev_fabric.specs.Steps.{FabricSteps}
 use Rattle.ev_fabric.specs.Sound.{update_of, IsSound}
 use Rattle.ev_fabric.specs.Agreed.{Advertises}
 use Rattle.ev_fabric.specs.Laws.{IsBehindPort, IsFrameFor, GoesTo, ComesOut}
-use Rattle.ev_fabric.specs.RestMove.{IsMoved}
+use Rattle.ev_fabric.specs.ConvergenceMove.{IsMoved}
 use Rattle.ev_fabric.specs.Opening.{AreConfigs, IsStart}
-use Rattle.ev_fabric.specs.RestEdge.{comes_back}
-use Rattle.ev_fabric.specs.Rest.{Rests, HasNumbers, announcing, each, two_rounds}
+use Rattle.ev_fabric.specs.ConvergenceEdge.{comes_back}
+use Rattle.ev_fabric.specs.Convergence.{Rests, HasNumbers, announcing, each, two_rounds}
 
 -- ---- registers
 
@@ -56,7 +56,8 @@ is_flood vni r = is_flood_list vni r.key
 -- Of these registers none is pending at any edge, and each edge has each update of the pool, or a newer one of its
 -- register. Nothing is asked of any other register.
 pub record AgreesAbout (f : Fabric) (these : Register → Bool) : Type 0 where
-  pub quiet : (i : ℕ) (a : Edge) (r : Register) → IsEdge f i a → these r ≡ true → Contains a.claims.voice.pending r → ⊥
+  pub quiet : (i : ℕ) (a : Edge) (r : Register) → IsEdge f i a → these r ≡ true → Contains a.routes.speaker.pending r
+      → ⊥
   pub arrived : (i : ℕ) (a : Edge) (u : Fields) → IsEdge f i a → these u.register ≡ true → Contains f.pool u
       → (v : Value) × (value_at (table_of a) u.register ≡ Some v) × (is_newer u.value v ≡ false)
 
@@ -75,13 +76,13 @@ pub record AgreesOnEach (f : Fabric) : Type 0 where
 
 -- ---- what follows of a station on which the edges agree
 
--- the originator is an edge of the fabric, and this is its present life
-pub record IsOfPresentLife (f : Fabric) (o life : ℕ) : Type 0 where
+-- the originator is an edge of the fabric, and this is its present incarnation
+pub record IsOfPresentIncarnation (f : Fabric) (o life : ℕ) : Type 0 where
   pub place : ℕ
   pub edge : Edge
   pub there : IsEdge f place edge
   pub address : address_of edge ≡ o
-  pub present : life ≡ life_of edge
+  pub present : life ≡ incarnation_of edge
 
 pub record IsAgreedStation (f : Fabric) (s : Station) : Type 0 where
   -- each edge has the same values of the station's registers
@@ -100,9 +101,10 @@ pub record IsAgreedStation (f : Fabric) (s : Station) : Type 0 where
   -- every edge takes it for the owner
   pub owner : (i j : ℕ) (a b : Edge) → IsEdge f i a → IsEdge f j b → Advertises a s
       → IsOwner (table_of b) s.vni s.mac (address_of a)
-  -- none has an advert of an earlier life of any originator
+  -- none has an advert of an earlier incarnation of any originator
   pub present : (i : ℕ) (a : Edge) (r : Register) (v : Value) → IsEdge f i a → is_of s r ≡ true
-      → value_at (table_of a) r ≡ Some v → IsSome (advert_in v.content) → IsOfPresentLife f r.originator v.incarnation
+      → value_at (table_of a) r ≡ Some v → IsSome (advert_in v.content)
+      → IsOfPresentIncarnation f r.originator v.incarnation
 
 abbrev pub AgreedStation : Type 0
 AgreedStation = (f : Fabric) (s : Station) → IsSound f → AgreesOn f s → IsAgreedStation f s
@@ -138,17 +140,18 @@ pub record StationComes (old : Fabric) (i j : ℕ) (s : Station) (new : Fabric) 
   pub at_from : IsEdge old i from
   pub at_to : IsEdge old j to
   pub had : Advertises from s
-  pub unknown : entry_at to.claims.learned s ≡ None
+  pub unknown : entry_at to.routes.learned s ≡ None
   pub event : LocalEvent
-  pub result : Result Reply Refusal
+  pub result : Result Reply FabricRefusal
   pub step : FabricSteps old (Local (suc j) event) result new
   pub after : Edge
   pub at_after : IsEdge new j after
-  pub learnt : IsSome (entry_at after.claims.learned s)
+  pub learnt : IsSome (entry_at after.routes.learned s)
 
 -- what the edge says itself of the station stays: it isn't learnt there anew, nor aged, flushed, pinned or unpinned
 abbrev pub SaysTheSame : Station → Edge → Edge → Type 0
-SaysTheSame s a b = (ip : Option Ip) → own b.claims.voice (Mac s.vni s.mac ip) ≡ own a.claims.voice (Mac s.vni s.mac ip)
+SaysTheSame s a b = (ip : Option Ip) → own b.routes.speaker (Mac s.vni s.mac ip)
+    ≡ own a.routes.speaker (Mac s.vni s.mac ip)
 
 -- the pool has no advert of the station by this originator
 abbrev pub NeverAdvertised : List Fields → Station → ℕ → Type 0
@@ -174,7 +177,7 @@ LeavesStation i j s old (Restart e n) new = (new ≡ old) ⊎ ((x : ℕ) → e �
 -- any list of steps, with whatever answers, each of which leaves the station so
 abbrev pub RunsBeside : ℕ → ℕ → Station → Fabric → List Step → Fabric → Type 0
 RunsBeside i j s old [] new = new ≡ old
-RunsBeside i j s old (step ∷ steps) new = (mid : Fabric) × (result : Result Reply Refusal)
+RunsBeside i j s old (step ∷ steps) new = (mid : Fabric) × (result : Result Reply FabricRefusal)
     × FabricSteps old step result mid × LeavesStation i j s old step mid × RunsBeside i j s mid steps new
 
 -- the updates of registers of the station, in their order
@@ -205,9 +208,9 @@ all_take m k = each (λ e. Deliver e k ∷ []) m
 -- edge has taken it they agree on the station again.
 abbrev pub StationArrives : Type 0
 StationArrives = (i j : ℕ) (s : Station) (old mid told : Fabric) → IsSound old → HasNumbers mid
-    → (m : StationComes old i j s mid) → Rests mid (announcing (suc j) (length m.to.claims.voice.pending + 1)) told
+    → (m : StationComes old i j s mid) → Rests mid (announcing (suc j) (length m.to.routes.speaker.pending + 1)) told
     → (k : ℕ) × ((heard left : Fabric) → Rests told (all_take (length mid.edges) (suc k)) heard
-    → Rests heard (announcing (suc i) (length m.from.claims.voice.pending + 1)) left
+    → Rests heard (announcing (suc i) (length m.from.routes.speaker.pending + 1)) left
     → (l : ℕ) × ((new : Fabric) → Rests left (all_take (length mid.edges) (suc l)) new → AgreesOn new s))
 
 -- ---- a station that is left alone
@@ -224,7 +227,8 @@ IsLeftAlone s old (Restart e n) new = (new ≡ old) ⊎ ((x : ℕ) (a : Edge) �
 -- any list of steps, with whatever answers, each of which leaves the station alone
 abbrev pub RunsAlone : Station → Fabric → List Step → Fabric → Type 0
 RunsAlone s old [] new = new ≡ old
-RunsAlone s old (step ∷ steps) new = (mid : Fabric) × (result : Result Reply Refusal) × FabricSteps old step result mid
+RunsAlone s old (step ∷ steps) new = (mid : Fabric) × (result : Result Reply FabricRefusal)
+    × FabricSteps old step result mid
     × IsLeftAlone s old step mid × RunsAlone s mid steps new
 
 -- no edge restarts
@@ -250,13 +254,13 @@ StationReached = (configs : List EdgeConfig) (f : Fabric) → AreConfigs configs
     → AgreesOn new s)
 
 -- How many updates of the station the edge may still announce: those that wait, one if it advertises the station, and
--- one for each own advert of an earlier life that would come back from the pool.
-abbrev pub unannounced_on : Station → List Fields → Voice → ℕ
+-- one for each own advert of an earlier incarnation that would come back from the pool.
+abbrev pub unannounced_on : Station → List Fields → Speaker → ℕ
 unannounced_on s pool e = length (filter (is_of s) e.pending) + (if is_some (own_advert e (key_of s)) then 1 else 0)
     + count_by (λ (u : Fields). is_of s u.register && comes_back e u) pool
 
 abbrev pub to_come_on : Station → Fabric → ℕ
-to_come_on s f = sum_by (λ (a : Edge). unannounced_on s f.pool a.claims.voice) f.edges
+to_come_on s f = sum_by (λ (a : Edge). unannounced_on s f.pool a.routes.speaker) f.edges
 
 -- what the pool has of a station that is left alone, with what it may still get, never grows
 abbrev pub StationSettles : Type 0

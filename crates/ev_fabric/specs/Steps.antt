@@ -11,16 +11,16 @@ use Rattle.ev_edge.specs.declared.refusal.Refusal as edge
 use Rattle.ev_edge.specs.Edge.{Edge, IsGoodEdge}
 use Rattle.ev_edge.specs.Opening.{IsOpening}
 use Rattle.ev_edge.specs.Steps.{Steps, nothing}
-use Rattle.ev_fabric.specs.declared.refusal.Refusal.{Refusal}
-use Rattle.ev_fabric.specs.declared.refusal.Refusal.TheVariants.{NoSuchEdge, NoSuchUpdate, NoHigher, NoMemory}
-use Rattle.ev_fabric.specs.declared.refusal.Refusal.TheVariants.{Edge as OfEdge}
+use Rattle.ev_fabric.specs.declared.refusal.FabricRefusal.{FabricRefusal}
+use Rattle.ev_fabric.specs.declared.refusal.FabricRefusal.TheVariants.{NoSuchEdge, NoSuchUpdate, NoHigher, NoMemory}
+use Rattle.ev_fabric.specs.declared.refusal.FabricRefusal.TheVariants.{Edge as OfEdge}
 use Rattle.ev_fabric.specs.declared.step.Step.{Step}
 use Rattle.ev_fabric.specs.declared.step.Step.TheVariants.{Local, Announce, Deliver, Restart}
-use Rattle.ev_fabric.specs.Fabric.{Fabric, nth, life_of}
+use Rattle.ev_fabric.specs.Fabric.{Fabric, nth, incarnation_of}
 use Rattle.ev_fabric.specs.Local.{event_of}
 
 -- an edge's answer as the fabric's
-abbrev pub of_edge : Result Reply edge.Refusal → Result Reply Refusal
+abbrev pub of_edge : Result Reply edge.Refusal → Result Reply FabricRefusal
 of_edge (Ok reply) = Ok reply
 of_edge (Err r) = Err (OfEdge r)
 
@@ -34,11 +34,11 @@ with_announced pool None = pool
 with_announced pool (Some u) = pool ++ u ∷ []
 
 -- nothing changes
-abbrev pub IsRefused : Refusal → Fabric → Result Reply Refusal → Fabric → Type 0
+abbrev pub IsRefused : FabricRefusal → Fabric → Result Reply FabricRefusal → Fabric → Type 0
 IsRefused why old result new = (result ≡ Err why) × (new ≡ old)
 
 -- the edge at place e of a list steps by the event; the others stay
-pub record OneSteps (old : List Edge) (e : ℕ) (event : Event) (result : Result Reply Refusal) (new : List Edge) :
+pub record OneSteps (old : List Edge) (e : ℕ) (event : Event) (result : Result Reply FabricRefusal) (new : List Edge) :
     Type 0 where
   pub before : Edge
   pub there : nth old e ≡ Some before
@@ -49,7 +49,8 @@ pub record OneSteps (old : List Edge) (e : ℕ) (event : Event) (result : Result
   pub new_is : new ≡ slice_set old (e - 1) after
 
 -- the edge a at place e steps by the event, and answers; all else stays
-pub record StepsAt (old : Fabric) (e : ℕ) (a : Edge) (event : Event) (result : Result Reply Refusal) (new : Fabric) :
+pub record StepsAt (old : Fabric) (e : ℕ) (a : Edge) (event : Event) (result : Result Reply FabricRefusal)
+    (new : Fabric) :
     Type 0 where
   pub after : Edge
   pub answer : Result Reply edge.Refusal
@@ -60,40 +61,41 @@ pub record StepsAt (old : Fabric) (e : ℕ) (a : Edge) (event : Event) (result :
 -- The edge a at place e announces, and what it announces is put at the pool's end. Where something is pending, and
 -- there is
 -- no memory for that, it is still pending.
-abbrev pub AnnouncesAt : Fabric → ℕ → Edge → Result Reply Refusal → Fabric → Type 0
+abbrev pub AnnouncesAt : Fabric → ℕ → Edge → Result Reply FabricRefusal → Fabric → Type 0
 AnnouncesAt old e a (Ok reply) new =
     (b : Edge) × Steps a events.Announce (Ok reply) b × (new
     ≡ record (with_edge old e b) { pool = with_announced old.pool reply.announced })
-AnnouncesAt old e a (Err why) new = ((why ≡ NoMemory) × (a.claims.voice.pending ≢ [])) × (new ≡ old)
+AnnouncesAt old e a (Err why) new = ((why ≡ NoMemory) × (a.routes.speaker.pending ≢ [])) × (new ≡ old)
 
--- what an edge is opened with in the life n
-abbrev pub in_life : EdgeConfig → ℕ → EdgeConfig
-in_life c n = record c { incarnation = n }
+-- what an edge is opened with in the incarnation n
+abbrev pub in_incarnation : EdgeConfig → ℕ → EdgeConfig
+in_incarnation c n = record c { incarnation = n }
 
 -- the fabric with an edge at place e that is opened with c
 abbrev pub with_opened : Fabric → ℕ → Edge → EdgeConfig → Fabric
 with_opened f e b c = record (with_edge f e b) { configs = slice_set f.configs (e - 1) c }
 
--- The edge a at place e is opened anew in the life n, which is a higher one, with all else that it was opened with, and
--- is good then, as its type says; all else stays.
+-- The edge a at place e is opened anew in the incarnation n, which is a higher one, with all else that it was opened
+-- with, and is good then, as its type says; all else stays.
 pub record OpensAnew (old : Fabric) (e : ℕ) (a : Edge) (n : ℕ) (reply : Reply) (new : Fabric) : Type 0 where
-  pub higher : life_of a < n
+  pub higher : incarnation_of a < n
   pub config : EdgeConfig
   pub config_is : nth old.configs e ≡ Some config
   pub after : Edge
-  pub opened : IsOpening (in_life config n) after
+  pub opened : IsOpening (in_incarnation config n) after
   pub good : IsGoodEdge after
   pub reply_is : reply ≡ nothing
-  pub new_is : new ≡ with_opened old e after (in_life config n)
+  pub new_is : new ≡ with_opened old e after (in_incarnation config n)
 
 -- where there is no memory for a new edge, the old one stays
-abbrev pub RestartsAt : Fabric → ℕ → Edge → ℕ → Result Reply Refusal → Fabric → Type 0
+abbrev pub RestartsAt : Fabric → ℕ → Edge → ℕ → Result Reply FabricRefusal → Fabric → Type 0
 RestartsAt old e a n (Ok reply) new = OpensAnew old e a n reply new
-RestartsAt old e a n (Err why) new = (((why ≡ NoHigher) × (n ≤ life_of a)) ⊎ ((why ≡ NoMemory) × (life_of a < n)))
+RestartsAt old e a n (Err why) new = (((why ≡ NoHigher) × (n ≤ incarnation_of a))
+    ⊎ ((why ≡ NoMemory) × (incarnation_of a < n)))
     × (new ≡ old)
 
 -- a step of the fabric; the edge and the update that it names are counted from 1
-abbrev pub FabricSteps : Fabric → Step → Result Reply Refusal → Fabric → Type 0
+abbrev pub FabricSteps : Fabric → Step → Result Reply FabricRefusal → Fabric → Type 0
 FabricSteps old (Local e event) result new =
     MatchOption (nth old.edges e) (IsRefused NoSuchEdge old result new)
     (λ a. StepsAt old e a (event_of event) result new)

@@ -4,9 +4,9 @@ ghost use Rattle.ev_fabric.specs.declared.step.Step.TheVariants.{Local, Announce
 ghost use Rattle.ev_fabric.specs.Fabric.{nth};
 ghost use Rattle.ev_fabric.specs.Opening.{AreConfigs, IsStart, AreOpened};
 ghost use Rattle.ev_fabric.specs.Sound.{IsSound};
-ghost use Rattle.ev_fabric.specs.Steps.{FabricSteps, OneSteps, of_edge, in_life, with_announced};
+ghost use Rattle.ev_fabric.specs.Steps.{FabricSteps, OneSteps, of_edge, in_incarnation, with_announced};
 
-use crate::refusal::Refusal;
+use crate::refusal::FabricRefusal;
 use crate::step::{LocalEvent, Step, event_of};
 use arrayvec::ArrayVec;
 use ev_edge::{Edge, EdgeConfig, Event, Reply};
@@ -16,8 +16,8 @@ use std::marker::Model;
 
 /// Edges that share a pool of announced updates. Both are numbered from 1.
 ///
-/// Each edge is good, what an edge has of another was announced, and of one register, life and
-/// number there is one update in the pool.
+/// Each edge is good, what an edge has of another was announced, and of one register, incarnation
+/// and number there is one update in the pool.
 #[derive(Drop)]
 pub struct Fabric {
     alloc: Global,
@@ -51,9 +51,9 @@ fn copy_of<T: Copy + Default>(list: &ArrayVec<T, 64>) -> ArrayVec<T, 64>
     copy
 }
 
-// What an edge is opened with, in a life.
-fn in_life(config: &EdgeConfig, incarnation: u32) -> EdgeConfig
-    ensures { result ≡ in_life config.now incarnation }
+// What an edge is opened with, in an incarnation.
+fn in_incarnation(config: &EdgeConfig, incarnation: u32) -> EdgeConfig
+    ensures { result ≡ in_incarnation config.now incarnation }
 {
     EdgeConfig {
         address: config.address,
@@ -76,7 +76,7 @@ fn open_all(alloc: Global, configs: &[EdgeConfig]) -> Result<Vec<Edge>, AllocErr
 {
     let mut edges = Vec::new(alloc);
     for config in configs {
-        let edge = Edge::open(alloc, in_life(config, config.incarnation))?;
+        let edge = Edge::open(alloc, in_incarnation(config, config.incarnation))?;
         edge.always_good();
         edges.push(edge)?;
     }
@@ -84,7 +84,7 @@ fn open_all(alloc: Global, configs: &[EdgeConfig]) -> Result<Vec<Edge>, AllocErr
 }
 
 // Lets the edge at a place step, counted from 1.
-fn step_edge(edges: &mut Vec<Edge>, e: usize, event: &Event<'_>) -> Result<Reply, Refusal>
+fn step_edge(edges: &mut Vec<Edge>, e: usize, event: &Event<'_>) -> Result<Reply, FabricRefusal>
     requires some { 0 < e }
     requires there { e ≤ length edges.old.items }
     ensures { OneSteps edges.old.items e event.now result edges.new.items }
@@ -93,7 +93,7 @@ fn step_edge(edges: &mut Vec<Edge>, e: usize, event: &Event<'_>) -> Result<Reply
     let answer = edge.step(event);
     match answer {
         Ok(reply) => Ok(reply),
-        Err(refusal) => Err(Refusal::Edge(refusal)),
+        Err(refusal) => Err(FabricRefusal::Edge(refusal)),
     }
 }
 
@@ -147,7 +147,7 @@ impl Fabric {
     /// order. `NoMemory` where memory is refused: then an announcement is still pending (where none
     /// was there is no such answer), and at a restart the old edge stays. `Edge` where the edge
     /// refuses the event. Nothing changed then.
-    pub fn step(&mut self, step: &Step<'_>) -> Result<Reply, Refusal>
+    pub fn step(&mut self, step: &Step<'_>) -> Result<Reply, FabricRefusal>
         ensures { FabricSteps self.old step.now result self.new }
     {
         match step {
@@ -189,25 +189,25 @@ impl Fabric {
     }
 
     // Something comes to an edge from outside.
-    fn local(&mut self, e: usize, event: &LocalEvent<'_>) -> Result<Reply, Refusal>
+    fn local(&mut self, e: usize, event: &LocalEvent<'_>) -> Result<Reply, FabricRefusal>
         ensures { FabricSteps self.old (Local e event.now) result self.new }
     {
         if e == 0 || e > self.edges.len() {
-            return Err(Refusal::NoSuchEdge);
+            return Err(FabricRefusal::NoSuchEdge);
         }
         step_edge(&mut self.edges, e, &event_of(event))
     }
 
     // An edge announces. Where it has something to announce, the pool has room first.
-    fn announce(&mut self, e: usize) -> Result<Reply, Refusal>
+    fn announce(&mut self, e: usize) -> Result<Reply, FabricRefusal>
         ensures { FabricSteps self.old (Announce e) result self.new }
     {
         if e == 0 || e > self.edges.len() {
-            return Err(Refusal::NoSuchEdge);
+            return Err(FabricRefusal::NoSuchEdge);
         }
         let is_wanted = self.edges[e - 1].has_pending();
         if make_room(&mut self.pool, is_wanted).is_err() {
-            return Err(Refusal::NoMemory);
+            return Err(FabricRefusal::NoMemory);
         }
         let reply = step_edge(&mut self.edges, e, &Event::Announce)?;
         put(&mut self.pool, &reply.announced);
@@ -215,32 +215,32 @@ impl Fabric {
     }
 
     // An edge takes an update of the pool.
-    fn deliver(&mut self, e: usize, k: usize) -> Result<Reply, Refusal>
+    fn deliver(&mut self, e: usize, k: usize) -> Result<Reply, FabricRefusal>
         ensures { FabricSteps self.old (Deliver e k) result self.new }
     {
         if e == 0 || e > self.edges.len() {
-            return Err(Refusal::NoSuchEdge);
+            return Err(FabricRefusal::NoSuchEdge);
         }
         if k == 0 || k > self.pool.len() {
-            return Err(Refusal::NoSuchUpdate);
+            return Err(FabricRefusal::NoSuchUpdate);
         }
         let update = self.pool[k - 1];
         step_edge(&mut self.edges, e, &Event::Take(update))
     }
 
-    // An edge is opened anew in a higher life.
-    fn restart(&mut self, e: usize, n: u32) -> Result<Reply, Refusal>
+    // An edge is opened anew in a higher incarnation.
+    fn restart(&mut self, e: usize, n: u32) -> Result<Reply, FabricRefusal>
         ensures { FabricSteps self.old (Restart e n) result self.new }
     {
         if e == 0 || e > self.edges.len() {
-            return Err(Refusal::NoSuchEdge);
+            return Err(FabricRefusal::NoSuchEdge);
         }
         if n <= self.configs[e - 1].incarnation {
-            return Err(Refusal::NoHigher);
+            return Err(FabricRefusal::NoHigher);
         }
-        let config = in_life(&self.configs[e - 1], n);
+        let config = in_incarnation(&self.configs[e - 1], n);
         let Ok(edge) = Edge::open(self.alloc, config) else {
-            return Err(Refusal::NoMemory)
+            return Err(FabricRefusal::NoMemory)
         };
         edge.always_good();
         self.edges[e - 1] = edge;

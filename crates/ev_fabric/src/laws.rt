@@ -12,7 +12,7 @@ pub fn every_run()
 {}
 
 /// No table holds a register newer than its originator's own, but for values of an earlier
-/// life of that originator.
+/// incarnation of that originator.
 pub fn none_ahead()
     ensures { NoneAhead }
 {}
@@ -22,7 +22,7 @@ pub fn announced()
     ensures { Announced }
 {}
 
-/// Two updates of the pool of one register, life and number are one.
+/// Two updates of the pool of one register, incarnation and number are one.
 pub fn said_once()
     ensures { SaidOnce }
 {}
@@ -58,7 +58,7 @@ pub fn owner_of_all()
     ensures { OwnerOfAll }
 {}
 
-/// Where all agree, no table has an advert of an earlier life of its originator.
+/// Where all agree, no table has an advert of an earlier incarnation of its originator.
 pub fn none_back()
     ensures { NoneBack }
 {}

@@ -1,17 +1,18 @@
 //! A fabric: edges that share a pool of announced updates, and what holds of it whatever comes.
 #![tactic(auto)]
 
+mod convergence;
 mod fabric;
 mod later;
 mod laws;
 mod refusal;
-mod rest;
 mod station;
 mod step;
 #[cfg(test)]
 mod tests;
 mod witnesses;
 
+pub use convergence::{agrees, bounded, fades, fair, moves, reached, settles};
 pub use fabric::Fabric;
 pub use later::{adverts_are_anew, rests_run, runs_lead};
 pub use laws::{
@@ -19,8 +20,7 @@ pub use laws::{
     from_port_to_port, learnt, none_ahead, none_back, one_of_all, one_of_two, owner_of_all,
     said_once, sets_join, starts, tables_join, tunnel_frames_come_out,
 };
-pub use refusal::Refusal;
-pub use rest::{agrees, bounded, fades, fair, moves, reached, settles};
+pub use refusal::FabricRefusal;
 pub use station::{
     agreed_station, agrees_on, station_arrives, station_frames_go, station_from_port_to_port,
     station_lasts, station_moves, station_settles,

@@ -4,30 +4,30 @@ ghost use Rattle.ev_fabric.specs.Refusal.{refusal_number};
 
 /// Why a step is refused. Nothing changed then.
 #[derive(Clone, Copy, Debug, PartialEq, Eq)]
-pub enum Refusal {
+pub enum FabricRefusal {
     /// There is no memory for one more update of the pool, or for an edge that is opened anew.
     NoMemory,
     /// There is no such edge.
     NoSuchEdge,
     /// There is no such update in the pool.
     NoSuchUpdate,
-    /// The edge already leads this life, or a later one.
+    /// The edge already leads this incarnation, or a later one.
     NoHigher,
     /// The edge refuses the event.
     Edge(ev_edge::Refusal),
 }
 
-impl Refusal {
+impl FabricRefusal {
     /// The refusal's number among those of its part.
     pub fn number(self) -> u8
         ensures { result ≡ refusal_number self }
     {
         match self {
-            Refusal::NoMemory => 15,
-            Refusal::NoSuchEdge => 18,
-            Refusal::NoSuchUpdate => 19,
-            Refusal::NoHigher => 22,
-            Refusal::Edge(refusal) => refusal.number(),
+            FabricRefusal::NoMemory => 15,
+            FabricRefusal::NoSuchEdge => 18,
+            FabricRefusal::NoSuchUpdate => 19,
+            FabricRefusal::NoHigher => 22,
+            FabricRefusal::Edge(refusal) => refusal.number(),
         }
     }
 }

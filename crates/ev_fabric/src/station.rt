@@ -14,7 +14,8 @@ pub fn agrees_on()
 
 /// A law, which does nothing: where the edges agree on a station, they have the same newest values
 /// of its registers, one of all advertises it at most, which has learnt it behind a port of its
-/// network, and every edge takes that one for the owner; no advert of an earlier life is left.
+/// network, and every edge takes that one for the owner; no advert of an earlier incarnation is
+/// left.
 pub fn agreed_station()
     ensures { AgreedStation }
 {}

@@ -38,7 +38,7 @@ pub enum Step<'a> {
     Announce(usize),
     /// The edge takes this update of the pool.
     Deliver(usize, usize),
-    /// The edge is opened anew in this life.
+    /// The edge is opened anew in this incarnation.
     Restart(usize, u32),
 }
 

@@ -3,7 +3,7 @@ ghost use Rattle.std.specs.Prelude.{◌≡◌, ◌+◌, [], ◌∷◌, IfOk, Con
 ghost use Rattle.ev_edge.specs.Config.{IsConfig, vnis_of};
 ghost use Rattle.ev_fabric.specs.Opening.{AreConfigs};
 
-use crate::{Fabric, LocalEvent, Refusal, Step};
+use crate::{Fabric, FabricRefusal, LocalEvent, Step};
 use arrayvec::ArrayVec;
 use bpdu_wire::BridgeId;
 use ether_wire::{Addr, Mac, Out, Page, Vni};
@@ -142,7 +142,7 @@ enum Act {
     Announce,
     /// This update of the pool comes.
     Take(usize),
-    /// It is opened anew in this life.
+    /// It is opened anew in this incarnation.
     Restart(u32),
 }
 
@@ -189,7 +189,7 @@ fn address(e: u8) -> Addr
 
 // Each step is made here: where a function makes one and names no `LocalEvent`, the borrow checker
 // isn't told of that type.
-fn perform(fabric: &mut Fabric, e: usize, what: Act) -> Result<Reply, Refusal> {
+fn perform(fabric: &mut Fabric, e: usize, what: Act) -> Result<Reply, FabricRefusal> {
     match what {
         Act::Up(port) => fabric.step(&Step::Local(e, LocalEvent::PortUp(port))),
         Act::Down(port) => fabric.step(&Step::Local(e, LocalEvent::PortDown(port))),
@@ -272,7 +272,7 @@ const MOVED: &str = "flood 5001 10.0.0.1 1 up\nflood 5001 10.0.0.2 1 up\n\
     mac 5001 02:00:00:00:00:0a 10.0.0.2 4 dynamic 1\n\
     owner 5001 02:00:00:00:00:0a 10.0.0.2\n";
 
-/// And this where edge 1 was opened anew, in life 1.
+/// And this where edge 1 was opened anew, in incarnation 1.
 const ANEW: &str = "flood 5001 10.0.0.1 1.1 up\nflood 5001 10.0.0.2 1 up\n\
     mac 5001 02:00:00:00:00:0a 10.0.0.1 1.2 withdrawn\n\
     mac 5001 02:00:00:00:00:0a 10.0.0.2 3 withdrawn\n\

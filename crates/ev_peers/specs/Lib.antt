@@ -2,7 +2,7 @@ pub mod Giving
 pub mod Links
 pub mod Line
 pub mod Mailbox
-pub mod Crew
+pub mod EdgeThreads
 pub mod Alarm
 pub mod Passing
 pub mod Coming

@@ -1,8 +1,8 @@
 -- What comes over a link and what goes over one, and what a worker tells of its link when it ends.
 use Rattle.std.specs.Prelude.{ℕ, List, [], ◌∷◌, take, Option, Some, None, Result, Ok, Err}
 use Rattle.ether_wire.specs.declared.ends.Device.{Device as Failure}
-use Rattle.ev_peers.specs.declared.site.Ended.{Ended}
-use Rattle.ev_peers.specs.declared.site.Ended.TheVariants.{End, Device, NoMemory}
+use Rattle.ev_peers.specs.declared.shared_edge.Ended.{Ended}
+use Rattle.ev_peers.specs.declared.shared_edge.Ended.TheVariants.{End, Device, NoMemory}
 
 -- a datagram that came: from whom, and what it holds
 pub record Arrival : Type 0 where

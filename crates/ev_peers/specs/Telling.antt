@@ -2,7 +2,7 @@
 use Rattle.std.specs.Prelude.{◌≡◌, ℕ, List, [], ◌∷◌, ◌++◌, codes, nat_lt, if◌then◌else◌, Option, Some, None, Result}
 use Rattle.std.specs.Prelude.{Ok, Err}
 use Rattle.std.specs.Fmt.{decimal}
-use Rattle.ether_wire.specs.Names.{mac_text}
+use Rattle.ether_wire.specs.Addr.{mac_text}
 use Rattle.ether_wire.specs.declared.ends.Device.{Device}
 use Rattle.ether_wire.specs.Ends.{End, Puts}
 use Rattle.mac_arena.specs.declared.station.Station.{Station}

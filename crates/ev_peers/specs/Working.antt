@@ -2,12 +2,12 @@
 use Rattle.std.specs.Prelude.{◌≡◌, ◌≢◌, ◌⊎◌, ℕ, ◌-◌, ◌^◌, nat_lt, if◌then◌else◌, List, [], ◌∷◌, length, Option, Some}
 use Rattle.std.specs.Prelude.{None, Result, Ok, Err}
 use Rattle.vxlan_wire.specs.Vxlan.{instance_of}
-use Rattle.vxlan_wire.specs.declared.vxlan.Refusal.{Refusal}
+use Rattle.vxlan_wire.specs.declared.vxlan.VxlanRefusal.{VxlanRefusal}
 use Rattle.ev_edge.specs.declared.event.Event.{Event}
 use Rattle.ev_edge.specs.declared.event.Event.TheVariants as events
 use Rattle.ev_book.specs.Book.{PassState}
-use Rattle.ev_peers.specs.declared.site.Ended.{Ended}
-use Rattle.ev_peers.specs.declared.site.Ended.TheVariants.{End, Device as Failed, NoMemory}
+use Rattle.ev_peers.specs.declared.shared_edge.Ended.{Ended}
+use Rattle.ev_peers.specs.declared.shared_edge.Ended.TheVariants.{End, Device as Failed, NoMemory}
 use Rattle.ev_peers.specs.declared.mailbox.Message.{Message}
 use Rattle.ev_peers.specs.declared.mailbox.Message.TheVariants.{Record, Room}
 use Rattle.ev_peers.specs.declared.workers.Source.{Source}
@@ -40,7 +40,7 @@ IsEventOf Tunnel a (Some event) = (a.octets ≢ []) × IsTunnelFrame a.from a.oc
 abbrev pub fitting : ℕ × List ℕ → ℕ × List ℕ
 fitting carried = if nat_lt 9018 (length carried.1) then (0, []) else carried
 
-abbrev pub unwrapped : Result (ℕ × List ℕ) Refusal → ℕ × List ℕ
+abbrev pub unwrapped : Result (ℕ × List ℕ) VxlanRefusal → ℕ × List ℕ
 unwrapped (Ok carried) = fitting carried
 unwrapped (Err refusal) = (0, [])
 

@@ -1,10 +1,10 @@
 //! Edges that run beside each other, each on a thread, with a mailbox for each.
 ghost use Rattle.std.specs.Prelude.{◌≡◌, ◌+◌, ◌≤◌, vec_len, vec_capacity, IfOk};
 ghost use Rattle.ev_edge.specs.Config.{IsConfig};
-ghost use Rattle.ev_peers.specs.Crew.{HasEdges, setup_of};
+ghost use Rattle.ev_peers.specs.EdgeThreads.{HasEdges, setup_of};
 
 use crate::boards::Boards;
-use crate::crew::{EdgeLinks, Outcome, edge_worker};
+use crate::edge_threads::{EdgeLinks, Outcome, edge_worker};
 use crate::gate::Gate;
 use crate::links::{LinkIn, LinkOut};
 use crate::peers::{Mailboxes, Peers};
@@ -29,7 +29,7 @@ impl<I: Drop, O: Drop> Model for Setup<I, O> {
     ghost use Rattle.std.specs.Coded.{codes};
     ghost use Rattle.std.specs.FinMap.{code};
     ghost use Rattle.ev_edge.specs.Config.{IsConfig};
-    ghost use Rattle.ev_peers.specs.Crew.{EdgeSetup, setup_of};
+    ghost use Rattle.ev_peers.specs.EdgeThreads.{EdgeSetup, setup_of};
 
     ghost Value = { EdgeSetup };
 
@@ -152,7 +152,7 @@ struct Ready<I: Drop, O: Drop> {
 
 impl<I: Drop, O: Drop> Model for Ready<I, O> {
     ghost use Rattle.std.specs.Prelude.{ℕ, vec_len, vec_capacity};
-    ghost use Rattle.ev_peers.specs.Crew.{HasEdges};
+    ghost use Rattle.ev_peers.specs.EdgeThreads.{HasEdges};
 
     ghost Value = { ℕ };
 

@@ -12,7 +12,7 @@ use crate::line::LONGEST;
 use crate::links::{LinkIn, LinkOut};
 use crate::mailbox::Message;
 use crate::outlet::Outlet;
-use crate::site::{Ended, Scratch, Site};
+use crate::shared_edge::{Ended, Scratch, SharedEdge};
 use ether_wire::{Addr, Vni};
 use ev_book::Pass;
 use ev_edge::Event;
@@ -82,7 +82,7 @@ fn event_of<'a>(source: &Source, from: Addr, octets: &'a [u8]) -> Option<Event<'
 
 /// Enters what a datagram of a link is, if it is anything.
 fn enter_datagram<L: Ledger, O: Outlet, G: Gate, R: Wait>(
-    site: &Site<'_, L, G, R>,
+    shared_edge: &SharedEdge<'_, L, G, R>,
     pass: &mut Pass<L>,
     outlet: &mut O,
     scratch: &mut Scratch,
@@ -90,7 +90,7 @@ fn enter_datagram<L: Ledger, O: Outlet, G: Gate, R: Wait>(
     from: Addr,
     octets: &[u8],
 )
-    ensures { Handles site.now.bridge source.now
+    ensures { Handles shared_edge.now.bridge source.now
         (standing pass.old (O.parcels outlet.old) (O.records outlet.old)) (arrival from octets.now)
         (standing pass.new (O.parcels outlet.new) (O.records outlet.new)) }
 {
@@ -98,13 +98,13 @@ fn enter_datagram<L: Ledger, O: Outlet, G: Gate, R: Wait>(
         return;
     };
     let (vni, frame) = carried(source, octets);
-    site.act(pass, outlet, scratch, &event, vni, frame);
+    shared_edge.act(pass, outlet, scratch, &event, vni, frame);
 }
 
 /// Waits for the next datagram of a link and enters it, and answers why the
 /// worker ends, if it does.
 fn turn<L: Ledger, I: LinkIn, O: Outlet, G: Gate, R: Wait>(
-    site: &Site<'_, L, G, R>,
+    shared_edge: &SharedEdge<'_, L, G, R>,
     pass: &mut Pass<L>,
     outlet: &mut O,
     scratch: &mut Scratch,
@@ -114,14 +114,14 @@ fn turn<L: Ledger, I: LinkIn, O: Outlet, G: Gate, R: Wait>(
 ) -> Option<Ended>
     requires { I.failed link.old + 1 < 2 ^ 64 }
     ensures failed { I.failed link.new ≡ I.failed link.old + failures_in result }
-    ensures turns { Turns result site.now.bridge source.now (I.came link.old)
+    ensures turns { Turns result shared_edge.now.bridge source.now (I.came link.old)
         (standing pass.old (O.parcels outlet.old) (O.records outlet.old)) (I.came link.new)
         (standing pass.new (O.parcels outlet.new) (O.records outlet.new)) }
 {
     match link.recv(buffer) {
         Ok(Some((from, size))) => {
             let (octets, _) = buffer.split_at(size);
-            enter_datagram(site, pass, outlet, scratch, source, from, octets);
+            enter_datagram(shared_edge, pass, outlet, scratch, source, from, octets);
             None
         }
         Ok(None) => Some(Ended::End),
@@ -132,24 +132,33 @@ fn turn<L: Ledger, I: LinkIn, O: Outlet, G: Gate, R: Wait>(
 /// Enters what comes over a link until it ends or fails. One octet more than the longest datagram
 /// has room, so that none is cut to a shorter one that would be taken for whole.
 fn link_worker<L: Ledger, I: LinkIn, O: Outlet, G: Gate, R: Wait>(
-    site: &Site<'_, L, G, R>,
+    shared_edge: &SharedEdge<'_, L, G, R>,
     pass: &mut Pass<L>,
     outlet: &mut O,
     link: &mut I,
     source: &Source,
 ) -> Ended
     ensures failed { I.failed link.new ≡ I.failed link.old + failures_told result }
-    ensures works { Ends result site.now.bridge source.now (I.failed link.new) (I.came link.old)
+    ensures works { Ends result shared_edge.now.bridge source.now (I.failed link.new)
+        (I.came link.old)
         (standing pass.old (O.parcels outlet.old) (O.records outlet.old)) (I.came link.new)
         (standing pass.new (O.parcels outlet.new) (O.records outlet.new)) }
 {
     let mut scratch = Scratch::new();
     let mut buffer = [0u8; 9027];
-    for _ in site.rt.forever() {
+    for _ in shared_edge.rt.forever() {
         if link.failures() == u64::MAX {
             return Ended::End;
         }
-        match turn(site, pass, outlet, &mut scratch, &mut buffer, link, source) {
+        match turn(
+            shared_edge,
+            pass,
+            outlet,
+            &mut scratch,
+            &mut buffer,
+            link,
+            source,
+        ) {
             Some(ended) => return ended,
             None => {}
         }
@@ -160,21 +169,21 @@ fn link_worker<L: Ledger, I: LinkIn, O: Outlet, G: Gate, R: Wait>(
 /// Takes an access port down whose link failed: a bridge that hears nothing there any more would
 /// take itself for the only one, and open a ring. One that ended stays as it is.
 fn leave_port<L: Ledger, O: Outlet, G: Gate, R: Wait>(
-    site: &Site<'_, L, G, R>,
+    shared_edge: &SharedEdge<'_, L, G, R>,
     pass: &mut Pass<L>,
     outlet: &mut O,
     ended: &Ended,
     port: u8,
     vni: Vni,
 )
-    ensures { Leaves ended.now site.now.bridge port vni
+    ensures { Leaves ended.now shared_edge.now.bridge port vni
         (standing pass.old (O.parcels outlet.old) (O.records outlet.old))
         (standing pass.new (O.parcels outlet.new) (O.records outlet.new)) }
 {
     match ended {
         Ended::Device => {
             let mut scratch = Scratch::new();
-            site.act(pass, outlet, &mut scratch, &Event::PortDown(port), vni, &[]);
+            shared_edge.act(pass, outlet, &mut scratch, &Event::PortDown(port), vni, &[]);
         }
         Ended::End | Ended::NoMemory => {}
     }
@@ -184,7 +193,7 @@ fn leave_port<L: Ledger, O: Outlet, G: Gate, R: Wait>(
 ///
 /// It ends with `Device` exactly where a call of the link failed, and has taken the port down then.
 pub fn port_worker<L: Ledger, I: LinkIn, O: Outlet, G: Gate, R: Wait>(
-    site: &Site<'_, L, G, R>,
+    shared_edge: &SharedEdge<'_, L, G, R>,
     pass: &mut Pass<L>,
     outlet: &mut O,
     link: &mut I,
@@ -192,14 +201,15 @@ pub fn port_worker<L: Ledger, I: LinkIn, O: Outlet, G: Gate, R: Wait>(
     vni: Vni,
 ) -> Ended
     ensures failed { I.failed link.new ≡ I.failed link.old + failures_told result }
-    ensures works { PortEnds result site.now.bridge port vni (I.failed link.new) (I.came link.old)
+    ensures works { PortEnds result shared_edge.now.bridge port vni (I.failed link.new)
+        (I.came link.old)
         (standing pass.old (O.parcels outlet.old) (O.records outlet.old)) (I.came link.new)
         (standing pass.new (O.parcels outlet.new) (O.records outlet.new)) }
 {
     let mut scratch = Scratch::new();
-    site.act(pass, outlet, &mut scratch, &Event::PortUp(port), vni, &[]);
-    let ended = link_worker(site, pass, outlet, link, &Source::Port(port, vni));
-    leave_port(site, pass, outlet, &ended, port, vni);
+    shared_edge.act(pass, outlet, &mut scratch, &Event::PortUp(port), vni, &[]);
+    let ended = link_worker(shared_edge, pass, outlet, link, &Source::Port(port, vni));
+    leave_port(shared_edge, pass, outlet, &ended, port, vni);
     ended
 }
 
@@ -207,75 +217,75 @@ pub fn port_worker<L: Ledger, I: LinkIn, O: Outlet, G: Gate, R: Wait>(
 ///
 /// It ends with `Device` exactly where a call of the link failed.
 pub fn tunnel_worker<L: Ledger, I: LinkIn, O: Outlet, G: Gate, R: Wait>(
-    site: &Site<'_, L, G, R>,
+    shared_edge: &SharedEdge<'_, L, G, R>,
     pass: &mut Pass<L>,
     outlet: &mut O,
     link: &mut I,
 ) -> Ended
     ensures failed { I.failed link.new ≡ I.failed link.old + failures_told result }
-    ensures works { Ends result site.now.bridge Tunnel (I.failed link.new) (I.came link.old)
+    ensures works { Ends result shared_edge.now.bridge Tunnel (I.failed link.new) (I.came link.old)
         (standing pass.old (O.parcels outlet.old) (O.records outlet.old)) (I.came link.new)
         (standing pass.new (O.parcels outlet.new) (O.records outlet.new)) }
 {
-    link_worker(site, pass, outlet, link, &Source::Tunnel)
+    link_worker(shared_edge, pass, outlet, link, &Source::Tunnel)
 }
 
 /// Enters a second at each tick of a clock.
 ///
 /// It ends with `Device` exactly where a call of the clock failed.
 pub fn clock_worker<L: Ledger, I: LinkIn, O: Outlet, G: Gate, R: Wait>(
-    site: &Site<'_, L, G, R>,
+    shared_edge: &SharedEdge<'_, L, G, R>,
     pass: &mut Pass<L>,
     outlet: &mut O,
     clock: &mut I,
 ) -> Ended
     ensures failed { I.failed clock.new ≡ I.failed clock.old + failures_told result }
-    ensures works { Ends result site.now.bridge Clock (I.failed clock.new) (I.came clock.old)
+    ensures works { Ends result shared_edge.now.bridge Clock (I.failed clock.new) (I.came clock.old)
         (standing pass.old (O.parcels outlet.old) (O.records outlet.old)) (I.came clock.new)
         (standing pass.new (O.parcels outlet.new) (O.records outlet.new)) }
 {
-    link_worker(site, pass, outlet, clock, &Source::Clock)
+    link_worker(shared_edge, pass, outlet, clock, &Source::Clock)
 }
 
 /// Enters an update of another edge, or looks for announcements where one has room for them again.
 fn enter_message<L: Ledger, O: Outlet, G: Gate, R: Wait>(
-    site: &Site<'_, L, G, R>,
+    shared_edge: &SharedEdge<'_, L, G, R>,
     pass: &mut Pass<L>,
     outlet: &mut O,
     scratch: &mut Scratch,
     message: &Message,
 )
-    ensures { Takes site.now.bridge
+    ensures { Takes shared_edge.now.bridge
         (standing pass.old (O.parcels outlet.old) (O.records outlet.old)) message.now
         (standing pass.new (O.parcels outlet.new) (O.records outlet.new)) }
 {
     match message {
         Message::Record(update) => {
             let event = Event::Take(*update);
-            site.act(pass, outlet, scratch, &event, Vni::new(0), &[]);
+            shared_edge.act(pass, outlet, scratch, &event, Vni::new(0), &[]);
         }
-        Message::Room => site.announce(pass, outlet, &mut scratch.reply),
+        Message::Room => shared_edge.announce(pass, outlet, &mut scratch.reply),
     }
 }
 
 /// Enters the updates that other edges send, until there are no more, and looks for announcements
 /// where one of them has room again.
 pub fn peer_worker<L: Ledger, I: UpdatesIn, O: Outlet, G: Gate, R: Wait>(
-    site: &Site<'_, L, G, R>,
+    shared_edge: &SharedEdge<'_, L, G, R>,
     pass: &mut Pass<L>,
     outlet: &mut O,
     updates: &mut I,
 ) -> Ended
-    ensures { PeerEnds result site.now.bridge (I.came updates.old)
+    ensures { PeerEnds result shared_edge.now.bridge (I.came updates.old)
         (standing pass.old (O.parcels outlet.old) (O.records outlet.old)) (I.came updates.new)
         (standing pass.new (O.parcels outlet.new) (O.records outlet.new)) }
 {
     let mut scratch = Scratch::new();
-    for _ in site.rt.forever() {
+    for _ in shared_edge.rt.forever() {
         let Some(message) = updates.next() else {
             return Ended::End;
         };
-        enter_message(site, pass, outlet, &mut scratch, &message);
+        enter_message(shared_edge, pass, outlet, &mut scratch, &message);
     }
     unreachable!()
 }

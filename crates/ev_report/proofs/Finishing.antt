@@ -11,9 +11,10 @@ use Rattle.route_wire.proofs.Cuttings.{read_whole_stream}
 use Rattle.route_join.specs.Table.{Table, IsTableOf}
 use Rattle.ev_report.specs.declared.ending.Ending.{Ending}
 use Rattle.ev_report.specs.declared.stream.Intake.{Intake}
-use Rattle.ev_report.specs.Notes.{refusals_from, end_note, notes_of, has_stopped, is_broken, has_starved, status_of}
+use Rattle.ev_report.specs.Notes.{refusals_from, end_note, notes_of, has_stopped, is_broken, ran_out_of_memory}
+use Rattle.ev_report.specs.Notes.{status_of}
 use Rattle.ev_report.specs.Ends.{Devices, devices, has_failed, fault_in, Gave, Holds, Tells, Finishes, Passes}
-use Rattle.ev_report.specs.Runs.{taken_of, Output, Renders}
+use Rattle.ev_report.specs.Report.{taken_of, Output, Renders}
 use Rattle.ev_report.specs.Progressing.{state, new_intake, TakesInput}
 use Rattle.ev_report.proofs.Taking.{tells_more, table_of_all}
 use Rattle.ev_report.proofs.Feeding.{same_note, same_broken}
@@ -59,7 +60,7 @@ module _ (newest : ℕ) (output : Output) (originators : List ℕ) (reader reade
       → Tells mid notes' intake.is_told last.is_told (end_note ending (intake.count + 1) intake.feed.rest)
       → (r : Result (Unit {0}) Device) → (text : List ℕ) → Puts out out' text r
       → text ≡ output ending i.octets.taken.outcomes last.table → (status : ℕ)
-      → status ≡ status_of (has_stopped ending || (not (is_ok r) || not last.is_told)) last.is_starved
+      → status ≡ status_of (has_stopped ending || (not (is_ok r) || not last.is_told)) last.is_out_of_memory
       (is_broken ending intake.feed.rest)
       → Renders newest output originators (devices reader out notes) (devices reader' out' notes') status
   renders i kept told r text put makes status is =
@@ -99,11 +100,12 @@ module _ (newest : ℕ) (output : Output) (originators : List ℕ) (reader reade
         written = subst (λ (x : List ℕ). Holds out out' x) makes (put_holds out out' r text put);
         noted = tells_holds notes notes' last.is_told (notes_of outcomes ending rest) all;
         status_is = is ∙ same_status (has_stopped ending) (is_ok r) last.is_told (has_failed out out')
-            (has_failed notes notes') last.is_starved (has_starved outcomes) (is_broken ending intake.feed.rest)
+            (has_failed notes notes') last.is_out_of_memory (ran_out_of_memory outcomes)
+            (is_broken ending intake.feed.rest)
             (is_broken ending rest)
             (put_failed out out' r text put) (tells_failed notes notes' last.is_told (notes_of outcomes ending rest)
             all)
-            (ap (λ (x : Intake). x.is_starved) kept ∙ o.taken.counts.starved)
+            (ap (λ (x : Intake). x.is_out_of_memory) kept ∙ o.taken.counts.out_of_memory)
             (same_broken (shown intake.feed) rest intake.feed.rest i.none_held found.3 ending i.shows);
       }
 
@@ -166,17 +168,19 @@ module _ (before held after : Devices) (status last : ℕ)
   passed_notes text h = finish_holds before.notes held.notes after.notes p.is_noted text h p.notes
 
   -- the status, of what else may have failed
-  pub passed_status : (e starved broken : Bool) → has_failed before.out after.out ≡ not p.is_written
+  pub passed_status : (e out_of_memory broken : Bool) → has_failed before.out after.out ≡ not p.is_written
       → has_failed before.notes after.notes ≡ not p.is_noted
-      → status ≡ status_of (e || (has_failed before.out held.out || has_failed before.notes held.notes)) starved broken
-      → last ≡ status_of (e || (has_failed before.out after.out || has_failed before.notes after.notes)) starved broken
-  passed_status e starved broken a b is =
-      last_status e p.is_written p.is_noted starved broken (has_failed before.out held.out)
+      → status ≡ status_of (e || (has_failed before.out held.out || has_failed before.notes held.notes)) out_of_memory
+      broken
+      → last ≡ status_of (e || (has_failed before.out after.out || has_failed before.notes after.notes)) out_of_memory
+      broken
+  passed_status e out_of_memory broken a b is =
+      last_status e p.is_written p.is_noted out_of_memory broken (has_failed before.out held.out)
       (has_failed before.notes held.notes) status last is p.status_is
       (finish_unfailed before.out held.out after.out p.is_written p.out)
       (finish_unfailed before.notes held.notes after.notes p.is_noted p.notes)
-      ∙ ap (λ x. status_of (e || (x || not p.is_noted)) starved broken) (sym a)
-      ∙ ap (λ x. status_of (e || (has_failed before.out after.out || x)) starved broken) (sym b)
+      ∙ ap (λ x. status_of (e || (x || not p.is_noted)) out_of_memory broken) (sym a)
+      ∙ ap (λ x. status_of (e || (has_failed before.out after.out || x)) out_of_memory broken) (sym b)
 
   pub failed_out : (text : List ℕ) → Holds before.out held.out text → has_failed before.out after.out ≡ not p.is_written
   failed_out text h = finish_failed before.out held.out after.out p.is_written text h p.out
@@ -202,7 +206,7 @@ module _ (before held after : Devices) (status last : ℕ)
         taken = r.taken;
         written = passed_out text r.written;
         noted = passed_notes lines r.noted;
-        status_is = passed_status (has_stopped r.ending) (has_starved r.outcomes) (is_broken r.ending r.rest)
+        status_is = passed_status (has_stopped r.ending) (ran_out_of_memory r.outcomes) (is_broken r.ending r.rest)
             (failed_out text r.written) (failed_notes lines r.noted) r.status_is;
       }
 

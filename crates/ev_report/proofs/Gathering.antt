@@ -3,7 +3,7 @@ use Rattle.std.proofs.Common.{◌≡◌, inl, inr, ℕ, ◌+◌, ◌<◌, ◌^�
 use Rattle.std.proofs.Common.{Err, refl, sym, ap, ◌∙◌, arith}
 use Rattle.ether_wire.specs.declared.ends.Device as device
 use Rattle.ether_wire.specs.Ends.{Source, Gets}
-use Rattle.ev_report.specs.declared.input.Unread.TheVariants.{Device, NoMemory}
+use Rattle.ev_report.specs.declared.input.ReadError.TheVariants.{Device, NoMemory}
 use Rattle.ev_report.specs.Input.{ReadsWhole, Gathers}
 use Rattle.ev_report.proofs.Reading.{prepend_known_none, at_end, same_source, concat_more, gives_none, gives_one}
 use Rattle.ev_report.proofs.Reading.{gives_more}

@@ -9,10 +9,10 @@ use Rattle.std.proofs.lemmas.Bool.Decides.{nat_tests}
 use Rattle.std.proofs.lemmas.List.Splits.{slice_split_first}
 use Rattle.std.proofs.lemmas.Map.Keys.{IsDistinct-push}
 use Rattle.std.specs.Cmp.{IsEquivalence}
-use Rattle.ether_wire.specs.Spelling.{parted}
+use Rattle.ether_wire.specs.Parse.{parted}
 use Rattle.std.specs.Result.{IsErrAnd}
 use Rattle.arrayvec.specs.ArrayVec.{ArrayVec}
-use Rattle.ether_wire.specs.declared.names.Addr.{Addr}
+use Rattle.ether_wire.specs.declared.addr.Addr.{Addr}
 use Rattle.ev_report.specs.declared.originators.ListFault.{ListFault}
 use Rattle.ev_report.specs.declared.originators.WrongPart.{WrongPart}
 use Rattle.ev_report.specs.Originators.{Text, parts, is_zero_led, has_leading_zero, and_then, with_part}

@@ -24,7 +24,7 @@ use Rattle.route_join.proofs.Orders.{less, both}
 use Rattle.route_join.proofs.Tables.{same_register}
 use Rattle.route_join.proofs.Abouts.{all_updates_are}
 use Rattle.ev_report.specs.Ends.{Devices, Passes}
-use Rattle.ev_report.specs.Runs.{taken_of}
+use Rattle.ev_report.specs.Report.{taken_of}
 use Rattle.ev_report.specs.Migrations.{migration, Migrates}
 use Rattle.ev_report.proofs.Finishing.{passed_renders}
 use Rattle.ev_report.specs.Migrated.{is_same_subject, is_same_old, old_cmp, is_newer_old, IsNewest, withdrawn_for}

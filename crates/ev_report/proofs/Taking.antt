@@ -16,9 +16,9 @@ use Rattle.route_join.specs.Taken.{number_of}
 use Rattle.route_join.specs.Table.{Table, is_listed, value_at, with_update, with_updates, IsTableOf}
 use Rattle.route_join.proofs.Edits.{new_table}
 use Rattle.route_join.proofs.Joins.{all_taken, none_taken}
-use Rattle.ev_report.specs.Notes.{refused_line, refusals_from, has_starved}
+use Rattle.ev_report.specs.Notes.{refused_line, refusals_from, ran_out_of_memory}
 use Rattle.ev_report.specs.Ends.{Tells}
-use Rattle.ev_report.specs.Runs.{Becomes, BecomeAll, table_after, table_after_all, taken_of, fresh}
+use Rattle.ev_report.specs.Report.{Becomes, BecomeAll, table_after, table_after_all, taken_of, fresh}
 use Rattle.ev_report.specs.Progressing.{State, state, outcome_of, Refuses, Counts, TakesAnswers, TakesOctets}
 use Rattle.ev_report.specs.Progressing.{TakesFront}
 
@@ -80,11 +80,12 @@ pub or_true : (b : Bool) → true ≡ (b || true)
 or_true true = refl
 or_true false = refl
 
-starved_both : (os ps : List (Result Fields ℕ)) → has_starved (os ++ ps) ≡ (has_starved os || has_starved ps)
-starved_both [] ps = refl
-starved_both (Ok u ∷ os) ps = starved_both os ps
-starved_both (Err e ∷ os) ps = ap (λ b. (e == number_of NoMemory) || b) (starved_both os ps)
-    ∙ or_assoc (e == number_of NoMemory) (has_starved os) (has_starved ps)
+out_of_memory_both : (os ps : List (Result Fields ℕ)) → ran_out_of_memory (os ++ ps)
+    ≡ (ran_out_of_memory os || ran_out_of_memory ps)
+out_of_memory_both [] ps = refl
+out_of_memory_both (Ok u ∷ os) ps = out_of_memory_both os ps
+out_of_memory_both (Err e ∷ os) ps = ap (λ b. (e == number_of NoMemory) || b) (out_of_memory_both os ps)
+    ∙ or_assoc (e == number_of NoMemory) (ran_out_of_memory os) (ran_out_of_memory ps)
 
 next_number : (n : ℕ) (o : Result Fields ℕ) (os : List (Result Fields ℕ)) → (n + 1) + length os ≡ n + length (o ∷ os)
 next_number n o os = omega arith
@@ -102,9 +103,9 @@ refusals_both n (Err e ∷ os) ps =
 counts_both : (os ps : List (Result Fields ℕ)) (s t u : State) → Counts os s t → Counts ps t u → Counts (os ++ ps) s u
 counts_both os ps s t u h k = record {
   count = let x = h.count in let y = k.count in let l = length-append os ps in omega arith;
-  starved = k.starved ∙ ap (λ x. x || has_starved ps) h.starved
-      ∙ sym (or_assoc s.intake.is_starved (has_starved os) (has_starved ps))
-      ∙ ap (λ x. s.intake.is_starved || x) (sym (starved_both os ps));
+  out_of_memory = k.out_of_memory ∙ ap (λ x. x || ran_out_of_memory ps) h.out_of_memory
+      ∙ sym (or_assoc s.intake.is_out_of_memory (ran_out_of_memory os) (ran_out_of_memory ps))
+      ∙ ap (λ x. s.intake.is_out_of_memory || x) (sym (out_of_memory_both os ps));
   told = subst (λ text. Tells s.notes u.notes s.intake.is_told u.intake.is_told text)
       (sym (refusals_both (s.intake.count + 1) os ps))
       (tells_more s.notes t.notes u.notes s.intake.is_told t.intake.is_told u.intake.is_told
@@ -129,13 +130,18 @@ answers_both xs ys s t u h k = record {
 
 -- no record, although the feed may have changed, and nothing but whether a note failed
 pub answers_none : (s t : State) → t.intake.table ≡ s.intake.table → t.intake.count ≡ s.intake.count
-    → t.intake.is_starved ≡ s.intake.is_starved
+    → t.intake.is_out_of_memory ≡ s.intake.is_out_of_memory
     → Tells s.notes t.notes s.intake.is_told t.intake.is_told [] → TakesAnswers [] s t
-answers_none s t table count starved told = record {
+answers_none s t table count out_of_memory told = record {
   outcomes = [];
   became = tt;
   table_is = table;
-  counts = record { count = count ∙ grind arith; starved = starved ∙ or_false s.intake.is_starved; told = told };
+  counts = record {
+    count = count ∙ grind arith;
+    out_of_memory = out_of_memory
+        ∙ or_false s.intake.is_out_of_memory;
+    told = told;
+  };
 }
 
 -- the feed makes no difference
@@ -145,21 +151,21 @@ answers_fed answers s t h k = record {
   outcomes = k.outcomes;
   became = k.became;
   table_is = k.table_is;
-  counts = record { count = k.counts.count; starved = k.counts.starved; told = k.counts.told };
+  counts = record { count = k.counts.count; out_of_memory = k.counts.out_of_memory; told = k.counts.told };
 }
 
 -- a record that was taken
 pub answers_taken : (u : Fields) (s t : State) → Becomes s.intake.table (Ok u) (Ok u)
     → t.intake.table ≡ with_update s.intake.table u → t.intake.count ≡ s.intake.count + 1
-    → t.intake.is_starved ≡ s.intake.is_starved → t.intake.is_told ≡ s.intake.is_told → t.notes ≡ s.notes
+    → t.intake.is_out_of_memory ≡ s.intake.is_out_of_memory → t.intake.is_told ≡ s.intake.is_told → t.notes ≡ s.notes
     → TakesAnswers (Ok u ∷ []) s t
-answers_taken u s t became table count starved told notes = record {
+answers_taken u s t became table count out_of_memory told notes = record {
   outcomes = Ok u ∷ [];
   became = (became, tt);
   table_is = table;
   counts = record {
     count = count;
-    starved = starved ∙ or_false s.intake.is_starved;
+    out_of_memory = out_of_memory ∙ or_false s.intake.is_out_of_memory;
     told = subst (λ b. Tells s.notes t.notes s.intake.is_told b []) (sym told)
         (subst (λ x. Tells s.notes x s.intake.is_told s.intake.is_told []) (sym notes)
         (tells_none s.notes s.intake.is_told));
@@ -169,16 +175,16 @@ answers_taken u s t became table count starved told notes = record {
 -- a record that wasn't, where what went before may have said that memory was refused
 pub answers_refused : (answer : Result Fields ℕ) (refusal : ℕ) (s m t : State)
     → Becomes s.intake.table answer (Err refusal) → Refuses refusal m t
-    → m.intake ≡ record s.intake { is_starved = m.intake.is_starved } → m.notes ≡ s.notes
-    → m.intake.is_starved ≡ (s.intake.is_starved || (refusal == number_of NoMemory))
+    → m.intake ≡ record s.intake { is_out_of_memory = m.intake.is_out_of_memory } → m.notes ≡ s.notes
+    → m.intake.is_out_of_memory ≡ (s.intake.is_out_of_memory || (refusal == number_of NoMemory))
     → TakesAnswers (answer ∷ []) s t
-answers_refused answer refusal s m t became r kept notes starved = record {
+answers_refused answer refusal s m t became r kept notes out_of_memory = record {
   outcomes = Err refusal ∷ [];
   became = (became, tt);
   table_is = ap (λ x. x.table) r.kept ∙ ap (λ x. x.table) kept;
   counts = record {
     count = ap (λ x. x.count) r.kept ∙ ap (λ x. x.count + 1) kept;
-    starved = ap (λ x. x.is_starved) r.kept ∙ starved ∙ ap (λ b. s.intake.is_starved || b)
+    out_of_memory = ap (λ x. x.is_out_of_memory) r.kept ∙ out_of_memory ∙ ap (λ b. s.intake.is_out_of_memory || b)
         (or_false (refusal == number_of NoMemory));
     told = subst (λ text. Tells s.notes t.notes s.intake.is_told t.intake.is_told text)
         (sym (append-nil (refused_line (s.intake.count + 1) refusal)))

@@ -7,7 +7,7 @@ use Rattle.ether_wire.specs.Ends.{End, Source, Puts}
 use Rattle.ev_report.specs.declared.originators.ListFault.{ListFault}
 use Rattle.ev_report.specs.Originators.{Text, list_text}
 use Rattle.ev_report.specs.Ends.{devices, has_failed}
-use Rattle.ev_report.specs.Telling.{IsTold, TellsUsage}
+use Rattle.ev_report.specs.Usage.{IsTold, TellsUsage}
 
 pub failed_put : (a b : End) (r : Result (Unit {0}) Device) (text : Text) (n : ℕ) → Puts a b text r → (if_ok : Bool)
     → if_ok ≡ is_ok r → ◌≡◌ {A = ℕ} (cond if_ok n 4) (cond (has_failed a b) 4 n)

@@ -1,7 +1,7 @@
 pub mod Notes
 pub mod Ends
 pub mod Failures
-pub mod Runs
+pub mod Report
 pub mod Progressing
 pub mod Originators
 pub mod Migrated
@@ -9,4 +9,4 @@ pub mod Migrations
 pub mod MigrationLaws
 pub mod Input
 pub mod Silence
-pub mod Telling
+pub mod Usage

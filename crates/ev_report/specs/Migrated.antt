@@ -11,7 +11,7 @@ use Rattle.route_wire.specs.declared.update.Register.{Register}
 use Rattle.route_wire.specs.declared.update.Content.TheVariants.{Withdrawn}
 use Rattle.route_wire.specs.Fields.{Fields}
 use Rattle.route_wire.specs.Order.{ip_cmp, ip_of, rank_of, sequence_of, label2_of, register_cmp}
-use Rattle.route_wire.specs.Spelling.{spelling_of}
+use Rattle.route_wire.specs.Encode.{spelling_of}
 use Rattle.route_join.specs.Table.{Table, IsOrdered}
 use Rattle.route_join.specs.Updates.{all_updates}
 

@@ -61,12 +61,12 @@ is_broken (Faulty fault) rest = true
 is_broken Unended rest = false
 
 -- there was no memory for some update
-abbrev pub has_starved : List (Result Fields ℕ) → Bool
-has_starved [] = false
-has_starved (Ok update ∷ outcomes) = has_starved outcomes
-has_starved (Err refusal ∷ outcomes) = refusal == number_of NoMemory || has_starved outcomes
+abbrev pub ran_out_of_memory : List (Result Fields ℕ) → Bool
+ran_out_of_memory [] = false
+ran_out_of_memory (Ok update ∷ outcomes) = ran_out_of_memory outcomes
+ran_out_of_memory (Err refusal ∷ outcomes) = refusal == number_of NoMemory || ran_out_of_memory outcomes
 
 -- the greatest that applies: 4 where a device failed, 3 where memory was refused, 1 for a broken stream, else 0
 abbrev pub status_of : Bool → Bool → Bool → ℕ
-status_of has_failed is_starved is_broken =
-    if has_failed then 4 else if is_starved then 3 else if is_broken then 1 else 0
+status_of has_failed is_out_of_memory is_broken =
+    if has_failed then 4 else if is_out_of_memory then 3 else if is_broken then 1 else 0

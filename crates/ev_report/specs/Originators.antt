@@ -2,12 +2,12 @@
 use Rattle.std.specs.Prelude.{ℕ, Bool, false, ◌&&◌, ◌==◌, nat_lt, if◌then◌else◌, List, [], ◌∷◌, ◌++◌, length, codes}
 use Rattle.std.specs.Prelude.{eqb, Option, Some, None, Result, Ok, Err}
 use Rattle.std.specs.List.{list_any, slice_split}
-use Rattle.ether_wire.specs.Spelling.{addr_of_text}
+use Rattle.ether_wire.specs.Parse.{addr_of_text}
 use Rattle.ev_report.specs.declared.originators.ListFault.{ListFault}
 use Rattle.ev_report.specs.declared.originators.ListFault.TheVariants.{NotAnAddress, LeadingZero, Twice, TooMany}
 use Rattle.ev_report.specs.declared.originators.WrongPart.{WrongPart}
 use Rattle.arrayvec.specs.ArrayVec.{ArrayVec}
-use Rattle.ether_wire.specs.declared.names.Addr.{Addr}
+use Rattle.ether_wire.specs.declared.addr.Addr.{Addr}
 
 abbrev pub Text : Type 0
 Text = List ℕ

@@ -10,9 +10,9 @@ use Rattle.route_join.specs.declared.table.TakeError.{TakeError}
 use Rattle.route_join.specs.Taken.{number_of}
 use Rattle.ev_report.specs.declared.ending.Ending.{Ending}
 use Rattle.ev_report.specs.declared.stream.Intake.{Intake}
-use Rattle.ev_report.specs.Notes.{refused_line, refusals_from, has_starved}
+use Rattle.ev_report.specs.Notes.{refused_line, refusals_from, ran_out_of_memory}
 use Rattle.ev_report.specs.Ends.{fault_in, fault_told, Gives, Gave, Tells}
-use Rattle.ev_report.specs.Runs.{BecomeAll, table_after_all, fresh}
+use Rattle.ev_report.specs.Report.{BecomeAll, table_after_all, fresh}
 
 -- the records on their way into a table, and what the notes hold of them
 pub record State : Type 0 where
@@ -28,7 +28,7 @@ new_intake newest originators = record {
   feed = record { newest = newest; rest = [] };
   table = fresh originators;
   count = 0;
-  is_starved = false;
+  is_out_of_memory = false;
   is_told = true;
 }
 
@@ -48,7 +48,7 @@ pub record Refuses (refusal : ℕ) (old new : State) : Type 0 where
 -- records more of which this became
 pub record Counts (outcomes : List (Result Fields ℕ)) (old new : State) : Type 0 where
   pub count : new.intake.count ≡ old.intake.count + length outcomes
-  pub starved : new.intake.is_starved ≡ (old.intake.is_starved || has_starved outcomes)
+  pub out_of_memory : new.intake.is_out_of_memory ≡ (old.intake.is_out_of_memory || ran_out_of_memory outcomes)
   pub told : Tells old.notes new.notes old.intake.is_told new.intake.is_told
       (refusals_from (old.intake.count + 1) outcomes)
 

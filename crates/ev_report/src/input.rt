@@ -15,7 +15,7 @@ pub(crate) const PIECE: usize = 16_384;
 
 /// Why an input wasn't read to its end.
 #[derive(Clone, Copy, Debug, PartialEq, Eq)]
-pub enum Unread {
+pub enum ReadError {
     /// A read failed, or 2^40 reads didn't reach the end.
     Device,
     /// There was no memory for it.
@@ -28,7 +28,7 @@ pub enum Unread {
 ///
 /// `Device` where a read failed, or 2^40 reads didn't reach the end; `NoMemory` where there was no
 /// memory for what was read. No read is made after either.
-pub fn read_whole<R: In>(alloc: Global, reader: &mut R) -> Result<Vec<u8>, Unread>
+pub fn read_whole<R: In>(alloc: Global, reader: &mut R) -> Result<Vec<u8>, ReadError>
     requires { Allows (2 ^ 40) (R.end reader.old) }
     ensures { ReadsWhole (R.end reader.old) (R.end reader.new) (input_of result) }
 {
@@ -39,11 +39,11 @@ pub fn read_whole<R: In>(alloc: Global, reader: &mut R) -> Result<Vec<u8>, Unrea
             Ok(0) => return Ok(input),
             Ok(n) => {
                 if input.extend_from_slice(&buffer[..n]).is_err() {
-                    return Err(Unread::NoMemory);
+                    return Err(ReadError::NoMemory);
                 }
             }
-            Err(Device) => return Err(Unread::Device),
+            Err(Device) => return Err(ReadError::Device),
         }
     }
-    Err(Unread::Device)
+    Err(ReadError::Device)
 }

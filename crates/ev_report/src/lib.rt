@@ -13,15 +13,15 @@ mod originators;
 mod report;
 mod status;
 mod stream;
-mod telling;
+mod usage;
 
 pub use devices::{Buffers, Devices};
 pub use ending::Ending;
 pub use failures::{Failures, tell_failed};
-pub use input::{MOST_READS, Unread, read_whole};
+pub use input::{MOST_READS, ReadError, read_whole};
 pub use migrate::{migrate_buffered, migrate_run};
 pub use migration_laws::{same_owners, stays_away};
 pub use originators::{ListFault, WrongPart, put_wrong_part, read_originators};
 pub use report::{has_failed, report_buffered, report_run, status_of};
 pub use status::{BROKEN, DEVICE, DONE, MEMORY, USAGE};
-pub use telling::{migrate_list, report_list, tell, tell_list, tell_words, usage_status};
+pub use usage::{migrate_list, report_list, tell, tell_list, tell_words, usage_status};

@@ -199,10 +199,10 @@ pub(crate) fn put_migrated<W: Out>(table: &Table, out: &mut W) -> Result<(), Dev
 }
 
 /// Whether what was taken isn't all, so that nothing is to be written.
-fn is_withheld(ending: Ending, is_starved: bool) -> bool
-    ensures { result ≡ (has_stopped ending || is_starved) }
+fn is_withheld(ending: Ending, is_out_of_memory: bool) -> bool
+    ensures { result ≡ (has_stopped ending || is_out_of_memory) }
 {
-    ending.has_stopped() || is_starved
+    ending.has_stopped() || is_out_of_memory
 }
 
 /// Writes the records of the migration of a table, or nothing where they are withheld.
@@ -246,11 +246,11 @@ pub fn migrate_run<R: In, W: Out, N: Out>(
     let mut intake = Intake::new(alloc, originators, feed);
     let ending = intake.take_input(reader, notes);
     let is_broken = intake.note_end(ending, notes);
-    let is_starved = intake.is_starved();
-    let is_withheld = is_withheld(ending, is_starved);
+    let is_out_of_memory = intake.is_out_of_memory();
+    let is_withheld = is_withheld(ending, is_out_of_memory);
     let is_written = put_unless(is_withheld, intake.table(), out).is_ok();
     let has_failed = has_failed(ending, is_written, intake.is_told());
-    status_of(has_failed, is_starved, is_broken)
+    status_of(has_failed, is_out_of_memory, is_broken)
 }
 
 /// `migrate_run` with few and large writes: it takes the devices, and gives them back once the

@@ -2,7 +2,7 @@
 ghost use Rattle.std.specs.Prelude.{◌≡◌, ◌≤◌, ◌<◌, length, IfOk, eqb, [], Result};
 ghost use Rattle.std.specs.List.{IsDistinct};
 ghost use Rattle.ether_wire.specs.Ends.{IsOpen, Puts};
-ghost use Rattle.ether_wire.specs.Spelling.{addr_of_text};
+ghost use Rattle.ether_wire.specs.Parse.{addr_of_text};
 ghost use Rattle.route_join.specs.Table.{AreOriginators};
 ghost use Rattle.ev_report.specs.Originators.{is_zero_led, has_leading_zero, spelling_fault, with_originator, with_address, with_part, originators_of_text, items_of, listed, reason_of, list_text};
 

@@ -4,7 +4,7 @@ ghost use Rattle.ether_wire.specs.Ends.{IsOpen, Allows};
 ghost use Rattle.route_join.specs.Table.{AreOriginators};
 ghost use Rattle.ev_report.specs.Notes.{has_stopped, status_of};
 ghost use Rattle.ev_report.specs.Ends.{AreOpen, devices};
-ghost use Rattle.ev_report.specs.Runs.{Reports};
+ghost use Rattle.ev_report.specs.Report.{Reports};
 
 use crate::devices::{Buffers, Devices};
 use crate::ending::Ending;
@@ -23,13 +23,13 @@ pub fn has_failed(ending: Ending, is_reported: bool, is_told: bool) -> bool
 }
 
 /// The greatest status that applies.
-pub fn status_of(has_failed: bool, is_starved: bool, is_broken: bool) -> u8
-    ensures { result ≡ status_of has_failed is_starved is_broken }
+pub fn status_of(has_failed: bool, is_out_of_memory: bool, is_broken: bool) -> u8
+    ensures { result ≡ status_of has_failed is_out_of_memory is_broken }
 {
     if has_failed {
         return DEVICE;
     }
-    if is_starved {
+    if is_out_of_memory {
         return MEMORY;
     }
     if is_broken { BROKEN } else { DONE }
@@ -65,7 +65,7 @@ pub fn report_run<R: In, W: Out, N: Out>(
     let is_broken = intake.note_end(ending, notes);
     let is_reported = intake.table().write_report(out).is_ok();
     let has_failed = has_failed(ending, is_reported, intake.is_told());
-    status_of(has_failed, intake.is_starved(), is_broken)
+    status_of(has_failed, intake.is_out_of_memory(), is_broken)
 }
 
 /// `report_run` with few and large writes: it takes the devices, and gives them back once the

@@ -4,7 +4,7 @@ ghost use Rattle.ether_wire.specs.Ends.{IsOpen, Allows};
 ghost use Rattle.route_wire.specs.Record.{is_length};
 ghost use Rattle.route_wire.specs.Feed.{shown, added};
 ghost use Rattle.route_join.specs.Table.{AreOriginators};
-ghost use Rattle.ev_report.specs.Runs.{Becomes, table_after};
+ghost use Rattle.ev_report.specs.Report.{Becomes, table_after};
 ghost use Rattle.ev_report.specs.Ends.{fault_in, fault_told};
 
 use crate::ending::Ending;
@@ -26,7 +26,7 @@ pub(crate) struct Intake {
     /// How many records there were so far.
     count: u64,
     /// There was no memory for some update.
-    is_starved: bool,
+    is_out_of_memory: bool,
     /// No note has failed.
     is_told: bool,
 }
@@ -46,7 +46,7 @@ impl Intake {
             feed,
             table: Table::new(alloc, originators),
             count: 0,
-            is_starved: false,
+            is_out_of_memory: false,
             is_told: true,
         }
     }
@@ -77,7 +77,7 @@ impl Intake {
                 self.refuse(TakeError::UnknownOriginator.number(), notes);
             }
             Err(TakeError::NoMemory) => {
-                self.is_starved = true;
+                self.is_out_of_memory = true;
                 self.refuse(TakeError::NoMemory.number(), notes);
             }
         }
@@ -215,10 +215,10 @@ impl Intake {
     }
 
     /// Whether there was no memory for some update.
-    pub(crate) fn is_starved(&self) -> bool
-        ensures { result ≡ self.now.is_starved }
+    pub(crate) fn is_out_of_memory(&self) -> bool
+        ensures { result ≡ self.now.is_out_of_memory }
     {
-        self.is_starved
+        self.is_out_of_memory
     }
 
     /// Whether no note has failed.

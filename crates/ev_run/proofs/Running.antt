@@ -12,17 +12,17 @@ use Rattle.ether_wire.specs.Ends.{End, Source, Gets, Puts}
 use Rattle.ev_edge.specs.declared.config.EdgeConfig.{EdgeConfig}
 use Rattle.ev_edge.specs.Config.{IsConfig}
 use Rattle.ev_config.specs.declared.endpoint.Endpoint.{Endpoint}
-use Rattle.ev_run.specs.declared.sockets.Hindrance.{Hindrance}
+use Rattle.ev_run.specs.declared.sockets.BindError.{BindError}
 use Rattle.ev_report.specs.Ends.{Devices, devices, has_failed, Passes}
-use Rattle.ev_report.specs.declared.input.Unread.TheVariants.{Device}
+use Rattle.ev_report.specs.declared.input.ReadError.TheVariants.{Device}
 use Rattle.ev_report.specs.Input.{ReadsWhole, Gathers}
 use Rattle.ev_report.specs.Notes.{status_of}
-use Rattle.ev_run.specs.RunEdges.{EachConfig, unbound_text, Ended, each_from, reports_from, noted_text, sends_failed}
-use Rattle.ev_run.specs.RunEdges.{link_failed, was_starved, all_lost, Drains, IsReadOut, ReadsOut, TellsEnded}
+use Rattle.ev_run.specs.RunEdges.{EachConfig, bind_error_text, Ended, each_from, reports_from, noted_text, sends_failed}
+use Rattle.ev_run.specs.RunEdges.{link_failed, was_out_of_memory, all_lost, Drains, IsReadOut, ReadsOut, TellsEnded}
 use Rattle.ev_run.specs.RunEdges.{PutsRest, TellsRest}
 use Rattle.ev_peers.specs.Telling.{Told, lines_of}
 use Rattle.ether_wire.proofs.Appending.{puts_behind}
-use Rattle.ev_run.specs.RunEdges.{IsUnbound, TellsUnbound, RunsEdges}
+use Rattle.ev_run.specs.RunEdges.{IsStartError, TellsStartError, RunsEdges}
 use Rattle.ev_report.proofs.Finishing.{put_holds, put_failed, passed_out, passed_notes, passed_status, failed_out}
 use Rattle.ev_report.proofs.Finishing.{failed_notes}
 use Rattle.ev_report.proofs.Gathering.{gathers_more, whole_ended, whole_failed, whole_unended}
@@ -131,39 +131,39 @@ module _ (ended : List Ended) (is_read : Bool) (out out' notes notes' : End)
   pub tells_ended : (status : ℕ) → Puts out out' (reports_from 1 ended) r
       → PutsRest told notes notes' (noted_text ended (all_lost ended)) s
       → status ≡ status_of (((not is_read || list_any link_failed ended) || nat_lt 0 (all_lost ended)) ||
-      (not (is_ok r) || not (is_ok s))) (list_any was_starved ended) false
+      (not (is_ok r) || not (is_ok s))) (list_any was_out_of_memory ended) false
       → TellsRest told ended is_read out out' notes notes' status
   tells_ended status written rest is = λ start alerts lines.
       let text = lines_of alerts ++ noted_text ended (all_lost ended) in
       let put = puts_rest start notes notes' (lines_of alerts) (noted_text ended (all_lost ended)) told s lines rest in
       let e = (not is_read || list_any link_failed ended) || nat_lt 0 (all_lost ended) in
-      let starved = list_any was_starved ended in
+      let out_of_memory = list_any was_out_of_memory ended in
       record {
         written = put_holds out out' r (reports_from 1 ended) written;
         noted = put_holds start notes' s text put;
-        status_is = is ∙ ap (λ x. status_of (e || (x || not (is_ok s))) starved false)
+        status_is = is ∙ ap (λ x. status_of (e || (x || not (is_ok s))) out_of_memory false)
             (sym (put_failed out out' r (reports_from 1 ended) written))
-            ∙ ap (λ x. status_of (e || (has_failed out out' || x)) starved false)
+            ∙ ap (λ x. status_of (e || (has_failed out out' || x)) out_of_memory false)
             (sym (put_failed start notes' s text put));
       }
 
 -- an address is told
-pub tells_address : (notes notes' : End) (r : Result (Unit {0}) device.Device) (at : Endpoint) (why : Hindrance)
-    → Puts notes notes' (unbound_text at why) r → TellsUnbound notes notes' 4
+pub tells_address : (notes notes' : End) (r : Result (Unit {0}) device.Device) (at : Endpoint) (why : BindError)
+    → Puts notes notes' (bind_error_text at why) r → TellsStartError notes notes' 4
 tells_address notes notes' r at why put =
     inl (record {
-      text = unbound_text at why;
+      text = bind_error_text at why;
       is_text = inr (at, why, refl);
-      noted = put_holds notes notes' r (unbound_text at why) put;
+      noted = put_holds notes notes' r (bind_error_text at why) put;
       status_is = refl;
     })
 
 -- no address is told
-pub tells_nothing : (notes : End) → TellsUnbound notes notes 4
+pub tells_nothing : (notes : End) → TellsStartError notes notes 4
 tells_nothing notes = inl (record { text = []; is_text = inl refl; noted = holds_none notes; status_is = refl })
 
 -- no edge began
-pub runs_none : (many : ℕ) (input : Source) (out notes notes' : End) (status : ℕ) → TellsUnbound notes notes' status
+pub runs_none : (many : ℕ) (input : Source) (out notes notes' : End) (status : ℕ) → TellsStartError notes notes' status
     → RunsEdges many (devices input out notes) (devices input out notes') status
 runs_none many input out notes notes' status (inl u) = inr (inl (refl, holds_none out, u))
 runs_none many input out notes notes' status (inr p) = rw p.0 (inr (inr (refused_memory out notes status p.1)))
@@ -188,12 +188,12 @@ module _ (many : ℕ) (before held after : Devices) (status last : ℕ)
         noted = passed_notes before held after status last p lost t.noted;
         status_is = passed_status before held after status last p
             ((not is_read || list_any link_failed ended) || nat_lt 0 (all_lost ended))
-            (list_any was_starved ended) false (failed_out before held after status last p text t.written)
+            (list_any was_out_of_memory ended) false (failed_out before held after status last p text t.written)
             (failed_notes before held after status last p lost t.noted) t.status_is;
       }
 
-  passed_unbound : IsUnbound before.notes held.notes status → IsUnbound before.notes after.notes last
-  passed_unbound u = record {
+  passed_start_error : IsStartError before.notes held.notes status → IsStartError before.notes after.notes last
+  passed_start_error u = record {
     text = u.text;
     is_text = u.is_text;
     noted = passed_notes before held after status last p u.text u.noted;
@@ -212,6 +212,6 @@ module _ (many : ℕ) (before held after : Devices) (status last : ℕ)
   passed_runs (inr (inl h)) = inr (inl (
     p.input ∙ h.0,
     passed_out before held after status last p [] h.1,
-    passed_unbound h.2,
+    passed_start_error h.2,
   ))
   passed_runs (inr (inr h)) = inr (inr (passed_refused before held after status last p h))

@@ -7,7 +7,7 @@ use Rattle.std.specs.Option.{option_map_or}
 use Rattle.arrayvec.specs.ArrayVec.{ArrayVec}
 use Rattle.ev_edge.specs.declared.config.EdgeConfig.{EdgeConfig}
 use Rattle.ev_config.specs.declared.endpoint.Endpoint.{Endpoint}
-use Rattle.ev_config.specs.declared.endpoint.Link.{Link}
+use Rattle.ev_config.specs.declared.endpoint.PortEndpoints.{PortEndpoints}
 use Rattle.ev_report.specs.Originators.{Text}
 use Rattle.ev_run.specs.declared.obstacles.End.{End}
 use Rattle.ev_run.specs.declared.obstacles.End.TheVariants.{Local, Remote}
@@ -33,18 +33,18 @@ abbrev pub is_tunnel : List EdgeConfig → Endpoint → Bool
 is_tunnel edges at = list_any (λ c. clashes (tunnel_of c) at) edges
 
 -- a port takes its frames there
-abbrev pub is_local : Endpoint → Link → Bool
+abbrev pub is_local : Endpoint → PortEndpoints → Bool
 is_local at link = option_map_or (λ local. clashes local at) link.local false
 
 -- one of these edges' ports does, or one of these ports
-abbrev pub is_taken : List (ArrayVec Link) → List Link → Endpoint → Bool
+abbrev pub is_taken : List (ArrayVec PortEndpoints) → List PortEndpoints → Endpoint → Bool
 is_taken before ports at = list_any (λ links. list_any (is_local at) links.items) before || list_any (is_local at) ports
 
 -- ---- the ends of a port
 
 -- why a port can't take its frames there, given all edges, the links of the edges before its own, and of the ports
 -- before it
-abbrev pub local_cause : List EdgeConfig → List (ArrayVec Link) → List Link → Endpoint → Option Cause
+abbrev pub local_cause : List EdgeConfig → List (ArrayVec PortEndpoints) → List PortEndpoints → Endpoint → Option Cause
 local_cause edges before ports at =
     if at.port == 0 then Some NoPort
     else if is_tunnel edges at then Some Tunnel else if is_taken before ports at then Some Taken else None
@@ -57,7 +57,8 @@ abbrev pub useless : Seat → End → Endpoint → Option Cause → List Obstacl
 useless seat end at None = []
 useless seat end at (Some cause) = Useless seat end at cause ∷ []
 
-abbrev pub local_obstacles : List EdgeConfig → List (ArrayVec Link) → List Link → Seat → Option Endpoint → List Obstacle
+abbrev pub local_obstacles : List EdgeConfig → List (ArrayVec PortEndpoints) → List PortEndpoints → Seat
+    → Option Endpoint → List Obstacle
 local_obstacles edges before ports seat None = []
 local_obstacles edges before ports seat (Some at) = useless seat Local at (local_cause edges before ports at)
 
@@ -66,25 +67,27 @@ remote_obstacles seat None = []
 remote_obstacles seat (Some at) = useless seat Remote at (remote_cause at)
 
 -- those of a port
-abbrev pub port_obstacles : List EdgeConfig → List (ArrayVec Link) → List Link → Seat → Link → List Obstacle
+abbrev pub port_obstacles : List EdgeConfig → List (ArrayVec PortEndpoints) → List PortEndpoints → Seat → PortEndpoints
+    → List Obstacle
 port_obstacles edges before ports seat link =
     local_obstacles edges before ports seat link.local ++ remote_obstacles seat link.remote
 
 -- those of the port at a place of an edge, given the links of the edges before it and its own
-abbrev pub obstacles_at : List EdgeConfig → List (ArrayVec Link) → List Link → ℕ → Link → List Obstacle
+abbrev pub obstacles_at : List EdgeConfig → List (ArrayVec PortEndpoints) → List PortEndpoints → ℕ → PortEndpoints
+    → List Obstacle
 obstacles_at edges before links place link =
     port_obstacles edges before (take place links) (record { edge = length before + 1; port = place + 1 }) link
 
 -- those of all its ports
-abbrev pub ports_obstacles : List EdgeConfig → List (ArrayVec Link) → List Link → List Obstacle
+abbrev pub ports_obstacles : List EdgeConfig → List (ArrayVec PortEndpoints) → List PortEndpoints → List Obstacle
 ports_obstacles edges before links = each_from (obstacles_at edges before links) 0 links
 
 -- those of the ports of the edge at a place
-abbrev pub ports_at : List EdgeConfig → List (ArrayVec Link) → ℕ → ArrayVec Link → List Obstacle
+abbrev pub ports_at : List EdgeConfig → List (ArrayVec PortEndpoints) → ℕ → ArrayVec PortEndpoints → List Obstacle
 ports_at edges all place links = ports_obstacles edges (take place all) links.items
 
 -- those of all ports
-abbrev pub all_ports_obstacles : List EdgeConfig → List (ArrayVec Link) → List Obstacle
+abbrev pub all_ports_obstacles : List EdgeConfig → List (ArrayVec PortEndpoints) → List Obstacle
 all_ports_obstacles edges all = each_from (ports_at edges all) 0 all
 
 -- ---- all
@@ -98,7 +101,7 @@ abbrev pub count_obstacles : ℕ → Option ℕ → List Obstacle
 count_obstacles sockets None = []
 count_obstacles sockets (Some most) = if nat_lt (most - 3) sockets then TooMany sockets most ∷ [] else []
 
-abbrev pub obstacles_of : List EdgeConfig → List (ArrayVec Link) → Option ℕ → List Obstacle
+abbrev pub obstacles_of : List EdgeConfig → List (ArrayVec PortEndpoints) → Option ℕ → List Obstacle
 obstacles_of edges all most =
     (each_from edge_obstacles 1 edges ++ all_ports_obstacles edges all)
     ++ count_obstacles (needs_of edges).sockets most

@@ -6,18 +6,18 @@ use Rattle.std.specs.List.{sum_by, list_any}
 use Rattle.std.specs.declared.alloc.AllocError.{AllocError}
 use Rattle.ether_wire.specs.declared.ends.Device as device
 use Rattle.ether_wire.specs.Ends.{End, Source, Puts}
-use Rattle.ether_wire.specs.Names.{addr_text}
+use Rattle.ether_wire.specs.Addr.{addr_text}
 use Rattle.ev_edge.specs.declared.config.EdgeConfig.{EdgeConfig}
 use Rattle.ev_edge.specs.Config.{IsConfig}
 use Rattle.ev_edge.specs.Edge.{Edge, table_of}
-use Rattle.ev_peers.specs.declared.crew.Outcome.{Outcome}
+use Rattle.ev_peers.specs.declared.edge_threads.Outcome.{Outcome}
 use Rattle.ev_peers.specs.Telling.{Told, lines_of}
 use Rattle.route_join.specs.Report.{report_of}
 use Rattle.ev_config.specs.declared.whole.Config.{Config}
 use Rattle.ev_config.specs.declared.endpoint.Endpoint.{Endpoint}
-use Rattle.ev_run.specs.declared.sockets.Hindrance.{Hindrance}
-use Rattle.ev_run.specs.declared.sockets.Hindrance.TheVariants as hindrance
-use Rattle.ev_report.specs.declared.input.Unread.TheVariants.{Device}
+use Rattle.ev_run.specs.declared.sockets.BindError.{BindError}
+use Rattle.ev_run.specs.declared.sockets.BindError.TheVariants as bind_error
+use Rattle.ev_report.specs.declared.input.ReadError.TheVariants.{Device}
 use Rattle.ev_report.specs.Ends.{Devices, has_failed, Gives, Holds}
 use Rattle.ev_report.specs.Input.{ReadsWhole}
 use Rattle.ev_report.specs.Notes.{status_of}
@@ -30,20 +30,20 @@ EachConfig configs = (c : EdgeConfig) → Contains configs c → IsConfig c
 
 -- ---- sockets
 
-abbrev pub why_text : Hindrance → Text
-why_text hindrance.InUse = codes "it is in use\n"
-why_text hindrance.NotHere = codes "no device here has it\n"
-why_text hindrance.Denied = codes "it isn't permitted\n"
-why_text hindrance.NoMemory = codes "there is no memory\n"
-why_text hindrance.Other = codes "the system refuses it\n"
+abbrev pub why_text : BindError → Text
+why_text bind_error.InUse = codes "it is in use\n"
+why_text bind_error.NotHere = codes "no device here has it\n"
+why_text bind_error.Denied = codes "it isn't permitted\n"
+why_text bind_error.NoMemory = codes "there is no memory\n"
+why_text bind_error.Other = codes "the system refuses it\n"
 
 -- `ADDRESS:PORT`
 abbrev pub endpoint_text : Endpoint → Text
 endpoint_text at = addr_text at.address ++ codes ":" ++ decimal at.port
 
 -- `can't bind ADDRESS:PORT: WHY`
-abbrev pub unbound_text : Endpoint → Hindrance → Text
-unbound_text at why = codes "can't bind " ++ (endpoint_text at ++ codes ": ") ++ why_text why
+abbrev pub bind_error_text : Endpoint → BindError → Text
+bind_error_text at why = codes "can't bind " ++ (endpoint_text at ++ codes ": ") ++ why_text why
 
 -- ---- the input
 
@@ -118,9 +118,9 @@ link_failed (Ok outcome) = outcome.faults.device
 link_failed (Err refused) = false
 
 -- it, or one of its workers, was refused memory or a thread
-abbrev pub was_starved : Ended → Bool
-was_starved (Ok outcome) = outcome.faults.memory
-was_starved (Err refused) = true
+abbrev pub was_out_of_memory : Ended → Bool
+was_out_of_memory (Ok outcome) = outcome.faults.memory
+was_out_of_memory (Err refused) = true
 
 -- how many sends failed, as far as 64 bits count
 abbrev pub all_lost : List Ended → ℕ
@@ -143,7 +143,7 @@ pub record TellsEnded (alerts : List Told) (ended : List Ended) (is_read : Bool)
   pub written : Holds out out' (reports_from 1 ended)
   pub noted : Holds notes notes' (lines_of alerts ++ noted_text ended (all_lost ended))
   pub status_is : status ≡ status_of (((not is_read || list_any link_failed ended) || nat_lt 0 (all_lost ended)) ||
-      (has_failed out out' || has_failed notes notes')) (list_any was_starved ended) false
+      (has_failed out out' || has_failed notes notes')) (list_any was_out_of_memory ended) false
 
 -- so it is for whatever alerts were told before
 abbrev pub TellsRest : Result (Unit {0}) device.Device → List Ended → Bool → End → End → End → End → ℕ → Type 0
@@ -168,15 +168,15 @@ pub record Ran (many : ℕ) (before after : Devices) (status : ℕ) : Type 0 whe
   pub told : TellsEnded alerts ended is_read before.out after.out before.notes after.notes status
 
 -- An address couldn't be bound, which is told, or a port has none: the status is 4.
-pub record IsUnbound (notes notes' : End) (status : ℕ) : Type 0 where
+pub record IsStartError (notes notes' : End) (status : ℕ) : Type 0 where
   pub text : Text
-  pub is_text : (text ≡ []) ⊎ ((at : Endpoint) × (why : Hindrance) × (text ≡ unbound_text at why))
+  pub is_text : (text ≡ []) ⊎ ((at : Endpoint) × (why : BindError) × (text ≡ bind_error_text at why))
   pub noted : Holds notes notes' text
   pub status_is : status ≡ 4
 
 -- No edge began, for want of an address or of memory.
-abbrev pub TellsUnbound : End → End → ℕ → Type 0
-TellsUnbound notes notes' status = IsUnbound notes notes' status ⊎ ((notes' ≡ notes) × (status ≡ 3))
+abbrev pub TellsStartError : End → End → ℕ → Type 0
+TellsStartError notes notes' status = IsStartError notes notes' status ⊎ ((notes' ≡ notes) × (status ≡ 3))
 
 -- So many edges were run; or no edge began and nothing was read, nothing but that written; or memory was refused to
 -- what they
@@ -184,7 +184,7 @@ TellsUnbound notes notes' status = IsUnbound notes notes' status ⊎ ((notes' �
 abbrev pub RunsEdges : ℕ → Devices → Devices → ℕ → Type 0
 RunsEdges many before after status =
     Ran many before after status
-    ⊎ (((after.input ≡ before.input) × Holds before.out after.out [] × IsUnbound before.notes after.notes status)
+    ⊎ (((after.input ≡ before.input) × Holds before.out after.out [] × IsStartError before.notes after.notes status)
     ⊎ IsRefusedMemory before.out after.out before.notes after.notes status)
 
 -- the edges of a configuration are run

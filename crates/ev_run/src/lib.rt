@@ -3,13 +3,13 @@
 
 mod needs;
 mod obstacles;
+mod print;
+mod print_needs;
 mod run;
 mod sockets;
-mod telling;
-mod telling_needs;
 
 pub use needs::{Needs, needs_of};
 pub use obstacles::{Cause, End, Obstacle, Seat, obstacles_of};
+pub use print_needs::{put_needs, put_obstacles};
 pub use run::{run_buffered, run_edges};
-pub use sockets::Hindrance;
-pub use telling_needs::{put_needs, put_obstacles};
+pub use sockets::BindError;

@@ -9,7 +9,7 @@ use crate::needs::needs_of;
 use crate::run::TUNNELS;
 use arrayvec::ArrayVec;
 use ether_wire::Addr;
-use ev_config::{Config, Endpoint, Link};
+use ev_config::{Config, Endpoint, PortEndpoints};
 use ev_edge::EdgeConfig;
 use std::alloc::{AllocError, Global};
 
@@ -61,9 +61,9 @@ struct Others<'a> {
     /// All edges.
     edges: &'a [EdgeConfig],
     /// The links of the edges before its own.
-    before: &'a [ArrayVec<Link, 64>],
+    before: &'a [ArrayVec<PortEndpoints, 64>],
     /// Those of the ports before it.
-    ports: &'a [Link],
+    ports: &'a [PortEndpoints],
 }
 
 /// Whether an address is 0.0.0.0.
@@ -103,7 +103,7 @@ fn is_tunnel(edges: &[EdgeConfig], at: &Endpoint) -> bool
 }
 
 /// Whether a port takes its frames there.
-fn is_local(at: &Endpoint, link: &Link) -> bool
+fn is_local(at: &Endpoint, link: &PortEndpoints) -> bool
     ensures { result ≡ is_local at.now link.now }
 {
     match &link.local {
@@ -113,7 +113,7 @@ fn is_local(at: &Endpoint, link: &Link) -> bool
 }
 
 /// Whether one of these ports does.
-fn has_local(ports: &[Link], at: &Endpoint) -> bool
+fn has_local(ports: &[PortEndpoints], at: &Endpoint) -> bool
     ensures { result ≡ list_any (is_local at.now) ports.now }
 {
     for link in ports {
@@ -125,7 +125,7 @@ fn has_local(ports: &[Link], at: &Endpoint) -> bool
 }
 
 /// Whether a port of one of these edges does.
-fn is_before(before: &[ArrayVec<Link, 64>], at: &Endpoint) -> bool
+fn is_before(before: &[ArrayVec<PortEndpoints, 64>], at: &Endpoint) -> bool
     ensures { result ≡ list_any (λ links. list_any (is_local at.now) links.items) before.now }
 {
     for links in before {
@@ -223,7 +223,7 @@ fn add_port(
     found: &mut Vec<Obstacle>,
     others: &Others<'_>,
     seat: Seat,
-    link: &Link,
+    link: &PortEndpoints,
 ) -> Result<(), AllocError>
     ensures { OnOk result (found.new.items ≡ found.old.items ++ port_obstacles
         others.now.edges.now others.now.before.now others.now.ports.now seat link.now) }
@@ -236,8 +236,8 @@ fn add_port(
 fn add_ports(
     found: &mut Vec<Obstacle>,
     edges: &[EdgeConfig],
-    before: &[ArrayVec<Link, 64>],
-    links: &[Link],
+    before: &[ArrayVec<PortEndpoints, 64>],
+    links: &[PortEndpoints],
 ) -> Result<(), AllocError>
     ensures { OnOk result (found.new.items ≡ found.old.items
         ++ ports_obstacles edges.now before.now links.now) }
@@ -262,7 +262,7 @@ fn add_ports(
 fn add_all_ports(
     found: &mut Vec<Obstacle>,
     edges: &[EdgeConfig],
-    all: &[ArrayVec<Link, 64>],
+    all: &[ArrayVec<PortEndpoints, 64>],
 ) -> Result<(), AllocError>
     ensures { OnOk result (found.new.items ≡ found.old.items
         ++ all_ports_obstacles edges.now all.now) }

@@ -6,10 +6,10 @@ ghost use Rattle.ether_wire.specs.Ends.{IsOpen, Allows};
 ghost use Rattle.ev_fabric.specs.Opening.{AreConfigs};
 ghost use Rattle.ev_edge.specs.Config.{IsConfig};
 ghost use Rattle.ev_report.specs.Ends.{AreOpen, devices};
-ghost use Rattle.ev_run.specs.RunEdges.{EachConfig, ReadsOut, sends_failed, link_failed, was_starved, all_lost, noted_text, PutsRest, TellsMeanwhile, TellsRest, Ran, TellsUnbound, RunsEdges};
+ghost use Rattle.ev_run.specs.RunEdges.{EachConfig, ReadsOut, sends_failed, link_failed, was_out_of_memory, all_lost, noted_text, PutsRest, TellsMeanwhile, TellsRest, Ran, TellsStartError, RunsEdges};
 
-use crate::sockets::{PortSocket, Sockets, Unbound, bind_all, put_unbound, wake_all};
-use crate::telling::{put_notes, put_reports};
+use crate::print::{put_notes, put_reports};
+use crate::sockets::{PortSocket, Sockets, StartError, bind_all, put_bind_error, wake_all};
 use ether_wire::{Device, In, Out};
 use ev_config::Config;
 use ev_edge::EdgeConfig;
@@ -123,7 +123,7 @@ struct Sum {
     /// Whether a link failed.
     is_device: bool,
     /// Whether memory or a thread was refused.
-    is_starved: bool,
+    is_out_of_memory: bool,
 }
 
 impl Sum {
@@ -131,18 +131,19 @@ impl Sum {
     fn with(self, ended: &Result<Outcome, AllocError>) -> Self
         ensures lost { result.lost ≡ min (self.lost + sends_failed ended.now) (2 ^ 64 - 1) }
         ensures device { result.is_device ≡ (self.is_device || link_failed ended.now) }
-        ensures starved { result.is_starved ≡ (self.is_starved || was_starved ended.now) }
+        ensures out_of_memory { result.is_out_of_memory
+            ≡ (self.is_out_of_memory || was_out_of_memory ended.now) }
     {
         match ended {
             Ok(outcome) => Sum {
                 lost: self.lost.saturating_add(outcome.faults.lost),
                 is_device: self.is_device || outcome.faults.device,
-                is_starved: self.is_starved || outcome.faults.memory,
+                is_out_of_memory: self.is_out_of_memory || outcome.faults.memory,
             },
             Err(_) => Sum {
                 lost: self.lost,
                 is_device: self.is_device,
-                is_starved: true,
+                is_out_of_memory: true,
             },
         }
     }
@@ -152,12 +153,12 @@ impl Sum {
 fn sum_of(ended: &[Result<Outcome, AllocError>]) -> Sum
     ensures lost { result.lost ≡ all_lost ended.now }
     ensures device { result.is_device ≡ list_any link_failed ended.now }
-    ensures starved { result.is_starved ≡ list_any was_starved ended.now }
+    ensures out_of_memory { result.is_out_of_memory ≡ list_any was_out_of_memory ended.now }
 {
     let mut sum = Sum {
         lost: 0,
         is_device: false,
-        is_starved: false,
+        is_out_of_memory: false,
     };
     for outcome in ended {
         sum = sum.with(outcome);
@@ -207,7 +208,7 @@ fn tell_ended<W: Out, N: Out>(
     let is_told = put_reports(out, ended).is_ok();
     let is_noted = put_rest(notes, told, ended, sum.lost).is_ok();
     let has_failed = has_failed(sum, is_read, is_told, is_noted);
-    status_of(has_failed, sum.is_starved, false)
+    status_of(has_failed, sum.is_out_of_memory, false)
 }
 
 /// Tells the operator what comes to these boards, until nothing more does.
@@ -312,17 +313,17 @@ fn run_bound<R: Threads + Wait + Clock + Sync, E: In, W: Out, N: Out + Send>(
 }
 
 /// Tells why no edge begins, and answers the status.
-fn tell_unbound<N: Out>(unbound: Unbound, notes: &mut N) -> u8
+fn tell_start_error<N: Out>(start_error: StartError, notes: &mut N) -> u8
     requires { IsOpen (N.end notes.old) }
-    ensures { TellsUnbound (N.end notes.old) (N.end notes.new) result }
+    ensures { TellsStartError (N.end notes.old) (N.end notes.new) result }
 {
-    match unbound {
-        Unbound::Unbindable(at, why) => {
-            let _ = put_unbound(notes, at, why);
+    match start_error {
+        StartError::Unbindable(at, why) => {
+            let _ = put_bind_error(notes, at, why);
             DEVICE
         }
-        Unbound::Unnamed => DEVICE,
-        Unbound::NoMemory => MEMORY,
+        StartError::Unnamed => DEVICE,
+        StartError::NoMemory => MEMORY,
     }
 }
 
@@ -352,7 +353,7 @@ pub fn run_edges<R: Threads + Wait + Net + Clock + Sync, E: In, W: Out, N: Out +
 {
     let sockets = match bind_all(rt, alloc, &config, TUNNELS) {
         Ok(sockets) => sockets,
-        Err(unbound) => return tell_unbound(unbound, notes),
+        Err(start_error) => return tell_start_error(start_error, notes),
     };
     let Config { edges, links: _ } = config;
     match run_bound(rt, alloc, edges, sockets.as_slice(), reader, out, notes) {

@@ -1,11 +1,11 @@
 //! The sockets of a run.
 ghost use Rattle.std.specs.Prelude.{◌≡◌, ◌≤◌, vec_len, IfOk};
 ghost use Rattle.ether_wire.specs.Ends.{IsOpen, Puts};
-ghost use Rattle.ev_run.specs.RunEdges.{why_text, endpoint_text, unbound_text};
+ghost use Rattle.ev_run.specs.RunEdges.{why_text, endpoint_text, bind_error_text};
 
 use arrayvec::ArrayVec;
 use ether_wire::{Addr, Device, Out, put_addr, put_decimal};
-use ev_config::{Config, Endpoint, Link as Cable};
+use ev_config::{Config, Endpoint, PortEndpoints};
 use ev_peers::socket_address;
 use std::alloc::Global;
 use std::io::ErrorKind;
@@ -32,7 +32,7 @@ pub(crate) struct Sockets {
 
 /// Why an address can't be bound.
 #[derive(Clone, Copy, Debug, PartialEq, Eq)]
-pub enum Hindrance {
+pub enum BindError {
     /// Another socket has it.
     InUse,
     /// No device of this host has it.
@@ -47,9 +47,9 @@ pub enum Hindrance {
 
 /// Why a run doesn't begin.
 #[derive(Clone, Copy, Debug, PartialEq, Eq)]
-pub(crate) enum Unbound {
+pub(crate) enum StartError {
     /// This address can't be bound.
-    Unbindable(Endpoint, Hindrance),
+    Unbindable(Endpoint, BindError),
     /// A port has no address.
     Unnamed,
     /// There is no memory.
@@ -57,27 +57,27 @@ pub(crate) enum Unbound {
 }
 
 /// What an error of the system says of a bind.
-fn hindrance_of(kind: ErrorKind) -> Hindrance {
+fn bind_error_of(kind: ErrorKind) -> BindError {
     match kind {
-        ErrorKind::AddrInUse => Hindrance::InUse,
-        ErrorKind::AddrNotAvailable => Hindrance::NotHere,
-        ErrorKind::PermissionDenied => Hindrance::Denied,
-        ErrorKind::OutOfMemory => Hindrance::NoMemory,
-        _ => Hindrance::Other,
+        ErrorKind::AddrInUse => BindError::InUse,
+        ErrorKind::AddrNotAvailable => BindError::NotHere,
+        ErrorKind::PermissionDenied => BindError::Denied,
+        ErrorKind::OutOfMemory => BindError::NoMemory,
+        _ => BindError::Other,
     }
 }
 
-impl Hindrance {
+impl BindError {
     /// The words behind the address.
     fn reason(self) -> &'static [u8]
         ensures { result.now ≡ why_text self }
     {
         match self {
-            Hindrance::InUse => b"it is in use\n",
-            Hindrance::NotHere => b"no device here has it\n",
-            Hindrance::Denied => b"it isn't permitted\n",
-            Hindrance::NoMemory => b"there is no memory\n",
-            Hindrance::Other => b"the system refuses it\n",
+            BindError::InUse => b"it is in use\n",
+            BindError::NotHere => b"no device here has it\n",
+            BindError::Denied => b"it isn't permitted\n",
+            BindError::NoMemory => b"there is no memory\n",
+            BindError::Other => b"the system refuses it\n",
         }
     }
 }
@@ -95,9 +95,13 @@ pub(crate) fn put_endpoint<N: Out>(notes: &mut N, at: Endpoint) -> Result<(), De
 
 /// Tells which address can't be bound, and why.
 #[tactic(auto, using(ether_wire::proofs::Appending::with_text_twice))]
-pub(crate) fn put_unbound<N: Out>(notes: &mut N, at: Endpoint, why: Hindrance) -> Result<(), Device>
+pub(crate) fn put_bind_error<N: Out>(
+    notes: &mut N,
+    at: Endpoint,
+    why: BindError,
+) -> Result<(), Device>
     requires { IsOpen (N.end notes.old) }
-    ensures { Puts (N.end notes.old) (N.end notes.new) (unbound_text at why) result }
+    ensures { Puts (N.end notes.old) (N.end notes.new) (bind_error_text at why) result }
 {
     notes.put(b"can't bind ")?;
     put_endpoint(notes, at)?;
@@ -106,18 +110,18 @@ pub(crate) fn put_unbound<N: Out>(notes: &mut N, at: Endpoint, why: Hindrance) -
 }
 
 /// A socket that is bound there.
-fn bind<R: Net>(rt: &R, at: Endpoint) -> Result<UdpSocket, Unbound> {
+fn bind<R: Net>(rt: &R, at: Endpoint) -> Result<UdpSocket, StartError> {
     match UdpSocket::bind(rt, socket_address(at.address, at.port)) {
         Ok(socket) => Ok(socket),
-        Err(error) => Err(Unbound::Unbindable(at, hindrance_of(error.kind()))),
+        Err(error) => Err(StartError::Unbindable(at, bind_error_of(error.kind()))),
     }
 }
 
 /// Both ends of a port's link.
-fn ends_of(link: Cable) -> Result<(Endpoint, Endpoint), Unbound> {
+fn ends_of(link: PortEndpoints) -> Result<(Endpoint, Endpoint), StartError> {
     match (link.local, link.remote) {
         (Some(local), Some(remote)) => Ok((local, remote)),
-        _ => Err(Unbound::Unnamed),
+        _ => Err(StartError::Unnamed),
     }
 }
 
@@ -125,13 +129,13 @@ fn ends_of(link: Cable) -> Result<(Endpoint, Endpoint), Unbound> {
 fn bind_ports<R: Net>(
     rt: &R,
     alloc: Global,
-    links: &ArrayVec<Cable, 64>,
-) -> Result<Vec<PortSocket>, Unbound>
+    links: &ArrayVec<PortEndpoints, 64>,
+) -> Result<Vec<PortSocket>, StartError>
     ensures { IfOk result (λ ports. vec_len ports ≤ 64) }
 {
     let links = links.as_slice();
     let Ok(mut ports) = Vec::with_capacity(alloc, links.len()) else {
-        return Err(Unbound::NoMemory);
+        return Err(StartError::NoMemory);
     };
     for link in links {
         let (local, remote) = ends_of(*link)?;
@@ -147,11 +151,11 @@ pub(crate) fn bind_all<R: Net>(
     alloc: Global,
     config: &Config,
     tunnels: u16,
-) -> Result<Vec<Sockets>, Unbound>
+) -> Result<Vec<Sockets>, StartError>
     ensures { IfOk result (λ all. vec_len all ≡ vec_len config.now.edges) }
 {
     let Ok(mut all) = Vec::with_capacity(alloc, config.edges.len()) else {
-        return Err(Unbound::NoMemory);
+        return Err(StartError::NoMemory);
     };
     for (edge, links) in config.edges.iter().zip(config.links.iter()) {
         let tunnel = Endpoint {
@@ -163,7 +167,7 @@ pub(crate) fn bind_all<R: Net>(
             ports: bind_ports(rt, alloc, links)?,
         };
         if all.push(sockets).is_err() {
-            return Err(Unbound::NoMemory);
+            return Err(StartError::NoMemory);
         }
     }
     Ok(all)

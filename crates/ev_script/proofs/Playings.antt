@@ -4,7 +4,7 @@ use Rattle.std.proofs.Common.{Option, Some, None, option_map, Result, true, fals
 use Rattle.std.proofs.lemmas.List.{append-nil}
 use Rattle.std.proofs.lemmas.List.Elements.{All-nil, All-push}
 use Rattle.ev_edge.specs.declared.reply.Reply.{Reply}
-use Rattle.ev_fabric.specs.declared.refusal.Refusal.{Refusal}
+use Rattle.ev_fabric.specs.declared.refusal.FabricRefusal.{FabricRefusal}
 use Rattle.ev_fabric.specs.declared.step.Step.{Step}
 use Rattle.ev_fabric.specs.declared.step.Step.TheVariants as steps
 use Rattle.ev_fabric.specs.declared.step.LocalEvent.TheVariants as events
@@ -15,11 +15,12 @@ use Rattle.ev_report.specs.Ends.{Tells}
 use Rattle.ev_script.specs.declared.script.question.Question.{Question}
 use Rattle.ev_script.specs.Shown.{shown_text}
 use Rattle.ev_script.specs.Views.{view_text}
-use Rattle.ev_script.specs.declared.simulate.player.Player.{Player}
+use Rattle.ev_script.specs.declared.simulate.simulator.Simulator.{Simulator}
 use Rattle.ev_script.specs.declared.script.mode.Mode.{Mode}
 use Rattle.ev_script.specs.Script.{Command, Item, second, skips, asked_in, asks_no_step, line_of, item_of, cut_line}
 use Rattle.ev_script.specs.Script.{Follows}
-use Rattle.ev_script.specs.Simulation.{Made, IsOne, AskedItem, AskedAll, joined, Goes, is_starved, has_starved}
+use Rattle.ev_script.specs.Simulation.{Made, IsOne, AskedItem, AskedAll, joined, Goes, is_out_of_memory}
+use Rattle.ev_script.specs.Simulation.{ran_out_of_memory}
 use Rattle.ev_script.specs.Playing.{Makes, MakesOne, Performs, PlaysLine, Played, PlaysTo, Answers}
 use Rattle.ev_report.proofs.Taking.{or_assoc, or_false}
 
@@ -29,47 +30,48 @@ goes_both : (a b c : Fabric) (m n : List Made) → Goes a m b → Goes b n c →
 goes_both a b c [] n g h = subst (λ (f : Fabric). Goes f n c) g h
 goes_both a b c (x ∷ m) n g h = (g.0, g.1, goes_both g.0 b c m n g.2 h)
 
-starved_both : (m n : List Made) → has_starved (m ++ n) ≡ (has_starved m || has_starved n)
-starved_both [] n = refl
-starved_both (x ∷ m) n = ap (λ b. is_starved x.1 || b) (starved_both m n)
-    ∙ or_assoc (is_starved x.1) (has_starved m) (has_starved n)
+out_of_memory_both : (m n : List Made) → ran_out_of_memory (m ++ n) ≡ (ran_out_of_memory m || ran_out_of_memory n)
+out_of_memory_both [] n = refl
+out_of_memory_both (x ∷ m) n = ap (λ b. is_out_of_memory x.1 || b) (out_of_memory_both m n)
+    ∙ or_assoc (is_out_of_memory x.1) (ran_out_of_memory m) (ran_out_of_memory n)
 
-pub one_made : (p q : Player) (step : Step) (answer : Result Reply Refusal) → FabricSteps p.fabric step answer q.fabric
-    → q.is_starved ≡ (p.is_starved || is_starved answer)
+pub one_made : (p q : Simulator) (step : Step) (answer : Result Reply FabricRefusal)
+    → FabricSteps p.fabric step answer q.fabric
+    → q.is_out_of_memory ≡ (p.is_out_of_memory || is_out_of_memory answer)
     → Makes ((step, answer) ∷ []) p q
 one_made p q step answer s e = record {
   goes = (q.fabric, s, refl);
-  starved = e ∙ ap (λ b. p.is_starved || b) (or_false (is_starved answer));
+  out_of_memory = e ∙ ap (λ b. p.is_out_of_memory || b) (or_false (is_out_of_memory answer));
 }
 
-pub makes_none : (p q : Player) → q.fabric ≡ p.fabric → q.is_starved ≡ p.is_starved → Makes [] p q
-makes_none p q f s = record { goes = f; starved = s ∙ or_false p.is_starved }
+pub makes_none : (p q : Simulator) → q.fabric ≡ p.fabric → q.is_out_of_memory ≡ p.is_out_of_memory → Makes [] p q
+makes_none p q f s = record { goes = f; out_of_memory = s ∙ or_false p.is_out_of_memory }
 
-pub makes_both : (p q r : Player) (m n : List Made) → Makes m p q → Makes n q r → Makes (m ++ n) p r
+pub makes_both : (p q r : Simulator) (m n : List Made) → Makes m p q → Makes n q r → Makes (m ++ n) p r
 makes_both p q r m n h k = record {
   goes = goes_both p.fabric q.fabric r.fabric m n h.goes k.goes;
-  starved = k.starved ∙ ap (λ b. b || has_starved n) h.starved
-      ∙ sym (or_assoc p.is_starved (has_starved m) (has_starved n))
-      ∙ ap (λ b. p.is_starved || b) (sym (starved_both m n));
+  out_of_memory = k.out_of_memory ∙ ap (λ b. b || ran_out_of_memory n) h.out_of_memory
+      ∙ sym (or_assoc p.is_out_of_memory (ran_out_of_memory m) (ran_out_of_memory n))
+      ∙ ap (λ b. p.is_out_of_memory || b) (sym (out_of_memory_both m n));
 }
 
 -- whether text was lost doesn't matter
-pub retold : (p q : Player) (made : List Made) (b : Bool) → Makes made p q → Makes made p (record q { is_told = b })
-retold p q made b h = record { goes = h.goes; starved = h.starved }
+pub retold : (p q : Simulator) (made : List Made) (b : Bool) → Makes made p q → Makes made p (record q { is_told = b })
+retold p q made b h = record { goes = h.goes; out_of_memory = h.out_of_memory }
 
-pub performs_none : (p q : Player) → Makes [] p q → (made : List Made) × (made ≡ []) × Makes made p q
+pub performs_none : (p q : Simulator) → Makes [] p q → (made : List Made) × (made ≡ []) × Makes made p q
 performs_none p q h = ([], refl, h)
 
-pub performs_one : (p q : Player) (step : Step) → MakesOne step p q
+pub performs_one : (p q : Simulator) (step : Step) → MakesOne step p q
     → (made : List Made) × IsOne step made × Makes made p q
 performs_one p q step h = ((step, h.0) ∷ [], (h.0, refl), h.1)
 
 -- ---- seconds
 
-pub no_seconds : (p : Player) (e : ℕ) → Performs e (second 0) p p
+pub no_seconds : (p : Simulator) (e : ℕ) → Performs e (second 0) p p
 no_seconds p e = ([], (refl, All-nil _), makes_none p p refl refl)
 
-pub second_more : (p q r : Player) (e n : ℕ) → Performs e (second n) p q → MakesOne (steps.Local e events.Second) q r
+pub second_more : (p q r : Simulator) (e n : ℕ) → Performs e (second n) p q → MakesOne (steps.Local e events.Second) q r
     → Performs e (second (n + 1)) p r
 second_more p q r e n h k =
     let one : List Made = (steps.Local e events.Second, k.0) ∷ [] in (
@@ -104,11 +106,11 @@ follows_more reads s [] rest x line after h some cut good =
 follows_more reads s (y ∷ ys) rest x line after h some cut good =
     (h.0, h.1, follows_more reads (cut_line s).1 ys rest x line after h.2 some cut good)
 
-pub played_none : (mode : Mode) (script : List ℕ) (p : Player) → Played mode script script p p 0
+pub played_none : (mode : Mode) (script : List ℕ) (p : Simulator) → Played mode script script p p 0
 played_none mode script p =
     record { lines = []; follows = refl; count = refl; made = []; asked = tt; makes = makes_none p p refl refl }
 
-pub played_more : (mode : Mode) (script rest line after : List ℕ) (p q r : Player) (n : ℕ)
+pub played_more : (mode : Mode) (script rest line after : List ℕ) (p q r : Simulator) (n : ℕ)
     → Played mode script rest p q n → 0 < length rest → (line, after) ≡ cut_line rest
     → PlaysLine mode line q r true → Played mode script after p r (n + 1)
 played_more mode script rest line after p q r n h some cut k =
@@ -124,12 +126,12 @@ played_more mode script rest line after p q r n h some cut k =
     }
 
 -- the line behind them is a bad one
-pub played_bad : (mode : Mode) (script rest line after : List ℕ) (p q r : Player) (n number : ℕ)
+pub played_bad : (mode : Mode) (script rest line after : List ℕ) (p q r : Simulator) (n number : ℕ)
     → Played mode script rest p q n → 0 < length rest → (line, after) ≡ cut_line rest → PlaysLine mode line q r false
     → number ≡ n + 1 → PlaysTo mode script p r (Some number)
 played_bad mode script rest line after p q r n number h some cut k is =
     let bad = ap (item_of mode) (sym (ap (λ (p : List ℕ × List ℕ). p.0) cut)) ∙ k.0 in
-    (n, rest, is, (some, bad), subst (λ (x : Player). Played mode script rest p x n) (sym k.1) h)
+    (n, rest, is, (some, bad), subst (λ (x : Simulator). Played mode script rest p x n) (sym k.1) h)
 
 -- ---- a line
 
@@ -149,7 +151,7 @@ pub line_passed : (mode : Mode) (line : List ℕ) → asked_in mode line ≡ Non
 line_passed mode line e f = rw (e, f) refl
 
 -- its line was shown, and it was answered
-pub question_answered : (mode : Mode) (line : List ℕ) (p q : Player) (a b : End) (question : Question)
+pub question_answered : (mode : Mode) (line : List ℕ) (p q : Simulator) (a b : End) (question : Question)
     → asked_in mode line ≡ Some question → Makes [] p q
     → Tells a b p.is_told q.is_told (shown_text mode line ++ view_text question) → Answers mode line p q a b
 question_answered mode line p q a b question e made told =
@@ -162,7 +164,7 @@ question_answered mode line p q a b question e made told =
     same : (x : Question) → Some question ≡ Some x → question ≡ x
     same x h = cc
 
-pub nothing_answered : (mode : Mode) (line : List ℕ) (p q : Player) (a b : End) → asked_in mode line ≡ None
+pub nothing_answered : (mode : Mode) (line : List ℕ) (p q : Simulator) (a b : End) → asked_in mode line ≡ None
     → Answers mode line p q a b
 nothing_answered mode line p q a b e = λ x h. absurd (none x (sym e ∙ h))
   where
@@ -177,17 +179,17 @@ item_read : (mode : Mode) (line : List ℕ) (found : Option (ℕ × Command)) �
 item_read mode line found e is = rw (e, is) refl
 
 -- it asks for nothing
-pub line_skipped : (mode : Mode) (line : List ℕ) (p q : Player) → asks_no_step mode line ≡ true → Makes [] p q
+pub line_skipped : (mode : Mode) (line : List ℕ) (p q : Simulator) → asks_no_step mode line ≡ true → Makes [] p q
     → PlaysLine mode line p q true
 line_skipped mode line p q e h = (None, item_skipped mode line e, ([], refl, h))
 
 -- it is a bad one
-pub line_bad : (mode : Mode) (line : List ℕ) (p : Player) → asks_no_step mode line ≡ false → line_of line ≡ None
+pub line_bad : (mode : Mode) (line : List ℕ) (p : Simulator) → asks_no_step mode line ≡ false → line_of line ≡ None
     → PlaysLine mode line p p false
 line_bad mode line p e is = (item_read mode line None e is, refl)
 
 -- its command was shown, and then done
-pub line_done : (mode : Mode) (line : List ℕ) (p q r : Player) (edge : ℕ) (command : Command)
+pub line_done : (mode : Mode) (line : List ℕ) (p q r : Simulator) (edge : ℕ) (command : Command)
     → asks_no_step mode line ≡ false → line_of line ≡ Some (edge, command)
     → Makes [] p q → Performs edge command q r → PlaysLine mode line p r true
 line_done mode line p q r edge command e is shown done = (

@@ -6,16 +6,16 @@ use Rattle.ether_wire.specs.declared.ends.Device as device
 use Rattle.ether_wire.specs.Ends.{End, Source, Puts}
 use Rattle.ev_edge.specs.declared.config.EdgeConfig.{EdgeConfig}
 use Rattle.ev_fabric.specs.Fabric.{Fabric}
-use Rattle.ev_report.specs.declared.input.Unread.{Unread}
-use Rattle.ev_report.specs.declared.input.Unread.TheVariants.{Device, NoMemory}
+use Rattle.ev_report.specs.declared.input.ReadError.{ReadError}
+use Rattle.ev_report.specs.declared.input.ReadError.TheVariants.{Device, NoMemory}
 use Rattle.ev_script.specs.declared.script.mode.Mode.{Mode}
-use Rattle.ev_script.specs.declared.simulate.player.Player.{Player}
+use Rattle.ev_script.specs.declared.simulate.simulator.Simulator.{Simulator}
 use Rattle.ev_report.specs.Ends.{Devices, has_failed, Holds, Finishes, Passes}
 use Rattle.ev_report.specs.Input.{ReadsWhole}
 use Rattle.ev_report.specs.Notes.{status_of}
 use Rattle.ev_report.proofs.Silence.{status_as, is_silent, refused_memory, passed_silent, passed_refused, passed_four}
-use Rattle.ev_script.specs.Simulation.{Goes, joined, has_starved, bad_line, note_of, note_of_line, CountsFailure}
-use Rattle.ev_script.specs.Simulation.{PlaysOn, PlaysRead, unread_status, Simulates}
+use Rattle.ev_script.specs.Simulation.{Goes, joined, ran_out_of_memory, bad_line, note_of, note_of_line, CountsFailure}
+use Rattle.ev_script.specs.Simulation.{PlaysOn, PlaysRead, read_error_status, Simulates}
 use Rattle.ev_script.specs.Printing.{Minds}
 use Rattle.ev_script.specs.Playing.{PlaysTo}
 use Rattle.ev_report.proofs.Finishing.{put_holds, put_failed, passed_notes, passed_status, failed_notes}
@@ -23,21 +23,21 @@ use Rattle.ev_script.proofs.Minding.{minds_failed, minds_counts}
 
 -- ---- a run on a fabric
 
-module _ (mode : Mode) (start : Fabric) (script : List ℕ) (p final : Player) (out out' notes notes' : End)
+module _ (mode : Mode) (start : Fabric) (script : List ℕ) (p final : Simulator) (out out' notes notes' : End)
     (r : Result (Unit {0}) device.Device) (status : ℕ)
-    (from : p.fabric ≡ start) (fed : p.is_starved ≡ false) (told : Minds out out' true final.is_told) where
-  status_played : (bad : Option ℕ) (starved : Bool) → Puts notes notes' (note_of_line bad) r
-      → final.is_starved ≡ (p.is_starved || starved)
-      → status ≡ status_of (not final.is_told || not (is_ok r)) final.is_starved (is_some bad)
-      → status ≡ status_of (has_failed out out' || has_failed notes notes') starved (is_some bad)
-  status_played bad starved put s is =
+    (from : p.fabric ≡ start) (fed : p.is_out_of_memory ≡ false) (told : Minds out out' true final.is_told) where
+  status_played : (bad : Option ℕ) (out_of_memory : Bool) → Puts notes notes' (note_of_line bad) r
+      → final.is_out_of_memory ≡ (p.is_out_of_memory || out_of_memory)
+      → status ≡ status_of (not final.is_told || not (is_ok r)) final.is_out_of_memory (is_some bad)
+      → status ≡ status_of (has_failed out out' || has_failed notes notes') out_of_memory (is_some bad)
+  status_played bad out_of_memory put s is =
       is ∙ status_as (not final.is_told) (not (is_ok r)) (has_failed out out') (has_failed notes notes')
-      final.is_starved starved (is_some bad)
+      final.is_out_of_memory out_of_memory (is_some bad)
       (sym (minds_failed out out' final.is_told told)) (sym (put_failed notes notes' r (note_of_line bad) put)) (s
-      ∙ ap (λ b. b || starved) fed)
+      ∙ ap (λ b. b || out_of_memory) fed)
 
   pub plays_on : (bad : Option ℕ) → PlaysTo mode script p final bad → Puts notes notes' (note_of_line bad) r
-      → status ≡ status_of (not final.is_told || not (is_ok r)) final.is_starved (is_some bad)
+      → status ≡ status_of (not final.is_told || not (is_ok r)) final.is_out_of_memory (is_some bad)
       → PlaysOn mode start script out out' notes notes' status
   plays_on None h put is =
       let played = h.1 in
@@ -53,7 +53,7 @@ module _ (mode : Mode) (start : Fabric) (script : List ℕ) (p final : Player) (
         goes = subst (λ (f : Fabric). Goes f (joined played.made) final.fabric) from played.makes.goes;
         written = minds_counts out out' final.is_told told;
         noted = put_holds notes notes' r [] put;
-        status_is = status_played None (has_starved (joined played.made)) put played.makes.starved is;
+        status_is = status_played None (ran_out_of_memory (joined played.made)) put played.makes.out_of_memory is;
       }
   plays_on (Some number) h put is =
       let played = h.4 in
@@ -70,15 +70,16 @@ module _ (mode : Mode) (start : Fabric) (script : List ℕ) (p final : Player) (
         goes = subst (λ (f : Fabric). Goes f (joined played.made) final.fabric) from played.makes.goes;
         written = minds_counts out out' final.is_told told;
         noted = subst (λ n. Holds notes notes' (bad_line n)) at (put_holds notes notes' r (bad_line number) put);
-        status_is = status_played (Some number) (has_starved (joined played.made)) put played.makes.starved is;
+        status_is = status_played (Some number) (ran_out_of_memory (joined played.made)) put played.makes.out_of_memory
+            is;
       }
 
 -- ---- nothing is run
 
-pub plays_unread : (mode : Mode) (configs : List EdgeConfig) (unread : Unread) (out notes : End) (status : ℕ)
-    → status ≡ unread_status unread → PlaysRead mode configs (Err unread) out out notes notes status
-plays_unread mode configs Device out notes status is = (is_silent out notes, is)
-plays_unread mode configs NoMemory out notes status is = refused_memory out notes status is
+pub plays_read_error : (mode : Mode) (configs : List EdgeConfig) (read_error : ReadError) (out notes : End) (status : ℕ)
+    → status ≡ read_error_status read_error → PlaysRead mode configs (Err read_error) out out notes notes status
+plays_read_error mode configs Device out notes status is = (is_silent out notes, is)
+plays_read_error mode configs NoMemory out notes status is = refused_memory out notes status is
 
 -- ---- writers that are given more at once
 
@@ -127,12 +128,12 @@ module _ (mode : Mode) (configs : List EdgeConfig) (before held after : Devices)
         goes = r.goes;
         written = finish_counts before.out held.out after.out p.is_written r.written p.out;
         noted = passed_notes before held after status last p note r.noted;
-        status_is = passed_status before held after status last p false (has_starved (joined r.made)) r.is_bad
+        status_is = passed_status before held after status last p false (ran_out_of_memory (joined r.made)) r.is_bad
             (finish_told before.out held.out after.out p.is_written r.written p.out)
             (failed_notes before held after status last p note r.noted) r.status_is;
       }
 
-  passed_read : (script : Result (List ℕ) Unread)
+  passed_read : (script : Result (List ℕ) ReadError)
       → PlaysRead mode configs script before.out held.out before.notes held.notes status
       → PlaysRead mode configs script before.out after.out before.notes after.notes last
   passed_read (Ok script) (inl h) = inl (h.0, h.1, passed_plays h.0 script h.2)

@@ -3,7 +3,7 @@ use Rattle.std.specs.Prelude.{◌≡◌, ℕ, ◌+◌, Bool, true, nat_le, if◌
 use Rattle.std.specs.Prelude.{decimal, Option, Some, None, is_some}
 use Rattle.std.specs.List.{list_all}
 use Rattle.ether_wire.specs.Ends.{End}
-use Rattle.ether_wire.specs.Spelling.{parted}
+use Rattle.ether_wire.specs.Parse.{parted}
 use Rattle.ev_report.specs.Ends.{Tells}
 use Rattle.ev_script.specs.declared.checking.Found.{Found}
 use Rattle.ev_script.specs.declared.script.fault.LineFault.{LineFault}

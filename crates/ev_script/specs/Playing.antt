@@ -2,9 +2,9 @@
 use Rattle.std.specs.Prelude.{◌≡◌, ℕ, ◌+◌, Bool, true, false, ◌||◌, List, [], ◌∷◌, ◌++◌, length}
 use Rattle.std.specs.Prelude.{Option, Some, None, Result}
 use Rattle.ev_edge.specs.declared.reply.Reply.{Reply}
-use Rattle.ev_fabric.specs.declared.refusal.Refusal.{Refusal}
+use Rattle.ev_fabric.specs.declared.refusal.FabricRefusal.{FabricRefusal}
 use Rattle.ev_fabric.specs.declared.step.Step.{Step}
-use Rattle.ev_script.specs.declared.simulate.player.Player.{Player}
+use Rattle.ev_script.specs.declared.simulate.simulator.Simulator.{Simulator}
 use Rattle.ev_report.specs.Ends.{Tells}
 use Rattle.ether_wire.specs.Ends.{End}
 use Rattle.ev_script.specs.declared.script.mode.Mode.{Mode}
@@ -12,37 +12,37 @@ use Rattle.ev_script.specs.declared.script.question.Question.{Question}
 use Rattle.ev_script.specs.Script.{Command, Item, item_of, asked_in, Follows, Ends}
 use Rattle.ev_script.specs.Shown.{shown_text}
 use Rattle.ev_script.specs.Views.{view_text}
-use Rattle.ev_script.specs.Simulation.{Made, Asked, AskedItem, AskedAll, Goes, has_starved, joined}
+use Rattle.ev_script.specs.Simulation.{Made, Asked, AskedItem, AskedAll, Goes, ran_out_of_memory, joined}
 
 -- These steps were made.
-pub record Makes (made : List Made) (old new : Player) : Type 0 where
+pub record Makes (made : List Made) (old new : Simulator) : Type 0 where
   pub goes : Goes old.fabric made new.fabric
-  pub starved : new.is_starved ≡ (old.is_starved || has_starved made)
+  pub out_of_memory : new.is_out_of_memory ≡ (old.is_out_of_memory || ran_out_of_memory made)
 
 -- that step was made
-abbrev pub MakesOne : Step → Player → Player → Type 0
-MakesOne step old new = (answer : Result Reply Refusal) × Makes ((step, answer) ∷ []) old new
+abbrev pub MakesOne : Step → Simulator → Simulator → Type 0
+MakesOne step old new = (answer : Result Reply FabricRefusal) × Makes ((step, answer) ∷ []) old new
 
 -- the steps that a command asks of an edge were made
-abbrev pub Performs : ℕ → Command → Player → Player → Type 0
+abbrev pub Performs : ℕ → Command → Simulator → Simulator → Type 0
 Performs e command old new = (made : List Made) × Asked e command made × Makes made old new
 
 -- the steps that a line asks for were made
-abbrev pub PerformsItem : Item → Player → Player → Type 0
+abbrev pub PerformsItem : Item → Simulator → Simulator → Type 0
 PerformsItem item old new = (made : List Made) × AskedItem item made × Makes made old new
 
 -- What a line asks for was done; or it is a bad one, and nothing was done.
-abbrev pub PlaysLine : Mode → List ℕ → Player → Player → Bool → Type 0
+abbrev pub PlaysLine : Mode → List ℕ → Simulator → Simulator → Bool → Type 0
 PlaysLine mode line old new true = (item : Item) × (item_of mode line ≡ Some item) × PerformsItem item old new
 PlaysLine mode line old new false = (item_of mode line ≡ None) × (new ≡ old)
 
 -- A line that is a question was printed, and then exactly what is told of it; nothing else has changed.
-abbrev pub Answers : Mode → List ℕ → Player → Player → End → End → Type 0
+abbrev pub Answers : Mode → List ℕ → Simulator → Simulator → End → End → Type 0
 Answers mode line old new a b = (q : Question) → asked_in mode line ≡ Some q
     → (new.fabric ≡ old.fabric) × Tells a b old.is_told new.is_told (shown_text mode line ++ view_text q)
 
 -- The steps of the lines in front of the rest were made.
-pub record Played (mode : Mode) (script rest : List ℕ) (old new : Player) (n : ℕ) : Type 0 where
+pub record Played (mode : Mode) (script rest : List ℕ) (old new : Simulator) (n : ℕ) : Type 0 where
   pub lines : List Item
   pub follows : Follows (item_of mode) script lines rest
   pub count : length lines ≡ n
@@ -51,7 +51,7 @@ pub record Played (mode : Mode) (script rest : List ℕ) (old new : Player) (n :
   pub makes : Makes (joined made) old new
 
 -- Up to the end of the script, or up to the line of this number, which is the first bad one.
-abbrev pub PlaysTo : Mode → List ℕ → Player → Player → Option ℕ → Type 0
+abbrev pub PlaysTo : Mode → List ℕ → Simulator → Simulator → Option ℕ → Type 0
 PlaysTo mode script old new None = (n : ℕ) × Played mode script [] old new n
 PlaysTo mode script old new (Some number) =
     (n : ℕ) × (rest : List ℕ) × (number ≡ n + 1) × Ends (item_of mode) true rest × Played mode script rest old new n

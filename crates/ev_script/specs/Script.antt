@@ -4,7 +4,7 @@ use Rattle.std.specs.Prelude.{nat_lt, nat_le, if◌then◌else◌, List, [], ◌
 use Rattle.std.specs.Prelude.{option_map, option_and_then}
 use Rattle.std.specs.List.{list_all}
 use Rattle.std.specs.Str.{bytes_eq}
-use Rattle.ether_wire.specs.Spelling.{◌>>=◌, parted, decimal_of_text, hex_value, vni_of_text, mac_of_text, addr_of_text}
+use Rattle.ether_wire.specs.Parse.{◌>>=◌, parted, decimal_of_text, hex_value, vni_of_text, mac_of_text, addr_of_text}
 use Rattle.mac_arena.specs.declared.station.Station.{Station}
 use Rattle.ev_script.specs.declared.script.command.Verb.{Verb}
 use Rattle.ev_script.specs.declared.script.command.Verb.TheVariants.{Up, Down, Mcheck, Second, Frame, Tunnel, Pin}
@@ -70,9 +70,9 @@ number w = decimal_of_text (10 ^ 18 - 1) w
 abbrev pub seconds : List ℕ → Option ℕ
 seconds w = decimal_of_text 100000 w >>= λ n. when (nat_lt 0 n) n
 
--- the number of a life
-abbrev pub life : List ℕ → Option ℕ
-life w = decimal_of_text (2 ^ 32 - 1) w
+-- the number of an incarnation
+abbrev pub incarnation : List ℕ → Option ℕ
+incarnation w = decimal_of_text (2 ^ 32 - 1) w
 
 abbrev pub hex : List ℕ → Option (List ℕ)
 hex w = when (is_hex w) w
@@ -136,7 +136,7 @@ command_with Unpin s = option_map unpin (station s)
 command_with Thaw s = option_map thaw (station s)
 command_with Deliver s = option_map deliver (number s)
 command_with Port s = option_map port (number s)
-command_with Restart s = option_map restart (life s)
+command_with Restart s = option_map restart (incarnation s)
 command_with Announce s = None
 command_with Report s = None
 

@@ -6,7 +6,7 @@ use Rattle.std.specs.List.{All}
 use Rattle.ether_wire.specs.Ends.{End}
 use Rattle.ev_edge.specs.declared.config.EdgeConfig.{EdgeConfig}
 use Rattle.ev_edge.specs.declared.reply.Reply.{Reply}
-use Rattle.ev_fabric.specs.declared.refusal.Refusal.{Refusal}
+use Rattle.ev_fabric.specs.declared.refusal.FabricRefusal.{FabricRefusal}
 use Rattle.ev_fabric.specs.declared.step.Step.{Step}
 use Rattle.ev_fabric.specs.declared.step.Step.TheVariants as steps
 use Rattle.ev_fabric.specs.declared.step.LocalEvent.TheVariants as events
@@ -14,8 +14,8 @@ use Rattle.ev_fabric.specs.Fabric.{Fabric}
 use Rattle.ev_fabric.specs.Opening.{IsStart}
 use Rattle.ev_fabric.specs.Refusal.{refusal_number}
 use Rattle.ev_fabric.specs.Steps.{FabricSteps}
-use Rattle.ev_report.specs.declared.input.Unread.{Unread}
-use Rattle.ev_report.specs.declared.input.Unread.TheVariants.{Device, NoMemory}
+use Rattle.ev_report.specs.declared.input.ReadError.{ReadError}
+use Rattle.ev_report.specs.declared.input.ReadError.TheVariants.{Device, NoMemory}
 use Rattle.ev_report.specs.Ends.{Devices, has_failed, Holds}
 use Rattle.ev_report.specs.Notes.{status_of}
 use Rattle.ev_report.specs.Input.{ReadsWhole}
@@ -28,7 +28,7 @@ use Rattle.ev_script.specs.Script.{announce, deliver, port, report, restart, Fol
 
 -- a step that was made, and its answer
 abbrev pub Made : Type 0
-Made = Step × Result Reply Refusal
+Made = Step × Result Reply FabricRefusal
 
 -- A port's number, in an octet. Those above 255 are as 255: there are 64 at most.
 abbrev pub port_number : ℕ → ℕ
@@ -36,7 +36,7 @@ port_number p = if nat_le p 255 then p else 255
 
 -- that step alone was made
 abbrev pub IsOne : Step → List Made → Type 0
-IsOne step made = (answer : Result Reply Refusal) × (made ≡ (step, answer) ∷ [])
+IsOne step made = (answer : Result Reply FabricRefusal) × (made ≡ (step, answer) ∷ [])
 
 -- the steps that a command asks of an edge
 abbrev pub Asked : ℕ → Command → List Made → Type 0
@@ -79,13 +79,13 @@ Goes old [] new = new ≡ old
 Goes old (m ∷ made) new = (mid : Fabric) × FabricSteps old m.0 m.1 mid × Goes mid made new
 
 -- a step that was refused for memory
-abbrev pub is_starved : Result Reply Refusal → Bool
-is_starved (Ok reply) = false
-is_starved (Err refusal) = refusal_number refusal == 15
+abbrev pub is_out_of_memory : Result Reply FabricRefusal → Bool
+is_out_of_memory (Ok reply) = false
+is_out_of_memory (Err refusal) = refusal_number refusal == 15
 
-abbrev pub has_starved : List Made → Bool
-has_starved [] = false
-has_starved (m ∷ made) = is_starved m.1 || has_starved made
+abbrev pub ran_out_of_memory : List Made → Bool
+ran_out_of_memory [] = false
+ran_out_of_memory (m ∷ made) = is_out_of_memory m.1 || ran_out_of_memory made
 
 -- ---- a run
 
@@ -120,7 +120,8 @@ pub record PlaysOn (mode : Mode) (start : Fabric) (script : List ℕ) (out out' 
   pub goes : Goes start (joined made) final
   pub written : CountsFailure out out'
   pub noted : Holds notes notes' (note_of is_bad (length lines + 1))
-  pub status_is : status ≡ status_of (has_failed out out' || has_failed notes notes') (has_starved (joined made)) is_bad
+  pub status_is : status ≡ status_of (has_failed out out' || has_failed notes notes') (ran_out_of_memory (joined made))
+      is_bad
 
 -- on a fabric of edges that are opened so
 abbrev pub Plays : Mode → List EdgeConfig → List ℕ → End → End → End → End → ℕ → Type 0
@@ -129,19 +130,19 @@ Plays mode configs script out out' notes notes' status =
 
 -- What became of a script that was read or not. Where memory was refused to the script or to the edges, or the script
 -- wasn't read to its end, nothing was run.
-abbrev pub PlaysRead : Mode → List EdgeConfig → Result (List ℕ) Unread → End → End → End → End → ℕ → Type 0
+abbrev pub PlaysRead : Mode → List EdgeConfig → Result (List ℕ) ReadError → End → End → End → End → ℕ → Type 0
 PlaysRead mode configs (Ok script) out out' notes notes' status =
     Plays mode configs script out out' notes notes' status ⊎ IsRefusedMemory out out' notes notes' status
 PlaysRead mode configs (Err Device) out out' notes notes' status = IsSilent out out' notes notes' × (status ≡ 4)
 PlaysRead mode configs (Err NoMemory) out out' notes notes' status = IsRefusedMemory out out' notes notes' status
 
 -- the status of a script that wasn't read to its end
-abbrev pub unread_status : Unread → ℕ
-unread_status Device = 4
-unread_status NoMemory = 3
+abbrev pub read_error_status : ReadError → ℕ
+read_error_status Device = 4
+read_error_status NoMemory = 3
 
 -- The script was read whole, and then run.
 pub record Simulates (mode : Mode) (configs : List EdgeConfig) (before after : Devices) (status : ℕ) : Type 0 where
-  pub script : Result (List ℕ) Unread
+  pub script : Result (List ℕ) ReadError
   pub read : ReadsWhole before.input after.input script
   pub plays : PlaysRead mode configs script before.out after.out before.notes after.notes status

@@ -3,20 +3,20 @@ ghost use Rattle.std.specs.Prelude.{◌≡◌, ◌^◌, Ok};
 ghost use Rattle.ether_wire.specs.Ends.{IsOpen, Allows, Puts};
 ghost use Rattle.ev_fabric.specs.Opening.{AreConfigs};
 ghost use Rattle.ev_report.specs.Ends.{AreOpen, devices};
-ghost use Rattle.ev_script.specs.Simulation.{note_of_line, PlaysOn, PlaysRead, unread_status, Simulates};
+ghost use Rattle.ev_script.specs.Simulation.{note_of_line, PlaysOn, PlaysRead, read_error_status, Simulates};
 
-mod player;
-mod showing;
-mod telling;
+mod echo;
+mod print;
+mod simulator;
 mod viewing;
 
 use crate::script::Mode;
-use crate::simulate::player::Player;
+use crate::simulate::simulator::Simulator;
 use ether_wire::{Device, In, Out, put_decimal};
 use ev_edge::EdgeConfig;
 use ev_fabric::Fabric;
 use ev_report::{
-    Buffers, DEVICE, Devices, Ending, MEMORY, Unread, has_failed, read_whole, status_of,
+    Buffers, DEVICE, Devices, Ending, MEMORY, ReadError, has_failed, read_whole, status_of,
 };
 use std::alloc::Global;
 
@@ -41,11 +41,11 @@ fn play<W: Out, N: Out>(mode: Mode, fabric: Fabric, script: &[u8], out: &mut W, 
     ensures { PlaysOn mode fabric script.now (W.end out.old) (W.end out.new)
         (N.end notes.old) (N.end notes.new) result }
 {
-    let mut player = Player::new(fabric);
-    let bad = player.play(mode, script, out);
+    let mut simulator = Simulator::new(fabric);
+    let bad = simulator.play(mode, script, out);
     let is_noted = put_bad_line(bad, notes).is_ok();
-    let has_failed = has_failed(Ending::Ended, player.is_told(), is_noted);
-    status_of(has_failed, player.is_starved(), bad.is_some())
+    let has_failed = has_failed(Ending::Ended, simulator.is_told(), is_noted);
+    status_of(has_failed, simulator.is_out_of_memory(), bad.is_some())
 }
 
 /// Runs a script on a fabric of edges that are opened with these configurations.
@@ -70,12 +70,12 @@ fn open_and_play<W: Out, N: Out>(
 }
 
 /// The status of a script that wasn't read to its end.
-fn unread_status(unread: Unread) -> u8
-    ensures { result ≡ unread_status unread }
+fn read_error_status(read_error: ReadError) -> u8
+    ensures { result ≡ read_error_status read_error }
 {
-    match unread {
-        Unread::Device => DEVICE,
-        Unread::NoMemory => MEMORY,
+    match read_error {
+        ReadError::Device => DEVICE,
+        ReadError::NoMemory => MEMORY,
     }
 }
 
@@ -110,7 +110,7 @@ pub fn simulate_run<R: In, W: Out, N: Out>(
 {
     match read_whole(alloc, reader) {
         Ok(script) => open_and_play(alloc, mode, configs, script.as_slice(), out, notes),
-        Err(unread) => unread_status(unread),
+        Err(read_error) => read_error_status(read_error),
     }
 }
 

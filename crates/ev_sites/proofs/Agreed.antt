@@ -22,7 +22,7 @@ use Rattle.rstp_run.specs.Events.{RunsHappen, Passes}
 use Rattle.rstp_run.specs.Settled.{SettledByLists}
 use Rattle.ev_tunnel.specs.declared.decision.Source.TheVariants.{Port, Tunnel}
 use Rattle.ev_tunnel.specs.Datagram.{datagram_of}
-use Rattle.ev_claims.specs.Voice.{Voice}
+use Rattle.ev_claims.specs.Speaker.{Speaker}
 use Rattle.ev_edge.specs.declared.arrival.Arrival.TheVariants.{Data}
 use Rattle.ev_edge.specs.declared.event.Event.TheVariants as events
 use Rattle.ev_edge.specs.declared.reply.Reply.{Reply}
@@ -42,7 +42,7 @@ use Rattle.ev_fabric.proofs.Example.{fabric_of, configs_of, nobody_learnt, are_c
 use Rattle.ev_sites.specs.Witnesses.{HasRun}
 use Rattle.ev_sites.proofs.Tables.{Said, found, HasAll, arrived}
 use Rattle.ev_sites.proofs.Guest.{guest, here, there, flood_register, guest_register, said_first, said_guest}
-use Rattle.ev_sites.proofs.Guest.{voice_with, claims_with, keeps, hears, first_said, first_agreed, second_heard}
+use Rattle.ev_sites.proofs.Guest.{speaker_with, routes_with, keeps, hears, first_said, first_agreed, second_heard}
 use Rattle.ev_sites.proofs.Guest.{second_agreed}
 use Rattle.ev_sites.proofs.Risen.{everyone, nobody, Windows, root_settings, fabric_with, risen_edge, risen, steps_up}
 use Rattle.ev_sites.proofs.Risen.{runs_on, comes_up, decided, sending, decides, sends, passes_one}
@@ -55,7 +55,7 @@ use Rattle.ev_sites.proofs.Telling.{second_announces, second_takes, learns}
 abbrev pub hello : List ℕ
 hello = 255 ∷ 255 ∷ 255 ∷ 255 ∷ 255 ∷ 255 ∷ 2 ∷ 0 ∷ 0 ∷ 0 ∷ 0 ∷ 1 ∷ 8 ∷ 0 ∷ []
 
-pub hello_arrives : (v : Voice) (l : Learning) (w : Windows)
+pub hello_arrives : (v : Speaker) (l : Learning) (w : Windows)
     → frame_arrival (risen_edge v l w) 1 hello ≡ Ok (Data 5001 everyone guest.mac)
 unfolding frame_of selected_ports selected_root best_path
 hello_arrives v l w = refl
@@ -70,10 +70,10 @@ guest_entry = get-insert station_total nobody_learnt.entries guest (heard_at 1 0
 -- ---- it is announced, and so are the flood lists
 
 abbrev first_with : List Said → ℕ → List Register → Edge
-first_with said counter pending = risen_edge (voice_with here said counter pending) guest_learnt empty
+first_with said counter pending = risen_edge (speaker_with here said counter pending) guest_learnt empty
 
 abbrev second_with : List Said → List Register → Edge
-second_with said pending = risen_edge (voice_with there said 1 pending) nobody_learnt empty
+second_with said pending = risen_edge (speaker_with there said 1 pending) nobody_learnt empty
 
 abbrev flood_here : Fields
 flood_here = update (flood_register here) said_first
@@ -112,26 +112,29 @@ more_steps =
 -- the edge at each place has nothing pending, and each update of the pool or a newer one
 pub all_agree : (v w : List Said) (n m : ℕ) (l k : Learning) (x y : Windows) (pool : List Fields) → HasAll v pool
     → HasAll w pool
-    → AllAgree (fabric_with (risen_edge (voice_with here v n []) l x) (risen_edge (voice_with there w m []) k y) pool)
+    → AllAgree (fabric_with (risen_edge (speaker_with here v n []) l x) (risen_edge (speaker_with there w m []) k y)
+    pool)
 all_agree v w n m l k x y pool at_v at_w = record { quiet = quiet; arrived = arrives }
   where
     quiet : (i : ℕ) (a : Edge)
-        → slice_get (risen_edge (voice_with here v n []) l x ∷ risen_edge (voice_with there w m []) k y ∷ []) i ≡ Some a
-        → a.claims.voice.pending ≡ []
-    quiet zero a at = let is : risen_edge (voice_with here v n []) l x ≡ a = cc in
-        subst (λ (e : Edge). e.claims.voice.pending ≡ []) is refl
-    quiet (suc zero) a at = let is : risen_edge (voice_with there w m []) k y ≡ a = cc in
-        subst (λ (e : Edge). e.claims.voice.pending ≡ []) is refl
+        → slice_get (risen_edge (speaker_with here v n []) l x ∷ risen_edge (speaker_with there w m []) k y ∷ []) i
+        ≡ Some a
+        → a.routes.speaker.pending ≡ []
+    quiet zero a at = let is : risen_edge (speaker_with here v n []) l x ≡ a = cc in
+        subst (λ (e : Edge). e.routes.speaker.pending ≡ []) is refl
+    quiet (suc zero) a at = let is : risen_edge (speaker_with there w m []) k y ≡ a = cc in
+        subst (λ (e : Edge). e.routes.speaker.pending ≡ []) is refl
     quiet (suc (suc i)) a at = let no : ⊥ = cc in absurd no
 
     arrives : (i : ℕ) (a : Edge)
-        → slice_get (risen_edge (voice_with here v n []) l x ∷ risen_edge (voice_with there w m []) k y ∷ []) i ≡ Some a
+        → slice_get (risen_edge (speaker_with here v n []) l x ∷ risen_edge (speaker_with there w m []) k y ∷ []) i
+        ≡ Some a
         → (u : Fields) → Contains pool u
         → (z : Value) × (value_at (table_of a) u.register ≡ Some z) × (is_newer u.value z ≡ false)
-    arrives zero a at u inside = let is : risen_edge (voice_with here v n []) l x ≡ a = cc in
+    arrives zero a at u inside = let is : risen_edge (speaker_with here v n []) l x ≡ a = cc in
         subst (λ (e : Edge). (z : Value) × (value_at (table_of e) u.register ≡ Some z) × (is_newer u.value z ≡ false))
         is (arrived v pool at_v u inside)
-    arrives (suc zero) a at u inside = let is : risen_edge (voice_with there w m []) k y ≡ a = cc in
+    arrives (suc zero) a at u inside = let is : risen_edge (speaker_with there w m []) k y ≡ a = cc in
         subst (λ (e : Edge). (z : Value) × (value_at (table_of e) u.register ≡ Some z) × (is_newer u.value z ≡ false))
         is (arrived w pool at_w u inside)
     arrives (suc (suc i)) a at u inside = let no : ⊥ = cc in absurd no
@@ -193,19 +196,19 @@ module _ (lists : SettledByLists) (happens : RunsHappen) where
             fabric_with (first_with first_said 2 []) (second_with second_heard []) agreed_pool,
             Ok (taking second_quiet flood_here),
             second_takes (first_with first_said 2 []) second_quiet agreed_pool 1 flood_here
-                (claims_with (voice_with there second_heard 1 []) nobody_learnt) refl refl refl
+                (routes_with (speaker_with there second_heard 1 []) nobody_learnt) refl refl refl
                 (hears there here ((flood_register there, said_first) ∷ []) 1 [] nobody_learnt refl),
             (
               fabric_with (first_with first_said 2 []) second_edge agreed_pool,
               Ok (taking (second_with second_heard []) guest_here),
               second_takes (first_with first_said 2 []) (second_with second_heard []) agreed_pool 2 guest_here
-                  (claims_with (voice_with there second_agreed 1 []) nobody_learnt) refl refl refl
+                  (routes_with (speaker_with there second_agreed 1 []) nobody_learnt) refl refl refl
                   (keeps there here second_heard 1 [] nobody_learnt (said_guest 0) refl refl),
               (
                 agreed,
                 Ok (taking (first_with first_said 2 []) flood_there),
                 first_takes (first_with first_said 2 []) second_edge agreed_pool 3 flood_there
-                    (claims_with (voice_with here first_agreed 2 []) guest_learnt) refl refl refl
+                    (routes_with (speaker_with here first_agreed 2 []) guest_learnt) refl refl refl
                     (hears here there first_said 2 [] guest_learnt refl),
                 refl,
               ),
@@ -224,11 +227,11 @@ module _ (lists : SettledByLists) (happens : RunsHappen) where
           first_steps _ second_opened (first_with first_said 2 (flood_register here ∷ guest_register here ∷ [])) []
           (Frame 1 (lent hello)) _
           (subst (λ r. FrameSteps r
-          (risen_edge (voice_with here ((flood_register here, said_first) ∷ []) 1 (flood_register here ∷ []))
+          (risen_edge (speaker_with here ((flood_register here, said_first) ∷ []) 1 (flood_register here ∷ []))
           nobody_learnt empty) 1
           (Ok (sending (decided (first_with first_said 2 (flood_register here ∷ guest_register here ∷ [])) everyone
           (Port 1)))) (first_with first_said 2 (flood_register here ∷ guest_register here ∷ [])))
-          (sym (hello_arrives (voice_with here ((flood_register here, said_first) ∷ []) 1 (flood_register here ∷ []))
+          (sym (hello_arrives (speaker_with here ((flood_register here, said_first) ∷ []) 1 (flood_register here ∷ []))
           nobody_learnt empty))
           (sends lists happens _ _ _ _ _ _ everyone guest.mac
           (learns here ((flood_register here, said_first) ∷ []) (flood_register here ∷ []) 0 refl refl)))

@@ -30,7 +30,7 @@ use Rattle.ev_sites.specs.Sites.{Site, IsSiteAt, Point, IsEdgeOf, DecidesAt, Dec
 use Rattle.ev_sites.specs.Fabrics.{AreSitesOf, SitesRest}
 use Rattle.ev_sites.specs.Witnesses.{SitesOfAFabric}
 use Rattle.ev_sites.proofs.Tables.{Said, floods}
-use Rattle.ev_sites.proofs.Guest.{here, there, flood_register, said_first, voice_with, claims_with, hears}
+use Rattle.ev_sites.proofs.Guest.{here, there, flood_register, said_first, speaker_with, routes_with, hears}
 use Rattle.ev_sites.proofs.Risen.{everyone, nobody, both_ports, root_settings, fabric_with, opened_with, risen_edge}
 use Rattle.ev_sites.proofs.Risen.{risen, steps_up, runs_on, comes_up, decided, sending, decides, sends}
 use Rattle.ev_sites.proofs.Telling.{update, announcing, taking, second_announces, first_takes}
@@ -60,10 +60,10 @@ abbrev second : Edge
 second = opened_with there root_bridge
 
 abbrev first_told : Edge
-first_told = risen_edge (voice_with here heard_both 1 (flood_register here ∷ [])) nobody_learnt empty
+first_told = risen_edge (speaker_with here heard_both 1 (flood_register here ∷ [])) nobody_learnt empty
 
 abbrev second_told : Edge
-second_told = risen_edge (voice_with there ((flood_register there, said_first) ∷ []) 1 []) nobody_learnt empty
+second_told = risen_edge (speaker_with there ((flood_register there, said_first) ∷ []) 1 []) nobody_learnt empty
 
 abbrev flood_of_second : Fields
 flood_of_second = update (flood_register there) said_first
@@ -84,7 +84,7 @@ more = (
     last_fabric,
     Ok (taking first flood_of_second),
     first_takes first second_told (flood_of_second ∷ []) 1 flood_of_second
-        (claims_with (voice_with here heard_both 1 (flood_register here ∷ [])) nobody_learnt) refl refl refl
+        (routes_with (speaker_with here heard_both 1 (flood_register here ∷ [])) nobody_learnt) refl refl refl
         (hears here there ((flood_register here, said_first) ∷ []) 1 (flood_register here ∷ []) nobody_learnt refl),
     refl,
   ),

@@ -11,8 +11,8 @@ use Rattle.route_join.specs.Owner.{advert_of, owner, owner_among}
 use Rattle.mac_arena.specs.declared.station.Station.{Station}
 use Rattle.mac_arena.specs.Learning.{Learning, after_removal as gone}
 use Rattle.ev_claims.specs.Pending.{marked}
-use Rattle.ev_claims.specs.Voice.{Voice, is_at, is_beaten}
-use Rattle.ev_claims.specs.Claims.{Claims, key_of, moving, after_removal, after_losing_at, after_take}
+use Rattle.ev_claims.specs.Speaker.{Speaker, is_at, is_beaten}
+use Rattle.ev_claims.specs.LocalRoutes.{LocalRoutes, key_of, moving, after_removal, after_losing_at, after_take}
 use Rattle.ev_sites.proofs.Tables.{Said, table_with, looked_up, found, taken, in_order, owned}
 
 -- ---- what is said
@@ -40,12 +40,18 @@ said_gone = record { incarnation = 0; counter = 3; content = Withdrawn }
 
 -- ---- an edge of two ports that has taken these updates, the newest first
 
-abbrev pub voice_with : ℕ → List Said → ℕ → List Register → Voice
-voice_with address said counter pending =
+abbrev pub speaker_with : ℕ → List Said → ℕ → List Register → Speaker
+speaker_with address said counter pending =
     record { address = address; incarnation = 0; table = table_with said; counter = counter; pending = pending }
 
-abbrev pub claims_with : Voice → Learning → Claims
-claims_with voice learned = record { voice = voice; learned = learned; ports = 5001 ∷ 5001 ∷ []; vnis = 5001 ∷ [] }
+abbrev pub routes_with : Speaker → Learning → LocalRoutes
+routes_with speaker learned = record {
+  speaker = speaker;
+  learned = learned;
+  ports = 5001 ∷ 5001 ∷ [];
+  vnis = 5001
+      ∷ [];
+}
 
 -- ---- what another edge says of the guest
 
@@ -56,38 +62,38 @@ loses address said =
     && not (is_at (owner_among 5001 guest.mac (in_order said)) address)
 
 beaten : (address : ℕ) (said : List Said) (counter : ℕ) (pending : List Register)
-    → is_beaten (voice_with address said counter pending) 5001 guest.mac ≡ loses address said
+    → is_beaten (speaker_with address said counter pending) 5001 guest.mac ≡ loses address said
 beaten address said counter pending =
     ap (λ o. is_some (advert_of o) && not (is_at (owner (table_with said) 5001 guest.mac) address))
     (found said (guest_register address))
     ∙ ap (λ o. is_some (advert_of (looked_up said (guest_register address))) && not (is_at o address))
     (owned said 5001 guest.mac)
 
--- what the edge claims once it has taken the update, whether it loses the guest or not
+-- the edge's local routes once it has taken the update, whether it loses the guest or not
 heard : (address other : ℕ) (said : List Said) (counter : ℕ) (pending : List Register) (learned : Learning) (v : Value)
     → is_news (looked_up said (guest_register other)) v ≡ true → (b : Bool)
     → loses address ((guest_register other, v) ∷ said) ≡ b
-    → after_take (claims_with (voice_with address said counter pending) learned)
+    → after_take (routes_with (speaker_with address said counter pending) learned)
     (record { register = guest_register other; value = v })
     ≡ cond b (after_removal
-    (claims_with (voice_with address ((guest_register other, v) ∷ said) counter pending) learned) guest)
-    (claims_with (voice_with address ((guest_register other, v) ∷ said) counter pending) learned)
+    (routes_with (speaker_with address ((guest_register other, v) ∷ said) counter pending) learned) guest)
+    (routes_with (speaker_with address ((guest_register other, v) ∷ said) counter pending) learned)
 heard address other said counter pending learned v news b is =
     ap (λ (t : Table). after_losing_at
-    (claims_with (record { address = address; incarnation = 0; table = t; counter = counter; pending = pending })
+    (routes_with (record { address = address; incarnation = 0; table = t; counter = counter; pending = pending })
     learned) guest) (taken said (guest_register other) v news)
     ∙ ap (λ c. cond c (after_removal
-    (claims_with (voice_with address ((guest_register other, v) ∷ said) counter pending) learned) guest)
-    (claims_with (voice_with address ((guest_register other, v) ∷ said) counter pending) learned))
+    (routes_with (speaker_with address ((guest_register other, v) ∷ said) counter pending) learned) guest)
+    (routes_with (speaker_with address ((guest_register other, v) ∷ said) counter pending) learned))
     (beaten address ((guest_register other, v) ∷ said) counter pending ∙ is)
 
 pub keeps : (address other : ℕ) (said : List Said) (counter : ℕ) (pending : List Register) (learned : Learning)
     (v : Value)
     → is_news (looked_up said (guest_register other)) v ≡ true
     → loses address ((guest_register other, v) ∷ said) ≡ false
-    → after_take (claims_with (voice_with address said counter pending) learned)
+    → after_take (routes_with (speaker_with address said counter pending) learned)
     (record { register = guest_register other; value = v })
-    ≡ claims_with (voice_with address ((guest_register other, v) ∷ said) counter pending) learned
+    ≡ routes_with (speaker_with address ((guest_register other, v) ∷ said) counter pending) learned
 keeps address other said counter pending learned v news kept =
     heard address other said counter pending learned v news false kept
 
@@ -95,9 +101,9 @@ keeps address other said counter pending learned v news kept =
 pub withdraws : (address other : ℕ) (said : List Said) (counter : ℕ) (pending : List Register) (learned : Learning)
     (v : Value)
     → is_news (looked_up said (guest_register other)) v ≡ true → loses address ((guest_register other, v) ∷ said) ≡ true
-    → after_take (claims_with (voice_with address said counter pending) learned)
+    → after_take (routes_with (speaker_with address said counter pending) learned)
     (record { register = guest_register other; value = v })
-    ≡ claims_with (voice_with address
+    ≡ routes_with (speaker_with address
     ((guest_register address, record { incarnation = 0; counter = counter + 1; content = Withdrawn })
     ∷ (guest_register other, v) ∷ said) (counter + 1) (marked pending (guest_register address)))
     (gone learned guest)
@@ -107,11 +113,11 @@ withdraws address other said counter pending learned v news lost =
 -- a flood list is taken as it is
 pub hears : (address other : ℕ) (said : List Said) (counter : ℕ) (pending : List Register) (learned : Learning)
     → is_news (looked_up said (flood_register other)) said_first ≡ true
-    → after_take (claims_with (voice_with address said counter pending) learned)
+    → after_take (routes_with (speaker_with address said counter pending) learned)
     (record { register = flood_register other; value = said_first })
-    ≡ claims_with (voice_with address ((flood_register other, said_first) ∷ said) counter pending) learned
+    ≡ routes_with (speaker_with address ((flood_register other, said_first) ∷ said) counter pending) learned
 hears address other said counter pending learned news =
-    ap (λ (t : Table). claims_with
+    ap (λ (t : Table). routes_with
     (record { address = address; incarnation = 0; table = t; counter = counter; pending = pending }) learned)
     (taken said (flood_register other) said_first news)
 

@@ -19,7 +19,7 @@ use Rattle.ev_tunnel.specs.declared.decision.Source.TheVariants.{Port, Tunnel}
 use Rattle.ev_tunnel.specs.Decision.{is_from, local_of, port_alone}
 use Rattle.ev_tunnel.specs.Place.{place_of, learnt_place, owned_place}
 use Rattle.ev_tunnel.proofs.DecisionLemmas.{at_port, local_passes, member_is, never_back}
-use Rattle.ether_wire.specs.Names.{is_group}
+use Rattle.ether_wire.specs.Addr.{is_group}
 use Rattle.ev_mobility.specs.declared.alert.Alert.{Alert}
 use Rattle.ev_edge.specs.declared.arrival.Arrival.{Arrival}
 use Rattle.ev_edge.specs.declared.arrival.Arrival.TheVariants.{Dropped, Message, Data}

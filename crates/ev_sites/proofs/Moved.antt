@@ -23,12 +23,12 @@ use Rattle.ev_fabric.specs.declared.step.Step.TheVariants.{Local, Announce, Deli
 use Rattle.ev_fabric.specs.Fabric.{Fabric}
 use Rattle.ev_fabric.specs.Agreed.{AllAgree, Advertises}
 use Rattle.ev_fabric.specs.Steps.{FabricSteps}
-use Rattle.ev_fabric.specs.Rest.{Rests}
+use Rattle.ev_fabric.specs.Convergence.{Rests}
 use Rattle.ev_fabric.specs.Station.{AgreesOn, StationComes, RunsBeside}
 use Rattle.ev_fabric.proofs.Example.{nobody_learnt}
 use Rattle.ev_sites.proofs.Tables.{Said, found}
-use Rattle.ev_sites.proofs.Guest.{guest, here, there, guest_register, said_first, said_guest, said_gone, voice_with}
-use Rattle.ev_sites.proofs.Guest.{claims_with, keeps, withdraws, first_agreed, second_agreed, second_said, first_moved}
+use Rattle.ev_sites.proofs.Guest.{guest, here, there, guest_register, said_first, said_guest, said_gone, speaker_with}
+use Rattle.ev_sites.proofs.Guest.{routes_with, keeps, withdraws, first_agreed, second_agreed, second_said, first_moved}
 use Rattle.ev_sites.proofs.Guest.{second_moved}
 use Rattle.ev_sites.proofs.Risen.{everyone, Windows, fabric_with, risen_edge, decided, sending, sends}
 use Rattle.ev_sites.proofs.Telling.{lent, update, announcing, taking, second_steps, first_announces, first_takes}
@@ -43,10 +43,10 @@ abbrev one_move : Windows
 one_move = insert empty guest (after_move (get {X = Window} {R = station_cmp} empty guest) 0)
 
 abbrev pub second_with : List Said → List Register → Edge
-second_with said pending = risen_edge (voice_with there said 2 pending) guest_learnt one_move
+second_with said pending = risen_edge (speaker_with there said 2 pending) guest_learnt one_move
 
 abbrev first_with : List Register → Edge
-first_with pending = risen_edge (voice_with here first_moved 3 pending) (gone guest_learnt guest) empty
+first_with pending = risen_edge (speaker_with here first_moved 3 pending) (gone guest_learnt guest) empty
 
 abbrev guest_there : Fields
 guest_there = update (guest_register there) (said_guest 1)
@@ -86,7 +86,7 @@ tells =
 loses : FabricSteps heard (Deliver 1 4) (Ok (taking first_edge guest_there)) left
 loses =
     first_takes first_edge (second_with second_said []) (agreed_pool ++ guest_there ∷ []) 4 guest_there
-    (claims_with (voice_with here first_moved 3 (guest_register here ∷ [])) (gone guest_learnt guest)) refl refl refl
+    (routes_with (speaker_with here first_moved 3 (guest_register here ∷ [])) (gone guest_learnt guest)) refl refl refl
     (withdraws here there first_agreed 2 [] guest_learnt (said_guest 1) refl refl)
 
 tells_it : FabricSteps left (Announce 1) (Ok (announcing guest_gone)) withdrawn
@@ -97,7 +97,7 @@ tells_it =
 hears_it : FabricSteps withdrawn (Deliver 2 5) (Ok (taking (second_with second_said []) guest_gone)) moved
 hears_it =
     second_takes (first_with []) (second_with second_said []) moved_pool 5 guest_gone
-    (claims_with (voice_with there second_moved 2 []) guest_learnt) refl refl refl
+    (routes_with (speaker_with there second_moved 2 []) guest_learnt) refl refl refl
     (keeps there here second_said 2 [] guest_learnt said_gone refl refl)
 
 pub rests : Rests come move_steps moved
@@ -179,7 +179,7 @@ module _ (lists : SettledByLists) (happens : RunsHappen) where
       second_steps first_edge second_edge (second_with second_said (guest_register there ∷ [])) agreed_pool
       (Frame 1 (lent hello)) sent
       (subst (λ r. FrameSteps r second_edge 1 (Ok sent) (second_with second_said (guest_register there ∷ [])))
-      (sym (hello_arrives (voice_with there second_agreed 1 []) nobody_learnt empty))
+      (sym (hello_arrives (speaker_with there second_agreed 1 []) nobody_learnt empty))
       (sends lists happens _ _ _ _ _ _ everyone guest.mac (learns there second_agreed [] 1 refl refl)))
 
   pub comes : AgreesOn agreed guest → StationComes agreed 0 1 guest come

@@ -4,7 +4,7 @@ use Rattle.std.proofs.Common.{Some, None, Result, Ok, Err, List, [], ◌∷◌, 
 use Rattle.std.specs.Prelude.{slice_get, slice_set, ◌==◌}
 use Rattle.std.specs.Option.{MatchOption}
 use Rattle.std.proofs.lemmas.Bool.{cases_eq}
-use Rattle.ether_wire.specs.Names.{is_group}
+use Rattle.ether_wire.specs.Addr.{is_group}
 use Rattle.mac_arena.specs.declared.station.Station.{Station}
 use Rattle.mac_arena.specs.Learning.{entry_at, is_pinned}
 use Rattle.route_wire.specs.Fields.{Fields}
@@ -18,7 +18,7 @@ use Rattle.rstp_run.specs.Rules.{Tree}
 use Rattle.rstp_run.specs.Settled.{IsReached}
 use Rattle.rstp_net.specs.Network.{IsBridgeAt, IsNetwork}
 use Rattle.ev_mobility.specs.declared.alert.Alert.{Alert}
-use Rattle.ev_claims.specs.Claims.{vni_at, after_removal}
+use Rattle.ev_claims.specs.LocalRoutes.{vni_at, after_removal}
 use Rattle.ev_edge.specs.declared.arrival.Arrival.{Arrival}
 use Rattle.ev_edge.specs.declared.arrival.Arrival.TheVariants.{Dropped, Message, Data}
 use Rattle.ev_edge.specs.declared.config.EdgeConfig.{EdgeConfig}
@@ -39,8 +39,8 @@ use Rattle.ev_edge.specs.Learning.{Does, OrNoMemory, case_of, moved, needs_regis
 use Rattle.ev_edge.specs.Opening.{IsOpening}
 use Rattle.ev_edge.specs.Pinning.{DoesPin, pin_case, refused_pin, after_unpin}
 use Rattle.ev_edge.specs.Steps.{Steps, LearnsIf, FrameSteps, TunnelSteps, Bridges, BridgesAt, Seconds, Takes, Pins}
-use Rattle.ev_fabric.specs.declared.refusal.Refusal.{Refusal}
-use Rattle.ev_fabric.specs.declared.refusal.Refusal.TheVariants.{NoSuchEdge, NoSuchUpdate}
+use Rattle.ev_fabric.specs.declared.refusal.FabricRefusal.{FabricRefusal}
+use Rattle.ev_fabric.specs.declared.refusal.FabricRefusal.TheVariants.{NoSuchEdge, NoSuchUpdate}
 use Rattle.ev_fabric.specs.declared.step.Step.{Step}
 use Rattle.ev_fabric.specs.declared.step.Step.TheVariants.{Local, Announce, Deliver, Restart}
 use Rattle.ev_fabric.specs.Fabric.{Fabric, IsEdge, nth}
@@ -48,7 +48,7 @@ use Rattle.ev_fabric.specs.Local.{event_of}
 use Rattle.ev_fabric.specs.Opening.{IsStart}
 use Rattle.ev_fabric.specs.Runs.{Runs}
 use Rattle.ev_fabric.specs.Sound.{IsSound}
-use Rattle.ev_fabric.specs.Steps.{IsRefused, StepsAt, AnnouncesAt, in_life, OpensAnew, RestartsAt, FabricSteps}
+use Rattle.ev_fabric.specs.Steps.{IsRefused, StepsAt, AnnouncesAt, in_incarnation, OpensAnew, RestartsAt, FabricSteps}
 use Rattle.ev_fabric.proofs.Places.{set_cases}
 use Rattle.ev_fabric.proofs.Opened.{start_sound}
 use Rattle.ev_fabric.proofs.Fabrics.{runs_sound}
@@ -91,7 +91,8 @@ learns_go : (x : Bool) (a : Edge) (s : Station) (port : ℕ) (told : Option Aler
 learns_go true a s port told b h = does_go (case_of a s) a s port told b h
 learns_go false a s port told b h = stays a b h.1
 
-bridges_go : (event : tree.Event) (a : Edge) (result : Result Reply edge.Refusal) (b : Edge) → Bridges event a result b
+bridges_go : (event : tree.Event) (a : Edge) (result : Result Reply edge.Refusal) (b : Edge)
+    → Bridges event a result b
     → Goes a b
 bridges_go event a (Ok reply) b h = bridge_goes a b event h.flush reply.bpdus.items h.goes
 bridges_go event a (Err r) b h = absurd h
@@ -105,7 +106,8 @@ seconds_go : (a : Edge) (result : Result Reply edge.Refusal) (b : Edge) → Seco
 seconds_go a (Ok reply) b h = bridge_goes a b tree_events.Second h.flush reply.bpdus.items h.goes
 seconds_go a (Err r) b h = absurd h
 
-frame_goes : (arrival : Result Arrival edge.Refusal) (a : Edge) (port : ℕ) (result : Result Reply edge.Refusal)
+frame_goes : (arrival : Result Arrival edge.Refusal) (a : Edge) (port : ℕ)
+    (result : Result Reply edge.Refusal)
     (b : Edge) → FrameSteps arrival a port result b → Goes a b
 frame_goes (Err r) a port result b h = stays a b h.1
 frame_goes (Ok Dropped) a port result b h = stays a b h.1
@@ -115,7 +117,8 @@ frame_goes (Ok (Data vni destination source)) a port (Ok reply) b h =
     h.learning.learning
 frame_goes (Ok (Data vni destination source)) a port (Err r) b h = absurd h
 
-tunnel_goes : (arrival : Result Arrival edge.Refusal) (a : Edge) (result : Result Reply edge.Refusal) (b : Edge)
+tunnel_goes : (arrival : Result Arrival edge.Refusal) (a : Edge) (result : Result Reply edge.Refusal)
+    (b : Edge)
     → TunnelSteps arrival a result b → Goes a b
 tunnel_goes (Err r) a result b h = stays a b h.1
 tunnel_goes (Ok Dropped) a result b h = stays a b h.1
@@ -123,7 +126,8 @@ tunnel_goes (Ok (Message m)) a result b h = absurd h
 tunnel_goes (Ok (Data vni destination source)) a (Ok reply) b h = stays a b h.2
 tunnel_goes (Ok (Data vni destination source)) a (Err r) b h = absurd h
 
-takes_go : (x : Bool) (a : Edge) (u : Fields) (result : Result Reply edge.Refusal) (b : Edge) → Takes x a u result b
+takes_go : (x : Bool) (a : Edge) (u : Fields) (result : Result Reply edge.Refusal) (b : Edge)
+    → Takes x a u result b
     → Goes a b
 takes_go true a u (Ok reply) b h = same_tree a b (ap (λ (x : Edge). x.tree) h.3)
 takes_go true a u (Err r) b h = stays a b h.1
@@ -145,8 +149,8 @@ pins_go None a s port (Err r) b h = absurd h
 
 unpin_tree : (a : Edge) (s : Station) → (after_unpin a s).tree ≡ a.tree
 unpin_tree a s =
-    elim (is_pinned (entry_at a.claims.learned s)) as (λ x.
-    (cond x (record a { claims = after_removal a.claims s }) a).tree ≡ a.tree) [ true ↦ refl | false ↦ refl ]
+    elim (is_pinned (entry_at a.routes.learned s)) as (λ x.
+    (cond x (record a { routes = after_removal a.routes s }) a).tree ≡ a.tree) [ true ↦ refl | false ↦ refl ]
 
 steps_go : (a : Edge) (event : Event) (result : Result Reply edge.Refusal) (b : Edge) → Steps a event result b
     → Goes a b
@@ -157,9 +161,9 @@ steps_go a (events.Pin s port) result b h = pins_go (refused_pin a s port) a s p
 steps_go a (events.Unpin s) result b h = same_tree a b (ap (λ (x : Edge). x.tree) h.1 ∙ unpin_tree a s)
 steps_go a (events.Thaw s) result b h = same_tree a b (ap (λ (x : Edge). x.tree) h.1)
 steps_go a events.Second result b h = seconds_go a result b h
-steps_go a (events.PortUp port) result b h = bridges_at_go (vni_at a.claims.ports port) _ a result b h
-steps_go a (events.PortDown port) result b h = bridges_at_go (vni_at a.claims.ports port) _ a result b h
-steps_go a (events.Mcheck port) result b h = bridges_at_go (vni_at a.claims.ports port) _ a result b h
+steps_go a (events.PortUp port) result b h = bridges_at_go (vni_at a.routes.ports port) _ a result b h
+steps_go a (events.PortDown port) result b h = bridges_at_go (vni_at a.routes.ports port) _ a result b h
+steps_go a (events.Mcheck port) result b h = bridges_at_go (vni_at a.routes.ports port) _ a result b h
 steps_go a events.Announce result b h = same_tree a b (ap (λ (x : Edge). x.tree) h.1)
 
 -- ---- a fabric
@@ -187,14 +191,14 @@ back i = omega arith
 unchanged : (old new : Fabric) → new ≡ old → BridgesCanBe old → BridgesCanBe new
 unchanged old new is h = subst BridgesCanBe (sym is) h
 
-steps_at : (old new : Fabric) (i : ℕ) (a : Edge) (event : Event) (result : Result Reply Refusal) → IsEdge old i a
+steps_at : (old new : Fabric) (i : ℕ) (a : Edge) (event : Event) (result : Result Reply FabricRefusal) → IsEdge old i a
     → StepsAt old (suc i) a event result new → BridgesCanBe old → BridgesCanBe new
 steps_at old new i a event result at s h =
     one_goes old new i a s.after at
     (ap (λ (f : Fabric). f.edges) s.new_is ∙ ap (λ n. slice_set old.edges n s.after) (back i))
     (ap (λ (f : Fabric). f.configs) s.new_is) (steps_go a event s.answer s.after s.steps) h
 
-announces_at : (old new : Fabric) (i : ℕ) (a : Edge) (result : Result Reply Refusal) → IsEdge old i a
+announces_at : (old new : Fabric) (i : ℕ) (a : Edge) (result : Result Reply FabricRefusal) → IsEdge old i a
     → AnnouncesAt old (suc i) a result new → BridgesCanBe old → BridgesCanBe new
 announces_at old new i a (Err why) at s h = unchanged old new s.1 h
 announces_at old new i a (Ok reply) at s h =
@@ -206,16 +210,16 @@ reopened : (old new : Fabric) (i : ℕ) (a : Edge) (n : ℕ) (reply : Reply) →
 reopened old new i a n reply s h j c x at_c at_x =
     elim (set_cases old.edges i s.after j x (subst (λ l. slice_get l j ≡ Some x) edges at_x)) as (λ _. CanBe c.tree
     (settings_of c.ports.items) x.tree) [
-      | inl p ↦ elim (set_cases old.configs i (in_life s.config n) j c
+      | inl p ↦ elim (set_cases old.configs i (in_incarnation s.config n) j c
           (subst (λ l. slice_get l j ≡ Some c) configs at_c)) as (λ _. CanBe c.tree (settings_of c.ports.items)
           x.tree) [
             | inl q ↦
                 subst (λ (d : EdgeConfig). CanBe d.tree (settings_of d.ports.items) x.tree) (sym q.1)
                 (subst (λ (y : Edge). CanBe s.config.tree (settings_of s.config.ports.items) y.tree) (sym p.1)
-                (opening_can_be (in_life s.config n) s.after s.opened))
+                (opening_can_be (in_incarnation s.config n) s.after s.opened))
             | inr q ↦ absurd (q.0 p.0)
           ]
-      | inr p ↦ elim (set_cases old.configs i (in_life s.config n) j c
+      | inr p ↦ elim (set_cases old.configs i (in_incarnation s.config n) j c
           (subst (λ l. slice_get l j ≡ Some c) configs at_c)) as (λ _. CanBe c.tree (settings_of c.ports.items)
           x.tree) [
             | inl q ↦ absurd (p.0 q.0)
@@ -226,15 +230,17 @@ reopened old new i a n reply s h j c x at_c at_x =
     edges : new.edges ≡ slice_set old.edges i s.after
     edges = ap (λ (f : Fabric). f.edges) s.new_is ∙ ap (λ m. slice_set old.edges m s.after) (back i)
 
-    configs : new.configs ≡ slice_set old.configs i (in_life s.config n)
-    configs = ap (λ (f : Fabric). f.configs) s.new_is ∙ ap (λ m. slice_set old.configs m (in_life s.config n)) (back i)
+    configs : new.configs ≡ slice_set old.configs i (in_incarnation s.config n)
+    configs = ap (λ (f : Fabric). f.configs) s.new_is ∙ ap (λ m. slice_set old.configs m (in_incarnation s.config n))
+        (back i)
 
-restarts_at : (old new : Fabric) (i : ℕ) (a : Edge) (n : ℕ) (result : Result Reply Refusal)
+restarts_at : (old new : Fabric) (i : ℕ) (a : Edge) (n : ℕ) (result : Result Reply FabricRefusal)
     → RestartsAt old (suc i) a n result new → BridgesCanBe old → BridgesCanBe new
 restarts_at old new i a n (Err why) s h = unchanged old new s.1 h
 restarts_at old new i a n (Ok reply) s h = reopened old new i a n reply s h
 
-delivers_at : (old new : Fabric) (i : ℕ) (a : Edge) (result : Result Reply Refusal) (o : Option Fields) → IsEdge old i a
+delivers_at : (old new : Fabric) (i : ℕ) (a : Edge) (result : Result Reply FabricRefusal) (o : Option Fields)
+    → IsEdge old i a
     → MatchOption o (IsRefused NoSuchUpdate old result new) (λ u. StepsAt old (suc i) a (events.Take u) result new)
     → BridgesCanBe old → BridgesCanBe new
 delivers_at old new i a result None at s h = unchanged old new s.1 h
@@ -243,7 +249,7 @@ delivers_at old new i a result (Some u) at s h = steps_at old new i a (events.Ta
 no_edge : (a : Edge) → ◌≡◌ {A = Option Edge} None (Some a) → ⊥
 no_edge a q = cc
 
-step_can_be : (old new : Fabric) (step : Step) (result : Result Reply Refusal) → FabricSteps old step result new
+step_can_be : (old new : Fabric) (step : Step) (result : Result Reply FabricRefusal) → FabricSteps old step result new
     → BridgesCanBe old → BridgesCanBe new
 step_can_be old new (Local e event) result s h = go e (nth old.edges e) refl s
   where
@@ -321,7 +327,7 @@ module _ (f : Fabric) (sites : List Site) (h : IsSound f) (can : BridgesCanBe f)
       let good = h.good i (of i s at).0 (of i s at).1 in
       let size = ap (λ (x : Tree). length x.ports) is in
       let ports = good.keeps.ports in
-      let most = good.claims.claims.few in
+      let most = good.routes.routes.few in
       omega (arith, size, ports, most)
 
   network : IsNetwork s.net

@@ -4,7 +4,7 @@ use Rattle.std.proofs.Common.{None, List, [], ◌∷◌, ◌++◌, length, inl, 
 use Rattle.std.specs.Prelude.{Ok, IsTrue}
 use Rattle.std.specs.FinMap.{FinMap, empty}
 use Rattle.std.proofs.lemmas.Bool.Decides.{nat_tests}
-use Rattle.ether_wire.specs.Names.{is_group}
+use Rattle.ether_wire.specs.Addr.{is_group}
 use Rattle.ether_wire.specs.Ports.{has_port, with_port, no_ports}
 use Rattle.ether_wire.proofs.PortLemmas.{none_after, has_port-with, has_port-none}
 use Rattle.route_wire.specs.Fields.{Fields}
@@ -26,8 +26,8 @@ use Rattle.ev_tunnel.specs.declared.decision.Source.{Source}
 use Rattle.ev_tunnel.specs.declared.decision.Source.TheVariants.{Port}
 use Rattle.ev_tunnel.specs.Decision.{local_for, remote_for}
 use Rattle.ev_mobility.specs.declared.window.Window.{Window}
-use Rattle.ev_claims.specs.Voice.{Voice}
-use Rattle.ev_claims.specs.Claims.{Claims, after_removals, is_member}
+use Rattle.ev_claims.specs.Speaker.{Speaker}
+use Rattle.ev_claims.specs.LocalRoutes.{LocalRoutes, after_removals, is_member}
 use Rattle.ev_claims.specs.Leaving.{after_flush, flushed_at}
 use Rattle.ev_edge.specs.declared.reply.Reply.{Reply}
 use Rattle.ev_edge.specs.Bridging.{BridgeGoes}
@@ -41,7 +41,7 @@ use Rattle.ev_fabric.specs.Fabric.{Fabric}
 use Rattle.ev_fabric.specs.Steps.{FabricSteps}
 use Rattle.ev_fabric.specs.Runs.{Runs}
 use Rattle.ev_fabric.proofs.Example.{fabric_of, configs_of, nobody_learnt}
-use Rattle.ev_sites.proofs.Guest.{flood_register, said_first, voice_with, claims_with, here, there}
+use Rattle.ev_sites.proofs.Guest.{flood_register, said_first, speaker_with, routes_with, here, there}
 
 -- ---- addresses of frames
 
@@ -121,7 +121,7 @@ half_limit : firings_at half ≡ 192
 unfolding selected_ports selected_root best_path
 half_limit = refl
 
-no_flush : (c : Claims) → after_flush c 0 ≡ c
+no_flush : (c : LocalRoutes) → after_flush c 0 ≡ c
 no_flush c = ap (λ ports. after_removals c (flushed_at c.learned ports)) (none_after 0 0 (lit< tt) refl)
 
 abbrev told : Tree → Reply
@@ -132,7 +132,7 @@ goes_up : (e : Edge) (event : Event) (tree : Tree) → BridgeGoes event e.tree t
 goes_up e event tree goes = record {
   flush = 0;
   goes = goes;
-  after = ap (λ c. record e { tree = tree; claims = c }) (sym (no_flush e.claims));
+  after = ap (λ c. record e { tree = tree; routes = c }) (sym (no_flush e.routes));
   reply_is = refl;
 }
 
@@ -141,8 +141,8 @@ goes_up e event tree goes = record {
 abbrev pub Windows : Type 0
 Windows = FinMap station_cmp Window
 
-abbrev pub edge_with : Claims → Tree → Windows → Edge
-edge_with claims tree windows = record { claims = claims; clock = 0; ageing = 300; tree = tree; windows = windows }
+abbrev pub edge_with : LocalRoutes → Tree → Windows → Edge
+edge_with routes tree windows = record { routes = routes; clock = 0; ageing = 300; tree = tree; windows = windows }
 
 abbrev pub fabric_with : Edge → Edge → List Fields → Fabric
 fabric_with a b pool = record { edges = a ∷ b ∷ []; configs = configs_of root_settings; pool = pool }
@@ -150,13 +150,14 @@ fabric_with a b pool = record { edges = a ∷ b ∷ []; configs = configs_of roo
 -- it has said its flood list, and hasn't announced it
 abbrev pub opened_with : ℕ → Tree → Edge
 opened_with address tree =
-    edge_with (claims_with
-    (voice_with address ((flood_register address, said_first) ∷ []) 1 (flood_register address ∷ [])) nobody_learnt) tree
+    edge_with (routes_with
+    (speaker_with address ((flood_register address, said_first) ∷ []) 1 (flood_register address ∷ [])) nobody_learnt)
+    tree
     empty
 
 -- both ports have come up
-abbrev pub risen_edge : Voice → Learning → Windows → Edge
-risen_edge voice learned windows = edge_with (claims_with voice learned) root_bridge windows
+abbrev pub risen_edge : Speaker → Learning → Windows → Edge
+risen_edge speaker learned windows = edge_with (routes_with speaker learned) root_bridge windows
 
 abbrev fabric_up : Tree → Tree → Fabric
 fabric_up s t = fabric_with (opened_with here s) (opened_with there t) []
@@ -303,7 +304,7 @@ module _ (lists : SettledByLists) (happens : RunsHappen) where
 
   -- ---- frames
 
-  pub decides : (v : Voice) (l : Learning) (w : Windows) (destination : ℕ) (from : Source)
+  pub decides : (v : Speaker) (l : Learning) (w : Windows) (destination : ℕ) (from : Source)
       → IsDecision (risen_edge v l w) 5001 destination from (decided (risen_edge v l w) destination from)
   decides v l w destination from = record {
     members = both_ports;
@@ -317,7 +318,7 @@ module _ (lists : SettledByLists) (happens : RunsHappen) where
   }
 
   -- a frame that comes at port 1
-  pub sends : (v v' : Voice) (l l' : Learning) (w w' : Windows) (destination source : ℕ)
+  pub sends : (v v' : Speaker) (l l' : Learning) (w w' : Windows) (destination source : ℕ)
       → LearnsIf (true && not (is_group source)) (risen_edge v l w) (record { vni = 5001; mac = source }) 1 None
       (risen_edge v' l' w')
       → DataSteps (risen_edge v l w) 1 5001 destination source

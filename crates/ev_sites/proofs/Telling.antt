@@ -16,7 +16,7 @@ use Rattle.mac_arena.specs.Learning.{Learning, is_full}
 use Rattle.ev_mobility.specs.declared.alert.Alert.TheVariants.{TableFull}
 use Rattle.ev_mobility.specs.declared.seq.Seq.TheVariants.{Next}
 use Rattle.ev_mobility.specs.declared.window.Window.{Window}
-use Rattle.ev_claims.specs.Claims.{Claims, after_take, loses_pinned}
+use Rattle.ev_claims.specs.LocalRoutes.{LocalRoutes, after_take, loses_pinned}
 use Rattle.ev_edge.specs.declared.event.Event.TheVariants as events
 use Rattle.ev_edge.specs.declared.learning.Case.TheVariants.{Refuse, Learn}
 use Rattle.ev_edge.specs.declared.reply.Reply.{Reply}
@@ -24,7 +24,7 @@ use Rattle.ev_edge.specs.Edge.{Edge, table_of, address_of}
 use Rattle.ev_edge.specs.Learning.{Does, Learning as Learns, case_of, case_at, new_case, numbered_case, move_case}
 use Rattle.ev_edge.specs.Learning.{learnt}
 use Rattle.ev_edge.specs.Steps.{Steps, Takes, lost_alert, nothing}
-use Rattle.ev_fabric.specs.declared.refusal.Refusal.TheVariants.{NoSuchUpdate}
+use Rattle.ev_fabric.specs.declared.refusal.FabricRefusal.TheVariants.{NoSuchUpdate}
 use Rattle.ev_fabric.specs.declared.step.LocalEvent.{LocalEvent}
 use Rattle.ev_fabric.specs.declared.step.Step.TheVariants.{Local, Announce, Deliver}
 use Rattle.ev_fabric.specs.Fabric.{nth}
@@ -32,7 +32,7 @@ use Rattle.ev_fabric.specs.Local.{event_of}
 use Rattle.ev_fabric.specs.Steps.{IsRefused, StepsAt, FabricSteps}
 use Rattle.ev_fabric.proofs.Example.{nobody_learnt}
 use Rattle.ev_sites.proofs.Tables.{Said, looked_up, found, in_order, next_among, next_number}
-use Rattle.ev_sites.proofs.Guest.{guest, here, there, voice_with}
+use Rattle.ev_sites.proofs.Guest.{guest, here, there, speaker_with}
 use Rattle.ev_sites.proofs.Risen.{Windows, fabric_with, risen_edge}
 
 -- octets behind a reference
@@ -64,8 +64,8 @@ announcing u = record nothing { announced = Some u }
 -- it announces the register that waits longest
 announces : (address : ℕ) (said : List Said) (counter : ℕ) (r : Register) (rs : List Register) (l : Learning)
     (w : Windows) (v : Value) → looked_up said r ≡ Some v
-    → Steps (risen_edge (voice_with address said counter (r ∷ rs)) l w) events.Announce (Ok (announcing (update r v)))
-    (risen_edge (voice_with address said counter rs) l w)
+    → Steps (risen_edge (speaker_with address said counter (r ∷ rs)) l w) events.Announce (Ok (announcing (update r v)))
+    (risen_edge (speaker_with address said counter rs) l w)
 announces address said counter r rs l w v is = (
   ap (λ o. Ok (record nothing { announced = option_map (λ (x : Value). update r x) o })) (sym (found said r ∙ is)),
   refl,
@@ -73,61 +73,61 @@ announces address said counter r rs l w v is = (
 
 pub first_announces : (b : Edge) (pool : List Fields) (said : List Said) (counter : ℕ) (r : Register)
     (rs : List Register) (l : Learning) (w : Windows) (v : Value) → looked_up said r ≡ Some v
-    → FabricSteps (fabric_with (risen_edge (voice_with here said counter (r ∷ rs)) l w) b pool) (Announce 1)
+    → FabricSteps (fabric_with (risen_edge (speaker_with here said counter (r ∷ rs)) l w) b pool) (Announce 1)
     (Ok (announcing (update r v)))
-    (fabric_with (risen_edge (voice_with here said counter rs) l w) b (pool ++ update r v ∷ []))
+    (fabric_with (risen_edge (speaker_with here said counter rs) l w) b (pool ++ update r v ∷ []))
 first_announces b pool said counter r rs l w v is =
-    (risen_edge (voice_with here said counter rs) l w, announces here said counter r rs l w v is, refl)
+    (risen_edge (speaker_with here said counter rs) l w, announces here said counter r rs l w v is, refl)
 
 pub second_announces : (a : Edge) (pool : List Fields) (said : List Said) (counter : ℕ) (r : Register)
     (rs : List Register) (l : Learning) (w : Windows) (v : Value) → looked_up said r ≡ Some v
-    → FabricSteps (fabric_with a (risen_edge (voice_with there said counter (r ∷ rs)) l w) pool) (Announce 2)
+    → FabricSteps (fabric_with a (risen_edge (speaker_with there said counter (r ∷ rs)) l w) pool) (Announce 2)
     (Ok (announcing (update r v)))
-    (fabric_with a (risen_edge (voice_with there said counter rs) l w) (pool ++ update r v ∷ []))
+    (fabric_with a (risen_edge (speaker_with there said counter rs) l w) (pool ++ update r v ∷ []))
 second_announces a pool said counter r rs l w v is =
-    (risen_edge (voice_with there said counter rs) l w, announces there said counter r rs l w v is, refl)
+    (risen_edge (speaker_with there said counter rs) l w, announces there said counter r rs l w v is, refl)
 
 -- ---- taking
 
 abbrev pub taking : Edge → Fields → Reply
-taking a u = record nothing { taken = Some (taken_of (table_of a) u); alert = lost_alert (loses_pinned a.claims u) }
+taking a u = record nothing { taken = Some (taken_of (table_of a) u); alert = lost_alert (loses_pinned a.routes u) }
 
 -- another's update
-takes : (a : Edge) (u : Fields) (c : Claims) → (u.register.originator == address_of a) ≡ false
-    → is_listed (table_of a) u.register.originator ≡ true → after_take a.claims u ≡ c
-    → Steps a (events.Take u) (Ok (taking a u)) (record a { claims = c })
+takes : (a : Edge) (u : Fields) (c : LocalRoutes) → (u.register.originator == address_of a) ≡ false
+    → is_listed (table_of a) u.register.originator ≡ true → after_take a.routes u ≡ c
+    → Steps a (events.Take u) (Ok (taking a u)) (record a { routes = c })
 takes a u c other listed is =
-    subst (λ b. Takes b a u (Ok (taking a u)) (record a { claims = c })) (sym other)
-    (listed, refl, ap (λ d. record a { claims = d }) (sym is))
+    subst (λ b. Takes b a u (Ok (taking a u)) (record a { routes = c })) (sym other)
+    (listed, refl, ap (λ d. record a { routes = d }) (sym is))
 
-pub first_takes : (a b : Edge) (pool : List Fields) (k : ℕ) (u : Fields) (c : Claims) → nth pool k ≡ Some u
+pub first_takes : (a b : Edge) (pool : List Fields) (k : ℕ) (u : Fields) (c : LocalRoutes) → nth pool k ≡ Some u
     → (u.register.originator == address_of a) ≡ false → is_listed (table_of a) u.register.originator ≡ true
-    → after_take a.claims u ≡ c
-    → FabricSteps (fabric_with a b pool) (Deliver 1 k) (Ok (taking a u)) (fabric_with (record a { claims = c }) b pool)
+    → after_take a.routes u ≡ c
+    → FabricSteps (fabric_with a b pool) (Deliver 1 k) (Ok (taking a u)) (fabric_with (record a { routes = c }) b pool)
 first_takes a b pool k u c at other listed is =
     subst (λ o. MatchOption o
-    (IsRefused NoSuchUpdate (fabric_with a b pool) (Ok (taking a u)) (fabric_with (record a { claims = c }) b pool))
+    (IsRefused NoSuchUpdate (fabric_with a b pool) (Ok (taking a u)) (fabric_with (record a { routes = c }) b pool))
     (λ w. StepsAt (fabric_with a b pool) 1 a (events.Take w) (Ok (taking a u))
-    (fabric_with (record a { claims = c }) b pool))) (sym at)
+    (fabric_with (record a { routes = c }) b pool))) (sym at)
     (record {
-      after = record a { claims = c };
+      after = record a { routes = c };
       answer = Ok (taking a u);
       steps = takes a u c other listed is;
       result_is = refl;
       new_is = refl;
     })
 
-pub second_takes : (a b : Edge) (pool : List Fields) (k : ℕ) (u : Fields) (c : Claims) → nth pool k ≡ Some u
+pub second_takes : (a b : Edge) (pool : List Fields) (k : ℕ) (u : Fields) (c : LocalRoutes) → nth pool k ≡ Some u
     → (u.register.originator == address_of b) ≡ false → is_listed (table_of b) u.register.originator ≡ true
-    → after_take b.claims u ≡ c
-    → FabricSteps (fabric_with a b pool) (Deliver 2 k) (Ok (taking b u)) (fabric_with a (record b { claims = c }) pool)
+    → after_take b.routes u ≡ c
+    → FabricSteps (fabric_with a b pool) (Deliver 2 k) (Ok (taking b u)) (fabric_with a (record b { routes = c }) pool)
 second_takes a b pool k u c at other listed is =
     subst (λ o. MatchOption o
-    (IsRefused NoSuchUpdate (fabric_with a b pool) (Ok (taking b u)) (fabric_with a (record b { claims = c }) pool))
+    (IsRefused NoSuchUpdate (fabric_with a b pool) (Ok (taking b u)) (fabric_with a (record b { routes = c }) pool))
     (λ w. StepsAt (fabric_with a b pool) 2 b (events.Take w) (Ok (taking b u))
-    (fabric_with a (record b { claims = c }) pool))) (sym at)
+    (fabric_with a (record b { routes = c }) pool))) (sym at)
     (record {
-      after = record b { claims = c };
+      after = record b { routes = c };
       answer = Ok (taking b u);
       steps = takes b u c other listed is;
       result_is = refl;
@@ -142,7 +142,7 @@ room = ap (λ n. n == 1) (len-empty station_cmp Entry)
 
 -- an edge that has said its flood list alone, and has learnt nothing
 abbrev pub newcomer : ℕ → List Said → List Register → Edge
-newcomer address said pending = risen_edge (voice_with address said 1 pending) nobody_learnt empty
+newcomer address said pending = risen_edge (speaker_with address said 1 pending) nobody_learnt empty
 
 -- it learns the guest with the number that is above all others'
 pub learns : (address : ℕ) (said : List Said) (pending : List Register) (n : ℕ)

@@ -15,7 +15,7 @@ use Rattle.ev_fabric.specs.Opening.{AreConfigs, IsStart}
 use Rattle.ev_fabric.specs.Agreed.{AllAgree, Advertises}
 use Rattle.ev_fabric.specs.Runs.{Runs}
 use Rattle.ev_fabric.specs.Laws.{tunnel_frame_in, IsFrameFor, IsBehindPort, GoesTo, GoesOut}
-use Rattle.ev_fabric.specs.Rest.{Rests}
+use Rattle.ev_fabric.specs.Convergence.{Rests}
 use Rattle.ev_fabric.specs.Station.{StationComes, RunsBeside}
 use Rattle.ev_sites.specs.Sites.{Site, Point, ByEdge, ByTunnel}
 use Rattle.ev_sites.specs.Fabrics.{AreSitesOf, SitesRest}

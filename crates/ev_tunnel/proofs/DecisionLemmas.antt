@@ -6,7 +6,7 @@ use Rattle.std.proofs.lemmas.Bool.Decides.{nat_tests}
 use Rattle.std.proofs.lemmas.Nat.{and_le_l}
 use Rattle.std.proofs.lemmas.List.Kept.{IsStrictlyIncreasing-filter}
 use Rattle.std.specs.Option.{ForSome}
-use Rattle.ether_wire.specs.Names.{is_group}
+use Rattle.ether_wire.specs.Addr.{is_group}
 use Rattle.route_join.specs.Table.{Table}
 use Rattle.route_join.specs.Flood.{IsFloodList}
 use Rattle.ev_tunnel.specs.declared.decision.Source.{Source}

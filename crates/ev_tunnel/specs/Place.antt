@@ -1,7 +1,7 @@
 -- Where the destination of a frame is known to be, by the first of these cases that applies: a group address; an
 -- address in the learning table; one whose owner is another edge; anything else, which is unknown.
 use Rattle.std.specs.Prelude.{ℕ, ◌==◌, if◌then◌else◌, Option, Some, None}
-use Rattle.ether_wire.specs.Names.{is_group}
+use Rattle.ether_wire.specs.Addr.{is_group}
 use Rattle.ev_tunnel.specs.declared.place.Place.{Place}
 use Rattle.ev_tunnel.specs.declared.place.Place.TheVariants.{Everywhere, AtPort, AtEdge}
 

@@ -5,7 +5,7 @@ ghost use Rattle.vxlan_wire.specs.Vxlan.{instance_of};
 ghost use Rattle.ev_tunnel.specs.Datagram.{datagram_of};
 
 use ether_wire::Vni;
-use vxlan_wire::{Refusal, header, read, written_header_is_read};
+use vxlan_wire::{VxlanRefusal, header, read, written_header_is_read};
 
 /// Writes the datagram that carries a frame of at most 9,018 octets, and answers its length. The
 /// octets of the buffer after it stay as they were.
@@ -26,7 +26,7 @@ pub fn wrap(buffer: &mut [u8; 9026], vni: Vni, frame: &[u8]) -> usize
 /// # Errors
 ///
 /// As for the header: `Short` below 8 octets, `NoInstance` where its I flag isn't set.
-pub fn unwrap_datagram(datagram: &[u8]) -> Result<(Vni, &[u8]), Refusal>
+pub fn unwrap_datagram(datagram: &[u8]) -> Result<(Vni, &[u8]), VxlanRefusal>
     ensures { result_map_both (λ p. (p.0, p.1.now)) (λ e. e) result ≡ instance_of datagram.now }
 {
     read(datagram)

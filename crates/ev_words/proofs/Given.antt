@@ -32,12 +32,12 @@ use Rattle.clap.specs.declared.builder.action.ArgAction.TheVariants as action
 use Rattle.clap.specs.declared.error.kind.ErrorKind.TheVariants as kind
 use Rattle.clap.specs.declared.parser.matches.ValueSource.TheVariants.{CommandLine, DefaultValue}
 use Rattle.clap.proofs.WalkLemmas.{both}
-use Rattle.ev_words.specs.declared.words.Subcommand.{Subcommand}
-use Rattle.ev_words.specs.declared.words.Subcommand.TheVariants.{Report, Migrate, Check, Simulate, Play, Run, Version}
-use Rattle.ev_words.specs.declared.words.Given.{Given}
-use Rattle.ev_words.specs.declared.words.Given.TheVariants.{Originators, Config, Script, ForRun}
-use Rattle.ev_words.specs.Words.{Parts, subcommands, name_of, option_name, needs_of, takes_of, with_option, with_flag}
-use Rattle.ev_words.specs.Words.{flag_of, is_flagged, order_app, program, named, needed_in, given_in, order_in}
+use Rattle.ev_words.specs.declared.args.Subcommand.{Subcommand}
+use Rattle.ev_words.specs.declared.args.Subcommand.TheVariants.{Report, Migrate, Check, Simulate, Play, Run, Version}
+use Rattle.ev_words.specs.declared.args.Given.{Given}
+use Rattle.ev_words.specs.declared.args.Given.TheVariants.{Originators, Config, Script, ForRun}
+use Rattle.ev_words.specs.Args.{Parts, subcommands, name_of, option_name, needs_of, takes_of, with_option, with_flag}
+use Rattle.ev_words.specs.Args.{flag_of, is_flagged, subcommand_app, program, named, needed_in, given_in, invocation_in}
 
 -- ---- options
 
@@ -444,7 +444,7 @@ abbrev above : Shape
 above = with_leaf_noted (marked_built program.top)
 
 abbrev leaf : Subcommand → Shape
-leaf x = built_leaf (inherited above (order_app x).top)
+leaf x = built_leaf (inherited above (subcommand_app x).top)
 
 abbrev help_leaf : Shape
 help_leaf = built_leaf (inherited (record above { disable_help_subcommand = false }) help_shape)
@@ -518,16 +518,16 @@ names_it Play = refl
 names_it Run = refl
 names_it Version = refl
 
--- an order's parts
+-- an invocation's parts
 abbrev pub the_parts : Subcommand → Option Text → Bool → Text → Parts
 the_parts s more flagged text = (s, text, more, flagged)
 
 abbrev pub found_as : Text → List Row → Option (Text × List Row)
 found_as name rows = Some (name, rows)
 
-order_is_there : (x : Subcommand) (rows : List Row) → is_some (needed_in (needs_of x) rows) ≡ true
-    → is_some (order_in (found_as (name_of x) rows)) ≡ true
-order_is_there x rows has = rw (names_it x) (go (needed_in (needs_of x) rows) has)
+invocation_is_there : (x : Subcommand) (rows : List Row) → is_some (needed_in (needs_of x) rows) ≡ true
+    → is_some (invocation_in (found_as (name_of x) rows)) ≡ true
+invocation_is_there x rows has = rw (names_it x) (go (needed_in (needs_of x) rows) has)
   where
     go : (o : Option Text) → is_some o ≡ true
         → is_some {T = Parts} (option_and_then
@@ -538,18 +538,18 @@ order_is_there x rows has = rw (names_it x) (go (needed_in (needs_of x) rows) ha
 abbrev answers : Text → Shape → Bool
 answers name s = answers_to name (label_of s)
 
-entered_order : (xs : List Subcommand) (name : Text) (words : List Text)
+entered_invocation : (xs : List Subcommand) (name : Text) (words : List Text)
     → is_some (option_map (λ s. rows_at s words) (find (answers name) (map leaf xs ++ help_leaf ∷ []))) ≡ true
     → option_map_or (λ s. level_fault s [] nothing_held words false [])
     (find (answers name) (map leaf xs ++ help_leaf ∷ [])) [] ≡ []
     → not (bytes_eq name (codes "help") && true) ≡ true
-    → is_some (order_in (option_map (λ s. rows_at s words) (find (answers name) (map leaf xs ++ help_leaf ∷ []))))
+    → is_some (invocation_in (option_map (λ s. rows_at s words) (find (answers name) (map leaf xs ++ help_leaf ∷ []))))
     ≡ true
-entered_order [] name words has f no_help = go (bytes_eq (codes "help") name) refl has
+entered_invocation [] name words has f no_help = go (bytes_eq (codes "help") name) refl has
   where
     go : (b : Bool) → bytes_eq (codes "help") name ≡ b → is_some
         (option_map (λ s. rows_at s words) (cond (b || false) (Some help_leaf) None)) ≡ true
-        → is_some (order_in (option_map (λ s. rows_at s words) (cond (b || false) (Some help_leaf) None))) ≡ true
+        → is_some (invocation_in (option_map (λ s. rows_at s words) (cond (b || false) (Some help_leaf) None))) ≡ true
     go false e has = absurd (true≢false (sym has))
     go true e has =
         let is : codes "help" ≡ name = (bytes_eq-Decides (codes "help") name).0 e in
@@ -557,7 +557,8 @@ entered_order [] name words has f no_help = go (bytes_eq (codes "help") name) re
         subst (λ (t : Text). bytes_eq t t ≡ true → bytes_eq t (codes "help") ≡ true) is (λ h. h)
         (subst (λ (t : Text). bytes_eq t t ≡ true) is refl) in
         absurd (true≢false (sym (rw back at no_help)))
-entered_order (x ∷ xs) name words has f no_help = go (bytes_eq (name_of x) name) has f (entered_order xs name words)
+entered_invocation (x ∷ xs) name words has f no_help = go (bytes_eq (name_of x) name) has f
+    (entered_invocation xs name words)
   where
     rest : Option Shape
     rest = find (answers name) (map leaf xs ++ help_leaf ∷ [])
@@ -568,15 +569,15 @@ entered_order (x ∷ xs) name words has f no_help = go (bytes_eq (name_of x) nam
         → (is_some (option_map (λ s. rows_at s words) rest) ≡ true
         → option_map_or (λ s. level_fault s [] nothing_held words false []) rest [] ≡ []
         → not (bytes_eq name (codes "help") && true) ≡ true
-        → is_some (order_in (option_map (λ s. rows_at s words) rest)) ≡ true)
-        → is_some (order_in (option_map (λ s. rows_at s words) (cond (b || false) (Some (leaf x)) rest))) ≡ true
-    go true has f more = order_is_there x (rows_after (leaf x).rules [] words) (option_given x words f)
+        → is_some (invocation_in (option_map (λ s. rows_at s words) rest)) ≡ true)
+        → is_some (invocation_in (option_map (λ s. rows_at s words) (cond (b || false) (Some (leaf x)) rest))) ≡ true
+    go true has f more = invocation_is_there x (rows_after (leaf x).rules [] words) (option_given x words f)
     go false has f more = more has f no_help
 
--- Where the words have no fault, they are an order.
-pub order_given : (words : List Text) → fault_of program words ≡ []
-    → is_some (order_in (subcommand_of program words)) ≡ true
-order_given words f =
+-- Where the words have no fault, they are an invocation.
+pub invocation_given : (words : List Text) → fault_of program words ≡ []
+    → is_some (invocation_in (subcommand_of program words)) ≡ true
+invocation_given words f =
     let a = built program in
     let ws = argument_words program words in
     let stop = stop_after a.top.rules (names_of a) ws in
@@ -590,25 +591,25 @@ order_given words f =
 
     go : (stop : Option (Text × List Text)) → is_some (entered (built program) stop) ≡ true
         → entered_fault (built program) stop ≡ [] → stops (built program).top refl stop ≡ true
-        → is_some (order_in (entered (built program) stop)) ≡ true
+        → is_some (invocation_in (entered (built program) stop)) ≡ true
     go None has f t = absurd (true≢false (sym has))
-    go (Some q) has f t = entered_order subcommands q.0 q.1 has f t
+    go (Some q) has f t = entered_invocation subcommands q.0 q.1 has f t
 
 pub not_none : (words : List Text) (found : Option (Text × List Row)) → fault_of program words ≡ []
-    → found ≡ subcommand_of program words → None ≡ order_in found → ⊥
+    → found ≡ subcommand_of program words → None ≡ invocation_in found → ⊥
 not_none words found f same none =
-    let some = order_given words f in
-    let is : None ≡ order_in (subcommand_of program words) = none ∙ ap order_in same in
+    let some = invocation_given words f in
+    let is : None ≡ invocation_in (subcommand_of program words) = none ∙ ap invocation_in same in
     true≢false (sym some ∙ ap (λ (o : Option Parts). is_some o) (sym is))
 
--- ---- the order at the subcommand that was used
+-- ---- the invocation at the subcommand that was used
 
-pub order_found : (all : Option (Text × List Row)) (name : Text) (rows : List Row) (s : Subcommand)
+pub invocation_found : (all : Option (Text × List Row)) (name : Text) (rows : List Row) (s : Subcommand)
     (o more : Option Text) (flagged : Bool) → all ≡ found_as name rows → Some s ≡ named name → o
     ≡ needed_in (needs_of s) rows
     → more ≡ given_in (takes_of s) rows → flagged ≡ is_flagged (flag_of s) rows
-    → option_map (the_parts s more flagged) o ≡ order_in all
-order_found all name rows s o more flagged is found text besides flags =
+    → option_map (the_parts s more flagged) o ≡ invocation_in all
+invocation_found all name rows s o more flagged is found text besides flags =
     go o more flagged ∙ ap (λ (m : Option Text). option_and_then (λ (text : Text). Some (the_parts s m flagged text))
     o) besides
     ∙ ap (λ (b : Bool). option_and_then (λ (text : Text). Some (the_parts s (given_in (takes_of s) rows) b text)) o)
@@ -620,7 +621,7 @@ order_found all name rows s o more flagged is found text besides flags =
     option_and_then (λ (text : Text). Some
     (the_parts x (given_in (takes_of x) rows) (is_flagged (flag_of x) rows) text))
     (needed_in (needs_of x) rows))) found
-    ∙ ap order_in (sym is)
+    ∙ ap invocation_in (sym is)
   where
     go : (o more : Option Text) (flagged : Bool) → option_map (the_parts s more flagged) o
         ≡ option_and_then (λ (text : Text). Some (the_parts s more flagged text)) o

@@ -1,6 +1,6 @@
 //! The program's words, read by `clap`: its subcommands, their options, and what help says.
 #![tactic(auto)]
 
-mod words;
+mod args;
 
-pub use words::{ClapParser, Order, Parser, Refusal, Subcommand, order_of};
+pub use args::{ArgsError, ClapParser, Invocation, Parser, Subcommand, invocation_of};

@@ -7,7 +7,7 @@ use Rattle.ether_wire.proofs.Appending.{with_text_twice}
 use Rattle.clap.specs.Words.{IsAmong, fault_of}
 use Rattle.clap.specs.Kinds.{Kinds}
 use Rattle.clap.specs.declared.error.kind.ErrorKind.{ErrorKind}
-use Rattle.ev_words.specs.Words.{program}
+use Rattle.ev_words.specs.Args.{program}
 use Rattle.ev_report.specs.Originators.{Text}
 use Rattle.ev_report.specs.Ends.{Devices}
 use Rattle.evpnd.specs.Files.{Shelf}
@@ -63,11 +63,11 @@ pub runs_refused : (given : Descriptors) (words : List Text) (k : ErrorKind) (be
     (d d' : Devices) (status : ℕ) → IsAmong k (fault_of program words) → middle ≡ before
     → d' ≡ record d { notes = d'.notes } → TellsFault middle after d.notes d'.notes status
     → RunsWords given words (world before shelf d) (world after shelf d') status
-runs_refused given words k before middle after shelf d d' status among same kept (inl starved) =
+runs_refused given words k before middle after shelf d d' status among same kept (inl out_of_memory) =
     inl (record {
-      refused = starved.0 ∙ ap (λ (n : ℕ). n + 1) same;
-      desk_kept = ap (λ (x : Devices). desk shelf x) (kept ∙ ap (λ (e : End). record d { notes = e }) starved.1);
-      status_is = starved.2;
+      refused = out_of_memory.0 ∙ ap (λ (n : ℕ). n + 1) same;
+      desk_kept = ap (λ (x : Devices). desk shelf x) (kept ∙ ap (λ (e : End). record d { notes = e }) out_of_memory.1);
+      status_is = out_of_memory.2;
     })
 runs_refused given words k before middle after shelf d d' status among same kept (inr told) =
     inr (inl (record {

@@ -10,7 +10,7 @@ use Rattle.evpnd.specs.declared.files.Named.{Named}
 use Rattle.evpnd.specs.declared.files.Named.TheVariants as named
 use Rattle.evpnd.specs.Files.{Text, Shelf, IsTextOf, unread_text}
 use Rattle.ev_report.specs.Ends.{Devices, devices, has_failed, Holds}
-use Rattle.ev_report.specs.Telling.{IsTold}
+use Rattle.ev_report.specs.Usage.{IsTold}
 use Rattle.ev_config.specs.Config.{ConfigOf}
 use Rattle.ev_run.specs.declared.needs.Needs.{Needs}
 use Rattle.ev_run.specs.declared.obstacles.Obstacle.{Obstacle}

@@ -8,7 +8,7 @@ use Rattle.ev_report.specs.Ends.{Devices, devices}
 use Rattle.evpnd.specs.Files.{Text, Shelf, IsTextOf}
 use Rattle.ev_config.specs.Config.{ConfigOf}
 use Rattle.evpnd.specs.Checks.{desk, OfFile}
-use Rattle.ev_report.specs.Telling.{TellsUsage}
+use Rattle.ev_report.specs.Usage.{TellsUsage}
 
 -- `config KEY`
 abbrev pub config_text : Text → Text

@@ -2,20 +2,20 @@
 use Rattle.std.specs.Prelude.{◌≡◌, ◌≢◌, ℕ, ◌+◌, ◌⊎◌, Bool, true, false, List, [], codes, map, string_bytes, Option}
 use Rattle.ether_wire.specs.Ends.{End}
 use Rattle.clap.specs.Words.{fault_of}
-use Rattle.evpnd.specs.declared.program.Line.{Line}
-use Rattle.evpnd.specs.declared.program.Line.TheVariants.{Words, NotText, NoMemory}
-use Rattle.ev_words.specs.declared.words.Subcommand.{Subcommand}
-use Rattle.ev_words.specs.declared.words.Subcommand.TheVariants.{Report, Migrate, Check, Simulate, Play, Run, Version}
-use Rattle.ev_words.specs.Words.{Parts, program, Spells}
+use Rattle.evpnd.specs.declared.program.Argv.{Argv}
+use Rattle.evpnd.specs.declared.program.Argv.TheVariants.{Words, NotText, NoMemory}
+use Rattle.ev_words.specs.declared.args.Subcommand.{Subcommand}
+use Rattle.ev_words.specs.declared.args.Subcommand.TheVariants.{Report, Migrate, Check, Simulate, Play, Run, Version}
+use Rattle.ev_words.specs.Args.{Parts, program, Spells}
 use Rattle.ev_script.specs.declared.script.mode.Mode.TheVariants as mode
 use Rattle.ev_report.specs.Originators.{Text}
-use Rattle.ev_report.specs.Telling.{IsTold, TellsUsage, OfList}
+use Rattle.ev_report.specs.Usage.{IsTold, TellsUsage, OfList}
 use Rattle.ev_report.specs.Ends.{Devices}
 use Rattle.evpnd.specs.Files.{Shelf}
 use Rattle.evpnd.specs.Checks.{Desk, desk, OfFile}
 use Rattle.evpnd.specs.Scripts.{ChecksAll}
 use Rattle.evpnd.specs.Version.{TellsVersion}
-use Rattle.ev_report.specs.Runs.{Reports}
+use Rattle.ev_report.specs.Report.{Reports}
 use Rattle.ev_report.specs.Migrations.{Migrates}
 use Rattle.evpnd.specs.Used.{SimulatesFound, RunsFound}
 use Rattle.evpnd.specs.declared.streams.Stream.{Stream}
@@ -71,19 +71,20 @@ FollowsAs given Version nothing more flag before after status = (after.shelf ≡
     × TellsVersion before.devices after.devices status
 
 abbrev pub Follows : Descriptors → Parts → Desk → Desk → ℕ → Type 0
-Follows given order before after status = FollowsAs given order.0 order.1 order.2 order.3 before after status
+Follows given invocation before after status = FollowsAs given invocation.0 invocation.1 invocation.2 invocation.3
+    before after status
 
--- An order is followed, and then it is told whether reading or writing failed.
-pub record FollowsTelling (given : Descriptors) (order : Parts) (before after : Desk) (status : ℕ) : Type 0 where
+-- An invocation is followed, and then it is told whether reading or writing failed.
+pub record FollowsTelling (given : Descriptors) (invocation : Parts) (before after : Desk) (status : ℕ) : Type 0 where
   pub mid : Desk
-  pub follows : Follows given order before mid status
+  pub follows : Follows given invocation before mid status
   pub shelf_kept : after.shelf ≡ mid.shelf
   pub told : TellsFailed (failures_of before.devices) mid.devices after.devices
 
 -- ---- words
 
 -- memory was refused once more, to read the words or to tell what is wrong with them; no device was called
-pub record IsStarved (before after : World) (status : ℕ) : Type 0 where
+pub record IsOutOfMemory (before after : World) (status : ℕ) : Type 0 where
   pub refused : after.refusals ≡ before.refusals + 1
   pub desk_kept : after.desk ≡ before.desk
   pub status_is : status ≡ 3
@@ -96,19 +97,20 @@ pub record IsRefused (words : List Text) (before after : World) (status : ℕ) :
   pub text : Text
   pub told : TellsUsage text before.desk.devices after.desk.devices status
 
--- the words are an order, and it is followed
+-- the words are an invocation, and it is followed
 pub record IsFollowed (given : Descriptors) (words : List Text) (before after : World) (status : ℕ) : Type 0 where
-  pub order : Parts
-  pub spells : Spells words order
+  pub invocation : Parts
+  pub spells : Spells words invocation
   pub refusals_kept : after.refusals ≡ before.refusals
-  pub follows : FollowsTelling given order before.desk after.desk status
+  pub follows : FollowsTelling given invocation before.desk after.desk status
 
 abbrev pub RunsWords : Descriptors → List Text → World → World → ℕ → Type 0
 RunsWords given words before after status =
-    IsStarved before after status ⊎ (IsRefused words before after status ⊎ IsFollowed given words before after status)
+    IsOutOfMemory before after status ⊎ (IsRefused words before after status
+    ⊎ IsFollowed given words before after status)
 
 -- A run, on what the system gives as words, and what it says of descriptors.
-abbrev pub RunsProgram : Descriptors → Line → World → World → ℕ → Type 0
+abbrev pub RunsProgram : Descriptors → Argv → World → World → ℕ → Type 0
 RunsProgram given NoMemory before after status = (after ≡ before) × (status ≡ 3)
 RunsProgram given NotText before after status =
     (after.refusals ≡ before.refusals) × (after.desk.shelf ≡ before.desk.shelf)

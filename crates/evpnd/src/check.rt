@@ -3,7 +3,7 @@ ghost use Rattle.std.specs.Prelude.{◌≡◌, ◌++◌, is_ok, if◌then◌else
 ghost use Rattle.ether_wire.specs.Ends.{Source, IsOpen, Puts};
 ghost use Rattle.ev_report.specs.Ends.{devices};
 ghost use Rattle.evpnd.specs.Files.{Text, HasRoom};
-ghost use Rattle.ev_report.specs.Telling.{IsTold};
+ghost use Rattle.ev_report.specs.Usage.{IsTold};
 ghost use Rattle.ev_run.specs.Needs.{needs_of, needs_text};
 ghost use Rattle.ev_run.specs.Obstacles.{obstacles_of, obstacles_text};
 ghost use Rattle.evpnd.specs.Checks.{desk, OfFile, Sums, TellsLine, SumsWith, TellsObstacles, SumsRun, Checks, ChecksText};

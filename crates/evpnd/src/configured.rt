@@ -3,7 +3,7 @@ ghost use Rattle.std.specs.Prelude.{◌≡◌, IfOk};
 ghost use Rattle.ether_wire.specs.Ends.{IsOpen, Puts};
 ghost use Rattle.ev_fabric.specs.Opening.{AreConfigs};
 ghost use Rattle.evpnd.specs.Files.{HasRoom};
-ghost use Rattle.ev_report.specs.Telling.{IsTold};
+ghost use Rattle.ev_report.specs.Usage.{IsTold};
 ghost use Rattle.evpnd.specs.Configured.{config_text, TextGives, FileGives};
 
 use crate::check::unread_status;

@@ -14,7 +14,7 @@ mod version;
 
 use crate::files::SystemFiles;
 use crate::host::{Descriptors, Host};
-use crate::program::{Line, run};
+use crate::program::{Argv, run};
 use crate::streams::Stream;
 use ether_wire::{Reader, Writer};
 use ev_report::Devices;
@@ -28,7 +28,7 @@ fn main(rt: HostRuntime) -> ExitCode {
         closed: first_closed(&rt),
         most: most_descriptors(&rt),
     };
-    let line = line_of(&rt);
+    let argv = argv_of(&rt);
     let mut parser = ClapParser::new(rt.alloc());
     let mut files = SystemFiles::new(&rt);
     let (stdout, stderr) = (rt.stdout(), rt.stderr());
@@ -42,7 +42,7 @@ fn main(rt: HostRuntime) -> ExitCode {
         alloc: rt.alloc(),
         descriptors,
     };
-    let (status, _) = run(&host, &mut parser, &line, &mut files, devices);
+    let (status, _) = run(&host, &mut parser, &argv, &mut files, devices);
     ExitCode::from(status)
 }
 
@@ -79,14 +79,14 @@ fn most_descriptors(rt: &HostRuntime) -> Option<u64> {
 }
 
 /// What the system gives as words.
-fn line_of(rt: &HostRuntime) -> Line {
+fn argv_of(rt: &HostRuntime) -> Argv {
     let words = match std::env::args(rt) {
         Ok(words) => words,
-        Err(error) if error.kind() == io::ErrorKind::OutOfMemory => return Line::NoMemory,
-        Err(_) => return Line::NotText,
+        Err(error) if error.kind() == io::ErrorKind::OutOfMemory => return Argv::NoMemory,
+        Err(_) => return Argv::NotText,
     };
     match words.collect::<Vec<String>>(rt.alloc()) {
-        Ok(words) => Line::Words(words),
-        Err(_) => Line::NoMemory,
+        Ok(words) => Argv::Words(words),
+        Err(_) => Argv::NoMemory,
     }
 }

@@ -3,7 +3,7 @@ ghost use Rattle.std.specs.Prelude.{◌≡◌, ◌≢◌, ◌+◌, ◌<◌, ◌^
 ghost use Rattle.ether_wire.specs.Ends.{IsOpen};
 ghost use Rattle.clap.specs.Words.{fault_of};
 ghost use Rattle.ev_report.specs.Ends.{AreOpen};
-ghost use Rattle.ev_words.specs.Words.{program, parts_of};
+ghost use Rattle.ev_words.specs.Args.{program, parts_of};
 ghost use Rattle.evpnd.specs.Files.{HasRoom};
 ghost use Rattle.evpnd.specs.Checks.{desk};
 ghost use Rattle.evpnd.specs.Scripts.{ChecksAll};
@@ -24,7 +24,7 @@ use ev_report::{
     Devices, Failures, MEMORY, migrate_list, report_list, tell, tell_failed, tell_words,
 };
 use ev_script::Mode;
-use ev_words::{Order, Parser, Refusal, Subcommand, order_of};
+use ev_words::{ArgsError, Invocation, Parser, Subcommand, invocation_of};
 use std::alloc::Global;
 use std::net::Net;
 use std::sync::Wait;
@@ -33,7 +33,7 @@ use std::time::Clock;
 
 /// What the system gives as words.
 #[derive(Debug, Drop)]
-pub(crate) enum Line {
+pub(crate) enum Argv {
     /// The words, of which the first is the program's name.
     Words(Vec<String>),
     /// One of them isn't UTF-8.
@@ -73,17 +73,17 @@ fn check_on<F: Files, R: In, W: Out, N: Out>(
     (status, Devices { reader, out, notes })
 }
 
-/// What an order asks to be checked.
-fn wanted_of<'a>(descriptors: Descriptors, order: &Order<'a>) -> Wanted<'a>
-    ensures path { result.path ≡ order.now.value }
-    ensures script { result.script ≡ order.now.more }
-    ensures purpose { result.purpose ≡ purpose_of order.now.is_for_run descriptors }
+/// What an invocation asks to be checked.
+fn wanted_of<'a>(descriptors: Descriptors, invocation: &Invocation<'a>) -> Wanted<'a>
+    ensures path { result.path ≡ invocation.now.value }
+    ensures script { result.script ≡ invocation.now.more }
+    ensures purpose { result.purpose ≡ purpose_of invocation.now.is_for_run descriptors }
 {
     Wanted {
-        path: order.value,
-        script: order.more,
+        path: invocation.value,
+        script: invocation.more,
         purpose: Purpose {
-            is_run: order.is_for_run,
+            is_run: invocation.is_for_run,
             most: descriptors.most,
         },
     }
@@ -111,25 +111,31 @@ fn run_open<H: Threads + Wait + Net + Clock + Sync, F: Files, R: In, W: Out, N: 
 /// Does what the words say.
 fn follow<H: Threads + Wait + Net + Clock + Sync, F: Files, R: In, W: Out, N: Out + Send>(
     host: &Host<'_, H>,
-    order: Order<'_>,
+    invocation: Invocation<'_>,
     files: &mut F,
     devices: Devices<R, W, N>,
 ) -> (u8, Devices<R, W, N>)
     requires files { HasRoom (F.shelf files.old) }
     requires devices { AreOpen devices }
-    ensures { Follows host.now.descriptors (parts_of order.entry) (desk (F.shelf files.old) devices)
+    ensures { Follows host.now.descriptors (parts_of invocation.entry)
+        (desk (F.shelf files.old) devices)
         (desk (F.shelf files.new) result.1) result.0 }
 {
     let alloc = host.alloc;
-    match order.subcommand {
-        Subcommand::Report => report_list(alloc, order.value, devices),
-        Subcommand::Migrate => migrate_list(alloc, order.value, devices),
+    match invocation.subcommand {
+        Subcommand::Report => report_list(alloc, invocation.value, devices),
+        Subcommand::Migrate => migrate_list(alloc, invocation.value, devices),
         Subcommand::Check => {
-            check_on(alloc, files, wanted_of(host.descriptors, &order), devices)
+            check_on(
+                alloc,
+                files,
+                wanted_of(host.descriptors, &invocation),
+                devices,
+            )
         }
-        Subcommand::Simulate => simulate(alloc, Mode::Simulate, files, order.value, devices),
-        Subcommand::Play => simulate(alloc, Mode::Play, files, order.value, devices),
-        Subcommand::Run => run_open(host, files, order.value, devices),
+        Subcommand::Simulate => simulate(alloc, Mode::Simulate, files, invocation.value, devices),
+        Subcommand::Play => simulate(alloc, Mode::Play, files, invocation.value, devices),
+        Subcommand::Run => run_open(host, files, invocation.value, devices),
         Subcommand::Version => version(devices),
     }
 }
@@ -137,17 +143,17 @@ fn follow<H: Threads + Wait + Net + Clock + Sync, F: Files, R: In, W: Out, N: Ou
 /// Does what the words say, and tells whether reading or writing failed.
 fn follow_telling<H: Threads + Wait + Net + Clock + Sync, F: Files, R: In, W: Out, N: Out + Send>(
     host: &Host<'_, H>,
-    order: Order<'_>,
+    invocation: Invocation<'_>,
     files: &mut F,
     devices: Devices<R, W, N>,
 ) -> (u8, Devices<R, W, N>)
     requires files { HasRoom (F.shelf files.old) }
     requires devices { AreOpen devices }
-    ensures { FollowsTelling host.now.descriptors (parts_of order.entry)
+    ensures { FollowsTelling host.now.descriptors (parts_of invocation.entry)
         (desk (F.shelf files.old) devices) (desk (F.shelf files.new) result.1) result.0 }
 {
     let before = Failures::of(&devices);
-    let (status, devices) = follow(host, order, files, devices);
+    let (status, devices) = follow(host, invocation, files, devices);
     (status, tell_failed(before, devices))
 }
 
@@ -174,16 +180,18 @@ fn run_words<
         (world (P.refusals parser.new) (F.shelf files.new) result.1) result.0 }
 {
     let mut devices = devices;
-    match order_of(parser, words) {
-        Ok(order) => follow_telling(host, order, files, devices),
-        Err(Refusal::Usage(error)) => { (tell_fault(parser, &error, &mut devices.notes), devices) }
-        Err(Refusal::NoMemory) => (MEMORY, devices),
+    match invocation_of(parser, words) {
+        Ok(invocation) => follow_telling(host, invocation, files, devices),
+        Err(ArgsError::Usage(error)) => {
+            (tell_fault(parser, &error, &mut devices.notes), devices)
+        }
+        Err(ArgsError::NoMemory) => (MEMORY, devices),
     }
 }
 
-/// A run of the program: it follows the order that the words are, or tells on the notes what is
-/// wrong with them. It takes the devices, and gives them back. Where reading or writing failed the
-/// notes say so at the end, if they didn't fail themselves.
+/// A run of the program: it follows the invocation that the words are, or tells on the notes what
+/// is wrong with them. It takes the devices, and gives them back. Where reading or writing failed
+/// the notes say so at the end, if they didn't fail themselves.
 ///
 /// The status is the greatest that applies: 4 where a device failed, 3 where memory was refused, 2
 /// where the words aren't the program's or ask for help, or a configuration is faulty, 1 where the
@@ -198,20 +206,20 @@ pub(crate) fn run<
 >(
     host: &Host<'_, H>,
     parser: &mut P,
-    line: &Line,
+    argv: &Argv,
     files: &mut F,
     devices: Devices<R, W, N>,
 ) -> (u8, Devices<R, W, N>)
     requires parser { P.refusals parser.old + 1 < 2 ^ 64 }
     requires files { HasRoom (F.shelf files.old) }
     requires devices { AreOpen devices }
-    ensures { RunsProgram host.now.descriptors line.now
+    ensures { RunsProgram host.now.descriptors argv.now
         (world (P.refusals parser.old) (F.shelf files.old) devices)
         (world (P.refusals parser.new) (F.shelf files.new) result.1) result.0 }
 {
-    match line {
-        Line::Words(words) => run_words(host, parser, words.as_slice(), files, devices),
-        Line::NotText => tell_words(b"error: a word isn't UTF-8\n", devices),
-        Line::NoMemory => (MEMORY, devices),
+    match argv {
+        Argv::Words(words) => run_words(host, parser, words.as_slice(), files, devices),
+        Argv::NotText => tell_words(b"error: a word isn't UTF-8\n", devices),
+        Argv::NoMemory => (MEMORY, devices),
     }
 }

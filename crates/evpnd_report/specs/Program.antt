@@ -4,8 +4,8 @@ use Rattle.evpnd_report.specs.declared.program.Line.{Line}
 use Rattle.evpnd_report.specs.declared.program.Line.TheVariants.{Words, NotText, NoMemory}
 use Rattle.ev_report.specs.Originators.{Text}
 use Rattle.ev_report.specs.Ends.{Devices}
-use Rattle.ev_report.specs.Telling.{TellsUsage, OfList}
-use Rattle.ev_report.specs.Runs.{Reports}
+use Rattle.ev_report.specs.Usage.{TellsUsage, OfList}
+use Rattle.ev_report.specs.Report.{Reports}
 use Rattle.ev_report.specs.Failures.{failures_of, TellsFailed}
 
 -- what is told where the words aren't the program's name and one list

@@ -16,6 +16,6 @@ pub mod Joins
 pub mod Lines
 pub mod Merging
 pub mod Sames
-pub mod Contests
+pub mod WinnerTrees
 pub mod Trees
 pub mod Abouts

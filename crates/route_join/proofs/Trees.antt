@@ -17,19 +17,19 @@ use Rattle.route_wire.specs.declared.update.Value.{Value}
 use Rattle.route_wire.specs.Fields.{Fields}
 use Rattle.route_wire.specs.Order.{register_cmp}
 use Rattle.route_wire.specs.Totals.{register_total, register_exact}
-use Rattle.route_join.specs.declared.contest.Bout.{Bout}
-use Rattle.route_join.specs.declared.many.Entrant.{Entrant}
+use Rattle.route_join.specs.declared.winner_tree.WinnerNode.{WinnerNode}
+use Rattle.route_join.specs.declared.large_group.IndexEntry.{IndexEntry}
 use Rattle.route_join.specs.Table.{entries_of, IsOrdered}
 use Rattle.route_join.specs.Updates.{update_from}
 use Rattle.route_join.specs.Owner.{advert_in, advert_of}
 use Rattle.route_join.specs.Group.{told, update_among, candidate_in, wins, IsLeader, IsSilent}
-use Rattle.route_join.specs.Contest.{owns, AreSettled, Wins, IsChampion}
-use Rattle.route_join.specs.Many.{entrant_at, entered, AreKeyed, AreMatched, IsMany}
+use Rattle.route_join.specs.WinnerTree.{owns, AreSettled, Wins, IsBestOf}
+use Rattle.route_join.specs.LargeGroup.{index_entry_at, entered, AreKeyed, AreMatched, IsLargeGroup}
 use Rattle.route_join.proofs.Orders.{less, both}
 use Rattle.route_join.proofs.Tables.{same_register, itself_register, other_register, same_or_other}
 use Rattle.route_join.proofs.Owners.{not_better_is}
 use Rattle.route_join.proofs.Leaders.{first_more, split}
-use Rattle.route_join.proofs.Contests.{last, before, either, nat_same, set_here, set_there}
+use Rattle.route_join.proofs.WinnerTrees.{last, before, either, nat_same, set_here, set_there}
 use Rattle.route_join.proofs.Edits.{ordered_put}
 use Rattle.route_join.proofs.Merging.{updates_back}
 
@@ -140,35 +140,36 @@ filled_more us at s h d =
     ∙ sym (first_more us at s h d)
 
 -- ---- what a search finds of an update that was put
-pub inserted_same : (es : List (Register × Entrant)) (r : Register) (v : Entrant)
-    → entrant_at (insert_entry register_cmp es r v) r ≡ Some v
+pub inserted_same : (es : List (Register × IndexEntry)) (r : Register) (v : IndexEntry)
+    → index_entry_at (insert_entry register_cmp es r v) r ≡ Some v
 inserted_same [] r v = ap (λ b. cond b (Some v) None) (itself_register r)
 inserted_same (e ∷ es) r v =
     elim (register_cmp r e.0) as (λ o. register_cmp r e.0 ≡ o
-    → entrant_at (match_ordering o ((r, v) ∷ e ∷ es) ((e.0, v) ∷ es) (e ∷ insert_entry register_cmp es r v)) r
+    → index_entry_at (match_ordering o ((r, v) ∷ e ∷ es) ((e.0, v) ∷ es) (e ∷ insert_entry register_cmp es r v)) r
     ≡ Some v) [
-      | Less ↦ λ q. ap (λ b. cond b (Some v) (entrant_at (e ∷ es) r)) (itself_register r)
-      | Equal ↦ λ q. ap (λ o. cond (is_eq o) (Some v) (entrant_at es r)) q
-      | Greater ↦ λ q. ap (λ o. cond (is_eq o) (Some e.1) (entrant_at (insert_entry register_cmp es r v) r)) q
+      | Less ↦ λ q. ap (λ b. cond b (Some v) (index_entry_at (e ∷ es) r)) (itself_register r)
+      | Equal ↦ λ q. ap (λ o. cond (is_eq o) (Some v) (index_entry_at es r)) q
+      | Greater ↦ λ q. ap (λ o. cond (is_eq o) (Some e.1) (index_entry_at (insert_entry register_cmp es r v) r)) q
           ∙ inserted_same es r v
     ] refl
 
-pub inserted_other : (es : List (Register × Entrant)) (r : Register) (v : Entrant) (q : Register) → q ≢ r
-    → entrant_at (insert_entry register_cmp es r v) q ≡ entrant_at es q
+pub inserted_other : (es : List (Register × IndexEntry)) (r : Register) (v : IndexEntry) (q : Register) → q ≢ r
+    → index_entry_at (insert_entry register_cmp es r v) q ≡ index_entry_at es q
 inserted_other [] r v q ne = ap (λ b. cond b (Some v) None) (other_register q r ne)
 inserted_other (e ∷ es) r v q ne =
     elim (register_cmp r e.0) as (λ o. register_cmp r e.0 ≡ o
-    → entrant_at (match_ordering o ((r, v) ∷ e ∷ es) ((e.0, v) ∷ es) (e ∷ insert_entry register_cmp es r v)) q
-    ≡ entrant_at (e ∷ es) q) [
-      | Less ↦ λ p. ap (λ b. cond b (Some v) (entrant_at (e ∷ es) q)) (other_register q r ne)
+    → index_entry_at (match_ordering o ((r, v) ∷ e ∷ es) ((e.0, v) ∷ es) (e ∷ insert_entry register_cmp es r v)) q
+    ≡ index_entry_at (e ∷ es) q) [
+      | Less ↦ λ p. ap (λ b. cond b (Some v) (index_entry_at (e ∷ es) q)) (other_register q r ne)
       | Equal ↦ λ p.
           let apart = other_register q e.0 (λ same. ne (same ∙ sym (register_exact r e.0 p))) in
-          ap (λ b. cond b (Some v) (entrant_at es q)) apart ∙ sym (ap (λ b. cond b (Some e.1) (entrant_at es q)) apart)
+          ap (λ b. cond b (Some v) (index_entry_at es q)) apart
+          ∙ sym (ap (λ b. cond b (Some e.1) (index_entry_at es q)) apart)
       | Greater ↦ λ p. ap (λ x. cond (is_eq (register_cmp q e.0)) (Some e.1) x) (inserted_other es r v q ne)
     ] refl
 
--- ---- entrants without their places
-pub entered_insert : (es : List (Register × Entrant)) (r : Register) (v : Entrant)
+-- ---- index entries without their places
+pub entered_insert : (es : List (Register × IndexEntry)) (r : Register) (v : IndexEntry)
     → entered (insert_entry register_cmp es r v) ≡ insert_entry register_cmp (entered es) r v.update
 entered_insert [] r v = refl
 entered_insert (e ∷ es) r v =
@@ -181,79 +182,79 @@ entered_insert (e ∷ es) r v =
       | Greater ↦ ap (λ x. (e.0, e.1.update) ∷ x) (entered_insert es r v)
     ]
 
-pub entered_values : (es : List (Register × Entrant)) → map (λ (e : Entrant). e.update) (values_of es)
+pub entered_values : (es : List (Register × IndexEntry)) → map (λ (e : IndexEntry). e.update) (values_of es)
     ≡ values_of (entered es)
 entered_values [] = refl
 entered_values (e ∷ es) = ap (λ x. e.1.update ∷ x) (entered_values es)
 
-entered_lookup : (es : List (Register × Entrant)) (q : Register)
-    → lookup (is_at (register_cmp q)) (entered es) ≡ option_map (λ (e : Entrant). e.update) (entrant_at es q)
+entered_lookup : (es : List (Register × IndexEntry)) (q : Register)
+    → lookup (is_at (register_cmp q)) (entered es) ≡ option_map (λ (e : IndexEntry). e.update) (index_entry_at es q)
 entered_lookup [] q = refl
 entered_lookup (e ∷ es) q =
     elim (is_eq (register_cmp q e.0)) as (λ b. cond b (Some e.1.update) (lookup (is_at (register_cmp q)) (entered es))
-    ≡ option_map (λ (x : Entrant). x.update) (cond b (Some e.1) (entrant_at es q))) [
+    ≡ option_map (λ (x : IndexEntry). x.update) (cond b (Some e.1) (index_entry_at es q))) [
       | true ↦ refl
       | false ↦ entered_lookup es q
     ]
 
-pub find_entered : (es : List (Register × Entrant)) (q : Register) → AreKeyed (entered es)
-    → option_map (λ (e : Entrant). e.update) (entrant_at es q) ≡ update_among (values_of (entered es)) q
+pub find_entered : (es : List (Register × IndexEntry)) (q : Register) → AreKeyed (entered es)
+    → option_map (λ (e : IndexEntry). e.update) (index_entry_at es q) ≡ update_among (values_of (entered es)) q
 find_entered es q k = sym (entered_lookup es q) ∙ find_keyed (entered es) q k
 
--- an entrant is of its register
-pub of_register : (es : List (Register × Entrant)) (q : Register) (e : Entrant) → AreKeyed (entered es)
-    → entrant_at es q ≡ Some e → e.update.register ≡ q
+-- an index entry is of its register
+pub of_register : (es : List (Register × IndexEntry)) (q : Register) (e : IndexEntry) → AreKeyed (entered es)
+    → index_entry_at es q ≡ Some e → e.update.register ≡ q
 of_register [] q e k is = cc
 of_register (x ∷ es) q e k is = go (of_register es q e k.1) (is_eq (register_cmp q x.0)) refl is
   where
-    go : (entrant_at es q ≡ Some e → e.update.register ≡ q) → (b : Bool) → is_eq (register_cmp q x.0) ≡ b
-        → cond b (Some x.1) (entrant_at es q) ≡ Some e → e.update.register ≡ q
-    go further true t h = let same : x.1 ≡ e = cc in ap (λ (y : Entrant). y.update.register) (sym same) ∙ k.0
+    go : (index_entry_at es q ≡ Some e → e.update.register ≡ q) → (b : Bool) → is_eq (register_cmp q x.0) ≡ b
+        → cond b (Some x.1) (index_entry_at es q) ≡ Some e → e.update.register ≡ q
+    go further true t h = let same : x.1 ≡ e = cc in ap (λ (y : IndexEntry). y.update.register) (sym same) ∙ k.0
         ∙ sym (same_register q x.0 t)
     go further false t h = further h
 
 -- ---- the places of the updates
-module _ (es : List (Register × Entrant)) (us : List Fields) (u : Fields) (m : AreMatched es us) where
+module _ (es : List (Register × IndexEntry)) (us : List Fields) (u : Fields) (m : AreMatched es us) where
   -- a register more
-  pub matched_new : entrant_at es u.register ≡ None → AreMatched
+  pub matched_new : index_entry_at es u.register ≡ None → AreMatched
       (insert_entry register_cmp es u.register (record { update = u; place = length us })) (us ++ u ∷ [])
   matched_new absent = record {
     placed = λ r e is. elim (same_or_other r u.register) as (λ _. slice_get (us ++ u ∷ []) e.place ≡ Some e.update) [
       | inl same ↦
-          let here : entrant_at (insert_entry register_cmp es u.register made) u.register ≡ Some e =
-          subst (λ x. entrant_at (insert_entry register_cmp es u.register made) x ≡ Some e) same is in
+          let here : index_entry_at (insert_entry register_cmp es u.register made) u.register ≡ Some e =
+          subst (λ x. index_entry_at (insert_entry register_cmp es u.register made) x ≡ Some e) same is in
           let made_is : made ≡ e = (let there = inserted_same es u.register made in cc) in
-          subst (λ (x : Entrant). slice_get (us ++ u ∷ []) x.place ≡ Some x.update) made_is (last us u)
+          subst (λ (x : IndexEntry). slice_get (us ++ u ∷ []) x.place ≡ Some x.update) made_is (last us u)
       | inr ne ↦ before us u e.place e.update (m.placed r e (sym (inserted_other es u.register made r ne) ∙ is))
     ];
-    known = λ p v is. elim (either us u p v is) as (λ _. entrant_at (insert_entry register_cmp es u.register made)
+    known = λ p v is. elim (either us u p v is) as (λ _. index_entry_at (insert_entry register_cmp es u.register made)
         v.register ≡ Some (record { update = v; place = p })) [
           | inl old ↦ inserted_other es u.register made v.register (λ same.
-              let there : entrant_at es u.register ≡ Some (record { update = v; place = p }) =
-              subst (λ r. entrant_at es r ≡ Some (record { update = v; place = p })) same (m.known p v old) in
+              let there : index_entry_at es u.register ≡ Some (record { update = v; place = p }) =
+              subst (λ r. index_entry_at es r ≡ Some (record { update = v; place = p })) same (m.known p v old) in
               cc) ∙ m.known p v old
-          | inr new ↦ subst (λ (x : Fields). entrant_at (insert_entry register_cmp es u.register made) x.register
+          | inr new ↦ subst (λ (x : Fields). index_entry_at (insert_entry register_cmp es u.register made) x.register
               ≡ Some (record { update = x; place = p })) new.1
-              (subst (λ n. entrant_at (insert_entry register_cmp es u.register made) u.register
+              (subst (λ n. index_entry_at (insert_entry register_cmp es u.register made) u.register
               ≡ Some (record { update = u; place = n })) new.0 (inserted_same es u.register made))
         ];
   }
     where
-      made : Entrant
+      made : IndexEntry
       made = record { update = u; place = length us }
 
   -- another update of a register
-  pub matched_again : AreKeyed (entered es) → (was : Entrant) → entrant_at es u.register ≡ Some was
+  pub matched_again : AreKeyed (entered es) → (was : IndexEntry) → index_entry_at es u.register ≡ Some was
       → AreMatched (insert_entry register_cmp es u.register (record { update = u; place = was.place }))
       (set us was.place u)
   matched_again k was there = record {
     placed = λ r e is. elim (same_or_other r u.register) as (λ _. slice_get (set us was.place u) e.place
         ≡ Some e.update) [
           | inl same ↦
-              let here : entrant_at (insert_entry register_cmp es u.register made) u.register ≡ Some e =
-              subst (λ x. entrant_at (insert_entry register_cmp es u.register made) x ≡ Some e) same is in
+              let here : index_entry_at (insert_entry register_cmp es u.register made) u.register ≡ Some e =
+              subst (λ x. index_entry_at (insert_entry register_cmp es u.register made) x ≡ Some e) same is in
               let made_is : made ≡ e = (let at = inserted_same es u.register made in cc) in
-              subst (λ (x : Entrant). slice_get (set us was.place u) x.place ≡ Some x.update) made_is
+              subst (λ (x : IndexEntry). slice_get (set us was.place u) x.place ≡ Some x.update) made_is
               (set_here us was.place u within)
           | inr ne ↦
               let old = sym (inserted_other es u.register made r ne) ∙ is in
@@ -265,27 +266,27 @@ module _ (es : List (Register × Entrant)) (us : List Fields) (u : Fields) (m : 
               sym (of_register es r e k old) ∙ ap (λ (x : Fields). x.register) (sym one)
               ∙ of_register es u.register was k there)) ∙ m.placed r e old
         ];
-    known = λ p v is. elim (nat_same p was.place) as (λ _. entrant_at (insert_entry register_cmp es u.register made)
+    known = λ p v is. elim (nat_same p was.place) as (λ _. index_entry_at (insert_entry register_cmp es u.register made)
         v.register ≡ Some (record { update = v; place = p })) [
           | inl same ↦
               let here : slice_get (set us was.place u) was.place ≡ Some v =
               subst (λ n. slice_get (set us was.place u) n ≡ Some v) same is in
               let one : u ≡ v = (let at = set_here us was.place u within in cc) in
-              subst (λ (x : Fields). entrant_at (insert_entry register_cmp es u.register made) x.register
+              subst (λ (x : Fields). index_entry_at (insert_entry register_cmp es u.register made) x.register
               ≡ Some (record { update = x; place = p })) one
-              (subst (λ n. entrant_at (insert_entry register_cmp es u.register made) u.register
+              (subst (λ n. index_entry_at (insert_entry register_cmp es u.register made) u.register
               ≡ Some (record { update = u; place = n })) (sym same) (inserted_same es u.register made))
           | inr ne ↦
               let old = m.known p v (sym (set_there us was.place p u ne) ∙ is) in
               inserted_other es u.register made v.register (λ same. ne (
-              let at : entrant_at es u.register ≡ Some (record { update = v; place = p }) =
-              subst (λ r. entrant_at es r ≡ Some (record { update = v; place = p })) same old in
+              let at : index_entry_at es u.register ≡ Some (record { update = v; place = p }) =
+              subst (λ r. index_entry_at es r ≡ Some (record { update = v; place = p })) same old in
               let one : record { update = v; place = p } ≡ was = cc in
-              ap (λ (x : Entrant). x.place) one)) ∙ old
+              ap (λ (x : IndexEntry). x.place) one)) ∙ old
         ];
   }
     where
-      made : Entrant
+      made : IndexEntry
       made = record { update = u; place = was.place }
 
       within : was.place < length us
@@ -293,25 +294,26 @@ module _ (es : List (Register × Entrant)) (us : List Fields) (u : Fields) (m : 
 
 -- ---- what is kept
 -- what isn't told of isn't entered, and the other way round
-pub absent_entrant : (es : List (Register × Entrant)) (q : Register) → AreKeyed (entered es)
-    → find register_cmp q (entries_of (values_of (entered es))) ≡ None → entrant_at es q ≡ None
-absent_entrant es q k none = go (entrant_at es q) refl
+pub absent_index_entry : (es : List (Register × IndexEntry)) (q : Register) → AreKeyed (entered es)
+    → find register_cmp q (entries_of (values_of (entered es))) ≡ None → index_entry_at es q ≡ None
+absent_index_entry es q k none = go (index_entry_at es q) refl
   where
-    go : (o : Option Entrant) → entrant_at es q ≡ o → entrant_at es q ≡ None
+    go : (o : Option IndexEntry) → index_entry_at es q ≡ o → index_entry_at es q ≡ None
     go None e = e
     go (Some x) e =
         let some : Some x.update ≡ update_among (values_of (entered es)) q =
-        ap (option_map (λ (y : Entrant). y.update)) (sym e) ∙ find_entered es q k in
+        ap (option_map (λ (y : IndexEntry). y.update)) (sym e) ∙ find_entered es q k in
         let no : update_among (values_of (entered es)) q ≡ None =
         ap (option_map (λ (v : Value). record { register = q; value = v })) none in
         cc
 
-pub absent_update : (es : List (Register × Entrant)) (q : Register) → AreKeyed (entered es) → entrant_at es q ≡ None
+pub absent_update : (es : List (Register × IndexEntry)) (q : Register) → AreKeyed (entered es) → index_entry_at es q
+    ≡ None
     → find register_cmp q (entries_of (values_of (entered es))) ≡ None
 absent_update es q k none = none_among (values_of (entered es)) q (sym (find_entered es q k)
-    ∙ ap (option_map (λ (y : Entrant). y.update)) none)
+    ∙ ap (option_map (λ (y : IndexEntry). y.update)) none)
 
-module _ (es after : List (Register × Entrant)) (u : Fields) (place : ℕ) (k : AreKeyed (entered es))
+module _ (es after : List (Register × IndexEntry)) (u : Fields) (place : ℕ) (k : AreKeyed (entered es))
     (is : after ≡ insert_entry register_cmp es u.register (record { update = u; place = place })) where
   pub put_entered : entries_of (values_of (entered after))
       ≡ put register_cmp u.register u.value (entries_of (values_of (entered es)))
@@ -323,12 +325,12 @@ module _ (es after : List (Register × Entrant)) (u : Fields) (place : ℕ) (k :
   keyed_entered = subst AreKeyed (sym (ap entered is ∙ entered_insert es u.register
       (record { update = u; place = place }))) (keyed_insert (entered es) u k)
 
-pub many_new : (es after : List (Register × Entrant)) (bs cs : List Bout) (u : Fields) → IsMany es bs
-    → entrant_at es u.register ≡ None
+pub many_new : (es after : List (Register × IndexEntry)) (bs cs : List WinnerNode) (u : Fields) → IsLargeGroup es bs
+    → index_entry_at es u.register ≡ None
     → after ≡ insert_entry register_cmp es u.register (record { update = u; place = length bs })
-    → owns cs ≡ owns bs ++ u ∷ [] → AreSettled cs → IsMany after cs
+    → owns cs ≡ owns bs ++ u ∷ [] → AreSettled cs → IsLargeGroup after cs
 many_new es after bs cs u m absent is own s =
-    let as_long : length bs ≡ length (owns bs) = sym (length-map bs (λ (b : Bout). b.own)) in
+    let as_long : length bs ≡ length (owns bs) = sym (length-map bs (λ (b : WinnerNode). b.own)) in
     let made = is ∙ ap (λ n. insert_entry register_cmp es u.register (record { update = u; place = n })) as_long in
     record {
       keyed = keyed_entered es after u (length bs) m.keyed is;
@@ -339,10 +341,11 @@ many_new es after bs cs u m absent is own s =
       settled = s;
     }
 
-pub many_again : (es after : List (Register × Entrant)) (bs cs : List Bout) (u : Fields) (was : Entrant) → IsMany es bs
-    → entrant_at es u.register ≡ Some was
+pub many_again : (es after : List (Register × IndexEntry)) (bs cs : List WinnerNode) (u : Fields) (was : IndexEntry)
+    → IsLargeGroup es bs
+    → index_entry_at es u.register ≡ Some was
     → after ≡ insert_entry register_cmp es u.register (record { update = u; place = was.place })
-    → owns cs ≡ set (owns bs) was.place u → AreSettled cs → IsMany after cs
+    → owns cs ≡ set (owns bs) was.place u → AreSettled cs → IsLargeGroup after cs
 many_again es after bs cs u was m there is own s = record {
   keyed = keyed_entered es after u was.place m.keyed is;
   ordered = ordered_put [] (values_of (entered es)) (values_of (entered after)) u m.ordered
@@ -352,16 +355,17 @@ many_again es after bs cs u was m there is own s = record {
   settled = s;
 }
 
--- the place of an entrant is one
-pub place_within : (es : List (Register × Entrant)) (bs : List Bout) (q : Register) (e : Entrant) → IsMany es bs
-    → entrant_at es q ≡ Some e → e.place < length bs
+-- the place of an index entry is one
+pub place_within : (es : List (Register × IndexEntry)) (bs : List WinnerNode) (q : Register) (e : IndexEntry)
+    → IsLargeGroup es bs
+    → index_entry_at es q ≡ Some e → e.place < length bs
 place_within es bs q e m is =
     let w = slice_get_within (owns bs) e.place e.update (m.matched.placed q e is) in
-    let as_long = length-map bs (λ (b : Bout). b.own) in
+    let as_long = length-map bs (λ (b : WinnerNode). b.own) in
     omega (arith, w, as_long)
 
 -- ---- who is best at the places is the owner
-module _ (es : List (Register × Entrant)) (us : List Fields) (k : AreKeyed (entered es)) (m : AreMatched es us) where
+module _ (es : List (Register × IndexEntry)) (us : List Fields) (k : AreKeyed (entered es)) (m : AreMatched es us) where
   -- what is told of a register stands at a place
   record IsToldAt (q : Register) (b : Advert) : Type 0 where
     value : Value
@@ -372,8 +376,8 @@ module _ (es : List (Register × Entrant)) (us : List Fields) (k : AreKeyed (ent
   told_at : (q : Register) (b : Advert) → told (values_of (entered es)) q ≡ Some b → IsToldAt q b
   told_at q b e = go (find register_cmp q (entries_of (values_of (entered es)))) refl e
     where
-      at : (v : Value) (o : Option Entrant) → entrant_at es q ≡ o
-          → option_map (λ (x : Entrant). x.update) o ≡ Some (record { register = q; value = v })
+      at : (v : Value) (o : Option IndexEntry) → index_entry_at es q ≡ o
+          → option_map (λ (x : IndexEntry). x.update) o ≡ Some (record { register = q; value = v })
           → advert_in v.content ≡ Some b → IsToldAt q b
       at v None is h says = cc
       at v (Some x) is h says = let same : x.update ≡ record { register = q; value = v } = cc in record {
@@ -386,10 +390,10 @@ module _ (es : List (Register × Entrant)) (us : List Fields) (k : AreKeyed (ent
       go : (o : Option Value) → find register_cmp q (entries_of (values_of (entered es))) ≡ o → advert_of o ≡ Some b
           → IsToldAt q b
       go None is h = cc
-      go (Some v) is h = at v (entrant_at es q) refl (find_entered es q k
+      go (Some v) is h = at v (index_entry_at es q) refl (find_entered es q k
           ∙ ap (option_map (λ (w : Value). record { register = q; value = w })) is) h
 
-  pub silent : IsChampion us None → IsSilent (values_of (entered es))
+  pub silent : IsBestOf us None → IsSilent (values_of (entered es))
   silent h q = go (told (values_of (entered es)) q) refl
     where
       go : (o : Option Advert) → told (values_of (entered es)) q ≡ o → told (values_of (entered es)) q ≡ None
@@ -403,7 +407,7 @@ module _ (es : List (Register × Entrant)) (us : List Fields) (k : AreKeyed (ent
     advert = l.advert;
     named = refl;
     own = ap advert_of (some_among (values_of (entered es)) w.register w (sym (find_entered es w.register k)
-        ∙ ap (option_map (λ (x : Entrant). x.update)) (m.known l.place w l.stands))) ∙ l.advertises;
+        ∙ ap (option_map (λ (x : IndexEntry). x.update)) (m.known l.place w l.stands))) ∙ l.advertises;
     best = λ q b ne is.
         let t = told_at q b is in
         not_better_is b q l.advert w.register ne

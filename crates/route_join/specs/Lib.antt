@@ -11,9 +11,9 @@ pub mod Ranks
 pub mod Hashes
 pub mod Group
 pub mod Groups
-pub mod Contest
-pub mod Many
-pub mod Kept
+pub mod WinnerTree
+pub mod LargeGroup
+pub mod Storage
 pub mod Lines
 pub mod Stops
 pub mod Updates

@@ -6,9 +6,9 @@ ghost use Rattle.route_join.specs.Table.{entries_of, IsOrdered, is_news};
 ghost use Rattle.route_join.specs.Subject.{subject_of};
 ghost use Rattle.route_join.specs.Group.{AreAbout, entries_with, added, update_among, IsLeader, IsSilent};
 
-use crate::few::{Few, best_place, owner_at};
-use crate::many::Many;
+use crate::large_group::LargeGroup;
 use crate::place::place;
+use crate::small_group::{SmallGroup, best_place, owner_at};
 use crate::table::Taken;
 use crate::updates::UpdatesOf;
 use ether_wire::Addr;
@@ -19,20 +19,20 @@ use std::slice;
 
 /// How updates are kept.
 #[derive(Drop)]
-enum Kept {
+enum Storage {
     /// One alone, without memory of its own.
     One(Update),
     /// In one list.
-    Few(Few),
+    SmallGroup(SmallGroup),
     /// In a tree. The box keeps small groups small.
-    Many(Box<Many>),
+    LargeGroup(Box<LargeGroup>),
 }
 
 /// The same updates in a tree, where there is memory for it.
-fn spread(alloc: Global, few: &Few) -> Result<Box<Many>, AllocError>
+fn spread(alloc: Global, few: &SmallGroup) -> Result<Box<LargeGroup>, AllocError>
     ensures { IfOk result (λ many. many.value ≡ few.now) }
 {
-    let many = Many::of(alloc, few.updates())?;
+    let many = LargeGroup::of(alloc, few.updates())?;
     match Box::new(alloc, many) {
         Ok(many) => Ok(many),
         Err(_) => Err(AllocError),
@@ -67,20 +67,20 @@ fn take_one(own: &mut Update, update: &Update) -> Option<Taken>
 /// anything is advertised.
 #[derive(Drop)]
 pub(crate) struct Group {
-    kept: Kept,
+    kept: Storage,
 }
 
 impl Model for Group {
     ghost use Rattle.std.specs.Prelude.{List};
     ghost use Rattle.std.specs.Coded.{codes};
     ghost use Rattle.route_wire.specs.Fields.{Fields};
-    ghost use Rattle.route_join.specs.Kept.{kept_updates};
+    ghost use Rattle.route_join.specs.Storage.{stored_updates};
 
     ghost Value = { List Fields };
 
     ghost coded = { Prim.hlevel codes };
 
-    ghost view = { λ g. kept_updates g.kept };
+    ghost view = { λ g. stored_updates g.kept };
 }
 
 impl Group {
@@ -89,7 +89,7 @@ impl Group {
         ensures { result ≡ update.now ∷ [] }
     {
         Group {
-            kept: Kept::One(*update),
+            kept: Storage::One(*update),
         }
     }
 
@@ -99,9 +99,9 @@ impl Group {
         ensures ordered { IsOrdered self.now }
     {
         match &self.kept {
-            Kept::One(own) => UpdatesOf::few(slice::from_ref(own)),
-            Kept::Few(few) => UpdatesOf::few(few.updates()),
-            Kept::Many(many) => UpdatesOf::many(many.updates()),
+            Storage::One(own) => UpdatesOf::few(slice::from_ref(own)),
+            Storage::SmallGroup(few) => UpdatesOf::few(few.updates()),
+            Storage::LargeGroup(many) => UpdatesOf::many(many.updates()),
         }
     }
 
@@ -111,12 +111,12 @@ impl Group {
         ensures { result ≡ update_among self.now register.now }
     {
         match &self.kept {
-            Kept::One(own) => match place(slice::from_ref(own), register) {
+            Storage::One(own) => match place(slice::from_ref(own), register) {
                 Ok(_) => Some(*own),
                 Err(_) => None,
             },
-            Kept::Few(few) => few.register(register),
-            Kept::Many(many) => many.register(register),
+            Storage::SmallGroup(few) => few.register(register),
+            Storage::LargeGroup(many) => many.register(register),
         }
     }
 
@@ -125,9 +125,9 @@ impl Group {
         ensures { MatchOption result (IsSilent self.now) (IsLeader self.now) }
     {
         match &self.kept {
-            Kept::One(own) => owner_at(slice::from_ref(own), best_place(slice::from_ref(own))),
-            Kept::Few(few) => few.owner(),
-            Kept::Many(many) => many.owner(),
+            Storage::One(own) => owner_at(slice::from_ref(own), best_place(slice::from_ref(own))),
+            Storage::SmallGroup(few) => few.owner(),
+            Storage::LargeGroup(many) => many.owner(),
         }
     }
 
@@ -136,17 +136,17 @@ impl Group {
     fn settle(&mut self, alloc: Global)
         ensures { self.new ≡ self.old }
     {
-        if let Kept::Few(few) = &self.kept {
-            if few.are_many() {
+        if let Storage::SmallGroup(few) = &self.kept {
+            if few.is_large() {
                 if let Ok(many) = spread(alloc, few) {
-                    self.kept = Kept::Many(many);
+                    self.kept = Storage::LargeGroup(many);
                 }
             }
         }
     }
 
     /// Takes an update as it is kept.
-    fn take_kept(
+    fn take_stored(
         &mut self,
         alloc: Global,
         held: &mut usize,
@@ -166,17 +166,17 @@ impl Group {
         ensures err_held { OnErr result (held.new ≡ held.old) }
     {
         match &mut self.kept {
-            Kept::One(own) => match take_one(own, update) {
+            Storage::One(own) => match take_one(own, update) {
                 Some(taken) => Ok(taken),
                 None => {
-                    let mut few = Few::new(alloc, own)?;
+                    let mut few = SmallGroup::new(alloc, own)?;
                     let taken = few.take(held, update)?;
-                    self.kept = Kept::Few(few);
+                    self.kept = Storage::SmallGroup(few);
                     Ok(taken)
                 }
             },
-            Kept::Few(few) => few.take(held, update),
-            Kept::Many(many) => many.take(held, update),
+            Storage::SmallGroup(few) => few.take(held, update),
+            Storage::LargeGroup(many) => many.take(held, update),
         }
     }
 
@@ -202,7 +202,7 @@ impl Group {
         ensures err_held { OnErr result (held.new ≡ held.old) }
     {
         let before = *held;
-        let taken = self.take_kept(alloc, held, update);
+        let taken = self.take_stored(alloc, held, update);
         if *held != before {
             self.settle(alloc);
         }

@@ -1,23 +1,23 @@
 //! Tables of route updates: each register's newest value, and who owns a MAC address.
 #![tactic(auto)]
 
-mod contest;
-mod few;
 mod flood;
 mod group;
 mod groups;
+mod large_group;
 mod laws;
-mod many;
-mod named;
 mod owner;
 mod place;
+mod register_key;
 mod report;
 mod salt;
+mod small_group;
 mod subject;
 mod table;
 #[cfg(test)]
 mod tests;
 mod updates;
+mod winner_tree;
 
 pub use laws::{
     all_taken, all_updates_are, equal_reports, flood_is, join_associates, join_commutes, join_is,

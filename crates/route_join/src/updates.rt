@@ -2,11 +2,11 @@
 ghost use Rattle.std.specs.Prelude.{◌≡◌, [], Some};
 ghost use Rattle.std.specs.Iterator.{YieldsFirst, item_count};
 ghost use Rattle.route_join.specs.Group.{AreGroups, updates_in};
-ghost use Rattle.route_join.specs.Many.{many_left};
+ghost use Rattle.route_join.specs.LargeGroup.{left_in_tree};
 
 use crate::groups::{Groups, GroupsIter};
-use crate::many::Entrant;
-use crate::named::Named;
+use crate::large_group::IndexEntry;
+use crate::register_key::RegisterKey;
 use route_wire::Update;
 use std::collections::btree_map;
 use std::marker::Model;
@@ -15,17 +15,17 @@ use std::marker::Model;
 #[derive(Drop)]
 pub struct UpdatesOf<'a> {
     few: &'a [Update],
-    many: Option<btree_map::Values<'a, Named, Entrant>>,
+    many: Option<btree_map::Values<'a, RegisterKey, IndexEntry>>,
 }
 
 impl<'a> Model for UpdatesOf<'a> {
     ghost use Rattle.std.specs.Prelude.{List, ◌++◌};
     ghost use Rattle.route_wire.specs.Fields.{Fields};
-    ghost use Rattle.route_join.specs.Many.{many_left};
+    ghost use Rattle.route_join.specs.LargeGroup.{left_in_tree};
 
     ghost Value = { List Fields };
 
-    ghost view = { λ it. it.few.now ++ many_left it.many };
+    ghost view = { λ it. it.few.now ++ left_in_tree it.many };
 }
 
 impl<'a> UpdatesOf<'a> {
@@ -47,8 +47,8 @@ impl<'a> UpdatesOf<'a> {
     }
 
     /// Those of a tree.
-    pub(crate) fn many(updates: btree_map::Values<'a, Named, Entrant>) -> Self
-        ensures { result ≡ many_left (Some updates.entry) }
+    pub(crate) fn many(updates: btree_map::Values<'a, RegisterKey, IndexEntry>) -> Self
+        ensures { result ≡ left_in_tree (Some updates.entry) }
     {
         UpdatesOf {
             few: &[],

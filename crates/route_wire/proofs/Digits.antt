@@ -2,7 +2,7 @@
 use Rattle.std.proofs.Common.{◌≡◌, ℕ, ◌-◌, ◌<◌, ◌/◌, ◌%◌, ◌^◌, List, [], ◌++◌, false, refl, arith}
 use Rattle.std.specs.Fmt.{padded_integral, format_spec, digits}
 use Rattle.std.proofs.lemmas.Fmt.{hex_byte}
-use Rattle.ether_wire.specs.Names.{hex_group}
+use Rattle.ether_wire.specs.Addr.{hex_group}
 
 -- what `{:02x}` writes
 abbrev lower : ℕ → List ℕ

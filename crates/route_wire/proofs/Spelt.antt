@@ -7,7 +7,7 @@ use Rattle.std.proofs.lemmas.Bool.Decides.{nat_tests}
 use Rattle.std.proofs.lemmas.Map.Views.{exact_unsigned_eq}
 use Rattle.byteorder.specs.Endian.{big_number, big_bytes}
 use Rattle.byteorder.specs.Numbers.{big_number-reads_back}
-use Rattle.ether_wire.specs.Names.{is_group}
+use Rattle.ether_wire.specs.Addr.{is_group}
 use Rattle.route_wire.specs.declared.record.Header.{Header}
 use Rattle.route_wire.specs.declared.update.Ip.{Ip}
 use Rattle.route_wire.specs.declared.update.Ip.TheVariants.{V4, V6}
@@ -22,8 +22,8 @@ use Rattle.ether_wire.specs.Frame.{first_of}
 use Rattle.route_wire.specs.Stream.{IsWhole}
 use Rattle.route_wire.specs.Refusal.{refusal_tests}
 use Rattle.route_wire.specs.Record.{header_in, update_in, reading, Spells, Reads}
-use Rattle.route_wire.specs.Spelling.{mac_route, flood_route, route_octets, kind_of, record_octets, IpFits, Label2Fits}
-use Rattle.route_wire.specs.Spelling.{RouteFits}
+use Rattle.route_wire.specs.Encode.{mac_route, flood_route, route_octets, kind_of, record_octets, IpFits, Label2Fits}
+use Rattle.route_wire.specs.Encode.{RouteFits}
 use Rattle.route_wire.proofs.Wholes.{AllUnmet, found_long}
 use Rattle.route_wire.proofs.Prefixes.{whole_again}
 use Rattle.route_wire.proofs.Readings.{spelt}

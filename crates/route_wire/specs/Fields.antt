@@ -1,6 +1,6 @@
 -- What an update says (RFC 7432, sections 7.2, 7.3 and 15).
 use Rattle.std.specs.Prelude.{◌≡◌, ◌<◌, Bool, true, false, not, None}
-use Rattle.ether_wire.specs.Names.{is_group}
+use Rattle.ether_wire.specs.Addr.{is_group}
 use Rattle.route_wire.specs.declared.update.Key.{Key}
 use Rattle.route_wire.specs.declared.update.Key.TheVariants.{Flood, Mac}
 use Rattle.route_wire.specs.declared.update.Register.{Register}

@@ -19,21 +19,21 @@ NeverEquallyNew = (u v : Fields) → u.register ≡ v.register → is_newer u.va
 abbrev pub NewestFirst : Type 0
 NewestFirst = IsTotalOrder value_cmp × IsAntisymmetric value_cmp
 
--- a value of a later life, or of the same life with a higher counter, is newer
+-- a value of a later incarnation, or of the same incarnation with a higher counter, is newer
 abbrev pub NextNewer : Type 0
 NextNewer = (old new : Value) → old.incarnation ≤ new.incarnation
     → (old.incarnation ≡ new.incarnation → old.counter < new.counter) → is_newer new old ≡ true
 
--- one of the same life with a lower counter isn't
+-- one of the same incarnation with a lower counter isn't
 abbrev pub NotNewerLower : Type 0
 NotNewerLower = (low high : Value) → low.incarnation ≡ high.incarnation → low.counter < high.counter
     → is_newer low high ≡ false
 
--- one of an earlier life isn't
+-- one of an earlier incarnation isn't
 abbrev pub NotNewerEarlier : Type 0
 NotNewerEarlier = (early late : Value) → early.incarnation < late.incarnation → is_newer early late ≡ false
 
--- so what is newer is of no earlier life
+-- so what is newer is of no earlier incarnation
 abbrev pub NewerNotEarlier : Type 0
 NewerNotEarlier = (new old : Value) → is_newer new old ≡ true → old.incarnation ≤ new.incarnation
 

@@ -8,6 +8,6 @@ pub mod Stream
 pub mod Route
 pub mod Refusal
 pub mod Record
-pub mod Spelling
+pub mod Encode
 pub mod Text
 pub mod Feed

@@ -3,7 +3,7 @@ use Rattle.std.specs.Prelude.{◌≡◌, ◌⊎◌, ℕ, ◌+◌, ◌<◌, Bool,
 use Rattle.std.specs.Prelude.{List, [], ◌∷◌, length, take, drop, slice_index, Option}
 use Rattle.std.specs.List.{list_any}
 use Rattle.byteorder.specs.Endian.{big_number}
-use Rattle.ether_wire.specs.Names.{is_group}
+use Rattle.ether_wire.specs.Addr.{is_group}
 use Rattle.route_wire.specs.declared.reason.TheConstants.{UNKNOWN_TYPE, BAD_ROUTE, RD_MISMATCH, MULTIHOMED}
 use Rattle.route_wire.specs.declared.reason.TheConstants.{TAG_UNSUPPORTED, LABEL_MISMATCH, BAD_MAC, COUNTER_ZERO}
 use Rattle.route_wire.specs.declared.route.TheConstants.{MAC_ROUTE, FLOOD_ROUTE, RD_TYPE_PLACE, RD_ADDR_PLACE}

@@ -1,6 +1,6 @@
 -- The text of IP addresses and keys.
 use Rattle.std.specs.Prelude.{ℕ, ◌/◌, ◌%◌, ◌^◌, List, [], ◌++◌, codes, decimal, Option, Some, None}
-use Rattle.ether_wire.specs.Names.{hex_group, mac_text, addr_text}
+use Rattle.ether_wire.specs.Addr.{hex_group, mac_text, addr_text}
 use Rattle.route_wire.specs.declared.update.Ip.{Ip}
 use Rattle.route_wire.specs.declared.update.Ip.TheVariants.{V4, V6}
 use Rattle.route_wire.specs.declared.update.Key.{Key}

@@ -11,22 +11,22 @@ pub fn newest_first()
     ensures { NewestFirst }
 {}
 
-/// A value of a later life, or of the same life with a higher counter, is newer.
+/// A value of a later incarnation, or of the same incarnation with a higher counter, is newer.
 pub fn next_newer()
     ensures { NextNewer }
 {}
 
-/// A value of the same life with a lower counter isn't newer.
+/// A value of the same incarnation with a lower counter isn't newer.
 pub fn not_newer_lower()
     ensures { NotNewerLower }
 {}
 
-/// A value of an earlier life isn't newer.
+/// A value of an earlier incarnation isn't newer.
 pub fn not_newer_earlier()
     ensures { NotNewerEarlier }
 {}
 
-/// A value that is newer than another is of no earlier life.
+/// A value that is newer than another is of no earlier incarnation.
 pub fn newer_not_earlier()
     ensures { NewerNotEarlier }
 {}

@@ -1,17 +1,18 @@
 //! Route updates, which of two is newer, and the records that spell them.
 #![tactic(auto)]
 
+mod encode;
 mod feed;
 mod laws;
 mod reason;
 mod record;
 mod refusal;
 mod route;
-mod spelling;
 mod stream;
 mod text;
 mod update;
 
+pub use encode::write;
 pub use feed::Feed;
 pub use laws::{
     cuttings_agree, every_cutting, key_or_other, keys_in_order, never_equally_new,
@@ -24,7 +25,6 @@ pub use reason::{
     UNKNOWN_TYPE,
 };
 pub use record::read_one;
-pub use spelling::write;
 pub use stream::{Next, Truncated, Whole, whole_of};
 pub use update::{Addr6, Advert, Content, Ip, Key, Register, Update, Value};
 

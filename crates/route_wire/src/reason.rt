@@ -39,7 +39,8 @@ pub const COUNTER_ZERO: u8 = 14;
 
 /// The originator isn't listed.
 pub const UNKNOWN_ORIGINATOR: u8 = 12;
-/// Then, of an edge: it is an own advert of this life with a counter that the edge hasn't reached.
+/// Then, of an edge: it is an own advert of this incarnation with a counter that the edge hasn't
+/// reached.
 pub const OWN_NAME_AHEAD: u8 = 13;
 /// Then: memory was refused.
 pub const NO_MEMORY: u8 = 15;

@@ -52,7 +52,7 @@ pub(crate) struct Header {
     pub originator: Addr,
     /// In which of its lives.
     pub incarnation: u32,
-    /// The number of the update in that life.
+    /// The number of the update in that incarnation.
     pub counter: u64,
     /// The network that it is about.
     pub vni: Vni,

@@ -1,6 +1,6 @@
 //! The text of IP addresses and keys, in the words of a report.
 ghost use Rattle.std.specs.Prelude.{Some};
-ghost use Rattle.ether_wire.specs.Names.{hex_group};
+ghost use Rattle.ether_wire.specs.Addr.{hex_group};
 ghost use Rattle.route_wire.specs.Text.{groups_text, addr6_text, ip_text, key_text};
 
 use crate::update::{Addr6, Ip, Key};

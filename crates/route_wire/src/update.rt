@@ -322,14 +322,14 @@ pub enum Content {
     Advert(Advert),
 }
 
-/// What is said of a register, and when: the life of its originator, the number of the update in
-/// that life, and the content.
+/// What is said of a register, and when: the incarnation of its originator, the number of the
+/// update in that incarnation, and the content.
 // The counter stands first, so that a value has 32 octets and not 40.
 #[derive(Clone, Copy, Debug, PartialEq, Eq)]
 pub struct Value {
-    /// The number of the update in the originator's life, from 1.
+    /// The number of the update in the originator's incarnation, from 1.
     pub counter: u64,
-    /// The life of the originator, from 0.
+    /// The incarnation of the originator, from 0.
     pub incarnation: u32,
     /// What is said.
     pub content: Content,

@@ -4,8 +4,8 @@ use Rattle.std.specs.Prelude.{Result}
 use Rattle.byteorder.specs.Endian.{big_number, big_bytes}
 use Rattle.ether_wire.specs.Frame.{first_of, read_as}
 use Rattle.vxlan_wire.specs.declared.vxlan.TheConstants.{HEADER_LEN, VNI_PLACE, INSTANCE_FLAG, TOO_SHORT, NO_INSTANCE}
-use Rattle.vxlan_wire.specs.declared.vxlan.Refusal.{Refusal}
-use Rattle.vxlan_wire.specs.declared.vxlan.Refusal.TheVariants.{Short, NoInstance}
+use Rattle.vxlan_wire.specs.declared.vxlan.VxlanRefusal.{VxlanRefusal}
+use Rattle.vxlan_wire.specs.declared.vxlan.VxlanRefusal.TheVariants.{Short, NoInstance}
 
 -- flags with I alone, and the identifier
 abbrev pub header_of : ℕ → List ℕ
@@ -18,13 +18,13 @@ has_instance octets = slice_index octets 0 / INSTANCE_FLAG % 2 == 1
 abbrev pub vni_of : List ℕ → ℕ
 vni_of octets = big_number 3 (drop VNI_PLACE octets)
 
-abbrev pub refusal_tests : List ℕ → List (Bool × Refusal)
+abbrev pub refusal_tests : List ℕ → List (Bool × VxlanRefusal)
 refusal_tests octets = (nat_lt (length octets) HEADER_LEN, Short) ∷ (not (has_instance octets), NoInstance) ∷ []
 
 -- the identifier and the octets after the header, or why octets begin with none
-unfoldable pub instance_of : List ℕ → Result (ℕ × List ℕ) Refusal
+unfoldable pub instance_of : List ℕ → Result (ℕ × List ℕ) VxlanRefusal
 instance_of octets = read_as (vni_of octets, drop HEADER_LEN octets) (first_of (refusal_tests octets))
 
-abbrev pub refusal_number : Refusal → ℕ
+abbrev pub refusal_number : VxlanRefusal → ℕ
 refusal_number Short = TOO_SHORT
 refusal_number NoInstance = NO_INSTANCE

@@ -3,7 +3,7 @@
 
 mod vxlan;
 
-pub use vxlan::{NO_INSTANCE, Refusal, TOO_SHORT, header, read, written_header_is_read};
+pub use vxlan::{NO_INSTANCE, TOO_SHORT, VxlanRefusal, header, read, written_header_is_read};
 
 #[cfg(test)]
 mod tests;

@@ -1,5 +1,5 @@
 //! The header both ways, and each refusal.
-use crate::{Refusal, header, read};
+use crate::{VxlanRefusal, header, read};
 use ether_wire::Vni;
 
 /// A header for identifier 5001, and a broadcast frame of 14 octets.
@@ -66,7 +66,10 @@ fn other_flags_and_reserved_octets_are_ignored(rt: HostRuntime) {
 #[test]
 fn refusals_have_their_numbers(rt: HostRuntime) {
     assert_eq!(rt;
-        [Refusal::Short.number(), Refusal::NoInstance.number()],
+        [
+            VxlanRefusal::Short.number(),
+            VxlanRefusal::NoInstance.number()
+        ],
         [1, 2]
     );
 }

@@ -28,35 +28,35 @@ pub const NO_INSTANCE: u8 = 2;
 
 /// Why octets begin with no VXLAN header.
 #[derive(Clone, Copy, Debug, PartialEq, Eq)]
-pub enum Refusal {
+pub enum VxlanRefusal {
     /// Below 8 octets: asked first.
     Short,
     /// The I flag isn't set, so there is no identifier.
     NoInstance,
 }
 
-impl Refusal {
+impl VxlanRefusal {
     /// The number by which it is told.
     pub fn number(self) -> u8
         ensures { result ≡ refusal_number self }
     {
         match self {
-            Refusal::Short => TOO_SHORT,
-            Refusal::NoInstance => NO_INSTANCE,
+            VxlanRefusal::Short => TOO_SHORT,
+            VxlanRefusal::NoInstance => NO_INSTANCE,
         }
     }
 }
 
 /// The identifier in the header, and the octets after it.
 #[tactic(auto, unfolding(crate::specs::Vxlan::instance_of))]
-pub fn read(octets: &[u8]) -> Result<(Vni, &[u8]), Refusal>
+pub fn read(octets: &[u8]) -> Result<(Vni, &[u8]), VxlanRefusal>
     ensures { result_map_both (λ p. (p.0, p.1.now)) (λ e. e) result ≡ instance_of octets.now }
 {
     if octets.len() < HEADER_LEN {
-        return Err(Refusal::Short);
+        return Err(VxlanRefusal::Short);
     }
     if octets[0] / INSTANCE_FLAG % 2 == 0 {
-        return Err(Refusal::NoInstance);
+        return Err(VxlanRefusal::NoInstance);
     }
     let (head, frame) = octets.split_at(HEADER_LEN);
     let (_, vni) = head.split_at(VNI_PLACE);

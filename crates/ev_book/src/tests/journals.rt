@@ -134,8 +134,11 @@ fn journal_stays_short_while_few_stations_are_refreshed(rt: HostRuntime) -> Resu
     Ok(())
 }
 
-// The journal of an edge's first life, in which it learns the host.
-fn first_life<L: Ledger>(alloc: Global, blank: Blank) -> Result<Option<Page<2048>>, AllocError>
+// The journal of an edge's first incarnation, in which it learns the host.
+fn first_incarnation<L: Ledger>(
+    alloc: Global,
+    blank: Blank,
+) -> Result<Option<Page<2048>>, AllocError>
     requires name { blank.name ≡ L.name }
     requires parts { (blank.parts ≡ L.parts) × (blank.parts ≡ 1) }
 {
@@ -202,8 +205,12 @@ fn takes_all<L: Ledger>(
     rest.is_empty()
 }
 
-// Whether a second life takes the journal of the first, and withdraws the host.
-fn second_life<L: Ledger>(alloc: Global, blank: Blank, stream: &[u8]) -> Result<bool, AllocError>
+// Whether a second incarnation takes the journal of the first, and withdraws the host.
+fn second_incarnation<L: Ledger>(
+    alloc: Global,
+    blank: Blank,
+    stream: &[u8],
+) -> Result<bool, AllocError>
     requires name { blank.name ≡ L.name }
     requires parts { (blank.parts ≡ L.parts) × (blank.parts ≡ 1) }
 {
@@ -222,9 +229,9 @@ fn second_life<L: Ledger>(alloc: Global, blank: Blank, stream: &[u8]) -> Result<
 }
 
 #[test]
-fn later_life_withdraws_what_the_journal_has(rt: HostRuntime) -> Result<(), Fail> {
-    let older = first_life::<Brand>(rt.alloc(), Blank::new(1))?;
+fn later_incarnation_withdraws_what_the_journal_has(rt: HostRuntime) -> Result<(), Fail> {
+    let older = first_incarnation::<Brand>(rt.alloc(), Blank::new(1))?;
     let older = older.ok_or("no journal")?;
-    assert!(rt; second_life::<Brand>(rt.alloc(), Blank::new(1), older.octets())?);
+    assert!(rt; second_incarnation::<Brand>(rt.alloc(), Blank::new(1), older.octets())?);
     Ok(())
 }

@@ -36,7 +36,7 @@ fn is_as<L: Ledger>(book: &Book<L>, before: &Seen) -> bool {
 }
 
 // Whether memory was refused, by the refusal or by the alert.
-fn is_starved(outcome: &Result<Reply, BookRefusal>) -> bool {
+fn is_out_of_memory(outcome: &Result<Reply, BookRefusal>) -> bool {
     match outcome {
         Ok(reply) => match reply.alert {
             Some(alert) => alert.number() == NO_MEMORY,
@@ -51,9 +51,9 @@ fn is_starved(outcome: &Result<Reply, BookRefusal>) -> bool {
 fn is_entered<L: Ledger>(book: &mut Book<L>, pass: &mut Pass<L>, event: &Event<'_>) -> bool {
     let before = look_at(book);
     let count = pass.count();
-    if is_starved(&book.enter(pass, event)) {
+    if is_out_of_memory(&book.enter(pass, event)) {
         let is_kept = is_as(book, &before) && count.checked_add(1) == Some(pass.count());
-        if !is_kept || is_starved(&book.enter(pass, event)) {
+        if !is_kept || is_out_of_memory(&book.enter(pass, event)) {
             return false;
         }
     }
@@ -62,7 +62,7 @@ fn is_entered<L: Ledger>(book: &mut Book<L>, pass: &mut Pass<L>, event: &Event<'
 
 // Whether the port is brought up, at the second try if need be, and four stations are heard there.
 fn hears_four<L: Ledger>(book: &mut Book<L>, pass: &mut Pass<L>) -> bool {
-    if is_starved(&book.enter(pass, &Event::PortUp(1)))
+    if is_out_of_memory(&book.enter(pass, &Event::PortUp(1)))
         && book.enter(pass, &Event::PortUp(1)).is_err()
     {
         return false;

@@ -1,6 +1,7 @@
-//! What may happen to an edge's claims, and what may be asked of them: tests are lists of these.
+//! What may happen to an edge's local routes, and what may be asked of them: tests are lists of
+//! these.
 use super::{Edge, Lesson, Name, Said, knows, knows_not, network, says, station};
-use crate::{Claims, Heard, OwnError};
+use crate::{Imported, LocalRoutes, OwnError};
 use ether_wire::Addr;
 use mac_arena::Station;
 use route_join::{TakeError, Taken};
@@ -17,9 +18,9 @@ pub(super) enum Step {
     /// Those behind these ports go.
     Flush(u64),
     /// Another edge's update gives this.
-    Hear(Said, Result<Heard, TakeError>),
+    Import(Said, Result<Imported, TakeError>),
     /// An update under the edge's own name gives this.
-    HearOwn(Said, Result<Taken, OwnError>),
+    ImportOwn(Said, Result<Taken, OwnError>),
     /// The next update to be announced is the flood list of the network 500N with this number.
     AnnounceFlood(u8, u64),
     /// It is this one.
@@ -48,38 +49,38 @@ pub(super) enum Step {
 
 impl Step {
     /// Whether it goes, or is, as it says.
-    fn holds(self, claims: &mut Claims) -> bool {
+    fn holds(self, routes: &mut LocalRoutes) -> bool {
         match self {
-            Step::Pin(name, port) => pins(claims, station(name), port),
+            Step::Pin(name, port) => pins(routes, station(name), port),
             Step::Age(limit) => {
-                claims.age(limit);
+                routes.age(limit);
                 true
             }
             Step::Flush(ports) => {
-                claims.flush(ports);
+                routes.flush(ports);
                 true
             }
-            Step::Hear(said, answer) => hear(claims, said) == Some(answer),
-            Step::HearOwn(said, answer) => hear_own(claims, said) == Some(answer),
-            Step::AnnounceFlood(n, counter) => announces_flood(claims, n, counter),
-            Step::Announce(said) => is_said(claims.announce(), said),
-            Step::AnnounceNothing => claims.announce().is_none(),
-            question => question.is_so(claims),
+            Step::Import(said, answer) => import(routes, said) == Some(answer),
+            Step::ImportOwn(said, answer) => import_own(routes, said) == Some(answer),
+            Step::AnnounceFlood(n, counter) => announces_flood(routes, n, counter),
+            Step::Announce(said) => is_originated(routes.announce(), said),
+            Step::AnnounceNothing => routes.announce().is_none(),
+            question => question.is_so(routes),
         }
     }
 
     /// Whether a question has the answer that it says.
-    fn is_so(self, claims: &Claims) -> bool {
+    fn is_so(self, routes: &LocalRoutes) -> bool {
         match self {
-            Step::Knows(name, port, last, pinned) => knows(claims, name, port, last, pinned),
-            Step::KnowsNot(name) => knows_not(claims, name),
-            Step::Says(said) => is_said(says(claims, said.name), said),
-            Step::SaysNothing(name) => says(claims, name).is_none(),
-            Step::Numbered(said) => is_said(claims.own_at(said.counter), said),
-            Step::NotNumbered(counter) => claims.own_at(counter).is_none(),
-            Step::Counter(counter) => claims.counter() == counter,
-            Step::Entries(count) => claims.entries() == count,
-            Step::Members(n, ports) => claims.members(network(n)) == ports,
+            Step::Knows(name, port, last, pinned) => knows(routes, name, port, last, pinned),
+            Step::KnowsNot(name) => knows_not(routes, name),
+            Step::Says(said) => is_originated(says(routes, said.name), said),
+            Step::SaysNothing(name) => says(routes, name).is_none(),
+            Step::Numbered(said) => is_originated(routes.own_at(said.counter), said),
+            Step::NotNumbered(counter) => routes.own_at(counter).is_none(),
+            Step::Counter(counter) => routes.counter() == counter,
+            Step::Entries(count) => routes.entries() == count,
+            Step::Members(n, ports) => routes.members(network(n)) == ports,
             _ => false,
         }
     }
@@ -95,7 +96,7 @@ pub(super) fn goes(
     steps: &[Step],
 ) -> bool {
     match taught(alloc, incarnation, both, lessons) {
-        Some(edge) => follows(edge.claims, steps),
+        Some(edge) => follows(edge.routes, steps),
         None => false,
     }
 }
@@ -111,22 +112,22 @@ fn taught(alloc: Global, incarnation: u32, both: bool, lessons: &[Lesson]) -> Op
     Some(edge)
 }
 
-fn follows(mut claims: Claims, steps: &[Step]) -> bool {
+fn follows(mut routes: LocalRoutes, steps: &[Step]) -> bool {
     for step in steps {
-        if !step.holds(&mut claims) {
+        if !step.holds(&mut routes) {
             return false;
         }
     }
     true
 }
 
-fn is_said(found: Option<Update>, said: Said) -> bool {
+fn is_originated(found: Option<Update>, said: Said) -> bool {
     found.is_some() && found == said.update()
 }
 
 /// Whether the next update to be announced is of the network 500N's flood list, with this number.
-fn announces_flood(claims: &mut Claims, n: u8, counter: u64) -> bool {
-    let Some(update) = claims.announce() else {
+fn announces_flood(routes: &mut LocalRoutes, n: u8, counter: u64) -> bool {
+    let Some(update) = routes.announce() else {
         return false
     };
     let up = Content::Advert(Advert {
@@ -143,35 +144,35 @@ fn announces_flood(claims: &mut Claims, n: u8, counter: u64) -> bool {
 
 /// Whether the station is pinned and advertised; nothing where a condition of
 /// the call doesn't hold.
-pub(super) fn pin(claims: &mut Claims, station: Station, port: u8) -> Option<bool> {
+pub(super) fn pin(routes: &mut LocalRoutes, station: Station, port: u8) -> Option<bool> {
     if station.mac.is_group()
-        || claims.vni_of(port) != Some(station.vni)
-        || claims.look(&station).is_none() && claims.is_full()
-        || claims.counter() >= 0x8000_0000_0000_0000
+        || routes.vni_of(port) != Some(station.vni)
+        || routes.look(&station).is_none() && routes.is_full()
+        || routes.counter() >= 0x8000_0000_0000_0000
     {
         return None;
     }
-    Some(claims.pin(&station, port).is_ok())
+    Some(routes.pin(&station, port).is_ok())
 }
 
-fn pins(claims: &mut Claims, station: Station, port: u8) -> bool {
-    pin(claims, station, port) == Some(true)
+fn pins(routes: &mut LocalRoutes, station: Station, port: u8) -> bool {
+    pin(routes, station, port) == Some(true)
 }
 
 /// What came of another edge's update; nothing where it isn't another's.
-pub(super) fn hear(claims: &mut Claims, said: Said) -> Option<Result<Heard, TakeError>> {
+pub(super) fn import(routes: &mut LocalRoutes, said: Said) -> Option<Result<Imported, TakeError>> {
     let update = said.update()?;
-    if update.register().originator == claims.address() {
+    if update.register().originator == routes.address() {
         return None;
     }
-    Some(claims.hear(&update))
+    Some(routes.import(&update))
 }
 
 /// What came of an own update; nothing where it isn't one.
-pub(super) fn hear_own(claims: &mut Claims, said: Said) -> Option<Result<Taken, OwnError>> {
+pub(super) fn import_own(routes: &mut LocalRoutes, said: Said) -> Option<Result<Taken, OwnError>> {
     let update = said.update()?;
-    if update.register().originator != claims.address() {
+    if update.register().originator != routes.address() {
         return None;
     }
-    Some(claims.hear_own(&update))
+    Some(routes.import_own(&update))
 }

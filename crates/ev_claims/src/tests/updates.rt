@@ -2,18 +2,18 @@
 
 use super::steps::{Step, goes};
 use super::{A, STATIC, dynamic, learnt, own, reborn, saying};
-use crate::{Heard, OwnError};
+use crate::{Imported, OwnError};
 use route_join::{TakeError, Taken};
 use route_wire::Content;
 
 /// Taken, and no pinned station went.
-const NEWER: Heard = Heard {
+const NEWER: Imported = Imported {
     taken: Taken::Newer,
     lost_pinned: false,
 };
 
 /// Taken, and it took a pinned station.
-const TAKES_PINNED: Heard = Heard {
+const TAKES_PINNED: Imported = Imported {
     taken: Taken::Newer,
     lost_pinned: true,
 };
@@ -22,10 +22,10 @@ const TAKES_PINNED: Heard = Heard {
 #[test]
 fn station_goes_to_the_lower_address(rt: HostRuntime) {
     let steps = [
-        Step::Hear(saying(3, A, 1, dynamic(3)), Ok(NEWER)),
+        Step::Import(saying(3, A, 1, dynamic(3)), Ok(NEWER)),
         Step::Knows(A, 1, 0, false),
         Step::Counter(2),
-        Step::Hear(saying(1, A, 1, dynamic(3)), Ok(NEWER)),
+        Step::Import(saying(1, A, 1, dynamic(3)), Ok(NEWER)),
         Step::KnowsNot(A),
         Step::Says(own(A, 3, Content::Withdrawn)),
     ];
@@ -36,9 +36,9 @@ fn station_goes_to_the_lower_address(rt: HostRuntime) {
 fn static_advert_takes_a_pinned_station(rt: HostRuntime) {
     let steps = [
         Step::Pin(A, 1),
-        Step::Hear(saying(1, A, 1, dynamic(9)), Ok(NEWER)),
+        Step::Import(saying(1, A, 1, dynamic(9)), Ok(NEWER)),
         Step::Knows(A, 1, 0, true),
-        Step::Hear(saying(1, A, 2, STATIC), Ok(TAKES_PINNED)),
+        Step::Import(saying(1, A, 2, STATIC), Ok(TAKES_PINNED)),
         Step::KnowsNot(A),
         Step::Says(own(A, 3, Content::Withdrawn)),
     ];
@@ -48,7 +48,7 @@ fn static_advert_takes_a_pinned_station(rt: HostRuntime) {
 #[test]
 fn unlisted_originator_is_refused(rt: HostRuntime) {
     let steps = [
-        Step::Hear(
+        Step::Import(
             saying(9, A, 1, dynamic(0)),
             Err(TakeError::UnknownOriginator),
         ),
@@ -60,9 +60,9 @@ fn unlisted_originator_is_refused(rt: HostRuntime) {
 #[test]
 fn advert_of_an_earlier_life_is_withdrawn(rt: HostRuntime) {
     let steps = [
-        Step::HearOwn(own(A, 9, dynamic(4)), Ok(Taken::Newer)),
+        Step::ImportOwn(own(A, 9, dynamic(4)), Ok(Taken::Newer)),
         Step::Says(reborn(A, 2, Content::Withdrawn)),
-        Step::HearOwn(own(A, 9, dynamic(4)), Ok(Taken::Known)),
+        Step::ImportOwn(own(A, 9, dynamic(4)), Ok(Taken::Known)),
         Step::Counter(2),
         Step::AnnounceFlood(1, 1),
         Step::Announce(reborn(A, 2, Content::Withdrawn)),
@@ -74,7 +74,7 @@ fn advert_of_an_earlier_life_is_withdrawn(rt: HostRuntime) {
 #[test]
 fn withdrawal_of_an_earlier_life_takes_no_number(rt: HostRuntime) {
     let steps = [
-        Step::HearOwn(own(A, 9, Content::Withdrawn), Ok(Taken::Newer)),
+        Step::ImportOwn(own(A, 9, Content::Withdrawn), Ok(Taken::Newer)),
         Step::Says(own(A, 9, Content::Withdrawn)),
         Step::Counter(1),
         Step::AnnounceFlood(1, 1),
@@ -87,7 +87,7 @@ fn withdrawal_of_an_earlier_life_takes_no_number(rt: HostRuntime) {
 fn newer_update_of_this_life_is_another_speaker(rt: HostRuntime) {
     let ahead = reborn(A, 9, Content::Withdrawn);
     let steps = [
-        Step::HearOwn(ahead, Err(OwnError::Ahead)),
+        Step::ImportOwn(ahead, Err(OwnError::Ahead)),
         Step::SaysNothing(A),
         Step::Counter(1),
     ];

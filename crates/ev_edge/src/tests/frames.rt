@@ -40,8 +40,8 @@ fn datagrams_are_refused_in_order(rt: HostRuntime) -> Result<(), Fail> {
     foreign[6] = 0x8a;
     let (seven, _) = DATAGRAM.split_at(7);
     let unknown = Refusal::Edge(EdgeRefusal::UnknownOriginator);
-    let bare = Refusal::Vxlan(vxlan_wire::Refusal::NoInstance);
-    let short = Refusal::Vxlan(vxlan_wire::Refusal::Short);
+    let bare = Refusal::Vxlan(vxlan_wire::VxlanRefusal::NoInstance);
+    let short = Refusal::Vxlan(vxlan_wire::VxlanRefusal::Short);
     let unserved = Refusal::Edge(EdgeRefusal::NoSuchVni);
     assert!(rt; is_refused(&mut edge, 2, &flagless, unknown));
     assert!(rt; is_refused(&mut edge, 9, &flagless, unknown));
@@ -79,7 +79,7 @@ fn bpdu_frames_are_read_by_their_length(rt: HostRuntime) -> Result<(), Fail> {
     let mut edge = open(rt.alloc(), 0, 16, 300)?;
     assert!(rt; goes_nowhere(&mut edge, &notification(2)));
     let refused = refusal_of(step(&mut edge, &Event::Frame(1, &notification(6))));
-    assert_eq!(rt; refused, Some(Refusal::Bpdu(bpdu_wire::Refusal::Short)));
+    assert_eq!(rt; refused, Some(Refusal::Bpdu(bpdu_wire::BpduRefusal::Short)));
     assert!(rt; goes_nowhere(&mut edge, &notification(7)));
     assert_eq!(rt; edge.entries(), 0);
     Ok(())

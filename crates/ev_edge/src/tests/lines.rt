@@ -1,6 +1,6 @@
 //! Worked examples as lists of lines: what comes to an edge, and what is seen of it then.
 
-use super::{hear, refusal_of, route, says, seconds, sent, step, told};
+use super::{import, refusal_of, route, says, seconds, sent, step, told};
 use crate::{Edge, Event, Refusal};
 use route_join::Taken;
 use route_wire::{Content, Update};
@@ -45,7 +45,7 @@ fn is_so(edge: &mut Edge, line: &Line<'_>) -> bool {
         Line::Refused(event, refusal) => refusal_of(step(edge, event)) == Some(*refusal),
         Line::Sent(event, place) => sent(step(edge, event)) == *place,
         Line::Taken(update, answer) => taken(edge, *update) == Some(*answer),
-        Line::Hear(port, source, alert) => hear(edge, *port, *source) == *alert,
+        Line::Hear(port, source, alert) => import(edge, *port, *source) == *alert,
         Line::Route(port, destination, local, edges) => {
             route(edge, *port, *destination) == Some((*local, *edges))
         }

@@ -134,7 +134,7 @@ fn refused_pin_is_made_up_for(rt: HostRuntime) -> Result<(), Fail> {
     Ok(())
 }
 
-// Updates of another edge, and of the edge itself in an earlier life.
+// Updates of another edge, and of the edge itself in an earlier incarnation.
 #[test]
 fn refused_update_is_made_up_for(rt: HostRuntime) -> Result<(), Fail> {
     let mut edge = made(rt.alloc(), 1).ok_or("no edge")?;

@@ -1,4 +1,4 @@
-//! Updates of other edges, and of the edge itself in an earlier life.
+//! Updates of other edges, and of the edge itself in an earlier incarnation.
 
 use super::lines::{Line, first_wrong};
 use super::{BROADCAST, HOST, advert, flood, open, said};

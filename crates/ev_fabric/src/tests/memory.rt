@@ -90,7 +90,7 @@ fn refused_announcement_is_still_pending(rt: HostRuntime) -> Result<(), Fail> {
     Ok(())
 }
 
-// Nothing that was learnt is left, and what is announced is of the new life.
+// Nothing that was learnt is left, and what is announced is of the new incarnation.
 #[test]
 fn refused_restart_is_made_up_for(rt: HostRuntime) -> Result<(), Fail> {
     let mut fabric = made(rt.alloc()).ok_or("no fabric")?;

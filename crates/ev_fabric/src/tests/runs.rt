@@ -34,7 +34,7 @@ impl Dice {
     }
 
     // Three stations are heard anywhere, updates announced, and taken in any order, again,
-    // or never; ports go down and come up; now and then an edge is opened anew, in a life
+    // or never; ports go down and come up; now and then an edge is opened anew, in an incarnation
     // that none has led yet.
     fn act(&mut self, step: u32) -> Act {
         let port = self.roll(2) as u8 + 1;
@@ -117,8 +117,8 @@ fn edge_at(fabric: &Fabric, e: u8) -> Option<&Edge> {
     Some(fabric.edge(usize::from(e)))
 }
 
-// The update isn't edge e's, or is of an earlier life than the edge's flood advert, which it says
-// first in each, or is no newer than what the edge says itself.
+// The update isn't edge e's, or is of an earlier incarnation than the edge's flood advert, which it
+// says first in each, or is no newer than what the edge says itself.
 fn is_behind(edge: &Edge, e: u8, update: &Update) -> bool {
     let register = update.register();
     let Some(flood) = edge
@@ -154,7 +154,7 @@ fn none_is_ahead(fabric: &Fabric, e: u8) -> bool {
     true
 }
 
-// Of one register, life and number there is one update.
+// Of one register, incarnation and number there is one update.
 fn said_once(pool: &[Update]) -> bool {
     for u in pool {
         for w in pool {

@@ -53,6 +53,6 @@ pub(crate) enum Command<'a> {
     Port(u64),
     /// The report of the edge's table.
     Report,
-    /// The edge is opened anew in this life.
+    /// The edge is opened anew in this incarnation.
     Restart(u32),
 }

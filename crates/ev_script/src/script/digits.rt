@@ -1,7 +1,7 @@
 //! Hexadecimal digits.
 ghost use Rattle.std.specs.Prelude.{◌≡◌, ◌<◌, is_some, IfSome};
 ghost use Rattle.std.specs.List.{list_all};
-ghost use Rattle.ether_wire.specs.Spelling.{hex_value};
+ghost use Rattle.ether_wire.specs.Parse.{hex_value};
 ghost use Rattle.ev_script.specs.Script.{is_hex_digit, value_or_zero, octet_of};
 
 /// The value of a lower case digit.

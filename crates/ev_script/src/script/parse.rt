@@ -1,6 +1,6 @@
 //! A line of a script, word by word. It takes no memory.
 ghost use Rattle.std.specs.Prelude.{◌≡◌, ℕ, ◌+◌, ◌<◌, ◌≤◌, ◌^◌, ◌-◌, length, option_map, option_and_then, codes, IfSome};
-ghost use Rattle.ev_script.specs.Script.{number, seconds, life, station, verbs, later_verbs, verb_in, command_of, command_alone, command_with, command_in, words_of, line_of};
+ghost use Rattle.ev_script.specs.Script.{number, seconds, incarnation, station, verbs, later_verbs, verb_in, command_of, command_alone, command_with, command_in, words_of, line_of};
 
 use crate::script::command::{Command, Verb};
 use crate::script::hex::Hex;
@@ -16,8 +16,8 @@ const MOST_NUMBER: u64 = 999_999_999_999_999_999;
 /// The seconds that may pass in a line.
 const MOST_SECONDS: u64 = 100_000;
 
-/// The last life.
-const LAST_LIFE: u64 = 0xffff_ffff;
+/// The last incarnation.
+const LAST_INCARNATION: u64 = 0xffff_ffff;
 
 /// A decimal number of 1 to 18 digits, without leading zeros.
 pub(crate) fn number(word: &[u8]) -> Option<u64>
@@ -34,12 +34,12 @@ fn seconds(word: &[u8]) -> Option<u64>
     if 0 < seconds { Some(seconds) } else { None }
 }
 
-/// The number of a life.
-fn life(word: &[u8]) -> Option<u32>
-    ensures { result ≡ life word.now }
+/// The number of an incarnation.
+fn incarnation(word: &[u8]) -> Option<u32>
+    ensures { result ≡ incarnation word.now }
 {
-    let life = read_decimal(word, LAST_LIFE)?;
-    Some(life as u32)
+    let incarnation = read_decimal(word, LAST_INCARNATION)?;
+    Some(incarnation as u32)
 }
 
 /// A network and a MAC address.
@@ -165,7 +165,7 @@ fn command_with(verb: Verb, text: &[u8]) -> Option<Command<'_>>
         Verb::Thaw => Some(Command::Thaw(station(text)?)),
         Verb::Deliver => Some(Command::Deliver(number(text)?)),
         Verb::Port => Some(Command::Port(number(text)?)),
-        Verb::Restart => Some(Command::Restart(life(text)?)),
+        Verb::Restart => Some(Command::Restart(incarnation(text)?)),
         Verb::Announce | Verb::Report => None,
     }
 }

@@ -1,6 +1,6 @@
 //! Subjects of one place in the map, if there is no salt.
 ghost use Rattle.std.specs.Prelude.{◌≡◌, false};
-ghost use Rattle.ether_wire.specs.Names.{is_group};
+ghost use Rattle.ether_wire.specs.Addr.{is_group};
 
 use crate::salt::Salted;
 use crate::subject::Subject;

@@ -1,6 +1,6 @@
 //! Sequences of updates, after each step of which a table of groups and a plain list agree.
 ghost use Rattle.std.specs.Prelude.{◌≡◌, ◌<◌, false};
-ghost use Rattle.ether_wire.specs.Names.{is_group};
+ghost use Rattle.ether_wire.specs.Addr.{is_group};
 
 use crate::tests::sorted_list::Plain;
 use crate::tests::{addr, advert, dynamic, floods, new_table, said, valued, withdrawn};

@@ -6,7 +6,7 @@ pub unreachable-requires : goal.unreachable-requires
 unreachable-requires c =
     let test = c.loop-offset-test.true in
     let counter = c.counter.ensures in
-    no_gap c.args.edge.now.claims.voice c.args.before c.loop-offset.offset c.requires.numbered
+    no_gap c.args.edge.now.routes.speaker c.args.before c.loop-offset.offset c.requires.numbered
     (omega (arith, test, counter)) c.in_default.ensures.none
 
 pub loop-offset-preserved : goal.loop-offset-preserved
@@ -15,7 +15,7 @@ loop-offset-preserved c = record {
       let test = c.loop-offset-test.true in
       let counter = c.counter.ensures in
       let all = h.all in
-      let next = next_own c.args.edge.now.claims.voice c.always_good.ensures.claims.numbers c.args.before own h
+      let next = next_own c.args.edge.now.routes.speaker c.always_good.ensures.routes.numbers c.args.before own h
       c.loop-offset.offset (omega (arith, test, counter, all)) c.in-Some.update c.in-Some.ensures.some in
       c.push_reserved.ensures.items ∙ ap (λ xs. xs ++ c.in-Some.update ∷ []) (c.loop-offset.invariant.items own h)
       ∙ append_assoc c.args.journal.now.items _ (c.in-Some.update ∷ [])

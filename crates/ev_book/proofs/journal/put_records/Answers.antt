@@ -2,7 +2,7 @@ use Rattle.std.proofs.Common.{rules, ◌≡◌, ℕ, ◌+◌, ◌++◌, List, []
 use Rattle.std.proofs.Math.Seq.{take-suc, take-length}
 use Rattle.route_wire.specs.Fields.{Fields}
 use Rattle.route_wire.specs.Record.{Reads}
-use Rattle.route_wire.specs.Spelling.{spelling_of}
+use Rattle.route_wire.specs.Encode.{spelling_of}
 use Rattle.ether_wire.proofs.Appending.{with_text_twice}
 use Rattle.ev_book.specs.Journal.{records_of}
 use Rattle.ev_book.proofs.Again.{ReadAgain, records-push, reads_more, answered}

@@ -16,8 +16,9 @@ use Rattle.ev_book.proofs.Stepping.{own_in, are_own, fits_brought, fits_room, st
 use Rattle.ev_book.proofs.journal.step_within.Goals as goal
 
 owned : (e : Edge) (event : Event) (result : Result Reply edges.Refusal) (e' : Edge) (before : ℕ)
-    → before ≡ e.claims.voice.counter → (h : Changes e event result e') → AreOwnSince e'.claims.voice before (own_in h)
-owned e event result e' before is h = subst (λ n. AreOwnSince e'.claims.voice n (own_in h)) (sym is) (are_own h)
+    → before ≡ e.routes.speaker.counter → (h : Changes e event result e')
+    → AreOwnSince e'.routes.speaker before (own_in h)
+owned e event result e' before is h = subst (λ n. AreOwnSince e'.routes.speaker n (own_in h)) (sym is) (are_own h)
 
 pub append_own-requires-clause-numbered : goal.append_own-requires-clause-numbered
 append_own-requires-clause-numbered c =
@@ -31,7 +32,7 @@ append_own-requires-clause-numbered c =
 
 pub append_taken-requires : goal.append_taken-requires
 append_taken-requires c =
-    let one = fits_brought c.args.event.now c.args.edge.now.claims in
+    let one = fits_brought c.args.event.now c.args.edge.now.routes in
     let there = c.requires.room in
     omega (arith, one, there)
 

@@ -5,7 +5,7 @@ use Rattle.route_join.specs.Table.{AreOriginators}
 use Rattle.mac_arena.specs.Learning.{IsLatest}
 use Rattle.mac_arena.proofs.Values.{latest_nothing}
 use Rattle.ev_claims.specs.declared.opening.Start.{Start}
-use Rattle.ev_claims.specs.Claims.{Claims}
+use Rattle.ev_claims.specs.LocalRoutes.{LocalRoutes}
 use Rattle.ev_claims.specs.Opening.{IsOpening}
 use Rattle.ev_claims.proofs.tests.opened.Goals as goal
 
@@ -31,7 +31,7 @@ open-requires-clause-listed c = subst (λ xs. Contains xs c.new.result) (sym c.o
 )
 
 -- nothing is learnt at second 0
-opened_early : {E : Type 0} (s : Start) (r : Result Claims E) → IfOk r (IsOpening s)
+opened_early : {E : Type 0} (s : Start) (r : Result LocalRoutes E) → IfOk r (IsOpening s)
     → IfOk r (λ c. IsLatest c.learned 0)
 opened_early s (Ok c) h = subst (λ t. IsLatest t 0) (sym h.learned)
     (latest_nothing s.capacity (length s.ports.items) s.buckets s.salt 0)

@@ -7,7 +7,7 @@ use Rattle.ev_fabric.proofs.Opened.{opened_more}
 use Rattle.ev_fabric.proofs.fabric.open_all.Goals as goal
 
 pub open-requires : goal.open-requires
-open-requires c = subst IsConfig (sym c.in_life.ensures)
+open-requires c = subst IsConfig (sym c.in_incarnation.ensures)
     (c.requires.configs c.config-item.result (contains_at c.args.configs.now c.loop-config.config-index
     c.config-item.result (item_at c.args.configs.now c.loop-config.config-index c.config-item.result
     c.loop-config-test.true c.config-item.is)))
@@ -19,4 +19,4 @@ loop-config-preserved c = subst (λ l. AreOpened (take (c.loop-config.config-ind
     c.in_ok-edge.edge c.loop-config-test.true
     (item_at c.args.configs.now c.loop-config.config-index c.config-item.result c.loop-config-test.true
     c.config-item.is) c.loop-config.invariant
-    (subst (λ d. IsOpening d c.in_ok-edge.edge) c.in_life.ensures c.in_ok-edge.ensures) c.always_good.ensures)
+    (subst (λ d. IsOpening d c.in_ok-edge.edge) c.in_incarnation.ensures c.in_ok-edge.ensures) c.always_good.ensures)

@@ -2,7 +2,7 @@ use Rattle.std.proofs.Common.{◌≡◌, ◌∷◌, drop, refl, sym, ap, ◌∙�
 use Rattle.ether_wire.specs.Ends.{End, with_text}
 use Rattle.ether_wire.proofs.Appending.{with_text_twice}
 use Rattle.route_wire.specs.Fields.{Fields}
-use Rattle.route_wire.specs.Spelling.{spelling_of}
+use Rattle.route_wire.specs.Encode.{spelling_of}
 use Rattle.route_join.specs.Updates.{all_updates}
 use Rattle.ev_report.specs.Migrated.{newest_along, behind, entering, migrated_at, migrated_along, migrated_all}
 use Rattle.ev_report.specs.Migrated.{records_of}

@@ -1,7 +1,7 @@
 use Rattle.ether_wire.specs.Buffered.{buffered_end}
 use Rattle.route_join.specs.Report.{report_of}
 use Rattle.ev_report.specs.Ends.{devices}
-use Rattle.ev_report.specs.Runs.{Reports}
+use Rattle.ev_report.specs.Report.{Reports}
 use Rattle.ev_report.proofs.Finishing.{passed_renders, buffered}
 use Rattle.ev_report.proofs.report.report_buffered.Goals as goal
 

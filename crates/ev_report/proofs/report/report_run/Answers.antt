@@ -23,7 +23,7 @@ returns g c =
     let last = c.note_end-is_broken.new.self in
     let r = c.write_report.result in
     let broken = c.note_end-is_broken.result in
-    let starved = c.is_starved.result in
+    let out_of_memory = c.is_out_of_memory.result in
     let failed = c.has_failed-has_failed.ensures ∙ ap (λ (b : Bool). has_stopped ending ||
     (not b || not c.is_told.result)) c.is_ok-is_reported.ensures.value
     ∙ ap (λ (b : Bool). has_stopped ending || (not (is_ok r) || not b)) c.is_told.ensures in
@@ -39,6 +39,6 @@ returns g c =
     c.note_end-is_broken.ensures.kept c.note_end-is_broken.ensures.told r (report_of last.table)
     (subst (λ (t : Table). Puts out out' (report_of t) r) c.table.ensures c.write_report.ensures) refl
     c.status_of.result
-    (c.status_of.ensures ∙ ap (λ (b : Bool). status_of b starved broken) failed
-    ∙ ap (λ (b : Bool). status_of all b broken) c.is_starved.ensures
-    ∙ ap (λ (b : Bool). status_of all last.is_starved b) c.note_end-is_broken.ensures.broken)
+    (c.status_of.ensures ∙ ap (λ (b : Bool). status_of b out_of_memory broken) failed
+    ∙ ap (λ (b : Bool). status_of all b broken) c.is_out_of_memory.ensures
+    ∙ ap (λ (b : Bool). status_of all last.is_out_of_memory b) c.note_end-is_broken.ensures.broken)

@@ -1,5 +1,5 @@
 use Rattle.std.proofs.Common.{◌≡◌, ℕ, ◌+◌, ◌++◌, arith, ap, ◌∙◌}
-use Rattle.ev_config.specs.declared.endpoint.Link.{Link}
+use Rattle.ev_config.specs.declared.endpoint.PortEndpoints.{PortEndpoints}
 use Rattle.ev_run.specs.Obstacles.{obstacles_at}
 use Rattle.ev_run.proofs.Running.{gives_more}
 use Rattle.ev_run.proofs.obstacles.add_ports.Goals as goal
@@ -8,7 +8,7 @@ pub loop-place-preserved : goal.loop-place-preserved
 loop-place-preserved c =
     let gives = obstacles_at c.args.edges.now c.args.before.now c.args.links.now in
     let place = c.loop-place.place in
-    let one : Link = c.index-links-place.result in
+    let one : PortEndpoints = c.index-links-place.result in
     let old = c.loop-place.found.items in
     let next : place ≡ 0 + place = omega arith in
     let added : c.add_port.new.found.items ≡ old
@@ -16,4 +16,4 @@ loop-place-preserved c =
     gives_more gives 0 c.args.links.now place one c.args.found.now.items old c.add_port.new.found.items
     c.loop-place-test.true c.loop-place.invariant
     (added ∙ ap (λ (n : ℕ). old ++ gives n one) next
-    ∙ ap (λ (d : Link). old ++ gives (0 + place) d) c.index-links-place.is)
+    ∙ ap (λ (d : PortEndpoints). old ++ gives (0 + place) d) c.index-links-place.is)

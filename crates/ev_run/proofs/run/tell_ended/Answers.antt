@@ -27,6 +27,6 @@ returns g c =
     c.args.told r s
     c.status_of.result c.put_reports.ensures
     (subst (λ (n : ℕ). PutsRest c.args.told notes notes' (noted_text ended n) s) is.lost c.put_rest.ensures)
-    (c.status_of.ensures ∙ ap (λ (b : Bool). status_of b sum.is_starved false) failed
+    (c.status_of.ensures ∙ ap (λ (b : Bool). status_of b sum.is_out_of_memory false) failed
     ∙ ap (λ (b : Bool). status_of (((not c.args.is_read || list_any link_failed ended) || nat_lt 0 (all_lost ended)) ||
-    (not (is_ok r) || not (is_ok s))) b false) is.starved)
+    (not (is_ok r) || not (is_ok s))) b false) is.out_of_memory)

@@ -10,7 +10,7 @@ returns g c =
     let out' = g.W.Out.end c.play-bad.new.out in
     let notes = g.N.Out.end c.args.notes.now in
     let notes' = g.N.Out.end c.put_bad_line.new.notes in
-    let p = c.new-player.result in
+    let p = c.new-simulator.result in
     let final = c.play-bad.new.self in
     let bad = c.play-bad.result in
     let r = c.put_bad_line.result in
@@ -18,9 +18,9 @@ returns g c =
     c.is_told.ensures
     ∙ ap (λ (b : Bool). not final.is_told || not b) c.is_ok-is_noted.ensures.value in
     plays_on c.args.mode c.args.fabric c.args.script.now p final out out' notes notes' r c.status_of.result
-    c.new-player.ensures.fabric c.new-player.ensures.fed
-    (subst (λ (b : Bool). Minds out out' b final.is_told) c.new-player.ensures.told c.play-bad.ensures.told) bad
+    c.new-simulator.ensures.fabric c.new-simulator.ensures.fed
+    (subst (λ (b : Bool). Minds out out' b final.is_told) c.new-simulator.ensures.told c.play-bad.ensures.told) bad
     c.play-bad.ensures.played c.put_bad_line.ensures
-    (c.status_of.ensures ∙ ap (λ (b : Bool). status_of b c.is_starved.result c.is_some.result) failed
-    ∙ ap (λ (b : Bool). status_of (not final.is_told || not (is_ok r)) b c.is_some.result) c.is_starved.ensures
-    ∙ ap (λ (b : Bool). status_of (not final.is_told || not (is_ok r)) final.is_starved b) c.is_some.ensures)
+    (c.status_of.ensures ∙ ap (λ (b : Bool). status_of b c.is_out_of_memory.result c.is_some.result) failed
+    ∙ ap (λ (b : Bool). status_of (not final.is_told || not (is_ok r)) b c.is_some.result) c.is_out_of_memory.ensures
+    ∙ ap (λ (b : Bool). status_of (not final.is_told || not (is_ok r)) final.is_out_of_memory b) c.is_some.ensures)

@@ -1,6 +1,6 @@
 use Rattle.std.proofs.Common.{List, ℕ, Ok, Err, subst}
 use Rattle.ev_script.specs.Simulation.{PlaysRead}
-use Rattle.ev_script.proofs.Simulating.{plays_unread}
+use Rattle.ev_script.proofs.Simulating.{plays_read_error}
 use Rattle.ev_script.proofs.simulate.simulate_run.Goals as goal
 
 pub returns-in-Ok : goal.returns-in-Ok
@@ -15,8 +15,8 @@ returns-in-Ok g c = record {
 
 pub returns-in-Err : goal.returns-in-Err
 returns-in-Err g c = record {
-  script = Err c.in-Err.unread;
+  script = Err c.in-Err.read_error;
   read = c.in-Err.ensures;
-  plays = plays_unread c.args.mode c.args.configs.items c.in-Err.unread (g.W.Out.end c.args.out.now)
-      (g.N.Out.end c.args.notes.now) c.unread_status.result c.unread_status.ensures;
+  plays = plays_read_error c.args.mode c.args.configs.items c.in-Err.read_error (g.W.Out.end c.args.out.now)
+      (g.N.Out.end c.args.notes.now) c.read_error_status.result c.read_error_status.ensures;
 }

@@ -15,7 +15,7 @@ use Rattle.ev_book.proofs.book.Book.open.Goals as goal
 pub first_journal-requires : goal.first_journal-requires
 first_journal-requires g c =
     let s = start_of c.args.config in
-    let e = c.in_ok-edge.edge.claims in (
+    let e = c.in_ok-edge.edge.routes in (
       first_own s e,
       first_are_own s e (opening_changes c.args.config c.in_ok-edge.edge c.requires.config
           c.in_ok-edge.ensures),
@@ -25,11 +25,11 @@ pub invariant_of-book : goal.invariant_of-book
 invariant_of-book g c =
     let s = start_of c.args.config in
     let edge = c.in_ok-edge.edge in
-    let opens : Opens s edge.claims = opening_changes c.args.config edge c.requires.config c.in_ok-edge.ensures in
-    let journal : c.in_ok-journal.journal.updates.items ≡ first_own s edge.claims =
-    c.in_ok-journal.ensures.own (first_own s edge.claims) (first_are_own s edge.claims opens) in
+    let opens : Opens s edge.routes = opening_changes c.args.config edge c.requires.config c.in_ok-edge.ensures in
+    let journal : c.in_ok-journal.journal.updates.items ≡ first_own s edge.routes =
+    c.in_ok-journal.ensures.own (first_own s edge.routes) (first_are_own s edge.routes opens) in
     let table : IsTableOf c.in_ok-journal.journal.updates.items (table_of edge) =
-    subst (λ (us : List Fields). IsTableOf us (table_of edge)) (sym journal) (first_table s edge.claims opens) in
+    subst (λ (us : List Fields). IsTableOf us (table_of edge)) (sym journal) (first_table s edge.routes opens) in
     let good = opened_good edge c.in_ok-journal.journal.updates.items c.args.passes table in (
       subst (λ (kept : List Kept). IsGoodBook (book_of edge c.in_ok-journal.journal.updates.items kept)
           c.open-sum.result.0.total) (sym c.in_ok-kept.ensures)
@@ -42,11 +42,11 @@ pub returns-clause-book : goal.returns-clause-book
 returns-clause-book g c =
     let s = start_of c.args.config in
     let edge = c.in_ok-edge.edge in
-    let opens : Opens s edge.claims = opening_changes c.args.config edge c.requires.config c.in_ok-edge.ensures in
-    let journal : c.in_ok-journal.journal.updates.items ≡ first_own s edge.claims =
-    c.in_ok-journal.ensures.own (first_own s edge.claims) (first_are_own s edge.claims opens) in
+    let opens : Opens s edge.routes = opening_changes c.args.config edge c.requires.config c.in_ok-edge.ensures in
+    let journal : c.in_ok-journal.journal.updates.items ≡ first_own s edge.routes =
+    c.in_ok-journal.ensures.own (first_own s edge.routes) (first_are_own s edge.routes opens) in
     record {
       edge = c.in_ok-edge.ensures;
-      journal = subst (AreOwnSince edge.claims.voice 0) (sym journal) (first_are_own s edge.claims opens);
+      journal = subst (AreOwnSince edge.routes.speaker 0) (sym journal) (first_are_own s edge.routes opens);
       kept = c.in_ok-kept.ensures;
     }

@@ -6,10 +6,10 @@ use Rattle.ev_edge.proofs.edge.Edge.bridge_event.Goals as goal
 pub invariant_of-self : goal.invariant_of-self
 invariant_of-self c =
     let f = c.self.inside in
-    let e = edge_of f.claims f.clock f.ageing f.bridge f.moves in
+    let e = edge_of f.routes f.clock f.ageing f.bridge f.moves in
     bridged e f.passing c.passing_ports-self-inside.result f.clock c.go_on-flush.new.bridge
-    (after_flush f.claims c.go_on-flush.result) c.flush.new.self c.self.invariant
+    (after_flush f.routes c.go_on-flush.result) c.flush.new.self c.self.invariant
     c.go_on-flush.ensures.ports c.passing_ports-self-inside.ensures
-    c.self.invariant.keeps.early c.flush.ensures (flush_holds f.claims c.go_on-flush.result f.clock
-    (holds_of e f.passing c.self.invariant)) (removals_ports f.claims
-    (flushed_in f.claims.learned c.go_on-flush.result))
+    c.self.invariant.keeps.early c.flush.ensures (flush_holds f.routes c.go_on-flush.result f.clock
+    (holds_of e f.passing c.self.invariant)) (removals_ports f.routes
+    (flushed_in f.routes.learned c.go_on-flush.result))

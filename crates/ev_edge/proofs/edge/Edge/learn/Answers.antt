@@ -1,5 +1,5 @@
 use Rattle.std.proofs.Common.{refl}
-use Rattle.ev_claims.specs.Claims.{after_refresh}
+use Rattle.ev_claims.specs.LocalRoutes.{after_refresh}
 use Rattle.ev_edge.specs.Edge.{edge_of}
 use Rattle.ev_edge.proofs.Keeping.{kept, holds_of, refresh_holds}
 use Rattle.ev_edge.proofs.edge.Edge.learn.Goals as goal
@@ -7,8 +7,8 @@ use Rattle.ev_edge.proofs.edge.Edge.learn.Goals as goal
 pub invariant_of-self : goal.invariant_of-self
 invariant_of-self c =
     let f = c.self.inside in
-    let e = edge_of f.claims f.clock f.ageing f.bridge f.moves in
-    kept e f.passing (after_refresh f.claims c.args.station.now c.args.port f.clock) c.refresh.new.self c.self.invariant
+    let e = edge_of f.routes f.clock f.ageing f.bridge f.moves in
+    kept e f.passing (after_refresh f.routes c.args.station.now c.args.port f.clock) c.refresh.new.self c.self.invariant
     c.refresh.ensures
-    (refresh_holds f.claims c.args.station.now c.args.port f.clock c.requires.individual
+    (refresh_holds f.routes c.args.station.now c.args.port f.clock c.requires.individual
     (holds_of e f.passing c.self.invariant)) refl

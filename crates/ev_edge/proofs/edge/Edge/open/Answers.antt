@@ -13,7 +13,7 @@ invariant_of-result c =
     ap length c.vnis_of.ensures ∙ length-map ports (λ (p : PortConfig). p.vni)
     ∙ sym (length-map ports (λ (p : PortConfig). p.settings))
     ∙ sym (ap length c.set_settings.ensures) ∙ ap (λ n. length (take n set)) (sym c.len.ensures.value) in
-    opened _ c.in_ok-claims.claims c.args.config.tree (take c.len.result set) c.args.config.ageing c.new-bridge.result
-    c.new.result c.in_ok-claims.ensures c.new-bridge.ensures.value size
+    opened _ c.in_ok-routes.routes c.args.config.tree (take c.len.result set) c.args.config.ageing c.new-bridge.result
+    c.new.result c.in_ok-routes.ensures c.new-bridge.ensures.value size
     (λ v in'. c.requires.served v (subst (λ l. Contains l v) c.vnis_of.ensures in')) (let some =
     c.requires.some_bucket in omega (arith, some))

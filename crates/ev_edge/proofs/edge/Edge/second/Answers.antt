@@ -1,5 +1,5 @@
 use Rattle.std.proofs.Common.{◌≤◌, ◌^◌, sym, ap, subst, ◌∙◌}
-use Rattle.ev_claims.specs.Claims.{Claims}
+use Rattle.ev_claims.specs.LocalRoutes.{LocalRoutes}
 use Rattle.ev_claims.specs.Leaving.{after_flush, flushed_in}
 use Rattle.ev_edge.specs.declared.reply.Reply.{Reply}
 use Rattle.ev_edge.specs.Edge.{Edge, edge_of}
@@ -12,31 +12,31 @@ use Rattle.ev_edge.proofs.edge.Edge.second.Goals as goal
 pub invariant_of-self : goal.invariant_of-self
 invariant_of-self c =
     let f = c.self.inside in
-    let e = edge_of f.claims f.clock f.ageing f.bridge f.moves in
+    let e = edge_of f.routes f.clock f.ageing f.bridge f.moves in
     let set = c.go_on-flush.result in
     let now = c.next_second-self-inside.result in
     let times = second_early f.clock c.self.invariant.keeps.early in
     let later : f.clock ≤ now = subst (λ n. f.clock ≤ n) (sym c.next_second-self-inside.ensures) times.0 in
     let early : now ≤ 2 ^ 63 = subst (λ n. n ≤ 2 ^ 63) (sym c.next_second-self-inside.ensures) times.1 in
     bridged e f.passing c.passing_ports-self-inside.result now c.go_on-flush.new.bridge
-    (aged (after_flush f.claims set) f.ageing now) c.age.new.claims c.self.invariant c.go_on-flush.ensures.ports
+    (aged (after_flush f.routes set) f.ageing now) c.age.new.routes c.self.invariant c.go_on-flush.ensures.ports
     c.passing_ports-self-inside.ensures
-    early (c.age.ensures ∙ ap (λ (x : Claims). aged x f.ageing now) c.flush.ensures)
-    (aged_holds (after_flush f.claims set) f.ageing now
-    (later_holds (after_flush f.claims set) f.clock now later
-    (flush_holds f.claims set f.clock (holds_of e f.passing c.self.invariant))))
-    (aged_ports (after_flush f.claims set) f.ageing now ∙ removals_ports f.claims (flushed_in f.claims.learned set))
+    early (c.age.ensures ∙ ap (λ (x : LocalRoutes). aged x f.ageing now) c.flush.ensures)
+    (aged_holds (after_flush f.routes set) f.ageing now
+    (later_holds (after_flush f.routes set) f.clock now later
+    (flush_holds f.routes set f.clock (holds_of e f.passing c.self.invariant))))
+    (aged_ports (after_flush f.routes set) f.ageing now ∙ removals_ports f.routes (flushed_in f.routes.learned set))
 
 pub returns : goal.returns
 returns c =
     let f = c.self.inside in
     subst (λ (x : Edge). SecondSteps x (record c.clear.new.self { bpdus = c.go_on-flush.new.sent })
-    (edge_of c.age.new.claims c.next_second-self-inside.result f.ageing c.go_on-flush.new.bridge f.moves))
+    (edge_of c.age.new.routes c.next_second-self-inside.result f.ageing c.go_on-flush.new.bridge f.moves))
     c.self.view_is (record {
       flush = c.go_on-flush.result;
       goes = c.go_on-flush.ensures.goes;
       after = λ i. record {
-        claims = (c.age.ensures ∙ (λ j. aged (c.flush.ensures j) f.ageing (c.next_second-self-inside.ensures j))) i;
+        routes = (c.age.ensures ∙ (λ j. aged (c.flush.ensures j) f.ageing (c.next_second-self-inside.ensures j))) i;
         clock = c.next_second-self-inside.ensures i;
         ageing = f.ageing;
         tree = c.go_on-flush.new.bridge;

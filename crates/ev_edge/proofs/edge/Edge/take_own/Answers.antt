@@ -7,19 +7,20 @@ use Rattle.ev_edge.proofs.edge.Edge.take_own.Goals as goal
 pub invariant_of-self : goal.invariant_of-self
 invariant_of-self c =
     let f = c.self.inside in
-    let e = edge_of f.claims f.clock f.ageing f.bridge f.moves in
-    own_kept e f.passing c.args.update.now c.hear_own.new.self c.hear_own.result c.self.invariant
+    let e = edge_of f.routes f.clock f.ageing f.bridge f.moves in
+    own_kept e f.passing c.args.update.now c.import_own.new.self c.import_own.result c.self.invariant
     c.always_good.ensures.numbers
-    (c.requires ∙ ap (λ (x : Edge). address_of x) (sym c.self.view_is)) c.hear_own.ensures.ok c.hear_own.ensures.ahead
-    c.hear_own.ensures.err
+    (c.requires ∙ ap (λ (x : Edge). address_of x) (sym c.self.view_is)) c.import_own.ensures.ok
+    c.import_own.ensures.ahead
+    c.import_own.ensures.err
 
 pub returns : goal.returns
 returns c =
     let f = c.self.inside in
     let u = c.args.update.now in
-    let e = edge_of f.claims f.clock f.ageing f.bridge f.moves in
-    let new = edge_of c.hear_own.new.self f.clock f.ageing f.bridge f.moves in
+    let e = edge_of f.routes f.clock f.ageing f.bridge f.moves in
+    let new = edge_of c.import_own.new.self f.clock f.ageing f.bridge f.moves in
     subst (λ r. TakesOwn c.args.self.now u r new) (sym c.tell_own.ensures)
-    (subst (λ (x : Edge). TakesOwn x u (own_result c.hear_own.result) new) c.self.view_is
-    (own_steps e u c.hear_own.new.self c.hear_own.result c.hear_own.ensures.taken c.hear_own.ensures.ok
-    c.hear_own.ensures.ahead c.hear_own.ensures.spent c.hear_own.ensures.no_memory c.hear_own.ensures.err))
+    (subst (λ (x : Edge). TakesOwn x u (own_result c.import_own.result) new) c.self.view_is
+    (own_steps e u c.import_own.new.self c.import_own.result c.import_own.ensures.taken c.import_own.ensures.ok
+    c.import_own.ensures.ahead c.import_own.ensures.spent c.import_own.ensures.no_memory c.import_own.ensures.err))

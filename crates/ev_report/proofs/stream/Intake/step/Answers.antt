@@ -95,8 +95,8 @@ returns-in-Refused-clause-taken g c =
     ∙ feeds_version s.intake.feed c.take-taken.ensures.takes.mid c.args.piece.now n c.take-taken.ensures.takes.feeds
     c.requires.feed) (ap (λ (x : Intake). x.feed) c.refuse.ensures.kept)
     (answers_fed (Err refusal ∷ []) s t c.take-taken.new.self
-    (answers_refused (Err refusal) refusal m m t refl c.refuse.ensures refl refl (or_false s.intake.is_starved
-    ∙ ap (λ b. s.intake.is_starved || b) (sym other))))
+    (answers_refused (Err refusal) refusal m m t refl c.refuse.ensures refl refl (or_false s.intake.is_out_of_memory
+    ∙ ap (λ b. s.intake.is_out_of_memory || b) (sym other))))
 
 pub returns-in-Refused-clause-some : goal.returns-in-Refused-clause-some
 returns-in-Refused-clause-some g c = feeds_some c.args.self.now.feed c.take-taken.ensures.takes.mid c.args.piece.now

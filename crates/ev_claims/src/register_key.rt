@@ -1,0 +1,71 @@
+//! A register as lists and maps keep it: contracts see the register itself.
+ghost use Rattle.std.specs.Prelude.{◌≡◌, refl, Some};
+
+use route_wire::Register;
+use std::cmp::Ordering;
+use std::marker::Model;
+
+/// A register that is kept in lists and maps.
+#[derive(Clone, Copy, PartialEq, Eq)]
+pub struct RegisterKey {
+    register: Register,
+}
+
+impl Model for RegisterKey {
+    ghost use Rattle.route_wire.specs.declared.update.Register.{Register};
+
+    ghost Value = { Register };
+
+    ghost view = { λ n. n.register };
+
+    ghost inverse = { λ r. record { register = r } };
+}
+
+impl RegisterKey {
+    /// The register, to be kept.
+    pub fn new(register: Register) -> Self
+        ensures { result ≡ register }
+    {
+        RegisterKey { register }
+    }
+
+    /// The register that is kept.
+    pub fn register(&self) -> Register
+        ensures { result ≡ self.now }
+    {
+        self.register
+    }
+}
+
+impl Ord for RegisterKey {
+    ghost use Rattle.route_wire.specs.Order.{register_cmp};
+    ghost use Rattle.route_wire.specs.Totals.{register_total};
+    ghost use Rattle.route_wire.specs.Ties.{tied_registers};
+
+    ghost cmp = { register_cmp };
+
+    ghost total = { register_total };
+
+    ghost matches_partial_cmp = { λ x y. refl };
+
+    ghost matches_eq = { tied_registers };
+
+    fn cmp(&self, other: &RegisterKey) -> Ordering {
+        self.register.cmp(&other.register)
+    }
+}
+
+impl PartialOrd for RegisterKey {
+    ghost use Rattle.std.specs.Cmp.{po};
+    ghost use Rattle.route_wire.specs.Order.{register_cmp};
+    ghost use Rattle.route_wire.specs.Totals.{register_total};
+    ghost use Rattle.route_wire.specs.Ties.{tied_registers};
+
+    ghost partial_cmp = { λ x y. Some (register_cmp x y) };
+
+    ghost laws = { po register_total tied_registers };
+
+    fn partial_cmp(&self, other: &RegisterKey) -> Option<Ordering> {
+        Some(self.cmp(other))
+    }
+}

@@ -1,0 +1,169 @@
+-- A delivery of what is no news, or of a withdrawal, takes nothing from an edge and makes nothing pending.
+use Rattle.std.proofs.Common.{◌≡◌, ◌≢◌, ◌⊎◌, inl, inr, ℕ, Bool, true, false, cond, nat_lt, Option, Some, None, refl}
+use Rattle.std.proofs.Common.{sym, ap, subst, ◌∙◌, arith}
+use Rattle.std.proofs.lemmas.Bool.Decides.{nat_tests}
+use Rattle.std.specs.Prelude.{Contains, IsSome, is_some, not, ◌==◌, ◌&&◌}
+use Rattle.std.specs.Option.{MatchOption}
+use Rattle.route_wire.specs.declared.update.Ip.{Ip}
+use Rattle.route_wire.specs.declared.update.Key.{Key}
+use Rattle.route_wire.specs.declared.update.Key.TheVariants.{Flood, Mac}
+use Rattle.route_wire.specs.declared.update.Register.{Register}
+use Rattle.route_wire.specs.declared.update.Advert.{Advert}
+use Rattle.route_wire.specs.declared.update.Content.TheVariants.{Withdrawn}
+use Rattle.route_wire.specs.Fields.{Fields}
+use Rattle.route_join.specs.Table.{Table, value_at, with_value, register_of}
+use Rattle.route_join.specs.Owner.{advert_in, advert_of, advert_at, owner, IsOwner, IsUnowned}
+use Rattle.route_join.proofs.Tables.{same_or_other, at_same, at_other}
+use Rattle.route_join.proofs.Owners.{owner_is, one_owner}
+use Rattle.mac_arena.specs.declared.station.Station.{Station}
+use Rattle.ev_claims.specs.Speaker.{Speaker, own_register, own_advert, KeepsNumbers, is_at, next_value}
+use Rattle.ev_claims.specs.Speaker.{after_originating}
+use Rattle.ev_claims.specs.Speaker.{after_importing, is_newest, is_returning}
+use Rattle.ev_claims.specs.LocalRoutes.{LocalRoutes, key_of, after_removal, after_update, after_own, is_lost}
+use Rattle.ev_claims.specs.LocalRoutes.{after_losing}
+use Rattle.ev_claims.specs.LocalRoutes.{after_take}
+use Rattle.ev_claims.proofs.Numbers.{marked_only, own_stays}
+use Rattle.ev_edge.specs.Edge.{OwnsAt}
+use Rattle.ev_fabric.specs.ConvergenceEdge.{comes_back}
+use Rattle.ev_fabric.proofs.ConvergingEdge.{update_cases, Accepts, Heard, Back, Lost, Kept, heard, hears, silent}
+use Rattle.ev_fabric.proofs.ConvergingEdge.{others_stay_away}
+
+-- ---- owners
+pub owner_found : (t : Table) (vni mac o : ℕ) → IsOwner t vni mac o → owner t vni mac ≡ Some o
+owner_found t vni mac o h = go (owner t vni mac) refl (owner_is t vni mac)
+  where
+    go : (p : Option ℕ) → owner t vni mac ≡ p → MatchOption p (IsUnowned t vni mac) (IsOwner t vni mac)
+        → owner t vni mac ≡ Some o
+    go None is none = absurd (let bad : None ≡ Some h.advert = sym (none o h.ip) ∙ h.own in cc)
+    go (Some p) is owns = is ∙ ap Some (one_owner t vni mac p o owns h)
+
+fewer_owner : (t u : Table) (vni mac o : ℕ) → IsOwner t vni mac o
+    → ((ip : Option Ip) → advert_at u o (Mac vni mac ip) ≡ advert_at t o (Mac vni mac ip))
+    → ((p : ℕ) (j : Option Ip) (b : Advert) → advert_at u p (Mac vni mac j) ≡ Some b
+    → advert_at t p (Mac vni mac j) ≡ Some b) → IsOwner u vni mac o
+fewer_owner t u vni mac o h own fewer = record {
+  ip = h.ip;
+  advert = h.advert;
+  own = own h.ip ∙ h.own;
+  best = λ p j b ne is. h.best p j b ne (fewer p j b is);
+}
+
+-- another's update that is no news, or a withdrawal, takes no station from the edge
+pub still_owner : (c : LocalRoutes) (u : Fields) → ((s : Station) → OwnsAt c s) → u.register.originator
+    ≢ c.speaker.address
+    → (is_newest c.speaker u ≡ false) ⊎ (advert_in u.value.content ≡ None) → (s : Station)
+    → is_lost (after_update c u) s ≡ false
+still_owner c u owns other idle s = go (own_advert (after_importing c.speaker u) (key_of s)) refl
+  where
+    same : (ip : Option Ip) → own_advert (after_importing c.speaker u) (Mac s.vni s.mac ip)
+        ≡ own_advert c.speaker (Mac s.vni s.mac ip)
+    same ip = ap advert_of (own_stays c.speaker u other (Mac s.vni s.mac ip))
+
+    kept : (p : ℕ) (j : Option Ip) (b : Advert) → advert_at (after_importing c.speaker u).table p (Mac s.vni s.mac j)
+        ≡ Some b → advert_at c.speaker.table p (Mac s.vni s.mac j) ≡ Some b
+    kept p j b is = elim (update_cases c.speaker.table u (register_of p (Mac s.vni s.mac j))) as (λ _. advert_at
+        c.speaker.table p (Mac s.vni s.mac j) ≡ Some b) [
+          | inl h ↦ elim idle as (λ _. advert_at c.speaker.table p (Mac s.vni s.mac j) ≡ Some b) [
+            | inl old ↦ absurd (let bad : false ≡ true = sym old ∙ h.1 in cc)
+            | inr none ↦ absurd (let bad : None ≡ Some b = sym none ∙ ap advert_of (sym h.2) ∙ is in cc)
+          ]
+          | inr same ↦ ap advert_of (sym same) ∙ is
+        ]
+
+    go : (o : Option Advert) → own_advert (after_importing c.speaker u) (key_of s) ≡ o
+        → is_lost (after_update c u) s ≡ false
+    go None is = ap (λ o. is_some o && not (is_at (owner (after_importing c.speaker u).table s.vni s.mac)
+        c.speaker.address))
+        is
+    go (Some x) is =
+        let before = owns s (subst IsSome (sym is ∙ same None) refl) in
+        let after = fewer_owner c.speaker.table (after_importing c.speaker u).table s.vni s.mac c.speaker.address before
+        same
+        kept in
+        let found = owner_found (after_importing c.speaker u).table s.vni s.mac c.speaker.address after in
+        let test : (c.speaker.address == c.speaker.address) ≡ true = grind (arith, nat_tests) in
+        rw (is, found, test) refl
+
+pub idle_hearing : (c : LocalRoutes) (u : Fields) → ((s : Station) → OwnsAt c s)
+    → (is_newest c.speaker u ≡ false) ⊎ (advert_in u.value.content ≡ None) → heard c u ≡ after_update c u
+idle_hearing c u owns idle = choose (u.register.originator == c.speaker.address) refl
+  where
+    quiet : is_returning c.speaker u ≡ false
+    quiet = elim idle as (λ _. is_returning c.speaker u ≡ false) [
+      | inl old ↦ ap (λ b. b && (nat_lt u.value.incarnation c.speaker.incarnation
+          && is_some (advert_in u.value.content)))
+          old
+      | inr none ↦ ap (λ (o : Option Advert). is_newest c.speaker u
+          && (nat_lt u.value.incarnation c.speaker.incarnation && is_some o)) none
+          ∙ both (is_newest c.speaker u) (nat_lt u.value.incarnation c.speaker.incarnation)
+    ]
+      where
+        both : (x y : Bool) → (x && (y && false)) ≡ false
+        both true true = refl
+        both true false = refl
+        both false y = refl
+
+    losing : u.register.originator ≢ c.speaker.address → (k : Key) → after_losing (after_update c u) k
+        ≡ after_update c u
+    losing other (Flood v) = refl
+    losing other (Mac v m ip) = ap (λ b. cond b (after_removal (after_update c u) (record { vni = v; mac = m }))
+        (after_update c u)) (still_owner c u owns other idle (record { vni = v; mac = m }))
+
+    choose : (b : Bool) → (u.register.originator == c.speaker.address) ≡ b
+        → cond b (after_own c u) (after_take c u) ≡ after_update c u
+    choose true t = ap (λ b. record c {
+      speaker = cond b (after_originating (after_importing c.speaker u) u.register.key Withdrawn)
+          (after_importing c.speaker u);
+    }) quiet
+    choose false t = let other : u.register.originator ≡ c.speaker.address → ⊥ = grind (arith, nat_tests) in
+        losing other u.register.key
+
+-- what is no news leaves an edge as it is
+pub known_hearing : (c : LocalRoutes) (u : Fields) → ((s : Station) → OwnsAt c s) → is_newest c.speaker u ≡ false
+    → heard c u ≡ c
+known_hearing c u owns none = idle_hearing c u owns (inl none)
+    ∙ (λ i. record c {
+      speaker = record c.speaker {
+        table =
+            cond (none i) (with_value c.speaker.table u.register u.value) c.speaker.table;
+      };
+    })
+
+-- ---- what is pending is withdrawn
+abbrev pub Mourns : Speaker → Type 0
+Mourns e = (r : Register) → Contains e.pending r → advert_of (value_at e.table r) ≡ None
+
+said_mourns : (e : Speaker) (k : Key) → Mourns e → Mourns (after_originating e k Withdrawn)
+said_mourns e k h r in' = elim (same_or_other r (own_register e k)) as (λ _. advert_of
+    (value_at (after_originating e k Withdrawn).table r) ≡ None) [
+      | inl same ↦ ap (λ q. advert_of (value_at (after_originating e k Withdrawn).table q)) same
+          ∙ ap advert_of (at_same e.table (own_register e k) (next_value e Withdrawn))
+      | inr ne ↦ elim (marked_only e.pending (own_register e k) r in') as (λ _. advert_of
+          (value_at (after_originating e k Withdrawn).table r) ≡ None) [
+            | inl before ↦ ap advert_of (at_other e.table (own_register e k) (next_value e Withdrawn) r ne) ∙ h r before
+            | inr now ↦ absurd (ne (sym now))
+          ]
+    ]
+
+-- pending registers are own ones, so an accepted update that doesn't come back leaves them without advert
+kept_mourns : (e : Speaker) (u : Fields) → KeepsNumbers e → Accepts e u → comes_back e u ≡ false → Mourns e
+    → Mourns (after_importing e u)
+kept_mourns e u n ok not h r in' = elim (update_cases e.table u r) as (λ _. advert_of
+    (value_at (after_importing e u).table r) ≡ None) [
+      | inl c ↦ ap advert_of c.2 ∙ silent e u ok not (ap (λ (q : Register). q.originator) (sym c.0)
+          ∙ (n.pending r in').3)
+          c.1
+      | inr kept ↦ ap advert_of kept ∙ h r in'
+    ]
+
+heard_mourns_by : (c : LocalRoutes) (u : Fields) (d : LocalRoutes) → KeepsNumbers c.speaker → Accepts c.speaker u
+    → Heard c u d
+    → Mourns c.speaker → Mourns d.speaker
+heard_mourns_by c u _ n ok (Back back) h = said_mourns c.speaker u.register.key h
+heard_mourns_by c u _ n ok (Lost s other lost) h = said_mourns (after_importing c.speaker u) (key_of s)
+    (kept_mourns c.speaker u n ok (others_stay_away c.speaker u other) h)
+heard_mourns_by c u _ n ok (Kept not) h = kept_mourns c.speaker u n ok not h
+
+pub heard_mourns : (c : LocalRoutes) (u : Fields) → KeepsNumbers c.speaker → Accepts c.speaker u → Mourns c.speaker
+    → Mourns (heard c u).speaker
+heard_mourns c u n ok h = heard_mourns_by c u (heard c u) n ok (hears c u) h

@@ -1,0 +1,254 @@
+-- What comes to an edge from outside, where the edge has learnt a station afterwards and hadn't before: it says so.
+use Rattle.std.proofs.Common.{◌≡◌, inl, inr, ℕ, ◌-◌, ◌==◌, ◌&&◌, Bool, true, false, cond, nat_le, Option, Some, None}
+use Rattle.std.proofs.Common.{Result, Ok, Err, List, [], ◌∷◌, refl, sym, ap, subst, ◌∙◌}
+use Rattle.std.specs.Prelude.{IsSome, not}
+use Rattle.std.specs.FinMap.{get}
+use Rattle.ether_wire.specs.Addr.{is_group}
+use Rattle.route_wire.specs.declared.update.Content.{Content}
+use Rattle.route_join.specs.Owner.{advert_in}
+use Rattle.mac_arena.specs.declared.station.Station.{Station}
+use Rattle.mac_arena.specs.declared.station.Entry.{Entry}
+use Rattle.mac_arena.specs.declared.table.Learnt.TheVariants.{New}
+use Rattle.mac_arena.specs.Learning.{entry_at, learnt_of, is_full, is_pinned}
+use Rattle.mac_arena.specs.ListsName.{stands}
+use Rattle.mac_arena.proofs.Entries.{same_or_other}
+use Rattle.mac_arena.proofs.Looking.{learn_entry, pin_entry}
+use Rattle.ev_mobility.specs.declared.alert.Alert.{Alert}
+use Rattle.ev_mobility.specs.declared.alert.Alert.TheVariants.{CounterSpent, TableFull, StaticElsewhere}
+use Rattle.ev_mobility.specs.declared.seq.Seq.{Seq}
+use Rattle.ev_mobility.specs.declared.seq.Seq.TheVariants.{Next, Static, Spent}
+use Rattle.ev_mobility.specs.declared.window.Window.{Window}
+use Rattle.ev_mobility.specs.Seq.{seq_for}
+use Rattle.ev_mobility.specs.Window.{is_fifth, is_frozen}
+use Rattle.rstp_run.specs.declared.event.Event as tree
+use Rattle.rstp_run.specs.declared.event.Event.TheVariants as tree_events
+use Rattle.ev_claims.specs.Speaker.{after_originating}
+use Rattle.ev_claims.specs.LocalRoutes.{LocalRoutes, vni_at, key_of, moving, fixed, after_removal, after_removals}
+use Rattle.ev_claims.specs.Leaving.{after_ageing, after_flush, due_in, flushed_in}
+use Rattle.ev_claims.proofs.Changed.{removals_entries}
+use Rattle.ev_edge.specs.declared.arrival.Arrival.{Arrival}
+use Rattle.ev_edge.specs.declared.arrival.Arrival.TheVariants.{Dropped, Message, Data}
+use Rattle.ev_edge.specs.declared.learning.Case.{Case}
+use Rattle.ev_edge.specs.declared.learning.Case.TheVariants.{Leave, Refresh, Refuse, Freeze, Learn}
+use Rattle.ev_edge.specs.declared.pinning.PinCase.{PinCase}
+use Rattle.ev_edge.specs.declared.pinning.PinCase.TheVariants as pins
+use Rattle.ev_edge.specs.declared.reply.Reply.{Reply}
+use Rattle.ev_edge.specs.declared.refusal.Refusal as edge
+use Rattle.ev_edge.specs.declared.refusal.EdgeRefusal.{EdgeRefusal}
+use Rattle.ev_edge.specs.Edge.{Edge, table_of, address_of}
+use Rattle.ev_edge.specs.Arrival.{frame_arrival, tunnel_arrival}
+use Rattle.ev_edge.specs.Bridging.{aged, next_second}
+use Rattle.ev_edge.specs.Learning.{Does, case_of, case_at, new_case, numbered_case, move_case, is_spent}
+use Rattle.ev_edge.specs.Pinning.{DoesPin, pin_case, pin_case_at, unpinned_case, is_static, refused_pin, after_unpin}
+use Rattle.ev_edge.specs.Steps.{Steps, FrameSteps, TunnelSteps, Bridges, BridgesAt, Seconds, LearnsIf, Pins}
+use Rattle.ev_fabric.specs.declared.step.LocalEvent.{LocalEvent}
+use Rattle.ev_fabric.specs.declared.step.LocalEvent.TheVariants.{Frame, TunnelFrame, Pin, Unpin, Thaw, Second, PortUp}
+use Rattle.ev_fabric.specs.declared.step.LocalEvent.TheVariants.{PortDown, Mcheck}
+use Rattle.ev_fabric.specs.Local.{event_of}
+
+-- it advertises the station under the next number, and nothing else that it says changes
+pub record LearnsIt (b : Edge) (s : Station) (c : Edge) : Type 0 where
+  pub content : Content
+  pub advert : IsSome (advert_in content)
+  pub speaker : c.routes.speaker ≡ after_originating b.routes.speaker (key_of s) content
+
+-- ---- what isn't learnt isn't heard again, nor pinned elsewhere
+abbrev is_refresh : Case → Bool
+is_refresh Leave = false
+is_refresh Refresh = true
+is_refresh (Refuse alert) = false
+is_refresh Freeze = false
+is_refresh (Learn n) = false
+
+new_refresh : (e : Edge) (s : Station) (w : Option Window) → is_refresh (new_case e s w) ≡ false
+new_refresh e s w = go (is_frozen w) (seq_for (table_of e) (address_of e) s.vni s.mac)
+  where
+    moves : (n : ℕ) (x y : Bool) → is_refresh (cond x (Learn 0) (cond y Freeze (Learn n))) ≡ false
+    moves n true y = refl
+    moves n false true = refl
+    moves n false false = refl
+
+    numbered : (n : ℕ) (x y : Bool) → is_refresh (cond x (Refuse CounterSpent)
+        (cond y (Refuse TableFull) (move_case w e.clock n))) ≡ false
+    numbered n true y = refl
+    numbered n false true = refl
+    numbered n false false = moves n (n == 0) (is_fifth w e.clock)
+
+    go : (b : Bool) (q : Seq) → is_refresh (cond b Leave (numbered_case e w q)) ≡ false
+    go true q = refl
+    go false Static = refl
+    go false Spent = refl
+    go false (Next n) = numbered n (is_spent e.routes) (is_full e.routes.learned)
+
+abbrev is_shift : PinCase → Bool
+is_shift pins.Keep = false
+is_shift pins.Shift = true
+is_shift (pins.Deny alert) = false
+is_shift pins.Pin = false
+
+new_shift : (e : Edge) (s : Station) → is_shift (unpinned_case e s false) ≡ false
+new_shift e s = go (is_static (seq_for (table_of e) (address_of e) s.vni s.mac)) (is_spent e.routes)
+    (is_full e.routes.learned)
+  where
+    go : (x y z : Bool) → is_shift (cond x (pins.Deny StaticElsewhere)
+        (cond y (pins.Deny CounterSpent) (cond z (pins.Deny TableFull) pins.Pin))) ≡ false
+    go true y z = refl
+    go false true z = refl
+    go false false true = refl
+    go false false false = refl
+
+-- ---- what goes
+
+-- what isn't learnt isn't after stations went
+removed_still : (c : LocalRoutes) (ss : List Station) (s : Station) → entry_at c.learned s ≡ None
+    → entry_at (after_removals c ss).learned s ≡ None
+removed_still c ss s unknown = removals_entries c ss s ∙ taken_out (stands ss s) (entry_at c.learned s) unknown
+  where
+    taken_out : (b : Bool) (o : Option Entry) → o ≡ None → cond b None o ≡ None
+    taken_out true o none = refl
+    taken_out false o none = none
+
+aged_still : (c : LocalRoutes) (ageing clock : ℕ) (s : Station) → entry_at c.learned s ≡ None
+    → entry_at (aged c ageing clock).learned s ≡ None
+aged_still c ageing clock s unknown = go (nat_le ageing clock)
+  where
+    go : (b : Bool) → entry_at (cond b (after_ageing c (clock - ageing)) c).learned s ≡ None
+    go true = removed_still c (due_in c.learned (clock - ageing)) s unknown
+    go false = unknown
+
+unpinned_still : (e : Edge) (q s : Station) → entry_at e.routes.learned s ≡ None
+    → entry_at (after_unpin e q).routes.learned s ≡ None
+unpinned_still e q s unknown = go (is_pinned (entry_at e.routes.learned q))
+  where
+    go : (b : Bool) → entry_at (cond b (record e { routes = after_removal e.routes q }) e).routes.learned s ≡ None
+    go true = removed_still e.routes (q ∷ []) s unknown
+    go false = unknown
+
+-- ---- all events from outside
+module _ (b : Edge) (s : Station) (c : Edge) (unknown : entry_at b.routes.learned s ≡ None)
+    (some : IsSome (entry_at c.routes.learned s)) where
+  absent : entry_at c.routes.learned s ≡ None → LearnsIt b s c
+  absent none = absurd (let no : IsSome {T = Entry} None = subst IsSome none some in cc)
+
+  -- where nothing is learnt
+  without : (d : Edge) → c ≡ d → entry_at d.routes.learned s ≡ None → LearnsIt b s c
+  without d is none = absent (ap (λ (e : Edge). entry_at e.routes.learned s) is ∙ none)
+
+  same : c ≡ b → LearnsIt b s c
+  same is = without b is unknown
+
+  bridged : (event : tree.Event) (answer : Result Reply edge.Refusal) → Bridges event b answer c → LearnsIt b s c
+  bridged event (Ok reply) h = without _ h.after (removed_still b.routes (flushed_in b.routes.learned h.flush) s
+      unknown)
+  bridged event (Err r) h = absurd h
+
+  bridged_at : (o : Option ℕ) (event : tree.Event) (answer : Result Reply edge.Refusal)
+      → BridgesAt o event b answer c
+      → LearnsIt b s c
+  bridged_at None event answer h = same h.1
+  bridged_at (Some vni) event answer h = bridged event answer h
+
+  by_second : (answer : Result Reply edge.Refusal) → Seconds b answer c → LearnsIt b s c
+  by_second (Ok reply) h = without _ h.after (aged_still (after_flush b.routes h.flush) b.ageing (next_second b.clock) s
+      (removed_still b.routes (flushed_in b.routes.learned h.flush) s unknown))
+  by_second (Err r) h = absurd h
+
+  no_refresh : (q : Station) → q ≡ s → case_of b q ≡ Refresh → ⊥
+  no_refresh q is e =
+      let new : case_of b q ≡ new_case b q (get b.windows q) =
+      ap (case_at b q) (subst (λ r. entry_at b.routes.learned r ≡ None) (sym is) unknown) in
+      let bad : true ≡ false = ap is_refresh (sym e ∙ new) ∙ new_refresh b q (get b.windows q) in
+      cc
+
+  learns : (q : Station) (port : ℕ) (k : Case) → case_of b q ≡ k → (told : Option Alert) → Does k b q port told c
+      → LearnsIt b s c
+  learns q port Leave e told h = same h.1
+  learns q port Refresh e told h = elim (same_or_other q s) as (λ _. LearnsIt b s c) [
+    | inl is ↦ absurd (no_refresh q is e)
+    | inr ne ↦ without _ h.1 ((learn_entry b.routes.learned q port b.clock (learnt_of b.routes.learned q port)).others s
+        (λ is. ne (sym is)) ∙ unknown)
+  ]
+  learns q port (Refuse alert) e told h = same h.1
+  learns q port Freeze e told h = without _ h.1 unknown
+  learns q port (Learn n) e told h = elim h as (λ _. LearnsIt b s c) [
+    | inl is ↦ elim (same_or_other q s) as (λ _. LearnsIt b s c) [
+      | inl this ↦ record {
+        content = moving n;
+        advert = refl;
+        speaker = ap (λ (e : Edge). e.routes.speaker) is.1
+            ∙ ap (λ r. after_originating b.routes.speaker (key_of r) (moving n)) this;
+      }
+      | inr ne ↦ without _ is.1 ((learn_entry b.routes.learned q port b.clock New).others s (λ is. ne (sym is))
+          ∙ unknown)
+    ]
+    | inr refused ↦ same refused.1
+  ]
+
+  data_frame : (x : Bool) (q : Station) (port : ℕ) (told : Option Alert) → LearnsIf x b q port told c → LearnsIt b s c
+  data_frame true q port told h = learns q port (case_of b q) refl told h
+  data_frame false q port told h = same h.1
+
+  by_frame : (x : Result Arrival edge.Refusal) (port : ℕ) (answer : Result Reply edge.Refusal)
+      → FrameSteps x b port answer c → LearnsIt b s c
+  by_frame (Err r) port answer h = same h.1
+  by_frame (Ok Dropped) port answer h = same h.1
+  by_frame (Ok (Message m)) port answer h = bridged (tree_events.Bpdu port m) answer h
+  by_frame (Ok (Data vni destination source)) port (Ok reply) h =
+      data_frame (h.learning.learns && not (is_group source)) (record { vni = vni; mac = source }) port reply.alert
+      h.learning.learning
+  by_frame (Ok (Data vni destination source)) port (Err r) h = absurd h
+
+  by_tunnel : (x : Result Arrival edge.Refusal) (answer : Result Reply edge.Refusal)
+      → TunnelSteps x b answer c
+      → LearnsIt b s c
+  by_tunnel (Err r) answer h = same h.1
+  by_tunnel (Ok Dropped) answer h = same h.1
+  by_tunnel (Ok (Message m)) answer h = absurd h
+  by_tunnel (Ok (Data vni destination source)) (Ok reply) h = same h.2
+  by_tunnel (Ok (Data vni destination source)) (Err r) h = absurd h
+
+  no_shift : (q : Station) (port : ℕ) → q ≡ s → pin_case b q port ≡ pins.Shift → ⊥
+  no_shift q port is e =
+      let new : pin_case b q port ≡ unpinned_case b q false =
+      ap (pin_case_at b q port) (subst (λ r. entry_at b.routes.learned r ≡ None) (sym is) unknown) in
+      let bad : true ≡ false = ap is_shift (sym e ∙ new) ∙ new_shift b q in
+      cc
+
+  pinned : (q : Station) (port : ℕ) (k : PinCase) → pin_case b q port ≡ k → (told : Option Alert)
+      → DoesPin k b q port told c → LearnsIt b s c
+  pinned q port pins.Keep e told h = same h.1
+  pinned q port pins.Shift e told h = elim (same_or_other q s) as (λ _. LearnsIt b s c) [
+    | inl is ↦ absurd (no_shift q port is e)
+    | inr ne ↦ without _ h.1 ((pin_entry b.routes.learned q port).others s (λ is. ne (sym is)) ∙ unknown)
+  ]
+  pinned q port (pins.Deny alert) e told h = same h.1
+  pinned q port pins.Pin e told h = elim h as (λ _. LearnsIt b s c) [
+    | inl is ↦ elim (same_or_other q s) as (λ _. LearnsIt b s c) [
+      | inl this ↦ record {
+        content = fixed;
+        advert = refl;
+        speaker = ap (λ (e : Edge). e.routes.speaker) is.1 ∙ ap
+            (λ r. after_originating b.routes.speaker (key_of r) fixed) this;
+      }
+      | inr ne ↦ without _ is.1 ((pin_entry b.routes.learned q port).others s (λ is. ne (sym is)) ∙ unknown)
+    ]
+    | inr refused ↦ same refused.1
+  ]
+
+  by_pin : (o : Option EdgeRefusal) (q : Station) (port : ℕ) (answer : Result Reply edge.Refusal)
+      → Pins o b q port answer c → LearnsIt b s c
+  by_pin (Some r) q port answer h = same h.1
+  by_pin None q port (Ok reply) h = pinned q port (pin_case b q port) refl reply.alert h.0
+  by_pin None q port (Err r) h = absurd h
+
+  pub learns_anew : (event : LocalEvent) (answer : Result Reply edge.Refusal) → Steps b (event_of event) answer c
+      → LearnsIt b s c
+  learns_anew (Frame port octets) answer h = by_frame (frame_arrival b port octets.now) port answer h
+  learns_anew (TunnelFrame from octets) answer h = by_tunnel (tunnel_arrival b from octets.now) answer h
+  learns_anew (Pin q port) answer h = by_pin (refused_pin b q port) q port answer h
+  learns_anew (Unpin q) answer h = without _ h.1 (unpinned_still b q s unknown)
+  learns_anew (Thaw q) answer h = without _ h.1 unknown
+  learns_anew Second answer h = by_second answer h
+  learns_anew (PortUp port) answer h = bridged_at (vni_at b.routes.ports port) (tree_events.PortUp port) answer h
+  learns_anew (PortDown port) answer h = bridged_at (vni_at b.routes.ports port) (tree_events.PortDown port) answer h
+  learns_anew (Mcheck port) answer h = bridged_at (vni_at b.routes.ports port) (tree_events.Mcheck port) answer h

@@ -1,8 +1,0 @@
-use Rattle.ev_fabric.proofs.RestingMoves.{sound_kept, rests_full, rests_pool_length}
-use Rattle.ev_fabric.proofs.rest.bounded.Goals as goal
-
-pub returns : goal.returns
-returns c = record {
-  left = λ steps old new sound h. rests_full steps old new (sound_kept old sound) h;
-  pool = λ steps old new sound h. rests_pool_length steps old new (sound_kept old sound) h;
-}

@@ -1,6 +1,0 @@
-use Rattle.ev_fabric.proofs.RestingMoves.{sound_kept, rests_before}
-use Rattle.ev_fabric.proofs.rest.fades.Goals as goal
-
-pub returns : goal.returns
-returns c = λ steps old new sound h i b at. let x = rests_before steps old new (sound_kept old sound) h i b at in
-    (x.was, x.at, x.later, x.numbers)

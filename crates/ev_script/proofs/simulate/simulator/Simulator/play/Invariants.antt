@@ -1,0 +1,14 @@
+use Rattle.std.proofs.Common.{◌+◌, ◌≤◌, length}
+use Rattle.ev_script.specs.Printing.{Minds}
+use Rattle.ev_script.specs.Playing.{Played}
+use Rattle.ev_script.proofs.simulate.simulator.Simulator.play.Given as goal
+
+abbrev pub invariant-lines : goal.invariant-lines
+invariant-lines g l = record {
+  played : Played l.mode l.script l.rest l.initial.self l.self l.number;
+  told : Minds (g.W.Out.end l.initial.out) (g.W.Out.end l.out) l.initial.self.is_told l.self.is_told;
+  few : l.number + length l.rest ≤ length l.script;
+}
+
+abbrev pub decreases-lines : goal.decreases-lines
+decreases-lines g l = length l.rest

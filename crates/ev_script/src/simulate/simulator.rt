@@ -1,0 +1,396 @@
+//! A fabric that is played, command by command.
+ghost use Rattle.std.specs.Prelude.{◌≡◌, ◌+◌, ◌<◌, ◌^◌, [], ◌∷◌, ◌++◌, length, true, false, ℕ, Option, Some, None};
+ghost use Rattle.ether_wire.specs.Ends.{IsOpen};
+ghost use Rattle.ev_report.specs.Ends.{Tells};
+ghost use Rattle.ev_script.specs.Printing.{PutsSome, Minds};
+ghost use Rattle.ev_script.specs.Shown.{shown_text};
+ghost use Rattle.ev_script.specs.Views.{view_text};
+ghost use Rattle.ev_script.specs.Simulation.{port_number, is_out_of_memory};
+
+use crate::script::{Command, Hex, Mode, Question, cut_line, parse};
+use crate::simulate::echo::put_shown;
+use crate::simulate::print::{
+    put_bpdus, put_number, put_port, put_refusal, put_reply, put_report, put_words,
+};
+use crate::simulate::viewing::put_view;
+use ether_wire::{Addr, Device, Out};
+use ev_edge::{Edge, EdgeRefusal, Reply};
+use ev_fabric::{Fabric, FabricRefusal, LocalEvent, Step};
+
+/// The number of the refusal that says that memory was refused.
+const NO_MEMORY: u8 = 15;
+
+/// A fabric that is played.
+#[derive(Drop)]
+pub(crate) struct Simulator {
+    fabric: Fabric,
+    /// A step was refused memory.
+    is_out_of_memory: bool,
+    /// Nothing that was to be printed was lost.
+    is_told: bool,
+}
+
+/// A port's number, in an octet. There are 64 at most: those above 255 are as 255.
+fn port_number(port: u64) -> u8
+    ensures { result ≡ port_number port }
+{
+    if port <= 255 { port as u8 } else { 255 }
+}
+
+/// Whether a step was refused memory.
+fn is_out_of_memory(answer: &Result<Reply, FabricRefusal>) -> bool
+    ensures { result ≡ is_out_of_memory answer.now }
+{
+    match answer {
+        Ok(_) => false,
+        Err(refusal) => refusal.number() == NO_MEMORY,
+    }
+}
+
+/// Prints what became of a step.
+fn put_answer<W: Out>(
+    out: &mut W,
+    edge: u64,
+    answer: &Result<Reply, FabricRefusal>,
+) -> Result<(), Device>
+    requires { IsOpen (W.end out.old) }
+    ensures { PutsSome (W.end out.old) (W.end out.new) result }
+{
+    match answer {
+        Ok(reply) => put_reply(out, edge, reply),
+        Err(refusal) => put_refusal(out, edge, refusal),
+    }
+}
+
+/// Prints what became of a second, the first one (0) or a later one: where there is no such
+/// edge, that is told once.
+fn put_second<W: Out>(
+    out: &mut W,
+    edge: u64,
+    turn: u64,
+    answer: &Result<Reply, FabricRefusal>,
+) -> Result<(), Device>
+    requires { IsOpen (W.end out.old) }
+    ensures { PutsSome (W.end out.old) (W.end out.new) result }
+{
+    match answer {
+        Ok(reply) => put_bpdus(out, edge, reply.bpdus.as_slice()),
+        Err(refusal) if turn == 0 => put_refusal(out, edge, refusal),
+        Err(_) => Ok(()),
+    }
+}
+
+/// Prints the number in the pool of what was announced, if anything was. The
+/// pool's last update is it.
+fn put_announced<W: Out>(
+    out: &mut W,
+    edge: u64,
+    last: usize,
+    answer: &Result<Reply, FabricRefusal>,
+) -> Result<(), Device>
+    requires { IsOpen (W.end out.old) }
+    ensures { PutsSome (W.end out.old) (W.end out.new) result }
+{
+    match answer {
+        Ok(reply) => match reply.announced {
+            Some(_) => put_number(out, edge, b" pool ", last as u64),
+            None => put_words(out, edge, b" none\n"),
+        },
+        Err(refusal) => put_refusal(out, edge, refusal),
+    }
+}
+
+/// Prints how the spanning tree has an edge's port.
+fn put_port_of<W: Out>(out: &mut W, number: u64, edge: &Edge, port: u8) -> Result<(), Device>
+    requires { IsOpen (W.end out.old) }
+    ensures { PutsSome (W.end out.old) (W.end out.new) result }
+{
+    let bridge = edge.bridge();
+    if port == 0 || usize::from(port) > bridge.len() {
+        let refusal = FabricRefusal::Edge(ev_edge::Refusal::Edge(EdgeRefusal::NoSuchPort));
+        return put_refusal(out, number, &refusal);
+    }
+    put_port(out, number, port, bridge.port(port), bridge.passes(port))
+}
+
+/// The edge of this number, if there is one.
+fn edge_of(fabric: &Fabric, edge: u64) -> Option<&Edge> {
+    let place = edge as usize;
+    if place == 0 || place > fabric.edges() {
+        return None;
+    }
+    Some(fabric.edge(place))
+}
+
+/// Prints how the spanning tree has a port.
+fn put_port_at<W: Out>(fabric: &Fabric, edge: u64, port: u64, out: &mut W) -> Result<(), Device>
+    requires { IsOpen (W.end out.old) }
+    ensures { PutsSome (W.end out.old) (W.end out.new) result }
+{
+    match edge_of(fabric, edge) {
+        Some(found) => put_port_of(out, edge, found, port_number(port)),
+        None => put_refusal(out, edge, &FabricRefusal::NoSuchEdge),
+    }
+}
+
+/// Prints the report of an edge's table.
+fn put_report_of<W: Out>(fabric: &Fabric, edge: u64, out: &mut W) -> Result<(), Device>
+    requires { IsOpen (W.end out.old) }
+    ensures { PutsSome (W.end out.old) (W.end out.new) result }
+{
+    match edge_of(fabric, edge) {
+        Some(found) => put_report(out, found),
+        None => put_refusal(out, edge, &FabricRefusal::NoSuchEdge),
+    }
+}
+
+impl Simulator {
+    ghost use Rattle.ev_fabric.specs.declared.step.Step.TheVariants.{Local, Announce};
+    ghost use Rattle.ev_fabric.specs.declared.step.LocalEvent.TheVariants.{Second};
+    ghost use Rattle.ev_script.specs.Script.{command_of, octets_of, second, frame, tunnel};
+    ghost use Rattle.ev_script.specs.Playing.{Makes, MakesOne, Performs, PlaysLine, PlaysTo, Answers};
+
+    /// A fabric of which nothing was asked yet.
+    pub(crate) fn new(fabric: Fabric) -> Simulator
+        ensures fabric { result.fabric ≡ fabric }
+        ensures fed { result.is_out_of_memory ≡ false }
+        ensures told { result.is_told ≡ true }
+    {
+        Simulator {
+            fabric,
+            is_out_of_memory: false,
+            is_told: true,
+        }
+    }
+
+    /// Whether a step was refused memory.
+    pub(crate) fn is_out_of_memory(&self) -> bool
+        ensures { result ≡ self.now.is_out_of_memory }
+    {
+        self.is_out_of_memory
+    }
+
+    /// Whether nothing that was to be printed was lost.
+    pub(crate) fn is_told(&self) -> bool
+        ensures { result ≡ self.now.is_told }
+    {
+        self.is_told
+    }
+
+    /// A step of the fabric.
+    fn step(&mut self, step: &Step<'_>) -> Result<Reply, FabricRefusal>
+        ensures made { Makes ((step.now, result) ∷ []) self.old self.new }
+        ensures told { self.new.is_told ≡ self.old.is_told }
+    {
+        let answer = self.fabric.step(step);
+        let is_refused = is_out_of_memory(&answer);
+        self.is_out_of_memory = self.is_out_of_memory || is_refused;
+        answer
+    }
+
+    /// A step, and what became of it.
+    fn single<W: Out>(&mut self, edge: u64, step: &Step<'_>, out: &mut W)
+        requires { self.old.is_told ≡ true → IsOpen (W.end out.old) }
+        ensures made { MakesOne step.now self.old self.new }
+        ensures told { Minds (W.end out.old) (W.end out.new) self.old.is_told self.new.is_told }
+    {
+        let answer = self.step(step);
+        self.is_told = self.is_told && put_answer(out, edge, &answer).is_ok();
+    }
+
+    /// A second of an edge, the first one (0) of a command or a later one.
+    fn second<W: Out>(&mut self, edge: u64, turn: u64, out: &mut W)
+        requires { self.old.is_told ≡ true → IsOpen (W.end out.old) }
+        ensures made { MakesOne (Local edge Second) self.old self.new }
+        ensures told { Minds (W.end out.old) (W.end out.new) self.old.is_told self.new.is_told }
+    {
+        let answer = self.step(&Step::Local(edge as usize, LocalEvent::Second));
+        self.is_told = self.is_told && put_second(out, edge, turn, &answer).is_ok();
+    }
+
+    /// So many seconds of an edge.
+    fn seconds<W: Out>(&mut self, edge: u64, seconds: u64, out: &mut W)
+        requires { self.old.is_told ≡ true → IsOpen (W.end out.old) }
+        ensures made { Performs edge (second seconds) self.old self.new }
+        ensures told { Minds (W.end out.old) (W.end out.new) self.old.is_told self.new.is_told }
+    {
+        for turn in 0..seconds {
+            self.second(edge, turn, out);
+        }
+    }
+
+    /// What an edge announces comes into the pool.
+    fn announce<W: Out>(&mut self, edge: u64, out: &mut W)
+        requires { self.old.is_told ≡ true → IsOpen (W.end out.old) }
+        ensures made { MakesOne (Announce edge) self.old self.new }
+        ensures told { Minds (W.end out.old) (W.end out.new) self.old.is_told self.new.is_told }
+    {
+        let answer = self.step(&Step::Announce(edge as usize));
+        let last = self.fabric.pool().len();
+        self.is_told = self.is_told && put_announced(out, edge, last, &answer).is_ok();
+    }
+
+    /// Octets come at a port.
+    fn frame<W: Out>(&mut self, edge: u64, port: u64, hex: Hex<'_>, out: &mut W)
+        requires { self.old.is_told ≡ true → IsOpen (W.end out.old) }
+        ensures made { Performs edge
+            (frame port (octets_of hex.entry.digits.now)) self.old self.new }
+        ensures told { Minds (W.end out.old) (W.end out.new) self.old.is_told self.new.is_told }
+    {
+        let octets = hex.octets();
+        let event = LocalEvent::Frame(port_number(port), octets.as_slice());
+        self.single(edge, &Step::Local(edge as usize, event), out);
+    }
+
+    /// A datagram comes from another edge.
+    fn tunnel<W: Out>(&mut self, edge: u64, from: Addr, hex: Hex<'_>, out: &mut W)
+        requires { self.old.is_told ≡ true → IsOpen (W.end out.old) }
+        ensures made { Performs edge
+            (tunnel from (octets_of hex.entry.digits.now)) self.old self.new }
+        ensures told { Minds (W.end out.old) (W.end out.new) self.old.is_told self.new.is_told }
+    {
+        let octets = hex.octets();
+        let event = LocalEvent::TunnelFrame(from, octets.as_slice());
+        self.single(edge, &Step::Local(edge as usize, event), out);
+    }
+
+    /// How the spanning tree has a port.
+    fn port<W: Out>(&mut self, edge: u64, port: u64, out: &mut W)
+        requires { self.old.is_told ≡ true → IsOpen (W.end out.old) }
+        ensures made { Makes [] self.old self.new }
+        ensures told { Minds (W.end out.old) (W.end out.new) self.old.is_told self.new.is_told }
+    {
+        self.is_told = self.is_told && put_port_at(&self.fabric, edge, port, out).is_ok();
+    }
+
+    /// The report of an edge's table.
+    fn report<W: Out>(&mut self, edge: u64, out: &mut W)
+        requires { self.old.is_told ≡ true → IsOpen (W.end out.old) }
+        ensures made { Makes [] self.old self.new }
+        ensures told { Minds (W.end out.old) (W.end out.new) self.old.is_told self.new.is_told }
+    {
+        self.is_told = self.is_told && put_report_of(&self.fabric, edge, out).is_ok();
+    }
+
+    /// Does what a command asks of an edge, and prints what became of it.
+    fn perform<W: Out>(&mut self, edge: u64, command: &Command<'_>, out: &mut W)
+        requires { self.old.is_told ≡ true → IsOpen (W.end out.old) }
+        ensures made { Performs edge (command_of command.now) self.old self.new }
+        ensures told { Minds (W.end out.old) (W.end out.new) self.old.is_told self.new.is_told }
+    {
+        match command {
+            Command::Up(port) => {
+                let event = LocalEvent::PortUp(port_number(*port));
+                self.single(edge, &Step::Local(edge as usize, event), out);
+            }
+            Command::Down(port) => {
+                let event = LocalEvent::PortDown(port_number(*port));
+                self.single(edge, &Step::Local(edge as usize, event), out);
+            }
+            Command::Mcheck(port) => {
+                let event = LocalEvent::Mcheck(port_number(*port));
+                self.single(edge, &Step::Local(edge as usize, event), out);
+            }
+            Command::Second(seconds) => self.seconds(edge, *seconds, out),
+            Command::Frame(port, hex) => self.frame(edge, *port, *hex, out),
+            Command::Tunnel(from, hex) => self.tunnel(edge, *from, *hex, out),
+            Command::Pin(station, port) => {
+                let event = LocalEvent::Pin(*station, port_number(*port));
+                self.single(edge, &Step::Local(edge as usize, event), out);
+            }
+            Command::Unpin(station) => {
+                let event = LocalEvent::Unpin(*station);
+                self.single(edge, &Step::Local(edge as usize, event), out);
+            }
+            Command::Thaw(station) => {
+                let event = LocalEvent::Thaw(*station);
+                self.single(edge, &Step::Local(edge as usize, event), out);
+            }
+            Command::Announce => self.announce(edge, out),
+            Command::Deliver(update) => {
+                self.single(edge, &Step::Deliver(edge as usize, *update as usize), out);
+            }
+            Command::Port(port) => self.port(edge, *port, out),
+            Command::Report => self.report(edge, out),
+            Command::Restart(incarnation) => self.single(
+                edge,
+                &Step::Restart(edge as usize, *incarnation),
+                out,
+            ),
+        }
+    }
+
+    /// Prints a command's line, where that is wanted.
+    fn show<W: Out>(&mut self, mode: Mode, line: &[u8], out: &mut W)
+        requires { self.old.is_told ≡ true → IsOpen (W.end out.old) }
+        ensures made { Makes [] self.old self.new }
+        ensures told { Tells (W.end out.old) (W.end out.new) self.old.is_told self.new.is_told
+            (shown_text mode line.now) }
+    {
+        self.is_told = self.is_told && put_shown(out, mode, line).is_ok();
+    }
+
+    /// Tells what a question asks for. No step is made.
+    fn view<W: Out>(&mut self, question: &Question, out: &mut W)
+        requires { self.old.is_told ≡ true → IsOpen (W.end out.old) }
+        ensures made { Makes [] self.old self.new }
+        ensures told { Tells (W.end out.old) (W.end out.new) self.old.is_told self.new.is_told
+            (view_text question.now) }
+    {
+        self.is_told = self.is_told && put_view(out, question).is_ok();
+    }
+
+    /// Prints a question's line, and what it asks for. No step is made.
+    fn answer<W: Out>(&mut self, mode: Mode, line: &[u8], question: &Question, out: &mut W)
+        requires { self.old.is_told ≡ true → IsOpen (W.end out.old) }
+        ensures made { Makes [] self.old self.new }
+        ensures told { Tells (W.end out.old) (W.end out.new) self.old.is_told self.new.is_told
+            (shown_text mode line.now ++ view_text question.now) }
+    {
+        self.show(mode, line, out);
+        self.view(question, out);
+    }
+
+    /// Does what a line asks for: whether it isn't a bad one.
+    fn line<W: Out>(&mut self, mode: Mode, line: &[u8], out: &mut W) -> bool
+        requires { self.old.is_told ≡ true → IsOpen (W.end out.old) }
+        ensures played { PlaysLine mode line.now self.old self.new result }
+        ensures told { Minds (W.end out.old) (W.end out.new) self.old.is_told self.new.is_told }
+        ensures answers { Answers mode line.now self.old self.new (W.end out.old) (W.end out.new) }
+    {
+        if let Some(question) = mode.question(line) {
+            self.answer(mode, line, &question, out);
+            return true;
+        }
+        if mode.skips(line) {
+            return true;
+        }
+        match parse(line) {
+            None => false,
+            Some((edge, command)) => {
+                self.show(mode, line, out);
+                self.perform(edge, &command, out);
+                true
+            }
+        }
+    }
+
+    /// Runs the lines of a script up to its end or its first bad line: the latter's number.
+    pub(crate) fn play<W: Out>(&mut self, mode: Mode, script: &[u8], out: &mut W) -> Option<u64>
+        requires { self.old.is_told ≡ true → IsOpen (W.end out.old) }
+        ensures played { PlaysTo mode script.now self.old self.new result }
+        ensures told { Minds (W.end out.old) (W.end out.new) self.old.is_told self.new.is_told }
+    {
+        let mut rest = script;
+        let mut number = 0u64;
+        'lines: while !rest.is_empty() {
+            let (line, after) = cut_line(rest);
+            number += 1;
+            if !self.line(mode, line, out) {
+                return Some(number);
+            }
+            rest = after;
+        }
+        None
+    }
+}

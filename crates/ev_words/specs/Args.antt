@@ -1,0 +1,181 @@
+-- The program's words, as `clap` reads them.
+use Rattle.std.specs.Prelude.{◌≡◌, ◌≢◌, ℕ, ◌+◌, ◌⊎◌, Bool, true, false, List, [], ◌∷◌, ◌++◌, codes, find, Option, Some}
+use Rattle.std.specs.Prelude.{None, option_map, Result, Ok, Err, OnOk, IfErr}
+use Rattle.std.specs.Option.{option_map_or}
+use Rattle.std.specs.Str.{bytes_eq}
+use Rattle.ether_wire.specs.Parse.{◌>>=◌}
+use Rattle.clap.specs.Words.{App, Row, Rule, Text, first_of, new_app, new_rule, subcommand_of, subcommand_rows_of}
+use Rattle.clap.specs.Words.{with_subcommand, fault_of, IsAmong, kind_of}
+use Rattle.clap.specs.declared.builder.ArgAction.TheVariants.{Set, SetTrue}
+use Rattle.clap.specs.declared.error.Error.{Error}
+use Rattle.clap.specs.declared.error.kind.ErrorKind.TheVariants.{OutOfMemory}
+use Rattle.clap.specs.declared.parser.matches.ArgMatches.{ArgMatches}
+use Rattle.ev_words.specs.declared.args.Subcommand.{Subcommand}
+use Rattle.ev_words.specs.declared.args.Subcommand.TheVariants.{Report, Migrate, Check, Simulate, Play, Run, Version}
+use Rattle.ev_words.specs.declared.args.Given.{Given}
+use Rattle.ev_words.specs.declared.args.Given.TheVariants.{Originators, Config, Script, ForRun}
+use Rattle.ev_words.specs.declared.args.Invocation.{Invocation}
+use Rattle.ev_words.specs.declared.args.ClapParser.{ClapParser}
+use Rattle.ev_words.specs.declared.args.ArgsError.{ArgsError}
+use Rattle.ev_words.specs.declared.args.ArgsError.TheVariants.{Usage, NoMemory}
+
+-- ---- the subcommands, each with its options
+
+abbrev pub subcommands : List Subcommand
+subcommands = Report ∷ Migrate ∷ Check ∷ Simulate ∷ Play ∷ Run ∷ Version ∷ []
+
+abbrev pub name_of : Subcommand → Text
+name_of Report = codes "report"
+name_of Migrate = codes "migrate"
+name_of Check = codes "check"
+name_of Simulate = codes "simulate"
+name_of Play = codes "play"
+name_of Run = codes "run"
+name_of Version = codes "version"
+
+abbrev pub option_name : Given → Text
+option_name Originators = codes "originators"
+option_name Config = codes "config"
+option_name Script = codes "script"
+option_name ForRun = codes "run"
+
+-- the option that it has to be given
+abbrev pub needs_of : Subcommand → Option Given
+needs_of Report = Some Originators
+needs_of Migrate = Some Originators
+needs_of Check = Some Config
+needs_of Simulate = Some Config
+needs_of Play = Some Config
+needs_of Run = Some Config
+needs_of Version = None
+
+-- the option that it may be given besides
+abbrev pub takes_of : Subcommand → Option Given
+takes_of Report = None
+takes_of Migrate = None
+takes_of Check = Some Script
+takes_of Simulate = None
+takes_of Play = None
+takes_of Run = None
+takes_of Version = None
+
+-- the flag that it may be given
+abbrev pub flag_of : Subcommand → Option Given
+flag_of Report = None
+flag_of Migrate = None
+flag_of Check = Some ForRun
+flag_of Simulate = None
+flag_of Play = None
+flag_of Run = None
+flag_of Version = None
+
+-- ---- the command
+
+-- `--NAME VALUE`, which has to be there or may be
+abbrev pub option_rule : Bool → Text → Rule
+option_rule is_required name =
+    record (new_rule name) { long = Some name; action = Some Set; value_names = 1; required = is_required }
+
+abbrev pub option_rules : Bool → Option Given → List Rule
+option_rules is_required None = []
+option_rules is_required (Some option) = option_rule is_required (option_name option) ∷ []
+
+abbrev pub with_option : Bool → Option Given → App → App
+with_option is_required option a =
+    record a { top = record a.top { rules = a.top.rules ++ option_rules is_required option } }
+
+-- `--NAME`, which may be there
+abbrev pub flag_rule : Text → Rule
+flag_rule name = record (new_rule name) { long = Some name; action = Some SetTrue }
+
+abbrev pub flag_rules : Option Given → List Rule
+flag_rules None = []
+flag_rules (Some flag) = flag_rule (option_name flag) ∷ []
+
+abbrev pub with_flag : Option Given → App → App
+with_flag flag a = record a { top = record a.top { rules = a.top.rules ++ flag_rules flag } }
+
+-- a subcommand
+abbrev pub subcommand_app : Subcommand → App
+subcommand_app s =
+    with_flag (flag_of s) (with_option false (takes_of s) (with_option true (needs_of s) (new_app (name_of s))))
+
+abbrev pub with_subcommands : App → List Subcommand → App
+with_subcommands a [] = a
+with_subcommands a (s ∷ ss) = with_subcommands (with_subcommand a (subcommand_app s).top) ss
+
+-- `evpnd SUBCOMMAND --OPTION VALUE ..`
+abbrev pub program : App
+program =
+    let all = with_subcommands (new_app (codes "evpnd")) subcommands in
+    record all { top = record all.top { subcommand_required = true } }
+
+-- ---- orders
+
+abbrev pub named : Text → Option Subcommand
+named name = find (λ s. bytes_eq name (name_of s)) subcommands
+
+-- the text of an option that has to be there, among the matches; none is nothing
+abbrev pub needed_in : Option Given → List Row → Option Text
+needed_in None rows = Some []
+needed_in (Some option) rows = first_of (option_name option) rows
+
+-- the text of an option that may be there
+abbrev pub given_in : Option Given → List Row → Option Text
+given_in None rows = None
+given_in (Some option) rows = first_of (option_name option) rows
+
+-- whether a flag is among the matches
+abbrev pub is_flagged : Option Given → List Row → Bool
+is_flagged flag rows = option_map_or (λ text. bytes_eq text (codes "true")) (given_in flag rows) false
+
+-- a subcommand, the text of what it has to be given, and of what it may be given, and whether its flag was
+abbrev pub Parts : Type 0
+Parts = Subcommand × Text × Option Text × Bool
+
+-- the subcommand of this name, with its options' texts among the matches
+abbrev pub invocation_in : Option (Text × List Row) → Option Parts
+invocation_in found = do
+  f ← found
+  s ← named f.0
+  text ← needed_in (needs_of s) f.1
+  Some (s, text, given_in (takes_of s) f.1, is_flagged (flag_of s) f.1)
+
+abbrev pub parts_of : Invocation → Parts
+parts_of invocation = (
+  invocation.subcommand,
+  invocation.value.now,
+  option_map (λ text. text.now) invocation.more,
+  invocation.is_for_run,
+)
+
+-- the words have no fault, and are this invocation
+abbrev pub Spells : List Text → Parts → Type 0
+Spells words invocation = (fault_of program words ≡ []) × (invocation_in (subcommand_of program words)
+    ≡ Some invocation)
+
+-- ---- reading
+
+-- what `clap` makes of the words: their matches where they have no fault; else it was refused memory, or it tells their
+-- fault
+abbrev pub IsAnswer : List Text → Result ArgMatches Error → Type 0
+IsAnswer words (Ok m) = (fault_of program words ≡ []) × (subcommand_rows_of m ≡ subcommand_of program words)
+IsAnswer words (Err e) = (kind_of e ≡ OutOfMemory) ⊎ IsAmong (kind_of e) (fault_of program words)
+
+-- A parser's answer, and how often it was refused memory before and after: once more exactly where the error's kind
+-- says so.
+pub record Parses (words : List Text) (before after : ℕ) (answer : Result ArgMatches Error) : Type 0 where
+  pub is_answer : IsAnswer words answer
+  pub kept : OnOk answer (after ≡ before)
+  pub refused : IfErr answer (λ e. kind_of e ≡ OutOfMemory → after ≡ before + 1)
+  pub told : IfErr answer (λ e. kind_of e ≢ OutOfMemory → after ≡ before)
+
+-- The words have no fault and are this invocation; or they have the fault that the error tells; or memory was refused.
+abbrev pub Invokes : List Text → ℕ → ℕ → Result Invocation ArgsError → Type 0
+Invokes words before after (Ok invocation) = Spells words (parts_of invocation) × (after ≡ before)
+Invokes words before after (Err (Usage e)) = IsAmong (kind_of e) (fault_of program words) × (after ≡ before)
+Invokes words before after (Err NoMemory) = after ≡ before + 1
+
+-- how often `clap` was refused memory
+abbrev pub parser_refusals : ClapParser → ℕ
+parser_refusals parser = parser.refusals

@@ -1,0 +1,63 @@
+use Rattle.std.proofs.Common.{◌≡◌, ◌<◌, ◌≤◌, ◌^◌, length, ap, refl, sym, subst, ◌∙◌, arith}
+use Rattle.std.proofs.Common.{[]}
+use Rattle.std.specs.List.{insert}
+use Rattle.std.specs.FinMap.Entries.{put}
+use Rattle.route_wire.specs.Order.{register_cmp}
+use Rattle.route_join.specs.Table.{entries_of, IsOrdered}
+use Rattle.route_join.specs.Place.{place_of}
+use Rattle.route_join.specs.Group.{told, better_place, moved, IsGroup}
+use Rattle.route_join.proofs.Places.{gapped}
+use Rattle.route_join.proofs.Edits.{inserted, ordered_put}
+use Rattle.route_join.proofs.Leaders.{winner_inserted, winner_movable}
+use Rattle.route_join.proofs.small_group.SmallGroup.insert.Goals as goal
+
+pub insert_at-requires : goal.insert_at-requires
+insert_at-requires c =
+    let p = gapped c.self.inside.updates.items c.args.update.now.register c.args.at c.self.invariant.ordered
+    (ap (λ us. place_of us c.args.update.now.register) c.self.view_is ∙ c.requires) in
+    let w : c.args.at ≤ length c.self.inside.updates.items = p.within in
+    omega arith
+
+pub moved-requires : goal.moved-requires
+moved-requires c =
+    let v = c.self.inside.updates in
+    let few : length v.items < 2 ^ 63 = omega (arith, v.ok.0, v.ok.1, v.small) in
+    winner_movable v.items (told v.items) c.self.inside.winner c.self.invariant.winner few
+
+pub better_place-self-inside-requires : goal.better_place-self-inside-requires
+better_place-self-inside-requires c =
+    let us = c.self.inside.updates.items in
+    let u = c.args.update.now in
+    let p = gapped us u.register c.args.at c.self.invariant.ordered (ap (λ x. place_of x u.register) c.self.view_is
+    ∙ c.requires) in
+    let there : c.insert_at.new.updates.items ≡ insert us c.args.at u =
+    inserted c.insert_at.new.updates.items _ _ _ c.insert_at.ensures c.if-is_err.ensures.negation in
+    subst IsOrdered (sym (c.deref.ensures.value ∙ there))
+    (ordered_put [] us (insert us c.args.at u) u c.self.invariant.ordered (p.write u refl))
+
+pub invariant_of-self-2 : goal.invariant_of-self-2
+invariant_of-self-2 c =
+    let us = c.self.inside.updates.items in
+    let u = c.args.update.now in
+    let p = gapped us u.register c.args.at c.self.invariant.ordered (ap (λ x. place_of x u.register) c.self.view_is
+    ∙ c.requires) in
+    let there : c.insert_at.new.updates.items ≡ insert us c.args.at u =
+    inserted c.insert_at.new.updates.items _ _ _ c.insert_at.ensures c.if-is_err.ensures.negation in
+    let place : c.better_place-self-inside.result ≡ better_place (insert us c.args.at u) c.args.at
+    (moved c.args.at c.self.inside.winner) =
+    c.better_place-self-inside.ensures ∙ ap (λ x. better_place x c.args.at c.moved.result) (c.deref.ensures.value
+    ∙ there) ∙ ap (better_place (insert us c.args.at u) c.args.at) c.moved.ensures in
+    subst (λ x. IsGroup x c.better_place-self-inside.result) (sym there)
+    (subst (IsGroup (insert us c.args.at u)) (sym place) record {
+      ordered = ordered_put [] us (insert us c.args.at u) u c.self.invariant.ordered (p.write u refl);
+      winner = winner_inserted us c.args.at u c.self.inside.winner p c.self.invariant.winner;
+    })
+
+pub returns-clause-ok : goal.returns-clause-ok
+returns-clause-ok c =
+    let us = c.self.inside.updates.items in
+    let u = c.args.update.now in
+    let p = gapped us u.register c.args.at c.self.invariant.ordered (ap (λ x. place_of x u.register) c.self.view_is
+    ∙ c.requires) in
+    ap entries_of (inserted c.insert_at.new.updates.items _ _ _ c.insert_at.ensures c.if-is_err.ensures.negation)
+    ∙ p.write u refl ∙ ap (λ x. put register_cmp u.register u.value (entries_of x)) c.self.view_is

@@ -1,0 +1,272 @@
+//! A few updates of one subject in the order of their registers, and the best advert among them.
+ghost use Rattle.std.specs.Prelude.{◌≡◌, ◌≢◌, true, Some, ◌∷◌, [], ◌+◌, ◌<◌, ◌≤◌, ◌^◌, vec_len, is_ok, Ok, Err, None, IfOk, IfSome, OnOk, OnErr, MatchOption, if◌then◌else◌};
+ghost use Rattle.std.specs.List.{insert};
+ghost use Rattle.std.specs.FinMap.Entries.{find, put};
+ghost use Rattle.route_wire.specs.Order.{register_cmp};
+ghost use Rattle.route_join.specs.Table.{entries_of, IsOrdered, is_news};
+ghost use Rattle.route_join.specs.Place.{place_of};
+ghost use Rattle.route_join.specs.Subject.{subject_of};
+ghost use Rattle.route_join.specs.Group.{AreAbout, told, entries_with, added, update_among, said_at, wins_by, better_place, stays_best, moved, HasWinner, IsLeader, IsSilent};
+
+use crate::owner::{advert_in, is_better};
+use crate::place::place;
+use crate::table::Taken;
+use ether_wire::Addr;
+use route_wire::{Advert, Register, Update};
+use std::alloc::{AllocError, Global};
+use std::cmp::Ordering;
+use std::marker::Model;
+
+/// What the update at a place advertises.
+fn said_at(updates: &[Update], at: usize) -> Option<Advert>
+    ensures { result ≡ said_at updates.now at }
+{
+    let update = updates.get(at)?;
+    advert_in(&update.value().content)
+}
+
+/// Whether what one update says wins against what the other one says, told the order of their
+/// registers.
+pub(crate) fn wins(one: &Option<Advert>, other: &Option<Advert>, order: Ordering) -> bool
+    ensures { result ≡ wins_by one.now other.now order }
+{
+    match (one, other) {
+        (None, _) => false,
+        (Some(_), None) => true,
+        (Some(one), Some(other)) => is_better(one, other, order),
+    }
+}
+
+/// The winner's place, once the update at a place may win too. The order of registers is
+/// that of their places.
+#[tactic(auto, using(crate::proofs::Within::wins_alone, crate::proofs::Within::wins_at))]
+fn better_place(updates: &[Update], at: usize, winner: Option<usize>) -> Option<usize>
+    requires { IsOrdered updates.now }
+    ensures { result ≡ better_place updates.now at winner }
+{
+    let (best, order) = match winner {
+        None => (None, Ordering::Less),
+        Some(i) => (said_at(updates, i), at.cmp(&i)),
+    };
+    if wins(&said_at(updates, at), &best, order) {
+        Some(at)
+    } else {
+        winner
+    }
+}
+
+/// The place of the best advert among updates in the order of their registers.
+pub(crate) fn best_place(updates: &[Update]) -> Option<usize>
+    requires { IsOrdered updates.now }
+    ensures { HasWinner updates.now (told updates.now) result }
+{
+    let mut winner = None;
+    for at in 0..updates.len() {
+        winner = better_place(updates, at, winner);
+    }
+    winner
+}
+
+/// The originator of the winner, if there is one.
+pub(crate) fn owner_at(updates: &[Update], winner: Option<usize>) -> Option<Addr>
+    requires { HasWinner updates.now (told updates.now) winner }
+    ensures { MatchOption result (IsSilent updates.now) (IsLeader updates.now) }
+{
+    match winner {
+        None => None,
+        Some(at) => Some(updates[at].register().originator),
+    }
+}
+
+/// Whether a winner that says something else now is the best still, since it says nothing worse.
+fn stays_best(was: &Option<Advert>, now: &Option<Advert>) -> bool
+    ensures { result ≡ stays_best was.now now.now }
+{
+    match (was, now) {
+        (Some(was), Some(now)) => !is_better(was, now, Ordering::Equal),
+        _ => false,
+    }
+}
+
+/// The winner's place, once the update at a place was replaced. The winner is found anew only where
+/// it was the one replaced, and says something worse than before.
+fn winner_after(updates: &[Update], at: usize, winner: Option<usize>, stays: bool) -> Option<usize>
+    requires ordered { IsOrdered updates.now }
+    requires other { winner ≢ Some at
+        → HasWinner updates.now (told updates.now) (better_place updates.now at winner) }
+    requires same { winner ≡ Some at → stays ≡ true
+        → HasWinner updates.now (told updates.now) winner }
+    ensures { HasWinner updates.now (told updates.now) result }
+{
+    if winner != Some(at) {
+        better_place(updates, at, winner)
+    } else if stays {
+        winner
+    } else {
+        best_place(updates)
+    }
+}
+
+/// Where a winner stands once an update was inserted at a place.
+fn moved(at: usize, winner: Option<usize>) -> Option<usize>
+    requires { IfSome winner (λ i. i + 1 < 2 ^ 64) }
+    ensures { result ≡ moved at winner }
+{
+    match winner {
+        None => None,
+        Some(i) => Some(if at <= i { i + 1 } else { i }),
+    }
+}
+
+/// Inserts an update at a place. A full group grows by a sixteenth: groups are small and many, and
+/// to double each would leave a third of a large table's memory unused.
+fn insert_at(updates: &mut Vec<Update>, at: usize, update: &Update) -> Result<(), AllocError>
+    requires { at ≤ vec_len updates.old }
+    ensures { updates.new.items
+        ≡ (if is_ok result then insert updates.old.items at update.now else updates.old.items) }
+{
+    let len = updates.len();
+    if len == updates.capacity() {
+        updates.reserve_exact(len / 16 + 1)?;
+    }
+    match updates.insert(at, *update) {
+        Ok(()) => Ok(()),
+        Err(_) => Err(AllocError),
+    }
+}
+
+/// As many updates are walked through: the next ones are on their way from memory while one is
+/// compared. More of them are kept in a tree.
+const SMALL_GROUP: usize = 32;
+
+/// A few updates of one subject in the order of their registers, with the place of the best advert
+/// among them, if anything is advertised.
+#[derive(Drop)]
+pub(crate) struct SmallGroup {
+    updates: Vec<Update>,
+    winner: Option<usize>,
+}
+
+impl Model for SmallGroup {
+    ghost use Rattle.std.specs.Prelude.{List};
+    ghost use Rattle.std.specs.Coded.{codes};
+    ghost use Rattle.route_wire.specs.Fields.{Fields};
+    ghost use Rattle.route_join.specs.Group.{IsGroup};
+
+    ghost Value = { List Fields };
+
+    ghost coded = { Prim.hlevel codes };
+
+    ghost view = { λ g. g.updates.items };
+
+    ghost invariant = { λ g. IsGroup g.updates.items g.winner };
+}
+
+impl SmallGroup {
+    /// The update alone, with room for a second one.
+    pub(crate) fn new(alloc: Global, update: &Update) -> Result<Self, AllocError>
+        ensures { IfOk result (λ g. g ≡ update.now ∷ []) }
+    {
+        let mut updates = Vec::new(alloc);
+        updates.reserve_exact(2)?;
+        insert_at(&mut updates, 0, update)?;
+        let winner = best_place(&updates);
+        Ok(SmallGroup { updates, winner })
+    }
+
+    /// The updates, in the order of their registers.
+    pub(crate) fn updates(&self) -> &[Update]
+        ensures value { result.now ≡ self.now }
+        ensures ordered { IsOrdered self.now }
+    {
+        &self.updates
+    }
+
+    /// Whether they are too many to be walked through.
+    pub(crate) fn is_large(&self) -> bool {
+        self.updates.len() > SMALL_GROUP
+    }
+
+    /// The update of a register, if there is one.
+    pub(crate) fn register(&self, register: &Register) -> Option<Update>
+        requires { AreAbout (subject_of register.now.key) (entries_of self.now) }
+        ensures { result ≡ update_among self.now register.now }
+    {
+        match place(&self.updates, register) {
+            Ok(at) => Some(self.updates[at]),
+            Err(_) => None,
+        }
+    }
+
+    /// The originator of the best advert, none where nothing is advertised.
+    pub(crate) fn owner(&self) -> Option<Addr>
+        ensures { MatchOption result (IsSilent self.now) (IsLeader self.now) }
+    {
+        owner_at(&self.updates, self.winner)
+    }
+
+    /// A newer update comes to the place of its register.
+    fn replace(&mut self, at: usize, update: &Update)
+        requires { place_of self.old update.now.register ≡ Ok at }
+        ensures { entries_of self.new ≡ put register_cmp update.now.register update.now.value
+            (entries_of self.old) }
+    {
+        let was = advert_in(&self.updates[at].value().content);
+        let now = advert_in(&update.value().content);
+        let stays = stays_best(&was, &now);
+        self.updates[at] = *update;
+        self.winner = winner_after(&self.updates, at, self.winner, stays);
+    }
+
+    /// The first update of its register comes to the gap where it belongs.
+    fn insert(&mut self, at: usize, update: &Update) -> Result<(), AllocError>
+        requires { place_of self.old update.now.register ≡ Err at }
+        ensures ok { OnOk result
+            (entries_of self.new ≡ put register_cmp update.now.register update.now.value
+            (entries_of self.old)) }
+        ensures err { OnErr result (self.new ≡ self.old) }
+    {
+        if insert_at(&mut self.updates, at, update).is_err() {
+            return Err(AllocError);
+        }
+        self.winner = better_place(&self.updates, at, moved(at, self.winner));
+        Ok(())
+    }
+
+    /// Takes an update: its register has then the newer of the update and its value so far. A
+    /// register that is there already takes no memory, and a new one is one more of those held.
+    pub(crate) fn take(&mut self, held: &mut usize, update: &Update) -> Result<Taken, AllocError>
+        requires { AreAbout (subject_of update.now.register.key) (entries_of self.old) }
+        ensures taken { IfOk result
+            (λ t. t ≡ (if is_news (find register_cmp update.now.register (entries_of self.old))
+            update.now.value then Taken.Newer else Taken.Known)) }
+        ensures entries { OnOk result
+            (entries_of self.new ≡ entries_with (entries_of self.old) update.now) }
+        ensures held { OnOk result (held.new ≡ held.old + added (entries_of self.old) update.now) }
+        ensures few { held.old < 2 ^ 64 → held.new < 2 ^ 64 }
+        ensures new { OnErr result (find register_cmp update.now.register (entries_of self.old)
+            ≡ None) }
+        ensures err { OnErr result (self.new ≡ self.old) }
+        ensures err_held { OnErr result (held.new ≡ held.old) }
+    {
+        match place(&self.updates, &update.register()) {
+            Ok(at) => {
+                if !update.is_newer(&self.updates[at]) {
+                    return Ok(Taken::Known);
+                }
+                self.replace(at, update);
+                Ok(Taken::Newer)
+            }
+            Err(at) => {
+                let Some(more) = held.checked_add(1) else {
+                    return Err(AllocError);
+                };
+                if self.insert(at, update).is_err() {
+                    return Err(AllocError);
+                }
+                *held = more;
+                Ok(Taken::Newer)
+            }
+        }
+    }
+}
