@@ -185,9 +185,6 @@ def main():
     rtlib.VERDICT = WithoutWord(rtlib.VERDICT)
     rt.Crate, rt.Kept, rt.add_edits = Crate, NothingKept, add_edits
     rt.need = lambda crate: min(needs(crate), MOST_MEMORY)
-    # One job a proof: each job more reads the libraries once more, up to a minute of a processor, and other crates or edits
-    # are nearly always there to fill the other lanes.
-    os.environ.setdefault("RT_JOBS", str(max(1, min(rt.processors(), rt.free() // MOST_MEMORY))))
     with tempfile.TemporaryDirectory(prefix="gate-") as Run.folder:
         open(f"{Run.folder}/ledger", "w").close()
         status = rt.ci(anew=True)
