@@ -19,7 +19,7 @@ WITHOUT_HEAD = {
     "crates/ev_mobility/src/tests/alert.rt", "crates/ev_mobility/src/tests/moves.rt", "crates/ev_mobility/src/tests/seq.rt",
 }
 LONG_RT = {  # bpdu_wire's is the row of a table, ether_wire's are tables of digits, ev_words' texts of the program
-    "crates/bpdu_wire/src/reading.rt": 1, "crates/ether_wire/src/text.rt": 4, "crates/ev_report/src/usage.rt": 2, "crates/ev_words/src/args.rt": 5,
+    "crates/bpdu_wire/src/reading.rt": 1, "crates/ether_wire/src/text.rt": 4, "crates/ev_report/src/usage.rt": 2, "crates/ev_words/src/subcommand.rt": 5,
     "crates/evpnd_report/src/main.rt": 1, "crates/evpnd_report/src/program.rt": 1,
     "crates/rstp_net/src/laws.rt": 1,
 }

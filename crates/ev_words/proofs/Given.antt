@@ -32,10 +32,10 @@ use Rattle.clap.specs.declared.builder.action.ArgAction.TheVariants as action
 use Rattle.clap.specs.declared.error.kind.ErrorKind.TheVariants as kind
 use Rattle.clap.specs.declared.parser.matches.ValueSource.TheVariants.{CommandLine, DefaultValue}
 use Rattle.clap.proofs.WalkLemmas.{both}
-use Rattle.ev_words.specs.declared.args.Subcommand.{Subcommand}
-use Rattle.ev_words.specs.declared.args.Subcommand.TheVariants.{Report, Migrate, Check, Simulate, Play, Run, Version}
-use Rattle.ev_words.specs.declared.args.Given.{Given}
-use Rattle.ev_words.specs.declared.args.Given.TheVariants.{Originators, Config, Script, ForRun}
+use Rattle.ev_words.specs.declared.subcommand.Subcommand.{Subcommand}
+use Rattle.ev_words.specs.declared.subcommand.Subcommand.TheVariants.{Report, Migrate, Check, Simulate, Play, Run, Version}
+use Rattle.ev_words.specs.declared.subcommand.Given.{Given}
+use Rattle.ev_words.specs.declared.subcommand.Given.TheVariants.{Originators, Config, Script, ForRun}
 use Rattle.ev_words.specs.Args.{Parts, subcommands, name_of, option_name, needs_of, takes_of, with_option, with_flag}
 use Rattle.ev_words.specs.Args.{flag_of, is_flagged, subcommand_app, program, named, needed_in, given_in, invocation_in}
 

@@ -2,5 +2,7 @@
 #![tactic(auto)]
 
 mod args;
+mod subcommand;
 
-pub use args::{ArgsError, ClapParser, Invocation, Parser, Subcommand, invocation_of};
+pub use args::{ArgsError, ClapParser, Invocation, Parser, invocation_of};
+pub use subcommand::Subcommand;

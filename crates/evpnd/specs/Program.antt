@@ -4,8 +4,8 @@ use Rattle.ether_wire.specs.Ends.{End}
 use Rattle.clap.specs.Words.{fault_of}
 use Rattle.evpnd.specs.declared.program.Argv.{Argv}
 use Rattle.evpnd.specs.declared.program.Argv.TheVariants.{Words, NotText, NoMemory}
-use Rattle.ev_words.specs.declared.args.Subcommand.{Subcommand}
-use Rattle.ev_words.specs.declared.args.Subcommand.TheVariants.{Report, Migrate, Check, Simulate, Play, Run, Version}
+use Rattle.ev_words.specs.declared.subcommand.Subcommand.{Subcommand}
+use Rattle.ev_words.specs.declared.subcommand.Subcommand.TheVariants.{Report, Migrate, Check, Simulate, Play, Run, Version}
 use Rattle.ev_words.specs.Args.{Parts, program, Spells}
 use Rattle.ev_script.specs.declared.script.mode.Mode.TheVariants as mode
 use Rattle.ev_report.specs.Originators.{Text}

@@ -1,0 +1,289 @@
+//! The program's subcommands: what each is given, and what help says of it.
+ghost use Rattle.std.specs.Prelude.{◌≡◌};
+ghost use Rattle.ev_words.specs.Args.{name_of, option_name, needs_of, takes_of, flag_of, named};
+
+/// What the program can do.
+#[derive(Clone, Copy, Debug, PartialEq, Eq)]
+pub enum Subcommand {
+    /// `evpnd report --originators LIST`
+    Report,
+    /// `evpnd migrate --originators LIST`
+    Migrate,
+    /// `evpnd check --config FILE`, perhaps with `--script FILE`, with `--run`
+    Check,
+    /// `evpnd simulate --config FILE`
+    Simulate,
+    /// `evpnd play --config FILE`
+    Play,
+    /// `evpnd run --config FILE`
+    Run,
+    /// `evpnd version`
+    Version,
+}
+
+/// What a subcommand can be given.
+#[derive(Clone, Copy, Debug, PartialEq, Eq)]
+pub(crate) enum Given {
+    /// `--originators LIST`
+    Originators,
+    /// `--config FILE`
+    Config,
+    /// `--script FILE`
+    Script,
+    /// `--run`
+    ForRun,
+}
+
+impl Subcommand {
+    /// Its word.
+    pub(crate) fn name<'a>(self) -> &'a str
+        ensures { result.now ≡ name_of self }
+    {
+        match self {
+            Subcommand::Report => "report",
+            Subcommand::Migrate => "migrate",
+            Subcommand::Check => "check",
+            Subcommand::Simulate => "simulate",
+            Subcommand::Play => "play",
+            Subcommand::Run => "run",
+            Subcommand::Version => "version",
+        }
+    }
+
+    /// The option that it has to be given, if there is one.
+    pub(crate) fn needs(self) -> Option<Given>
+        ensures { result ≡ needs_of self }
+    {
+        match self {
+            Subcommand::Report | Subcommand::Migrate => Some(Given::Originators),
+            Subcommand::Check | Subcommand::Simulate | Subcommand::Play | Subcommand::Run => {
+                Some(Given::Config)
+            }
+            Subcommand::Version => None,
+        }
+    }
+
+    /// The option that it may be given besides, if there is one.
+    pub(crate) fn takes(self) -> Option<Given>
+        ensures { result ≡ takes_of self }
+    {
+        match self {
+            Subcommand::Check => Some(Given::Script),
+            _ => None,
+        }
+    }
+
+    /// The flag that it may be given, if there is one.
+    pub(crate) fn flag(self) -> Option<Given>
+        ensures { result ≡ flag_of self }
+    {
+        match self {
+            Subcommand::Check => Some(Given::ForRun),
+            _ => None,
+        }
+    }
+
+    /// What it does, in a line.
+    pub(crate) fn about<'a>(self) -> &'a str {
+        match self {
+            Subcommand::Report => "Report the table that a stream of route updates defines",
+            Subcommand::Migrate => "Write records of versions 1 and 2 anew in version 3",
+            Subcommand::Check => "Tell whether a configuration is right, or where it is wrong",
+            Subcommand::Simulate => "Run a script of events on the edges of a configuration",
+            Subcommand::Play => "Simulate, and print each command before what becomes of it",
+            Subcommand::Run => "Carry frames: run the edges of a configuration over UDP sockets",
+            Subcommand::Version => "Print the version",
+        }
+    }
+
+    /// What it reads and prints, its statuses, and an example.
+    pub(crate) fn help<'a>(self) -> &'a str {
+        match self {
+            Subcommand::Report => {
+                "\
+Reads update records on standard input, up to its end or to the first fault. Then standard output
+has the report of the records that were taken: a line for each register, and each MAC's owner.
+Standard error has a line for each record that wasn't taken, and one for what broke the stream off.
+
+Status, the greatest that applies:
+  0  the input was read to its end
+  1  it shows a fault, or ends within a record
+  2  the words are wrong, or ask for help: nothing is read
+  3  memory was refused
+  4  reading or writing failed
+
+Example:
+  evpnd report --originators 10.0.0.1,10.0.0.2 < records"
+            }
+            Subcommand::Migrate => {
+                "\
+Reads update records of versions 1 and 2 on standard input, up to its end or to the first fault.
+Then standard output has records of version 3, in which the IP address is a part of the key: what each
+edge said last of each MAC, and a withdrawal for each address that it replaced; none where reading
+failed or memory was refused. Standard error has a line for each record that wasn't taken, and one
+for what broke the stream off.
+
+Status, the greatest that applies:
+  0  the input was read to its end
+  1  it shows a fault, or ends within a record
+  2  the words are wrong, or ask for help: nothing is read
+  3  memory was refused
+  4  reading or writing failed
+
+Example:
+  evpnd migrate --originators 10.0.0.1,10.0.0.2 < old > new"
+            }
+            Subcommand::Check => {
+                "\
+Reads the configuration in FILE, as docs/configuration.md describes it; standard input isn't read.
+If it is right, standard output has how many edges, ports and VNIs it has. Else standard error has
+where its first fault is, what stands there and what is allowed.
+
+With --run it is checked whether it can be run: each port needs `local` and `remote`, and no two
+sockets may hinder each other. Standard error has what hinders a run. If nothing does, standard
+output has how many threads and sockets it takes, and about how much memory.
+
+Where it is right and --script names a script, that is read too, and nothing of it is run. Standard
+error has a line for each of its lines that `simulate` would refuse: FILE:LINE: and why. If there is
+none, standard output has how many lines it has.
+
+Status, the greatest that applies:
+  0  the configuration is right, or right for a run, and so is the script
+  1  a line of the script is no command
+  2  the configuration has a fault, or can't be run; or the words are wrong, or ask for help
+  3  memory was refused
+  4  a FILE can't be read, or writing failed
+
+Example:
+  evpnd check --config fabric.toml
+  evpnd check --config fabric.toml --run
+  evpnd check --config fabric.toml --script story"
+            }
+            Subcommand::Simulate => {
+                "\
+Opens the edges that FILE configures, as docs/configuration.md describes it, reads a script on standard
+input up to its end, and runs it line by line; docs/script.md has its commands. Standard output has
+what became of each. Standard error has the number of the first line that is none, which ends the run.
+
+Status, the greatest that applies:
+  0  all lines were run
+  1  a line is no command
+  2  the configuration has a fault; or the words are wrong, or ask for help
+  3  memory was refused
+  4  FILE can't be read, or reading or writing failed
+
+Example:
+  evpnd simulate --config fabric.toml < script"
+            }
+            Subcommand::Play => {
+                "\
+Does what `simulate` does, for people: standard output has each command's line, behind `> `, before
+what becomes of it. Empty lines are skipped, and those that begin with `#`. The line `help` prints
+which lines there are. Standard error has the number of the first line that is none, which ends the
+run.
+
+Status, the greatest that applies:
+  0  all lines were run
+  1  a line is no command
+  2  the configuration has a fault; or the words are wrong, or ask for help
+  3  memory was refused
+  4  FILE can't be read, or reading or writing failed
+
+Example:
+  evpnd play --config fabric.toml < script"
+            }
+            Subcommand::Run => {
+                "\
+Runs the edges that FILE configures, as docs/configuration.md describes it; each port needs `local`
+and `remote`. Each edge takes and sends VXLAN datagrams at its address, UDP port 4789; each port takes
+frames at `local`, one a datagram, and sends them to `remote`. It ends when standard input ends, whose
+content is ignored. Then standard output has for each edge the line `edge E` and its report.
+Standard error has `lost N` where N sends failed; or which address can't be bound, and why, or which
+standard stream is closed: then no edge has begun.
+
+Status, the greatest that applies:
+  0  the edges ran until standard input ended
+  2  the configuration has a fault; or the words are wrong, or ask for help
+  3  memory or a thread was refused
+  4  FILE can't be read, an address can't be bound, a standard stream is closed, or a socket,
+     reading or writing failed
+
+Example:
+  evpnd run --config fabric.toml"
+            }
+            Subcommand::Version => {
+                "\
+Standard output has `evpnd` and the version. Nothing is read.
+
+Status, the greatest that applies:
+  0  it was written
+  2  the words are wrong, or ask for help
+  4  writing failed
+
+Example:
+  evpnd version"
+            }
+        }
+    }
+}
+
+impl Given {
+    /// The option's name.
+    pub(crate) fn name<'a>(self) -> &'a str
+        ensures { result.now ≡ option_name self }
+    {
+        match self {
+            Given::Originators => "originators",
+            Given::Config => "config",
+            Given::Script => "script",
+            Given::ForRun => "run",
+        }
+    }
+
+    /// What help calls its value.
+    pub(crate) fn value_name<'a>(self) -> &'a str {
+        match self {
+            Given::Originators => "LIST",
+            Given::Config | Given::Script => "FILE",
+            Given::ForRun => "",
+        }
+    }
+
+    /// What its value is.
+    pub(crate) fn value_help<'a>(self) -> &'a str {
+        match self {
+            Given::Originators => "1 to 64 different IPv4 addresses with commas between them",
+            Given::Config => "The path of a configuration, a TOML document",
+            Given::Script => "The path of a script, whose lines are checked too",
+            Given::ForRun => "Check what `run` needs too, and tell what it takes at its beginning",
+        }
+    }
+}
+
+/// The subcommand of this name.
+pub(crate) fn named(name: &str) -> Option<Subcommand>
+    ensures { result ≡ named name.now }
+{
+    if name == Subcommand::Report.name() {
+        return Some(Subcommand::Report);
+    }
+    if name == Subcommand::Migrate.name() {
+        return Some(Subcommand::Migrate);
+    }
+    if name == Subcommand::Check.name() {
+        return Some(Subcommand::Check);
+    }
+    if name == Subcommand::Simulate.name() {
+        return Some(Subcommand::Simulate);
+    }
+    if name == Subcommand::Play.name() {
+        return Some(Subcommand::Play);
+    }
+    if name == Subcommand::Run.name() {
+        return Some(Subcommand::Run);
+    }
+    if name == Subcommand::Version.name() {
+        return Some(Subcommand::Version);
+    }
+    None
+}
