@@ -42,6 +42,8 @@ class Run:
     proved = {}
     tests = {}
     lost = []
+    # the least memory, in MiB, and disk, in MB, that was left where a crate's check ended
+    least = None
     # the kit's own count: crates and edits
     counted = (0, 1)
 
@@ -77,6 +79,7 @@ class Crate(rt.Crate):
             return status
         started = self.out.tell()
         status = self.proof(flags)
+        look()
         self.out.seek(started)
         Run.proved[self.name] = {*re.findall(r"^fn (\S+): proved\b", self.out.read(), re.M)}
         return status
@@ -109,11 +112,11 @@ class NothingKept(rt.Kept):
 
 
 def tried_edits(crate, good, given, is_well):
-    """Tries a crate's edits over what its own proof left in the folder of this run."""
+    """Tries a crate's edits over what its own proof left in the folder of this run, and removes that: it may be a gigabyte."""
     work_for(f"{crate.name}\tedits")
-    if not is_well(given, len(good)):
-        return []
-    told = edits.try_all(crate, good, f"{Run.folder}/{crate.name}")
+    kept = f"{Run.folder}/{crate.name}"
+    told = edits.try_all(crate, good, kept) if is_well(given, len(good)) else []
+    shutil.rmtree(kept, ignore_errors=True)
     # (the kit lets an edit pass that can't be applied or read: here it fails the gate)
     told = [(rt.UNSURE if kind == rt.BAD else kind, text) for kind, text in told]
     Run.lost += [text for _, text in told if "only names that the edit took away" in text or "only because a proof file" in text]
@@ -148,6 +151,18 @@ def unproved(crates):
         wanted = functions_in(crate.folder)
         lacking += [f"{crate.name}: {it}" for it in sorted(wanted) if names[it] < wanted[it]]
     return lacking
+
+
+def look():
+    """Looks how much memory and disk is left: a check that lacks them may fail without saying so."""
+    now = rt.free() >> 20, rt.left_on_disk()
+    Run.least = tuple(map(min, now, Run.least or now))
+
+
+def print_room():
+    """Prints what there was of processors, memory and disk."""
+    memory, disk = Run.least
+    print(f"gate: {rt.processors()} processors; at least {memory} MiB of memory and {disk} MB of disk were left", flush=True)
 
 
 def print_costs():
@@ -187,10 +202,12 @@ def main():
     rt.need = lambda crate: min(needs(crate), MOST_MEMORY)
     with tempfile.TemporaryDirectory(prefix="gate-") as Run.folder:
         open(f"{Run.folder}/ledger", "w").close()
+        look()
         status = rt.ci(anew=True)
         crates = [] if status == 2 else rtlib.crates_below(os.getcwd())
         lacking = unproved(crates)
         print_costs()
+        print_room()
     for it in lacking:
         print(f"gate: no check has proved {it}")
     for it in Run.lost:
