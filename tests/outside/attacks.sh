@@ -79,7 +79,7 @@ echo "-- a station that moves between two edges until it is frozen"
 start
 probe moves 127.0.0.1:30001 127.0.0.1:20001 127.0.0.2:30001 127.0.0.2:20001 12 0.3
 sleep 0.7
-open "a frozen station is told within a second" grep -qx 'edge [12]: duplicate 5001 02:00:00:00:00:0a on port 1' "$work/notes"
+tell "a frozen station is told within a second" grep -qx 'edge [12]: duplicate 5001 02:00:00:00:00:0a on port 1' "$work/notes"
 stop > "$work/stopped"
 tell "its status is 0" [ "$status" = 0 ]
 

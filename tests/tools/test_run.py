@@ -76,21 +76,21 @@ class Cable:
         return b""
 
 
-def edge(address: str, number: int, *cables: Cable) -> str:
-    """An edge with a port for each cable."""
+def edge(address: str, number: int, *cables: Cable, keys: str = "") -> str:
+    """An edge with a port for each cable, and these keys."""
     ports = "".join(f"[[edge.port]]\nvni = {VNI}\nadmin_edge = true\n{it.keys()}" for it in cables)
-    return f'[[edge]]\naddress = "{address}"\nbridge = "02:aa:00:00:00:0{number}"\nvnis = [{VNI}]\n{ports}'
+    return f'[[edge]]\naddress = "{address}"\nbridge = "02:aa:00:00:00:0{number}"\nvnis = [{VNI}]\n{keys}{ports}'
 
 
 class Running:
     """The program on a configuration, until `end`."""
 
-    def __init__(self, text: str) -> None:
+    def __init__(self, text: str, notes: int = subprocess.PIPE) -> None:
         self.folder = tempfile.TemporaryDirectory()
         path = os.path.join(self.folder.name, "edges.toml")
         with open(path, "w", encoding="utf-8") as it:
             it.write(text)
-        pipes = {"stdin": subprocess.PIPE, "stdout": subprocess.PIPE, "stderr": subprocess.PIPE}
+        pipes = {"stdin": subprocess.PIPE, "stdout": subprocess.PIPE, "stderr": notes}
         self.program = subprocess.Popen([PROGRAM, "run", "--config", path], **pipes)
 
     def resident(self) -> int:
@@ -98,10 +98,12 @@ class Running:
         with open(f"/proc/{self.program.pid}/status", encoding="ascii") as it:
             return next(int(line.split()[1]) for line in it if line.startswith("VmRSS:"))
 
-    def note(self, seconds: float) -> str:
-        """What it notes first within this time while it runs, nothing if that is nothing."""
-        notes = self.program.stderr.fileno()
-        return os.read(notes, 65535).decode() if select.select([notes], [], [], seconds)[0] else ""
+    def note(self, seconds: float, lines: int = 1) -> str:
+        """The next lines that it notes while it runs: as many as these, or fewer where no further one comes within this time."""
+        notes, text = self.program.stderr.fileno(), b""
+        while text.count(b"\n") < lines and select.select([notes], [], [], seconds)[0]:
+            text += os.read(notes, 65535)
+        return text.decode()
 
     def end(self) -> tuple:
         """Its status, its report and its notes when its input has ended."""
@@ -130,16 +132,18 @@ def learnt(number: int, address: str, counter: int) -> str:
     return f"mac {VNI} 02:00:00:00:00:0{number} {address} {counter} dynamic 0\nowner {VNI} 02:00:00:00:00:0{number} {address}\n"
 
 
-@needs_program
-class TwoEdges(unittest.TestCase):
-    """Two edges, one cable each."""
+class TwoCables(unittest.TestCase):
+    """Two cables, and a run that they belong to."""
 
     def setUp(self) -> None:
         self.one, self.two = Cable(), Cable()
-        self.running = Running(edge(ONE, 1, self.one) + edge(TWO, 2, self.two))
-        self.addCleanup(self.running.kill)
         self.addCleanup(self.one.here.close)
         self.addCleanup(self.two.here.close)
+
+    def begin(self, text: str, notes: int = subprocess.PIPE) -> None:
+        """Runs these edges."""
+        self.running = Running(text, notes)
+        self.addCleanup(self.running.kill)
 
     def is_carried(self, source: Cable, to: Cable, octets: bytes) -> None:
         """A frame comes out at another cable as it was, perhaps behind others; sent again while the edges aren't ready."""
@@ -153,6 +157,15 @@ class TwoEdges(unittest.TestCase):
         self.assertEqual(came, octets)
         while to.receive(0.1):
             pass
+
+
+@needs_program
+class TwoEdges(TwoCables):
+    """Two edges, one cable each."""
+
+    def setUp(self) -> None:
+        super().setUp()
+        self.begin(edge(ONE, 1, self.one) + edge(TWO, 2, self.two))
 
     def test_station_is_answered(self) -> None:
         """A broadcast goes over the tunnel, the answer comes back to its sender, and both edges say the same of them."""
@@ -261,6 +274,72 @@ class TwoEdges(unittest.TestCase):
         status, report, notes = self.running.end()
         self.assertEqual((status, notes), (0, ""))
         self.assertEqual(report, reports(FLOODS + learnt(1, ONE, 2) + learnt(2, TWO, 2)))
+
+
+@needs_program
+class FullTable(TwoCables):
+    """One edge with two ports, which may learn one station: whatever another one sends is an alert, and goes on nevertheless."""
+
+    def fill(self, notes: int = subprocess.PIPE) -> None:
+        """Runs the edge, and lets it learn station 1."""
+        self.begin(edge(ONE, 1, self.one, self.two, keys="capacity = 1\n"), notes)
+        self.is_carried(self.one, self.two, frame(BROADCAST, station(1), b"first"))
+
+    def speak(self, *numbers: int) -> None:
+        """A broadcast of each of these stations, which comes out once."""
+        frames = [frame(BROADCAST, station(number), b"turn %d" % turn) for turn, number in enumerate(numbers)]
+        for octets in frames:
+            self.one.send(octets)
+        self.assertEqual([self.two.receive() for _ in frames], frames)
+        self.assertEqual(self.two.receive(0.1), b"")
+
+    def line(self, number: int) -> str:
+        """What is told of a station for which there is no place."""
+        return f"edge 1: learning table full {VNI} 02:00:00:00:00:{number:02x} on port 1\n"
+
+    def test_repeated_alert_is_held_back(self) -> None:
+        """An alert of the same kind and station is told once, and before the next one, or at the end, how many more there were."""
+        self.fill()
+        self.speak(2, 2, 2)
+        self.assertEqual(self.running.note(5), self.line(2))
+        self.speak(2, 3, 2)
+        self.assertEqual(self.running.note(5, 2), "edge 1: 3 more alerts were held back\n" + self.line(3))
+        status, report, rest = self.running.end()
+        self.assertEqual((status, rest), (0, "edge 1: 1 more alerts were held back\n"))
+        self.assertEqual(report, f"edge 1\nflood {VNI} {ONE} 1 up\n" + learnt(1, ONE, 2))
+
+    def test_sixteen_stations_are_told(self) -> None:
+        """Of 20 stations 16 are told at once, and at the end how many more there were."""
+        self.fill()
+        self.speak(*range(2, 22))
+        self.assertEqual(self.running.note(5, 16), "".join(self.line(number) for number in range(2, 18)))
+        self.assertEqual(self.running.note(0.5), "")
+        status, _, rest = self.running.end()
+        self.assertEqual((status, rest), (0, "edge 1: 4 more alerts were held back\n"))
+
+    def test_standard_error_that_nobody_reads(self) -> None:
+        """Frames go on meanwhile; once it is read what waits is told, and the run comes to its end."""
+        notes, full = os.pipe()
+        self.addCleanup(os.close, notes)
+        os.set_blocking(full, False)
+        filled = 0
+        while select.select([], [full], [], 0)[1]:
+            filled += os.write(full, bytes(4096))
+        os.set_blocking(full, True)
+        self.fill(full)
+        os.close(full)
+        self.speak(2, 2, 3, 2)
+        self.running.program.stdin.close()
+        time.sleep(3)
+        self.assertIsNone(self.running.program.poll())
+        told = b""
+        while octets := os.read(notes, 65535):
+            told += octets
+        self.assertEqual(told[filled:].decode(), self.line(2) + "edge 1: 1 more alerts were held back\n" + self.line(3)
+                         + "edge 1: 1 more alerts were held back\n")
+        self.assertEqual(self.running.program.wait(20), 0)
+        self.assertEqual(self.running.program.stdout.read().decode(), f"edge 1\nflood {VNI} {ONE} 1 up\n" + learnt(1, ONE, 2))
+        self.running.program.stdout.close()
 
 
 @needs_program
