@@ -13,7 +13,7 @@ use Rattle.route_join.specs.Subject.{Subject, subject_of}
 use Rattle.route_join.specs.Table.{IsOrdered, entries_of, table_from}
 use Rattle.route_join.specs.Report.{register_line, owner_line, goes_on, after_register, lines_of, owner_among}
 use Rattle.route_join.specs.Report.{report_lines, report_of}
-use Rattle.route_join.specs.Lines.{register_lines, group_lines}
+use Rattle.route_join.specs.Lines.{subject_text, HaveText, register_lines, group_lines}
 use Rattle.route_join.specs.Group.{AreAbout, IsSome, IsSilent, IsLeader, IsBefore, AreGroups, IsGrouped, updates_in}
 use Rattle.route_join.proofs.Edits.{listed_as}
 use Rattle.route_join.proofs.Groupings.{Groups, Entries, entries_in, entries_in_all}
@@ -22,6 +22,10 @@ use Rattle.route_join.proofs.Holding.{differs, owner_in}
 use Rattle.route_join.proofs.Stations.{NoneAbout, none_append, none_apart, none_behind, best_between}
 
 -- ---- the lines of one group
+
+pub have_text : (s : Subject) (es : Entries) → AreAbout s es → HaveText (subject_text s) es
+have_text s [] k = tt
+have_text s (e ∷ es) k = (ap subject_text k.0, have_text s es k.1)
 
 module _ (f : ℕ → ℕ → Option ℕ) where
   -- no owner is told behind a register of a flood list

@@ -1,11 +1,25 @@
 -- A report as it is written: group by group, in each the registers' lines and behind them the owner's.
-use Rattle.std.specs.Prelude.{ℕ, List, [], ◌∷◌, ◌++◌}
+use Rattle.std.specs.Prelude.{◌≡◌, ℕ, List, [], ◌∷◌, ◌++◌, decimal, Option, Some, None}
 use Rattle.route_wire.specs.declared.update.Register.{Register}
 use Rattle.route_wire.specs.declared.update.Value.{Value}
 use Rattle.route_wire.specs.Fields.{Fields}
-use Rattle.route_join.specs.Subject.{Subject}
+use Rattle.route_join.specs.Subject.{Subject, subject_of}
 use Rattle.route_join.specs.Table.{entries_of}
-use Rattle.route_join.specs.Report.{register_line, report_lines}
+use Rattle.route_join.specs.Report.{station_text, register_line, report_lines}
+
+-- a network, and the address in it
+abbrev pub place_text : ℕ → Option ℕ → List ℕ
+place_text vni None = decimal vni
+place_text vni (Some mac) = station_text vni mac
+
+-- what each line of a subject's group says of the subject
+abbrev pub subject_text : Subject → List ℕ
+subject_text s = place_text s.vni s.mac
+
+-- each of these registers has a subject with this text
+abbrev pub HaveText : List ℕ → List (Register × Value) → Type 0
+HaveText text [] = Unit {0}
+HaveText text (e ∷ es) = (subject_text (subject_of e.0.key) ≡ text) × HaveText text es
 
 -- the registers' lines alone
 abbrev pub register_lines : List (Register × Value) → List ℕ

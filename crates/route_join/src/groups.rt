@@ -15,7 +15,7 @@ ghost use Rattle.route_join.specs.Report.{report_lines};
 ghost use Rattle.route_join.specs.Lines.{group_lines};
 
 use crate::group::Group;
-use crate::report::{put_owner, put_updates};
+use crate::report::{put_owner, put_updates, subject_text};
 use crate::salt::Salted;
 use crate::subject::{Subject, subject_of};
 use crate::table::Taken;
@@ -176,10 +176,12 @@ fn put_group<O: Out>(out: &mut O, subject: &Subject, group: &Group) -> Result<()
     requires some { IsSome (entries_of group.now) }
     ensures { Puts (O.end out.old) (O.end out.new) (report_lines (entries_of group.now)) result }
 {
-    put_updates(out, group.updates())?;
+    let characters = subject_text(subject);
+    let text = characters.as_slice();
+    put_updates(out, text, group.updates())?;
     match subject.mac() {
         None => Ok(()),
-        Some(mac) => put_owner(out, subject.vni(), mac, group.owner()),
+        Some(_) => put_owner(out, text, group.owner()),
     }
 }
 

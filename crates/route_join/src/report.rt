@@ -4,11 +4,14 @@ ghost use Rattle.ether_wire.specs.Ends.{IsOpen, Puts};
 ghost use Rattle.route_wire.specs.Order.{label2_of};
 ghost use Rattle.route_wire.specs.Text.{groups_text, addr6_text, ip_text, ip_words};
 ghost use Rattle.route_join.specs.Table.{entries_of};
-ghost use Rattle.route_join.specs.Lines.{register_lines};
-ghost use Rattle.route_join.specs.Report.{spaced, counter_text, flood_state, mac_state, label2_words, station_text, origin_text, mac_words, flood_line, mac_line, register_line, owner_name, owner_line};
+ghost use Rattle.route_join.specs.Subject.{subject_of};
+ghost use Rattle.route_join.specs.Lines.{subject_text, register_lines, HaveText};
+ghost use Rattle.route_join.specs.Report.{spaced, counter_text, flood_state, mac_state, label2_words, origin_text, mac_words, register_line, owner_name};
 
+use crate::subject::Subject;
 use crate::updates::UpdatesOf;
-use ether_wire::{Addr, Device, Mac, Out, Vni, put_addr, put_decimal, put_hex_group, put_mac};
+use arrayvec::ArrayVec;
+use ether_wire::{Addr, Device, Out, Vni, mac_characters, put_addr, put_decimal, put_hex_group};
 use route_wire::{Addr6, Advert, Content, Ip, Key, Register, Update, Value};
 
 /// Writes four groups of four hexadecimal digits with colons.
@@ -79,15 +82,19 @@ fn put_label2_words<O: Out>(out: &mut O, label2: Option<Vni>) -> Result<(), Devi
     }
 }
 
-/// Writes a network and a MAC address in it.
-#[tactic(auto, using(ether_wire::proofs::Appending::with_text_twice))]
-fn put_station<O: Out>(out: &mut O, vni: Vni, mac: Mac) -> Result<(), Device>
-    requires { IsOpen (O.end out.old) }
-    ensures { Puts (O.end out.old) (O.end out.new) (station_text vni mac) result }
+/// The text of a subject, which each line of its group has. Ten digits at most are of the network,
+/// and 18 characters behind them of the address.
+pub(crate) fn subject_text(subject: &Subject) -> ArrayVec<u8, 28>
+    ensures { result.items ≡ subject_text subject.now }
 {
-    put_decimal(out, u64::from(vni.number()))?;
-    out.put(b" ")?;
-    put_mac(out, mac)
+    let mut text = ArrayVec::new();
+    let mut buffer = itoa::Buffer::new();
+    let _ = text.try_extend_from_slice(buffer.format(subject.vni().number()).as_bytes());
+    if let Some(mac) = subject.mac() {
+        let _ = text.try_extend_from_slice(b" ");
+        let _ = text.try_extend_from_slice(&mac_characters(mac));
+    }
+    text
 }
 
 /// Writes a counter, behind its incarnation where that isn't 0.
@@ -168,57 +175,60 @@ fn put_mac_words<O: Out>(out: &mut O, ip: Option<Ip>, content: &Content) -> Resu
     put_label2_words(out, label2(content))
 }
 
-/// Writes the line of a flood list.
+/// Writes the line of a flood list, whose subject has this text.
 #[tactic(auto, using(ether_wire::proofs::Appending::with_text_twice))]
 fn put_flood_line<O: Out>(
     out: &mut O,
-    vni: Vni,
+    subject: &[u8],
     originator: Addr,
     value: &Value,
 ) -> Result<(), Device>
     requires { IsOpen (O.end out.old) }
-    ensures { Puts (O.end out.old) (O.end out.new) (flood_line vni originator value.now) result }
+    ensures { Puts (O.end out.old) (O.end out.new)
+        (codes "flood " ++ subject.now ++ spaced (origin_text originator value.now)
+        ++ spaced (flood_state value.now.content) ++ codes "\n") result }
 {
     out.put(b"flood ")?;
-    put_decimal(out, u64::from(vni.number()))?;
+    out.put(subject)?;
     put_origin(out, originator, value)?;
     out.put(b" ")?;
     put_flood_state(out, &value.content)?;
     out.put(b"\n")
 }
 
-/// Writes the line of a MAC address.
+/// Writes the line of a MAC address, whose subject has this text.
 #[tactic(auto, using(ether_wire::proofs::Appending::with_text_twice))]
 fn put_mac_line<O: Out>(
     out: &mut O,
-    vni: Vni,
-    mac: Mac,
+    subject: &[u8],
     ip: Option<Ip>,
     originator: Addr,
     value: &Value,
 ) -> Result<(), Device>
     requires { IsOpen (O.end out.old) }
     ensures { Puts (O.end out.old) (O.end out.new)
-        (mac_line vni mac ip originator value.now) result }
+        (codes "mac " ++ subject.now ++ spaced (origin_text originator value.now)
+        ++ mac_words ip value.now.content ++ codes "\n") result }
 {
     out.put(b"mac ")?;
-    put_station(out, vni, mac)?;
+    out.put(subject)?;
     put_origin(out, originator, value)?;
     put_mac_words(out, ip, &value.content)?;
     out.put(b"\n")
 }
 
-/// Writes the line of a register.
-pub(crate) fn put_update<O: Out>(out: &mut O, update: &Update) -> Result<(), Device>
-    requires { IsOpen (O.end out.old) }
+/// Writes the line of a register, whose subject has this text.
+pub(crate) fn put_update<O: Out>(out: &mut O, subject: &[u8], update: &Update) -> Result<(), Device>
+    requires room { IsOpen (O.end out.old) }
+    requires text { subject_text (subject_of update.now.register.key) ≡ subject.now }
     ensures { Puts (O.end out.old) (O.end out.new)
         (register_line update.now.register update.now.value) result }
 {
     let Register { originator, key } = update.register();
     let value = update.value();
     match key {
-        Key::Flood(vni) => put_flood_line(out, vni, originator, &value),
-        Key::Mac(vni, mac, ip) => put_mac_line(out, vni, mac, ip, originator, &value),
+        Key::Flood(_) => put_flood_line(out, subject, originator, &value),
+        Key::Mac(_, _, ip) => put_mac_line(out, subject, ip, originator, &value),
     }
 }
 
@@ -233,33 +243,38 @@ fn put_owner_name<O: Out>(out: &mut O, owner: Option<Addr>) -> Result<(), Device
     }
 }
 
-/// Writes the line of the owner of a MAC address.
+/// Writes the line of the owner of a MAC address, whose subject has this text.
 #[tactic(auto, using(ether_wire::proofs::Appending::with_text_twice))]
 pub(crate) fn put_owner<O: Out>(
     out: &mut O,
-    vni: Vni,
-    mac: Mac,
+    subject: &[u8],
     owner: Option<Addr>,
 ) -> Result<(), Device>
     requires { IsOpen (O.end out.old) }
-    ensures { Puts (O.end out.old) (O.end out.new) (owner_line vni mac owner) result }
+    ensures { Puts (O.end out.old) (O.end out.new)
+        (codes "owner " ++ subject.now ++ spaced (owner_name owner) ++ codes "\n") result }
 {
     out.put(b"owner ")?;
-    put_station(out, vni, mac)?;
+    out.put(subject)?;
     out.put(b" ")?;
     put_owner_name(out, owner)?;
     out.put(b"\n")
 }
 
-/// Writes the lines of updates, one after the other.
+/// Writes the lines of updates of one subject, which has this text, one after the other.
 #[tactic(auto, using(ether_wire::proofs::Appending::with_text_twice, ether_wire::proofs::Appending::with_text_none))]
-pub(crate) fn put_updates<O: Out>(out: &mut O, updates: UpdatesOf<'_>) -> Result<(), Device>
-    requires { IsOpen (O.end out.old) }
+pub(crate) fn put_updates<O: Out>(
+    out: &mut O,
+    subject: &[u8],
+    updates: UpdatesOf<'_>,
+) -> Result<(), Device>
+    requires room { IsOpen (O.end out.old) }
+    requires text { HaveText subject.now (entries_of updates) }
     ensures { Puts (O.end out.old) (O.end out.new)
         (register_lines (entries_of updates.entry)) result }
 {
     for update in updates {
-        put_update(out, &update)?;
+        put_update(out, subject, &update)?;
     }
     Ok(())
 }

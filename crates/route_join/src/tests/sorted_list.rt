@@ -4,7 +4,8 @@ ghost use Rattle.std.specs.Prelude.{◌≤◌, length};
 
 use crate::Table;
 use crate::owner::advert_in;
-use crate::report::{put_owner, put_update};
+use crate::report::{put_owner, put_update, subject_text};
+use crate::subject::{Subject, subject_of};
 use arrayvec::ArrayVec;
 use ether_wire::{Addr, Mac, Out, Page, Vni};
 use route_wire::{Advert, Content, Key, Register, Update};
@@ -129,14 +130,25 @@ impl Plain {
         };
         let (vni, mac) = (*vni, *mac);
         if page.failures() == 0 && self.ends_at(at, vni, mac) {
-            let _ = put_owner(page, vni, mac, self.owner(vni, mac));
+            let _ = put_owner(
+                page,
+                &subject_text(&Subject::address(vni, mac)),
+                self.owner(vni, mac),
+            );
         }
     }
 
     fn report(&self) -> Page<16384> {
         let mut page = Page::new();
         for (at, update) in self.updates.iter().enumerate() {
-            if page.failures() == 0 && put_update(&mut page, update).is_ok() {
+            if page.failures() == 0
+                && put_update(
+                    &mut page,
+                    &subject_text(&subject_of(&update.register().key)),
+                    update,
+                )
+                .is_ok()
+            {
                 self.put_after(&mut page, at, &update.register().key);
             }
         }

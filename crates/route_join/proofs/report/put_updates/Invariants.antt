@@ -1,7 +1,7 @@
 use Rattle.std.proofs.Common.{◌≡◌}
 use Rattle.ether_wire.specs.Ends.{with_text}
 use Rattle.route_join.specs.Table.{entries_of}
-use Rattle.route_join.specs.Lines.{register_lines}
+use Rattle.route_join.specs.Lines.{register_lines, HaveText}
 use Rattle.route_join.proofs.report.put_updates.Given as goal
 
 -- what is left to write makes the whole of what was written
@@ -9,5 +9,6 @@ abbrev pub invariant-loop-update : goal.invariant-loop-update
 invariant-loop-update g l = record {
   whole : with_text (g.O.Out.end l.initial.out) (register_lines (entries_of l.fn.updates))
       ≡ with_text (g.O.Out.end l.out) (register_lines (entries_of l.update-iterator));
+  text : HaveText l.subject (entries_of l.update-iterator);
   failed : (g.O.Out.end l.out).failures ≡ (g.O.Out.end l.initial.out).failures;
 }
