@@ -162,6 +162,20 @@ impl LocalRoutes {
         self.learned.look(station)
     }
 
+    /// The VNI of each port, port 1 first.
+    pub fn ports(&self) -> &[Vni]
+        ensures { result.now ≡ self.now.ports }
+    {
+        self.ports.as_slice()
+    }
+
+    /// The VNIs that the edge serves, on a port or on none.
+    pub fn vnis(&self) -> &[Vni]
+        ensures { result.now ≡ self.now.vnis }
+    {
+        self.vnis.as_slice()
+    }
+
     /// The VNI of a port, if there is such a port.
     pub fn vni_of(&self, port: u8) -> Option<Vni>
         ensures { result ≡ vni_at self.now.ports port }
@@ -367,6 +381,13 @@ impl LocalRoutes {
         ensures { result ≡ is_some (slice_get self.now.speaker.pending 0) }
     {
         self.speaker.has_pending()
+    }
+
+    /// How many own registers wait to be announced.
+    pub fn pending(&self) -> usize
+        ensures { result ≡ length self.now.speaker.pending }
+    {
+        self.speaker.pending()
     }
 
     /// The present update of the own register that waits longest to be announced; it waits no more.

@@ -101,6 +101,13 @@ impl Pending {
         self.registers.as_slice().len()
     }
 
+    /// How many registers wait.
+    pub fn waiting(&self) -> usize
+        ensures { result ≡ length self.now.waiting }
+    {
+        self.links.len(0, 0)
+    }
+
     /// A register that has a node, by its node.
     pub fn register(&self, node: usize) -> Option<Register>
         ensures { result ≡ slice_get self.now.known node }

@@ -316,6 +316,13 @@ impl Speaker {
         self.pending.first().is_some()
     }
 
+    /// How many registers wait to be announced.
+    pub fn pending(&self) -> usize
+        ensures { result ≡ length self.now.pending }
+    {
+        self.pending.waiting()
+    }
+
     /// The present update of the register that waits longest, which waits no more.
     pub fn announce(&mut self) -> Option<Update>
         ensures update { result ≡ announced self.old }

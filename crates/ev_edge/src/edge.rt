@@ -3,6 +3,8 @@ ghost use Rattle.ether_wire.specs.Ends.{IsOpen, Puts};
 ghost use Rattle.route_join.specs.Report.{report_of};
 ghost use Rattle.ev_claims.specs.Speaker.{IsOwnAt, IsNoOwnAt};
 ghost use Rattle.ev_claims.specs.LocalRoutes.{entries};
+ghost use Rattle.std.specs.FinMap.{get};
+ghost use Rattle.ev_mobility.specs.Window.{is_frozen};
 ghost use Rattle.ev_edge.specs.Config.{IsConfig};
 ghost use Rattle.ev_edge.specs.Edge.{IsGoodEdge, table_of};
 ghost use Rattle.ev_edge.specs.Opening.{IsOpening};
@@ -15,6 +17,7 @@ use crate::reply::Reply;
 use ether_wire::{Device, NO_PORTS, Out};
 use ev_claims::{LocalRoutes, Start};
 use ev_mobility::Moves;
+use mac_arena::Station;
 use route_join::Table;
 use route_wire::Update;
 use rstp_run::bridge::{Bridge, BridgeConfig};
@@ -167,6 +170,27 @@ impl Edge {
         ensures { Puts (W.end out.old) (W.end out.new) (report_of (table_of self.now)) result }
     {
         self.table().write_report(out)
+    }
+
+    /// What the edge originates and has learnt.
+    pub fn routes(&self) -> &LocalRoutes
+        ensures { result.now ≡ self.now.routes }
+    {
+        &self.routes
+    }
+
+    /// How many seconds the edge has been open.
+    pub fn clock(&self) -> u64
+        ensures { result ≡ self.now.clock }
+    {
+        self.clock
+    }
+
+    /// Whether a station is frozen for moving too often.
+    pub fn is_frozen(&self, station: &Station) -> bool
+        ensures { result ≡ is_frozen (get self.now.windows station.now) }
+    {
+        self.moves.frozen(station)
     }
 
     /// The edge's bridge.
