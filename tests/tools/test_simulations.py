@@ -209,14 +209,22 @@ GOOD = [
 # the lines that docs/script.md has, one a line
 HELP = lines(
     "E up P", "E down P", "E mcheck P", "E second N", "E frame P HEX", "E tunnel ADDR HEX", "E pin VNI MAC P", "E unpin VNI MAC",
-    "E thaw VNI MAC", "E announce", "E deliver K", "E restart N", "E port P", "E report", "help",
+    "E thaw VNI MAC", "E announce", "E deliver K", "E restart N", "E port P", "E report", "edges", "help",
 )
 
+# an edge of three ports and three networks, one of which no port is of
+THREE_PORTS = (
+    '[[edge]]\naddress = "10.0.0.9"\nbridge = "02:aa:00:00:00:09"\nvnis = [5001, 70, 100]\n'
+    + "".join(f"[[edge.port]]\nvni = {vni}\n" for vni in (5001, 100, 5001))
+)
+
+EDGES = lines("1 edge 10.0.0.1 ports 1:5001 networks 5001", "2 edge 10.0.0.9 ports 1:5001,2:100,3:5001 networks 70,100,5001")
+
 # questions, which are no lines of a simulation
-QUESTIONS = ["help"]
+QUESTIONS = ["help", "edges"]
 
 # what is neither a question nor a command
-NO_QUESTIONS = ["help ", " help", "Help", "help 1", "1 help", "help\r"]
+NO_QUESTIONS = ["help ", " help", "Help", "help 1", "1 help", "help\r", "edges ", "Edges", "edge", "1 edges", "edges 1"]
 
 # name: configuration, what is played, what is printed
 PLAYED = {
@@ -224,6 +232,10 @@ PLAYED = {
     "help changes nothing": (
         ONE, "# a remark\n1 announce\nhelp\n\n1 announce\nhelp",
         "> 1 announce\n1 pool 1\n> help\n" + HELP + "> 1 announce\n1 none\n> help\n" + HELP,
+    ),
+    "edges": (
+        edge(1) + THREE_PORTS, "edges\n1 restart 5\nedges\n",
+        "> edges\n" + EDGES + "> 1 restart 5\n> edges\n" + EDGES,
     ),
 }
 

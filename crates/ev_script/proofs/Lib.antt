@@ -1,3 +1,4 @@
+pub mod Each
 pub mod Looking
 pub mod Minding
 pub mod Pairs

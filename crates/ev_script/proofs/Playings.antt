@@ -153,11 +153,11 @@ line_passed mode line e f = rw (e, f) refl
 -- its line was shown, and it was answered
 pub question_answered : (mode : Mode) (line : List ℕ) (p q : Simulator) (a b : End) (question : Question)
     → asked_in mode line ≡ Some question → Makes [] p q
-    → Tells a b p.is_told q.is_told (shown_text mode line ++ view_text question) → Answers mode line p q a b
+    → Tells a b p.is_told q.is_told (shown_text mode line ++ view_text p.fabric question) → Answers mode line p q a b
 question_answered mode line p q a b question e made told =
     λ x h. (
       made.goes,
-      subst (λ y. Tells a b p.is_told q.is_told (shown_text mode line ++ view_text y)) (same x (sym e ∙ h))
+      subst (λ y. Tells a b p.is_told q.is_told (shown_text mode line ++ view_text p.fabric y)) (same x (sym e ∙ h))
           told,
     )
   where

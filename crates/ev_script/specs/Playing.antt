@@ -39,7 +39,8 @@ PlaysLine mode line old new false = (item_of mode line ≡ None) × (new ≡ old
 -- A line that is a question was printed, and then exactly what is told of it; nothing else has changed.
 abbrev pub Answers : Mode → List ℕ → Simulator → Simulator → End → End → Type 0
 Answers mode line old new a b = (q : Question) → asked_in mode line ≡ Some q
-    → (new.fabric ≡ old.fabric) × Tells a b old.is_told new.is_told (shown_text mode line ++ view_text q)
+    → (new.fabric ≡ old.fabric) × Tells a b old.is_told new.is_told
+    (shown_text mode line ++ view_text old.fabric q)
 
 -- The steps of the lines in front of the rest were made.
 pub record Played (mode : Mode) (script rest : List ℕ) (old new : Simulator) (n : ℕ) : Type 0 where

@@ -11,7 +11,7 @@ use Rattle.ev_script.specs.declared.script.command.Verb.TheVariants.{Up, Down, M
 use Rattle.ev_script.specs.declared.script.command.Verb.TheVariants.{Unpin, Thaw, Announce, Deliver, Port, Report}
 use Rattle.ev_script.specs.declared.script.command.Verb.TheVariants.{Restart}
 use Rattle.ev_script.specs.declared.script.question.Question.{Question}
-use Rattle.ev_script.specs.declared.script.question.Question.TheVariants.{Help}
+use Rattle.ev_script.specs.declared.script.question.Question.TheVariants.{Help, Edges}
 use Rattle.ev_script.specs.declared.script.mode.Mode.{Mode}
 use Rattle.ev_script.specs.declared.script.mode.Mode.TheVariants.{Simulate, Play}
 use Rattle.ev_script.specs.declared.script.command.Command as read
@@ -214,7 +214,8 @@ skips Play line = is_remark line
 
 -- the question of a line
 abbrev pub question_of : List ℕ → Option Question
-question_of s = when (bytes_eq s (codes "help")) Help
+question_of s =
+    if bytes_eq s (codes "help") then Some Help else if bytes_eq s (codes "edges") then Some Edges else None
 
 -- the question that a line asks: there are some where a script is played
 abbrev pub asked_in : Mode → List ℕ → Option Question

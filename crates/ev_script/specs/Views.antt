@@ -1,7 +1,10 @@
 -- What is told of a question.
-use Rattle.std.specs.Prelude.{ℕ, List, ◌++◌, codes}
+use Rattle.std.specs.Prelude.{ℕ, ◌+◌, ◌==◌, if◌then◌else◌, List, [], ◌∷◌, ◌++◌, codes, decimal}
+use Rattle.ether_wire.specs.Addr.{addr_text}
+use Rattle.ev_edge.specs.Edge.{Edge, address_of}
+use Rattle.ev_fabric.specs.Fabric.{Fabric}
 use Rattle.ev_script.specs.declared.script.question.Question.{Question}
-use Rattle.ev_script.specs.declared.script.question.Question.TheVariants.{Help}
+use Rattle.ev_script.specs.declared.script.question.Question.TheVariants.{Help, Edges}
 
 -- which lines there are, one a line
 abbrev pub help_text : List ℕ
@@ -9,8 +12,42 @@ help_text =
     codes "E up P\n" ++ codes "E down P\n" ++ codes "E mcheck P\n" ++ codes "E second N\n" ++ codes "E frame P HEX\n"
     ++ codes "E tunnel ADDR HEX\n" ++ codes "E pin VNI MAC P\n" ++ codes "E unpin VNI MAC\n" ++ codes "E thaw VNI MAC\n"
     ++ codes "E announce\n" ++ codes "E deliver K\n" ++ codes "E restart N\n" ++ codes "E port P\n"
-    ++ codes "E report\n" ++ codes "help\n"
+    ++ codes "E report\n" ++ codes "edges\n" ++ codes "help\n"
 
--- what is seen then
-abbrev pub view_text : Question → List ℕ
-view_text Help = help_text
+-- the text of each, the first of which has this number
+abbrev pub each_from : {X : Type 0} → (ℕ → X → List ℕ) → ℕ → List X → List ℕ
+each_from text number [] = []
+each_from text number (one ∷ more) = text number one ++ each_from text (number + 1) more
+
+-- ---- the edges
+
+-- a comma in front of each but the first
+abbrev pub comma : ℕ → List ℕ
+comma number = if number == 1 then [] else codes ","
+
+-- `P:VNI`, a port and its network
+abbrev pub port_words : ℕ → ℕ → List ℕ
+port_words number vni = comma number ++ decimal number ++ codes ":" ++ decimal vni
+
+abbrev pub network_words : ℕ → ℕ → List ℕ
+network_words number vni = comma number ++ decimal vni
+
+-- ` ports P:VNI,.. networks VNI,..`, the end of a line
+abbrev pub served_text : List ℕ → List ℕ → List ℕ
+served_text ports vnis =
+    codes " ports " ++ each_from port_words 1 ports ++ codes " networks " ++ each_from network_words 1 vnis ++ codes "\n"
+
+-- `E edge ADDR ports P:VNI,.. networks VNI,..`
+abbrev pub edge_line : ℕ → Edge → List ℕ
+edge_line number e =
+    decimal number ++ codes " edge " ++ addr_text (address_of e) ++ served_text e.routes.ports e.routes.vnis
+
+-- one line an edge
+abbrev pub edges_text : Fabric → List ℕ
+edges_text f = each_from edge_line 1 f.edges
+
+-- ---- what is seen then, of a fabric
+
+abbrev pub view_text : Fabric → Question → List ℕ
+view_text f Help = help_text
+view_text f Edges = edges_text f

@@ -2,6 +2,7 @@
 #![tactic(auto)]
 
 mod checking;
+mod edge_view;
 mod script;
 mod simulate;
 

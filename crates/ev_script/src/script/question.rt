@@ -7,6 +7,8 @@ ghost use Rattle.ev_script.specs.Script.{question_of};
 pub(crate) enum Question {
     /// Which lines there are.
     Help,
+    /// Which edges there are.
+    Edges,
 }
 
 /// The question of a line, if it is one. It takes no memory.
@@ -15,6 +17,9 @@ pub(crate) fn question_of(line: &[u8]) -> Option<Question>
 {
     if line == b"help".as_slice() {
         return Some(Question::Help);
+    }
+    if line == b"edges".as_slice() {
+        return Some(Question::Edges);
     }
     None
 }

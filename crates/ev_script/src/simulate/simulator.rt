@@ -335,9 +335,9 @@ impl Simulator {
         requires { self.old.is_told ≡ true → IsOpen (W.end out.old) }
         ensures made { Makes [] self.old self.new }
         ensures told { Tells (W.end out.old) (W.end out.new) self.old.is_told self.new.is_told
-            (view_text question.now) }
+            (view_text self.old.fabric question.now) }
     {
-        self.is_told = self.is_told && put_view(out, question).is_ok();
+        self.is_told = self.is_told && put_view(out, &self.fabric, question).is_ok();
     }
 
     /// Prints a question's line, and what it asks for. No step is made.
@@ -345,7 +345,7 @@ impl Simulator {
         requires { self.old.is_told ≡ true → IsOpen (W.end out.old) }
         ensures made { Makes [] self.old self.new }
         ensures told { Tells (W.end out.old) (W.end out.new) self.old.is_told self.new.is_told
-            (shown_text mode line.now ++ view_text question.now) }
+            (shown_text mode line.now ++ view_text self.old.fabric question.now) }
     {
         self.show(mode, line, out);
         self.view(question, out);

@@ -18,7 +18,7 @@ returns-in-Some g c =
     let q = c.answer.new.self in
     record {
       played = line_skipped mode line p q (question_asked mode line c.in-Some.question e) c.answer.ensures.made;
-      told = tells_minds a b p.is_told q.is_told (shown_text mode line ++ view_text c.in-Some.question)
+      told = tells_minds a b p.is_told q.is_told (shown_text mode line ++ view_text p.fabric c.in-Some.question)
           c.answer.ensures.told;
       answers = question_answered mode line p q a b c.in-Some.question e c.answer.ensures.made c.answer.ensures.told;
     }
