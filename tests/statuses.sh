@@ -300,19 +300,19 @@ faulty "hello before what comes behind it" "config hello" "$named"$'\nhold = 0\n
 printf '[[edge]]\n%s\n' "$named" > "$conf"
 opened
 tell "no port" tells "config port"
-wrong "no port" "edge 1: port is missing, allowed are 1 to 64 tables"
+wrong "no port" "edge 1: port is missing, allowed are 1 to 64 tables, each written as [[edge.port]]"
 printf '[[edge]]\n%s\nport = []\n' "$named" > "$conf"
 opened
 tell "an empty array of ports" tells "config port"
-wrong "an empty array of ports" "edge 1: port is an array, allowed are 1 to 64 tables"
+wrong "an empty array of ports" "edge 1: port is an array, allowed are 1 to 64 tables, each written as [[edge.port]]"
 printf '[[edge]]\n%s\n[edge.port]\nvni = 5001\n' "$named" > "$conf"
 opened
 tell "a port that is no array" tells "config port"
-wrong "a port that is no array" "edge 1: port is a table, allowed are 1 to 64 tables"
+wrong "a port that is no array" "edge 1: port is a table, as [edge.port] writes one, allowed are 1 to 64 tables, each written as [[edge.port]]"
 printf '[[edge]]\n%s\nport = [1]\n' "$named" > "$conf"
 opened
 tell "a port that is a number" tells "config port"
-wrong "a port that is a number" "edge 1: port is an array, allowed are 1 to 64 tables"
+wrong "a port that is a number" "edge 1: port is an array, allowed are 1 to 64 tables, each written as [[edge.port]]"
 { printf '[[edge]]\n%s\n' "$named" && for _ in $(seq 64); do printf '[[edge.port]]\nvni = 5001\n'; done; } > "$conf"
 opened
 tell "64 ports" is_fine
@@ -320,15 +320,15 @@ ok "64 ports" "ok: 1 edge, 64 ports, 1 VNI"
 printf '[[edge.port]]\nvni = 5001\n' >> "$conf"
 opened
 tell "65 ports" tells "config port"
-wrong "65 ports" "edge 1: port is an array, allowed are 1 to 64 tables"
+wrong "65 ports" "edge 1: port is an array, allowed are 1 to 64 tables, each written as [[edge.port]]"
 { edge "$named" "vni = 5001" && edge "$named" "vni = 5001"; } > "$conf"
 opened
 tell "an address twice" tells "config address"
-wrong "an address twice" "edge 2: address is '10.0.0.1', allowed is an IPv4 address that no edge before has, as '10.0.0.1'"
+wrong "an address twice" "edge 2: address is '10.0.0.1', which edge 1 has, allowed is an IPv4 address that no edge before has, as '10.0.0.1'"
 { edge "$named" "vni = 5001" && edge "${named/.1\"/.2\"}" "vni = 5001"; } > "$conf"
 opened
 tell "a bridge twice" tells "config bridge"
-wrong "a bridge twice" "edge 2: bridge is '02:aa:00:00:00:01', allowed is a MAC address of one station that no edge before has, as '02:aa:00:00:00:01'"
+wrong "a bridge twice" "edge 2: bridge is '02:aa:00:00:00:01', which edge 1 has, allowed is a MAC address of one station that no edge before has, as '02:aa:00:00:00:01'"
 { edge "$named" "vni = 5001" && edge "${named//1\"/2\"}" "vni = 5001" && printf '[[edge.port]]\nvni = 5001\n[[edge.port]]\nvni = 7\n'; } > "$conf"
 opened
 tell "the third port of the second edge" tells "config vni"
@@ -338,15 +338,71 @@ wrong "a cost of the third port of the second edge" "edge 2, port 3: cost is 0, 
 sed -i '$d' "$conf"
 ok "the third port of the second edge put right" "ok: 2 edges, 4 ports, 1 VNI"
 
+# what is wrong with a value, and which key was meant
+an_address="allowed is an IPv4 address that no edge before has, as '10.0.0.1'"
+a_bridge="allowed is a MAC address of one station that no edge before has, as '02:aa:00:00:00:01'"
+a_place="allowed is an IPv4 address with a UDP port, as '127.0.0.1:5000'"
+while IFS='|' read -r address reason; do
+  edge "${named/10.0.0.1/$address}" "vni = 5001" > "$conf"
+  wrong "address $address" "edge 1: address is '$address'$reason, $an_address"
+done << 'ROWS'
+10.0.0.02|, whose octet 02 has a leading zero
+010.0.0.02|, whose octet 010 has a leading zero
+10.00.0.2|, whose octet 00 has a leading zero
+10.0.256.1|, whose octet 256 is above 255
+10.0.0.1.5|
+10.0.0|
+10.0.0.x|
+10.0..1|
+ROWS
+while IFS='|' read -r bridge reason; do
+  edge "${named/02:aa:00:00:00:01/$bridge}" "vni = 5001" > "$conf"
+  wrong "bridge $bridge" "edge 1: bridge is '$bridge'$reason, $a_bridge"
+done << 'ROWS'
+02:AA:00:00:00:01|, whose pair AA isn't in lower case
+02:aa:00:00:00:0F|, whose pair 0F isn't in lower case
+03:aa:00:00:00:01|, the address of a group
+02:xA:00:00:00:01|
+02-AA-00-00-00-01|
+ROWS
+while IFS='|' read -r place reason; do
+  edge "$named" $'vni = 5001\nlocal = "'"$place\"" > "$conf"
+  wrong "local $place" "edge 1, port 1: local is '$place'$reason, $a_place"
+done << 'ROWS'
+127.0.0.01:5|, whose octet 01 has a leading zero
+127.0.0.1:05|, whose port 05 has a leading zero
+127.0.0.1:65536|, whose port 65536 is above 65535
+127.0.0.1|
+ROWS
+printf '[edge]\n%s\n' "$named" > "$conf"
+wrong "edge that is a table" "edge is a table, as [edge] writes one, allowed are 1 to 64 tables, each written as [[edge]]"
+while IFS='|' read -r key meant; do
+  edge "$named"$'\n'"$key = 1" "vni = 5001" > "$conf"
+  wrong "the key $key of an edge" "edge 1: $key is 1, which is no key of an edge$meant"
+done << 'ROWS'
+Priority|: did you mean priority?
+holt|: did you mean hold?
+forwarddelay|: did you mean forward_delay?
+max_aging|: did you mean max_age?
+vni|: did you mean vnis?
+local|
+x|
+ROWS
+edge "$named" $'vni = 5001\ncosts = 1' > "$conf"
+wrong "the key costs of a port" "edge 1, port 1: costs is 1, which is no key of a port: did you mean cost?"
+second=${named//1\"/2\"}
+{ edge "$named" "vni = 5001" && edge "$second" "vni = 5001" && edge "${second/.2\"/.3\"}" "vni = 5001"; } > "$conf"
+wrong "the bridge of the second edge" "edge 3: bridge is '02:aa:00:00:00:02', which edge 2 has, $a_bridge"
+
 # the file
 cp "$work/empty" "$conf"
 opened
 tell "an empty configuration" tells "config edge"
-wrong "an empty configuration" "edge is missing, allowed are 1 to 64 tables"
+wrong "an empty configuration" "edge is missing, allowed are 1 to 64 tables, each written as [[edge]]"
 printf 'edge = 1\na = 1\n' > "$conf"
 opened
 tell "edge that is no array" tells "config edge"
-wrong "edge that is no array" "edge is 1, allowed are 1 to 64 tables"
+wrong "edge that is no array" "edge is 1, allowed are 1 to 64 tables, each written as [[edge]]"
 { printf 'b = 1\nB = 2\n' && edge "" "vni = 5001"; } > "$conf"
 opened
 tell "an unknown key of the file, before the edges" tells "config B"
@@ -358,7 +414,7 @@ wrong "a key of 200 characters" "$(printf '%0100d' 0) is 1, which is no key of t
 for n in $(seq 65); do printf '[[edge]]\naddress = "10.0.0.%s"\nbridge = "02:aa:00:00:00:%02x"\nvnis = [5001]\n[[edge.port]]\nvni = 5001\n' "$n" "$n"; done > "$conf"
 opened
 tell "65 edges" tells "config edge"
-wrong "65 edges" "edge is an array, allowed are 1 to 64 tables"
+wrong "65 edges" "edge is an array, allowed are 1 to 64 tables, each written as [[edge]]"
 head -n $((64 * 6)) "$conf" > "$work/64"
 mv "$work/64" "$conf"
 opened

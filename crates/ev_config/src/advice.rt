@@ -3,12 +3,18 @@ ghost use Rattle.std.specs.Prelude.{◌≡◌, OnOk};
 ghost use Rattle.ether_wire.specs.Ends.{IsOpen};
 ghost use Rattle.ether_wire.specs.Memory.{page_end};
 
+use crate::edge::EDGE_KEYS;
+use crate::edges::FILE_KEYS;
+use crate::hints::{meant, put_hint};
+use crate::keys::{addr_in, bridge_in, tables_at};
 use crate::place::{Place, place_of};
+use crate::port::PORT_KEYS;
 use crate::whole::Config;
 use ether_wire::{Device, Out, Page, Vni, put_decimal};
 use ev_edge::EdgeConfig;
 use std::alloc::Global;
 use toml::de::Error;
+use toml::value::Array;
 use toml::{Table, Value};
 
 /// Room for a line.
@@ -32,7 +38,7 @@ fn allowed_in_edge(key: &str) -> &'static str {
         "buckets" => "allowed are 1 to 65536",
         "salt" => "allowed are 0 to 9223372036854775807",
         "incarnation" => "allowed are 0 to 4294967295",
-        "port" => "allowed are 1 to 64 tables",
+        "port" => "allowed are 1 to 64 tables, each written as [[edge.port]]",
         _ => "which is no key of an edge",
     }
 }
@@ -129,7 +135,7 @@ fn table_of(place: Place<'_>) -> &Table {
 /// What may stand at a key there.
 fn allowed<'a>(place: Place<'_>, key: &str) -> &'a str {
     match place {
-        Place::File(_) if key == "edge" => "allowed are 1 to 64 tables",
+        Place::File(_) if key == "edge" => "allowed are 1 to 64 tables, each written as [[edge]]",
         Place::File(_) => "which is no key of the file",
         Place::Edge(..) => allowed_in_edge(key),
         Place::Port(..) => allowed_in_port(key),
@@ -145,46 +151,171 @@ fn absent(key: &str) -> &'static [u8] {
     }
 }
 
-/// Writes a key and what stands there.
-fn put_found(line: &mut Line, table: &Table, key: &str) -> Result<(), Device>
+/// Whether the value is what another table has at a key, spelt as it has to be.
+fn is_twin(other: &Value, key: &str, value: &Value) -> bool {
+    let Some(table) = other.as_table() else {
+        return false;
+    };
+    let Some(found) = table.get(key) else {
+        return false;
+    };
+    match key {
+        "address" => addr_in(value).is_some() && addr_in(found) == addr_in(value),
+        "bridge" => bridge_in(value).is_some() && bridge_in(found) == bridge_in(value),
+        _ => false,
+    }
+}
+
+/// The first of these edges that has the value at a key, from 1.
+fn twin_among(edges: &Array, before: usize, key: &str, value: &Value) -> Option<usize> {
+    for (at, other) in edges.iter().enumerate().take(before) {
+        if is_twin(other, key, value) {
+            return Some(at.saturating_add(1));
+        }
+    }
+    None
+}
+
+/// The first edge before the place that has the value at a key.
+fn twin_of(document: &Table, place: Place<'_>, key: &str, value: &Value) -> Option<usize> {
+    match place {
+        Place::Edge(edge, _) => {
+            let edges = tables_at(document, "edge").ok()?;
+            twin_among(edges, edge.saturating_sub(1), key, value)
+        }
+        Place::File(_) | Place::Port(..) => None,
+    }
+}
+
+/// Writes why a text is wrong, where that is known.
+fn put_text_reason(
+    line: &mut Line,
+    twin: Option<usize>,
+    key: &str,
+    text: &str,
+) -> Result<(), Device>
+    requires { IsOpen (page_end line.old) }
+    ensures { OnOk result ((page_end line.new).failures ≡ (page_end line.old).failures) }
+{
+    match twin {
+        Some(edge) => {
+            line.put(b", which edge ")?;
+            put_decimal(line, edge as u64)?;
+            line.put(b" has")
+        }
+        None => put_hint(line, key, text),
+    }
+}
+
+/// Writes why a table is wrong, where that is known.
+fn put_table_reason(line: &mut Line, place: Place<'_>, key: &str) -> Result<(), Device>
+    requires { IsOpen (page_end line.old) }
+    ensures { OnOk result ((page_end line.new).failures ≡ (page_end line.old).failures) }
+{
+    match (place, key) {
+        (Place::File(_), "edge") => line.put(b", as [edge] writes one"),
+        (Place::Edge(..), "port") => line.put(b", as [edge.port] writes one"),
+        _ => Ok(()),
+    }
+}
+
+/// Writes why a value is wrong, where that is known.
+fn put_reason(
+    line: &mut Line,
+    document: &Table,
+    place: Place<'_>,
+    key: &str,
+    value: &Value,
+) -> Result<(), Device>
+    requires { IsOpen (page_end line.old) }
+    ensures { OnOk result ((page_end line.new).failures ≡ (page_end line.old).failures) }
+{
+    match value {
+        Value::String(text) => {
+            put_text_reason(
+                line,
+                twin_of(document, place, key, value),
+                key,
+                text.as_str(),
+            )
+        }
+        Value::Table(_) => put_table_reason(line, place, key),
+        _ => Ok(()),
+    }
+}
+
+/// Writes a key, what stands there and why that is wrong, where it is known.
+fn put_found(line: &mut Line, document: &Table, place: Place<'_>, key: &str) -> Result<(), Device>
     requires { IsOpen (page_end line.old) }
     ensures { OnOk result ((page_end line.new).failures ≡ (page_end line.old).failures) }
 {
     put_shown(line, key)?;
-    match table.get(key) {
+    match table_of(place).get(key) {
         Some(value) => {
             line.put(b" is ")?;
-            put_value(line, value)
+            put_value(line, value)?;
+            put_reason(line, document, place, key, value)
         }
         None => line.put(absent(key)),
     }
 }
 
-/// Writes the end of a line: what is allowed.
-fn put_allowed(line: &mut Line, place: Place<'_>, key: &str) -> Result<(), Device>
+/// The key of such a table that was meant by another, where one is near.
+fn meant_in(alloc: Global, place: Place<'_>, key: &str) -> Option<&'static str> {
+    match place {
+        Place::File(_) => meant(alloc, &FILE_KEYS, key),
+        Place::Edge(..) => meant(alloc, &EDGE_KEYS, key),
+        Place::Port(..) => meant(alloc, &PORT_KEYS, key),
+    }
+}
+
+/// Writes which key was meant, where one that is none is near to it.
+fn put_meant(line: &mut Line, alloc: Global, place: Place<'_>, key: &str) -> Result<(), Device>
+    requires { IsOpen (page_end line.old) }
+    ensures { OnOk result ((page_end line.new).failures ≡ (page_end line.old).failures) }
+{
+    match meant_in(alloc, place, key) {
+        Some(known) if known != key => {
+            line.put(b": did you mean ")?;
+            line.put(known.as_bytes())?;
+            line.put(b"?")
+        }
+        _ => Ok(()),
+    }
+}
+
+/// Writes the end of a line: what is allowed, or which key was meant.
+fn put_allowed(line: &mut Line, alloc: Global, place: Place<'_>, key: &str) -> Result<(), Device>
     requires { IsOpen (page_end line.old) }
     ensures { OnOk result ((page_end line.new).failures ≡ (page_end line.old).failures) }
 {
     line.put(b", ")?;
     line.put(allowed(place, key).as_bytes())?;
+    put_meant(line, alloc, place, key)?;
     line.put(b"\n")
 }
 
-/// Writes where a key is faulty, what stands there and what is allowed.
-fn put_fault(line: &mut Line, for_run: bool, table: &Table, key: &str) -> Result<(), Device>
+/// Writes where a key is faulty, what stands there, why it is wrong and what is allowed.
+fn put_fault(
+    line: &mut Line,
+    alloc: Global,
+    for_run: bool,
+    document: &Table,
+    key: &str,
+) -> Result<(), Device>
     requires { IsOpen (page_end line.old) }
     ensures { OnOk result ((page_end line.new).failures ≡ (page_end line.old).failures) }
 {
-    let place = place_of(for_run, table);
+    let place = place_of(for_run, document);
     put_place(line, place)?;
-    put_found(line, table_of(place), key)?;
-    put_allowed(line, place, key)
+    put_found(line, document, place, key)?;
+    put_allowed(line, alloc, place, key)
 }
 
 /// The line that tells of a faulty key.
-pub(crate) fn fault_line(for_run: bool, table: &Table, key: &str) -> Line {
+pub(crate) fn fault_line(alloc: Global, for_run: bool, document: &Table, key: &str) -> Line {
     let mut line = Line::new();
-    let _fits = put_fault(&mut line, for_run, table, key);
+    let _fits = put_fault(&mut line, alloc, for_run, document, key);
     line
 }
 
@@ -294,7 +425,7 @@ pub(crate) fn syntax_line(text: &str, error: &Error) -> Line {
 /// if it is a document.
 pub fn refusal_line(alloc: Global, for_run: bool, text: &str, key: Option<&str>) -> Line {
     match toml::table_from_str(alloc, text) {
-        Ok(table) => fault_line(for_run, &table, key.unwrap_or("text")),
+        Ok(table) => fault_line(alloc, for_run, &table, key.unwrap_or("text")),
         Err(error) if error.is_memory() => plain_line(key),
         Err(error) => syntax_line(text, &error),
     }

@@ -6,6 +6,7 @@ mod config;
 mod edge;
 mod edges;
 mod endpoint;
+mod hints;
 mod keys;
 mod place;
 mod port;

@@ -16,7 +16,7 @@ use toml::Table;
 use toml::value::Array;
 
 /// The keys of a port's table.
-const PORT_KEYS: [&'static str; 8] = [
+pub(crate) const PORT_KEYS: [&'static str; 8] = [
     "vni",
     "cost",
     "priority",

@@ -1,0 +1,189 @@
+//! Which part of a value is wrong, and which key was meant, for people. Its words are tested, not
+//! proved.
+ghost use Rattle.std.specs.Prelude.{◌≡◌, OnOk};
+ghost use Rattle.ether_wire.specs.Ends.{IsOpen};
+ghost use Rattle.ether_wire.specs.Memory.{page_end};
+
+use crate::advice::Line;
+use ether_wire::{Device, Mac, Out, parted, put_decimal, read_decimal};
+use std::alloc::Global;
+use strsim::levenshtein;
+
+/// What is wrong with a part of a text.
+#[derive(Clone, Copy)]
+enum Flaw {
+    /// A zero stands in front of other digits.
+    LeadingZero,
+    /// The number is above this one.
+    Above(u64),
+    /// A digit is in upper case.
+    UpperCase,
+}
+
+/// A part of a text, and what is wrong with it.
+#[derive(Clone, Copy)]
+struct Hint<'a> {
+    /// What the part is called.
+    name: &'static str,
+    /// Decimal or hexadecimal digits.
+    part: &'a [u8],
+    /// What is wrong.
+    flaw: Flaw,
+}
+
+/// What is in front of the first such octet, and what behind it: nothing, where there is none.
+fn cut(octet: u8, text: &[u8]) -> (&[u8], &[u8]) {
+    match parted(octet, text) {
+        Some(parts) => parts,
+        None => text.split_at(text.len()),
+    }
+}
+
+/// What is wrong with a decimal number of at most `max`, if it has digits alone.
+fn decimal_flaw(part: &[u8], max: u64) -> Option<Flaw> {
+    if !part.iter().all(|octet| octet.is_ascii_digit()) {
+        return None;
+    }
+    match part {
+        [] => None,
+        [b'0', _, ..] => Some(Flaw::LeadingZero),
+        _ => match read_decimal(part, max) {
+            None => Some(Flaw::Above(max)),
+            Some(_) => None,
+        },
+    }
+}
+
+/// The first octet of an IPv4 address that has a flaw.
+fn addr_hint(text: &[u8]) -> Option<Hint<'_>> {
+    let mut rest = text;
+    for _octet in 0..4 {
+        let (part, more) = cut(b'.', rest);
+        if let Some(flaw) = decimal_flaw(part, 255) {
+            return Some(Hint {
+                name: "octet",
+                part,
+                flaw,
+            });
+        }
+        rest = more;
+    }
+    None
+}
+
+/// Whether they are two hexadecimal digits, one of them in upper case.
+fn is_upper_pair(pair: &[u8]) -> bool {
+    match pair {
+        [high, low] => {
+            high.is_ascii_hexdigit()
+                && low.is_ascii_hexdigit()
+                && (high.is_ascii_uppercase() || low.is_ascii_uppercase())
+        }
+        _ => false,
+    }
+}
+
+/// The first pair of digits of a MAC address that isn't in lower case.
+fn mac_hint(text: &[u8]) -> Option<Hint<'_>> {
+    let mut rest = text;
+    for _pair in 0..6 {
+        let (part, more) = cut(b':', rest);
+        if is_upper_pair(part) {
+            return Some(Hint {
+                name: "pair",
+                part,
+                flaw: Flaw::UpperCase,
+            });
+        }
+        rest = more;
+    }
+    None
+}
+
+/// What is wrong with an IPv4 address with a UDP port.
+fn endpoint_hint(text: &[u8]) -> Option<Hint<'_>> {
+    let (address, port) = cut(b':', text);
+    match addr_hint(address) {
+        Some(hint) => Some(hint),
+        None => Some(Hint {
+            name: "port",
+            part: port,
+            flaw: decimal_flaw(port, 65_535)?,
+        }),
+    }
+}
+
+/// The part of a text at this key that is known to be wrong.
+fn hint_of<'a>(key: &str, text: &'a [u8]) -> Option<Hint<'a>> {
+    match key {
+        "address" => addr_hint(text),
+        "bridge" => mac_hint(text),
+        "local" | "remote" => endpoint_hint(text),
+        _ => None,
+    }
+}
+
+/// Writes what is wrong with a part.
+fn put_flaw(line: &mut Line, flaw: Flaw) -> Result<(), Device>
+    requires { IsOpen (page_end line.old) }
+    ensures { OnOk result ((page_end line.new).failures ≡ (page_end line.old).failures) }
+{
+    match flaw {
+        Flaw::LeadingZero => line.put(b" has a leading zero"),
+        Flaw::UpperCase => line.put(b" isn't in lower case"),
+        Flaw::Above(max) => {
+            line.put(b" is above ")?;
+            put_decimal(line, max)
+        }
+    }
+}
+
+/// Writes which part of a text is wrong: `, whose octet 02 has a leading zero`.
+fn put_part(line: &mut Line, hint: Hint<'_>) -> Result<(), Device>
+    requires { IsOpen (page_end line.old) }
+    ensures { OnOk result ((page_end line.new).failures ≡ (page_end line.old).failures) }
+{
+    line.put(b", whose ")?;
+    line.put(hint.name.as_bytes())?;
+    line.put(b" ")?;
+    line.put(hint.part)?;
+    put_flaw(line, hint.flaw)
+}
+
+/// Whether the text spells a MAC address of a group.
+fn is_group(text: &[u8]) -> bool {
+    match Mac::read_text(text) {
+        Some(mac) => mac.is_group(),
+        None => false,
+    }
+}
+
+/// Writes what is wrong with a text at a key, where that is known.
+pub(crate) fn put_hint(line: &mut Line, key: &str, text: &str) -> Result<(), Device>
+    requires { IsOpen (page_end line.old) }
+    ensures { OnOk result ((page_end line.new).failures ≡ (page_end line.old).failures) }
+{
+    if key == "bridge" && is_group(text.as_bytes()) {
+        return line.put(b", the address of a group");
+    }
+    match hint_of(key, text.as_bytes()) {
+        Some(hint) => put_part(line, hint),
+        None => Ok(()),
+    }
+}
+
+/// The key that was meant by one that is none of these: the nearest by edits, where these are at
+/// most a third of its length.
+pub(crate) fn meant(alloc: Global, keys: &[&'static str], key: &str) -> Option<&'static str> {
+    let mut least = key.len() / 3 + 1;
+    let mut found = None;
+    for known in keys {
+        if let Ok(edits) = levenshtein(alloc, key, *known) {
+            if edits < least {
+                least = edits;
+                found = Some(*known);
+            }
+        }
+    }
+    found
+}
