@@ -5,6 +5,7 @@ pub mod Mailbox
 pub mod EdgeThreads
 pub mod Alarm
 pub mod Passing
+pub mod Control
 pub mod Coming
 pub mod Working
 pub mod Sending

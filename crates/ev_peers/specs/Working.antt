@@ -9,12 +9,13 @@ use Rattle.ev_book.specs.Book.{PassState}
 use Rattle.ev_peers.specs.declared.shared_edge.Ended.{Ended}
 use Rattle.ev_peers.specs.declared.shared_edge.Ended.TheVariants.{End, Device as Failed, NoMemory}
 use Rattle.ev_peers.specs.declared.mailbox.Message.{Message}
-use Rattle.ev_peers.specs.declared.mailbox.Message.TheVariants.{Record, Room}
+use Rattle.ev_peers.specs.declared.mailbox.Message.TheVariants.{Record, Room, Ask}
 use Rattle.ev_peers.specs.declared.workers.Source.{Source}
 use Rattle.ev_peers.specs.declared.workers.Source.TheVariants.{Port, Tunnel, Clock}
 use Rattle.ev_peers.specs.Giving.{Parcel, behind}
 use Rattle.ev_peers.specs.Links.{Arrival}
 use Rattle.ev_peers.specs.Passing.{Word, Announces, PassesOn}
+use Rattle.ev_peers.specs.Control.{Answers}
 use Rattle.ev_peers.specs.Coming.{DoesOne, DoesAll, DoesAllToTheEnd}
 
 -- ---- what a datagram is
@@ -77,10 +78,12 @@ pub record Handles (bridge : ℕ) (source : Source) (s : Standing) (a : Arrival)
 abbrev pub Resumes : Standing → Standing → Type 0
 Resumes s s' = Announces s.pass s.records s'.pass s'.records × (s'.parcels ≡ s.parcels)
 
--- an update of another edge is entered and passed on; where that one has room again, announcements are asked for
+-- an update of another edge is entered and passed on; where that one has room again, announcements are asked for; a
+-- request is done once, and answered
 abbrev pub Takes : ℕ → Standing → Message → Standing → Type 0
 Takes bridge s (Record u) s' = Does bridge (0, []) s (Some (events.Take u)) s'
 Takes bridge s Room s' = Resumes s s'
+Takes bridge s (Ask request) s' = Answers bridge request s.pass s.parcels s.records s'.pass s'.parcels s'.records
 
 -- ---- a worker
 

@@ -4,9 +4,12 @@
 #![tactic(auto)]
 
 mod alarm;
+mod answering;
 mod board;
 mod boards;
 mod channels;
+mod control;
+mod desk;
 mod edge_threads;
 mod fail_at;
 mod gate;
@@ -18,6 +21,7 @@ mod links;
 mod mailbox;
 mod outlet;
 mod peers;
+mod request;
 mod run;
 mod shared_edge;
 mod shared_line;
@@ -30,6 +34,7 @@ pub use alarm::Alarm;
 pub use board::{Board, Notice, Posted};
 pub use boards::Boards;
 pub use channels::{ChannelIn, ChannelOut, Datagram};
+pub use control::{Control, Running};
 pub use edge_threads::{EdgeLinks, Faults, Link, Outcome, edge_worker};
 pub use fail_at::FailAt;
 pub use gate::{Gate, OpenGate, Point};
@@ -41,6 +46,7 @@ pub use links::{LinkIn, LinkOut};
 pub use mailbox::{Mailbox, Message};
 pub use outlet::{Outlet, Target};
 pub use peers::{Mailboxes, Peers};
+pub use request::{Answer, Command, PortView, Reading, Request};
 pub use run::{Setup, Start, run_all};
 pub use shared_edge::{Ended, SharedEdge};
 pub use telling::{notice_worker, put_notice};

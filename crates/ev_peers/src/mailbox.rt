@@ -3,6 +3,7 @@
 ghost use Rattle.std.specs.Prelude.{◌≡◌, ◌+◌, ◌^◌, ◌<◌, ◌≤◌, IfOk};
 ghost use Rattle.ev_peers.specs.Mailbox.{no_mail, after_update, after_call, after_end, after_close, first_of, after_take};
 
+use crate::request::Request;
 use route_wire::Update;
 use std::alloc::{AllocError, Global};
 use std::collections::VecDeque;
@@ -14,13 +15,15 @@ const ROOM: usize = 4096;
 /// Once no more wait, an edge that was behind isn't any more.
 const CAUGHT_UP: usize = 2048;
 
-/// What an edge is sent by another one.
-#[derive(Clone, Copy, PartialEq, Eq, Debug)]
+/// What an edge is sent by another one, or asked by the operator.
+#[derive(Clone, Copy)]
 pub enum Message {
     /// An update that it has announced.
     Record(Update),
     /// It was behind, and has room for updates again.
     Room,
+    /// The operator asks this.
+    Ask(Request),
 }
 
 /// What waits for an edge from the other ones. Its memory is taken once, when it is made.

@@ -2,10 +2,11 @@
 //! records to the other edges, alerts to the operator.
 ghost use Rattle.std.specs.Prelude.{◌≡◌, ◌∷◌, [], Option, List};
 ghost use Rattle.ev_peers.specs.Giving.{Parcel, parcel, first_parcel, behind};
-ghost use Rattle.ev_peers.specs.Passing.{Word, has_room, record_of, second_passes, tells};
+ghost use Rattle.ev_peers.specs.Passing.{Word, has_room, record_of, second_passes, tells, answers};
 
 use crate::alarm::Alarm;
 use crate::peers::Peers;
+use crate::request::Answer;
 use crate::shared_line::SharedLine;
 use ether_wire::Addr;
 use route_wire::Update;
@@ -26,7 +27,8 @@ pub trait Outlet {
     ghost parcels: { Self → Option (List Parcel) };
 
     /// What was spoken of the other edges and with the operator, where it tells it: each answer on
-    /// their room, each record that was given, each second and each alert, in their order.
+    /// their room, each record that was given, each second, each alert and each answer to a
+    /// request, in their order.
     ghost records: { Self → Option (List Word) };
 
     /// Takes a frame for a link, whose line has room for it or drops and counts it.
@@ -59,6 +61,11 @@ pub trait Outlet {
     /// Puts an alert on the operator's board, which may hold it back and counts it then.
     fn alarm(&mut self, alarm: Alarm)
         ensures told { records self.new ≡ behind (records self.old) (tells alarm ∷ []) }
+        ensures parcels { parcels self.new ≡ parcels self.old };
+
+    /// Gives the operator the answer to a request.
+    fn answer(&mut self, answer: Answer)
+        ensures told { records self.new ≡ behind (records self.old) (answers answer ∷ []) }
         ensures parcels { parcels self.new ≡ parcels self.old };
 }
 
@@ -121,5 +128,9 @@ impl<R: Wait> Outlet for Senders<'_, R> {
 
     fn alarm(&mut self, alarm: Alarm) {
         self.peers.alarm(self.rt, alarm);
+    }
+
+    fn answer(&mut self, answer: Answer) {
+        self.peers.answer(self.rt, answer);
     }
 }

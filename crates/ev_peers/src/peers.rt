@@ -1,9 +1,12 @@
 //! The edges that run beside each other, as one of them sees them: the others' mailboxes, and its
 //! own board.
 
+ghost use Rattle.std.specs.Prelude.{◌≡◌, IfSome};
+
 use crate::alarm::Alarm;
 use crate::boards::Boards;
 use crate::mailbox::Message;
+use crate::request::Answer;
 use crate::shared_mailbox::SharedMailbox;
 use route_wire::Update;
 use std::alloc::{AllocError, Global};
@@ -25,10 +28,26 @@ impl Mailboxes {
     pub fn new(alloc: Global, edges: usize, workers: u32) -> Result<Self, AllocError> {
         let mut all = Vec::with_capacity(alloc, edges)?;
         for place in 0..edges {
-            let _ = place;
-            all.push(SharedMailbox::new(alloc, workers)?)?;
+            all.push(SharedMailbox::new(alloc, place + 1, workers)?)?;
         }
         Ok(Mailboxes { all })
+    }
+
+    /// How many edges there are.
+    pub(crate) fn edges(&self) -> usize {
+        self.all.len()
+    }
+
+    /// The mailbox of the edge with this number, from 1.
+    pub(crate) fn of(&self, number: usize) -> Option<&SharedMailbox>
+        ensures { IfSome result (λ mailbox. mailbox.now.number ≡ number) }
+    {
+        for mailbox in self.all.iter() {
+            if mailbox.number == number {
+                return Some(mailbox);
+            }
+        }
+        None
     }
 
     /// As the edge with this number sees them, counted from 1, beside the boards of all edges.
@@ -101,6 +120,13 @@ impl Peers<'_> {
             self.call(rt);
         }
         message
+    }
+
+    /// Answers the request that this edge's worker of updates was sent last.
+    pub(crate) fn answer<R: Wait>(&self, rt: &R, answer: Answer) {
+        if let Some(mailbox) = self.own() {
+            mailbox.answer(rt, answer);
+        }
     }
 
     /// Lets this edge's worker of updates end once nothing waits.

@@ -4,6 +4,7 @@ ghost use Rattle.ev_edge.specs.Config.{IsConfig};
 ghost use Rattle.ev_peers.specs.EdgeThreads.{HasEdges, setup_of};
 
 use crate::boards::Boards;
+use crate::control::Running;
 use crate::edge_threads::{EdgeLinks, Outcome, edge_worker};
 use crate::gate::Gate;
 use crate::links::{LinkIn, LinkOut};
@@ -206,7 +207,7 @@ fn run_within<
     O: LinkOut + Drop + Send + 'x,
     G: Gate + Sync + 'x,
     R: Threads + Wait + Sync + 'x,
-    F: FnOnce() -> T + Drop,
+    F: FnOnce(Running<'_>) -> T + Drop,
     T,
 >(
     scope: &Scope<'s, &'x ()>,
@@ -218,9 +219,9 @@ fn run_within<
     ready: Ready<I, O>,
     until: F,
 ) -> (Vec<Ran>, T)
-    requires { F.pre until }
+    requires { F.IsAlwaysCallable until }
     ensures all { vec_len result.0 ≡ ready }
-    ensures until { F.post until result.1 }
+    ensures until { (running : _) × F.post until running result.1 }
 {
     let Ready {
         setups,
@@ -228,7 +229,7 @@ fn run_within<
         ended,
     } = ready;
     let running = start_edges(scope, rt, alloc, setups, mailboxes, boards, gate, running);
-    let told = until();
+    let told = until(Running::new(mailboxes));
     (join_edges(rt, running, ended), told)
 }
 
@@ -239,7 +240,7 @@ fn run_ready<
     O: LinkOut + Drop + Send + 'x,
     G: Gate + Sync + 'x,
     R: Threads + Wait + Sync + 'x,
-    F: FnOnce() -> T + Drop,
+    F: FnOnce(Running<'_>) -> T + Drop,
     T,
 >(
     rt: &'x R,
@@ -250,22 +251,22 @@ fn run_ready<
     ready: Ready<I, O>,
     until: F,
 ) -> (Vec<Ran>, T)
-    requires { F.pre until }
+    requires { F.IsAlwaysCallable until }
     ensures all { vec_len result.0 ≡ ready }
-    ensures until { F.post until result.1 }
+    ensures until { (running : _) × F.post until running result.1 }
 {
     thread::scope(
         thread::scope_env(),
         rt,
         move |scope| -> (Vec<Ran>, T)
-            requires { F.pre until }
-            ensures { (vec_len result.0 ≡ ready) × F.post until result.1 }
+            requires { F.IsAlwaysCallable until }
+            ensures { (vec_len result.0 ≡ ready) × ((running : _) × F.post until running result.1) }
         { run_within(scope, rt, alloc, gate, mailboxes, boards, ready, until) },
     )
 }
 
 /// Runs edges beside each other, each on a thread with its workers, until `until` has returned and
-/// the links have ended; it is `until` that makes them end. The outcomes are in the edges' order,
+/// the links have ended; it is `until` that makes them end, and it can ask the edges meanwhile. The outcomes are in the edges' order,
 /// with an error where an edge was refused memory or a thread before it began. What the operator is
 /// to know meanwhile waits on these boards, which get no more once it returns.
 pub fn run_all<
@@ -273,12 +274,12 @@ pub fn run_all<
     O: LinkOut + Drop + Send,
     G: Gate + Sync,
     R: Threads + Wait + Sync,
-    F: FnOnce() -> T + Drop,
+    F: FnOnce(Running<'_>) -> T + Drop,
     T,
 >(rt: &R, alloc: Global, start: Start<I, O>, boards: &Boards, gate: &G, until: F) -> (Vec<Ran>, T)
-    requires { F.pre until }
+    requires { F.IsAlwaysCallable until }
     ensures all { vec_len result.0 ≡ start }
-    ensures until { F.post until result.1 }
+    ensures until { (running : _) × F.post until running result.1 }
 {
     let Start { ready, mailboxes } = start;
     let ran = run_ready(rt, alloc, gate, &mailboxes, boards, ready, until);

@@ -128,6 +128,30 @@ impl<L: Ledger, G: Gate, R: Wait> SharedEdge<'_, L, G, R> {
         unreachable!()
     }
 
+    /// Enters an event that carries this frame of network `vni`, of at most 9,018 octets, and gives
+    /// what is answered: frames to the links, what the operator is to know to the board.
+    pub(crate) fn give<O: Outlet>(
+        &self,
+        pass: &mut Pass<L>,
+        outlet: &mut O,
+        scratch: &mut Scratch,
+        event: &Event<'_>,
+        vni: Vni,
+        frame: &[u8],
+    ) -> Result<(), BookRefusal>
+        requires { length frame.now ≤ 9018 }
+        ensures entered { Entered pass.old event.now (answered result scratch.new.reply) pass.new }
+        ensures parcels { O.parcels outlet.new ≡ behind (O.parcels outlet.old)
+            (given_by self.now.bridge vni frame.now (answered result scratch.new.reply)) }
+        ensures records { O.records outlet.new ≡ behind (O.records outlet.old)
+            (signs_of vni event.now (answered result scratch.new.reply)) }
+    {
+        let answer = self.enter(pass, event, &mut scratch.reply);
+        give_signs(outlet, vni, event, &answer, &scratch.reply);
+        give_answer(outlet, scratch, self.bridge, vni, frame, &answer);
+        answer
+    }
+
     /// Enters an event that carries this frame of network `vni`, of at most 9,018 octets,
     /// and passes on what it gives out: frames to the links, what the operator is to know to the
     /// board, and then what is to be announced to the other edges.
@@ -144,9 +168,7 @@ impl<L: Ledger, G: Gate, R: Wait> SharedEdge<'_, L, G, R> {
         ensures { PassesOn self.now.bridge vni frame.now pass.old event.now (O.parcels outlet.old)
             (O.records outlet.old) pass.new (O.parcels outlet.new) (O.records outlet.new) }
     {
-        let answer = self.enter(pass, event, &mut scratch.reply);
-        give_signs(outlet, vni, event, &answer, &scratch.reply);
-        give_answer(outlet, scratch, self.bridge, vni, frame, &answer);
+        let _ = self.give(pass, outlet, scratch, event, vni, frame);
         self.announce(pass, outlet, &mut scratch.reply);
     }
 }
@@ -196,6 +218,7 @@ fn give_answer<O: Outlet>(
     ensures parcels { O.parcels outlet.new ≡ behind (O.parcels outlet.old)
         (given_by bridge vni frame.now (answered answer.now scratch.old.reply)) }
     ensures records { O.records outlet.new ≡ O.records outlet.old }
+    ensures reply { scratch.new.reply ≡ scratch.old.reply }
 {
     if answer.is_ok() {
         let Scratch { reply, datagram } = scratch;

@@ -6,6 +6,7 @@ ghost use Rattle.ev_peers.specs.Working.{IsEventOf, fitting, unwrapped, carried,
 ghost use Rattle.vxlan_wire.specs.Vxlan.{instance_of};
 ghost use Rattle.ev_peers.specs.Sending.{gone, Sends, OutEnds};
 
+use crate::answering::answer;
 use crate::gate::Gate;
 use crate::inbox::{PacketsIn, UpdatesIn};
 use crate::line::LONGEST;
@@ -247,7 +248,8 @@ pub fn clock_worker<L: Ledger, I: LinkIn, O: Outlet, G: Gate, R: Wait>(
     link_worker(shared_edge, pass, outlet, clock, &Source::Clock)
 }
 
-/// Enters an update of another edge, or looks for announcements where one has room for them again.
+/// Enters an update of another edge, looks for announcements where one has room for them again, or
+/// answers the operator.
 fn enter_message<L: Ledger, O: Outlet, G: Gate, R: Wait>(
     shared_edge: &SharedEdge<'_, L, G, R>,
     pass: &mut Pass<L>,
@@ -265,11 +267,12 @@ fn enter_message<L: Ledger, O: Outlet, G: Gate, R: Wait>(
             shared_edge.act(pass, outlet, scratch, &event, Vni::new(0), &[]);
         }
         Message::Room => shared_edge.announce(pass, outlet, &mut scratch.reply),
+        Message::Ask(request) => answer(shared_edge, pass, outlet, scratch, request),
     }
 }
 
-/// Enters the updates that other edges send, until there are no more, and looks for announcements
-/// where one of them has room again.
+/// Enters the updates that other edges send, until there are no more, looks for announcements where
+/// one of them has room again, and answers what the operator asks.
 pub fn peer_worker<L: Ledger, I: UpdatesIn, O: Outlet, G: Gate, R: Wait>(
     shared_edge: &SharedEdge<'_, L, G, R>,
     pass: &mut Pass<L>,

@@ -244,7 +244,7 @@ fn run_reading<'x, R: Threads + Wait + Clock + Sync, E: In>(
         start,
         boards,
         &OpenGate,
-        || -> (bool, &mut E)
+        |_running| -> (bool, &mut E)
             requires { Allows (2 ^ 40) (E.end reader.now) }
             ensures same { result.1.ghost_name ≡ reader.entry.ghost_name }
             ensures read { ReadsOut (E.end reader.entry.now) (E.end result.1.now) result.0 }

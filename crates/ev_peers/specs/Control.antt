@@ -1,0 +1,89 @@
+-- What the operator asks of an edge that runs: what the edge does, and what it answers.
+use Rattle.std.specs.Prelude.{◌≡◌, ◌↔◌, ℕ, List, [], ◌∷◌, length, slice_get, Option, Some, None, Result, Ok, Err, IsTrue}
+use Rattle.std.specs.Global.{Vec}
+use Rattle.std.specs.declared.alloc.AllocError.{AllocError}
+use Rattle.ether_wire.specs.Ports.{place_of_port}
+use Rattle.route_wire.specs.Fields.{Fields}
+use Rattle.route_join.specs.Updates.{all_updates}
+use Rattle.rstp_run.specs.Rules.{Tree}
+use Rattle.rstp_run.specs.Events.{IsPort, Passes}
+use Rattle.ev_edge.specs.Edge.{Edge, table_of}
+use Rattle.ev_edge.specs.declared.event.Event.{Event}
+use Rattle.ev_edge.specs.declared.event.Event.TheVariants as events
+use Rattle.ev_edge.specs.declared.reply.Reply.{Reply}
+use Rattle.ev_book.specs.declared.refusal.BookRefusal.{BookRefusal}
+use Rattle.ev_book.specs.Book.{BookState, PassState}
+use Rattle.ev_peers.specs.declared.request.Command.{Command}
+use Rattle.ev_peers.specs.declared.request.Command.TheVariants as commands
+use Rattle.ev_peers.specs.declared.request.Request.{Request}
+use Rattle.ev_peers.specs.declared.request.Request.TheVariants.{Enter, Read}
+use Rattle.ev_peers.specs.declared.request.Reading.{Reading}
+use Rattle.ev_peers.specs.declared.request.Reading.TheVariants.{Table, Port}
+use Rattle.ev_peers.specs.declared.request.Answer.{Answer}
+use Rattle.ev_peers.specs.declared.request.Answer.TheVariants as replies
+use Rattle.ev_peers.specs.declared.request.PortView.{PortView}
+use Rattle.ev_peers.specs.Giving.{Parcel, behind}
+use Rattle.ev_peers.specs.Passing.{Word, answers, PassesOn}
+
+-- ---- a step
+
+-- the event that a step is
+abbrev pub event_of : Command → Event
+event_of (commands.Pin s port) = events.Pin s port
+event_of (commands.Unpin s) = events.Unpin s
+event_of (commands.Thaw s) = events.Thaw s
+event_of (commands.Mcheck port) = events.Mcheck port
+event_of (commands.PortUp port) = events.PortUp port
+event_of (commands.PortDown port) = events.PortDown port
+
+-- The step was entered once and passed on, as a worker's event is, and this is what the book answered.
+pub record Obeys (bridge : ℕ) (command : Command) (answer : Result Reply BookRefusal) (p : PassState)
+    (given : Option (List Parcel)) (records : Option (List Word)) (p' : PassState) (given' : Option (List Parcel))
+    (records' : Option (List Word)) : Type 0 where
+  pub passes : PassesOn bridge 0 [] p (event_of command) given records p' given' records'
+  pub is : passes.answer ≡ answer
+
+-- ---- a reading
+
+-- the updates of all registers of the table, in the order of a report; memory may be refused to them
+abbrev pub ShowsTable : Edge → Result (Vec Fields) AllocError → Type 0
+ShowsTable e (Ok updates) = updates.items ≡ all_updates (table_of e)
+ShowsTable e (Err refused) = Unit {0}
+
+-- the port's state, and whether frames pass there; none where there is no port of this number
+abbrev pub ShowsPort : Tree → ℕ → Option PortView → Type 0
+ShowsPort tree p (Some view) = IsPort p (length tree.ports) × (slice_get tree.ports (place_of_port p) ≡ Some view.state)
+    × (IsTrue view.passes ↔ Passes tree p)
+ShowsPort tree p None = IsPort p (length tree.ports) → ⊥
+
+-- what a reading shows of an edge
+abbrev pub Shows : Edge → Reading → Answer → Type 0
+Shows e (Table alloc) (replies.Table updates) = ShowsTable e updates
+Shows e (Table alloc) answer = ⊥
+Shows e (Port p) (replies.Port view) = ShowsPort e.tree p view
+Shows e (Port p) answer = ⊥
+
+-- It shows some book as it stood. Which one stood under the lock, no caller knows.
+pub record Looked (reading : Reading) (answer : Answer) : Type 0 where
+  pub book : BookState
+  pub shows : Shows book.edge reading answer
+
+-- ---- a request
+
+-- a step is entered once and passed on; a reading changes nothing, and gives nothing on
+abbrev pub Fulfils : ℕ → Request → Answer → PassState → Option (List Parcel) → Option (List Word) → PassState
+    → Option (List Parcel) → Option (List Word) → Type 0
+Fulfils bridge (Enter command) (replies.Entered answer) p given records p' given' records' =
+    Obeys bridge command answer p given records p' given' records'
+Fulfils bridge (Enter command) answer p given records p' given' records' = ⊥
+Fulfils bridge (Read reading) answer p given records p' given' records' =
+    Looked reading answer × (p' ≡ p) × (given' ≡ given) × (records' ≡ records)
+
+-- It is done once, and then what came of it is told to who asked, once.
+pub record Answers (bridge : ℕ) (request : Request) (p : PassState) (given : Option (List Parcel))
+    (records : Option (List Word)) (p' : PassState) (given' : Option (List Parcel)) (records' : Option (List Word)) :
+    Type 0 where
+  pub answer : Answer
+  pub before : Option (List Word)
+  pub fulfils : Fulfils bridge request answer p given records p' given' before
+  pub told : records' ≡ behind before (answers answer ∷ [])

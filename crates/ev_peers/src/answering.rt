@@ -1,0 +1,138 @@
+//! What an edge's worker does with a request of the operator: it enters a step as any event, or
+//! reads what the book holds, and answers.
+ghost use Rattle.std.specs.Prelude.{◌≡◌, ◌++◌};
+ghost use Rattle.route_join.specs.Updates.{all_updates};
+ghost use Rattle.ev_edge.specs.Edge.{table_of};
+ghost use Rattle.ev_book.specs.Entering.{answered};
+ghost use Rattle.ev_peers.specs.Control.{Obeys, ShowsTable, ShowsPort, Shows, Looked, Fulfils, Answers};
+
+use crate::gate::Gate;
+use crate::outlet::Outlet;
+use crate::request::{Answer, Command, PortView, Reading, Request, event_of};
+use crate::shared_edge::{Scratch, SharedEdge};
+use ether_wire::Vni;
+use ev_book::{Book, BookRefusal, Pass};
+use ev_edge::{Edge, Reply};
+use route_wire::Update;
+use rstp_run::bridge::Bridge;
+use std::alloc::{AllocError, Global};
+use std::mem;
+use std::sync::Wait;
+use std::sync::ledger::Ledger;
+
+/// What a book answered, with the reply that was written.
+fn replied(answer: Result<(), BookRefusal>, reply: &mut Reply) -> Result<Reply, BookRefusal>
+    ensures { result ≡ answered answer reply.old }
+{
+    match answer {
+        Ok(()) => Ok(mem::replace(reply, Reply::nothing())),
+        Err(refusal) => Err(refusal),
+    }
+}
+
+/// Enters a step, and passes on what it gives out, as any event.
+fn obey<L: Ledger, O: Outlet, G: Gate, R: Wait>(
+    shared_edge: &SharedEdge<'_, L, G, R>,
+    pass: &mut Pass<L>,
+    outlet: &mut O,
+    scratch: &mut Scratch,
+    command: &Command,
+) -> Result<Reply, BookRefusal>
+    ensures { Obeys shared_edge.now.bridge command.now result
+        pass.old (O.parcels outlet.old) (O.records outlet.old)
+        pass.new (O.parcels outlet.new) (O.records outlet.new) }
+{
+    let event = event_of(command);
+    let answer = shared_edge.give(pass, outlet, scratch, &event, Vni::new(0), &[]);
+    let answer = replied(answer, &mut scratch.reply);
+    shared_edge.announce(pass, outlet, &mut scratch.reply);
+    answer
+}
+
+/// The updates of all registers of an edge's table.
+fn updates_of(alloc: Global, edge: &Edge) -> Result<Vec<Update>, AllocError>
+    ensures { ShowsTable edge.now result }
+{
+    let mut updates = Vec::new(alloc);
+    for update in edge.table().updates() {
+        updates.push(update)?;
+    }
+    Ok(updates)
+}
+
+/// How a bridge has a port, if there is one of this number.
+fn view_of(bridge: &Bridge, port: u8) -> Option<PortView>
+    ensures { ShowsPort bridge.now port result }
+{
+    if port == 0 || usize::from(port) > bridge.len() {
+        return None;
+    }
+    Some(PortView {
+        state: *bridge.port(port),
+        passes: bridge.passes(port),
+    })
+}
+
+/// What a reading shows of an edge.
+fn shown(edge: &Edge, reading: &Reading) -> Answer
+    ensures { Shows edge.now reading.now result }
+{
+    match reading {
+        Reading::Table(alloc) => Answer::Table(updates_of(*alloc, edge)),
+        Reading::Port(port) => Answer::Port(view_of(edge.bridge(), *port)),
+    }
+}
+
+/// What a reading shows of a book.
+fn seen<L: Ledger>(book: &Book<L>, reading: &Reading) -> Answer
+    ensures { Looked reading.now result }
+{
+    shown(book.edge(), reading)
+}
+
+/// What a reading shows of the edge's book, which stays as it is. The lock is held meanwhile.
+fn look<L: Ledger, G: Gate, R: Wait>(
+    shared_edge: &SharedEdge<'_, L, G, R>,
+    reading: &Reading,
+) -> Answer
+    ensures { Looked reading.now result }
+{
+    let book = shared_edge.book.lock(shared_edge.rt);
+    seen(&*book, reading)
+}
+
+/// Does what is asked for.
+fn fulfil<L: Ledger, O: Outlet, G: Gate, R: Wait>(
+    shared_edge: &SharedEdge<'_, L, G, R>,
+    pass: &mut Pass<L>,
+    outlet: &mut O,
+    scratch: &mut Scratch,
+    request: &Request,
+) -> Answer
+    ensures { Fulfils shared_edge.now.bridge request.now result
+        pass.old (O.parcels outlet.old) (O.records outlet.old)
+        pass.new (O.parcels outlet.new) (O.records outlet.new) }
+{
+    match request {
+        Request::Enter(command) => {
+            Answer::Entered(obey(shared_edge, pass, outlet, scratch, command))
+        }
+        Request::Read(reading) => look(shared_edge, reading),
+    }
+}
+
+/// Does what is asked for, and answers.
+pub(crate) fn answer<L: Ledger, O: Outlet, G: Gate, R: Wait>(
+    shared_edge: &SharedEdge<'_, L, G, R>,
+    pass: &mut Pass<L>,
+    outlet: &mut O,
+    scratch: &mut Scratch,
+    request: &Request,
+)
+    ensures { Answers shared_edge.now.bridge request.now
+        pass.old (O.parcels outlet.old) (O.records outlet.old)
+        pass.new (O.parcels outlet.new) (O.records outlet.new) }
+{
+    let answer = fulfil(shared_edge, pass, outlet, scratch, request);
+    outlet.answer(answer);
+}

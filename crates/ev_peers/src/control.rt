@@ -1,0 +1,74 @@
+//! The way into edges that run: who waits until they end can ask each of them for a step, or to
+//! show what it holds.
+ghost use Rattle.std.specs.Prelude.{◌≡◌, IfSome};
+
+use crate::peers::Mailboxes;
+use crate::request::{Command, PortView, Reading, Request};
+use crate::shared_mailbox::SharedMailbox;
+use ev_book::BookRefusal;
+use ev_edge::Reply;
+use route_wire::Update;
+use std::alloc::{AllocError, Global};
+use std::sync::Wait;
+
+/// Edges that run.
+#[derive(Clone, Copy, Drop)]
+pub struct Running<'x> {
+    mailboxes: &'x Mailboxes,
+}
+
+impl<'x> Running<'x> {
+    /// The edges of these mailboxes.
+    pub(crate) fn new(mailboxes: &'x Mailboxes) -> Self {
+        Running { mailboxes }
+    }
+
+    /// How many edges there are.
+    pub fn edges(&self) -> usize {
+        self.mailboxes.edges()
+    }
+
+    /// The edge with this number, from 1, if there is one.
+    pub fn edge(&self, number: usize) -> Option<Control<'x>>
+        ensures { IfSome result (λ control. control.mailbox.now.number ≡ number) }
+    {
+        let mailbox = self.mailboxes.of(number)?;
+        Some(Control { mailbox })
+    }
+}
+
+/// An edge that runs, as it can be asked. Each call waits for the edge's answer, and a request
+/// that comes meanwhile waits for its turn.
+#[derive(Clone, Copy, Drop)]
+pub struct Control<'x> {
+    mailbox: &'x SharedMailbox,
+}
+
+impl Control<'_> {
+    /// The edge's number, from 1.
+    pub fn number(&self) -> usize
+        ensures { result ≡ self.now.mailbox.now.number }
+    {
+        self.mailbox.number
+    }
+
+    /// Enters a step: what the edge's book answered. None where the edge has ended.
+    pub fn enter<R: Wait>(&self, rt: &R, command: Command) -> Option<Result<Reply, BookRefusal>> {
+        let mut answer = self.mailbox.ask(rt, &Request::Enter(command))?;
+        answer.take_entered()
+    }
+
+    /// What the edge's table holds.
+    pub fn table<R: Wait>(&self, rt: &R, alloc: Global) -> Option<Result<Vec<Update>, AllocError>> {
+        self.mailbox
+            .ask(rt, &Request::Read(Reading::Table(alloc)))?
+            .table()
+    }
+
+    /// How the spanning tree has the port.
+    pub fn port<R: Wait>(&self, rt: &R, port: u8) -> Option<Option<PortView>> {
+        self.mailbox
+            .ask(rt, &Request::Read(Reading::Port(port)))?
+            .port()
+    }
+}

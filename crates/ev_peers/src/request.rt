@@ -1,0 +1,111 @@
+//! What the operator asks of an edge that runs, and what the edge answers.
+ghost use Rattle.std.specs.Prelude.{◌≡◌};
+ghost use Rattle.ev_peers.specs.Control.{event_of};
+
+use ev_book::BookRefusal;
+use ev_edge::{Event, Reply};
+use mac_arena::Station;
+use route_wire::Update;
+use rstp_state::port::PortState;
+use std::alloc::{AllocError, Global};
+use std::mem;
+
+/// A step that the operator asks an edge for. Ports are numbered from 1.
+#[derive(Clone, Copy, Debug, PartialEq, Eq)]
+pub enum Command {
+    /// To pin the station on the port.
+    Pin(Station, u8),
+    /// To pin the station no more.
+    Unpin(Station),
+    /// To thaw the station.
+    Thaw(Station),
+    /// To find the port's protocol out anew.
+    Mcheck(u8),
+    /// To bring the port up.
+    PortUp(u8),
+    /// To take the port down.
+    PortDown(u8),
+}
+
+/// What the operator wants to see of an edge.
+#[derive(Clone, Copy)]
+pub enum Reading {
+    /// What its table holds, in memory of this allocator.
+    Table(Global),
+    /// How its spanning tree has the port with this number.
+    Port(u8),
+}
+
+/// What the operator asks of an edge.
+#[derive(Clone, Copy)]
+pub enum Request {
+    /// To enter a step.
+    Enter(Command),
+    /// To show what it holds.
+    Read(Reading),
+}
+
+/// How a spanning tree has a port.
+#[derive(Clone, Copy)]
+pub struct PortView {
+    /// The port's state.
+    pub state: PortState,
+    /// Whether frames pass there.
+    pub passes: bool,
+}
+
+/// What an edge answers to a request.
+#[derive(Drop)]
+pub enum Answer {
+    /// What its book answered to the step.
+    Entered(Result<Reply, BookRefusal>),
+    /// The updates of all registers of its table, in the order of a report, or that memory was
+    /// refused to them.
+    Table(Result<Vec<Update>, AllocError>),
+    /// How its spanning tree has the port. None where there is none of that number.
+    Port(Option<PortView>),
+}
+
+impl Answer {
+    /// Takes what the book answered to a step, if that was asked.
+    pub(crate) fn take_entered(&mut self) -> Option<Result<Reply, BookRefusal>> {
+        match self {
+            Answer::Entered(Ok(reply)) => Some(Ok(mem::replace(reply, Reply::nothing()))),
+            Answer::Entered(Err(refusal)) => Some(Err(*refusal)),
+            Answer::Table(_) => None,
+            Answer::Port(_) => None,
+        }
+    }
+
+    /// What the table holds, if that was asked.
+    pub(crate) fn table(self) -> Option<Result<Vec<Update>, AllocError>> {
+        match self {
+            Answer::Table(updates) => Some(updates),
+            Answer::Entered(_) => None,
+            Answer::Port(_) => None,
+        }
+    }
+
+    /// How the spanning tree has the port, if that was asked.
+    pub(crate) fn port(&self) -> Option<Option<PortView>> {
+        match self {
+            Answer::Port(view) => Some(*view),
+            Answer::Entered(_) => None,
+            Answer::Table(_) => None,
+        }
+    }
+}
+
+/// The step as an event of an edge.
+pub(crate) fn event_of(command: &Command) -> Event<'static>
+    ensures { result ≡ event_of command.now }
+{
+    match command {
+        Command::Pin(station, port) => Event::Pin(*station, *port),
+        Command::Unpin(station) => Event::Unpin(*station),
+        Command::Thaw(station) => Event::Thaw(*station),
+        Command::Mcheck(port) => Event::Mcheck(*port),
+        Command::PortUp(port) => Event::PortUp(*port),
+        Command::PortDown(port) => Event::PortDown(*port),
+    }
+}
