@@ -89,8 +89,8 @@ start
 tell "port 2 hears port 1" hears 1 2 5
 ss -K -u -a src 127.0.0.1:20001 > "$work/ss"
 sleep 0.5
-open "that is told" notes 1 '^edge 1 port 1: receiving failed'
-open "port 1 is taken again, within two seconds" hears 1 2 2
+tell "that is told" notes 1 '^edge 1 port 1: receiving failed'
+tell "port 1 is taken again, within two seconds" hears 1 2 2
 tell "port 3 hears port 2 meanwhile" hears 2 3 2
 stop > "$work/stopped"
 tell "its status is 4" [ "$status" = 4 ]

@@ -5,7 +5,7 @@ use Rattle.ether_wire.specs.Ends.{End, with_text, Puts}
 use Rattle.ether_wire.proofs.Appending.{with_text_none, puts_behind}
 use Rattle.ev_peers.specs.Giving.{behind}
 use Rattle.ev_peers.specs.Coming.{after_these}
-use Rattle.ev_peers.specs.Telling.{Told, lines_of, notice_text, TellsAll}
+use Rattle.ev_peers.specs.Telling.{Told, lines_of, news_text, TellsAll}
 use Rattle.ev_peers.proofs.Behind.{behind_none}
 use Rattle.ev_peers.proofs.Coming.{one_more}
 
@@ -23,20 +23,20 @@ module _ (came : Option (List (Option Told))) (old : End) (came1 : Option (List 
     (came2 : Option (List (Option Told))) (new : End) (s : SoFar came old came1 mid) where
   -- one more came, and its line was written
   pub goes_on : (n : Told) (done : Unit {0}) → came2 ≡ behind came1 (Some n ∷ [])
-      → Puts mid new (notice_text n.0 n.1) (Ok done) → SoFar came old came2 new
+      → Puts mid new (news_text n.0 n.1) (Ok done) → SoFar came old came2 new
   goes_on n done more put = record {
     things = n ∷ s.things;
     told = one_more came came1 came2 s.things n s.told more;
-    written = puts_behind old mid new (lines_of s.things) (notice_text n.0 n.1) (Ok done) s.written put;
+    written = puts_behind old mid new (lines_of s.things) (news_text n.0 n.1) (Ok done) s.written put;
   }
 
   -- or it wasn't
   pub fails : (n : Told) (device : Device) → came2 ≡ behind came1 (Some n ∷ [])
-      → Puts mid new (notice_text n.0 n.1) (Err device) → TellsAll came old came2 new (Err device)
+      → Puts mid new (news_text n.0 n.1) (Err device) → TellsAll came old came2 new (Err device)
   fails n device more put = record {
     things = n ∷ s.things;
     told = one_more came came1 came2 s.things n s.told more ∙ sym (behind_none (after_these came (n ∷ s.things)));
-    written = puts_behind old mid new (lines_of s.things) (notice_text n.0 n.1) (Err device) s.written put;
+    written = puts_behind old mid new (lines_of s.things) (news_text n.0 n.1) (Err device) s.written put;
   }
 
   -- nothing more came

@@ -11,5 +11,6 @@ pub mod Working
 pub mod Sending
 pub mod FailAt
 pub mod Board
+pub mod Receptions
 pub mod Telling
 pub mod InTurn

@@ -1,8 +1,8 @@
 -- What comes over a link and what goes over one, and what a worker tells of its link when it ends.
-use Rattle.std.specs.Prelude.{ℕ, List, [], ◌∷◌, take, Option, Some, None, Result, Ok, Err}
+use Rattle.std.specs.Prelude.{ℕ, List, [], ◌∷◌, take, nat_lt, if◌then◌else◌, Option, Some, None, Result, Ok, Err}
 use Rattle.ether_wire.specs.declared.ends.Device.{Device as Failure}
 use Rattle.ev_peers.specs.declared.shared_edge.Ended.{Ended}
-use Rattle.ev_peers.specs.declared.shared_edge.Ended.TheVariants.{End, Device, NoMemory}
+use Rattle.ev_peers.specs.declared.shared_edge.Ended.TheVariants.{End, Device}
 
 -- a datagram that came: from whom, and what it holds
 pub record Arrival : Type 0 where
@@ -12,11 +12,16 @@ pub record Arrival : Type 0 where
 abbrev pub arrival : ℕ → List ℕ → Arrival
 arrival from octets = record { from = from; octets = octets }
 
--- what a call of a link brought, with the buffer after it: a datagram, the end, or nothing where it failed
-abbrev pub brought : Result (Option (ℕ × ℕ)) Failure → List ℕ → List (Option Arrival)
-brought (Ok (Some got)) buffer = Some (arrival got.0 (take got.1 buffer)) ∷ []
+-- a call of a link before its end: it brings a datagram, or fails
+pub data Call : Type 0 where
+  brings : Arrival → Call
+  fails : Call
+
+-- what a call of a link brought, with the buffer after it: a datagram, the end, or a failure
+abbrev pub brought : Result (Option (ℕ × ℕ)) Failure → List ℕ → List (Option Call)
+brought (Ok (Some got)) buffer = Some (brings (arrival got.0 (take got.1 buffer))) ∷ []
 brought (Ok None) buffer = None ∷ []
-brought (Err failure) buffer = []
+brought (Err failure) buffer = Some fails ∷ []
 
 -- a datagram that goes: for whom, and what it holds
 pub record Packet : Type 0 where
@@ -31,13 +36,6 @@ abbrev pub sent_by : ℕ → List ℕ → Result (Unit {0}) Failure → List Pac
 sent_by to octets (Ok done) = packet to octets ∷ []
 sent_by to octets (Err failure) = []
 
--- how many failures of its link an ended worker stands for
-abbrev pub failures_told : Ended → ℕ
-failures_told End = 0
-failures_told Device = 1
-failures_told NoMemory = 0
-
--- and how many a turn of it, if it ends there
-abbrev pub failures_in : Option Ended → ℕ
-failures_in None = 0
-failures_in (Some ended) = failures_told ended
+-- how a worker ends whose link had failed so often before, and has so often now
+abbrev pub ended_of : ℕ → ℕ → Ended
+ended_of before after = if nat_lt before after then Device else End

@@ -10,6 +10,7 @@ use Rattle.ev_book.specs.Book.{BookState, PassState}
 use Rattle.ev_book.specs.Entering.{CallsBook}
 use Rattle.ev_peers.specs.declared.alarm.Alarm.{Alarm}
 use Rattle.ev_peers.specs.declared.request.Answer.{Answer}
+use Rattle.ev_peers.specs.declared.receptions.Reception.{Reception}
 use Rattle.ev_peers.specs.Alarm.{alarm_of, is_second}
 use Rattle.ev_peers.specs.Giving.{Parcel, behind, parcels_of}
 
@@ -38,13 +39,14 @@ AskedEach p [] p' = p' ≡ p
 AskedEach p (u ∷ us) p' = (middle : PassState) × AskedEach p us middle × Asked middle (Some u) p'
 
 -- what is spoken of the other edges: an answer on their room, or a record that they are given; and with the operator: a
--- second that passes, an alert, or an answer to a request
+-- second that passes, an alert, that receiving over a link failed or works again, or an answer to a request
 pub data Word : Type 0 where
   has_room : Bool → Word
   record_of : Fields → Word
   second_passes : Word
   tells : Alarm → Word
   answers : Answer → Word
+  hears : Reception → Word
 
 -- there was room, and then the update was given, one after the other, the last one first
 abbrev pub words_of : List Fields → List Word

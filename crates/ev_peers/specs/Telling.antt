@@ -1,5 +1,5 @@
 -- What is told to the operator while edges run.
-use Rattle.std.specs.Prelude.{◌≡◌, ℕ, List, [], ◌∷◌, ◌++◌, codes, nat_lt, if◌then◌else◌, Option, Some, None, Result}
+use Rattle.std.specs.Prelude.{◌≡◌, ℕ, Bool, false, true, List, [], ◌∷◌, ◌++◌, codes, nat_lt, if◌then◌else◌, Option, Some, None, Result}
 use Rattle.std.specs.Prelude.{Ok, Err}
 use Rattle.std.specs.Fmt.{decimal}
 use Rattle.ether_wire.specs.Addr.{mac_text}
@@ -11,6 +11,11 @@ use Rattle.ev_mobility.specs.declared.alert.Alert.TheVariants.{StaticElsewhere, 
 use Rattle.ev_mobility.specs.declared.alert.Alert.TheVariants.{CounterSpent, TableFull, NoMemory}
 use Rattle.ev_peers.specs.declared.alarm.Alarm.{Alarm}
 use Rattle.ev_peers.specs.declared.board.Notice.{Notice}
+use Rattle.ev_peers.specs.declared.receptions.Input.{Input}
+use Rattle.ev_peers.specs.declared.receptions.Input.TheVariants.{Port, Tunnel, Clock}
+use Rattle.ev_peers.specs.declared.receptions.Reception.{Reception as Change}
+use Rattle.ev_peers.specs.declared.telling.News.{News}
+use Rattle.ev_peers.specs.declared.telling.News.TheVariants.{Alerts, Reception, Untold}
 use Rattle.ev_peers.specs.Giving.{behind}
 use Rattle.ev_peers.specs.Coming.{after_these}
 
@@ -59,16 +64,41 @@ about_text edge (Some a) = alarm_text edge a
 abbrev pub notice_text : ℕ → Notice → List ℕ
 notice_text edge n = held_text edge n.held ++ about_text edge n.alarm
 
+-- ---- a link that fails
+
+abbrev pub input_text : Input → List ℕ
+input_text (Port port) = codes "port " ++ decimal port
+input_text Tunnel = codes "tunnel"
+input_text Clock = codes "clock"
+
+abbrev pub state_text : Bool → List ℕ
+state_text true = codes ": receiving again\n"
+state_text false = codes ": receiving failed\n"
+
+-- `edge E port P: receiving failed`, `edge E tunnel: receiving again`
+abbrev pub reception_text : ℕ → Change → List ℕ
+reception_text edge r = codes "edge " ++ decimal edge ++ codes " " ++ input_text r.input ++ state_text r.works
+
+-- `edge E: receiving failed or was there again N more times`
+abbrev pub untold_text : ℕ → ℕ → List ℕ
+untold_text edge count =
+    edge_text edge ++ codes "receiving failed or was there again " ++ decimal count ++ codes " more times\n"
+
 -- ---- all lines
 
--- a notice, and the number of the edge that it is about
+abbrev pub news_text : ℕ → News → List ℕ
+news_text edge (Alerts notice) = notice_text edge notice
+news_text edge (Reception change) = reception_text edge change
+news_text edge (Untold count) = untold_text edge count
+
+-- news, and the number of the edge that they are about
 abbrev pub Told : Type 0
-Told = ℕ × Notice
+Told = ℕ × News
 
 -- the lines of these, the last one first
 abbrev pub lines_of : List Told → List ℕ
 lines_of [] = []
-lines_of (n ∷ ns) = lines_of ns ++ notice_text n.0 n.1
+lines_of (n ∷ ns) = lines_of ns ++ news_text n.0 n.1
 
 -- the end came where no call failed
 abbrev pub end_of_all : Result (Unit {0}) Device → List (Option Told)

@@ -1,6 +1,6 @@
 -- What a worker makes of what comes to it.
-use Rattle.std.specs.Prelude.{◌≡◌, ◌≢◌, ◌⊎◌, ℕ, ◌-◌, ◌^◌, nat_lt, if◌then◌else◌, List, [], ◌∷◌, length, Option, Some}
-use Rattle.std.specs.Prelude.{None, Result, Ok, Err}
+use Rattle.std.specs.Prelude.{◌≡◌, ◌≢◌, ◌⊎◌, ℕ, ◌-◌, ◌^◌, nat_lt, Bool, false, true, if◌then◌else◌, List, [], ◌∷◌, length}
+use Rattle.std.specs.Prelude.{Option, Some, None, Result, Ok, Err}
 use Rattle.vxlan_wire.specs.Vxlan.{instance_of}
 use Rattle.vxlan_wire.specs.declared.vxlan.VxlanRefusal.{VxlanRefusal}
 use Rattle.ev_edge.specs.declared.event.Event.{Event}
@@ -10,12 +10,15 @@ use Rattle.ev_peers.specs.declared.shared_edge.Ended.{Ended}
 use Rattle.ev_peers.specs.declared.shared_edge.Ended.TheVariants.{End, Device as Failed, NoMemory}
 use Rattle.ev_peers.specs.declared.mailbox.Message.{Message}
 use Rattle.ev_peers.specs.declared.mailbox.Message.TheVariants.{Record, Room, Ask}
+use Rattle.ev_peers.specs.declared.receptions.Input.{Input}
+use Rattle.ev_peers.specs.declared.receptions.Input.TheVariants as inputs
+use Rattle.ev_peers.specs.declared.receptions.Reception.{Reception}
 use Rattle.ev_peers.specs.declared.workers.Source.{Source}
 use Rattle.ev_peers.specs.declared.workers.Source.TheVariants.{Port, Tunnel, Clock}
 use Rattle.ev_peers.specs.Giving.{Parcel, behind}
-use Rattle.ev_peers.specs.Links.{Arrival}
-use Rattle.ev_peers.specs.Passing.{Word, Announces, PassesOn}
-use Rattle.ev_peers.specs.Control.{Answers}
+use Rattle.ev_peers.specs.Links.{Arrival, Call, brings, fails}
+use Rattle.ev_peers.specs.Passing.{Word, hears, Announces, PassesOn}
+use Rattle.ev_peers.specs.Control.{Answers as AnswersRequest}
 use Rattle.ev_peers.specs.Coming.{DoesOne, DoesAll, DoesAllToTheEnd}
 
 -- ---- what a datagram is
@@ -83,47 +86,98 @@ Resumes s s' = Announces s.pass s.records s'.pass s'.records × (s'.parcels ≡ 
 abbrev pub Takes : ℕ → Standing → Message → Standing → Type 0
 Takes bridge s (Record u) s' = Does bridge (0, []) s (Some (events.Take u)) s'
 Takes bridge s Room s' = Resumes s s'
-Takes bridge s (Ask request) s' = Answers bridge request s.pass s.parcels s.records s'.pass s'.parcels s'.records
+Takes bridge s (Ask request) s' = AnswersRequest bridge request s.pass s.parcels s.records s'.pass s'.parcels s'.records
+
+-- ---- a link that fails, and works again
+
+-- what a worker has done, and whether its link's last call brought something
+pub record Hearing : Type 0 where
+  pub works : Bool
+  pub at : Standing
+
+abbrev pub hearing : Bool → Standing → Hearing
+hearing works at = record { works = works; at = at }
+
+-- a port comes up or goes down
+abbrev pub port_event : ℕ → Bool → Event
+port_event port true = events.PortUp port
+port_event port false = events.PortDown port
+
+abbrev pub input_of : Source → Input
+input_of (Port port vni) = inputs.Port port
+input_of Tunnel = inputs.Tunnel
+input_of Clock = inputs.Clock
+
+-- a port's link has its port come up or go down
+abbrev pub Turns : ℕ → Source → Bool → Standing → Standing → Type 0
+Turns bridge (Port port vni) works s s' = Does bridge (vni, []) s (Some (port_event port works)) s'
+Turns bridge Tunnel works s s' = s' ≡ s
+Turns bridge Clock works s s' = s' ≡ s
+
+-- what is told the operator of a link
+abbrev pub change_of : Source → Bool → Reception
+change_of source works = record { input = input_of source; works = works }
+
+-- the operator is told that a link works again or has failed, and its port comes up or goes down
+abbrev pub Changes : ℕ → Source → Bool → Standing → Standing → Type 0
+Changes bridge source works s s' =
+    Turns bridge source works (standing s.pass s.parcels (behind s.records (hears (change_of source works) ∷ []))) s'
+
+-- so it is where a call went another way than the one before, and there alone
+abbrev pub Becomes : ℕ → Source → Bool → Bool → Standing → Standing → Type 0
+Becomes bridge source true true s s' = s' ≡ s
+Becomes bridge source true false s s' = Changes bridge source false s s'
+Becomes bridge source false true s s' = Changes bridge source true s s'
+Becomes bridge source false false s s' = s' ≡ s
+
+abbrev pub has_brought : Call → Bool
+has_brought (brings a) = true
+has_brought fails = false
+
+-- what a call brought is handled
+abbrev pub HandlesCall : ℕ → Source → Standing → Call → Standing → Type 0
+HandlesCall bridge source s (brings a) s' = Handles bridge source s a s'
+HandlesCall bridge source s fails s' = s' ≡ s
+
+-- One call of a worker's link: where it went another way than the one before, that is told, and its port turns; then
+-- what it brought is handled.
+pub record Answers (bridge : ℕ) (source : Source) (h : Hearing) (call : Call) (h' : Hearing) : Type 0 where
+  pub works : h'.works ≡ has_brought call
+  pub turned : Standing
+  pub becomes : Becomes bridge source h.works (has_brought call) h.at turned
+  pub handles : HandlesCall bridge source turned call h'.at
 
 -- ---- a worker
 
--- one turn of a worker: what came over its link was handled; if it ends there, nothing more came, or a call failed.
--- Refused memory ends none
-abbrev pub Turns : Option Ended → ℕ → Source → Option (List (Option Arrival)) → Standing
-    → Option (List (Option Arrival)) → Standing → Type 0
-Turns None bridge source came s came' s' = DoesOne (Handles bridge source) came s came' s'
-Turns (Some End) bridge source came s came' s' = (came' ≡ behind came (None ∷ [])) × (s' ≡ s)
-Turns (Some Failed) bridge source came s came' s' = (came' ≡ behind came []) × (s' ≡ s)
-Turns (Some NoMemory) bridge source came s came' s' = ⊥
+-- one turn of a worker: a call of its link was answered; or it was at its end
+abbrev pub TurnsOnce : Bool → ℕ → Source → Option (List (Option Call)) → Hearing → Option (List (Option Call)) → Hearing
+    → Type 0
+TurnsOnce true bridge source came h came' h' = DoesOne (Answers bridge source) came h came' h'
+TurnsOnce false bridge source came h came' h' = (came' ≡ behind came (None ∷ [])) × (h' ≡ h)
 
 -- how often a link can fail
 abbrev pub most_failures : ℕ
 most_failures = 2 ^ 64 - 1
 
--- it handled all that came over its link: to the link's end, unless the link had failed as often as it can, or up to a
--- failure
-abbrev pub Ends : Ended → ℕ → Source → ℕ → Option (List (Option Arrival)) → Standing → Option (List (Option Arrival))
-    → Standing → Type 0
-Ends End bridge source failed came s came' s' =
-    DoesAllToTheEnd (Handles bridge source) came s came' s'
-    ⊎ (DoesAll (Handles bridge source) came s came' s' × (failed ≡ most_failures))
-Ends Failed bridge source failed came s came' s' = DoesAll (Handles bridge source) came s came' s'
-Ends NoMemory bridge source failed came s came' s' = ⊥
+-- it answered all calls of its link: to the link's end, unless the link had failed as often as it can
+abbrev pub Hears : ℕ → Source → ℕ → Option (List (Option Call)) → Hearing → Option (List (Option Call)) → Hearing
+    → Type 0
+Hears bridge source failed came h came' h' =
+    DoesAllToTheEnd (Answers bridge source) came h came' h'
+    ⊎ (DoesAll (Answers bridge source) came h came' h' × (failed ≡ most_failures))
 
--- a port whose link failed is taken down; one whose link ended stays as it is
-abbrev pub Leaves : Ended → ℕ → ℕ → ℕ → Standing → Standing → Type 0
-Leaves End bridge port vni s s' = s' ≡ s
-Leaves Failed bridge port vni s s' = Does bridge (vni, []) s (Some (events.PortDown port)) s'
-Leaves NoMemory bridge port vni s s' = s' ≡ s
+-- A link works at the beginning. Failures and refused memory end no worker.
+pub record Ends (bridge : ℕ) (source : Source) (failed : ℕ) (came : Option (List (Option Call))) (s : Standing)
+    (came' : Option (List (Option Call))) (s' : Standing) : Type 0 where
+  pub works : Bool
+  pub hears : Hears bridge source failed came (hearing true s) came' (hearing works s')
 
--- A port's worker brings its port up, handles what comes over its link, and leaves the port.
-pub record PortEnds (ended : Ended) (bridge port vni failed : ℕ) (came : Option (List (Option Arrival))) (s : Standing)
-    (came' : Option (List (Option Arrival))) (s' : Standing) : Type 0 where
+-- A port's worker brings its port up, and answers all calls of its link.
+pub record PortEnds (bridge port vni failed : ℕ) (came : Option (List (Option Call))) (s : Standing)
+    (came' : Option (List (Option Call))) (s' : Standing) : Type 0 where
   pub up : Standing
-  pub comes_up : Does bridge (vni, []) s (Some (events.PortUp port)) up
-  pub last : Standing
-  pub ends : Ends ended bridge (Port port vni) failed came up came' last
-  pub leaves : Leaves ended bridge port vni last s'
+  pub comes_up : Turns bridge (Port port vni) true s up
+  pub ends : Ends bridge (Port port vni) failed came up came' s'
 
 -- a worker of other edges' updates took all that came, to the end; it has no link
 abbrev pub PeerEnds : Ended → ℕ → Option (List (Option Message)) → Standing → Option (List (Option Message)) → Standing

@@ -1,7 +1,9 @@
 //! The boards of all edges, which their workers share with the one that tells the operator.
 
 use crate::alarm::Alarm;
-use crate::board::{Board, Notice};
+use crate::board::Board;
+use crate::receptions::{Reception, Receptions};
+use crate::telling::News;
 use std::alloc::{AllocError, Global};
 use std::sync::{Condvar, Mutex, Wait};
 
@@ -14,12 +16,21 @@ struct Bell {
     has_ended: bool,
 }
 
-/// A board for each edge, under a lock of its own. What their calls do is what those of `Board` do;
-/// no clause can say so, since none names what a lock holds at that moment. Nobody who holds a lock
+/// What waits of an edge, each under a lock of its own.
+#[derive(Drop)]
+struct OfEdge {
+    /// Its alerts.
+    board: Mutex<Board>,
+    /// Which links it receives over failed, or work again.
+    receptions: Mutex<Receptions>,
+}
+
+/// A board for each edge. What their calls do is what those of `Board` and of `Receptions` do; no
+/// clause can say so, since none names what a lock holds at that moment. Nobody who holds a lock
 /// waits for another one.
 #[derive(Drop)]
 pub struct Boards {
-    all: Vec<Mutex<Board>>,
+    all: Vec<OfEdge>,
     bell: Mutex<Bell>,
     /// Rung behind the lock of the bell.
     ringing: Condvar,
@@ -35,7 +46,10 @@ impl Boards {
         let mut all = Vec::with_capacity(alloc, edges)?;
         for place in 0..edges {
             let _ = place;
-            all.push(Mutex::new(Board::new()))?;
+            all.push(OfEdge {
+                board: Mutex::new(Board::new()),
+                receptions: Mutex::new(Receptions::new()),
+            })?;
         }
         Ok(Boards {
             all,
@@ -47,8 +61,8 @@ impl Boards {
         })
     }
 
-    /// The board of the edge with this number, from 1.
-    fn of(&self, edge: usize) -> Option<&Mutex<Board>> {
+    /// What waits of the edge with this number, from 1.
+    fn of(&self, edge: usize) -> Option<&OfEdge> {
         self.all.get(edge.saturating_sub(1))
     }
 
@@ -66,18 +80,29 @@ impl Boards {
 
     /// A second passes at the edge with this number.
     pub(crate) fn second<R: Wait>(&self, rt: &R, edge: usize) {
-        if let Some(board) = self.of(edge) {
-            board.lock(rt).second();
+        if let Some(of_edge) = self.of(edge) {
+            of_edge.board.lock(rt).second();
         }
     }
 
     /// Puts an alert of the edge with this number up, or holds it back. An alert that is held back
     /// touches nothing that another edge waits for.
     pub(crate) fn alarm<R: Wait>(&self, rt: &R, edge: usize, alarm: Alarm) {
-        let Some(board) = self.of(edge) else {
+        let Some(of_edge) = self.of(edge) else {
             return;
         };
-        let is_put = board.lock(rt).alarm(alarm);
+        let is_put = of_edge.board.lock(rt).alarm(alarm);
+        if is_put {
+            self.ring(rt, false);
+        }
+    }
+
+    /// Tells that receiving over a link of the edge with this number failed, or works again.
+    pub(crate) fn reception<R: Wait>(&self, rt: &R, edge: usize, reception: Reception) {
+        let Some(of_edge) = self.of(edge) else {
+            return;
+        };
+        let is_put = of_edge.receptions.lock(rt).put(reception);
         if is_put {
             self.ring(rt, false);
         }
@@ -88,21 +113,29 @@ impl Boards {
         self.ring(rt, true);
     }
 
-    /// The first notice that waits, with the number of its edge.
-    fn first<R: Wait>(&self, rt: &R) -> Option<(u64, Notice)> {
-        for (place, board) in self.all.iter().enumerate() {
-            if let Some(notice) = board.lock(rt).take() {
-                return Some((place as u64 + 1, notice));
+    /// What waits first, with the number of its edge.
+    fn first<R: Wait>(&self, rt: &R) -> Option<(u64, News)> {
+        for (place, of_edge) in self.all.iter().enumerate() {
+            let edge = place as u64 + 1;
+            if let Some(reception) = of_edge.receptions.lock(rt).take() {
+                return Some((edge, News::Reception(reception)));
+            }
+            if let Some(notice) = of_edge.board.lock(rt).take() {
+                return Some((edge, News::Alerts(notice)));
             }
         }
         None
     }
 
-    /// The first notice of the end, with the number of its edge.
-    fn last<R: Wait>(&self, rt: &R) -> Option<(u64, Notice)> {
-        for (place, board) in self.all.iter().enumerate() {
-            if let Some(notice) = board.lock(rt).take_last() {
-                return Some((place as u64 + 1, notice));
+    /// What is told at the end first, with the number of its edge.
+    fn last<R: Wait>(&self, rt: &R) -> Option<(u64, News)> {
+        for (place, of_edge) in self.all.iter().enumerate() {
+            let edge = place as u64 + 1;
+            if let Some(count) = of_edge.receptions.lock(rt).take_untold() {
+                return Some((edge, News::Untold(count)));
+            }
+            if let Some(notice) = of_edge.board.lock(rt).take_last() {
+                return Some((edge, News::Alerts(notice)));
             }
         }
         None
@@ -122,8 +155,8 @@ impl Boards {
     }
 
     /// Waits for what is told next, with the number of its edge. None once nothing waits, nothing
-    /// more is put up, and of each edge it was told how many alerts were held back.
-    pub(crate) fn next<R: Wait>(&self, rt: &R) -> Option<(u64, Notice)> {
+    /// more is put up, and of each edge it was told how much was held back.
+    pub(crate) fn next<R: Wait>(&self, rt: &R) -> Option<(u64, News)> {
         for _ in rt.forever() {
             let first = self.first(rt);
             if first.is_some() {

@@ -58,24 +58,22 @@ fn is_due(calls: &mut u64, at: u64) -> bool
 }
 
 impl<K: LinkIn> LinkIn for FailAt<K> {
+    ghost use Rattle.std.specs.Prelude.{None};
     ghost use Rattle.ev_peers.specs.FailAt.{failing, inner_link, calls_of, fails_at, counted};
     ghost use Rattle.ev_peers.specs.Giving.{behind};
     ghost use Rattle.ev_peers.specs.Links.{brought};
 
     ghost failed = { failing K.failed };
 
-    ghost came = { λ f. K.came (inner_link f) };
+    ghost came = { λ f. None };
 
     fn failures(&self) -> u64 {
         self.inner.failures().saturating_add(self.failures)
     }
 
-    #[tactic(auto, using(crate::proofs::Behind::behind_none))]
     fn recv(&mut self, buffer: &mut [u8]) -> Result<Option<(Addr, usize)>, Device>
         requires { failing K.failed self.old + 1 < 2 ^ 64 }
         ensures fits { IfOk result (λ r. IfSome r (λ p. p.1 ≤ length buffer.new)) }
-        ensures came { K.came (inner_link self.new)
-            ≡ behind (K.came (inner_link self.old)) (brought result buffer.new) }
         ensures failed { failing K.failed self.new
             ≡ failing K.failed self.old + (if is_err result then 1 else 0) }
         ensures due { calls_of self.old + 1 ≡ fails_at self.old
@@ -83,6 +81,9 @@ impl<K: LinkIn> LinkIn for FailAt<K> {
         ensures other { calls_of self.old + 1 ≢ fails_at self.old
             → K.failed (inner_link self.new)
             ≡ K.failed (inner_link self.old) + (if is_err result then 1 else 0) }
+        ensures passed { calls_of self.old + 1 ≢ fails_at self.old
+            → K.came (inner_link self.new)
+            ≡ behind (K.came (inner_link self.old)) (brought result buffer.new) }
         ensures counted { (calls_of self.new ≡ counted (calls_of self.old))
             × (fails_at self.new ≡ fails_at self.old) }
     {

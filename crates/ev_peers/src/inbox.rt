@@ -6,11 +6,11 @@ ghost use Rattle.ev_peers.specs.Line.{handed};
 ghost use Rattle.ev_peers.specs.declared.mailbox.Message.{Message};
 ghost use Rattle.ev_peers.specs.Telling.{Told};
 
-use crate::board::Notice;
 use crate::boards::Boards;
 use crate::mailbox::Message;
 use crate::peers::Peers;
 use crate::shared_line::SharedLine;
+use crate::telling::News;
 use ether_wire::Addr;
 use std::sync::Wait;
 
@@ -39,12 +39,12 @@ pub trait PacketsIn {
 
 /// Where what an operator is told comes from.
 pub trait NoticesIn {
-    /// What came, in its order, where it tells it: each notice with the number of its edge, and
-    /// none for the end.
+    /// What came, in its order, where it tells it: each piece of news with the number of its edge,
+    /// and none for the end.
     ghost came: { Self → Option (List (Option Told)) };
 
-    /// Waits for the next notice, and the number of the edge that it is about. None at the end.
-    fn next(&mut self) -> Option<(u64, Notice)>
+    /// Waits for the next news, and the number of the edge that they are about. None at the end.
+    fn next(&mut self) -> Option<(u64, News)>
         ensures { came self.new ≡ behind (came self.old) (result ∷ []) };
 }
 
@@ -98,7 +98,7 @@ impl<R: Wait> NoticesIn for NoticeBox<'_, R> {
 
     ghost came = { λ b. None };
 
-    fn next(&mut self) -> Option<(u64, Notice)> {
+    fn next(&mut self) -> Option<(u64, News)> {
         self.boards.next(self.rt)
     }
 }

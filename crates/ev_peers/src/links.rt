@@ -1,7 +1,7 @@
 //! Where datagrams come from and where they go: an access port, a tunnel's socket, a clock.
 ghost use Rattle.std.specs.Prelude.{◌≡◌, ℕ, ◌+◌, ◌^◌, ◌<◌, ◌≤◌, Option, List, length, is_err, if◌then◌else◌, IfOk, IfSome};
 ghost use Rattle.ev_peers.specs.Giving.{behind};
-ghost use Rattle.ev_peers.specs.Links.{Arrival, Packet, brought, sent_by};
+ghost use Rattle.ev_peers.specs.Links.{Call, Packet, brought, sent_by};
 
 use ether_wire::{Addr, Device};
 
@@ -10,15 +10,18 @@ pub trait LinkIn {
     /// How many calls have failed.
     ghost failed: { Self → ℕ };
 
-    /// What came, in its order, where it tells it: each datagram, and none for the end.
-    ghost came: { Self → Option (List (Option Arrival)) };
+    /// What came, in its order, where it tells it: each datagram, each call that failed, and none
+    /// for the end.
+    ghost came: { Self → Option (List (Option Call)) };
 
     /// How many calls have failed so far.
     fn failures(&self) -> u64
         ensures { result ≡ failed self.now };
 
     /// Waits for the next datagram and puts it at the front of the buffer, cut to its length: the
-    /// address that it comes from, and how many octets it has in the buffer. None at the end.
+    /// address that it comes from, and how many octets it has in the buffer. None at the end. An
+    /// empty datagram says no more than that the link works. A call behind one that failed waits for
+    /// a second before, so that a link which goes on failing costs its worker nothing.
     ///
     /// # Errors
     ///

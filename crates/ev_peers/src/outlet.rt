@@ -1,11 +1,12 @@
 //! Where the workers of an edge give what the book answers: frames to the lines of its links,
-//! records to the other edges, alerts to the operator.
+//! records to the other edges, alerts and failing links to the operator.
 ghost use Rattle.std.specs.Prelude.{◌≡◌, ◌∷◌, [], Option, List};
 ghost use Rattle.ev_peers.specs.Giving.{Parcel, parcel, first_parcel, behind};
-ghost use Rattle.ev_peers.specs.Passing.{Word, has_room, record_of, second_passes, tells, answers};
+ghost use Rattle.ev_peers.specs.Passing.{Word, has_room, record_of, second_passes, tells, hears, answers};
 
 use crate::alarm::Alarm;
 use crate::peers::Peers;
+use crate::receptions::Reception;
 use crate::request::Answer;
 use crate::shared_line::SharedLine;
 use ether_wire::Addr;
@@ -27,8 +28,8 @@ pub trait Outlet {
     ghost parcels: { Self → Option (List Parcel) };
 
     /// What was spoken of the other edges and with the operator, where it tells it: each answer on
-    /// their room, each record that was given, each second, each alert and each answer to a
-    /// request, in their order.
+    /// their room, each record that was given, each second, each alert, each change of a link that
+    /// is received over, and each answer to a request, in their order.
     ghost records: { Self → Option (List Word) };
 
     /// Takes a frame for a link, whose line has room for it or drops and counts it.
@@ -61,6 +62,11 @@ pub trait Outlet {
     /// Puts an alert on the operator's board, which may hold it back and counts it then.
     fn alarm(&mut self, alarm: Alarm)
         ensures told { records self.new ≡ behind (records self.old) (tells alarm ∷ []) }
+        ensures parcels { parcels self.new ≡ parcels self.old };
+
+    /// Tells the operator that receiving over a link failed, or works again.
+    fn reception(&mut self, reception: Reception)
+        ensures told { records self.new ≡ behind (records self.old) (hears reception ∷ []) }
         ensures parcels { parcels self.new ≡ parcels self.old };
 
     /// Gives the operator the answer to a request.
@@ -128,6 +134,10 @@ impl<R: Wait> Outlet for Senders<'_, R> {
 
     fn alarm(&mut self, alarm: Alarm) {
         self.peers.alarm(self.rt, alarm);
+    }
+
+    fn reception(&mut self, reception: Reception) {
+        self.peers.reception(self.rt, reception);
     }
 
     fn answer(&mut self, answer: Answer) {

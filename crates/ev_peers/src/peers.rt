@@ -6,6 +6,7 @@ ghost use Rattle.std.specs.Prelude.{◌≡◌, IfSome};
 use crate::alarm::Alarm;
 use crate::boards::Boards;
 use crate::mailbox::Message;
+use crate::receptions::Reception;
 use crate::request::Answer;
 use crate::shared_mailbox::SharedMailbox;
 use route_wire::Update;
@@ -102,6 +103,11 @@ impl Peers<'_> {
     /// Puts an alert on this edge's board.
     pub(crate) fn alarm<R: Wait>(&self, rt: &R, alarm: Alarm) {
         self.boards.alarm(rt, self.number, alarm);
+    }
+
+    /// Tells that receiving over a link of this edge failed, or works again.
+    pub(crate) fn reception<R: Wait>(&self, rt: &R, reception: Reception) {
+        self.boards.reception(rt, self.number, reception);
     }
 
     /// Tells each of the others that this edge has room again.

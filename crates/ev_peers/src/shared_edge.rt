@@ -22,7 +22,7 @@ use std::sync::{Mutex, Wait};
 pub enum Ended {
     /// Its link or channel came to its end.
     End,
-    /// Its link failed.
+    /// Its link came to its end, and a call of it had failed.
     Device,
     /// It was refused its thread.
     NoMemory,

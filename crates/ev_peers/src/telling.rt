@@ -2,15 +2,27 @@
 ghost use Rattle.std.specs.Prelude.{◌≡◌, ◌++◌, codes};
 ghost use Rattle.std.specs.Fmt.{decimal};
 ghost use Rattle.ether_wire.specs.Ends.{IsOpen, Puts};
-ghost use Rattle.ev_peers.specs.Telling.{alert_words, edge_text, count_text, held_text, station_text, place_text, about_text, alarm_text, notice_text, TellsAll};
+ghost use Rattle.ev_peers.specs.Telling.{alert_words, edge_text, count_text, held_text, station_text, place_text, about_text, alarm_text, notice_text, input_text, state_text, reception_text, untold_text, news_text, TellsAll};
 
 use crate::alarm::Alarm;
 use crate::board::Notice;
 use crate::inbox::NoticesIn;
+use crate::receptions::{Input, Reception};
 use ether_wire::{Device, Out, put_decimal, put_mac};
 use ev_mobility::Alert;
 use mac_arena::Station;
 use std::sync::Wait;
+
+/// What an operator is told at once of an edge.
+#[derive(Clone, Copy, Debug, PartialEq, Eq)]
+pub enum News {
+    /// An alert, or how many were held back.
+    Alerts(Notice),
+    /// That receiving over a link failed, or works again.
+    Reception(Reception),
+    /// So many times this wasn't told.
+    Untold(u64),
+}
 
 /// The words for an alert.
 fn alert_words(alert: Alert) -> &'static str
@@ -129,6 +141,82 @@ pub fn put_notice<N: Out>(notes: &mut N, edge: u64, notice: &Notice) -> Result<(
     notes.flush()
 }
 
+/// Writes `port P`, `tunnel` or `clock`.
+#[tactic(auto, using(ether_wire::proofs::Appending::with_text_twice))]
+fn put_input<N: Out>(notes: &mut N, input: Input) -> Result<(), Device>
+    requires { IsOpen (N.end notes.old) }
+    ensures { Puts (N.end notes.old) (N.end notes.new) (input_text input) result }
+{
+    match input {
+        Input::Port(port) => {
+            notes.put(b"port ")?;
+            put_decimal(notes, u64::from(port))
+        }
+        Input::Tunnel => notes.put(b"tunnel"),
+        Input::Clock => notes.put(b"clock"),
+    }
+}
+
+/// Writes that receiving failed, or works again, and the end of the line.
+fn put_state<N: Out>(notes: &mut N, works: bool) -> Result<(), Device>
+    requires { IsOpen (N.end notes.old) }
+    ensures { Puts (N.end notes.old) (N.end notes.new) (state_text works) result }
+{
+    if works {
+        notes.put(b": receiving again\n")
+    } else {
+        notes.put(b": receiving failed\n")
+    }
+}
+
+/// Writes `edge E INPUT: receiving failed`, or that it works again.
+#[tactic(auto, using(ether_wire::proofs::Appending::with_text_twice))]
+fn put_reception<N: Out>(notes: &mut N, edge: u64, reception: Reception) -> Result<(), Device>
+    requires { IsOpen (N.end notes.old) }
+    ensures { Puts (N.end notes.old) (N.end notes.new) (reception_text edge reception) result }
+{
+    notes.put(b"edge ")?;
+    put_decimal(notes, edge)?;
+    notes.put(b" ")?;
+    put_input(notes, reception.input)?;
+    put_state(notes, reception.works)
+}
+
+/// Writes `edge E: receiving failed or was there again N more times`.
+#[tactic(auto, using(ether_wire::proofs::Appending::with_text_twice))]
+fn put_untold<N: Out>(notes: &mut N, edge: u64, count: u64) -> Result<(), Device>
+    requires { IsOpen (N.end notes.old) }
+    ensures { Puts (N.end notes.old) (N.end notes.new) (untold_text edge count) result }
+{
+    put_edge(notes, edge)?;
+    notes.put(b"receiving failed or was there again ")?;
+    put_decimal(notes, count)?;
+    notes.put(b" more times\n")
+}
+
+/// Writes what an operator is told at once of the edge with this number, and sees that it goes out.
+///
+/// # Errors
+///
+/// `Device` exactly where a call of the writer failed; then no further call is made.
+#[tactic(auto, using(ether_wire::proofs::Appending::with_text_twice, ether_wire::proofs::Appending::with_text_none))]
+fn put_news<N: Out>(notes: &mut N, edge: u64, news: &News) -> Result<(), Device>
+    requires { IsOpen (N.end notes.old) }
+    ensures { Puts (N.end notes.old) (N.end notes.new) (news_text edge news.now) result }
+{
+    match news {
+        News::Alerts(notice) => put_notice(notes, edge, notice),
+        News::Reception(reception) => {
+            put_reception(notes, edge, *reception)?;
+            notes.flush()
+        }
+        News::Untold(count) => {
+            put_untold(notes, edge, *count)?;
+            notes.flush()
+        }
+    }
+}
+
 /// Writes what comes for the operator, until nothing more comes or a call of the writer fails.
 ///
 /// # Errors
@@ -144,10 +232,10 @@ pub fn notice_worker<A: NoticesIn, N: Out, R: Wait>(
         (N.end notes.new) result }
 {
     for _ in rt.forever() {
-        let Some((edge, notice)) = notices.next() else {
+        let Some((edge, news)) = notices.next() else {
             return Ok(());
         };
-        match put_notice(notes, edge, &notice) {
+        match put_news(notes, edge, &news) {
             Ok(()) => {}
             Err(device) => return Err(device),
         }

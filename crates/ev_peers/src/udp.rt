@@ -30,31 +30,36 @@ fn address_of(from: SocketAddr) -> Addr
 
 /// What a wire brings.
 #[derive(Clone, Copy)]
-enum Spring<'x, C> {
+enum Spring<'x> {
     /// The datagrams that come to this socket.
     Socket(&'x UdpSocket),
-    /// The seconds of this clock.
-    Clock(&'x C),
+    /// The seconds of the clock.
+    Clock,
 }
 
 /// What comes to a socket, or the seconds of a clock, until a flag says to stop. An empty datagram
 /// wakes it to look at the flag.
 #[derive(Drop)]
 pub struct Wire<'x, C> {
-    spring: Spring<'x, C>,
+    spring: Spring<'x>,
+    clock: &'x C,
     stop: &'x AtomicBool,
     failures: u64,
+    /// Whether the last call failed.
+    is_failing: bool,
 }
 
 impl<'x, C: Clock> Wire<'x, C> {
-    /// What comes to this socket.
-    pub fn socket(socket: &'x UdpSocket, stop: &'x AtomicBool) -> Self
+    /// What comes to this socket. The clock tells when a second is over.
+    pub fn socket(clock: &'x C, socket: &'x UdpSocket, stop: &'x AtomicBool) -> Self
         ensures { result.failures ≡ 0 }
     {
         Wire {
             spring: Spring::Socket(socket),
+            clock,
             stop,
             failures: 0,
+            is_failing: false,
         }
     }
 
@@ -63,26 +68,60 @@ impl<'x, C: Clock> Wire<'x, C> {
         ensures { result.failures ≡ 0 }
     {
         Wire {
-            spring: Spring::Clock(clock),
+            spring: Spring::Clock,
+            clock,
             stop,
             failures: 0,
+            is_failing: false,
         }
     }
 
-    /// Waits for a datagram or a second.
+    /// Waits for a second.
+    fn sleep(&self) {
+        thread::sleep(self.clock, Duration::from_secs(1));
+    }
+
+    /// Whether the flag says to stop.
+    fn has_stopped(&self) -> bool {
+        self.stop.load(Ordering::SeqCst)
+    }
+
+    /// How long a read of the socket waits, for ever if nothing is said.
+    fn limit(&self, limit: Option<Duration>) -> io::Result<()> {
+        match &self.spring {
+            Spring::Socket(socket) => socket.set_read_timeout(limit),
+            Spring::Clock => Ok(()),
+        }
+    }
+
+    /// Waits for a datagram or a second. Where none comes for as long as a read waits, that is an
+    /// empty one.
     fn wait(&self, buffer: &mut [u8]) -> io::Result<(usize, Addr)>
         ensures { IfOk result (λ r. r.0 ≤ length buffer.new) }
     {
         match &self.spring {
-            Spring::Socket(socket) => {
-                let (size, from) = socket.recv_from(buffer)?;
-                Ok((size, address_of(from)))
-            }
-            Spring::Clock(clock) => {
-                thread::sleep(*clock, Duration::from_secs(1));
+            Spring::Socket(socket) => match socket.recv_from(buffer) {
+                Ok((size, from)) => Ok((size, address_of(from))),
+                Err(error) if error.kind() == io::ErrorKind::WouldBlock => Ok((0, Addr::default())),
+                Err(error) => Err(error),
+            },
+            Spring::Clock => {
+                self.sleep();
                 Ok((0, Addr::default()))
             }
         }
+    }
+
+    /// Looks a second later whether a read still fails. It waits for no datagram: where none comes
+    /// the socket works, too.
+    fn wait_again(&self, buffer: &mut [u8]) -> io::Result<(usize, Addr)>
+        ensures { IfOk result (λ r. r.0 ≤ length buffer.new) }
+    {
+        self.sleep();
+        self.limit(Some(Duration::from_millis(1)))?;
+        let got = self.wait(buffer)?;
+        self.limit(None)?;
+        Ok(got)
     }
 }
 
@@ -98,10 +137,15 @@ impl<C: Clock> LinkIn for Wire<'_, C> {
     }
 
     fn recv(&mut self, buffer: &mut [u8]) -> Result<Option<(Addr, usize)>, Device> {
-        let got = self.wait(buffer);
-        if self.stop.load(Ordering::SeqCst) {
+        let got = if self.is_failing {
+            self.wait_again(buffer)
+        } else {
+            self.wait(buffer)
+        };
+        if self.has_stopped() {
             return Ok(None);
         }
+        self.is_failing = got.is_err();
         match got {
             Ok((size, from)) => Ok(Some((from, size))),
             Err(_) => {

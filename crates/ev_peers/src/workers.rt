@@ -1,8 +1,8 @@
 //! The workers of an edge: each takes what comes over one link or channel, one thing at a time.
-ghost use Rattle.std.specs.Prelude.{◌≡◌, ◌+◌, ◌^◌, ◌<◌, ◌≤◌, length, take};
-ghost use Rattle.ev_peers.specs.Links.{failures_told, failures_in, arrival, packet};
-ghost use Rattle.ev_peers.specs.declared.workers.Source.TheVariants.{Tunnel, Clock};
-ghost use Rattle.ev_peers.specs.Working.{IsEventOf, fitting, unwrapped, carried, standing, Handles, Turns, Takes, Ends, Leaves, PortEnds, PeerEnds};
+ghost use Rattle.std.specs.Prelude.{◌≡◌, ◌+◌, ◌^◌, ◌<◌, ◌≤◌, true, length, take};
+ghost use Rattle.ev_peers.specs.Links.{ended_of, arrival, packet};
+ghost use Rattle.ev_peers.specs.declared.workers.Source.TheVariants.{Port, Tunnel, Clock};
+ghost use Rattle.ev_peers.specs.Working.{IsEventOf, fitting, unwrapped, carried, standing, hearing, input_of, Handles, Turns, Changes, Becomes, TurnsOnce, Hears, Takes, Ends, PortEnds, PeerEnds};
 ghost use Rattle.vxlan_wire.specs.Vxlan.{instance_of};
 ghost use Rattle.ev_peers.specs.Sending.{gone, Sends, OutEnds};
 
@@ -13,6 +13,7 @@ use crate::line::LONGEST;
 use crate::links::{LinkIn, LinkOut};
 use crate::mailbox::Message;
 use crate::outlet::Outlet;
+use crate::receptions::{Input, Reception};
 use crate::shared_edge::{Ended, Scratch, SharedEdge};
 use ether_wire::{Addr, Vni};
 use ev_book::Pass;
@@ -102,8 +103,85 @@ fn enter_datagram<L: Ledger, O: Outlet, G: Gate, R: Wait>(
     shared_edge.act(pass, outlet, scratch, &event, vni, frame);
 }
 
-/// Waits for the next datagram of a link and enters it, and answers why the
-/// worker ends, if it does.
+/// Brings an access port up, or takes it down.
+fn turn_port<L: Ledger, O: Outlet, G: Gate, R: Wait>(
+    shared_edge: &SharedEdge<'_, L, G, R>,
+    pass: &mut Pass<L>,
+    outlet: &mut O,
+    scratch: &mut Scratch,
+    port: u8,
+    vni: Vni,
+    is_up: bool,
+)
+    ensures { Turns shared_edge.now.bridge (Port port vni) is_up
+        (standing pass.old (O.parcels outlet.old) (O.records outlet.old))
+        (standing pass.new (O.parcels outlet.new) (O.records outlet.new)) }
+{
+    if is_up {
+        shared_edge.act(pass, outlet, scratch, &Event::PortUp(port), vni, &[]);
+    } else {
+        shared_edge.act(pass, outlet, scratch, &Event::PortDown(port), vni, &[]);
+    }
+}
+
+/// What is received over a link.
+fn input_of(source: &Source) -> Input
+    ensures { result ≡ input_of source.now }
+{
+    match source {
+        Source::Port(port, _) => Input::Port(*port),
+        Source::Tunnel => Input::Tunnel,
+        Source::Clock => Input::Clock,
+    }
+}
+
+/// Tells the operator that a link works again or has failed, and has its access port come up or go
+/// down: a bridge that hears nothing there any more would take itself for the only one, and open a
+/// ring.
+fn change<L: Ledger, O: Outlet, G: Gate, R: Wait>(
+    shared_edge: &SharedEdge<'_, L, G, R>,
+    pass: &mut Pass<L>,
+    outlet: &mut O,
+    scratch: &mut Scratch,
+    source: &Source,
+    works: bool,
+)
+    ensures { Changes shared_edge.now.bridge source.now works
+        (standing pass.old (O.parcels outlet.old) (O.records outlet.old))
+        (standing pass.new (O.parcels outlet.new) (O.records outlet.new)) }
+{
+    outlet.reception(Reception {
+        input: input_of(source),
+        works,
+    });
+    if let Source::Port(port, vni) = source {
+        turn_port(shared_edge, pass, outlet, scratch, *port, *vni, works);
+    }
+}
+
+/// Does so where a call of the link went another way than the one before.
+fn note_call<L: Ledger, O: Outlet, G: Gate, R: Wait>(
+    shared_edge: &SharedEdge<'_, L, G, R>,
+    pass: &mut Pass<L>,
+    outlet: &mut O,
+    scratch: &mut Scratch,
+    source: &Source,
+    works: &mut bool,
+    has_brought: bool,
+)
+    ensures works { works.new ≡ has_brought }
+    ensures becomes { Becomes shared_edge.now.bridge source.now works.old has_brought
+        (standing pass.old (O.parcels outlet.old) (O.records outlet.old))
+        (standing pass.new (O.parcels outlet.new) (O.records outlet.new)) }
+{
+    if *works != has_brought {
+        *works = has_brought;
+        change(shared_edge, pass, outlet, scratch, source, has_brought);
+    }
+}
+
+/// Waits for what comes over a link next and enters it, and answers whether that wasn't the end.
+/// A link that fails is called again.
 fn turn<L: Ledger, I: LinkIn, O: Outlet, G: Gate, R: Wait>(
     shared_edge: &SharedEdge<'_, L, G, R>,
     pass: &mut Pass<L>,
@@ -112,46 +190,52 @@ fn turn<L: Ledger, I: LinkIn, O: Outlet, G: Gate, R: Wait>(
     buffer: &mut [u8],
     link: &mut I,
     source: &Source,
-) -> Option<Ended>
+    works: &mut bool,
+) -> bool
     requires { I.failed link.old + 1 < 2 ^ 64 }
-    ensures failed { I.failed link.new ≡ I.failed link.old + failures_in result }
-    ensures turns { Turns result shared_edge.now.bridge source.now (I.came link.old)
-        (standing pass.old (O.parcels outlet.old) (O.records outlet.old)) (I.came link.new)
-        (standing pass.new (O.parcels outlet.new) (O.records outlet.new)) }
+    ensures { TurnsOnce result shared_edge.now.bridge source.now (I.came link.old)
+        (hearing works.old (standing pass.old (O.parcels outlet.old) (O.records outlet.old)))
+        (I.came link.new)
+        (hearing works.new (standing pass.new (O.parcels outlet.new) (O.records outlet.new))) }
 {
     match link.recv(buffer) {
         Ok(Some((from, size))) => {
             let (octets, _) = buffer.split_at(size);
+            note_call(shared_edge, pass, outlet, scratch, source, works, true);
             enter_datagram(shared_edge, pass, outlet, scratch, source, from, octets);
-            None
+            true
         }
-        Ok(None) => Some(Ended::End),
-        Err(_) => Some(Ended::Device),
+        Ok(None) => false,
+        Err(_) => {
+            note_call(shared_edge, pass, outlet, scratch, source, works, false);
+            true
+        }
     }
 }
 
-/// Enters what comes over a link until it ends or fails. One octet more than the longest datagram
-/// has room, so that none is cut to a shorter one that would be taken for whole.
-fn link_worker<L: Ledger, I: LinkIn, O: Outlet, G: Gate, R: Wait>(
+/// Enters what comes over a link until it ends, and answers whether its last call brought something.
+/// One octet more than the longest datagram has room, so that none is cut to a shorter one that
+/// would be taken for whole.
+fn hear_all<L: Ledger, I: LinkIn, O: Outlet, G: Gate, R: Wait>(
     shared_edge: &SharedEdge<'_, L, G, R>,
     pass: &mut Pass<L>,
     outlet: &mut O,
     link: &mut I,
     source: &Source,
-) -> Ended
-    ensures failed { I.failed link.new ≡ I.failed link.old + failures_told result }
-    ensures works { Ends result shared_edge.now.bridge source.now (I.failed link.new)
-        (I.came link.old)
-        (standing pass.old (O.parcels outlet.old) (O.records outlet.old)) (I.came link.new)
-        (standing pass.new (O.parcels outlet.new) (O.records outlet.new)) }
+) -> bool
+    ensures { Hears shared_edge.now.bridge source.now (I.failed link.new) (I.came link.old)
+        (hearing true (standing pass.old (O.parcels outlet.old) (O.records outlet.old)))
+        (I.came link.new)
+        (hearing result (standing pass.new (O.parcels outlet.new) (O.records outlet.new))) }
 {
     let mut scratch = Scratch::new();
     let mut buffer = [0u8; 9027];
+    let mut works = true;
     for _ in shared_edge.rt.forever() {
         if link.failures() == u64::MAX {
-            return Ended::End;
+            return works;
         }
-        match turn(
+        let goes_on = turn(
             shared_edge,
             pass,
             outlet,
@@ -159,40 +243,41 @@ fn link_worker<L: Ledger, I: LinkIn, O: Outlet, G: Gate, R: Wait>(
             &mut buffer,
             link,
             source,
-        ) {
-            Some(ended) => return ended,
-            None => {}
+            &mut works,
+        );
+        if !goes_on {
+            return works;
         }
     }
     unreachable!()
 }
 
-/// Takes an access port down whose link failed: a bridge that hears nothing there any more would
-/// take itself for the only one, and open a ring. One that ended stays as it is.
-fn leave_port<L: Ledger, O: Outlet, G: Gate, R: Wait>(
+/// Enters what comes over a link until it ends, and answers whether a call of it failed meanwhile.
+fn link_worker<L: Ledger, I: LinkIn, O: Outlet, G: Gate, R: Wait>(
     shared_edge: &SharedEdge<'_, L, G, R>,
     pass: &mut Pass<L>,
     outlet: &mut O,
-    ended: &Ended,
-    port: u8,
-    vni: Vni,
-)
-    ensures { Leaves ended.now shared_edge.now.bridge port vni
-        (standing pass.old (O.parcels outlet.old) (O.records outlet.old))
+    link: &mut I,
+    source: &Source,
+) -> Ended
+    ensures ended { result ≡ ended_of (I.failed link.old) (I.failed link.new) }
+    ensures works { Ends shared_edge.now.bridge source.now (I.failed link.new) (I.came link.old)
+        (standing pass.old (O.parcels outlet.old) (O.records outlet.old)) (I.came link.new)
         (standing pass.new (O.parcels outlet.new) (O.records outlet.new)) }
 {
-    match ended {
-        Ended::Device => {
-            let mut scratch = Scratch::new();
-            shared_edge.act(pass, outlet, &mut scratch, &Event::PortDown(port), vni, &[]);
-        }
-        Ended::End | Ended::NoMemory => {}
+    let before = link.failures();
+    let _ = hear_all(shared_edge, pass, outlet, link, source);
+    if before < link.failures() {
+        Ended::Device
+    } else {
+        Ended::End
     }
 }
 
 /// Brings an access port up, and enters the frames that come at it. An empty datagram is no frame.
+/// Where its link fails the port is taken down until the link works again.
 ///
-/// It ends with `Device` exactly where a call of the link failed, and has taken the port down then.
+/// It ends with `Device` exactly where a call of the link failed.
 pub fn port_worker<L: Ledger, I: LinkIn, O: Outlet, G: Gate, R: Wait>(
     shared_edge: &SharedEdge<'_, L, G, R>,
     pass: &mut Pass<L>,
@@ -201,17 +286,14 @@ pub fn port_worker<L: Ledger, I: LinkIn, O: Outlet, G: Gate, R: Wait>(
     port: u8,
     vni: Vni,
 ) -> Ended
-    ensures failed { I.failed link.new ≡ I.failed link.old + failures_told result }
-    ensures works { PortEnds result shared_edge.now.bridge port vni (I.failed link.new)
-        (I.came link.old)
+    ensures ended { result ≡ ended_of (I.failed link.old) (I.failed link.new) }
+    ensures works { PortEnds shared_edge.now.bridge port vni (I.failed link.new) (I.came link.old)
         (standing pass.old (O.parcels outlet.old) (O.records outlet.old)) (I.came link.new)
         (standing pass.new (O.parcels outlet.new) (O.records outlet.new)) }
 {
     let mut scratch = Scratch::new();
-    shared_edge.act(pass, outlet, &mut scratch, &Event::PortUp(port), vni, &[]);
-    let ended = link_worker(shared_edge, pass, outlet, link, &Source::Port(port, vni));
-    leave_port(shared_edge, pass, outlet, &ended, port, vni);
-    ended
+    turn_port(shared_edge, pass, outlet, &mut scratch, port, vni, true);
+    link_worker(shared_edge, pass, outlet, link, &Source::Port(port, vni))
 }
 
 /// Enters the datagrams that other edges send. An empty one is none.
@@ -223,8 +305,8 @@ pub fn tunnel_worker<L: Ledger, I: LinkIn, O: Outlet, G: Gate, R: Wait>(
     outlet: &mut O,
     link: &mut I,
 ) -> Ended
-    ensures failed { I.failed link.new ≡ I.failed link.old + failures_told result }
-    ensures works { Ends result shared_edge.now.bridge Tunnel (I.failed link.new) (I.came link.old)
+    ensures ended { result ≡ ended_of (I.failed link.old) (I.failed link.new) }
+    ensures works { Ends shared_edge.now.bridge Tunnel (I.failed link.new) (I.came link.old)
         (standing pass.old (O.parcels outlet.old) (O.records outlet.old)) (I.came link.new)
         (standing pass.new (O.parcels outlet.new) (O.records outlet.new)) }
 {
@@ -240,8 +322,8 @@ pub fn clock_worker<L: Ledger, I: LinkIn, O: Outlet, G: Gate, R: Wait>(
     outlet: &mut O,
     clock: &mut I,
 ) -> Ended
-    ensures failed { I.failed clock.new ≡ I.failed clock.old + failures_told result }
-    ensures works { Ends result shared_edge.now.bridge Clock (I.failed clock.new) (I.came clock.old)
+    ensures ended { result ≡ ended_of (I.failed clock.old) (I.failed clock.new) }
+    ensures works { Ends shared_edge.now.bridge Clock (I.failed clock.new) (I.came clock.old)
         (standing pass.old (O.parcels outlet.old) (O.records outlet.old)) (I.came clock.new)
         (standing pass.new (O.parcels outlet.new) (O.records outlet.new)) }
 {

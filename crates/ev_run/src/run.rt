@@ -75,10 +75,10 @@ fn ready<'x, R: Clock>(
     for port in sockets.ports.as_slice() {
         let PortSocket { socket, remote } = port;
         let output = UdpOut::new(socket, Destination::Fixed(remote.address, remote.port));
-        ports = with_link(ports, Wire::socket(socket, stop), output);
+        ports = with_link(ports, Wire::socket(rt, socket, stop), output);
     }
     let tunnel = Link {
-        input: Wire::socket(&sockets.tunnel, stop),
+        input: Wire::socket(rt, &sockets.tunnel, stop),
         output: UdpOut::new(&sockets.tunnel, Destination::At(TUNNELS)),
     };
     let clock = Wire::clock(rt, stop);
