@@ -1,5 +1,6 @@
 -- What the operator asks of an edge that runs: what the edge does, and what it answers.
-use Rattle.std.specs.Prelude.{◌≡◌, ◌↔◌, ℕ, List, [], ◌∷◌, length, slice_get, Option, Some, None, Result, Ok, Err, IsTrue}
+use Rattle.std.specs.Prelude.{◌≡◌, ◌↔◌, ℕ, List, [], ◌∷◌, length, slice_get, Option, Some, None, Result, Ok}
+use Rattle.std.specs.Prelude.{Err, IsTrue}
 use Rattle.std.specs.Global.{Vec}
 use Rattle.std.specs.declared.alloc.AllocError.{AllocError}
 use Rattle.ether_wire.specs.Ports.{place_of_port}

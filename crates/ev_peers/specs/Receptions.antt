@@ -1,5 +1,6 @@
 -- What waits to be told of the links that an edge receives over.
-use Rattle.std.specs.Prelude.{ℕ, Bool, List, [], ◌∷◌, ◌++◌, length, drop, ◌==◌, nat_lt, if◌then◌else◌, Option, Some, None}
+use Rattle.std.specs.Prelude.{ℕ, Bool, List, [], ◌∷◌, ◌++◌, length, drop, ◌==◌, nat_lt, if◌then◌else◌, Option}
+use Rattle.std.specs.Prelude.{Some, None}
 use Rattle.ev_peers.specs.declared.receptions.Reception.{Reception}
 use Rattle.ev_peers.specs.Board.{one_more}
 

@@ -20,8 +20,8 @@ pub trait LinkIn {
 
     /// Waits for the next datagram and puts it at the front of the buffer, cut to its length: the
     /// address that it comes from, and how many octets it has in the buffer. None at the end. An
-    /// empty datagram says no more than that the link works. A call behind one that failed waits for
-    /// a second before, so that a link which goes on failing costs its worker nothing.
+    /// empty datagram says no more than that the link works. A call behind one that failed waits
+    /// for a second before, so that a link which goes on failing costs its worker nothing.
     ///
     /// # Errors
     ///

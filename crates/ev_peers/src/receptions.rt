@@ -1,5 +1,5 @@
-//! What waits to be told of the links that an edge receives over: each time that one fails, and each
-//! time that it works again.
+//! What waits to be told of the links that an edge receives over: each time that one fails, and
+//! each time that it works again.
 ghost use Rattle.std.specs.Prelude.{◌≡◌};
 ghost use Rattle.ev_peers.specs.Receptions.{no_receptions, has_place, after_reception, first_of, first_reception, after_first, untold, after_untold};
 

@@ -266,9 +266,10 @@ fn run_ready<
 }
 
 /// Runs edges beside each other, each on a thread with its workers, until `until` has returned and
-/// the links have ended; it is `until` that makes them end, and it can ask the edges meanwhile. The outcomes are in the edges' order,
-/// with an error where an edge was refused memory or a thread before it began. What the operator is
-/// to know meanwhile waits on these boards, which get no more once it returns.
+/// the links have ended; it is `until` that makes them end, and it can ask the edges meanwhile. The
+/// outcomes are in the edges' order, with an error where an edge was refused memory or a thread
+/// before it began. What the operator is to know meanwhile waits on these boards, which get no more
+/// once it returns.
 pub fn run_all<
     I: LinkIn + Drop + Send,
     O: LinkOut + Drop + Send,

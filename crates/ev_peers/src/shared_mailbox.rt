@@ -33,7 +33,8 @@ pub(crate) struct SharedMailbox {
 }
 
 impl SharedMailbox {
-    /// A mailbox in which nothing waits, of the edge with this number, to which so many workers send.
+    /// A mailbox in which nothing waits, of the edge with this number, to which so many workers
+    /// send.
     ///
     /// # Errors
     ///

@@ -213,9 +213,9 @@ fn turn<L: Ledger, I: LinkIn, O: Outlet, G: Gate, R: Wait>(
     }
 }
 
-/// Enters what comes over a link until it ends, and answers whether its last call brought something.
-/// One octet more than the longest datagram has room, so that none is cut to a shorter one that
-/// would be taken for whole.
+/// Enters what comes over a link until it ends, and answers whether its last call brought
+/// something. One octet more than the longest datagram has room, so that none is cut to a shorter
+/// one that would be taken for whole.
 fn hear_all<L: Ledger, I: LinkIn, O: Outlet, G: Gate, R: Wait>(
     shared_edge: &SharedEdge<'_, L, G, R>,
     pass: &mut Pass<L>,

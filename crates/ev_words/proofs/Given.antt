@@ -33,7 +33,8 @@ use Rattle.clap.specs.declared.error.kind.ErrorKind.TheVariants as kind
 use Rattle.clap.specs.declared.parser.matches.ValueSource.TheVariants.{CommandLine, DefaultValue}
 use Rattle.clap.proofs.WalkLemmas.{both}
 use Rattle.ev_words.specs.declared.subcommand.Subcommand.{Subcommand}
-use Rattle.ev_words.specs.declared.subcommand.Subcommand.TheVariants.{Report, Migrate, Check, Simulate, Play, Run, Version}
+use Rattle.ev_words.specs.declared.subcommand.Subcommand.TheVariants.{Report, Migrate, Check, Simulate, Play}
+use Rattle.ev_words.specs.declared.subcommand.Subcommand.TheVariants.{Run, Version}
 use Rattle.ev_words.specs.declared.subcommand.Given.{Given}
 use Rattle.ev_words.specs.declared.subcommand.Given.TheVariants.{Originators, Config, Script, ForRun}
 use Rattle.ev_words.specs.Args.{Parts, subcommands, name_of, option_name, needs_of, takes_of, with_option, with_flag}

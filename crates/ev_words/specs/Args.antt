@@ -11,7 +11,8 @@ use Rattle.clap.specs.declared.error.Error.{Error}
 use Rattle.clap.specs.declared.error.kind.ErrorKind.TheVariants.{OutOfMemory}
 use Rattle.clap.specs.declared.parser.matches.ArgMatches.{ArgMatches}
 use Rattle.ev_words.specs.declared.subcommand.Subcommand.{Subcommand}
-use Rattle.ev_words.specs.declared.subcommand.Subcommand.TheVariants.{Report, Migrate, Check, Simulate, Play, Run, Version}
+use Rattle.ev_words.specs.declared.subcommand.Subcommand.TheVariants.{Report, Migrate, Check, Simulate, Play}
+use Rattle.ev_words.specs.declared.subcommand.Subcommand.TheVariants.{Run, Version}
 use Rattle.ev_words.specs.declared.subcommand.Given.{Given}
 use Rattle.ev_words.specs.declared.subcommand.Given.TheVariants.{Originators, Config, Script, ForRun}
 use Rattle.ev_words.specs.declared.args.Invocation.{Invocation}

@@ -5,7 +5,8 @@ use Rattle.clap.specs.Words.{fault_of}
 use Rattle.evpnd.specs.declared.program.Argv.{Argv}
 use Rattle.evpnd.specs.declared.program.Argv.TheVariants.{Words, NotText, NoMemory}
 use Rattle.ev_words.specs.declared.subcommand.Subcommand.{Subcommand}
-use Rattle.ev_words.specs.declared.subcommand.Subcommand.TheVariants.{Report, Migrate, Check, Simulate, Play, Run, Version}
+use Rattle.ev_words.specs.declared.subcommand.Subcommand.TheVariants.{Report, Migrate, Check, Simulate, Play}
+use Rattle.ev_words.specs.declared.subcommand.Subcommand.TheVariants.{Run, Version}
 use Rattle.ev_words.specs.Args.{Parts, program, Spells}
 use Rattle.ev_script.specs.declared.script.mode.Mode.TheVariants as mode
 use Rattle.ev_report.specs.Originators.{Text}
