@@ -61,8 +61,14 @@ fn low::orders::Orders::hold: proved
 fn low::table::Table::shift: not proved
 fn low::table::Table::learn: not proved
 fn low::table::Table::move: not proved; it calls `low::table::Table::shift`, which is not proved
-only=5 proved=1
+note: src/shape.rt:14:9: it is not proved that what the function ensures holds when it returns (`returns`); `search` gave up
+note: src/shape.rt:20:1: it is not proved that what the function ensures holds when it returns (`returns-again`)
+fn low::shape::SquareShape::area: not proved
+./proofs/pair/Answers.antt:2:1: error: `no-goal-of-this-name`: `no-goal-of-this-name` is not in scope
+fn low::pair: not proved
+only=7 proved=1
 """
+TEXTS = {"src/shape.rt": SOURCE, "src/lib.rt": SOURCE, "src/table.rt": "", "src/orders.rt": ""}
 
 
 class Crate:
@@ -162,20 +168,27 @@ class Edits(unittest.TestCase):
         self.assertIsNone(edits.function_at("src/shape.rt", SOURCE, "result ≡ 2 * number"))
 
     def test_refused_edit_tells_its_goals(self):
-        said = edits.refusal(Crate, edit("src/table.rt", "Table::shift"), SAID)
+        said = edits.refusal(Crate, edit("src/table.rt", "Table::shift"), TEXTS, SAID)
         self.assertEqual(said, "low::table::Table::shift: invariant_of-self, returns-clause-after")
-        said = edits.refusal(Crate, edit("src/orders.rt", "Orders::leave"), SAID)
+        said = edits.refusal(Crate, edit("src/orders.rt", "Orders::leave"), TEXTS, SAID)
         self.assertEqual(said, "low::orders::Orders::leave: returns")
 
     def test_lost_name_is_told(self):
-        said = edits.refusal(Crate, edit("src/table.rt", "Table::learn"), SAID)
+        said = edits.refusal(Crate, edit("src/table.rt", "Table::learn"), TEXTS, SAID)
         self.assertEqual(said, "low::table::Table::learn: hear-requires-clause-at (only names that the edit took away)")
 
+    def test_goal_of_a_function_with_the_refused_answer_is_told_by_its_place(self):
+        said = edits.refusal(Crate, edit("src/shape.rt", "SquareShape::area"), TEXTS, SAID)
+        self.assertEqual(said, "low::shape::SquareShape::area: returns")
+
+    def test_refused_answer_alone_refuses_no_edit(self):
+        self.assertIsNone(edits.refusal(Crate, edit("src/lib.rt", "pair"), TEXTS, SAID))
+
     def test_caller_of_what_is_not_proved_is_tried_again(self):
-        self.assertEqual(edits.refusal(Crate, edit("src/table.rt", "Table::move"), SAID), "")
+        self.assertEqual(edits.refusal(Crate, edit("src/table.rt", "Table::move"), TEXTS, SAID), "")
 
     def test_proved_edit_is_not_refused(self):
-        self.assertIsNone(edits.refusal(Crate, edit("src/orders.rt", "Orders::hold"), SAID))
+        self.assertIsNone(edits.refusal(Crate, edit("src/orders.rt", "Orders::hold"), TEXTS, SAID))
 
 
 if __name__ == "__main__":

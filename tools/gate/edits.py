@@ -11,6 +11,10 @@ changes, for a goal of its own. Where it only calls one that isn't proved, it is
 whole, as `rt must-fail` does it, and counts as that says: an edit outside a body, one whose function has no clear name, one
 that isn't read or is proved.
 
+A check prints what is to be written for the goals that are left of a function whose answers it takes, and antt runs once more for
+that. So each function that an edit changes gets one answer more, for a goal that isn't there, which antt refuses. Such a function
+is never proved, but that is no evidence: an edit counts as refused for goals of the function's own, which the check names as ever.
+
 Of each refused edit the goals are told that refused it. Where they only miss a name that the edit took away, that is said:
 such an edit shows little of a contract.
 """
@@ -28,6 +32,9 @@ from sources import bodies, shape_of
 
 IMPL = re.compile(r"^(?:unsafe )?impl\b(?:<[^{\n]*?>(?= ))?\s+(?:(?:\w+::)*(\w+)(?:<[^{\n]*?>)?\s+for\s+)?&?(\w+)", re.M)
 LOST = re.compile(r"has no field|is not in scope|has no `|was not admitted")
+# the answer that antt refuses
+NO_GOAL = "no-goal-of-this-name"
+REFUSED_ANSWER = f"\npub {NO_GOAL} : {NO_GOAL}\n{NO_GOAL} = ?\n"
 
 
 class Edit:
@@ -112,6 +119,7 @@ def check(crate, texts, kept, only):
             if os.path.isdir(f"{crate.folder}/{part}"):
                 shutil.copytree(f"{crate.folder}/{part}", f"{room}/{part}")
         for path, text in texts.items():
+            os.makedirs(os.path.dirname(f"{room}/{path}"), exist_ok=True)
             with open(f"{room}/{path}", "w", encoding="utf-8") as it:
                 it.write(text)
         words = [rtlib.RATTLE, "check", *crate.words(["--jobs", "1"], keeps=False), "--incremental", kept]
@@ -120,25 +128,37 @@ def check(crate, texts, kept, only):
         return subprocess.run([*rtlib.guarded(), *words], **how)
 
 
-def goals_of(function, said):
+def lines_of(path, name, text):
+    """Returns the first and the last line of the function whose name ends so."""
+    shape = shape_of(text)
+    for it, head, _, end in bodies(shape):
+        if name_of(path, it, shape[:head]) == name:
+            return shape.count("\n", 0, head) + 1, shape.count("\n", 0, end) + 1
+    return 0, 0
+
+
+def goals_of(function, path, lines, said):
     """Returns the function's own goals that the check refused, each with whether only a lost name refused it."""
     folder = "/".join(function.split("::")[1:])
     own = re.findall(rf"^(?:\./)?proofs/{re.escape(folder)}/\S+: error: (?:`([^`]*)`: )?(.*)$", said, re.M)
-    goals = {name or "its proof": bool(LOST.search(why)) for name, why in own}
+    goals = {name or "its proof": bool(LOST.search(why)) for name, why in own if name != NO_GOAL}
     line = re.search(rf"^fn {re.escape(function)}: .*$", said, re.M)[0]
     for names in re.findall(r"`search` did not prove ([^;]*)", line):
         goals |= {it: False for it in re.findall(r"`([^`]+)`", names)}
+    # (what the line above says of a function whose answers are taken)
+    for at, name in re.findall(rf"^note: (?:\./)?{re.escape(path)}:(\d+):\d+: it is not proved that .*?\(`([^`]+)`\)", said, re.M):
+        goals |= {name: False} if lines[0] <= int(at) <= lines[1] else {}
     return goals
 
 
-def refusal(crate, edit, said):
+def refusal(crate, edit, texts, said):
     """Returns the line that says how the check refused each function of the edit for goals of its own; an empty one where one
     has no such goal, but calls what isn't proved; or None."""
     told = []
-    for _, name in sorted(edit.functions):
+    for path, name in sorted(edit.functions):
         is_own = rf"^fn ({crate.name}::(?:\S+::)?{re.escape(name)}): (not proved|no proof: expected answers)(.*)$"
         found = re.search(is_own, said, re.M)
-        goals = goals_of(found[1], said) if found else {}
+        goals = goals_of(found[1], path, lines_of(path, name, texts[path]), said) if found else {}
         if not goals:
             return "" if found and "it calls" in found[3] else None
         kept = [it for it, is_lost in goals.items() if not is_lost]
@@ -163,6 +183,27 @@ def next_batch(crate, waiting):
     return texts, taken, later, others
 
 
+def with_refused_answers(crate, edits, texts, kept):
+    """Returns the texts with the answer that antt refuses in the file of each function that these edits change."""
+    texts = dict(texts)
+    for name in {name for it in edits for name in it.names()}:
+        folder = proof_of(crate, name, kept)
+        path = f"{folder}/Answers.antt"
+        if folder and not os.path.exists(f"{crate.folder}/{folder}/Proof.antt"):
+            if path not in texts and os.path.exists(f"{crate.folder}/{path}"):
+                with open(f"{crate.folder}/{path}", encoding="utf-8") as it:
+                    texts[path] = it.read()
+            texts[path] = texts.get(path, "") + REFUSED_ANSWER
+    return texts
+
+
+def proof_of(crate, name, kept):
+    """Returns the folder of the proof of the function whose name ends so, by the names of what was kept, or None where that isn't clear."""
+    kept_of = re.compile(rf"Rattle-{crate.name}-proofs\.((?:.+\.)?{re.escape(name.replace('::', '.'))})\.Statement\.oantt")
+    found = {it[1] for _, _, files in os.walk(kept) for it in map(kept_of.fullmatch, files) if it}
+    return f"proofs/{found.pop().replace('.', '/')}" if len(found) == 1 else None
+
+
 def tried_together(crate, edits, kept):
     """Returns the edits that are refused with others, each with the line that says so, and those that are left."""
     refused, left, waiting = {}, [], edits
@@ -171,9 +212,10 @@ def tried_together(crate, edits, kept):
         left += others
         if not taken:
             return refused, left + waiting
+        texts = with_refused_answers(crate, taken, texts, kept)
         ran = check(crate, texts, kept, sorted(name for it in taken for name in it.names()))
         is_judged = ran.returncode == 1 and re.search(r"^only=\d+ proved=\d+\n\Z", ran.stdout, re.M)
-        lines = {it.path: refusal(crate, it, ran.stdout) if is_judged else None for it in taken}
+        lines = {it.path: refusal(crate, it, texts, ran.stdout) if is_judged else None for it in taken}
         refused |= {it: line for it, line in lines.items() if line}
         again = [it for it, line in lines.items() if line == ""]
         # where nothing was judged, another check in this company would say the same
