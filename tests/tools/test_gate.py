@@ -184,6 +184,12 @@ class Edits(unittest.TestCase):
     def test_refused_answer_alone_refuses_no_edit(self):
         self.assertIsNone(edits.refusal(Crate, edit("src/lib.rt", "pair"), TEXTS, SAID))
 
+    def test_function_that_a_definition_s_edit_names(self):
+        with tempfile.NamedTemporaryFile("w", suffix=".edit") as it:
+            it.write("file: specs/Laws.antt\nonly: laws::starts\nold: one\nnew: two\n")
+            it.flush()
+            self.assertEqual(edits.asked_of(it.name), "laws::starts")
+
     def test_caller_of_what_is_not_proved_is_tried_again(self):
         self.assertEqual(edits.refusal(Crate, edit("src/table.rt", "Table::move"), TEXTS, SAID), "")
 

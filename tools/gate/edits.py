@@ -11,6 +11,9 @@ changes, for a goal of its own. Where it only calls one that isn't proved, it is
 whole, as `rt must-fail` does it, and counts as that says: an edit outside a body, one whose function has no clear name, one
 that isn't read or is proved.
 
+An edit of a definition may name a function whose contract stands on it, by a line `only: NAME`, which the kit doesn't read. It is
+tried alone, but that function is all that its check proves. What isn't refused so is tried whole, too.
+
 A check prints what is to be written for the goals that are left of a function whose answers it takes, and antt runs once more for
 that. So each function that an edit changes gets one answer more, for a goal that isn't there, which antt refuses. Such a function
 is never proved, but that is no evidence: an edit counts as refused for goals of the function's own, which the check names as ever.
@@ -224,9 +227,34 @@ def tried_together(crate, edits, kept):
     return refused, left
 
 
+def asked_of(edit):
+    """Returns the function that alone is asked to refuse this edit of a definition, or None."""
+    with open(edit, encoding="utf-8") as it:
+        found = re.findall(r"^only: *(\S+) *$", it.read(), re.M)
+    return found[0] if len(found) == 1 else None
+
+
+def refused_by(crate, edit, name, kept):
+    """Returns the line that says how a check of this function alone refused the edit, or None."""
+    texts, why = rt.read_edit(edit, crate.folder)
+    if why:
+        return None
+    ran = check(crate, texts, kept, [name])
+    lines = ran.stdout.rstrip("\n").split("\n")
+    # (a text that can't be read is for the whole check to tell of)
+    if ran.returncode != 1 or not re.fullmatch(r"only=\d+ proved=\d+", lines[-1]) or any(rt.unread(it, texts) for it in lines):
+        return None
+    is_own = re.compile(rf"fn {crate.name}::(?:\S+::)?{re.escape(name)}: (not proved|no proof: expected answers)")
+    own = next((it for it in lines if is_own.match(it)), None)
+    told = next((it for it in lines if re.match(r"\S+: error: |note: src/", it) and not LOST.search(it)), None)
+    return f"{own}: {told[:160]}" if own and told else None
+
+
 def try_all(crate, edits, kept):
     """Tries a crate's edits over what was proved of it. Returns for each what the kit calls it, and what to say of it."""
     refused, left = tried_together(crate, edits, kept)
+    refused |= {it: line for it in left if asked_of(it) for line in [refused_by(crate, it, asked_of(it), kept)] if line}
+    left = [it for it in left if it not in refused]
     tried = {it: (rt.REFUSED, f"must-fail {crate.name}/{os.path.basename(it)}: refused, as it must be: {line}") for it, line in refused.items()}
     for edit in left:
         with copy_of(kept) as seed:
