@@ -7,8 +7,8 @@ usage: tools/gate/gate.py      (at the top of the repository)
 nothing, into a folder of this run, which ends with it, and nothing of an earlier run counts. Over that folder its must-fail edits are tried,
 many in one check (edits.py), and its programs are built by both compilers. Its tests are compiled with the kit's checks and
 run, not proved: `rt try` stops at an index out of bounds, an overflow, a failed unwrap, a bad access, and at only some calls
-that break a `requires`. All else is the kit's own code: what it refuses in texts and last lines, the handles, the lanes, the
-programs' runs, what counts as a refused edit.
+that break a `requires`. Tasks run side by side as lanes.py says. All else is the kit's own code: what it refuses in texts and
+last lines, the handles, the programs' runs, what counts as a refused edit.
 
 Beside that the gate looks whether each function of the sources was among those that were proved, and prints what each crate
 took. The last line is 'N passed, M failed'.
@@ -26,6 +26,7 @@ import threading
 sys.path.insert(0, os.path.dirname(os.path.realpath(__file__)))
 import edits
 from kit import rt, rtlib
+from lanes import in_lanes
 from sources import bodies, closed
 from tried import tried_tests
 
@@ -200,6 +201,7 @@ def main():
     rtlib.VERDICT = WithoutWord(rtlib.VERDICT)
     rt.Crate, rt.Kept, rt.add_edits = Crate, NothingKept, add_edits
     rt.need = lambda crate: min(needs(crate), MOST_MEMORY)
+    rt.in_lanes = in_lanes
     with tempfile.TemporaryDirectory(prefix="gate-") as Run.folder:
         open(f"{Run.folder}/ledger", "w").close()
         look()
