@@ -13,6 +13,7 @@ from test_records import TOP
 sys.path.insert(0, os.path.join(TOP, "tools", "gate"))
 import edits
 import gate
+import lanes
 import sources
 
 LOADER = importlib.machinery.SourceFileLoader("check_of_a_change", os.path.join(TOP, "tools", "check"))
@@ -195,6 +196,46 @@ class Edits(unittest.TestCase):
 
     def test_proved_edit_is_not_refused(self):
         self.assertIsNone(edits.refusal(Crate, edit("src/orders.rt", "Orders::hold"), TEXTS, SAID))
+
+
+class Lanes(unittest.TestCase):
+    """What is started of ready tasks, each with its jobs: (name, what), what it waits for, work, octets of memory, call."""
+
+    TASKS = {
+        ("low", "proof"): ((), 100, 10, None),
+        ("side", "proof"): ((), 50, 10, None),
+        ("high", "proof"): ([("low", "proof")], 500, 40, None),
+        ("low", "edits"): ([("low", "proof")], 5, 10, None),
+    }
+
+    def started(self, ready, memory=1000, running=(), lanes_=4):
+        return [(key, jobs) for key, _, jobs in lanes.started(ready, self.TASKS, lanes_, memory, [*running])]
+
+    def test_proof_alone_gets_all_processors(self):
+        self.assertEqual(self.started([("high", "proof")]), [(("high", "proof"), 4)])
+
+    def test_edits_that_are_ready_leave_it_fewer(self):
+        ready = [("high", "proof"), ("low", "edits")]
+        self.assertEqual(self.started(ready, lanes_=2), [(("high", "proof"), 1), (("low", "edits"), 1)])
+        self.assertEqual(self.started(ready, lanes_=3), [(("high", "proof"), 1), (("low", "edits"), 1)])
+
+    def test_no_more_are_started_than_there_are_processors(self):
+        running = [(("side", "proof"), 10, 1)]
+        ready = [("high", "proof"), ("low", "edits")]
+        self.assertEqual(self.started(ready, running=running, lanes_=2), [(("high", "proof"), 1)])
+
+    def test_proof_that_lacks_memory_is_waited_for(self):
+        running = [(("side", "proof"), 10, 1)]
+        self.assertEqual(self.started([("high", "proof"), ("low", "edits")], memory=45, running=running), [])
+        self.assertEqual(self.started([("high", "proof"), ("side", "proof")], memory=45, running=running), [(("side", "proof"), 3)])
+
+    def test_one_task_runs_however_little_memory_there_is(self):
+        self.assertEqual(self.started([("high", "proof")], memory=1), [(("high", "proof"), 1)])
+
+    def test_longest_chain_counts_all_that_waits(self):
+        behind = lanes.works_behind(self.TASKS)
+        self.assertEqual(behind[("low", "proof")], 600)
+        self.assertEqual(behind[("side", "proof")], 50)
 
 
 if __name__ == "__main__":

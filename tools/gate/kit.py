@@ -1,4 +1,4 @@
-"""The kit's own command rt, as a module: what it refuses, how it starts a check, and in which lanes, is its code."""
+"""The kit's own command rt, as a module: what it refuses, and how it starts a check, is its code."""
 import importlib.machinery
 import importlib.util
 import os
