@@ -6,10 +6,11 @@ use Rattle.ev_edge.specs.declared.event.Event.{Event}
 use Rattle.ev_edge.specs.declared.reply.Reply.{Reply}
 use Rattle.ev_book.specs.declared.refusal.BookRefusal.{BookRefusal}
 use Rattle.ev_book.specs.Book.{PassState}
-use Rattle.ev_peers.specs.Giving.{Parcel, behind}
+use Rattle.ev_peers.specs.Giving.{Parcel}
+use Rattle.ev_links.specs.Coming.{behind}
 use Rattle.ev_peers.specs.Passing.{Entered, Asked, AskedEach, Word, has_room, record_of, words_of, Stops, Announces}
 use Rattle.ev_peers.specs.Passing.{PassesOn, given_by, signs_of}
-use Rattle.ev_peers.proofs.Behind.{behind_none, behind_twice}
+use Rattle.ev_links.proofs.Behind.{behind_none, behind_twice}
 
 -- what was asked for and given up to here
 pub record SoFar (p : PassState) (old : Option (List Word)) (p' : PassState) (new : Option (List Word)) : Type 0 where

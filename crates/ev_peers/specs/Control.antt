@@ -23,7 +23,8 @@ use Rattle.ev_peers.specs.declared.request.Reading.TheVariants.{Table, Port}
 use Rattle.ev_peers.specs.declared.request.Answer.{Answer}
 use Rattle.ev_peers.specs.declared.request.Answer.TheVariants as replies
 use Rattle.ev_peers.specs.declared.request.PortView.{PortView}
-use Rattle.ev_peers.specs.Giving.{Parcel, behind}
+use Rattle.ev_peers.specs.Giving.{Parcel}
+use Rattle.ev_links.specs.Coming.{behind}
 use Rattle.ev_peers.specs.Passing.{Word, answers, PassesOn}
 
 -- ---- a step

@@ -24,11 +24,6 @@ parcel to octets = record { to = to; octets = octets; is_first = false }
 abbrev pub first_parcel : ℕ → List ℕ → Parcel
 first_parcel port octets = record { to = Port port; octets = octets; is_first = true }
 
--- what an outlet tells as given, and these behind it; one that tells nothing goes on so
-abbrev pub behind : {A : Type 0} → Option (List A) → List A → Option (List A)
-behind None more = None
-behind (Some given) more = Some (given ++ more)
-
 -- ---- one reply
 
 -- a BPDU goes out at its port, before frames, as the frame that carries it

@@ -1,16 +1,7 @@
 pub mod Giving
-pub mod Links
-pub mod Line
 pub mod Mailbox
 pub mod EdgeThreads
-pub mod Alarm
 pub mod Passing
 pub mod Control
-pub mod Coming
 pub mod Working
 pub mod Sending
-pub mod FailAt
-pub mod Board
-pub mod Receptions
-pub mod Telling
-pub mod InTurn

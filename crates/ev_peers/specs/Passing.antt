@@ -8,11 +8,12 @@ use Rattle.ev_edge.specs.declared.reply.Reply.{Reply}
 use Rattle.ev_book.specs.declared.refusal.BookRefusal.{BookRefusal}
 use Rattle.ev_book.specs.Book.{BookState, PassState}
 use Rattle.ev_book.specs.Entering.{CallsBook}
-use Rattle.ev_peers.specs.declared.alarm.Alarm.{Alarm}
+use Rattle.ev_notices.specs.declared.alarm.Alarm.{Alarm}
 use Rattle.ev_peers.specs.declared.request.Answer.{Answer}
-use Rattle.ev_peers.specs.declared.receptions.Reception.{Reception}
-use Rattle.ev_peers.specs.Alarm.{alarm_of, is_second}
-use Rattle.ev_peers.specs.Giving.{Parcel, behind, parcels_of}
+use Rattle.ev_notices.specs.declared.receptions.Reception.{Reception}
+use Rattle.ev_notices.specs.Alarm.{alarm_of, is_second}
+use Rattle.ev_peers.specs.Giving.{Parcel, parcels_of}
+use Rattle.ev_links.specs.Coming.{behind}
 
 -- A call of some book. Which one stood under the lock, no caller knows.
 pub record Entered (p : PassState) (event : Event) (answer : Result Reply BookRefusal) (p' : PassState) : Type 0 where

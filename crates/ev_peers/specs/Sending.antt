@@ -1,8 +1,7 @@
 -- What a worker sends of what comes to it for its link.
 use Rattle.std.specs.Prelude.{◌≡◌, ◌⊎◌, ℕ, ◌+◌, List, [], ◌∷◌, Option}
-use Rattle.ev_peers.specs.Giving.{behind}
-use Rattle.ev_peers.specs.Links.{Packet}
-use Rattle.ev_peers.specs.Coming.{DoesAll, DoesAllToTheEnd}
+use Rattle.ev_links.specs.Links.{Packet}
+use Rattle.ev_links.specs.Coming.{behind, DoesAll, DoesAllToTheEnd}
 use Rattle.ev_peers.specs.Working.{most_failures}
 
 -- what a link has sent, and how often it has failed

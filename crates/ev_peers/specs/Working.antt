@@ -11,16 +11,16 @@ use Rattle.ev_peers.specs.declared.shared_edge.Ended.{Ended}
 use Rattle.ev_peers.specs.declared.shared_edge.Ended.TheVariants.{End, Device as Failed, NoMemory}
 use Rattle.ev_peers.specs.declared.mailbox.Message.{Message}
 use Rattle.ev_peers.specs.declared.mailbox.Message.TheVariants.{Record, Room, Ask}
-use Rattle.ev_peers.specs.declared.receptions.Input.{Input}
-use Rattle.ev_peers.specs.declared.receptions.Input.TheVariants as inputs
-use Rattle.ev_peers.specs.declared.receptions.Reception.{Reception}
+use Rattle.ev_notices.specs.declared.receptions.Input.{Input}
+use Rattle.ev_notices.specs.declared.receptions.Input.TheVariants as inputs
+use Rattle.ev_notices.specs.declared.receptions.Reception.{Reception}
 use Rattle.ev_peers.specs.declared.workers.Source.{Source}
 use Rattle.ev_peers.specs.declared.workers.Source.TheVariants.{Port, Tunnel, Clock}
-use Rattle.ev_peers.specs.Giving.{Parcel, behind}
-use Rattle.ev_peers.specs.Links.{Arrival, Call, brings, fails}
+use Rattle.ev_peers.specs.Giving.{Parcel}
+use Rattle.ev_links.specs.Links.{Arrival, Call, brings, fails}
 use Rattle.ev_peers.specs.Passing.{Word, hears, Announces, PassesOn}
 use Rattle.ev_peers.specs.Control.{Answers as AnswersRequest}
-use Rattle.ev_peers.specs.Coming.{DoesOne, DoesAll, DoesAllToTheEnd}
+use Rattle.ev_links.specs.Coming.{behind, DoesOne, DoesAll, DoesAllToTheEnd}
 
 -- ---- what a datagram is
 
@@ -149,6 +149,10 @@ pub record Answers (bridge : ℕ) (source : Source) (h : Hearing) (call : Call) 
   pub handles : HandlesCall bridge source turned call h'.at
 
 -- ---- a worker
+
+-- how a worker ends whose link had failed so often before, and has so often now
+abbrev pub ended_of : ℕ → ℕ → Ended
+ended_of before after = if nat_lt before after then Failed else End
 
 -- one turn of a worker: a call of its link was answered; or it was at its end
 abbrev pub TurnsOnce : Bool → ℕ → Source → Option (List (Option Call)) → Hearing → Option (List (Option Call)) → Hearing

@@ -1,9 +1,6 @@
 //! The boards of all edges, which their workers share with the one that tells the operator.
 
-use crate::alarm::Alarm;
-use crate::board::Board;
-use crate::receptions::{Reception, Receptions};
-use crate::telling::News;
+use ev_notices::{Alarm, Board, News, Reception, Receptions};
 use std::alloc::{AllocError, Global};
 use std::sync::{Condvar, Mutex, Wait};
 

@@ -5,7 +5,6 @@ ghost use Rattle.ev_peers.specs.EdgeThreads.{HasRoom, IsReady};
 
 use crate::gate::Gate;
 use crate::inbox::{LineBox, UpdateBox};
-use crate::links::{LinkIn, LinkOut};
 use crate::outlet::Senders;
 use crate::peers::Peers;
 use crate::shared_edge::{Ended, SharedEdge};
@@ -14,6 +13,7 @@ use crate::workers::{clock_worker, out_worker, peer_worker, port_worker, tunnel_
 use ether_wire::{Mac, Vni};
 use ev_book::{Book, Pass, Totals};
 use ev_edge::{Edge, EdgeConfig};
+use ev_links::{LinkIn, LinkOut};
 use std::alloc::{AllocError, Global};
 use std::marker::Model;
 use std::sync::atomic::{AtomicBool, Ordering};

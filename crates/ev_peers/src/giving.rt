@@ -1,7 +1,8 @@
 //! What a reply gives to the links of its edge.
 ghost use Rattle.std.specs.Prelude.{◌≡◌, ◌≤◌, Some, map, length};
 ghost use Rattle.ether_wire.specs.Ports.{ports_of};
-ghost use Rattle.ev_peers.specs.Giving.{behind, bpdu_parcel, to_ports, to_edges, decided, parcels_of};
+ghost use Rattle.ev_peers.specs.Giving.{bpdu_parcel, to_ports, to_edges, decided, parcels_of};
+ghost use Rattle.ev_links.specs.Coming.{behind};
 
 use crate::outlet::{Outlet, Target};
 use bpdu_wire::{Bpdu, write};

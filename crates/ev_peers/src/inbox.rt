@@ -1,17 +1,16 @@
 //! Where what other workers send to one of them comes from.
 ghost use Rattle.std.specs.Prelude.{◌≡◌, ◌≤◌, ◌∷◌, [], Option, List, length, IfSome};
-ghost use Rattle.ev_peers.specs.Giving.{behind};
-ghost use Rattle.ev_peers.specs.Links.{Packet};
-ghost use Rattle.ev_peers.specs.Line.{handed};
+ghost use Rattle.ev_links.specs.Coming.{behind};
+ghost use Rattle.ev_links.specs.Links.{Packet};
+ghost use Rattle.ev_links.specs.Line.{handed};
 ghost use Rattle.ev_peers.specs.declared.mailbox.Message.{Message};
-ghost use Rattle.ev_peers.specs.Telling.{Told};
 
 use crate::boards::Boards;
 use crate::mailbox::Message;
 use crate::peers::Peers;
 use crate::shared_line::SharedLine;
-use crate::telling::News;
 use ether_wire::Addr;
+use ev_notices::{News, NoticesIn};
 use std::sync::Wait;
 
 /// Where what other edges send comes from.
@@ -35,17 +34,6 @@ pub trait PacketsIn {
         requires { 9026 ≤ length buffer.old }
         ensures fits { IfSome result (λ r. r.1 ≤ length buffer.new) }
         ensures came { came self.new ≡ behind (came self.old) (handed result buffer.new ∷ []) };
-}
-
-/// Where what an operator is told comes from.
-pub trait NoticesIn {
-    /// What came, in its order, where it tells it: each piece of news with the number of its edge,
-    /// and none for the end.
-    ghost came: { Self → Option (List (Option Told)) };
-
-    /// Waits for the next news, and the number of the edge that they are about. None at the end.
-    fn next(&mut self) -> Option<(u64, News)>
-        ensures { came self.new ≡ behind (came self.old) (result ∷ []) };
 }
 
 /// What comes to an edge's mailbox. Clauses see nothing of what is under a lock, so it doesn't tell

@@ -1,15 +1,15 @@
 //! Where the workers of an edge give what the book answers: frames to the lines of its links,
 //! records to the other edges, alerts and failing links to the operator.
 ghost use Rattle.std.specs.Prelude.{◌≡◌, ◌∷◌, [], Option, List};
-ghost use Rattle.ev_peers.specs.Giving.{Parcel, parcel, first_parcel, behind};
+ghost use Rattle.ev_peers.specs.Giving.{Parcel, parcel, first_parcel};
+ghost use Rattle.ev_links.specs.Coming.{behind};
 ghost use Rattle.ev_peers.specs.Passing.{Word, has_room, record_of, second_passes, tells, hears, answers};
 
-use crate::alarm::Alarm;
 use crate::peers::Peers;
-use crate::receptions::Reception;
 use crate::request::Answer;
 use crate::shared_line::SharedLine;
 use ether_wire::Addr;
+use ev_notices::{Alarm, Reception};
 use route_wire::Update;
 use std::sync::Wait;
 

@@ -3,12 +3,11 @@
 
 ghost use Rattle.std.specs.Prelude.{◌≡◌, IfSome};
 
-use crate::alarm::Alarm;
 use crate::boards::Boards;
 use crate::mailbox::Message;
-use crate::receptions::Reception;
 use crate::request::Answer;
 use crate::shared_mailbox::SharedMailbox;
+use ev_notices::{Alarm, Reception};
 use route_wire::Update;
 use std::alloc::{AllocError, Global};
 use std::sync::Wait;

@@ -1,10 +1,9 @@
 //! An edge as its workers share it: its book under a lock, and what tells of each call of it.
 ghost use Rattle.std.specs.Prelude.{◌≡◌, ◌≤◌, length};
 ghost use Rattle.ev_book.specs.Entering.{answered};
-ghost use Rattle.ev_peers.specs.Giving.{behind};
+ghost use Rattle.ev_links.specs.Coming.{behind};
 ghost use Rattle.ev_peers.specs.Passing.{Entered, Asked, Announces, PassesOn, announced_by, given_by, signs_of};
 
-use crate::alarm::{alarm_of, alert_of, is_second};
 use crate::gate::{Gate, Point};
 use crate::giving::give_out;
 use crate::outlet::Outlet;
@@ -12,6 +11,7 @@ use ether_wire::{Mac, Vni};
 use ev_book::{Book, BookRefusal, Pass};
 use ev_edge::{Event, Reply};
 use ev_mobility::Alert;
+use ev_notices::{alarm_of, alert_of, is_second};
 use route_wire::Update;
 use std::sync::atomic::{AtomicBool, Ordering};
 use std::sync::ledger::Ledger;
@@ -205,7 +205,7 @@ fn announced_by(answer: &Result<(), BookRefusal>, reply: &Reply) -> Option<Updat
 }
 
 /// Gives what an answer gives out to the links of its edge. A refusal gives nothing.
-#[tactic(auto, using(crate::proofs::Behind::behind_none))]
+#[tactic(auto, using(ev_links::proofs::Behind::behind_none))]
 fn give_answer<O: Outlet>(
     outlet: &mut O,
     scratch: &mut Scratch,
@@ -228,7 +228,7 @@ fn give_answer<O: Outlet>(
 
 /// Tells the operator's board that a second passed, where one did, and what the operator is to know
 /// of an answer.
-#[tactic(auto, using(crate::proofs::Behind::behind_none, crate::proofs::Behind::behind_twice))]
+#[tactic(auto, using(ev_links::proofs::Behind::behind_none, ev_links::proofs::Behind::behind_twice))]
 fn give_signs<O: Outlet>(
     outlet: &mut O,
     vni: Vni,

@@ -2,8 +2,8 @@
 //! of its link sends them.
 ghost use Rattle.std.specs.Prelude.{◌≤◌, length, IfSome};
 
-use crate::line::Line;
 use ether_wire::Addr;
+use ev_links::Line;
 use std::alloc::{AllocError, Global};
 use std::sync::{Condvar, Mutex, Wait};
 

@@ -1,23 +1,22 @@
 //! The workers of an edge: each takes what comes over one link or channel, one thing at a time.
 ghost use Rattle.std.specs.Prelude.{◌≡◌, ◌+◌, ◌^◌, ◌<◌, ◌≤◌, true, length, take};
-ghost use Rattle.ev_peers.specs.Links.{ended_of, arrival, packet};
+ghost use Rattle.ev_links.specs.Links.{arrival, packet};
 ghost use Rattle.ev_peers.specs.declared.workers.Source.TheVariants.{Port, Tunnel, Clock};
-ghost use Rattle.ev_peers.specs.Working.{IsEventOf, fitting, unwrapped, carried, standing, hearing, input_of, Handles, Turns, Changes, Becomes, TurnsOnce, Hears, Takes, Ends, PortEnds, PeerEnds};
+ghost use Rattle.ev_peers.specs.Working.{ended_of, IsEventOf, fitting, unwrapped, carried, standing, hearing, input_of, Handles, Turns, Changes, Becomes, TurnsOnce, Hears, Takes, Ends, PortEnds, PeerEnds};
 ghost use Rattle.vxlan_wire.specs.Vxlan.{instance_of};
 ghost use Rattle.ev_peers.specs.Sending.{gone, Sends, OutEnds};
 
 use crate::answering::answer;
 use crate::gate::Gate;
 use crate::inbox::{PacketsIn, UpdatesIn};
-use crate::line::LONGEST;
-use crate::links::{LinkIn, LinkOut};
 use crate::mailbox::Message;
 use crate::outlet::Outlet;
-use crate::receptions::{Input, Reception};
 use crate::shared_edge::{Ended, Scratch, SharedEdge};
 use ether_wire::{Addr, Vni};
 use ev_book::Pass;
 use ev_edge::Event;
+use ev_links::{LONGEST, LinkIn, LinkOut};
+use ev_notices::{Input, Reception};
 use ev_tunnel::unwrap_datagram;
 use std::sync::Wait;
 use std::sync::ledger::Ledger;

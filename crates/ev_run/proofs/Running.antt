@@ -20,7 +20,7 @@ use Rattle.ev_report.specs.Notes.{status_of}
 use Rattle.ev_run.specs.RunEdges.{EachConfig, bind_error_text, Ended, each_from, reports_from, noted_text, sends_failed}
 use Rattle.ev_run.specs.RunEdges.{link_failed, was_out_of_memory, all_lost, Drains, IsReadOut, ReadsOut, TellsEnded}
 use Rattle.ev_run.specs.RunEdges.{PutsRest, TellsRest}
-use Rattle.ev_peers.specs.Telling.{Told, lines_of}
+use Rattle.ev_notices.specs.Telling.{Told, lines_of}
 use Rattle.ether_wire.proofs.Appending.{puts_behind}
 use Rattle.ev_run.specs.RunEdges.{IsStartError, TellsStartError, RunsEdges}
 use Rattle.ev_report.proofs.Finishing.{put_holds, put_failed, passed_out, passed_notes, passed_status, failed_out}

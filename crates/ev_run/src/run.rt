@@ -13,10 +13,9 @@ use crate::sockets::{PortSocket, Sockets, StartError, bind_all, put_bind_error, 
 use ether_wire::{Device, In, Out};
 use ev_config::Config;
 use ev_edge::EdgeConfig;
-use ev_peers::{
-    Boards, Destination, EdgeLinks, Link, NoticeBox, OpenGate, Outcome, Setup, Start, UdpOut, Wire,
-    notice_worker, run_all,
-};
+use ev_links::{Destination, UdpOut, Wire};
+use ev_notices::notice_worker;
+use ev_peers::{Boards, EdgeLinks, Link, NoticeBox, OpenGate, Outcome, Setup, Start, run_all};
 use ev_report::{Buffers, DEVICE, Devices, MEMORY, MOST_READS, status_of};
 use std::alloc::{AllocError, Global};
 use std::net::Net;

@@ -6,7 +6,7 @@ ghost use Rattle.ev_run.specs.RunEdges.{why_text, endpoint_text, bind_error_text
 use arrayvec::ArrayVec;
 use ether_wire::{Addr, Device, Out, put_addr, put_decimal};
 use ev_config::{Config, Endpoint, PortEndpoints};
-use ev_peers::socket_address;
+use ev_links::socket_address;
 use std::alloc::Global;
 use std::io::ErrorKind;
 use std::net::{Net, UdpSocket};

@@ -1,5 +1,6 @@
 use Rattle.std.proofs.Common.{◌≡◌, map, take}
-use Rattle.ev_peers.specs.Giving.{behind, bpdu_parcel}
+use Rattle.ev_peers.specs.Giving.{bpdu_parcel}
+use Rattle.ev_links.specs.Coming.{behind}
 use Rattle.ev_peers.proofs.giving.give_bpdus.Given as goal
 
 abbrev pub invariant-loop-sent : goal.invariant-loop-sent

@@ -1,5 +1,6 @@
 use Rattle.std.proofs.Common.{◌≡◌, take}
-use Rattle.ev_peers.specs.Giving.{behind, to_edges}
+use Rattle.ev_peers.specs.Giving.{to_edges}
+use Rattle.ev_links.specs.Coming.{behind}
 use Rattle.ev_peers.proofs.giving.give_edges.Given as goal
 
 abbrev pub invariant-loop-edge : goal.invariant-loop-edge

@@ -1,6 +1,7 @@
 use Rattle.std.proofs.Common.{◌≡◌, ◌-◌}
 use Rattle.ether_wire.specs.Ports.{ports_after, ports_of}
-use Rattle.ev_peers.specs.Giving.{behind, to_ports}
+use Rattle.ev_peers.specs.Giving.{to_ports}
+use Rattle.ev_links.specs.Coming.{behind}
 use Rattle.ev_peers.proofs.giving.give_ports.Given as goal
 
 -- what is given and what is still to be given is what was to be given

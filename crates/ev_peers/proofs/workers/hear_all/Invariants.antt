@@ -1,6 +1,6 @@
 use Rattle.std.proofs.Common.{true}
 use Rattle.ev_peers.specs.Working.{standing, hearing, Answers}
-use Rattle.ev_peers.specs.Coming.{DoesAll}
+use Rattle.ev_links.specs.Coming.{DoesAll}
 use Rattle.ev_peers.proofs.workers.hear_all.Given as goal
 
 -- all calls up to here were answered

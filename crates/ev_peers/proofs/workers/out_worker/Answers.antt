@@ -1,7 +1,7 @@
 use Rattle.std.proofs.Common.{ℕ, List, rules, subst, take}
-use Rattle.ev_peers.specs.Links.{packet}
+use Rattle.ev_links.specs.Links.{packet}
 use Rattle.ev_peers.specs.Sending.{gone, Sends}
-use Rattle.ev_peers.proofs.Coming.{goes_on}
+use Rattle.ev_links.proofs.Coming.{goes_on}
 use Rattle.ev_peers.proofs.workers.out_worker.Goals as goal
 
 pub loop-preserved : goal.loop-preserved

@@ -1,5 +1,5 @@
 use Rattle.std.proofs.Common.{◌≡◌, ◌+◌}
-use Rattle.ev_peers.specs.Coming.{DoesAll}
+use Rattle.ev_links.specs.Coming.{DoesAll}
 use Rattle.ev_peers.specs.Sending.{gone, Sends}
 use Rattle.ev_peers.proofs.workers.out_worker.Given as goal
 

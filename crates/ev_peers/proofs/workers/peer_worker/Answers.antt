@@ -1,5 +1,5 @@
 use Rattle.ev_peers.specs.Working.{standing, Takes}
-use Rattle.ev_peers.proofs.Coming.{goes_on}
+use Rattle.ev_links.proofs.Coming.{goes_on}
 use Rattle.ev_peers.proofs.workers.peer_worker.Goals as goal
 
 pub loop-preserved : goal.loop-preserved

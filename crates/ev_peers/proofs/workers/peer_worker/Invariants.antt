@@ -1,5 +1,5 @@
 use Rattle.ev_peers.specs.Working.{standing, Takes}
-use Rattle.ev_peers.specs.Coming.{DoesAll}
+use Rattle.ev_links.specs.Coming.{DoesAll}
 use Rattle.ev_peers.proofs.workers.peer_worker.Given as goal
 
 -- all that came up to here was taken

@@ -1,0 +1,109 @@
+-- A line that one frame more is put on, or that the first one is taken from.
+use Rattle.std.proofs.Common.{◌≡◌, ℕ, ◌+◌, ◌-◌, ◌^◌, ◌≤◌, min, Bool, true, false, ◌&&◌, nat_lt, nat_le, List, [], ◌∷◌}
+use Rattle.std.proofs.Common.{◌++◌, length, drop, suc, refl, sym, ap, ◌∙◌, arith}
+use Rattle.std.proofs.lemmas.List.{length-append, length-take-le, length-drop, take_all, take-append-le, drop-append-le}
+use Rattle.ev_links.specs.Links.{packet}
+use Rattle.ev_links.specs.declared.line.Head.{Head}
+use Rattle.ev_links.specs.Line.{octets_of, waiting_of, after_frame, cut, sizes, NoneTooLong, IsLine}
+
+-- as many frames as heads
+pub cut_length : (heads : List Head) (xs : List ℕ) → length (cut heads xs) ≡ length heads
+cut_length [] xs = refl
+cut_length (h ∷ heads) xs = ap suc (cut_length heads (drop h.size xs))
+
+-- and of as many octets
+pub cut_octets : (heads : List Head) (xs : List ℕ) → sizes heads ≡ length xs → octets_of (cut heads xs) ≡ sizes heads
+cut_octets [] xs e = refl
+cut_octets (h ∷ heads) xs e =
+    let one = length-take-le h.size xs (omega (arith, e)) in
+    let left = length-drop h.size xs in
+    let more = cut_octets heads (drop h.size xs) (omega (arith, e, left)) in
+    omega (arith, one, more)
+
+-- octets behind others are one frame more
+pub cut_put : (heads : List Head) (h : Head) (xs ys : List ℕ) → sizes heads ≡ length xs → h.size ≡ length ys
+    → cut (heads ++ h ∷ []) (xs ++ ys) ≡ cut heads xs ++ packet h.to ys ∷ []
+cut_put [] h [] ys e same = ap (λ (zs : List ℕ). packet h.to zs ∷ []) (take_all h.size ys (omega (arith, same)))
+cut_put [] h (x ∷ xs) ys e same = absurd (omega (arith, e))
+cut_put (g ∷ heads) h xs ys e same =
+    let within : g.size ≤ length xs = omega (arith, e) in
+    let left = length-drop g.size xs in
+    let more = cut_put heads h (drop g.size xs) ys (omega (arith, e, left)) same in
+    rw (take-append-le g.size xs ys within, drop-append-le g.size xs ys within, more) refl
+
+sizes_put : (heads : List Head) (h : Head) → sizes (heads ++ h ∷ []) ≡ sizes heads + h.size
+sizes_put [] h = omega arith
+sizes_put (g ∷ heads) h = let more = sizes_put heads h in omega (arith, more)
+
+fit_put : (heads : List Head) (h : Head) → NoneTooLong heads → h.size ≤ 9026 → NoneTooLong (heads ++ h ∷ [])
+fit_put [] h fit one = (one, tt)
+fit_put (g ∷ heads) h fit one = (fit.0, fit_put heads h fit.1 one)
+
+-- one frame more
+pub line_put : (heads : List Head) (octets : List ℕ) (start places1 places2 places3 : ℕ) (moved : List ℕ) (start' : ℕ)
+    (h : Head) (more : List ℕ) (places2' : ℕ) → IsLine heads octets start places1 places2 places3
+    → drop start' moved ≡ drop start octets → start' ≤ length moved → h.size ≡ length more → h.size ≤ 9026
+    → places2 ≤ places2' → IsLine (heads ++ h ∷ []) (moved ++ more) start' places1 places2' places3
+line_put heads octets start p1 p2 p3 moved start' h more p2' line same within size fits wide =
+    let was = length-drop start octets in
+    let is = ap length (sym same) ∙ length-drop start' moved in
+    let long = length-append moved more in
+    let one = sizes_put heads h in
+    let all = line.all in
+    let for_octets = line.for_octets in
+    record {
+      within = omega (arith, within, long);
+      all = omega (arith, was, is, long, one, all, size, within);
+      fit = fit_put heads h line.fit fits;
+      for_heads = line.for_heads;
+      for_octets = omega (arith, for_octets, wide);
+      for_bpdus = line.for_bpdus;
+    }
+
+-- without the first one
+pub line_left : (h : Head) (heads : List Head) (octets : List ℕ) (start places1 places2 places3 : ℕ)
+    → IsLine (h ∷ heads) octets start places1 places2 places3
+    → IsLine heads octets (start + h.size) places1 places2 places3
+line_left h heads octets start p1 p2 p3 line =
+    let all = line.all in
+    let within = line.within in
+    record {
+      within = omega (arith, all, within);
+      all = omega (arith, all, within);
+      fit = line.fit.1;
+      for_heads = line.for_heads;
+      for_octets = line.for_octets;
+      for_bpdus = line.for_bpdus;
+    }
+
+-- what a frame that is put leaves, where there is room for it
+pub put_view : (bpdus : List (List ℕ)) (heads heads' : List Head) (octets octets' : List ℕ) (start start' dropped : ℕ)
+    (ended : Bool) (to : ℕ) (more : List ℕ) (h : Head) (frames waiting : ℕ) → sizes heads ≡ length octets - start
+    → heads' ≡ heads ++ h ∷ [] → h.to ≡ to → h.size ≡ length more → drop start' octets' ≡ drop start octets ++ more
+    → frames ≡ length heads → waiting ≡ length octets - start
+    → (nat_le (length more) 9026 && nat_lt frames 1024 && nat_le (waiting + length more) 262144) ≡ true
+    → waiting_of bpdus (cut heads' (drop start' octets')) dropped ended
+    ≡ after_frame (packet to more) (waiting_of bpdus (cut heads (drop start octets)) dropped ended)
+put_view bpdus heads heads' octets octets' start start' dropped ended to more h frames waiting all e to_is size moved
+    many long room =
+    let left = length-drop start octets in
+    let e' : sizes heads ≡ length (drop start octets) = omega (arith, all, left) in
+    let count : length (cut heads (drop start octets)) ≡ frames = cut_length heads (drop start octets) ∙ sym many in
+    let octets_are : octets_of (cut heads (drop start octets)) ≡ waiting = cut_octets heads (drop start octets) e' ∙ all
+    ∙ sym long in
+    rw (count, octets_are, room, e, moved, cut_put heads h (drop start octets) more e' size, to_is) refl
+
+-- and where there is none
+pub dropped_view : (bpdus : List (List ℕ)) (heads : List Head) (octets : List ℕ) (start dropped dropped' : ℕ)
+    (ended : Bool) (to : ℕ) (more : List ℕ) (frames waiting : ℕ) → sizes heads ≡ length octets - start
+    → dropped' ≡ min (dropped + 1) (2 ^ 64 - 1) → frames ≡ length heads → waiting ≡ length octets - start
+    → (nat_le (length more) 9026 && nat_lt frames 1024 && nat_le (waiting + length more) 262144) ≡ false
+    → waiting_of bpdus (cut heads (drop start octets)) dropped' ended
+    ≡ after_frame (packet to more) (waiting_of bpdus (cut heads (drop start octets)) dropped ended)
+dropped_view bpdus heads octets start dropped dropped' ended to more frames waiting all e many long room =
+    let left = length-drop start octets in
+    let e' : sizes heads ≡ length (drop start octets) = omega (arith, all, left) in
+    let count : length (cut heads (drop start octets)) ≡ frames = cut_length heads (drop start octets) ∙ sym many in
+    let octets_are : octets_of (cut heads (drop start octets)) ≡ waiting = cut_octets heads (drop start octets) e' ∙ all
+    ∙ sym long in
+    rw (count, octets_are, room, e) refl

@@ -1,0 +1,4 @@
+pub mod Coming
+pub mod Links
+pub mod Line
+pub mod FailAt

@@ -1,0 +1,69 @@
+-- What the operator of an edge is told of an event.
+use Rattle.std.specs.Prelude.{ℕ, Bool, false, true, List, Option, Some, None, option_map, Result, Ok, Err}
+use Rattle.std.specs.Prelude.{if◌then◌else◌}
+use Rattle.ether_wire.specs.Frame.{source_of, frame_of}
+use Rattle.ether_wire.specs.declared.frame.FrameRefusal.{FrameRefusal}
+use Rattle.route_wire.specs.declared.update.Key.{Key}
+use Rattle.route_wire.specs.declared.update.Key.TheVariants.{Flood, Mac}
+use Rattle.mac_arena.specs.declared.station.Station.{Station}
+use Rattle.ev_mobility.specs.declared.alert.Alert.{Alert}
+use Rattle.ev_mobility.specs.declared.alert.Alert.TheVariants as alerts
+use Rattle.ev_edge.specs.declared.event.Event.{Event}
+use Rattle.ev_edge.specs.declared.event.Event.TheVariants.{Frame, Take, Pin, Unpin, Thaw, Second}
+use Rattle.ev_edge.specs.declared.refusal.EdgeRefusal.TheVariants as edge
+use Rattle.ev_edge.specs.declared.refusal.Refusal.TheVariants as refused
+use Rattle.ev_edge.specs.declared.reply.Reply.{Reply}
+use Rattle.ev_book.specs.declared.refusal.BookRefusal.{BookRefusal}
+use Rattle.ev_book.specs.declared.refusal.BookRefusal.TheVariants as book
+use Rattle.ev_notices.specs.declared.alarm.Alarm.{Alarm}
+
+-- ---- what an event is about
+
+-- the station that a key names: a flood list is none
+abbrev pub station_by : Key → Option Station
+station_by (Flood vni) = None
+station_by (Mac vni mac ip) = Some (record { vni = vni; mac = mac })
+
+-- the station in a network that sent a frame, if octets are one
+abbrev pub station_in : ℕ → Result (List ℕ) FrameRefusal → Option Station
+station_in vni (Ok frame) = Some (record { vni = vni; mac = source_of frame })
+station_in vni (Err refusal) = None
+
+-- the station that an event is about, which brings a frame of this network
+abbrev pub station_of : ℕ → Event → Option Station
+station_of vni (Frame port octets) = station_in vni (frame_of octets.now)
+station_of vni (Take u) = station_by u.register.key
+station_of vni (Pin s port) = Some s
+station_of vni (Unpin s) = Some s
+station_of vni (Thaw s) = Some s
+station_of vni _ = None
+
+-- the access port at which an event's station is
+abbrev pub port_of : Event → Option ℕ
+port_of (Frame port octets) = Some port
+port_of (Pin s port) = Some port
+port_of _ = None
+
+-- a second passes with the event
+abbrev pub is_second : Event → Bool
+is_second Second = true
+is_second _ = false
+
+-- ---- what its answer tells
+
+-- the call was refused for want of memory
+abbrev pub is_short : BookRefusal → Bool
+is_short book.NoRoom = true
+is_short (book.Edge (refused.Edge edge.NoMemory)) = true
+is_short _ = false
+
+-- the alert of an answer: that of the reply, or refused memory
+abbrev pub alert_of : Result Reply BookRefusal → Option Alert
+alert_of (Ok reply) = reply.alert
+alert_of (Err refusal) = if is_short refusal then Some alerts.NoMemory else None
+
+-- an alert, with what it is about
+abbrev pub alarm_of : ℕ → Event → Result Reply BookRefusal → Option Alarm
+alarm_of vni event answer =
+    option_map (λ alert. record { alert = alert; station = station_of vni event; port = port_of event })
+    (alert_of answer)

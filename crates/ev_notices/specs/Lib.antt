@@ -1,0 +1,5 @@
+pub mod Alarm
+pub mod Board
+pub mod Receptions
+pub mod Telling
+pub mod InTurn

@@ -1,0 +1,60 @@
+//! What is told of alerts that come one after the other, where each is told as soon as it may be.
+ghost use Rattle.std.specs.Prelude.{◌≡◌};
+ghost use Rattle.ether_wire.specs.Ends.{IsOpen, Puts};
+ghost use Rattle.ev_notices.specs.InTurn.{after_sign, told_by, some_text, told_text};
+
+use crate::alarm::Alarm;
+use crate::board::{Board, Notice};
+use crate::telling::put_notice;
+use ether_wire::{Device, Out};
+
+/// Writes a notice, if there is one.
+#[tactic(auto, using(ether_wire::proofs::Appending::with_text_none))]
+fn put_some<N: Out>(notes: &mut N, edge: u64, notice: &Option<Notice>) -> Result<(), Device>
+    requires { IsOpen (N.end notes.old) }
+    ensures { Puts (N.end notes.old) (N.end notes.new) (some_text edge notice.now) result }
+{
+    match notice {
+        Some(notice) => put_notice(notes, edge, notice),
+        None => Ok(()),
+    }
+}
+
+/// Puts an alert on a board and takes what is told then; none stands for a second that passes.
+fn told_by(board: &mut Board, sign: &Option<Alarm>) -> Option<Notice>
+    ensures told { result ≡ told_by sign.now board.old }
+    ensures after { board.new ≡ after_sign sign.now board.old }
+{
+    match sign {
+        Some(alarm) => {
+            board.alarm(*alarm);
+            board.take()
+        }
+        None => {
+            board.second();
+            None
+        }
+    }
+}
+
+/// Writes what is told of the edge with this number where these alerts come one after the other;
+/// none stands for a second that passes. Each is told, or held back, as it comes, and at the end
+/// how many were held back since.
+///
+/// # Errors
+///
+/// `Device` exactly where a call of the writer failed; then no further call is made.
+pub fn tell_in_turn<N: Out>(notes: &mut N, edge: u64, signs: &[Option<Alarm>]) -> Result<(), Device>
+    requires { IsOpen (N.end notes.old) }
+    ensures { Puts (N.end notes.old) (N.end notes.new) (told_text edge signs.now) result }
+{
+    let mut board = Board::new();
+    for sign in signs {
+        let notice = told_by(&mut board, sign);
+        match put_some(notes, edge, &notice) {
+            Ok(()) => {}
+            Err(device) => return Err(device),
+        }
+    }
+    put_some(notes, edge, &board.take_last())
+}

@@ -1,0 +1,255 @@
+//! What is told to the operator while edges run, a line each, and the worker that writes it.
+ghost use Rattle.std.specs.Prelude.{◌≡◌, ◌++◌, ◌∷◌, [], Option, List, codes};
+ghost use Rattle.std.specs.Fmt.{decimal};
+ghost use Rattle.ether_wire.specs.Ends.{IsOpen, Puts};
+ghost use Rattle.ev_links.specs.Coming.{behind};
+ghost use Rattle.ev_notices.specs.Telling.{Told, alert_words, edge_text, count_text, held_text, station_text, place_text, about_text, alarm_text, notice_text, input_text, state_text, reception_text, untold_text, news_text, TellsAll};
+
+use crate::alarm::Alarm;
+use crate::board::Notice;
+use crate::receptions::{Input, Reception};
+use ether_wire::{Device, Out, put_decimal, put_mac};
+use ev_mobility::Alert;
+use mac_arena::Station;
+use std::sync::Wait;
+
+/// What an operator is told at once of an edge.
+#[derive(Clone, Copy, Debug, PartialEq, Eq)]
+pub enum News {
+    /// An alert, or how many were held back.
+    Alerts(Notice),
+    /// That receiving over a link failed, or works again.
+    Reception(Reception),
+    /// So many times this wasn't told.
+    Untold(u64),
+}
+
+/// Where what an operator is told comes from.
+pub trait NoticesIn {
+    /// What came, in its order, where it tells it: each piece of news with the number of its edge,
+    /// and none for the end.
+    ghost came: { Self → Option (List (Option Told)) };
+
+    /// Waits for the next news, and the number of the edge that they are about. None at the end.
+    fn next(&mut self) -> Option<(u64, News)>
+        ensures { came self.new ≡ behind (came self.old) (result ∷ []) };
+}
+
+/// The words for an alert.
+fn alert_words(alert: Alert) -> &'static str
+    ensures { result.now ≡ alert_words alert }
+{
+    match alert {
+        Alert::StaticElsewhere => "static at another edge",
+        Alert::SequenceSpent => "sequence numbers spent",
+        Alert::Duplicate => "duplicate",
+        Alert::LostStatic => "lost a pinned station",
+        Alert::CounterSpent => "counter spent",
+        Alert::TableFull => "learning table full",
+        Alert::NoMemory => "no memory",
+    }
+}
+
+/// Writes `edge E: `.
+#[tactic(auto, using(ether_wire::proofs::Appending::with_text_twice))]
+fn put_edge<N: Out>(notes: &mut N, edge: u64) -> Result<(), Device>
+    requires { IsOpen (N.end notes.old) }
+    ensures { Puts (N.end notes.old) (N.end notes.new) (edge_text edge) result }
+{
+    notes.put(b"edge ")?;
+    put_decimal(notes, edge)?;
+    notes.put(b": ")
+}
+
+/// Writes `N more alerts were held back`.
+#[tactic(auto, using(ether_wire::proofs::Appending::with_text_twice))]
+fn put_count<N: Out>(notes: &mut N, held: u64) -> Result<(), Device>
+    requires { IsOpen (N.end notes.old) }
+    ensures { Puts (N.end notes.old) (N.end notes.new) (count_text held) result }
+{
+    put_decimal(notes, held)?;
+    notes.put(b" more alerts were held back\n")
+}
+
+/// Writes how many alerts were held back, where there were any.
+#[tactic(auto, using(ether_wire::proofs::Appending::with_text_twice, ether_wire::proofs::Appending::with_text_none))]
+fn put_held<N: Out>(notes: &mut N, edge: u64, held: u64) -> Result<(), Device>
+    requires { IsOpen (N.end notes.old) }
+    ensures { Puts (N.end notes.old) (N.end notes.new) (held_text edge held) result }
+{
+    if held == 0 {
+        return Ok(());
+    }
+    put_edge(notes, edge)?;
+    put_count(notes, held)
+}
+
+/// Writes ` VNI MAC`, where there is a station.
+#[tactic(auto, using(ether_wire::proofs::Appending::with_text_twice, ether_wire::proofs::Appending::with_text_none))]
+fn put_station<N: Out>(notes: &mut N, station: &Option<Station>) -> Result<(), Device>
+    requires { IsOpen (N.end notes.old) }
+    ensures { Puts (N.end notes.old) (N.end notes.new) (station_text station.now) result }
+{
+    let Some(station) = station else {
+        return Ok(());
+    };
+    notes.put(b" ")?;
+    put_decimal(notes, u64::from(station.vni.number()))?;
+    notes.put(b" ")?;
+    put_mac(notes, station.mac)
+}
+
+/// Writes ` on port P`, where there is a port, and the end of the line.
+#[tactic(auto, using(ether_wire::proofs::Appending::with_text_twice, ether_wire::proofs::Appending::with_text_none))]
+fn put_place<N: Out>(notes: &mut N, port: Option<u8>) -> Result<(), Device>
+    requires { IsOpen (N.end notes.old) }
+    ensures { Puts (N.end notes.old) (N.end notes.new) (place_text port) result }
+{
+    let Some(port) = port else {
+        return notes.put(b"\n");
+    };
+    notes.put(b" on port ")?;
+    put_decimal(notes, u64::from(port))?;
+    notes.put(b"\n")
+}
+
+/// Writes `edge E: WORDS VNI MAC on port P`, as far as there are a station and a port.
+#[tactic(auto, using(ether_wire::proofs::Appending::with_text_twice))]
+fn put_alarm<N: Out>(notes: &mut N, edge: u64, alarm: &Alarm) -> Result<(), Device>
+    requires { IsOpen (N.end notes.old) }
+    ensures { Puts (N.end notes.old) (N.end notes.new) (alarm_text edge alarm.now) result }
+{
+    put_edge(notes, edge)?;
+    notes.put(alert_words(alarm.alert).as_bytes())?;
+    put_station(notes, &alarm.station)?;
+    put_place(notes, alarm.port)
+}
+
+/// Writes the alert of a notice, if it has one.
+#[tactic(auto, using(ether_wire::proofs::Appending::with_text_none))]
+fn put_about<N: Out>(notes: &mut N, edge: u64, alarm: &Option<Alarm>) -> Result<(), Device>
+    requires { IsOpen (N.end notes.old) }
+    ensures { Puts (N.end notes.old) (N.end notes.new) (about_text edge alarm.now) result }
+{
+    match alarm {
+        Some(alarm) => put_alarm(notes, edge, alarm),
+        None => Ok(()),
+    }
+}
+
+/// Writes what an operator is told at once of the edge with this number, and sees that it goes out.
+///
+/// # Errors
+///
+/// `Device` exactly where a call of the writer failed; then no further call is made.
+#[tactic(auto, using(ether_wire::proofs::Appending::with_text_twice, ether_wire::proofs::Appending::with_text_none))]
+pub fn put_notice<N: Out>(notes: &mut N, edge: u64, notice: &Notice) -> Result<(), Device>
+    requires { IsOpen (N.end notes.old) }
+    ensures { Puts (N.end notes.old) (N.end notes.new) (notice_text edge notice.now) result }
+{
+    put_held(notes, edge, notice.held)?;
+    put_about(notes, edge, &notice.alarm)?;
+    notes.flush()
+}
+
+/// Writes `port P`, `tunnel` or `clock`.
+#[tactic(auto, using(ether_wire::proofs::Appending::with_text_twice))]
+fn put_input<N: Out>(notes: &mut N, input: Input) -> Result<(), Device>
+    requires { IsOpen (N.end notes.old) }
+    ensures { Puts (N.end notes.old) (N.end notes.new) (input_text input) result }
+{
+    match input {
+        Input::Port(port) => {
+            notes.put(b"port ")?;
+            put_decimal(notes, u64::from(port))
+        }
+        Input::Tunnel => notes.put(b"tunnel"),
+        Input::Clock => notes.put(b"clock"),
+    }
+}
+
+/// Writes that receiving failed, or works again, and the end of the line.
+fn put_state<N: Out>(notes: &mut N, works: bool) -> Result<(), Device>
+    requires { IsOpen (N.end notes.old) }
+    ensures { Puts (N.end notes.old) (N.end notes.new) (state_text works) result }
+{
+    if works {
+        notes.put(b": receiving again\n")
+    } else {
+        notes.put(b": receiving failed\n")
+    }
+}
+
+/// Writes `edge E INPUT: receiving failed`, or that it works again.
+#[tactic(auto, using(ether_wire::proofs::Appending::with_text_twice))]
+fn put_reception<N: Out>(notes: &mut N, edge: u64, reception: Reception) -> Result<(), Device>
+    requires { IsOpen (N.end notes.old) }
+    ensures { Puts (N.end notes.old) (N.end notes.new) (reception_text edge reception) result }
+{
+    notes.put(b"edge ")?;
+    put_decimal(notes, edge)?;
+    notes.put(b" ")?;
+    put_input(notes, reception.input)?;
+    put_state(notes, reception.works)
+}
+
+/// Writes `edge E: receiving failed or was there again N more times`.
+#[tactic(auto, using(ether_wire::proofs::Appending::with_text_twice))]
+fn put_untold<N: Out>(notes: &mut N, edge: u64, count: u64) -> Result<(), Device>
+    requires { IsOpen (N.end notes.old) }
+    ensures { Puts (N.end notes.old) (N.end notes.new) (untold_text edge count) result }
+{
+    put_edge(notes, edge)?;
+    notes.put(b"receiving failed or was there again ")?;
+    put_decimal(notes, count)?;
+    notes.put(b" more times\n")
+}
+
+/// Writes what an operator is told at once of the edge with this number, and sees that it goes out.
+///
+/// # Errors
+///
+/// `Device` exactly where a call of the writer failed; then no further call is made.
+#[tactic(auto, using(ether_wire::proofs::Appending::with_text_twice, ether_wire::proofs::Appending::with_text_none))]
+fn put_news<N: Out>(notes: &mut N, edge: u64, news: &News) -> Result<(), Device>
+    requires { IsOpen (N.end notes.old) }
+    ensures { Puts (N.end notes.old) (N.end notes.new) (news_text edge news.now) result }
+{
+    match news {
+        News::Alerts(notice) => put_notice(notes, edge, notice),
+        News::Reception(reception) => {
+            put_reception(notes, edge, *reception)?;
+            notes.flush()
+        }
+        News::Untold(count) => {
+            put_untold(notes, edge, *count)?;
+            notes.flush()
+        }
+    }
+}
+
+/// Writes what comes for the operator, until nothing more comes or a call of the writer fails.
+///
+/// # Errors
+///
+/// `Device` exactly where a call of the writer failed; then no further call is made.
+pub fn notice_worker<A: NoticesIn, N: Out, R: Wait>(
+    rt: &R,
+    notices: &mut A,
+    notes: &mut N,
+) -> Result<(), Device>
+    requires { IsOpen (N.end notes.old) }
+    ensures { TellsAll (A.came notices.old) (N.end notes.old) (A.came notices.new)
+        (N.end notes.new) result }
+{
+    for _ in rt.forever() {
+        let Some((edge, news)) = notices.next() else {
+            return Ok(());
+        };
+        match put_news(notes, edge, &news) {
+            Ok(()) => {}
+            Err(device) => return Err(device),
+        }
+    }
+    unreachable!()
+}
