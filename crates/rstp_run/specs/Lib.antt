@@ -1,15 +1,8 @@
-pub mod BridgeDetection
-pub mod Class
 pub mod Events
-pub mod Information
 pub mod Laws
 pub mod Machines
-pub mod Migration
-pub mod Receive
 pub mod Rest
 pub mod RootPort
 pub mod Rules
 pub mod Runs
 pub mod Settled
-pub mod TopologyChange
-pub mod Transmit

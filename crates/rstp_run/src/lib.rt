@@ -3,19 +3,12 @@
 #![tactic(auto)]
 
 pub mod bridge;
-mod bridge_detection;
-pub mod class;
 mod count;
 mod engine;
 pub mod event;
 mod firing;
-mod information;
 pub mod laws;
-mod migration;
-mod receive;
 mod rest;
 pub mod rule;
 #[cfg(test)]
 mod tests;
-mod topology_change;
-mod transmit;

@@ -20,14 +20,16 @@ ghost use Rattle.rstp_run.specs.Rest.{
 ghost use Rattle.rstp_run.specs.Rules.{wants_selection};
 ghost use Rattle.std.specs.List.{list_any};
 
-use crate::bridge_detection::{edge_guard, not_edge_guard};
-use crate::information::{
+use crate::rule::Part;
+use rstp_machines::bridge_detection::{edge_guard, not_edge_guard};
+use rstp_machines::information::{
     aged_guard, disabled_guard, drop_guard, enabled_guard, may_take, update_guard,
 };
-use crate::migration::{checked_guard, recheck_guard, selected_guard, to_rstp_guard, to_stp_guard};
-use crate::receive::{discard_guard, receive_guard};
-use crate::rule::Part;
-use crate::topology_change::{
+use rstp_machines::migration::{
+    checked_guard, recheck_guard, selected_guard, to_rstp_guard, to_stp_guard,
+};
+use rstp_machines::receive::{discard_guard, receive_guard};
+use rstp_machines::topology_change::{
     acknowledged_guard, detected_guard, flush_guard, notified_tc_guard, notified_tcn_guard,
     propagating_guard, tc_back_guard, tc_clear_guard, tc_inactive_guard, tc_learning_guard,
 };

@@ -6,12 +6,12 @@ use super::{
 };
 use crate::bridge::{Bridge, BridgeConfig};
 use crate::event::{Event, Outcome};
-use crate::information::is_out;
-use crate::migration::is_checking;
 use crate::rule::{MAIN, SENDS};
-use crate::topology_change::is_active;
 use arrayvec::ArrayVec;
 use bpdu_wire::{BridgeId, write};
+use rstp_machines::information::is_out;
+use rstp_machines::migration::is_checking;
+use rstp_machines::topology_change::is_active;
 use rstp_state::port::Role;
 use rstp_state::start::{PortSettings, Settings};
 use std::test::Fail;

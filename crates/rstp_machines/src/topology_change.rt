@@ -3,7 +3,7 @@
 
 ghost use Rattle.std.specs.Prelude.{◌≡◌, ◌<◌, length, map};
 ghost use Rattle.rstp_state.specs.Port.{is_active, is_inactive, is_learning};
-ghost use Rattle.rstp_run.specs.TopologyChange.{
+ghost use Rattle.rstp_machines.specs.TopologyChange.{
   is_in_tree,
   has_changes,
   without_changes,
@@ -13,7 +13,7 @@ ghost use Rattle.rstp_run.specs.TopologyChange.{
   notified_at,
   notified_tcn_at,
 };
-ghost use Rattle.rstp_run.specs.TopologyChange.{
+ghost use Rattle.rstp_machines.specs.TopologyChange.{
   tc_learning_guard,
   tc_learning_effect,
   detected_guard,
@@ -53,7 +53,7 @@ fn is_learning(state: Topology) -> bool
 }
 
 /// Whether the machine is in its state Active.
-pub(crate) fn is_active(state: Topology) -> bool
+pub fn is_active(state: Topology) -> bool
     ensures { result ≡ is_active state }
 {
     matches!(state, Topology::Active)
@@ -118,14 +118,14 @@ fn propagate_changes(ports: &mut [PortState])
 }
 
 /// Whether the machine is Inactive at a port that begins to learn.
-pub(crate) fn tc_learning_guard(port: &PortState) -> bool
+pub fn tc_learning_guard(port: &PortState) -> bool
     ensures { result ≡ tc_learning_guard port.now }
 {
     is_inactive(port.topology) && port.learn && !port.flush
 }
 
 /// The port begins to learn.
-pub(crate) fn tc_learning(port: &mut PortState)
+pub fn tc_learning(port: &mut PortState)
     ensures { port.new ≡ tc_learning_effect port.old }
 {
     clear_changes(port);
@@ -133,7 +133,7 @@ pub(crate) fn tc_learning(port: &mut PortState)
 }
 
 /// Whether a port of the tree begins to forward: a change.
-pub(crate) fn detected_guard(port: &PortState) -> bool
+pub fn detected_guard(port: &PortState) -> bool
     ensures { result ≡ detected_guard port.now }
 {
     is_learning(port.topology) && is_in_tree(port) && port.forward && !port.oper_edge
@@ -149,7 +149,7 @@ fn detect(timing: &Timing, port: &mut PortState)
 }
 
 /// The port begins to forward, which is a change that every other port is to pass on.
-pub(crate) fn detected(timing: &Timing, ports: &mut [PortState], p: usize)
+pub fn detected(timing: &Timing, ports: &mut [PortState], p: usize)
     requires { p < length ports.old }
     ensures { ports.new ≡ detected_effect timing.now p ports.old }
 {
@@ -160,21 +160,21 @@ pub(crate) fn detected(timing: &Timing, ports: &mut [PortState], p: usize)
 }
 
 /// Whether a port that isn't active was told of a change.
-pub(crate) fn tc_clear_guard(port: &PortState) -> bool
+pub fn tc_clear_guard(port: &PortState) -> bool
     ensures { result ≡ tc_clear_guard port.now }
 {
     is_learning(port.topology) && has_changes(port) && !detected_guard(port)
 }
 
 /// A port that is not in the tree hears of no changes.
-pub(crate) fn tc_clear(port: &mut PortState)
+pub fn tc_clear(port: &mut PortState)
     ensures { port.new ≡ tc_clear_effect port.old }
 {
     clear_changes(port);
 }
 
 /// Whether a port out of the tree learns no longer.
-pub(crate) fn tc_inactive_guard(port: &PortState) -> bool
+pub fn tc_inactive_guard(port: &PortState) -> bool
     ensures { result ≡ tc_inactive_guard port.now }
 {
     is_learning(port.topology)
@@ -185,7 +185,7 @@ pub(crate) fn tc_inactive_guard(port: &PortState) -> bool
 }
 
 /// The port learns no longer, so what was learnt is forgotten.
-pub(crate) fn tc_inactive(port: &mut PortState)
+pub fn tc_inactive(port: &mut PortState)
     ensures { port.new ≡ tc_inactive_effect port.old }
 {
     port.topology = Topology::Inactive;
@@ -195,14 +195,14 @@ pub(crate) fn tc_inactive(port: &mut PortState)
 }
 
 /// Whether an active port left the tree, or is an edge.
-pub(crate) fn tc_back_guard(port: &PortState) -> bool
+pub fn tc_back_guard(port: &PortState) -> bool
     ensures { result ≡ tc_back_guard port.now }
 {
     is_active(port.topology) && (!is_in_tree(port) || port.oper_edge)
 }
 
 /// The port left the tree, or is an edge.
-pub(crate) fn tc_back(port: &mut PortState)
+pub fn tc_back(port: &mut PortState)
     ensures { port.new ≡ tc_back_effect port.old }
 {
     clear_changes(port);
@@ -210,7 +210,7 @@ pub(crate) fn tc_back(port: &mut PortState)
 }
 
 /// Whether a bridge of the older protocol told an active port of a change.
-pub(crate) fn notified_tcn_guard(port: &PortState) -> bool
+pub fn notified_tcn_guard(port: &PortState) -> bool
     ensures { result ≡ notified_tcn_guard port.now }
 {
     is_active(port.topology) && port.received_notification
@@ -235,7 +235,7 @@ fn note_notification(timing: &Timing, port: &mut PortState)
 }
 
 /// A bridge of the older protocol tells of a change, which every other port is to pass on.
-pub(crate) fn notified_tcn(timing: &Timing, ports: &mut [PortState], p: usize)
+pub fn notified_tcn(timing: &Timing, ports: &mut [PortState], p: usize)
     requires { p < length ports.old }
     ensures { ports.new ≡ notified_tcn_effect timing.now p ports.old }
 {
@@ -246,14 +246,14 @@ pub(crate) fn notified_tcn(timing: &Timing, ports: &mut [PortState], p: usize)
 }
 
 /// Whether a message told an active port of a change.
-pub(crate) fn notified_tc_guard(port: &PortState) -> bool
+pub fn notified_tc_guard(port: &PortState) -> bool
     ensures { result ≡ notified_tc_guard port.now }
 {
     is_active(port.topology) && port.received_topology_change
 }
 
 /// A message tells of a change, which every other port is to pass on.
-pub(crate) fn notified_tc(ports: &mut [PortState], p: usize)
+pub fn notified_tc(ports: &mut [PortState], p: usize)
     requires { p < length ports.old }
     ensures { ports.new ≡ notified_tc_effect p ports.old }
 {
@@ -264,14 +264,14 @@ pub(crate) fn notified_tc(ports: &mut [PortState], p: usize)
 }
 
 /// Whether an active port that isn't an edge is to pass a change on.
-pub(crate) fn propagating_guard(port: &PortState) -> bool
+pub fn propagating_guard(port: &PortState) -> bool
     ensures { result ≡ propagating_guard port.now }
 {
     is_active(port.topology) && port.propagate_topology_change && !port.oper_edge
 }
 
 /// The port passes a change on, and what was learnt at it is forgotten.
-pub(crate) fn propagating(timing: &Timing, port: &mut PortState)
+pub fn propagating(timing: &Timing, port: &mut PortState)
     ensures { port.new ≡ propagating_effect timing.now port.old }
 {
     start_change_timer(timing, port);
@@ -280,14 +280,14 @@ pub(crate) fn propagating(timing: &Timing, port: &mut PortState)
 }
 
 /// Whether an active port's change was acknowledged.
-pub(crate) fn acknowledged_guard(port: &PortState) -> bool
+pub fn acknowledged_guard(port: &PortState) -> bool
     ensures { result ≡ acknowledged_guard port.now }
 {
     is_active(port.topology) && port.received_acknowledgement
 }
 
 /// The other end knows of the change.
-pub(crate) fn acknowledged(port: &mut PortState)
+pub fn acknowledged(port: &mut PortState)
     ensures { port.new ≡ acknowledged_effect port.old }
 {
     port.topology_change_while = 0;
@@ -295,14 +295,14 @@ pub(crate) fn acknowledged(port: &mut PortState)
 }
 
 /// Whether what was learnt at the port is to be forgotten.
-pub(crate) fn flush_guard(port: &PortState) -> bool
+pub fn flush_guard(port: &PortState) -> bool
     ensures { result ≡ flush_guard port.now }
 {
     port.flush
 }
 
 /// What was learnt at the port is forgotten; the event's answer tells so.
-pub(crate) fn flush(port: &mut PortState)
+pub fn flush(port: &mut PortState)
     ensures { port.new ≡ flush_effect port.old }
 {
     port.flush = false;

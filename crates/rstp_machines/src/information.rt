@@ -3,7 +3,7 @@
 ghost use Rattle.std.specs.Prelude.{◌≡◌};
 ghost use Rattle.rstp_state.specs.Port.{is_current, is_mine, is_out};
 ghost use Rattle.rstp_state.specs.Vector.{is_less};
-ghost use Rattle.rstp_run.specs.Information.{
+ghost use Rattle.rstp_machines.specs.Information.{
   message_has,
   rst_has,
   vector_or,
@@ -20,7 +20,7 @@ ghost use Rattle.rstp_run.specs.Information.{
   with_superior_flags,
   with_answer,
 };
-ghost use Rattle.rstp_run.specs.Information.{
+ghost use Rattle.rstp_machines.specs.Information.{
   disabled_guard,
   disabled_effect,
   drop_guard,
@@ -51,7 +51,7 @@ use rstp_state::port::{InfoIs, Information, PortState, has_flag};
 use rstp_state::vector::{Times, Vector};
 
 /// Whether the machine is in its state Disabled.
-pub(crate) fn is_out(state: Information) -> bool
+pub fn is_out(state: Information) -> bool
     ensures { result ≡ is_out state }
 {
     matches!(state, Information::Disabled)
@@ -157,14 +157,14 @@ fn age(port: &mut PortState)
 }
 
 /// Whether a port went down whose machine isn't Disabled yet.
-pub(crate) fn disabled_guard(port: &PortState) -> bool
+pub fn disabled_guard(port: &PortState) -> bool
     ensures { result ≡ disabled_guard port.now }
 {
     !port.enabled && !is_out(port.information)
 }
 
 /// The port went down.
-pub(crate) fn disabled(port: &mut PortState)
+pub fn disabled(port: &mut PortState)
     ensures { port.new ≡ disabled_effect port.old }
 {
     port.information = Information::Disabled;
@@ -180,35 +180,35 @@ pub(crate) fn disabled(port: &mut PortState)
 }
 
 /// Whether a message waits at a port that is down.
-pub(crate) fn drop_guard(port: &PortState) -> bool
+pub fn drop_guard(port: &PortState) -> bool
     ensures { result ≡ drop_guard port.now }
 {
     is_out(port.information) && port.received_message
 }
 
 /// A message at a port that is down is dropped.
-pub(crate) fn drop_message(port: &mut PortState)
+pub fn drop_message(port: &mut PortState)
     ensures { port.new ≡ drop_effect port.old }
 {
     port.received_message = false;
 }
 
 /// Whether a port came up whose machine is Disabled still.
-pub(crate) fn enabled_guard(port: &PortState) -> bool
+pub fn enabled_guard(port: &PortState) -> bool
     ensures { result ≡ enabled_guard port.now }
 {
     is_out(port.information) && port.enabled
 }
 
 /// The port came up.
-pub(crate) fn enabled(port: &mut PortState)
+pub fn enabled(port: &mut PortState)
     ensures { port.new ≡ enabled_effect port.old }
 {
     age(port);
 }
 
 /// Whether the port's designated vector and times wait to be taken over.
-pub(crate) fn update_guard(port: &PortState) -> bool
+pub fn update_guard(port: &PortState) -> bool
     ensures { result ≡ update_guard port.now }
 {
     !is_out(port.information) && port.selected && port.update_info
@@ -222,7 +222,7 @@ fn keeps_agreed(port: &PortState) -> bool
 }
 
 /// The port takes over its designated vector and times.
-pub(crate) fn update(port: &mut PortState)
+pub fn update(port: &mut PortState)
     ensures { port.new ≡ update_effect port.old }
 {
     port.agreed = keeps_agreed(port);
@@ -238,7 +238,7 @@ pub(crate) fn update(port: &mut PortState)
 }
 
 /// Whether received information is too old, and nothing newer waits.
-pub(crate) fn aged_guard(port: &PortState) -> bool
+pub fn aged_guard(port: &PortState) -> bool
     ensures { result ≡ aged_guard port.now }
 {
     is_current(port.information)
@@ -249,21 +249,21 @@ pub(crate) fn aged_guard(port: &PortState) -> bool
 }
 
 /// What was received is too old.
-pub(crate) fn aged(port: &mut PortState)
+pub fn aged(port: &mut PortState)
     ensures { port.new ≡ aged_effect port.old }
 {
     age(port);
 }
 
 /// Whether a message waits that may be looked at.
-pub(crate) fn may_take(port: &PortState) -> bool
+pub fn may_take(port: &PortState) -> bool
     ensures { result ≡ may_take port.now }
 {
     is_current(port.information) && port.received_message && !port.update_info
 }
 
 /// Whether a message waits that is better information of a designated port.
-pub(crate) fn superior_guard(port: &PortState) -> bool
+pub fn superior_guard(port: &PortState) -> bool
     ensures { result ≡ superior_guard port.now }
 {
     may_take(port) && class_of(port).is_superior()
@@ -301,7 +301,7 @@ fn set_superior_flags(port: &mut PortState)
 }
 
 /// Better information of a designated port is taken over.
-pub(crate) fn superior(port: &mut PortState)
+pub fn superior(port: &mut PortState)
     ensures { port.new ≡ superior_effect port.old }
 {
     note_proposal(port);
@@ -313,14 +313,14 @@ pub(crate) fn superior(port: &mut PortState)
 }
 
 /// Whether a message waits that says what the port knows.
-pub(crate) fn repeated_guard(port: &PortState) -> bool
+pub fn repeated_guard(port: &PortState) -> bool
     ensures { result ≡ repeated_guard port.now }
 {
     may_take(port) && class_of(port).is_repeated()
 }
 
 /// The information that the port has already is kept on.
-pub(crate) fn repeated(port: &mut PortState)
+pub fn repeated(port: &mut PortState)
     ensures { port.new ≡ repeated_effect port.old }
 {
     note_proposal(port);
@@ -330,14 +330,14 @@ pub(crate) fn repeated(port: &mut PortState)
 }
 
 /// Whether a message waits that is worse information of a designated port.
-pub(crate) fn inferior_guard(port: &PortState) -> bool
+pub fn inferior_guard(port: &PortState) -> bool
     ensures { result ≡ inferior_guard port.now }
 {
     may_take(port) && class_of(port).is_inferior()
 }
 
 /// Worse information of a designated port is disputed if that port learns.
-pub(crate) fn inferior(port: &mut PortState)
+pub fn inferior(port: &mut PortState)
     ensures { port.new ≡ inferior_effect port.old }
 {
     if rst_has(LEARNING, port.message) {
@@ -348,7 +348,7 @@ pub(crate) fn inferior(port: &mut PortState)
 }
 
 /// Whether a message waits that a root, alternate or backup port sent.
-pub(crate) fn not_designated_guard(port: &PortState) -> bool
+pub fn not_designated_guard(port: &PortState) -> bool
     ensures { result ≡ not_designated_guard port.now }
 {
     may_take(port) && class_of(port).is_not_designated()
@@ -367,7 +367,7 @@ fn take_answer(port: &mut PortState)
 }
 
 /// The answer of a root, alternate or backup port may be an agreement.
-pub(crate) fn not_designated(port: &mut PortState)
+pub fn not_designated(port: &mut PortState)
     ensures { port.new ≡ not_designated_effect port.old }
 {
     take_answer(port);
@@ -376,14 +376,14 @@ pub(crate) fn not_designated(port: &mut PortState)
 }
 
 /// Whether any other message waits.
-pub(crate) fn other_guard(port: &PortState) -> bool
+pub fn other_guard(port: &PortState) -> bool
     ensures { result ≡ other_guard port.now }
 {
     may_take(port) && class_of(port).is_other()
 }
 
 /// Of any other message a notification is noted.
-pub(crate) fn other(port: &mut PortState)
+pub fn other(port: &mut PortState)
     ensures { port.new ≡ other_effect port.old }
 {
     if let Some(Bpdu::Tcn) = port.message {

@@ -2,7 +2,7 @@
 
 ghost use Rattle.std.specs.Prelude.{◌≡◌};
 ghost use Rattle.rstp_state.specs.Port.{is_checking, is_selecting, is_sensing};
-ghost use Rattle.rstp_run.specs.Migration.{
+ghost use Rattle.rstp_machines.specs.Migration.{
   enter_checking,
   enter_selecting,
   enter_sensing,
@@ -16,7 +16,7 @@ ghost use Rattle.rstp_run.specs.Migration.{
 use rstp_state::port::{Migration, PortState};
 
 /// Whether the machine is in its state Checking.
-pub(crate) fn is_checking(state: Migration) -> bool
+pub fn is_checking(state: Migration) -> bool
     ensures { result ≡ is_checking state }
 {
     matches!(state, Migration::Checking)
@@ -37,7 +37,7 @@ fn is_sensing(state: Migration) -> bool
 }
 
 /// The port sends the rapid protocol, and waits before it listens for the other.
-pub(crate) fn enter_checking(port: &mut PortState)
+pub fn enter_checking(port: &mut PortState)
     ensures { port.new ≡ enter_checking port.old }
 {
     port.migration = Migration::Checking;
@@ -47,7 +47,7 @@ pub(crate) fn enter_checking(port: &mut PortState)
 }
 
 /// The port sends the older protocol, and waits before it listens for the rapid one.
-pub(crate) fn enter_selecting(port: &mut PortState)
+pub fn enter_selecting(port: &mut PortState)
     ensures { port.new ≡ enter_selecting port.old }
 {
     port.migration = Migration::Selecting;
@@ -56,7 +56,7 @@ pub(crate) fn enter_selecting(port: &mut PortState)
 }
 
 /// The port listens for the other protocol.
-pub(crate) fn enter_sensing(port: &mut PortState)
+pub fn enter_sensing(port: &mut PortState)
     ensures { port.new ≡ enter_sensing port.old }
 {
     port.migration = Migration::Sensing;
@@ -65,21 +65,21 @@ pub(crate) fn enter_sensing(port: &mut PortState)
 }
 
 /// A port that is not enabled goes on checking.
-pub(crate) fn recheck_guard(port: &PortState) -> bool
+pub fn recheck_guard(port: &PortState) -> bool
     ensures { result ≡ recheck_guard port.now }
 {
     is_checking(port.migration) && port.migration_delay_while != 3 && !port.enabled
 }
 
 /// Checking is over.
-pub(crate) fn checked_guard(port: &PortState) -> bool
+pub fn checked_guard(port: &PortState) -> bool
     ensures { result ≡ checked_guard port.now }
 {
     is_checking(port.migration) && port.migration_delay_while == 0 && port.enabled
 }
 
 /// Selecting is over.
-pub(crate) fn selected_guard(port: &PortState) -> bool
+pub fn selected_guard(port: &PortState) -> bool
     ensures { result ≡ selected_guard port.now }
 {
     is_selecting(port.migration)
@@ -87,7 +87,7 @@ pub(crate) fn selected_guard(port: &PortState) -> bool
 }
 
 /// The port goes back to the rapid protocol.
-pub(crate) fn to_rstp_guard(port: &PortState) -> bool
+pub fn to_rstp_guard(port: &PortState) -> bool
     ensures { result ≡ to_rstp_guard port.now }
 {
     is_sensing(port.migration)
@@ -95,7 +95,7 @@ pub(crate) fn to_rstp_guard(port: &PortState) -> bool
 }
 
 /// The port goes over to the older protocol.
-pub(crate) fn to_stp_guard(port: &PortState) -> bool
+pub fn to_stp_guard(port: &PortState) -> bool
     ensures { result ≡ to_stp_guard port.now }
 {
     is_sensing(port.migration) && port.send_rstp && port.received_stp

@@ -1,20 +1,20 @@
 //! The receive rules (17.23): a stored message goes to the other machines.
 
 ghost use Rattle.std.specs.Prelude.{◌≡◌};
-ghost use Rattle.rstp_run.specs.Receive.{discard_guard, discard_effect, receive_guard, receive_effect};
+ghost use Rattle.rstp_machines.specs.Receive.{discard_guard, discard_effect, receive_guard, receive_effect};
 
 use bpdu_wire::Bpdu;
 use rstp_state::port::PortState;
 
 /// Whether a port that isn't enabled has something to forget.
-pub(crate) fn discard_guard(port: &PortState) -> bool
+pub fn discard_guard(port: &PortState) -> bool
     ensures { result ≡ discard_guard port.now }
 {
     (port.received_bpdu || port.edge_delay_while != 3) && !port.enabled
 }
 
 /// A port that is not enabled forgets what came.
-pub(crate) fn discard(port: &mut PortState)
+pub fn discard(port: &mut PortState)
     ensures { port.new ≡ discard_effect port.old }
 {
     port.received_bpdu = false;
@@ -25,14 +25,14 @@ pub(crate) fn discard(port: &mut PortState)
 }
 
 /// Whether a message came that may be handed on: the one before it is done with.
-pub(crate) fn receive_guard(port: &PortState) -> bool
+pub fn receive_guard(port: &PortState) -> bool
     ensures { result ≡ receive_guard port.now }
 {
     port.received_bpdu && port.enabled && !port.received_message
 }
 
 /// The stored message goes to the other machines, and the port is no edge.
-pub(crate) fn receive(port: &mut PortState)
+pub fn receive(port: &mut PortState)
     ensures { port.new ≡ receive_effect port.old }
 {
     if let Some(Bpdu::Rst(_)) = port.message {

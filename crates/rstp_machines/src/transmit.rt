@@ -1,7 +1,7 @@
 //! The transmit rules (17.26): what a port sends, and when.
 
 ghost use Rattle.std.specs.Prelude.{◌≡◌, ◌<◌, ◌≤◌};
-ghost use Rattle.rstp_run.specs.Transmit.{
+ghost use Rattle.rstp_machines.specs.Transmit.{
   field_of,
   message_with,
   flag_if,
@@ -12,7 +12,7 @@ ghost use Rattle.rstp_run.specs.Transmit.{
   is_ready,
   sending,
 };
-ghost use Rattle.rstp_run.specs.Transmit.{
+ghost use Rattle.rstp_machines.specs.Transmit.{
   periodic_guard,
   periodic_effect,
   send_config_guard,
@@ -124,7 +124,7 @@ fn send(timing: &Timing, bpdu: Bpdu, port: &mut PortState)
 }
 
 /// Whether a Hello time is over.
-pub(crate) fn periodic_guard(port: &PortState) -> bool
+pub fn periodic_guard(port: &PortState) -> bool
     ensures { result ≡ periodic_guard port.now }
 {
     port.may_act() && port.hello_when == 0
@@ -132,7 +132,7 @@ pub(crate) fn periodic_guard(port: &PortState) -> bool
 
 /// A Hello time passed, so a designated port says again what it says, and a root port that it
 /// knows of a change.
-pub(crate) fn periodic(timing: &Timing, port: &mut PortState)
+pub fn periodic(timing: &Timing, port: &mut PortState)
     ensures { port.new ≡ periodic_effect timing.now port.old }
 {
     port.hello_when = u32::from(timing.hello);
@@ -142,14 +142,14 @@ pub(crate) fn periodic(timing: &Timing, port: &mut PortState)
 }
 
 /// Whether a designated port is to send by the older protocol.
-pub(crate) fn send_config_guard(timing: &Timing, port: &PortState) -> bool
+pub fn send_config_guard(timing: &Timing, port: &PortState) -> bool
     ensures { result ≡ send_config_guard timing.now port.now }
 {
     is_ready(timing, port) && !port.send_rstp && port.role.is_designated()
 }
 
 /// A designated port sends a message of the older protocol.
-pub(crate) fn send_config(timing: &Timing, port: &mut PortState)
+pub fn send_config(timing: &Timing, port: &mut PortState)
     requires { port.old.transmit_count < timing.now.hold }
     ensures { port.new ≡ send_config_effect timing.now port.old }
 {
@@ -159,14 +159,14 @@ pub(crate) fn send_config(timing: &Timing, port: &mut PortState)
 }
 
 /// Whether the root port is to tell of a change by the older protocol.
-pub(crate) fn send_tcn_guard(timing: &Timing, port: &PortState) -> bool
+pub fn send_tcn_guard(timing: &Timing, port: &PortState) -> bool
     ensures { result ≡ send_tcn_guard timing.now port.now }
 {
     is_ready(timing, port) && !port.send_rstp && port.role.is_root()
 }
 
 /// The root port tells a bridge of the older protocol of a change.
-pub(crate) fn send_tcn(timing: &Timing, port: &mut PortState)
+pub fn send_tcn(timing: &Timing, port: &mut PortState)
     requires { port.old.transmit_count < timing.now.hold }
     ensures { port.new ≡ send_tcn_effect timing.now port.old }
 {
@@ -174,14 +174,14 @@ pub(crate) fn send_tcn(timing: &Timing, port: &mut PortState)
 }
 
 /// Whether the port is to send by the rapid protocol.
-pub(crate) fn send_rst_guard(timing: &Timing, port: &PortState) -> bool
+pub fn send_rst_guard(timing: &Timing, port: &PortState) -> bool
     ensures { result ≡ send_rst_guard timing.now port.now }
 {
     is_ready(timing, port) && port.send_rstp
 }
 
 /// The port sends a message of the rapid protocol.
-pub(crate) fn send_rst(timing: &Timing, port: &mut PortState)
+pub fn send_rst(timing: &Timing, port: &mut PortState)
     requires { port.old.transmit_count < timing.now.hold }
     ensures { port.new ≡ send_rst_effect timing.now port.old }
 {

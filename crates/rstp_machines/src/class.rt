@@ -1,7 +1,7 @@
 //! What a received message is to its port (17.21.8).
 
 ghost use Rattle.std.specs.Prelude.{◌≡◌};
-ghost use Rattle.rstp_run.specs.Class.{designated_class, answering_class, is_answer, rst_class, class_of};
+ghost use Rattle.rstp_machines.specs.Class.{designated_class, answering_class, is_answer, rst_class, class_of};
 
 use bpdu_wire::{Bpdu, Message, SenderRole};
 use rstp_state::port::PortState;
@@ -23,7 +23,7 @@ pub enum Class {
 }
 
 impl Class {
-    ghost use Rattle.rstp_run.specs.Class.{
+    ghost use Rattle.rstp_machines.specs.Class.{
       is_superior,
       is_repeated,
       is_inferior,
@@ -32,35 +32,35 @@ impl Class {
     };
 
     /// Whether the message is better information.
-    pub(crate) fn is_superior(self) -> bool
+    pub fn is_superior(self) -> bool
         ensures { result ≡ is_superior self }
     {
         matches!(self, Class::Superior)
     }
 
     /// Whether the message is the information that the port has.
-    pub(crate) fn is_repeated(self) -> bool
+    pub fn is_repeated(self) -> bool
         ensures { result ≡ is_repeated self }
     {
         matches!(self, Class::Repeated)
     }
 
     /// Whether the message is worse information.
-    pub(crate) fn is_inferior(self) -> bool
+    pub fn is_inferior(self) -> bool
         ensures { result ≡ is_inferior self }
     {
         matches!(self, Class::Inferior)
     }
 
     /// Whether the message is an answer.
-    pub(crate) fn is_not_designated(self) -> bool
+    pub fn is_not_designated(self) -> bool
         ensures { result ≡ is_not_designated self }
     {
         matches!(self, Class::NotDesignated)
     }
 
     /// Whether the message is anything else.
-    pub(crate) fn is_other(self) -> bool
+    pub fn is_other(self) -> bool
         ensures { result ≡ is_other self }
     {
         matches!(self, Class::Other)
@@ -116,7 +116,7 @@ fn rst_class(port: &PortState, message: &Message) -> Class
 }
 
 /// The class of the stored message.
-pub(crate) fn class_of(port: &PortState) -> Class
+pub fn class_of(port: &PortState) -> Class
     ensures { result ≡ class_of port.now }
 {
     match &port.message {
