@@ -34,7 +34,7 @@ use Rattle.clap.specs.declared.parser.matches.ValueSource.TheVariants.{CommandLi
 use Rattle.clap.proofs.WalkLemmas.{both}
 use Rattle.ev_words.specs.declared.subcommand.Subcommand.{Subcommand}
 use Rattle.ev_words.specs.declared.subcommand.Subcommand.TheVariants.{Report, Migrate, Check, Simulate, Play}
-use Rattle.ev_words.specs.declared.subcommand.Subcommand.TheVariants.{Run, Version}
+use Rattle.ev_words.specs.declared.subcommand.Subcommand.TheVariants.{Run, Serve, Version}
 use Rattle.ev_words.specs.declared.subcommand.Given.{Given}
 use Rattle.ev_words.specs.declared.subcommand.Given.TheVariants.{Originators, Config, Script, ForRun}
 use Rattle.ev_words.specs.Args.{Parts, subcommands, name_of, option_name, needs_of, takes_of, with_option, with_flag}
@@ -507,6 +507,7 @@ option_given Check words f = one_of_three (codes "check") Config Script ForRun w
 option_given Simulate words f = one_given (codes "simulate") Config words f
 option_given Play words f = one_given (codes "play") Config words f
 option_given Run words f = one_given (codes "run") Config words f
+option_given Serve words f = one_given (codes "serve") Config words f
 option_given Version words f = refl
 
 -- each subcommand's name names it
@@ -517,6 +518,7 @@ names_it Check = refl
 names_it Simulate = refl
 names_it Play = refl
 names_it Run = refl
+names_it Serve = refl
 names_it Version = refl
 
 -- an invocation's parts

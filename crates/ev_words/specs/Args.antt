@@ -12,7 +12,7 @@ use Rattle.clap.specs.declared.error.kind.ErrorKind.TheVariants.{OutOfMemory}
 use Rattle.clap.specs.declared.parser.matches.ArgMatches.{ArgMatches}
 use Rattle.ev_words.specs.declared.subcommand.Subcommand.{Subcommand}
 use Rattle.ev_words.specs.declared.subcommand.Subcommand.TheVariants.{Report, Migrate, Check, Simulate, Play}
-use Rattle.ev_words.specs.declared.subcommand.Subcommand.TheVariants.{Run, Version}
+use Rattle.ev_words.specs.declared.subcommand.Subcommand.TheVariants.{Run, Serve, Version}
 use Rattle.ev_words.specs.declared.subcommand.Given.{Given}
 use Rattle.ev_words.specs.declared.subcommand.Given.TheVariants.{Originators, Config, Script, ForRun}
 use Rattle.ev_words.specs.declared.args.Invocation.{Invocation}
@@ -23,7 +23,7 @@ use Rattle.ev_words.specs.declared.args.ArgsError.TheVariants.{Usage, NoMemory}
 -- ---- the subcommands, each with its options
 
 abbrev pub subcommands : List Subcommand
-subcommands = Report ∷ Migrate ∷ Check ∷ Simulate ∷ Play ∷ Run ∷ Version ∷ []
+subcommands = Report ∷ Migrate ∷ Check ∷ Simulate ∷ Play ∷ Run ∷ Serve ∷ Version ∷ []
 
 abbrev pub name_of : Subcommand → Text
 name_of Report = codes "report"
@@ -32,6 +32,7 @@ name_of Check = codes "check"
 name_of Simulate = codes "simulate"
 name_of Play = codes "play"
 name_of Run = codes "run"
+name_of Serve = codes "serve"
 name_of Version = codes "version"
 
 abbrev pub option_name : Given → Text
@@ -48,6 +49,7 @@ needs_of Check = Some Config
 needs_of Simulate = Some Config
 needs_of Play = Some Config
 needs_of Run = Some Config
+needs_of Serve = Some Config
 needs_of Version = None
 
 -- the option that it may be given besides
@@ -58,6 +60,7 @@ takes_of Check = Some Script
 takes_of Simulate = None
 takes_of Play = None
 takes_of Run = None
+takes_of Serve = None
 takes_of Version = None
 
 -- the flag that it may be given
@@ -68,6 +71,7 @@ flag_of Check = Some ForRun
 flag_of Simulate = None
 flag_of Play = None
 flag_of Run = None
+flag_of Serve = None
 flag_of Version = None
 
 -- ---- the command

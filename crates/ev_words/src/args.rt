@@ -135,7 +135,8 @@ fn program<'a>(alloc: Global) -> Result<Command<'a>, AllocError>
     let fourth = add_subcommand(alloc, third, Subcommand::Simulate)?;
     let fifth = add_subcommand(alloc, fourth, Subcommand::Play)?;
     let sixth = add_subcommand(alloc, fifth, Subcommand::Run)?;
-    let command = add_subcommand(alloc, sixth, Subcommand::Version)?;
+    let seventh = add_subcommand(alloc, sixth, Subcommand::Serve)?;
+    let command = add_subcommand(alloc, seventh, Subcommand::Version)?;
     Ok(command.subcommand_required(true))
 }
 

@@ -17,6 +17,8 @@ pub enum Subcommand {
     Play,
     /// `evpnd run --config FILE`
     Run,
+    /// `evpnd serve --config FILE`
+    Serve,
     /// `evpnd version`
     Version,
 }
@@ -46,6 +48,7 @@ impl Subcommand {
             Subcommand::Simulate => "simulate",
             Subcommand::Play => "play",
             Subcommand::Run => "run",
+            Subcommand::Serve => "serve",
             Subcommand::Version => "version",
         }
     }
@@ -56,9 +59,11 @@ impl Subcommand {
     {
         match self {
             Subcommand::Report | Subcommand::Migrate => Some(Given::Originators),
-            Subcommand::Check | Subcommand::Simulate | Subcommand::Play | Subcommand::Run => {
-                Some(Given::Config)
-            }
+            Subcommand::Check
+            | Subcommand::Simulate
+            | Subcommand::Play
+            | Subcommand::Run
+            | Subcommand::Serve => Some(Given::Config),
             Subcommand::Version => None,
         }
     }
@@ -92,6 +97,7 @@ impl Subcommand {
             Subcommand::Simulate => "Run a script of events on the edges of a configuration",
             Subcommand::Play => "Simulate, and print each command before what becomes of it",
             Subcommand::Run => "Carry frames: run the edges of a configuration over UDP sockets",
+            Subcommand::Serve => "Run edges, and answer who asks them at a control socket",
             Subcommand::Version => "Print the version",
         }
     }
@@ -211,6 +217,25 @@ Status, the greatest that applies:
 Example:
   evpnd run --config fabric.toml"
             }
+            Subcommand::Serve => {
+                "\
+Runs the edges that FILE configures as `run` does, until standard input ends, and lets them be asked
+meanwhile. FILE needs the key `control` besides: the path of a Unix socket, which is made for its
+user alone, and removed at the end. Who connects there writes `console` and a line feed, and then
+lines as docs/running.md describes them; tools/evpndctl does so. At most 8 are answered at once.
+Standard output has at the end what that of `run` has. Standard error has what that of `run` has; or
+why nothing can listen at the path: then no edge has begun.
+
+Status, the greatest that applies:
+  0  the edges ran until standard input ended
+  2  the configuration has a fault; or the words are wrong, or ask for help
+  3  memory or a thread was refused
+  4  FILE can't be read, nothing can listen at the path, an address can't be bound, a standard
+     stream is closed, or a socket, reading or writing failed
+
+Example:
+  evpnd serve --config examples/run/served.toml"
+            }
             Subcommand::Version => {
                 "\
 Standard output has `evpnd` and the version. Nothing is read.
@@ -281,6 +306,9 @@ pub(crate) fn named(name: &str) -> Option<Subcommand>
     }
     if name == Subcommand::Run.name() {
         return Some(Subcommand::Run);
+    }
+    if name == Subcommand::Serve.name() {
+        return Some(Subcommand::Serve);
     }
     if name == Subcommand::Version.name() {
         return Some(Subcommand::Version);
