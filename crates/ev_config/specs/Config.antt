@@ -1,6 +1,6 @@
 -- The configuration that a document gives, or its first fault.
-use Rattle.std.specs.Prelude.{◌≡◌, ℕ, ◌+◌, Bool, List, [], ◌∷◌, ◌++◌, map, codes, string_bytes, Some, None, Result, Ok}
-use Rattle.std.specs.Prelude.{Err}
+use Rattle.std.specs.Prelude.{◌≡◌, ℕ, ◌+◌, Bool, true, List, [], ◌∷◌, ◌++◌, map, codes, string_bytes, Some, None, Result}
+use Rattle.std.specs.Prelude.{Ok, Err}
 use Rattle.toml.specs.Data.{Items, no_items, item, Members, as_table}
 use Rattle.toml.specs.Parse.{parse_document}
 use Rattle.arrayvec.specs.ArrayVec.{ArrayVec}
@@ -8,10 +8,13 @@ use Rattle.ev_edge.specs.declared.config.EdgeConfig.{EdgeConfig}
 use Rattle.ev_config.specs.declared.endpoint.PortEndpoints.{PortEndpoints}
 use Rattle.ev_config.specs.declared.edge.Described.{Described}
 use Rattle.ev_config.specs.declared.edges.Edges as code
+use Rattle.ev_config.specs.declared.keys.Fault.{Fault}
+use Rattle.ev_config.specs.declared.keys.Fault.TheVariants as fault
 use Rattle.ev_config.specs.declared.whole.Config.{Config}
+use Rattle.ev_config.specs.declared.whole.Served.{Served}
 use Rattle.ev_config.specs.declared.config.ConfigRefusal.{ConfigRefusal}
 use Rattle.ev_config.specs.declared.config.ConfigRefusal.TheVariants as refusal
-use Rattle.ev_config.specs.Keys.{Key, ◌>>=◌, read_or, required, tables_in, only}
+use Rattle.ev_config.specs.Keys.{Key, ◌>>=◌, read_or, required, tables_in, path_in, only}
 use Rattle.ev_config.specs.ConfigEdge.{edge_of}
 
 -- the edges read so far
@@ -59,20 +62,64 @@ Whole = List EdgeConfig × List (ArrayVec PortEndpoints)
 abbrev pub whole_of : Edges → Whole
 whole_of edges = (map (listening edges.addresses) edges.configs, edges.links)
 
+-- the edges of these tables, each of which listens to all
+abbrev pub described : Bool → Items → Result Whole Key
+described for_run tables = do
+  edges ← edges_from for_run no_edges tables
+  Ok (whole_of edges)
+
 abbrev pub config_in : Bool → Members → Result Whole Key
 config_in for_run t = do
   tables ← required (codes "edge") tables_in t
   _ ← only (codes "edge" ∷ []) t
-  edges ← edges_from for_run no_edges tables
-  Ok (whole_of edges)
+  described for_run tables
 
 abbrev pub view_of : Config → Whole
 view_of c = (c.edges.items, c.links.items)
 
 -- The document gives this configuration, or this first faulty key, or it is none. Memory excuses any text.
+abbrev pub TextGives : {X V : Type 0} → (X → V) → (Members → Result V Key) → List ℕ → Result X ConfigRefusal → Type 0
+TextGives view read text (Ok x) = (t : Members) × (parse_document text ≡ Some t) × (read t ≡ Ok (view x))
+TextGives view read text (Err (refusal.Key k)) =
+    (t : Members) × (parse_document text ≡ Some t) × (read t ≡ Err (string_bytes k))
+TextGives view read text (Err refusal.Text) = parse_document text ≡ None
+TextGives view read text (Err refusal.NoMemory) = Unit {0}
+
 abbrev pub ConfigOf : Bool → List ℕ → Result Config ConfigRefusal → Type 0
-ConfigOf for_run text (Ok c) = (t : Members) × (parse_document text ≡ Some t) × (config_in for_run t ≡ Ok (view_of c))
-ConfigOf for_run text (Err (refusal.Key k)) = (t : Members) × (parse_document text ≡ Some t)
-    × (config_in for_run t ≡ Err (string_bytes k))
-ConfigOf for_run text (Err refusal.Text) = parse_document text ≡ None
-ConfigOf for_run text (Err refusal.NoMemory) = Unit {0}
+ConfigOf for_run = TextGives view_of (config_in for_run)
+
+-- ---- edges that are asked while they run
+
+-- the edges, and the path of the socket where they are asked
+abbrev pub ServedWhole : Type 0
+ServedWhole = Whole × List ℕ
+
+abbrev pub served_in : Members → Result ServedWhole Key
+served_in t = do
+  tables ← required (codes "edge") tables_in t
+  path ← required (codes "control") path_in t
+  _ ← only (codes "edge" ∷ codes "control" ∷ []) t
+  edges ← described true tables
+  Ok (edges, path)
+
+abbrev pub served_view : Served → ServedWhole
+served_view s = (view_of s.config, string_bytes s.control)
+
+abbrev pub ServedOf : List ℕ → Result Served ConfigRefusal → Type 0
+ServedOf = TextGives served_view served_in
+
+-- ---- a document, and a fault of one
+
+-- the document that the text spells, or that it spells none
+abbrev pub Reads : {T : Type 0} → (T → Members) → List ℕ → Result T ConfigRefusal → Type 0
+Reads view text (Ok t) = parse_document text ≡ Some (view t)
+Reads view text (Err (refusal.Key k)) = ⊥
+Reads view text (Err refusal.Text) = parse_document text ≡ None
+Reads view text (Err refusal.NoMemory) = Unit {0}
+
+-- the fault is told by its key, unless there is no memory for that
+abbrev pub Tells : Fault → ConfigRefusal → Type 0
+Tells (fault.Key k) (refusal.Key told) = string_bytes told ≡ k.now
+Tells fault.NoMemory (refusal.Key told) = ⊥
+Tells any refusal.Text = ⊥
+Tells any refusal.NoMemory = Unit {0}

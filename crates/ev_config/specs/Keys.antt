@@ -1,6 +1,7 @@
 -- What the keys of a table hold: a value, or the key as the fault.
-use Rattle.std.specs.Prelude.{◌≡◌, ℕ, ℤ, pos, negsuc, ◌+◌, ◌%◌, Bool, true, ◌&&◌, ◌==◌, nat_lt, nat_le, if◌then◌else◌}
-use Rattle.std.specs.Prelude.{List, [], ◌∷◌, ◌++◌, is_some, Option, Some, None, option_and_then, Result, Ok, Err}
+use Rattle.std.specs.Prelude.{◌≡◌, ℕ, ℤ, pos, negsuc, ◌+◌, ◌%◌, Bool, true, not, ◌&&◌, ◌==◌, nat_lt, nat_le}
+use Rattle.std.specs.Prelude.{if◌then◌else◌, List, [], ◌∷◌, ◌++◌, length, is_some, Option, Some, None}
+use Rattle.std.specs.Prelude.{option_and_then, Result, Ok, Err}
 use Rattle.std.specs.Str.{bytes_eq}
 use Rattle.std.specs.List.{list_any}
 use Rattle.toml.specs.Data.{Data, Items, no_items, item, Members, no_members, member, get_member, as_integer, as_bool}
@@ -78,6 +79,16 @@ bridge_in d = individual (option_and_then mac_of_text (as_str d))
 
 abbrev pub endpoint_in : Data → Option Endpoint
 endpoint_in d = option_and_then endpoint_of_text (as_str d)
+
+-- the path of a Unix socket: 1 to 107 octets, none of which is 0 (unix(7))
+abbrev pub is_path : List ℕ → Bool
+is_path path = nat_lt 0 (length path) && nat_le (length path) 107 && not (list_any (λ x. x == 0) path)
+
+abbrev pub path_of : List ℕ → Option (List ℕ)
+path_of text = if is_path text then Some text else None
+
+abbrev pub path_in : Data → Option (List ℕ)
+path_in d = option_and_then path_of (as_str d)
 
 abbrev pub vni_in : Data → Option ℕ
 vni_in d = number_in 0 16777215 d

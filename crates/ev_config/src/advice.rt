@@ -136,6 +136,7 @@ fn table_of(place: Place<'_>) -> &Table {
 fn allowed<'a>(place: Place<'_>, key: &str) -> &'a str {
     match place {
         Place::File(_) if key == "edge" => "allowed are 1 to 64 tables, each written as [[edge]]",
+        Place::File(_) if key == "control" => "which is a key of what `serve` runs alone",
         Place::File(_) => "which is no key of the file",
         Place::Edge(..) => allowed_in_edge(key),
         Place::Port(..) => allowed_in_port(key),

@@ -1,12 +1,14 @@
 //! The configuration: the edges that a TOML text describes.
 ghost use Rattle.std.specs.Prelude.{IfOk};
+ghost use Rattle.toml.specs.View.{table_view};
 ghost use Rattle.ev_fabric.specs.Opening.{AreConfigs};
-ghost use Rattle.ev_config.specs.Config.{ConfigOf};
+ghost use Rattle.ev_config.specs.Config.{ConfigOf, ServedOf, Reads, Tells};
 
-use crate::edges::config_in;
+use crate::edges::{config_in, served_in};
 use crate::keys::Fault;
-use crate::whole::Config;
+use crate::whole::{Config, Served};
 use std::alloc::Global;
+use toml::Table;
 
 /// Why a text is no configuration.
 #[derive(Debug, Drop)]
@@ -19,6 +21,30 @@ pub enum ConfigRefusal {
     NoMemory,
 }
 
+/// The document that a text spells.
+fn document_of(alloc: Global, text: &str) -> Result<Table, ConfigRefusal>
+    ensures { Reads table_view text.now result }
+{
+    match toml::table_from_str(alloc, text) {
+        Ok(table) => Ok(table),
+        Err(error) if error.is_memory() => Err(ConfigRefusal::NoMemory),
+        Err(_) => Err(ConfigRefusal::Text),
+    }
+}
+
+/// A document's fault as it is told, with its key in memory of its own.
+fn refusal_of(alloc: Global, fault: Fault<'_>) -> ConfigRefusal
+    ensures { Tells fault.entry result }
+{
+    match fault {
+        Fault::Key(key) => match String::from_str(alloc, key) {
+            Ok(key) => ConfigRefusal::Key(key),
+            Err(_) => ConfigRefusal::NoMemory,
+        },
+        Fault::NoMemory => ConfigRefusal::NoMemory,
+    }
+}
+
 /// The configuration that a text spells; for a run each port needs its endpoints.
 ///
 /// # Errors
@@ -29,17 +55,26 @@ pub fn config_of(alloc: Global, text: &str, for_run: bool) -> Result<Config, Con
     ensures value { ConfigOf for_run text.now result }
     ensures opens { IfOk result (λ c. AreConfigs c.edges.items) }
 {
-    let table = match toml::table_from_str(alloc, text) {
-        Ok(table) => table,
-        Err(error) if error.is_memory() => return Err(ConfigRefusal::NoMemory),
-        Err(_) => return Err(ConfigRefusal::Text),
-    };
+    let table = document_of(alloc, text)?;
     match config_in(alloc, for_run, &table) {
         Ok(config) => Ok(config),
-        Err(Fault::Key(key)) => match String::from_str(alloc, key) {
-            Ok(key) => Err(ConfigRefusal::Key(key)),
-            Err(_) => Err(ConfigRefusal::NoMemory),
-        },
-        Err(Fault::NoMemory) => Err(ConfigRefusal::NoMemory),
+        Err(fault) => Err(refusal_of(alloc, fault)),
+    }
+}
+
+/// The configuration that a text spells of edges that are asked while they run: that of a run, with
+/// the path of a Unix socket at the key `control`.
+///
+/// # Errors
+///
+/// As `config_of`.
+pub fn served_config_of(alloc: Global, text: &str) -> Result<Served, ConfigRefusal>
+    ensures value { ServedOf text.now result }
+    ensures opens { IfOk result (λ s. AreConfigs s.config.edges.items) }
+{
+    let table = document_of(alloc, text)?;
+    match served_in(alloc, &table) {
+        Ok(served) => Ok(served),
+        Err(fault) => Err(refusal_of(alloc, fault)),
     }
 }

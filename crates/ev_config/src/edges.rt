@@ -5,12 +5,12 @@ ghost use Rattle.toml.specs.View.{table_view, array_view};
 ghost use Rattle.ev_fabric.specs.Opening.{AreConfigs};
 ghost use Rattle.ev_config.specs.Fitting.{Fits, FitTogether};
 ghost use Rattle.ev_config.specs.Keys.{Gives};
-ghost use Rattle.ev_config.specs.Config.{no_edges, with_edge, edges_view, edges_from, listening, whole_of, config_in, view_of};
+ghost use Rattle.ev_config.specs.Config.{no_edges, with_edge, edges_view, edges_from, listening, whole_of, described, config_in, view_of, served_in, served_view};
 
 use crate::edge::{Described, edge_of};
 use crate::endpoint::PortEndpoints;
-use crate::keys::{Fault, only, tables_at};
-use crate::whole::Config;
+use crate::keys::{Fault, only, path_at, tables_at};
+use crate::whole::{Config, Served};
 use arrayvec::ArrayVec;
 use ether_wire::{Addr, Mac};
 use ev_edge::EdgeConfig;
@@ -20,6 +20,9 @@ use toml::value::Array;
 
 /// The document's own keys.
 pub(crate) const FILE_KEYS: [&'static str; 1] = ["edge"];
+
+/// Those of a document of edges that are asked while they run.
+pub(crate) const SERVED_KEYS: [&'static str; 2] = ["edge", "control"];
 
 /// The edges read so far, with their addresses and bridges. They listen to nobody yet.
 #[derive(Drop)]
@@ -119,6 +122,17 @@ fn whole_of(edges: Edges) -> Config
     }
 }
 
+/// The configuration of these tables.
+fn described<'a>(alloc: Global, for_run: bool, tables: &'a Array) -> Result<Config, Fault<'a>>
+    requires some { 0 < length tables.now.items }
+    requires few { length tables.now.items ≤ 64 }
+    ensures value { Gives view_of (described for_run (array_view tables.now)) result }
+    ensures opens { IfOk result (λ c. AreConfigs c.edges.items) }
+{
+    let edges = edges_of(alloc, for_run, tables)?;
+    Ok(whole_of(edges))
+}
+
 /// The configuration of a document.
 pub(crate) fn config_in<'a>(
     alloc: Global,
@@ -130,6 +144,18 @@ pub(crate) fn config_in<'a>(
 {
     let tables = tables_at(table, "edge")?;
     only(table, &FILE_KEYS)?;
-    let edges = edges_of(alloc, for_run, tables)?;
-    Ok(whole_of(edges))
+    described(alloc, for_run, tables)
+}
+
+/// The configuration of a document of edges that are asked while they run.
+pub(crate) fn served_in<'a>(alloc: Global, table: &'a Table) -> Result<Served, Fault<'a>>
+    ensures value { Gives served_view (served_in (table_view table.now)) result }
+    ensures opens { IfOk result (λ s. AreConfigs s.config.edges.items) }
+{
+    let tables = tables_at(table, "edge")?;
+    let path = path_at(table, "control")?;
+    only(table, &SERVED_KEYS)?;
+    let config = described(alloc, true, tables)?;
+    let control = String::from_str(alloc, path)?;
+    Ok(Served { config, control })
 }

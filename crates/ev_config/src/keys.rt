@@ -3,13 +3,13 @@ ghost use Rattle.std.specs.Prelude.{◌≡◌, ◌+◌, ◌<◌, ◌≤◌, ◌^
 ghost use Rattle.std.specs.List.{list_any, IsDistinct};
 ghost use Rattle.toml.specs.Data.{get_member};
 ghost use Rattle.toml.specs.View.{view, table_view, array_view};
-ghost use Rattle.ev_config.specs.Keys.{Gives, optional, required, number_in, steps_in, flag_in, addr_in, bridge_in, endpoint_in, vni_in, vnis_in, new_among, numbers_from, is_among, only, read_or, is_few, are_tables, tables_in};
+ghost use Rattle.ev_config.specs.Keys.{Gives, optional, required, number_in, steps_in, flag_in, addr_in, bridge_in, endpoint_in, is_path, path_in, vni_in, vnis_in, new_among, numbers_from, is_among, only, read_or, is_few, are_tables, tables_in};
 ghost use Rattle.ev_config.specs.declared.keys.Fault.TheVariants.{NoMemory};
 
 use crate::endpoint::{Endpoint, read_endpoint};
 use arrayvec::ArrayVec;
 use ether_wire::{Addr, Mac, Vni};
-use std::alloc::AllocFailed;
+use std::alloc::{AllocError, AllocFailed};
 use toml::value::Array;
 use toml::{Table, Value};
 
@@ -26,6 +26,14 @@ impl<'a, T: Drop> From<AllocFailed<T>> for Fault<'a> {
     ghost from_gives = { λ _ e. e ≡ NoMemory };
 
     fn from(_error: AllocFailed<T>) -> Fault<'a> {
+        Fault::NoMemory
+    }
+}
+
+impl<'a> From<AllocError> for Fault<'a> {
+    ghost from_gives = { λ _ e. e ≡ NoMemory };
+
+    fn from(_error: AllocError) -> Fault<'a> {
         Fault::NoMemory
     }
 }
@@ -148,6 +156,41 @@ pub(crate) fn endpoint_in(value: &Value) -> Option<Endpoint>
     ensures { result ≡ endpoint_in (view value.now) }
 {
     read_endpoint(value.as_str()?.as_bytes())
+}
+
+/// The octets that the path of a Unix socket may have (unix(7)).
+const LONGEST_PATH: usize = 107;
+
+/// Whether these octets are the path of a Unix socket: 1 to 107, none of which is 0.
+fn is_path(octets: &[u8]) -> bool
+    ensures { result ≡ is_path octets.now }
+{
+    0 < octets.len() && octets.len() <= LONGEST_PATH && !octets.contains(&0)
+}
+
+/// The path of a Unix socket that a value spells.
+fn path_in(value: &Value) -> Option<&str>
+    ensures { option_map (λ s. s.now) result ≡ path_in (view value.now) }
+{
+    let text = value.as_str()?;
+    if is_path(text.as_bytes()) {
+        Some(text)
+    } else {
+        None
+    }
+}
+
+/// The path of a Unix socket at a key.
+pub(crate) fn path_at<'a>(table: &'a Table, key: &'a str) -> Result<&'a str, Fault<'a>>
+    ensures { Gives (λ s. s.now) (required key.now path_in (table_view table.now)) result }
+{
+    let Some(value) = value_at(table, key) else {
+        return Err(Fault::Key(key));
+    };
+    match path_in(value) {
+        Some(path) => Ok(path),
+        None => Err(Fault::Key(key)),
+    }
 }
 
 /// The network that a value is.

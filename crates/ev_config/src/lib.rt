@@ -13,6 +13,6 @@ mod port;
 mod whole;
 
 pub use advice::{Line, refusal_line, summary_line};
-pub use config::{ConfigRefusal, config_of};
+pub use config::{ConfigRefusal, config_of, served_config_of};
 pub use endpoint::{Endpoint, PortEndpoints};
-pub use whole::Config;
+pub use whole::{Config, Served};

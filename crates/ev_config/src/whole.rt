@@ -14,3 +14,12 @@ pub struct Config {
     pub links: Vec<ArrayVec<PortEndpoints, 64>>,
     ghost each: { vec_len links ≡ vec_len edges },
 }
+
+/// What a document describes for edges that are asked while they run.
+#[derive(Drop)]
+pub struct Served {
+    /// The edges.
+    pub config: Config,
+    /// The path of the Unix socket where they are asked.
+    pub control: String,
+}
