@@ -3,6 +3,8 @@ use Rattle.std.proofs.Common.{◌≡◌, ℕ, ◌+◌, ◌<◌, List, [], ◌∷
 use Rattle.std.proofs.Common.{suc, Some, ap, subst, ◌∙◌, arith}
 use Rattle.std.proofs.lemmas.List.{take_more, length-take-le}
 use Rattle.std.proofs.lemmas.Option.{get_or_from_slice_get}
+use Rattle.std.specs.List.{flat_map}
+use Rattle.std.proofs.lemmas.Grind.{flat_map-append}
 use Rattle.ev_fabric.specs.Fabric.{nth}
 use Rattle.ev_script.specs.Views.{each_from}
 
@@ -31,3 +33,12 @@ each_more text number all place d within =
 -- the one at a place that is counted from 1
 pub at_next : {X : Type 0} (xs : List X) (i n : ℕ) (x d : X) → n ≡ suc i → nth xs n ≡ Some x → get_or xs i d ≡ x
 at_next xs i n x d is at = get_or_from_slice_get xs i x d (subst (λ m. nth xs m ≡ Some x) is at)
+
+-- one more, of texts that don't tell their place
+pub one_behind : {X : Type 0} (text : X → List ℕ) (all : List X) (place : ℕ) (d : X) → place < length all
+    → flat_map text (take (place + 1) all) ≡ flat_map text (take place all) ++ text (get_or all place d)
+one_behind text all place d within =
+    let before = take place all in
+    let one = get_or all place d in
+    ap (flat_map text) (take_more all place d within) ∙ flat_map-append text before (one ∷ [])
+    ∙ ap (λ t. flat_map text before ++ t) (append-nil (text one))

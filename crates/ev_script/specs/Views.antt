@@ -38,9 +38,12 @@ served_text ports vnis =
     codes " ports " ++ each_from port_words 1 ports ++ codes " networks " ++ each_from network_words 1 vnis ++ codes "\n"
 
 -- `E edge ADDR ports P:VNI,.. networks VNI,..`
+abbrev pub edge_words : ℕ → ℕ → List ℕ → List ℕ → List ℕ
+edge_words number address ports vnis =
+    decimal number ++ codes " edge " ++ addr_text address ++ served_text ports vnis
+
 abbrev pub edge_line : ℕ → Edge → List ℕ
-edge_line number e =
-    decimal number ++ codes " edge " ++ addr_text (address_of e) ++ served_text e.routes.ports e.routes.vnis
+edge_line number e = edge_words number (address_of e) e.routes.ports e.routes.vnis
 
 -- one line an edge
 abbrev pub edges_text : Fabric → List ℕ

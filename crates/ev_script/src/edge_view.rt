@@ -1,9 +1,9 @@
 //! What is told of one edge that is asked for. It takes no memory, and the edge alone is looked at.
 ghost use Rattle.std.specs.Prelude.{◌≡◌};
 ghost use Rattle.ether_wire.specs.Ends.{IsOpen, Puts};
-ghost use Rattle.ev_script.specs.Views.{comma, port_words, network_words, each_from, served_text, edge_line};
+ghost use Rattle.ev_script.specs.Views.{comma, port_words, network_words, each_from, served_text, edge_words, edge_line};
 
-use ether_wire::{Device, Out, Vni, put_addr, put_decimal};
+use ether_wire::{Addr, Device, Out, Vni, put_addr, put_decimal};
 use ev_edge::Edge;
 
 /// Writes a comma in front of each but the first one.
@@ -75,14 +75,33 @@ fn put_served<W: Out>(out: &mut W, ports: &[Vni], vnis: &[Vni]) -> Result<(), De
 }
 
 /// Writes the line of an edge: its number and address, its ports and networks.
+///
+/// # Errors
+///
+/// `Device` exactly where a call of the writer failed; then no further call is made.
 #[tactic(auto, using(ether_wire::proofs::Appending::with_text_twice))]
+pub fn put_edge_line<W: Out>(
+    out: &mut W,
+    number: u64,
+    address: Addr,
+    ports: &[Vni],
+    vnis: &[Vni],
+) -> Result<(), Device>
+    requires { IsOpen (W.end out.old) }
+    ensures { Puts (W.end out.old) (W.end out.new)
+        (edge_words number address ports.now vnis.now) result }
+{
+    put_decimal(out, number)?;
+    out.put(b" edge ")?;
+    put_addr(out, address)?;
+    put_served(out, ports, vnis)
+}
+
+/// Writes the line of an edge that is looked at.
 pub(crate) fn put_edge<W: Out>(out: &mut W, number: u64, edge: &Edge) -> Result<(), Device>
     requires { IsOpen (W.end out.old) }
     ensures { Puts (W.end out.old) (W.end out.new) (edge_line number edge.now) result }
 {
     let routes = edge.routes();
-    put_decimal(out, number)?;
-    out.put(b" edge ")?;
-    put_addr(out, routes.address())?;
-    put_served(out, routes.ports(), routes.vnis())
+    put_edge_line(out, number, routes.address(), routes.ports(), routes.vnis())
 }

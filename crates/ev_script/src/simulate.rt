@@ -18,6 +18,8 @@ use ev_fabric::Fabric;
 use ev_report::{
     Buffers, DEVICE, Devices, Ending, MEMORY, ReadError, has_failed, read_whole, status_of,
 };
+pub use print::{put_port, put_refusal, put_reply, put_report, put_words};
+pub use simulator::port_number;
 use std::alloc::Global;
 
 /// Writes `line N bad`, if there is such a line.

@@ -26,7 +26,7 @@ pub(crate) enum Verb {
 /// What an edge is asked for. Ports and updates are numbered from 1; there may be
 /// none of that number.
 #[derive(Clone, Copy)]
-pub(crate) enum Command<'a> {
+pub enum Command<'a> {
     /// The port comes up.
     Up(u64),
     /// The port goes down.

@@ -4,7 +4,7 @@ ghost use Rattle.ev_script.specs.Faults.{first_word, form_of, why_text, misspelt
 
 use crate::script::command::Verb;
 use crate::script::mode::Mode;
-use crate::script::parse::{MOST_OCTETS, number, parse, verb_of};
+use crate::script::parsing::{MOST_OCTETS, number, parse, verb_of};
 use ether_wire::parted;
 
 /// Why a line is no command.
@@ -119,4 +119,11 @@ pub(crate) fn is_good(line: &[u8]) -> bool
         None => false,
         Some(_) => true,
     }
+}
+
+/// What is told of a line that is no command: a colon, a space, why, and a line feed.
+pub fn why_text(line: &[u8]) -> &'static [u8]
+    ensures { result.now ≡ why_text (why_of line.now) }
+{
+    why_of(line).why()
 }

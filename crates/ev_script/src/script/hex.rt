@@ -12,8 +12,9 @@ const MOST_OCTETS: usize = 10_000;
 
 /// Octets as they stand in a line: pairs of lower case digits, at least one.
 #[derive(Clone, Copy)]
-pub(crate) struct Hex<'a> {
-    digits: &'a [u8],
+pub struct Hex<'a> {
+    /// The digits.
+    pub digits: &'a [u8],
     ghost few: { length digits.now ≤ 20000 },
 }
 

@@ -4,7 +4,7 @@ ghost use Rattle.ev_script.specs.Script.{question_of};
 
 /// A question.
 #[derive(Clone, Copy, Debug)]
-pub(crate) enum Question {
+pub enum Question {
     /// Which lines there are.
     Help,
     /// Which edges there are.
@@ -12,7 +12,7 @@ pub(crate) enum Question {
 }
 
 /// The question of a line, if it is one. It takes no memory.
-pub(crate) fn question_of(line: &[u8]) -> Option<Question>
+pub fn question_of(line: &[u8]) -> Option<Question>
     ensures { result ≡ question_of line.now }
 {
     if line == b"help".as_slice() {

@@ -1,76 +1,49 @@
-//! What a simulation prints of each command. Each line begins with the edge's number, but
-//! for those of a report.
-ghost use Rattle.std.specs.Prelude.{◌≡◌};
-ghost use Rattle.ether_wire.specs.Ends.{IsOpen};
-ghost use Rattle.ev_script.specs.Printing.{PutsSome};
+//! What a simulation prints of each command, and what a console of edges that run does. Each line
+//! begins with the edge's number, but for those of a report.
+ghost use Rattle.std.specs.Prelude.{◌≡◌, ◌++◌, codes, decimal};
+ghost use Rattle.std.specs.List.{flat_map};
+ghost use Rattle.bpdu_wire.specs.Writing.{octets_of};
+ghost use Rattle.ether_wire.specs.Ends.{IsOpen, Puts};
+ghost use Rattle.route_join.specs.Report.{report_of};
+ghost use Rattle.ev_script.specs.Printing.{words_text, number_text, hex_digits, hex_text, bpdu_line, bpdu_lines, later_words, addresses_text, decision_line, place_text, taken_text, alert_text, edge_part, part_of, refusal_text, reply_text, role_words, state_words, passing_words, port_text};
 
 use bpdu_wire::{Bpdu, write};
 use ether_wire::{Addr, Device, Out, put_addr, put_decimal, put_ports};
-use ev_edge::{Edge, Reply};
+use ev_edge::Reply;
 use ev_fabric::FabricRefusal;
 use ev_mobility::Alert;
 use ev_tunnel::Decision;
-use route_join::Taken;
+use route_join::{Table, Taken};
 use rstp_state::port::{PortState, Role};
 
 /// The lower case hexadecimal digits.
 const DIGITS: &[u8; 16] = b"0123456789abcdef";
 
-/// Writes octets.
-#[tactic(auto, using(crate::proofs::Putting::some_put))]
-fn print_octets<W: Out>(out: &mut W, octets: &[u8]) -> Result<(), Device>
+/// Writes the report of a table.
+///
+/// # Errors
+///
+/// `Device` exactly where a call of the writer failed; then no further call is made. So it is of
+/// the other calls here.
+pub fn put_report<W: Out>(out: &mut W, table: &Table) -> Result<(), Device>
     requires { IsOpen (W.end out.old) }
-    ensures { PutsSome (W.end out.old) (W.end out.new) result }
+    ensures { Puts (W.end out.old) (W.end out.new) (report_of table.now) result }
 {
-    out.put(octets)
+    table.write_report(out)
 }
 
-/// Writes a number in decimal digits.
-#[tactic(auto, using(crate::proofs::Putting::some_put))]
-fn print_number<W: Out>(out: &mut W, number: u64) -> Result<(), Device>
+/// Writes the edge's number and words behind it.
+#[tactic(auto, using(ether_wire::proofs::Appending::with_text_twice))]
+pub fn put_words<W: Out>(out: &mut W, edge: u64, words: &[u8]) -> Result<(), Device>
     requires { IsOpen (W.end out.old) }
-    ensures { PutsSome (W.end out.old) (W.end out.new) result }
+    ensures { Puts (W.end out.old) (W.end out.new) (words_text edge words.now) result }
 {
-    put_decimal(out, number)
-}
-
-/// Writes an address.
-#[tactic(auto, using(crate::proofs::Putting::some_put))]
-fn print_address<W: Out>(out: &mut W, address: Addr) -> Result<(), Device>
-    requires { IsOpen (W.end out.old) }
-    ensures { PutsSome (W.end out.old) (W.end out.new) result }
-{
-    put_addr(out, address)
-}
-
-/// Writes a set of ports.
-#[tactic(auto, using(crate::proofs::Putting::some_put))]
-fn print_ports<W: Out>(out: &mut W, ports: u64) -> Result<(), Device>
-    requires { IsOpen (W.end out.old) }
-    ensures { PutsSome (W.end out.old) (W.end out.new) result }
-{
-    put_ports(out, ports)
-}
-
-/// Writes the report of an edge's table.
-#[tactic(auto, using(crate::proofs::Putting::some_put))]
-pub(crate) fn put_report<W: Out>(out: &mut W, edge: &Edge) -> Result<(), Device>
-    requires { IsOpen (W.end out.old) }
-    ensures { PutsSome (W.end out.old) (W.end out.new) result }
-{
-    edge.report(out)
-}
-
-/// Writes the edge's number and a word behind it.
-fn put_head<W: Out>(out: &mut W, edge: u64, word: &[u8]) -> Result<(), Device>
-    requires { IsOpen (W.end out.old) }
-    ensures { PutsSome (W.end out.old) (W.end out.new) result }
-{
-    print_number(out, edge)?;
-    print_octets(out, word)
+    put_decimal(out, edge)?;
+    out.put(words)
 }
 
 /// Writes a line of the edge's number, a word and a number.
+#[tactic(auto, using(ether_wire::proofs::Appending::with_text_twice))]
 pub(crate) fn put_number<W: Out>(
     out: &mut W,
     edge: u64,
@@ -78,99 +51,121 @@ pub(crate) fn put_number<W: Out>(
     number: u64,
 ) -> Result<(), Device>
     requires { IsOpen (W.end out.old) }
-    ensures { PutsSome (W.end out.old) (W.end out.new) result }
+    ensures { Puts (W.end out.old) (W.end out.new) (number_text edge word.now number) result }
 {
-    put_head(out, edge, word)?;
-    print_number(out, number)?;
-    print_octets(out, b"\n")
+    put_words(out, edge, word)?;
+    put_decimal(out, number)?;
+    out.put(b"\n")
 }
 
-/// Writes a line of the edge's number and words that end with a line feed.
-pub(crate) fn put_words<W: Out>(out: &mut W, edge: u64, words: &[u8]) -> Result<(), Device>
-    requires { IsOpen (W.end out.old) }
-    ensures { PutsSome (W.end out.old) (W.end out.new) result }
+/// The two digits of an octet.
+fn hex_digits(octet: u8) -> [u8; 2]
+    ensures { result ≡ hex_digits octet }
 {
-    put_head(out, edge, words)
+    [
+        DIGITS[usize::from(octet / 16)],
+        DIGITS[usize::from(octet % 16)],
+    ]
+}
+
+/// Writes an octet in two digits.
+fn put_hex_digits<W: Out>(out: &mut W, octet: u8) -> Result<(), Device>
+    requires { IsOpen (W.end out.old) }
+    ensures { Puts (W.end out.old) (W.end out.new) (hex_digits octet) result }
+{
+    out.put(&hex_digits(octet))
 }
 
 /// Writes octets as pairs of digits.
 fn put_hex<W: Out>(out: &mut W, octets: &[u8]) -> Result<(), Device>
     requires { IsOpen (W.end out.old) }
-    ensures { PutsSome (W.end out.old) (W.end out.new) result }
+    ensures { Puts (W.end out.old) (W.end out.new) (hex_text octets.now) result }
 {
     for octet in octets {
-        let high = DIGITS[(*octet / 16) as usize];
-        let low = DIGITS[(*octet % 16) as usize];
-        print_octets(out, &[high, low])?;
+        put_hex_digits(out, *octet)?;
     }
     Ok(())
 }
 
 /// Writes `bpdu P HEX`.
-fn put_bpdu<W: Out>(out: &mut W, edge: u64, port: u8, bpdu: &Bpdu) -> Result<(), Device>
+#[tactic(auto, using(ether_wire::proofs::Appending::with_text_twice))]
+fn put_bpdu<W: Out>(out: &mut W, edge: u64, sent: &(u8, Bpdu)) -> Result<(), Device>
     requires { IsOpen (W.end out.old) }
-    ensures { PutsSome (W.end out.old) (W.end out.new) result }
+    ensures { Puts (W.end out.old) (W.end out.new) (bpdu_line edge sent.now) result }
 {
-    put_head(out, edge, b" bpdu ")?;
-    print_number(out, u64::from(port))?;
-    print_octets(out, b" ")?;
+    let (port, bpdu) = sent;
+    put_words(out, edge, b" bpdu ")?;
+    put_decimal(out, u64::from(*port))?;
+    out.put(b" ")?;
     put_hex(out, write(bpdu).as_slice())?;
-    print_octets(out, b"\n")
+    out.put(b"\n")
 }
 
 /// Writes a line for each BPDU that is sent.
 pub(crate) fn put_bpdus<W: Out>(out: &mut W, edge: u64, bpdus: &[(u8, Bpdu)]) -> Result<(), Device>
     requires { IsOpen (W.end out.old) }
-    ensures { PutsSome (W.end out.old) (W.end out.new) result }
+    ensures { Puts (W.end out.old) (W.end out.new) (bpdu_lines edge bpdus.now) result }
 {
-    for (port, bpdu) in bpdus {
-        put_bpdu(out, edge, *port, bpdu)?;
+    for sent in bpdus {
+        put_bpdu(out, edge, sent)?;
     }
     Ok(())
+}
+
+/// Writes a comma and an address.
+#[tactic(auto, using(ether_wire::proofs::Appending::with_text_twice))]
+fn put_later_one<W: Out>(out: &mut W, address: Addr) -> Result<(), Device>
+    requires { IsOpen (W.end out.old) }
+    ensures { Puts (W.end out.old) (W.end out.new) (later_words address) result }
+{
+    out.put(b",")?;
+    put_addr(out, address)
 }
 
 /// Writes the addresses behind the first one, a comma before each.
 fn put_later<W: Out>(out: &mut W, addresses: &[Addr]) -> Result<(), Device>
     requires { IsOpen (W.end out.old) }
-    ensures { PutsSome (W.end out.old) (W.end out.new) result }
+    ensures { Puts (W.end out.old) (W.end out.new) (flat_map later_words addresses.now) result }
 {
     for address in addresses {
-        print_octets(out, b",")?;
-        print_address(out, *address)?;
+        put_later_one(out, *address)?;
     }
     Ok(())
 }
 
 /// Writes addresses with commas between, or a dash where there is none.
+#[tactic(auto, using(ether_wire::proofs::Appending::with_text_twice))]
 fn put_addresses<W: Out>(out: &mut W, addresses: &[Addr]) -> Result<(), Device>
     requires { IsOpen (W.end out.old) }
-    ensures { PutsSome (W.end out.old) (W.end out.new) result }
+    ensures { Puts (W.end out.old) (W.end out.new) (addresses_text addresses.now) result }
 {
     match addresses {
-        [] => print_octets(out, b"-"),
+        [] => out.put(b"-"),
         [first, later @ ..] => {
-            print_address(out, *first)?;
+            put_addr(out, *first)?;
             put_later(out, later)
         }
     }
 }
 
 /// Writes `local L remote R`.
+#[tactic(auto, using(ether_wire::proofs::Appending::with_text_twice))]
 fn put_decision<W: Out>(out: &mut W, edge: u64, decision: &Decision) -> Result<(), Device>
     requires { IsOpen (W.end out.old) }
-    ensures { PutsSome (W.end out.old) (W.end out.new) result }
+    ensures { Puts (W.end out.old) (W.end out.new) (decision_line edge decision.now) result }
 {
-    put_head(out, edge, b" local ")?;
-    print_ports(out, decision.local)?;
-    print_octets(out, b" remote ")?;
+    put_words(out, edge, b" local ")?;
+    put_ports(out, decision.local)?;
+    out.put(b" remote ")?;
     put_addresses(out, decision.remote.as_slice())?;
-    print_octets(out, b"\n")
+    out.put(b"\n")
 }
 
 /// Writes where a frame goes, if it is told.
+#[tactic(auto, using(ether_wire::proofs::Appending::with_text_none))]
 fn put_place<W: Out>(out: &mut W, edge: u64, decision: &Option<Decision>) -> Result<(), Device>
     requires { IsOpen (W.end out.old) }
-    ensures { PutsSome (W.end out.old) (W.end out.new) result }
+    ensures { Puts (W.end out.old) (W.end out.new) (place_text edge decision.now) result }
 {
     match decision {
         None => Ok(()),
@@ -179,9 +174,10 @@ fn put_place<W: Out>(out: &mut W, edge: u64, decision: &Option<Decision>) -> Res
 }
 
 /// Writes `newer` or `known`, if an update was taken.
+#[tactic(auto, using(ether_wire::proofs::Appending::with_text_none))]
 fn put_taken<W: Out>(out: &mut W, edge: u64, taken: Option<Taken>) -> Result<(), Device>
     requires { IsOpen (W.end out.old) }
-    ensures { PutsSome (W.end out.old) (W.end out.new) result }
+    ensures { Puts (W.end out.old) (W.end out.new) (taken_text edge taken) result }
 {
     match taken {
         None => Ok(()),
@@ -191,9 +187,10 @@ fn put_taken<W: Out>(out: &mut W, edge: u64, taken: Option<Taken>) -> Result<(),
 }
 
 /// Writes `alert N`, if there is one.
+#[tactic(auto, using(ether_wire::proofs::Appending::with_text_none))]
 fn put_alert<W: Out>(out: &mut W, edge: u64, alert: Option<Alert>) -> Result<(), Device>
     requires { IsOpen (W.end out.old) }
-    ensures { PutsSome (W.end out.old) (W.end out.new) result }
+    ensures { Puts (W.end out.old) (W.end out.new) (alert_text edge alert) result }
 {
     match alert {
         None => Ok(()),
@@ -201,18 +198,10 @@ fn put_alert<W: Out>(out: &mut W, edge: u64, alert: Option<Alert>) -> Result<(),
     }
 }
 
-/// The part that refuses, between spaces.
-fn part<'a>(refusal: &FabricRefusal) -> &'a [u8] {
-    match refusal {
-        FabricRefusal::NoMemory => b" refused edge ",
-        FabricRefusal::NoSuchEdge | FabricRefusal::NoSuchUpdate | FabricRefusal::NoHigher =>
-            b" refused fabric ",
-        FabricRefusal::Edge(refusal) => edge_part(refusal),
-    }
-}
-
 /// The part of an edge that refuses, between spaces.
-fn edge_part<'a>(refusal: &ev_edge::Refusal) -> &'a [u8] {
+fn edge_part<'a>(refusal: &ev_edge::Refusal) -> &'a [u8]
+    ensures { result.now ≡ edge_part refusal.now }
+{
     match refusal {
         ev_edge::Refusal::Ether(_) => b" refused ether ",
         ev_edge::Refusal::Bpdu(_) => b" refused bpdu ",
@@ -221,23 +210,32 @@ fn edge_part<'a>(refusal: &ev_edge::Refusal) -> &'a [u8] {
     }
 }
 
+/// The part that refuses, between spaces.
+fn part<'a>(refusal: &FabricRefusal) -> &'a [u8]
+    ensures { result.now ≡ part_of refusal.now }
+{
+    match refusal {
+        FabricRefusal::NoMemory => b" refused edge ",
+        FabricRefusal::NoSuchEdge | FabricRefusal::NoSuchUpdate | FabricRefusal::NoHigher =>
+            b" refused fabric ",
+        FabricRefusal::Edge(refusal) => edge_part(refusal),
+    }
+}
+
 /// Writes `refused PART N`.
-pub(crate) fn put_refusal<W: Out>(
-    out: &mut W,
-    edge: u64,
-    refusal: &FabricRefusal,
-) -> Result<(), Device>
+pub fn put_refusal<W: Out>(out: &mut W, edge: u64, refusal: &FabricRefusal) -> Result<(), Device>
     requires { IsOpen (W.end out.old) }
-    ensures { PutsSome (W.end out.old) (W.end out.new) result }
+    ensures { Puts (W.end out.old) (W.end out.new) (refusal_text edge refusal.now) result }
 {
     put_number(out, edge, part(refusal), u64::from(refusal.number()))
 }
 
 /// Writes what a step gives out: BPDUs, then where a frame goes or what an
 /// update was, then an alert.
-pub(crate) fn put_reply<W: Out>(out: &mut W, edge: u64, reply: &Reply) -> Result<(), Device>
+#[tactic(auto, using(ether_wire::proofs::Appending::with_text_twice))]
+pub fn put_reply<W: Out>(out: &mut W, edge: u64, reply: &Reply) -> Result<(), Device>
     requires { IsOpen (W.end out.old) }
-    ensures { PutsSome (W.end out.old) (W.end out.new) result }
+    ensures { Puts (W.end out.old) (W.end out.new) (reply_text edge reply.now) result }
 {
     put_bpdus(out, edge, reply.bpdus.as_slice())?;
     put_place(out, edge, &reply.decision)?;
@@ -246,7 +244,9 @@ pub(crate) fn put_reply<W: Out>(out: &mut W, edge: u64, reply: &Reply) -> Result
 }
 
 /// What the spanning tree makes of a port.
-fn role<'a>(role: Role) -> &'a [u8] {
+fn role<'a>(role: Role) -> &'a [u8]
+    ensures { result.now ≡ role_words role }
+{
     match role {
         Role::Disabled => b" disabled",
         Role::Root => b" root",
@@ -257,7 +257,9 @@ fn role<'a>(role: Role) -> &'a [u8] {
 }
 
 /// How far a port has come.
-fn state<'a>(port: &PortState) -> &'a [u8] {
+fn state<'a>(port: &PortState) -> &'a [u8]
+    ensures { result.now ≡ state_words port.now }
+{
     if port.forwarding {
         b" forwarding"
     } else if port.learning {
@@ -267,8 +269,16 @@ fn state<'a>(port: &PortState) -> &'a [u8] {
     }
 }
 
+/// Whether frames pass, and the end of a line.
+fn passing<'a>(passes: bool) -> &'a [u8]
+    ensures { result.now ≡ passing_words passes }
+{
+    if passes { b" passes\n" } else { b" blocks\n" }
+}
+
 /// Writes `port P ROLE STATE passes`, or `blocks`.
-pub(crate) fn put_port<W: Out>(
+#[tactic(auto, using(ether_wire::proofs::Appending::with_text_twice))]
+pub fn put_port<W: Out>(
     out: &mut W,
     edge: u64,
     number: u8,
@@ -276,11 +286,11 @@ pub(crate) fn put_port<W: Out>(
     passes: bool,
 ) -> Result<(), Device>
     requires { IsOpen (W.end out.old) }
-    ensures { PutsSome (W.end out.old) (W.end out.new) result }
+    ensures { Puts (W.end out.old) (W.end out.new) (port_text edge number port.now passes) result }
 {
-    put_head(out, edge, b" port ")?;
-    print_number(out, u64::from(number))?;
-    print_octets(out, role(port.role))?;
-    print_octets(out, state(port))?;
-    print_octets(out, if passes { b" passes\n" } else { b" blocks\n" })
+    put_words(out, edge, b" port ")?;
+    put_decimal(out, u64::from(number))?;
+    out.put(role(port.role))?;
+    out.put(state(port))?;
+    out.put(passing(passes))
 }

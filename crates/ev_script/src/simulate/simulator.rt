@@ -31,7 +31,7 @@ pub(crate) struct Simulator {
 }
 
 /// A port's number, in an octet. There are 64 at most: those above 255 are as 255.
-fn port_number(port: u64) -> u8
+pub fn port_number(port: u64) -> u8
     ensures { result ≡ port_number port }
 {
     if port <= 255 { port as u8 } else { 255 }
@@ -48,6 +48,7 @@ fn is_out_of_memory(answer: &Result<Reply, FabricRefusal>) -> bool
 }
 
 /// Prints what became of a step.
+#[tactic(auto, using(crate::proofs::Putting::some_put))]
 fn put_answer<W: Out>(
     out: &mut W,
     edge: u64,
@@ -64,6 +65,7 @@ fn put_answer<W: Out>(
 
 /// Prints what became of a second, the first one (0) or a later one: where there is no such
 /// edge, that is told once.
+#[tactic(auto, using(crate::proofs::Putting::some_put))]
 fn put_second<W: Out>(
     out: &mut W,
     edge: u64,
@@ -82,6 +84,7 @@ fn put_second<W: Out>(
 
 /// Prints the number in the pool of what was announced, if anything was. The
 /// pool's last update is it.
+#[tactic(auto, using(crate::proofs::Putting::some_put))]
 fn put_announced<W: Out>(
     out: &mut W,
     edge: u64,
@@ -101,6 +104,7 @@ fn put_announced<W: Out>(
 }
 
 /// Prints how the spanning tree has an edge's port.
+#[tactic(auto, using(crate::proofs::Putting::some_put))]
 fn put_port_of<W: Out>(out: &mut W, number: u64, edge: &Edge, port: u8) -> Result<(), Device>
     requires { IsOpen (W.end out.old) }
     ensures { PutsSome (W.end out.old) (W.end out.new) result }
@@ -123,6 +127,7 @@ fn edge_of(fabric: &Fabric, edge: u64) -> Option<&Edge> {
 }
 
 /// Prints how the spanning tree has a port.
+#[tactic(auto, using(crate::proofs::Putting::some_put))]
 fn put_port_at<W: Out>(fabric: &Fabric, edge: u64, port: u64, out: &mut W) -> Result<(), Device>
     requires { IsOpen (W.end out.old) }
     ensures { PutsSome (W.end out.old) (W.end out.new) result }
@@ -134,12 +139,13 @@ fn put_port_at<W: Out>(fabric: &Fabric, edge: u64, port: u64, out: &mut W) -> Re
 }
 
 /// Prints the report of an edge's table.
+#[tactic(auto, using(crate::proofs::Putting::some_put))]
 fn put_report_of<W: Out>(fabric: &Fabric, edge: u64, out: &mut W) -> Result<(), Device>
     requires { IsOpen (W.end out.old) }
     ensures { PutsSome (W.end out.old) (W.end out.new) result }
 {
     match edge_of(fabric, edge) {
-        Some(found) => put_report(out, found),
+        Some(found) => put_report(out, found.table()),
         None => put_refusal(out, edge, &FabricRefusal::NoSuchEdge),
     }
 }

@@ -8,7 +8,7 @@ use ether_wire::{Addr, Mac, Vni, parted, read_decimal};
 use mac_arena::Station;
 
 /// The octets that a line may have, without its line feed.
-pub(crate) const MOST_OCTETS: usize = 20_000;
+pub const MOST_OCTETS: usize = 20_000;
 
 /// The greatest number of 18 digits.
 const MOST_NUMBER: u64 = 999_999_999_999_999_999;
@@ -194,7 +194,7 @@ fn words_of(line: &[u8]) -> Option<(u64, Command<'_>)>
 
 /// The edge and the command of a line without its line feed, or nothing where it is outside the
 /// grammar. It takes no memory: hexadecimal digits stay as they are.
-pub(crate) fn parse(line: &[u8]) -> Option<(u64, Command<'_>)>
+pub fn parse(line: &[u8]) -> Option<(u64, Command<'_>)>
     ensures { option_map (λ l. (l.0, command_of l.1)) result ≡ line_of line.now }
 {
     if line.len() <= MOST_OCTETS {
