@@ -8,7 +8,7 @@ use Rattle.route_wire.specs.Fields.{Fields}
 use Rattle.route_join.specs.Updates.{all_updates}
 use Rattle.rstp_run.specs.Rules.{Tree}
 use Rattle.rstp_run.specs.Events.{IsPort, Passes}
-use Rattle.ev_edge.specs.Edge.{Edge, table_of}
+use Rattle.ev_edge.specs.Edge.{Edge, address_of, table_of}
 use Rattle.ev_edge.specs.declared.event.Event.{Event}
 use Rattle.ev_edge.specs.declared.event.Event.TheVariants as events
 use Rattle.ev_edge.specs.declared.reply.Reply.{Reply}
@@ -19,10 +19,11 @@ use Rattle.ev_peers.specs.declared.request.Command.TheVariants as commands
 use Rattle.ev_peers.specs.declared.request.Request.{Request}
 use Rattle.ev_peers.specs.declared.request.Request.TheVariants.{Enter, Read}
 use Rattle.ev_peers.specs.declared.request.Reading.{Reading}
-use Rattle.ev_peers.specs.declared.request.Reading.TheVariants.{Table, Port}
+use Rattle.ev_peers.specs.declared.request.Reading.TheVariants.{Table, Port, Served as Serves}
 use Rattle.ev_peers.specs.declared.request.Answer.{Answer}
 use Rattle.ev_peers.specs.declared.request.Answer.TheVariants as replies
 use Rattle.ev_peers.specs.declared.request.PortView.{PortView}
+use Rattle.ev_peers.specs.declared.request.Served.{Served}
 use Rattle.ev_peers.specs.Giving.{Parcel}
 use Rattle.ev_links.specs.Coming.{behind}
 use Rattle.ev_peers.specs.Passing.{Word, answers, PassesOn}
@@ -58,12 +59,20 @@ ShowsPort tree p (Some view) = IsPort p (length tree.ports) × (slice_get tree.p
     × (IsTrue view.passes ↔ Passes tree p)
 ShowsPort tree p None = IsPort p (length tree.ports) → ⊥
 
+-- its address, the network of each port, and the networks that it serves; memory may be refused to them
+abbrev pub ShowsServed : Edge → Result Served AllocError → Type 0
+ShowsServed e (Ok served) = (served.address ≡ address_of e) × (served.ports.items ≡ e.routes.ports)
+    × (served.vnis.items ≡ e.routes.vnis)
+ShowsServed e (Err refused) = Unit {0}
+
 -- what a reading shows of an edge
 abbrev pub Shows : Edge → Reading → Answer → Type 0
 Shows e (Table alloc) (replies.Table updates) = ShowsTable e updates
 Shows e (Table alloc) answer = ⊥
 Shows e (Port p) (replies.Port view) = ShowsPort e.tree p view
 Shows e (Port p) answer = ⊥
+Shows e (Serves alloc) (replies.Served served) = ShowsServed e served
+Shows e (Serves alloc) answer = ⊥
 
 -- It shows some book as it stood. Which one stood under the lock, no caller knows.
 pub record Looked (reading : Reading) (answer : Answer) : Type 0 where

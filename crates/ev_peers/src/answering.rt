@@ -1,14 +1,14 @@
 //! What an edge's worker does with a request of the operator: it enters a step as any event, or
 //! reads what the book holds, and answers.
-ghost use Rattle.std.specs.Prelude.{◌≡◌, ◌++◌};
+ghost use Rattle.std.specs.Prelude.{◌≡◌, ◌++◌, IfOk};
 ghost use Rattle.route_join.specs.Updates.{all_updates};
 ghost use Rattle.ev_edge.specs.Edge.{table_of};
 ghost use Rattle.ev_book.specs.Entering.{answered};
-ghost use Rattle.ev_peers.specs.Control.{Obeys, ShowsTable, ShowsPort, Shows, Looked, Fulfils, Answers};
+ghost use Rattle.ev_peers.specs.Control.{Obeys, ShowsTable, ShowsPort, ShowsServed, Shows, Looked, Fulfils, Answers};
 
 use crate::gate::Gate;
 use crate::outlet::Outlet;
-use crate::request::{Answer, Command, PortView, Reading, Request, event_of};
+use crate::request::{Answer, Command, PortView, Reading, Request, Served, event_of};
 use crate::shared_edge::{Scratch, SharedEdge};
 use ether_wire::Vni;
 use ev_book::{Book, BookRefusal, Pass};
@@ -60,6 +60,27 @@ fn updates_of(alloc: Global, edge: &Edge) -> Result<Vec<Update>, AllocError>
     Ok(updates)
 }
 
+/// A copy of networks.
+fn copied(alloc: Global, vnis: &[Vni]) -> Result<Vec<Vni>, AllocError>
+    ensures { IfOk result (λ copy. copy.items ≡ vnis.now) }
+{
+    let mut copy = Vec::with_capacity(alloc, vnis.len())?;
+    copy.extend_from_slice(vnis)?;
+    Ok(copy)
+}
+
+/// What an edge serves.
+fn served_by(alloc: Global, edge: &Edge) -> Result<Served, AllocError>
+    ensures { ShowsServed edge.now result }
+{
+    let routes = edge.routes();
+    Ok(Served {
+        address: routes.address(),
+        ports: copied(alloc, routes.ports())?,
+        vnis: copied(alloc, routes.vnis())?,
+    })
+}
+
 /// How a bridge has a port, if there is one of this number.
 fn view_of(bridge: &Bridge, port: u8) -> Option<PortView>
     ensures { ShowsPort bridge.now port result }
@@ -80,6 +101,7 @@ fn shown(edge: &Edge, reading: &Reading) -> Answer
     match reading {
         Reading::Table(alloc) => Answer::Table(updates_of(*alloc, edge)),
         Reading::Port(port) => Answer::Port(view_of(edge.bridge(), *port)),
+        Reading::Served(alloc) => Answer::Served(served_by(*alloc, edge)),
     }
 }
 

@@ -3,7 +3,7 @@
 ghost use Rattle.std.specs.Prelude.{◌≡◌, IfSome};
 
 use crate::peers::Mailboxes;
-use crate::request::{Command, PortView, Reading, Request};
+use crate::request::{Command, PortView, Reading, Request, Served};
 use crate::shared_mailbox::SharedMailbox;
 use ev_book::BookRefusal;
 use ev_edge::Reply;
@@ -70,5 +70,12 @@ impl Control<'_> {
         self.mailbox
             .ask(rt, &Request::Read(Reading::Port(port)))?
             .port()
+    }
+
+    /// What the edge serves.
+    pub fn served<R: Wait>(&self, rt: &R, alloc: Global) -> Option<Result<Served, AllocError>> {
+        self.mailbox
+            .ask(rt, &Request::Read(Reading::Served(alloc)))?
+            .served()
     }
 }

@@ -30,7 +30,7 @@ pub use inbox::{NoticeBox, PacketsIn, UpdatesIn};
 pub use mailbox::{Mailbox, Message};
 pub use outlet::{Outlet, Target};
 pub use peers::{Mailboxes, Peers};
-pub use request::{Answer, Command, PortView, Reading, Request};
+pub use request::{Answer, Command, PortView, Reading, Request, Served};
 pub use run::{Setup, Start, run_all};
 pub use shared_edge::{Ended, SharedEdge};
 pub use workers::{clock_worker, out_worker, peer_worker, port_worker, tunnel_worker};

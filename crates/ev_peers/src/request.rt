@@ -2,6 +2,7 @@
 ghost use Rattle.std.specs.Prelude.{◌≡◌};
 ghost use Rattle.ev_peers.specs.Control.{event_of};
 
+use ether_wire::{Addr, Vni};
 use ev_book::BookRefusal;
 use ev_edge::{Event, Reply};
 use mac_arena::Station;
@@ -34,6 +35,8 @@ pub enum Reading {
     Table(Global),
     /// How its spanning tree has the port with this number.
     Port(u8),
+    /// What it serves, in memory of this allocator.
+    Served(Global),
 }
 
 /// What the operator asks of an edge.
@@ -54,6 +57,17 @@ pub struct PortView {
     pub passes: bool,
 }
 
+/// What an edge serves, and where it is found.
+#[derive(Drop)]
+pub struct Served {
+    /// Its address, under which it speaks.
+    pub address: Addr,
+    /// The network of each port, port 1 first.
+    pub ports: Vec<Vni>,
+    /// The networks that it serves, ascending.
+    pub vnis: Vec<Vni>,
+}
+
 /// What an edge answers to a request.
 #[derive(Drop)]
 pub enum Answer {
@@ -64,6 +78,8 @@ pub enum Answer {
     Table(Result<Vec<Update>, AllocError>),
     /// How its spanning tree has the port. None where there is none of that number.
     Port(Option<PortView>),
+    /// What it serves, or that memory was refused to that.
+    Served(Result<Served, AllocError>),
 }
 
 impl Answer {
@@ -72,8 +88,7 @@ impl Answer {
         match self {
             Answer::Entered(Ok(reply)) => Some(Ok(mem::replace(reply, Reply::nothing()))),
             Answer::Entered(Err(refusal)) => Some(Err(*refusal)),
-            Answer::Table(_) => None,
-            Answer::Port(_) => None,
+            Answer::Table(_) | Answer::Port(_) | Answer::Served(_) => None,
         }
     }
 
@@ -81,8 +96,7 @@ impl Answer {
     pub(crate) fn table(self) -> Option<Result<Vec<Update>, AllocError>> {
         match self {
             Answer::Table(updates) => Some(updates),
-            Answer::Entered(_) => None,
-            Answer::Port(_) => None,
+            Answer::Entered(_) | Answer::Port(_) | Answer::Served(_) => None,
         }
     }
 
@@ -90,8 +104,15 @@ impl Answer {
     pub(crate) fn port(&self) -> Option<Option<PortView>> {
         match self {
             Answer::Port(view) => Some(*view),
-            Answer::Entered(_) => None,
-            Answer::Table(_) => None,
+            Answer::Entered(_) | Answer::Table(_) | Answer::Served(_) => None,
+        }
+    }
+
+    /// What the edge serves, if that was asked.
+    pub(crate) fn served(self) -> Option<Result<Served, AllocError>> {
+        match self {
+            Answer::Served(served) => Some(served),
+            Answer::Entered(_) | Answer::Table(_) | Answer::Port(_) => None,
         }
     }
 }

@@ -18,7 +18,7 @@ use ev_fabric::Fabric;
 use ev_report::{
     Buffers, DEVICE, Devices, Ending, MEMORY, ReadError, has_failed, read_whole, status_of,
 };
-pub use print::{put_port, put_refusal, put_reply, put_report, put_words};
+pub use print::{put_number, put_port, put_refusal, put_reply, put_report, put_words};
 pub use simulator::port_number;
 use std::alloc::Global;
 

@@ -44,7 +44,7 @@ pub fn put_words<W: Out>(out: &mut W, edge: u64, words: &[u8]) -> Result<(), Dev
 
 /// Writes a line of the edge's number, a word and a number.
 #[tactic(auto, using(ether_wire::proofs::Appending::with_text_twice))]
-pub(crate) fn put_number<W: Out>(
+pub fn put_number<W: Out>(
     out: &mut W,
     edge: u64,
     word: &[u8],
