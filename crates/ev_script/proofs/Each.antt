@@ -8,7 +8,7 @@ use Rattle.std.proofs.lemmas.Grind.{flat_map-append}
 use Rattle.ev_fabric.specs.Fabric.{nth}
 use Rattle.ev_script.specs.Views.{each_from}
 
-each_both : {X : Type 0} (text : ℕ → X → List ℕ) (number : ℕ) (xs ys : List X) → each_from text number (xs ++ ys)
+pub each_both : {X : Type 0} (text : ℕ → X → List ℕ) (number : ℕ) (xs ys : List X) → each_from text number (xs ++ ys)
     ≡ each_from text number xs ++ each_from text (number + length xs) ys
 each_both text number [] ys = ap (λ n. each_from text n ys) (grind arith)
 each_both text number (x ∷ xs) ys =

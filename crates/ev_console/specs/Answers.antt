@@ -1,0 +1,183 @@
+-- What a line of the console asks of edges that run, and what it is answered.
+use Rattle.std.specs.Prelude.{◌≡◌, ◌⊎◌, ℕ, List, [], ◌∷◌, ◌++◌, length, codes, Option, Some, None, Result, Ok, Err}
+use Rattle.std.specs.Global.{Vec}
+use Rattle.std.specs.declared.alloc.AllocError.{AllocError}
+use Rattle.ether_wire.specs.Ends.{End, Puts}
+use Rattle.ether_wire.specs.declared.ends.Device.{Device}
+use Rattle.route_wire.specs.Fields.{Fields}
+use Rattle.ev_edge.specs.declared.refusal.EdgeRefusal.TheVariants as own
+use Rattle.ev_edge.specs.declared.refusal.Refusal.TheVariants as edges
+use Rattle.ev_fabric.specs.declared.refusal.FabricRefusal.TheVariants as fabric
+use Rattle.ev_book.specs.declared.refusal.BookRefusal.{BookRefusal}
+use Rattle.ev_book.specs.declared.refusal.BookRefusal.TheVariants.{PassStrange, PassSpent, NoRoom, Edge}
+use Rattle.ev_book.specs.Refusal.{refusal_number}
+use Rattle.ev_peers.specs.declared.request.Command.{Command as Step}
+use Rattle.ev_peers.specs.declared.request.Command.TheVariants as steps
+use Rattle.ev_links.specs.Coming.{behind}
+use Rattle.ev_script.specs.declared.script.question.Question.{Question}
+use Rattle.ev_script.specs.declared.script.question.Question.TheVariants.{Help, Edges}
+use Rattle.ev_script.specs.Script.{Command, up, down, mcheck, second, frame, tunnel, pin, unpin, thaw, announce}
+use Rattle.ev_script.specs.Script.{deliver, port, report, restart, line_of, question_of}
+use Rattle.ev_script.specs.Simulation.{port_number}
+use Rattle.ev_script.specs.Faults.{why_of, why_text}
+use Rattle.ev_script.specs.Printing.{words_text, number_text, reply_text, refusal_text, port_text}
+use Rattle.ev_script.specs.Views.{each_from, edge_words}
+use Rattle.ev_console.specs.declared.operated.Unreached.{Unreached}
+use Rattle.ev_console.specs.declared.operated.Unreached.TheVariants.{NoEdge, Ended}
+use Rattle.ev_console.specs.Asking.{Asked, Entered, TableSeen, PortSeen, ServedSeen, entered, table_seen, port_seen}
+use Rattle.ev_console.specs.Asking.{served_from}
+use Rattle.ev_console.specs.Table.{IsReportOf}
+
+-- ---- what is told of an answer
+
+-- `E refused fabric 18`, or `E ended`
+abbrev pub unreached_text : ℕ → Unreached → List ℕ
+unreached_text e NoEdge = refusal_text e fabric.NoSuchEdge
+unreached_text e Ended = words_text e (codes " ended\n")
+
+-- `E refused PART N`
+abbrev pub book_refusal_text : ℕ → BookRefusal → List ℕ
+book_refusal_text e (Edge refusal) = refusal_text e (fabric.Edge refusal)
+book_refusal_text e NoRoom = number_text e (codes " refused edge ") (refusal_number NoRoom)
+book_refusal_text e PassSpent = number_text e (codes " refused edge ") (refusal_number PassSpent)
+book_refusal_text e PassStrange = number_text e (codes " refused edge ") (refusal_number PassStrange)
+
+abbrev pub entered_text : ℕ → Entered → List ℕ
+entered_text e (Ok (Ok reply)) = reply_text e reply
+entered_text e (Ok (Err refusal)) = book_refusal_text e refusal
+entered_text e (Err unreached) = unreached_text e unreached
+
+abbrev pub port_seen_text : ℕ → ℕ → PortSeen → List ℕ
+port_seen_text e p (Ok (Some view)) = port_text e p view.state view.passes
+port_seen_text e p (Ok None) = refusal_text e (fabric.Edge (edges.Edge own.NoSuchPort))
+port_seen_text e p (Err unreached) = unreached_text e unreached
+
+-- `E refused edge 15`
+abbrev pub no_memory_text : ℕ → List ℕ
+no_memory_text e = refusal_text e fabric.NoMemory
+
+abbrev pub served_seen_text : ℕ → ServedSeen → List ℕ
+served_seen_text e (Ok (Ok served)) = edge_words e served.address served.ports.items served.vnis.items
+served_seen_text e (Ok (Err refused)) = no_memory_text e
+served_seen_text e (Err unreached) = unreached_text e unreached
+
+-- the report of these updates, or that memory was refused to it
+abbrev pub TellsUpdates : ℕ → List Fields → List ℕ → Type 0
+TellsUpdates e updates = λ text. IsReportOf updates text ⊎ (text ≡ no_memory_text e)
+
+-- so of what was shown
+abbrev pub TellsShown : ℕ → Result (Vec Fields) AllocError → List ℕ → Type 0
+TellsShown e (Ok updates) = TellsUpdates e updates.items
+TellsShown e (Err refused) = λ text. text ≡ no_memory_text e
+
+abbrev pub TellsTable : ℕ → TableSeen → List ℕ → Type 0
+TellsTable e (Ok shown) = TellsShown e shown
+TellsTable e (Err unreached) = λ text. text ≡ unreached_text e unreached
+
+-- Such a text was written, or a call of the writer failed.
+pub record PutsOne (tells : List ℕ → Type 0) (old new : End) (result : Result (Unit {0}) Device) : Type 0 where
+  pub text : List ℕ
+  pub told : tells text
+  pub written : Puts old new text result
+
+abbrev pub PutsUpdates : ℕ → List Fields → End → End → Result (Unit {0}) Device → Type 0
+PutsUpdates e updates old new result = PutsOne (TellsUpdates e updates) old new result
+
+abbrev pub PutsShown : ℕ → Result (Vec Fields) AllocError → End → End → Result (Unit {0}) Device → Type 0
+PutsShown e shown old new result = PutsOne (TellsShown e shown) old new result
+
+abbrev pub PutsTable : ℕ → TableSeen → End → End → Result (Unit {0}) Device → Type 0
+PutsTable e answer old new result = PutsOne (TellsTable e answer) old new result
+
+-- ---- a line
+
+-- nothing is asked, and this is told
+abbrev pub Says : List ℕ → List Asked → List ℕ → Type 0
+Says words = λ asked text. (asked ≡ []) × (text ≡ words)
+
+-- one step of one edge, and what became of it
+abbrev pub Steps : ℕ → Step → List Asked → List ℕ → Type 0
+Steps e step = λ asked text.
+    (answer : Entered) × (asked ≡ entered e step answer ∷ []) × (text ≡ entered_text e answer)
+
+abbrev pub ShowsTable : ℕ → List Asked → List ℕ → Type 0
+ShowsTable e = λ asked text. (answer : TableSeen) × (asked ≡ table_seen e answer ∷ []) × TellsTable e answer text
+
+abbrev pub ShowsPort : ℕ → ℕ → List Asked → List ℕ → Type 0
+ShowsPort e p = λ asked text.
+    (answer : PortSeen) × (asked ≡ port_seen e p answer ∷ []) × (text ≡ port_seen_text e p answer)
+
+-- the line of a simulation
+abbrev pub simulated_text : List ℕ
+simulated_text = codes "bad: only a simulation takes this line\n"
+
+-- what a command asks of the edge that it names, and is answered
+abbrev pub AnswersCommand : ℕ → Command → List Asked → List ℕ → Type 0
+AnswersCommand e (up p) = Steps e (steps.PortUp (port_number p))
+AnswersCommand e (down p) = Steps e (steps.PortDown (port_number p))
+AnswersCommand e (mcheck p) = Steps e (steps.Mcheck (port_number p))
+AnswersCommand e (pin s p) = Steps e (steps.Pin s (port_number p))
+AnswersCommand e (unpin s) = Steps e (steps.Unpin s)
+AnswersCommand e (thaw s) = Steps e (steps.Thaw s)
+AnswersCommand e (port p) = ShowsPort e (port_number p)
+AnswersCommand e report = ShowsTable e
+AnswersCommand e (second n) = Says simulated_text
+AnswersCommand e (frame p octets) = Says simulated_text
+AnswersCommand e (tunnel from octets) = Says simulated_text
+AnswersCommand e announce = Says simulated_text
+AnswersCommand e (deliver k) = Says simulated_text
+AnswersCommand e (restart n) = Says simulated_text
+
+-- `bad: WHY`
+abbrev pub bad_text : List ℕ → List ℕ
+bad_text line = codes "bad" ++ why_text (why_of line)
+
+-- a line that is no question: a command, or a bad one
+abbrev pub AnswersWords : List ℕ → Option (ℕ × Command) → List Asked → List ℕ → Type 0
+AnswersWords line None = Says (bad_text line)
+AnswersWords line (Some found) = AnswersCommand found.0 found.1
+
+-- which lines there are, one a line
+abbrev pub help_text : List ℕ
+help_text =
+    codes "E up P\n" ++ codes "E down P\n" ++ codes "E mcheck P\n" ++ codes "E pin VNI MAC P\n"
+    ++ codes "E unpin VNI MAC\n" ++ codes "E thaw VNI MAC\n" ++ codes "E port P\n" ++ codes "E report\n"
+    ++ codes "edges\n" ++ codes "help\n"
+
+-- each edge is asked once, the first one first, and has a line
+abbrev pub ShowsEdges : ℕ → List Asked → List ℕ → Type 0
+ShowsEdges count = λ asked text. (answers : List ServedSeen) × (length answers ≡ count)
+    × (asked ≡ served_from 1 answers) × (text ≡ each_from served_seen_text 1 answers)
+
+-- a question to this many edges
+abbrev pub AnswersQuestion : ℕ → Question → List Asked → List ℕ → Type 0
+AnswersQuestion count Help = Says help_text
+AnswersQuestion count Edges = ShowsEdges count
+
+abbrev pub AnswersAsked : ℕ → List ℕ → Option Question → List Asked → List ℕ → Type 0
+AnswersAsked count line None = AnswersWords line (line_of line)
+AnswersAsked count line (Some question) = AnswersQuestion count question
+
+-- a line, where there are this many edges
+abbrev pub AnswersLine : ℕ → List ℕ → List Asked → List ℕ → Type 0
+AnswersLine count line = AnswersAsked count line (question_of line)
+
+-- ---- what was done with it
+
+-- This was asked and answered: nothing else was asked, and this text was written, or a call of the writer failed.
+pub record Does (says : List Asked → List ℕ → Type 0) (before after : Option (List Asked)) (old new : End)
+    (result : Result (Unit {0}) Device) : Type 0 where
+  pub asked : List Asked
+  pub text : List ℕ
+  pub said : says asked text
+  pub told : after ≡ behind before asked
+  pub written : Puts old new text result
+
+-- a line was answered, and behind it stands an empty one
+pub record Replies (count : ℕ) (line : List ℕ) (before after : Option (List Asked)) (old new : End)
+    (result : Result (Unit {0}) Device) : Type 0 where
+  pub asked : List Asked
+  pub text : List ℕ
+  pub said : AnswersLine count line asked text
+  pub told : after ≡ behind before asked
+  pub written : Puts old new (text ++ codes "\n") result

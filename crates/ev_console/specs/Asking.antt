@@ -1,0 +1,39 @@
+-- What a console asks of edges that run, and what they answer.
+use Rattle.std.specs.Prelude.{ℕ, ◌+◌, List, [], ◌∷◌, Option, Result}
+use Rattle.std.specs.Global.{Vec}
+use Rattle.std.specs.declared.alloc.AllocError.{AllocError}
+use Rattle.route_wire.specs.Fields.{Fields}
+use Rattle.ev_edge.specs.declared.reply.Reply.{Reply}
+use Rattle.ev_book.specs.declared.refusal.BookRefusal.{BookRefusal}
+use Rattle.ev_peers.specs.declared.request.Command.{Command as Step}
+use Rattle.ev_peers.specs.declared.request.PortView.{PortView}
+use Rattle.ev_peers.specs.declared.request.Served.{Served}
+use Rattle.ev_console.specs.declared.operated.Unreached.{Unreached}
+
+-- what a step is answered
+abbrev pub Entered : Type 0
+Entered = Result (Result Reply BookRefusal) Unreached
+
+-- what stands in a table
+abbrev pub TableSeen : Type 0
+TableSeen = Result (Result (Vec Fields) AllocError) Unreached
+
+-- how a port is
+abbrev pub PortSeen : Type 0
+PortSeen = Result (Option PortView) Unreached
+
+-- what an edge serves
+abbrev pub ServedSeen : Type 0
+ServedSeen = Result (Result Served AllocError) Unreached
+
+-- what was asked of the edge with this number, and what came of it
+pub data Asked : Type 0 where
+  entered : ℕ → Step → Entered → Asked
+  table_seen : ℕ → TableSeen → Asked
+  port_seen : ℕ → ℕ → PortSeen → Asked
+  served_seen : ℕ → ServedSeen → Asked
+
+-- what these edges serve, the first of which has this number
+abbrev pub served_from : ℕ → List ServedSeen → List Asked
+served_from number [] = []
+served_from number (answer ∷ answers) = served_seen number answer ∷ served_from (number + 1) answers

@@ -1,0 +1,170 @@
+-- A conversation: the lines that came, each asked for and answered once, in their order.
+use Rattle.std.specs.Prelude.{◌≡◌, ◌⊎◌, ℕ, ◌+◌, ◌^◌, Bool, false, not, ◌==◌, if◌then◌else◌, List, [], ◌∷◌, ◌++◌}
+use Rattle.std.specs.Prelude.{take, codes, Option, None, Result, Ok, Err}
+use Rattle.std.specs.List.{All, flat_map}
+use Rattle.ether_wire.specs.declared.ends.Device.{Device}
+use Rattle.ether_wire.specs.Ends.{End, Source, with_text}
+use Rattle.ev_report.specs.Input.{ReadsWhole, Gathers}
+use Rattle.ev_links.specs.Coming.{behind}
+use Rattle.ev_console.specs.Asking.{Asked}
+use Rattle.ev_console.specs.Answers.{AnswersLine}
+
+-- ---- lines
+
+-- a line feed
+abbrev pub feed : List ℕ
+feed = codes "\n"
+
+abbrev pub is_feed : ℕ → Bool
+is_feed octet = octet == 10
+
+-- octets without a line feed
+abbrev pub IsLine : List ℕ → Type 0
+IsLine octets = All (λ octet. is_feed octet ≡ false) octets
+
+-- the octets of a line that are looked at: one more than a line may have
+abbrev pub kept : List ℕ → List ℕ
+kept line = take 20001 line
+
+-- a line that came, what was asked for it, and what it was answered
+pub record Exchange : Type 0 where
+  pub line : List ℕ
+  pub asked : List Asked
+  pub text : List ℕ
+
+-- just what the line asks for was asked, and just what that comes to was answered
+pub record IsExchange (count : ℕ) (x : Exchange) : Type 0 where
+  pub whole : IsLine x.line
+  pub answers : AnswersLine count (kept x.line) x.asked x.text
+
+-- the lines with their line feeds
+abbrev pub lines_of : List Exchange → List ℕ
+lines_of xs = flat_map (λ (x : Exchange). x.line ++ feed) xs
+
+-- all that was asked
+abbrev pub asked_of : List Exchange → List Asked
+asked_of xs = flat_map (λ (x : Exchange). x.asked) xs
+
+-- all that was answered: behind each answer an empty line
+abbrev pub said_of : List Exchange → List ℕ
+said_of xs = flat_map (λ (x : Exchange). x.text ++ feed) xs
+
+-- the octets are the lines of these exchanges, and what is left behind them
+pub record AreExchanges (count : ℕ) (octets : List ℕ) (xs : List Exchange) (rest : List ℕ) : Type 0 where
+  pub are : octets ≡ lines_of xs ++ rest
+  pub each : All (IsExchange count) xs
+
+-- ---- the end
+
+-- the octets end within a line
+abbrev pub is_cut : List ℕ → Bool
+is_cut [] = false
+is_cut (octet ∷ []) = not (is_feed octet)
+is_cut (octet ∷ next ∷ rest) = is_cut (next ∷ rest)
+
+-- the line feed that the last line lacks
+abbrev pub missing_feed : List ℕ → List ℕ
+missing_feed octets = if is_cut octets then feed else []
+
+-- The end came. Each line, the last one with or without its line feed, was answered.
+pub record ToTheEnd (count : ℕ) (source source' : Source) (before after : Option (List Asked)) (old new : End) :
+    Type 0 where
+  pub input : List ℕ
+  pub read : ReadsWhole source source' (Ok input)
+  pub exchanges : List Exchange
+  pub are : AreExchanges count (input ++ missing_feed input) exchanges []
+  pub told : after ≡ behind before (asked_of exchanges)
+  pub written : new ≡ with_text old (said_of exchanges)
+
+-- a read behind so many failed, or there were 2^40
+abbrev pub StopsReading : ℕ → Source → Source → Type 0
+StopsReading turns last source' =
+    (source' ≡ record last { failures = last.failures + 1; reads = last.reads + 1 })
+    ⊎ (source' ≡ last) × (turns ≡ 2 ^ 40)
+
+-- A read failed, or 2^40 didn't reach the end. Each line that had come whole was answered.
+pub record ToAFailedRead (count : ℕ) (source source' : Source) (before after : Option (List Asked)) (old new : End) :
+    Type 0 where
+  pub turns : ℕ
+  pub last : Source
+  pub input : List ℕ
+  pub read : Gathers turns source last input
+  pub stops : StopsReading turns last source'
+  pub exchanges : List Exchange
+  pub rest : List ℕ
+  pub begun : IsLine rest
+  pub are : AreExchanges count input exchanges rest
+  pub told : after ≡ behind before (asked_of exchanges)
+  pub written : new ≡ with_text old (said_of exchanges)
+
+-- octets that were read are looked at as they are, or, at the end, with the line feed that is missing
+abbrev pub AreLookedAt : Source → Source → List ℕ → List ℕ → Type 0
+AreLookedAt last source' input octets = (source' ≡ last) × (octets ≡ input)
+    ⊎ (source' ≡ record last { reads = last.reads + 1 }) × (octets ≡ input ++ missing_feed input)
+
+-- The octets are lines that were answered, one whose answer couldn't be written, and a rest that wasn't looked at.
+pub record BreaksOff (count : ℕ) (octets : List ℕ) (before after : Option (List Asked)) (old new : End) : Type 0 where
+  pub exchanges : List Exchange
+  pub last : Exchange
+  pub last_is : IsExchange count last
+  pub rest : List ℕ
+  pub are : AreExchanges count octets exchanges (last.line ++ feed ++ rest)
+  pub told : after ≡ behind before (asked_of exchanges ++ last.asked)
+  pub failed : new.failures ≡ old.failures + 1
+
+-- A call of the writer failed. What the line asks for whose answer was lost was asked, once, and nothing behind it.
+pub record ToAFailedWrite (count : ℕ) (source source' : Source) (before after : Option (List Asked)) (old new : End) :
+    Type 0 where
+  pub turns : ℕ
+  pub last : Source
+  pub input : List ℕ
+  pub read : Gathers turns source last input
+  pub octets : List ℕ
+  pub looked : AreLookedAt last source' input octets
+  pub breaks : BreaksOff count octets before after old new
+
+-- what became of a conversation with this many edges
+abbrev pub Converses : ℕ → Source → Source → Option (List Asked) → Option (List Asked) → End → End
+    → Result (Unit {0}) Device → Type 0
+Converses count source source' before after old new (Ok done) = ToTheEnd count source source' before after old new
+Converses count source source' before after old new (Err device) =
+    ToAFailedRead count source source' before after old new ⊎ ToAFailedWrite count source source' before after old new
+
+-- ---- how far it has come
+
+-- These octets came. Each whole line was answered, and of what has begun a line this is kept.
+pub record SoFar (count : ℕ) (octets held : List ℕ) (before after : Option (List Asked)) (old new : End) : Type 0 where
+  pub exchanges : List Exchange
+  pub pending : List ℕ
+  pub begun : IsLine pending
+  pub held_is : held ≡ kept pending
+  pub are : AreExchanges count octets exchanges pending
+  pub told : after ≡ behind before (asked_of exchanges)
+  pub written : new ≡ with_text old (said_of exchanges)
+
+-- one octet more
+abbrev pub ToOctets : ℕ → List ℕ → List ℕ → Option (List Asked) → Option (List Asked) → End → End
+    → Result (Unit {0}) Device → Type 0
+ToOctets count octets held before after old new (Ok done) = SoFar count octets held before after old new
+ToOctets count octets held before after old new (Err device) = BreaksOff count octets before after old new
+
+-- Whatever had come before, these octets behind it were looked at.
+abbrev pub TakesOctets : ℕ → List ℕ → List ℕ → List ℕ → Option (List Asked) → Option (List Asked) → End → End
+    → Result (Unit {0}) Device → Type 0
+TakesOctets count more held held' middle after mid new result =
+    (octets : List ℕ) (before : Option (List Asked)) (old : End) → SoFar count octets held before middle old mid
+    → ToOctets count (octets ++ more) held' before after old new result
+
+-- at the end, the line that has begun is answered
+abbrev pub TakesEnd : ℕ → List ℕ → Option (List Asked) → Option (List Asked) → End → End
+    → Result (Unit {0}) Device → Type 0
+TakesEnd count held middle after mid new result =
+    (octets : List ℕ) (before : Option (List Asked)) (old : End) → SoFar count octets held before middle old mid
+    → ToOctets count (octets ++ missing_feed octets) [] before after old new result
+
+-- ---- edges of this process
+
+-- A conversation with some number of edges: what they answered isn't told, but that each line was answered by its words.
+pub record Talks (source source' : Source) (old new : End) (result : Result (Unit {0}) Device) : Type 0 where
+  pub count : ℕ
+  pub is : Converses count source source' None None old new result

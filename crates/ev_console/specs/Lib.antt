@@ -1,0 +1,4 @@
+pub mod Asking
+pub mod Answers
+pub mod Table
+pub mod Conversation

@@ -1,0 +1,219 @@
+//! The answer to one line: what it asks for is asked once, and told in the words of a simulation.
+ghost use Rattle.std.specs.Prelude.{◌≡◌, true, OnOk};
+ghost use Rattle.ether_wire.specs.Ends.{IsOpen};
+ghost use Rattle.ev_report.specs.Ends.{Tells};
+ghost use Rattle.ev_script.specs.Script.{command_of, line_of};
+ghost use Rattle.ev_console.specs.Answers.{Steps, ShowsTable, ShowsPort, ShowsEdges, Says, simulated_text, served_seen_text, AnswersCommand, AnswersWords, AnswersQuestion, AnswersLine, Does, Replies};
+
+use crate::operated::{Operated, Unreached};
+use crate::printing::{put_bad, put_entered, put_help, put_port_seen, put_served, put_simulated};
+use crate::table::put_table_seen;
+use ether_wire::{Device, Out};
+use ev_peers::{Command as Step, Served};
+use ev_script::{Command, Question, parse, port_number, question_of};
+use std::alloc::{AllocError, Global};
+
+/// Enters a step, and tells what became of it.
+fn enter<O: Operated, W: Out>(
+    operated: &mut O,
+    edge: u64,
+    step: &Step,
+    out: &mut W,
+) -> Result<(), Device>
+    requires { IsOpen (W.end out.old) }
+    ensures does { Does (Steps edge step.now) (O.asked operated.old) (O.asked operated.new)
+        (W.end out.old) (W.end out.new) result }
+    ensures count { O.count operated.new ≡ O.count operated.old }
+{
+    let answer = operated.enter(edge, step);
+    put_entered(out, edge, &answer)
+}
+
+/// Tells the report of an edge's table.
+fn show_table<O: Operated, W: Out>(
+    alloc: Global,
+    operated: &mut O,
+    edge: u64,
+    out: &mut W,
+) -> Result<(), Device>
+    requires { IsOpen (W.end out.old) }
+    ensures does { Does (ShowsTable edge) (O.asked operated.old) (O.asked operated.new)
+        (W.end out.old) (W.end out.new) result }
+    ensures count { O.count operated.new ≡ O.count operated.old }
+{
+    let answer = operated.table(alloc, edge);
+    put_table_seen(alloc, out, edge, &answer)
+}
+
+/// Tells how a port is.
+fn show_port<O: Operated, W: Out>(
+    operated: &mut O,
+    edge: u64,
+    port: u8,
+    out: &mut W,
+) -> Result<(), Device>
+    requires { IsOpen (W.end out.old) }
+    ensures does { Does (ShowsPort edge port) (O.asked operated.old) (O.asked operated.new)
+        (W.end out.old) (W.end out.new) result }
+    ensures count { O.count operated.new ≡ O.count operated.old }
+{
+    let answer = operated.port(edge, port);
+    put_port_seen(out, edge, port, &answer)
+}
+
+/// Tells what an edge serves, where nothing has failed: whether nothing has failed then.
+fn tell_served<W: Out>(
+    is_told: bool,
+    out: &mut W,
+    edge: u64,
+    answer: &Result<Result<Served, AllocError>, Unreached>,
+) -> bool
+    requires { is_told ≡ true → IsOpen (W.end out.old) }
+    ensures { Tells (W.end out.old) (W.end out.new) is_told result
+        (served_seen_text edge answer.now) }
+{
+    is_told && put_served(out, edge, answer).is_ok()
+}
+
+/// Tells what each edge serves. All are asked, whether or not the writer fails.
+fn show_edges<O: Operated, W: Out>(
+    alloc: Global,
+    operated: &mut O,
+    out: &mut W,
+) -> Result<(), Device>
+    requires { IsOpen (W.end out.old) }
+    ensures does { Does (ShowsEdges (O.count operated.old)) (O.asked operated.old)
+        (O.asked operated.new) (W.end out.old) (W.end out.new) result }
+    ensures count { O.count operated.new ≡ O.count operated.old }
+{
+    let mut is_told = true;
+    for place in 0..operated.edges() {
+        let answer = operated.served(alloc, place + 1);
+        is_told = tell_served(is_told, out, place + 1, &answer);
+    }
+    if is_told { Ok(()) } else { Err(Device) }
+}
+
+/// Tells that a line belongs to a simulation.
+#[tactic(auto, using(crate::proofs::Doing::says_put))]
+fn refuse<O: Operated, W: Out>(operated: &mut O, out: &mut W) -> Result<(), Device>
+    requires { IsOpen (W.end out.old) }
+    ensures does { Does (Says simulated_text) (O.asked operated.old) (O.asked operated.new)
+        (W.end out.old) (W.end out.new) result }
+    ensures count { O.count operated.new ≡ O.count operated.old }
+{
+    put_simulated(out)
+}
+
+/// Does what a command asks of its edge, and tells what became of it. What will be asked of edges
+/// beside this (`E owner`, `E stations`, `E counts`) has its place here.
+fn perform<O: Operated, W: Out>(
+    alloc: Global,
+    operated: &mut O,
+    edge: u64,
+    command: &Command<'_>,
+    out: &mut W,
+) -> Result<(), Device>
+    requires { IsOpen (W.end out.old) }
+    ensures does { Does (AnswersCommand edge (command_of command.now)) (O.asked operated.old)
+        (O.asked operated.new) (W.end out.old) (W.end out.new) result }
+    ensures count { O.count operated.new ≡ O.count operated.old }
+{
+    match command {
+        Command::Up(port) => enter(operated, edge, &Step::PortUp(port_number(*port)), out),
+        Command::Down(port) => enter(operated, edge, &Step::PortDown(port_number(*port)), out),
+        Command::Mcheck(port) => enter(operated, edge, &Step::Mcheck(port_number(*port)), out),
+        Command::Pin(station, port) => {
+            enter(
+                operated,
+                edge,
+                &Step::Pin(*station, port_number(*port)),
+                out,
+            )
+        }
+        Command::Unpin(station) => enter(operated, edge, &Step::Unpin(*station), out),
+        Command::Thaw(station) => enter(operated, edge, &Step::Thaw(*station), out),
+        Command::Port(port) => show_port(operated, edge, port_number(*port), out),
+        Command::Report => show_table(alloc, operated, edge, out),
+        Command::Second(_) => refuse(operated, out),
+        Command::Frame(_, _) => refuse(operated, out),
+        Command::Tunnel(_, _) => refuse(operated, out),
+        Command::Announce => refuse(operated, out),
+        Command::Deliver(_) => refuse(operated, out),
+        Command::Restart(_) => refuse(operated, out),
+    }
+}
+
+/// Answers a line that is no question.
+#[tactic(auto, using(crate::proofs::Doing::says_put))]
+fn answer_words<O: Operated, W: Out>(
+    alloc: Global,
+    operated: &mut O,
+    line: &[u8],
+    out: &mut W,
+) -> Result<(), Device>
+    requires { IsOpen (W.end out.old) }
+    ensures does { Does (AnswersWords line.now (line_of line.now)) (O.asked operated.old)
+        (O.asked operated.new) (W.end out.old) (W.end out.new) result }
+    ensures count { O.count operated.new ≡ O.count operated.old }
+{
+    match parse(line) {
+        None => put_bad(out, line),
+        Some((edge, command)) => perform(alloc, operated, edge, &command, out),
+    }
+}
+
+/// Answers a question.
+#[tactic(auto, using(crate::proofs::Doing::says_put))]
+fn answer_question<O: Operated, W: Out>(
+    alloc: Global,
+    operated: &mut O,
+    question: Question,
+    out: &mut W,
+) -> Result<(), Device>
+    requires { IsOpen (W.end out.old) }
+    ensures does { Does (AnswersQuestion (O.count operated.old) question) (O.asked operated.old)
+        (O.asked operated.new) (W.end out.old) (W.end out.new) result }
+    ensures count { O.count operated.new ≡ O.count operated.old }
+{
+    match question {
+        Question::Help => put_help(out),
+        Question::Edges => show_edges(alloc, operated, out),
+    }
+}
+
+/// Answers a line.
+fn answer<O: Operated, W: Out>(
+    alloc: Global,
+    operated: &mut O,
+    line: &[u8],
+    out: &mut W,
+) -> Result<(), Device>
+    requires { IsOpen (W.end out.old) }
+    ensures does { Does (AnswersLine (O.count operated.old) line.now) (O.asked operated.old)
+        (O.asked operated.new) (W.end out.old) (W.end out.new) result }
+    ensures count { O.count operated.new ≡ O.count operated.old }
+{
+    match question_of(line) {
+        None => answer_words(alloc, operated, line, out),
+        Some(question) => answer_question(alloc, operated, question, out),
+    }
+}
+
+/// Answers a line, writes an empty one behind it, and sees that they go out.
+pub(crate) fn reply<O: Operated, W: Out>(
+    alloc: Global,
+    operated: &mut O,
+    line: &[u8],
+    out: &mut W,
+) -> Result<(), Device>
+    requires { IsOpen (W.end out.old) }
+    ensures does { Replies (O.count operated.old) line.now (O.asked operated.old)
+        (O.asked operated.new) (W.end out.old) (W.end out.new) result }
+    ensures failures { OnOk result ((W.end out.new).failures ≡ (W.end out.old).failures) }
+    ensures count { O.count operated.new ≡ O.count operated.old }
+{
+    answer(alloc, operated, line, out)?;
+    out.put(b"\n")?;
+    out.flush()
+}

@@ -1,0 +1,151 @@
+//! A conversation: line after line, each answered before the next one is looked at.
+ghost use Rattle.std.specs.Prelude.{◌≡◌, ◌^◌, ◌∷◌, ◌++◌, [], take, OnOk};
+ghost use Rattle.ether_wire.specs.Ends.{IsOpen, Allows};
+ghost use Rattle.ev_console.specs.Conversation.{TakesOctets, TakesEnd, Converses, Talks};
+
+use crate::answering::reply;
+use crate::edges::Edges;
+use crate::operated::Operated;
+use arrayvec::ArrayVec;
+use ether_wire::{Device, In, Out};
+use ev_peers::Running;
+use ev_report::MOST_READS;
+use std::alloc::Global;
+use std::sync::Wait;
+
+/// How many octets of a line are kept: one more than it may have, so that a longer one is known.
+const KEPT: usize = 20_001;
+
+/// How many octets a read asks for at most.
+const PIECE: usize = 4_096;
+
+/// Keeps an octet with the line that has begun, if there is room.
+fn keep(line: &mut ArrayVec<u8, KEPT>, octet: u8)
+    ensures { line.new.items ≡ take 20001 (line.old.items ++ octet ∷ []) }
+{
+    if line.len() < KEPT {
+        line.push(octet);
+    }
+}
+
+/// Looks at an octet: it ends the line that has begun, which is answered then, or is kept with it
+/// if there is room.
+fn take_octet<O: Operated, W: Out>(
+    alloc: Global,
+    operated: &mut O,
+    line: &mut ArrayVec<u8, KEPT>,
+    octet: u8,
+    out: &mut W,
+) -> Result<(), Device>
+    requires { IsOpen (W.end out.old) }
+    ensures takes { TakesOctets (O.count operated.old) (octet ∷ []) line.old.items line.new.items
+        (O.asked operated.old) (O.asked operated.new) (W.end out.old) (W.end out.new) result }
+    ensures failures { OnOk result ((W.end out.new).failures ≡ (W.end out.old).failures) }
+    ensures count { O.count operated.new ≡ O.count operated.old }
+{
+    if octet != b'\n' {
+        keep(line, octet);
+        return Ok(());
+    }
+    let replied = reply(alloc, operated, line.as_slice(), out);
+    line.clear();
+    replied
+}
+
+/// Looks at the octets of a piece that was read.
+fn take_piece<O: Operated, W: Out>(
+    alloc: Global,
+    operated: &mut O,
+    line: &mut ArrayVec<u8, KEPT>,
+    piece: &[u8],
+    out: &mut W,
+) -> Result<(), Device>
+    requires { IsOpen (W.end out.old) }
+    ensures takes { TakesOctets (O.count operated.old) piece.now line.old.items line.new.items
+        (O.asked operated.old) (O.asked operated.new) (W.end out.old) (W.end out.new) result }
+    ensures failures { OnOk result ((W.end out.new).failures ≡ (W.end out.old).failures) }
+    ensures count { O.count operated.new ≡ O.count operated.old }
+{
+    for octet in piece {
+        match take_octet(alloc, operated, line, *octet, out) {
+            Ok(()) => {}
+            Err(device) => return Err(device),
+        }
+    }
+    Ok(())
+}
+
+/// Answers the last line, if it lacks its line feed.
+fn take_end<O: Operated, W: Out>(
+    alloc: Global,
+    operated: &mut O,
+    line: &[u8],
+    out: &mut W,
+) -> Result<(), Device>
+    requires { IsOpen (W.end out.old) }
+    ensures { TakesEnd (O.count operated.old) line.now
+        (O.asked operated.old) (O.asked operated.new) (W.end out.old) (W.end out.new) result }
+{
+    if line.is_empty() {
+        return Ok(());
+    }
+    reply(alloc, operated, line, out)
+}
+
+/// Answers the lines that are read, each once and in their order, of any edges that can be asked.
+///
+/// # Errors
+///
+/// `Device` where a read or a write failed, or 2^40 reads didn't reach the end; then no further
+/// line is looked at.
+pub fn converse_with<O: Operated, I: In, W: Out>(
+    alloc: Global,
+    operated: &mut O,
+    reader: &mut I,
+    out: &mut W,
+) -> Result<(), Device>
+    requires reader { Allows (2 ^ 40) (I.end reader.old) }
+    requires out { IsOpen (W.end out.old) }
+    ensures { Converses (O.count operated.old) (I.end reader.old) (I.end reader.new)
+        (O.asked operated.old) (O.asked operated.new) (W.end out.old) (W.end out.new) result }
+{
+    let mut buffer = [0; PIECE];
+    let mut line = ArrayVec::new();
+    for turn in 0..MOST_READS {
+        let n = match reader.read(&mut buffer) {
+            Ok(n) => n,
+            Err(device) => return Err(device),
+        };
+        if n == 0 {
+            return take_end(alloc, operated, line.as_slice(), out);
+        }
+        match take_piece(alloc, operated, &mut line, &buffer[..n], out) {
+            Ok(()) => {}
+            Err(device) => return Err(device),
+        }
+    }
+    Err(Device)
+}
+
+/// Answers the lines that an operator writes, each once and in their order, up to the end of what
+/// is read. Behind each answer comes an empty line, and then the writer is flushed. A line of more
+/// than 20,000 octets is a bad one; it takes no more memory than another.
+///
+/// # Errors
+///
+/// `Device` where a read or a write failed, or 2^40 reads didn't reach the end; then no further
+/// line is looked at.
+pub fn converse<R: Wait, I: In, W: Out>(
+    rt: &R,
+    alloc: Global,
+    running: &Running<'_>,
+    reader: &mut I,
+    out: &mut W,
+) -> Result<(), Device>
+    requires reader { Allows (2 ^ 40) (I.end reader.old) }
+    requires out { IsOpen (W.end out.old) }
+    ensures { Talks (I.end reader.old) (I.end reader.new) (W.end out.old) (W.end out.new) result }
+{
+    let mut edges = Edges::new(rt, *running);
+    converse_with(alloc, &mut edges, reader, out)
+}

@@ -1,0 +1,86 @@
+//! The edges of this process as a console asks them.
+
+use crate::operated::{Operated, Unreached};
+use ev_book::BookRefusal;
+use ev_edge::Reply;
+use ev_peers::{Command, Control, PortView, Running, Served};
+use route_wire::Update;
+use std::alloc::{AllocError, Global};
+use std::sync::Wait;
+
+/// Edges that run on this system's threads. What was asked of them isn't told: it lies under
+/// locks, of which no clause speaks.
+#[derive(Drop)]
+pub(crate) struct Edges<'x, R> {
+    rt: &'x R,
+    running: Running<'x>,
+    count: u64,
+}
+
+impl<'x, R: Wait> Edges<'x, R> {
+    /// These edges.
+    pub(crate) fn new(rt: &'x R, running: Running<'x>) -> Self {
+        let count = running.edges() as u64;
+        Edges { rt, running, count }
+    }
+
+    /// The edge with this number.
+    fn reach(&self, edge: u64) -> Result<Control<'x>, Unreached> {
+        match self.running.edge(edge as usize) {
+            Some(control) => Ok(control),
+            None => Err(Unreached::NoEdge),
+        }
+    }
+}
+
+impl<R: Wait> Operated for Edges<'_, R> {
+    ghost use Rattle.std.specs.Prelude.{None};
+
+    ghost count = { λ edges. edges.count };
+
+    ghost asked = { λ edges. None };
+
+    fn edges(&self) -> u64 {
+        self.count
+    }
+
+    fn enter(
+        &mut self,
+        edge: u64,
+        command: &Command,
+    ) -> Result<Result<Reply, BookRefusal>, Unreached> {
+        match self.reach(edge)?.enter(self.rt, *command) {
+            Some(answer) => Ok(answer),
+            None => Err(Unreached::Ended),
+        }
+    }
+
+    fn table(
+        &mut self,
+        alloc: Global,
+        edge: u64,
+    ) -> Result<Result<Vec<Update>, AllocError>, Unreached> {
+        match self.reach(edge)?.table(self.rt, alloc) {
+            Some(updates) => Ok(updates),
+            None => Err(Unreached::Ended),
+        }
+    }
+
+    fn port(&mut self, edge: u64, port: u8) -> Result<Option<PortView>, Unreached> {
+        match self.reach(edge)?.port(self.rt, port) {
+            Some(view) => Ok(view),
+            None => Err(Unreached::Ended),
+        }
+    }
+
+    fn served(
+        &mut self,
+        alloc: Global,
+        edge: u64,
+    ) -> Result<Result<Served, AllocError>, Unreached> {
+        match self.reach(edge)?.served(self.rt, alloc) {
+            Some(served) => Ok(served),
+            None => Err(Unreached::Ended),
+        }
+    }
+}

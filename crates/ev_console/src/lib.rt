@@ -1,0 +1,13 @@
+//! The operator's console over edges that run: lines of the script language, answered in its
+//! words.
+#![tactic(auto)]
+
+mod answering;
+mod conversation;
+mod edges;
+mod operated;
+mod printing;
+mod table;
+
+pub use conversation::{converse, converse_with};
+pub use operated::{Operated, Unreached};
