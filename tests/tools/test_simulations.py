@@ -209,7 +209,7 @@ GOOD = [
 # the lines that docs/script.md has, one a line
 HELP = lines(
     "E up P", "E down P", "E mcheck P", "E second N", "E frame P HEX", "E tunnel ADDR HEX", "E pin VNI MAC P", "E unpin VNI MAC",
-    "E thaw VNI MAC", "E announce", "E deliver K", "E restart N", "E port P", "E report", "edges", "help",
+    "E thaw VNI MAC", "E announce", "E deliver K", "E restart N", "E port P", "E report", "E owner VNI MAC", "edges", "help",
 )
 
 # an edge of three ports and three networks, one of which no port is of
@@ -221,13 +221,47 @@ THREE_PORTS = (
 EDGES = lines("1 edge 10.0.0.1 ports 1:5001 networks 5001", "2 edge 10.0.0.9 ports 1:5001,2:100,3:5001 networks 70,100,5001")
 
 # questions, which are no lines of a simulation
-QUESTIONS = ["help", "edges"]
+QUESTIONS = ["help", "edges", "1 owner " + STATION]
 
 # what is neither a question nor a command
-NO_QUESTIONS = ["help ", " help", "Help", "help 1", "1 help", "help\r", "edges ", "Edges", "edge", "1 edges", "edges 1"]
+NO_QUESTIONS = [
+    "help ", " help", "Help", "help 1", "1 help", "help\r", "edges ", "Edges", "edge", "1 edges", "edges 1",
+    "owner " + STATION, "1 owner", "1 owner ", "1 owner 5001", "01 owner " + STATION, "1 Owner " + STATION, f"1 owner {STATION} ",
+    "1 owner " + STATION.upper(), "1 owner 16777216 02:00:00:00:00:0a", f"1 owner {STATION} 1", f"1  owner {STATION}",
+]
+
+
+
+def story(*steps: tuple) -> tuple:
+    """What is played, line by line, and what is printed: each line, and what became of it."""
+    return lines(*(line for line, _ in steps)), "".join(f"> {line}\n{says}" for line, says in steps)
+
+
+# A station at edge 1 moves to edge 2, and is pinned at edge 1. Edge 3 hears of each.
+OWNERS = story(
+    ("1 up 1", at(1, "3c")), ("2 up 1", at(2, "3c")), ("1 " + HEARD, "1 local - remote -\n"), ("1 announce", "1 pool 1\n"),
+    ("1 announce", "1 pool 2\n"), ("3 owner " + STATION, "3 owner none\n"), ("2 deliver 2", "2 newer\n"),
+    ("2 owner " + STATION, lines("2 owner 10.0.0.1", "2 advert 10.0.0.1 dynamic 0")), ("2 " + HEARD, "2 local - remote -\n"),
+    ("2 announce", "2 pool 3\n"), ("2 announce", "2 pool 4\n"), ("3 deliver 2", "3 newer\n"), ("3 deliver 4", "3 newer\n"),
+    ("3 owner " + STATION, lines("3 owner 10.0.0.2", "3 advert 10.0.0.2 dynamic 1", "3 advert 10.0.0.1 dynamic 0")),
+    (f"1 pin {STATION} 1", ""), ("1 announce", "1 pool 5\n"), ("3 deliver 5", "3 newer\n"),
+    ("3 owner " + STATION, lines("3 owner 10.0.0.1", "3 advert 10.0.0.1 static 0", "3 advert 10.0.0.2 dynamic 1")),
+    ("3 owner 5002 02:00:00:00:00:0a", "3 owner none\n"), ("4 owner " + STATION, "4 refused fabric 18\n"),
+    ("0 owner " + STATION, "0 refused fabric 18\n"),
+)
+
+# Both edges have the same station with the same number: the lower address owns it.
+TIE = story(
+    ("1 up 1", at(1, "3c")), ("2 up 1", at(2, "3c")), ("1 " + HEARD, "1 local - remote -\n"), ("2 " + HEARD, "2 local - remote -\n"),
+    ("1 announce", "1 pool 1\n"), ("1 announce", "1 pool 2\n"), ("2 announce", "2 pool 3\n"), ("2 announce", "2 pool 4\n"),
+    ("1 deliver 4", "1 newer\n"),
+    ("1 owner " + STATION, lines("1 owner 10.0.0.1", "1 advert 10.0.0.1 dynamic 0", "1 advert 10.0.0.2 dynamic 0")),
+)
 
 # name: configuration, what is played, what is printed
 PLAYED = {
+    "owners": (TWO + edge(3), *OWNERS),
+    "a tie": (TWO, *TIE),
     "help": (ONE, "help\n", "> help\n" + HELP),
     "help changes nothing": (
         ONE, "# a remark\n1 announce\nhelp\n\n1 announce\nhelp",

@@ -1,8 +1,8 @@
 -- Texts of each of a list, one after the other.
 use Rattle.std.proofs.Common.{◌≡◌, ℕ, ◌+◌, ◌<◌, List, [], ◌∷◌, ◌++◌, take, length, get_or, append-nil, append_assoc, sym}
-use Rattle.std.proofs.Common.{suc, Some, ap, subst, ◌∙◌, arith}
+use Rattle.std.proofs.Common.{zero, suc, Some, None, refl, ap, subst, ◌∙◌, arith}
 use Rattle.std.proofs.lemmas.List.{take_more, length-take-le}
-use Rattle.std.proofs.lemmas.Option.{get_or_from_slice_get}
+use Rattle.std.proofs.lemmas.Option.{get_or_from_slice_get, slice_get_past}
 use Rattle.std.specs.List.{flat_map}
 use Rattle.std.proofs.lemmas.Grind.{flat_map-append}
 use Rattle.ev_fabric.specs.Fabric.{nth}
@@ -42,3 +42,8 @@ one_behind text all place d within =
     let one = get_or all place d in
     ap (flat_map text) (take_more all place d within) ∙ flat_map-append text before (one ∷ [])
     ∙ ap (λ t. flat_map text before ++ t) (append-nil (text one))
+
+-- past the last one there is none
+pub none_past : {X : Type 0} (xs : List X) (n : ℕ) → length xs < n → nth xs n ≡ None
+none_past xs zero past = refl
+none_past xs (suc i) past = slice_get_past xs i (omega (arith, past))

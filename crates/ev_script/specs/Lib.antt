@@ -4,4 +4,5 @@ pub mod Playing
 pub mod Printing
 pub mod Faults
 pub mod Shown
+pub mod Owners
 pub mod Views

@@ -11,7 +11,9 @@ use Rattle.ev_script.specs.declared.script.command.Verb.TheVariants.{Up, Down, M
 use Rattle.ev_script.specs.declared.script.command.Verb.TheVariants.{Unpin, Thaw, Announce, Deliver, Port, Report}
 use Rattle.ev_script.specs.declared.script.command.Verb.TheVariants.{Restart}
 use Rattle.ev_script.specs.declared.script.question.Question.{Question}
-use Rattle.ev_script.specs.declared.script.question.Question.TheVariants.{Help, Edges}
+use Rattle.ev_script.specs.declared.script.question.Question.TheVariants.{Help, Edges, OfEdge}
+use Rattle.ev_script.specs.declared.script.question.EdgeQuestion.{EdgeQuestion}
+use Rattle.ev_script.specs.declared.script.question.EdgeQuestion.TheVariants.{Owner}
 use Rattle.ev_script.specs.declared.script.mode.Mode.{Mode}
 use Rattle.ev_script.specs.declared.script.mode.Mode.TheVariants.{Simulate, Play}
 use Rattle.ev_script.specs.declared.script.command.Command as read
@@ -212,10 +214,23 @@ abbrev pub skips : Mode → List ℕ → Bool
 skips Simulate line = false
 skips Play line = is_remark line
 
+-- a question of one edge, from its verb on
+abbrev pub edge_question_of : List ℕ → Option EdgeQuestion
+edge_question_of s = do
+  (verb, rest) ← parted 32 s
+  if bytes_eq verb (codes "owner") then option_map Owner (station rest) else None
+
+abbrev pub of_edge : List ℕ → Option Question
+of_edge s = do
+  (e, rest) ← parted 32 s
+  edge ← number e
+  question ← edge_question_of rest
+  Some (OfEdge edge question)
+
 -- the question of a line
 abbrev pub question_of : List ℕ → Option Question
 question_of s =
-    if bytes_eq s (codes "help") then Some Help else if bytes_eq s (codes "edges") then Some Edges else None
+    if bytes_eq s (codes "help") then Some Help else if bytes_eq s (codes "edges") then Some Edges else of_edge s
 
 -- the question that a line asks: there are some where a script is played
 abbrev pub asked_in : Mode → List ℕ → Option Question

@@ -1,10 +1,14 @@
 -- What is told of a question.
-use Rattle.std.specs.Prelude.{ℕ, ◌+◌, ◌==◌, if◌then◌else◌, List, [], ◌∷◌, ◌++◌, codes, decimal}
+use Rattle.std.specs.Prelude.{ℕ, ◌+◌, ◌==◌, if◌then◌else◌, List, [], ◌∷◌, ◌++◌, codes, decimal, Option}
+use Rattle.std.specs.Prelude.{Some, None}
 use Rattle.ether_wire.specs.Addr.{addr_text}
-use Rattle.ev_edge.specs.Edge.{Edge, address_of}
-use Rattle.ev_fabric.specs.Fabric.{Fabric}
+use Rattle.ev_edge.specs.Edge.{Edge, address_of, table_of}
+use Rattle.ev_fabric.specs.Fabric.{Fabric, nth}
 use Rattle.ev_script.specs.declared.script.question.Question.{Question}
-use Rattle.ev_script.specs.declared.script.question.Question.TheVariants.{Help, Edges}
+use Rattle.ev_script.specs.declared.script.question.Question.TheVariants.{Help, Edges, OfEdge}
+use Rattle.ev_script.specs.declared.script.question.EdgeQuestion.{EdgeQuestion}
+use Rattle.ev_script.specs.declared.script.question.EdgeQuestion.TheVariants.{Owner}
+use Rattle.ev_script.specs.Owners.{owner_text}
 
 -- which lines there are, one a line
 abbrev pub help_text : List ℕ
@@ -12,7 +16,7 @@ help_text =
     codes "E up P\n" ++ codes "E down P\n" ++ codes "E mcheck P\n" ++ codes "E second N\n" ++ codes "E frame P HEX\n"
     ++ codes "E tunnel ADDR HEX\n" ++ codes "E pin VNI MAC P\n" ++ codes "E unpin VNI MAC\n" ++ codes "E thaw VNI MAC\n"
     ++ codes "E announce\n" ++ codes "E deliver K\n" ++ codes "E restart N\n" ++ codes "E port P\n"
-    ++ codes "E report\n" ++ codes "edges\n" ++ codes "help\n"
+    ++ codes "E report\n" ++ codes "E owner VNI MAC\n" ++ codes "edges\n" ++ codes "help\n"
 
 -- the text of each, the first of which has this number
 abbrev pub each_from : {X : Type 0} → (ℕ → X → List ℕ) → ℕ → List X → List ℕ
@@ -49,8 +53,23 @@ edge_line number e = edge_words number (address_of e) e.routes.ports e.routes.vn
 abbrev pub edges_text : Fabric → List ℕ
 edges_text f = each_from edge_line 1 f.edges
 
+-- ---- what is told of one edge
+
+-- to a question of an edge that there is
+abbrev pub edge_view_text : ℕ → Edge → EdgeQuestion → List ℕ
+edge_view_text number e (Owner s) = owner_text number (table_of e) s.vni s.mac
+
+-- the refusal of a step of an edge that there isn't, as a step tells it
+abbrev pub no_edge_text : ℕ → List ℕ
+no_edge_text number = decimal number ++ codes " refused fabric 18\n"
+
+abbrev pub edge_answer : ℕ → Option Edge → EdgeQuestion → List ℕ
+edge_answer number None q = no_edge_text number
+edge_answer number (Some e) q = edge_view_text number e q
+
 -- ---- what is seen then, of a fabric
 
 abbrev pub view_text : Fabric → Question → List ℕ
 view_text f Help = help_text
 view_text f Edges = edges_text f
+view_text f (OfEdge number q) = edge_answer number (nth f.edges number) q

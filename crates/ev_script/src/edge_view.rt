@@ -2,7 +2,12 @@
 ghost use Rattle.std.specs.Prelude.{◌≡◌};
 ghost use Rattle.ether_wire.specs.Ends.{IsOpen, Puts};
 ghost use Rattle.ev_script.specs.Views.{comma, port_words, network_words, each_from, served_text, edge_words, edge_line};
+ghost use Rattle.ev_script.specs.Views.{edge_view_text};
 
+mod owner;
+
+use crate::edge_view::owner::put_owner;
+use crate::script::EdgeQuestion;
 use ether_wire::{Addr, Device, Out, Vni, put_addr, put_decimal};
 use ev_edge::Edge;
 
@@ -98,10 +103,36 @@ pub fn put_edge_line<W: Out>(
 }
 
 /// Writes the line of an edge that is looked at.
-pub(crate) fn put_edge<W: Out>(out: &mut W, number: u64, edge: &Edge) -> Result<(), Device>
+pub fn put_edge<W: Out>(out: &mut W, number: u64, edge: &Edge) -> Result<(), Device>
     requires { IsOpen (W.end out.old) }
     ensures { Puts (W.end out.old) (W.end out.new) (edge_line number edge.now) result }
 {
     let routes = edge.routes();
     put_edge_line(out, number, routes.address(), routes.ports(), routes.vnis())
+}
+
+/// Writes what is told of a question of this edge, which has this number.
+///
+/// # Errors
+///
+/// `Device` exactly where a call of the writer failed; then no further call is made.
+pub fn put_edge_view<W: Out>(
+    out: &mut W,
+    number: u64,
+    edge: &Edge,
+    question: &EdgeQuestion,
+) -> Result<(), Device>
+    requires { IsOpen (W.end out.old) }
+    ensures { Puts (W.end out.old) (W.end out.new)
+        (edge_view_text number edge.now question.now) result }
+{
+    match question {
+        EdgeQuestion::Owner(station) => put_owner(
+            out,
+            number,
+            edge.table(),
+            station.vni,
+            station.mac,
+        ),
+    }
 }

@@ -7,9 +7,12 @@ mod script;
 mod simulate;
 
 pub use checking::{Found, check_lines};
-pub use edge_view::put_edge_line;
-pub use script::{Command, Hex, MOST_OCTETS, Mode, Question, parse, question_of, why_text};
+pub use edge_view::{put_edge, put_edge_line, put_edge_view};
+pub use script::{
+    Command, EdgeQuestion, Hex, MOST_OCTETS, Mode, Question, edge_question_of, parse, question_of,
+    why_text,
+};
 pub use simulate::{
-    port_number, put_number, put_port, put_refusal, put_reply, put_report, put_words, simulate_buffered,
-    simulate_run,
+    port_number, put_number, put_port, put_refusal, put_reply, put_report, put_words,
+    simulate_buffered, simulate_run,
 };

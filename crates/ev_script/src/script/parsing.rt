@@ -43,7 +43,7 @@ fn incarnation(word: &[u8]) -> Option<u32>
 }
 
 /// A network and a MAC address.
-fn station(text: &[u8]) -> Option<Station>
+pub(crate) fn station(text: &[u8]) -> Option<Station>
     ensures { result ≡ station text.now }
 {
     let (vni, mac) = parted(b' ', text)?;

@@ -44,12 +44,7 @@ pub fn put_words<W: Out>(out: &mut W, edge: u64, words: &[u8]) -> Result<(), Dev
 
 /// Writes a line of the edge's number, a word and a number.
 #[tactic(auto, using(ether_wire::proofs::Appending::with_text_twice))]
-pub fn put_number<W: Out>(
-    out: &mut W,
-    edge: u64,
-    word: &[u8],
-    number: u64,
-) -> Result<(), Device>
+pub fn put_number<W: Out>(out: &mut W, edge: u64, word: &[u8], number: u64) -> Result<(), Device>
     requires { IsOpen (W.end out.old) }
     ensures { Puts (W.end out.old) (W.end out.new) (number_text edge word.now number) result }
 {

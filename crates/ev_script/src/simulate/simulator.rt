@@ -12,7 +12,7 @@ use crate::simulate::echo::put_shown;
 use crate::simulate::print::{
     put_bpdus, put_number, put_port, put_refusal, put_reply, put_report, put_words,
 };
-use crate::simulate::viewing::put_view;
+use crate::simulate::viewing::{edge_of, put_view};
 use ether_wire::{Addr, Device, Out};
 use ev_edge::{Edge, EdgeRefusal, Reply};
 use ev_fabric::{Fabric, FabricRefusal, LocalEvent, Step};
@@ -115,15 +115,6 @@ fn put_port_of<W: Out>(out: &mut W, number: u64, edge: &Edge, port: u8) -> Resul
         return put_refusal(out, number, &refusal);
     }
     put_port(out, number, port, bridge.port(port), bridge.passes(port))
-}
-
-/// The edge of this number, if there is one.
-fn edge_of(fabric: &Fabric, edge: u64) -> Option<&Edge> {
-    let place = edge as usize;
-    if place == 0 || place > fabric.edges() {
-        return None;
-    }
-    Some(fabric.edge(place))
 }
 
 /// Prints how the spanning tree has a port.

@@ -1,10 +1,13 @@
 //! What is told of a question: how the fabric's edges are. It takes no memory, and no step is made.
+ghost use Rattle.std.specs.Prelude.{◌≡◌, option_map};
 ghost use Rattle.ether_wire.specs.Ends.{IsOpen, Puts};
-ghost use Rattle.ev_script.specs.Views.{help_text, edges_text, view_text};
+ghost use Rattle.ev_fabric.specs.Fabric.{nth};
+ghost use Rattle.ev_script.specs.Views.{help_text, edges_text, no_edge_text, edge_answer, view_text};
 
-use crate::edge_view::put_edge;
-use crate::script::Question;
-use ether_wire::{Device, Out};
+use crate::edge_view::{put_edge, put_edge_view};
+use crate::script::{EdgeQuestion, Question};
+use ether_wire::{Device, Out, put_decimal};
+use ev_edge::Edge;
 use ev_fabric::Fabric;
 
 /// Writes which lines there are.
@@ -27,6 +30,7 @@ E deliver K\n\
 E restart N\n\
 E port P\n\
 E report\n\
+E owner VNI MAC\n\
 edges\n\
 help\n",
     )
@@ -43,6 +47,48 @@ fn put_edges<W: Out>(out: &mut W, fabric: &Fabric) -> Result<(), Device>
     Ok(())
 }
 
+/// The edge of this number, if there is one.
+#[tactic(auto, using(crate::proofs::Each::none_past))]
+pub(crate) fn edge_of(fabric: &Fabric, edge: u64) -> Option<&Edge>
+    ensures { option_map (λ e. e.now) result ≡ nth fabric.now.edges edge }
+{
+    let place = edge as usize;
+    if place == 0 {
+        return None;
+    }
+    if place > fabric.edges() {
+        return None;
+    }
+    Some(fabric.edge(place))
+}
+
+/// Writes that there is no such edge.
+#[tactic(auto, using(ether_wire::proofs::Appending::with_text_twice))]
+fn put_no_edge<W: Out>(out: &mut W, number: u64) -> Result<(), Device>
+    requires { IsOpen (W.end out.old) }
+    ensures { Puts (W.end out.old) (W.end out.new) (no_edge_text number) result }
+{
+    put_decimal(out, number)?;
+    out.put(b" refused fabric 18\n")
+}
+
+/// Writes what is told of a question of one edge.
+fn put_edge_answer<W: Out>(
+    out: &mut W,
+    fabric: &Fabric,
+    number: u64,
+    question: &EdgeQuestion,
+) -> Result<(), Device>
+    requires { IsOpen (W.end out.old) }
+    ensures { Puts (W.end out.old) (W.end out.new)
+        (edge_answer number (nth fabric.now.edges number) question.now) result }
+{
+    match edge_of(fabric, number) {
+        None => put_no_edge(out, number),
+        Some(edge) => put_edge_view(out, number, edge, question),
+    }
+}
+
 /// Writes what is told of a question.
 pub(crate) fn put_view<W: Out>(
     out: &mut W,
@@ -55,5 +101,6 @@ pub(crate) fn put_view<W: Out>(
     match question {
         Question::Help => put_help(out),
         Question::Edges => put_edges(out, fabric),
+        Question::OfEdge(number, question) => put_edge_answer(out, fabric, *number, question),
     }
 }
