@@ -209,7 +209,8 @@ GOOD = [
 # the lines that docs/script.md has, one a line
 HELP = lines(
     "E up P", "E down P", "E mcheck P", "E second N", "E frame P HEX", "E tunnel ADDR HEX", "E pin VNI MAC P", "E unpin VNI MAC",
-    "E thaw VNI MAC", "E announce", "E deliver K", "E restart N", "E port P", "E report", "E owner VNI MAC", "edges", "help",
+    "E thaw VNI MAC", "E announce", "E deliver K", "E restart N", "E port P", "E report", "E owner VNI MAC", "E counts",
+    "E stations [VNI]", "edges", "help",
 )
 
 # an edge of three ports and three networks, one of which no port is of
@@ -221,15 +222,16 @@ THREE_PORTS = (
 EDGES = lines("1 edge 10.0.0.1 ports 1:5001 networks 5001", "2 edge 10.0.0.9 ports 1:5001,2:100,3:5001 networks 70,100,5001")
 
 # questions, which are no lines of a simulation
-QUESTIONS = ["help", "edges", "1 owner " + STATION]
+QUESTIONS = ["help", "edges", "1 owner " + STATION, "1 counts", "1 stations", "1 stations 5001"]
 
 # what is neither a question nor a command
 NO_QUESTIONS = [
     "help ", " help", "Help", "help 1", "1 help", "help\r", "edges ", "Edges", "edge", "1 edges", "edges 1",
     "owner " + STATION, "1 owner", "1 owner ", "1 owner 5001", "01 owner " + STATION, "1 Owner " + STATION, f"1 owner {STATION} ",
     "1 owner " + STATION.upper(), "1 owner 16777216 02:00:00:00:00:0a", f"1 owner {STATION} 1", f"1  owner {STATION}",
+    "counts", "1 counts ", "1 counts 5001", "1 Counts", "1 count", "stations", "1 stations ", "1 stations 05001", "1 stations 16777216",
+    "1 stations 5001 ", "1 stations 5001 1", "1 station",
 ]
-
 
 
 def story(*steps: tuple) -> tuple:
@@ -258,8 +260,64 @@ TIE = story(
     ("1 owner " + STATION, lines("1 owner 10.0.0.1", "1 advert 10.0.0.1 dynamic 0", "1 advert 10.0.0.2 dynamic 0")),
 )
 
+
+def counts(number: int, *held: int) -> tuple:
+    """The question how much an edge holds, and its answer."""
+    words = zip(("stations", "pinned", "frozen", "registers", "own", "foreign", "pending"), held)
+    return f"{number} counts", " ".join([f"{number} counts", *(f"{word} {count}" for word, count in words)]) + "\n"
+
+
+# A station is heard and another one pinned, seven seconds pass, and it is unpinned. A withdrawal keeps its register, and is no advert.
+HOLDS = story(
+    counts(1, 0, 0, 0, 1, 1, 0, 1), ("1 stations", ""), ("1 up 1", at(1, "3c")), ("1 " + HEARD, "1 local - remote -\n"),
+    counts(1, 1, 0, 0, 2, 2, 0, 2), ("1 pin 5001 02:00:00:00:00:0b 1", ""), counts(1, 2, 1, 0, 3, 3, 0, 3), ("1 announce", "1 pool 1\n"),
+    counts(1, 2, 1, 0, 3, 3, 0, 2), ("1 stations", lines(f"1 station {STATION} port 1 age 0", "1 station 5001 02:00:00:00:00:0b port 1 pinned")),
+    ("1 second 7", at(1, "3c", "3c", "3c")),
+    ("1 stations", lines(f"1 station {STATION} port 1 age 7", "1 station 5001 02:00:00:00:00:0b port 1 pinned")),
+    ("1 stations 5001", lines(f"1 station {STATION} port 1 age 7", "1 station 5001 02:00:00:00:00:0b port 1 pinned")),
+    ("1 stations 5002", ""), ("1 unpin 5001 02:00:00:00:00:0b", ""), counts(1, 1, 0, 0, 3, 2, 0, 2),
+    ("1 stations", f"1 station {STATION} port 1 age 7\n"), ("2 counts", "2 refused fabric 18\n"), ("2 stations", "2 refused fabric 18\n"),
+)
+
+# Stations of two networks are pinned, at edge 2 of three ports: the lower network first, and in it the lower address.
+IN_TWO_NETWORKS = story(
+    ("2 pin 5001 02:00:00:00:00:0a 3", ""), ("2 pin 100 02:00:00:00:00:0b 2", ""), ("2 pin 5001 02:00:00:00:00:09 1", ""),
+    ("2 stations", lines(
+        "2 station 100 02:00:00:00:00:0b port 2 pinned", "2 station 5001 02:00:00:00:00:09 port 1 pinned",
+        "2 station 5001 02:00:00:00:00:0a port 3 pinned",
+    )),
+    ("2 stations 100", "2 station 100 02:00:00:00:00:0b port 2 pinned\n"), ("2 stations 70", ""), ("1 stations", ""),
+    counts(2, 3, 3, 0, 6, 6, 0, 6),
+)
+
+
+def moved_often() -> tuple:
+    """Edge 2 hears the station five times after edge 1 has said that it has it: then it is frozen there, and withdrawn. It is pinned
+    all the same, and thawed."""
+    steps = [
+        ("1 up 1", at(1, "3c")), ("2 up 1", at(2, "3c")), ("1 announce", "1 pool 1\n"), ("2 announce", "2 pool 2\n"),
+        ("1 deliver 2", "1 newer\n"), ("2 deliver 1", "2 newer\n"), counts(2, 0, 0, 0, 2, 1, 1, 0),
+    ]
+    for turn in range(5):
+        here = 3 + 2 * turn
+        steps += [
+            ("1 " + HEARD, "1 local - remote 10.0.0.2\n"), ("1 announce", f"1 pool {here}\n"), (f"2 deliver {here}", "2 newer\n"),
+            ("2 " + HEARD, "2 local - remote 10.0.0.1\n" + ("2 alert 3\n" if turn == 4 else "")),
+        ]
+        if turn < 4:
+            steps += [("2 announce", f"2 pool {here + 1}\n"), (f"1 deliver {here + 1}", "1 newer\n")]
+    return story(
+        *steps, counts(2, 0, 0, 1, 4, 1, 2, 1), ("2 stations", f"2 station {STATION} frozen\n"), ("1 stations", f"1 station {STATION} port 1 age 0\n"),
+        (f"2 pin {STATION} 1", ""), counts(2, 1, 1, 1, 4, 2, 2, 1), ("2 stations 5001", f"2 station {STATION} port 1 pinned frozen\n"),
+        (f"2 thaw {STATION}", ""), counts(2, 1, 1, 0, 4, 2, 2, 1), ("2 stations", f"2 station {STATION} port 1 pinned\n"),
+    )
+
+
 # name: configuration, what is played, what is printed
 PLAYED = {
+    "counts and stations": (ONE, *HOLDS),
+    "stations of two networks": (edge(1) + THREE_PORTS, *IN_TWO_NETWORKS),
+    "a frozen station": (TWO, *moved_often()),
     "owners": (TWO + edge(3), *OWNERS),
     "a tie": (TWO, *TIE),
     "help": (ONE, "help\n", "> help\n" + HELP),

@@ -5,4 +5,6 @@ pub mod Printing
 pub mod Faults
 pub mod Shown
 pub mod Owners
+pub mod Stations
+pub mod Counts
 pub mod Views

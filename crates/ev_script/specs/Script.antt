@@ -13,7 +13,7 @@ use Rattle.ev_script.specs.declared.script.command.Verb.TheVariants.{Restart}
 use Rattle.ev_script.specs.declared.script.question.Question.{Question}
 use Rattle.ev_script.specs.declared.script.question.Question.TheVariants.{Help, Edges, OfEdge}
 use Rattle.ev_script.specs.declared.script.question.EdgeQuestion.{EdgeQuestion}
-use Rattle.ev_script.specs.declared.script.question.EdgeQuestion.TheVariants.{Owner}
+use Rattle.ev_script.specs.declared.script.question.EdgeQuestion.TheVariants.{Owner, Counts, Stations}
 use Rattle.ev_script.specs.declared.script.mode.Mode.{Mode}
 use Rattle.ev_script.specs.declared.script.mode.Mode.TheVariants.{Simulate, Play}
 use Rattle.ev_script.specs.declared.script.command.Command as read
@@ -214,11 +214,25 @@ abbrev pub skips : Mode → List ℕ → Bool
 skips Simulate line = false
 skips Play line = is_remark line
 
+-- a question of one edge that is a verb alone
+abbrev pub question_alone : List ℕ → Option EdgeQuestion
+question_alone s =
+    if bytes_eq s (codes "counts") then Some Counts
+    else if bytes_eq s (codes "stations") then Some (Stations None) else None
+
+-- one of a verb with what stands behind it and a space
+abbrev pub question_with : List ℕ → List ℕ → Option EdgeQuestion
+question_with verb s =
+    if bytes_eq verb (codes "owner") then option_map Owner (station s)
+    else if bytes_eq verb (codes "stations") then option_map (λ v. Stations (Some v)) (vni_of_text s) else None
+
+abbrev pub question_from : List ℕ → Option (List ℕ × List ℕ) → Option EdgeQuestion
+question_from s None = question_alone s
+question_from s (Some p) = question_with p.0 p.1
+
 -- a question of one edge, from its verb on
 abbrev pub edge_question_of : List ℕ → Option EdgeQuestion
-edge_question_of s = do
-  (verb, rest) ← parted 32 s
-  if bytes_eq verb (codes "owner") then option_map Owner (station rest) else None
+edge_question_of s = question_from s (parted 32 s)
 
 abbrev pub of_edge : List ℕ → Option Question
 of_edge s = do

@@ -7,8 +7,10 @@ use Rattle.ev_fabric.specs.Fabric.{Fabric, nth}
 use Rattle.ev_script.specs.declared.script.question.Question.{Question}
 use Rattle.ev_script.specs.declared.script.question.Question.TheVariants.{Help, Edges, OfEdge}
 use Rattle.ev_script.specs.declared.script.question.EdgeQuestion.{EdgeQuestion}
-use Rattle.ev_script.specs.declared.script.question.EdgeQuestion.TheVariants.{Owner}
+use Rattle.ev_script.specs.declared.script.question.EdgeQuestion.TheVariants.{Owner, Counts, Stations}
 use Rattle.ev_script.specs.Owners.{owner_text}
+use Rattle.ev_script.specs.Counts.{counts_text}
+use Rattle.ev_script.specs.Stations.{stations_text}
 
 -- which lines there are, one a line
 abbrev pub help_text : List ℕ
@@ -16,7 +18,8 @@ help_text =
     codes "E up P\n" ++ codes "E down P\n" ++ codes "E mcheck P\n" ++ codes "E second N\n" ++ codes "E frame P HEX\n"
     ++ codes "E tunnel ADDR HEX\n" ++ codes "E pin VNI MAC P\n" ++ codes "E unpin VNI MAC\n" ++ codes "E thaw VNI MAC\n"
     ++ codes "E announce\n" ++ codes "E deliver K\n" ++ codes "E restart N\n" ++ codes "E port P\n"
-    ++ codes "E report\n" ++ codes "E owner VNI MAC\n" ++ codes "edges\n" ++ codes "help\n"
+    ++ codes "E report\n" ++ codes "E owner VNI MAC\n" ++ codes "E counts\n" ++ codes "E stations [VNI]\n"
+    ++ codes "edges\n" ++ codes "help\n"
 
 -- the text of each, the first of which has this number
 abbrev pub each_from : {X : Type 0} → (ℕ → X → List ℕ) → ℕ → List X → List ℕ
@@ -58,6 +61,8 @@ edges_text f = each_from edge_line 1 f.edges
 -- to a question of an edge that there is
 abbrev pub edge_view_text : ℕ → Edge → EdgeQuestion → List ℕ
 edge_view_text number e (Owner s) = owner_text number (table_of e) s.vni s.mac
+edge_view_text number e Counts = counts_text number e
+edge_view_text number e (Stations vni) = stations_text number e vni
 
 -- the refusal of a step of an edge that there isn't, as a step tells it
 abbrev pub no_edge_text : ℕ → List ℕ

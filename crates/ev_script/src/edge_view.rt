@@ -4,9 +4,13 @@ ghost use Rattle.ether_wire.specs.Ends.{IsOpen, Puts};
 ghost use Rattle.ev_script.specs.Views.{comma, port_words, network_words, each_from, served_text, edge_words, edge_line};
 ghost use Rattle.ev_script.specs.Views.{edge_view_text};
 
+mod counts;
 mod owner;
+mod stations;
 
+use crate::edge_view::counts::put_counts;
 use crate::edge_view::owner::put_owner;
+use crate::edge_view::stations::put_stations;
 use crate::script::EdgeQuestion;
 use ether_wire::{Addr, Device, Out, Vni, put_addr, put_decimal};
 use ev_edge::Edge;
@@ -134,5 +138,7 @@ pub fn put_edge_view<W: Out>(
             station.vni,
             station.mac,
         ),
+        EdgeQuestion::Counts => put_counts(out, number, edge),
+        EdgeQuestion::Stations(vni) => put_stations(out, number, edge, vni),
     }
 }

@@ -1,9 +1,9 @@
 //! What may be asked where a script is played: how the edges are, which no step changes.
 ghost use Rattle.std.specs.Prelude.{◌≡◌};
-ghost use Rattle.ev_script.specs.Script.{edge_question_of, of_edge, question_of};
+ghost use Rattle.ev_script.specs.Script.{question_alone, question_with, edge_question_of, of_edge, question_of};
 
 use crate::script::parse::{number, station};
-use ether_wire::parted;
+use ether_wire::{Vni, parted};
 use mac_arena::Station;
 
 /// A question.
@@ -22,6 +22,37 @@ pub enum Question {
 pub enum EdgeQuestion {
     /// Who owns a station, and why.
     Owner(Station),
+    /// How much it holds.
+    Counts,
+    /// Which stations it has learnt, of a network or of all.
+    Stations(Option<Vni>),
+}
+
+/// A question of one edge that is a verb alone.
+fn question_alone(text: &[u8]) -> Option<EdgeQuestion>
+    ensures { result ≡ question_alone text.now }
+{
+    if text == b"counts".as_slice() {
+        return Some(EdgeQuestion::Counts);
+    }
+    if text == b"stations".as_slice() {
+        return Some(EdgeQuestion::Stations(None));
+    }
+    None
+}
+
+/// A question of one edge by its verb, and what stands behind it.
+fn question_with(verb: &[u8], text: &[u8]) -> Option<EdgeQuestion>
+    ensures { result ≡ question_with verb.now text.now }
+{
+    if verb == b"owner".as_slice() {
+        return Some(EdgeQuestion::Owner(station(text)?));
+    }
+    if verb == b"stations".as_slice() {
+        let vni = Vni::read_text(text)?;
+        return Some(EdgeQuestion::Stations(Some(vni)));
+    }
+    None
 }
 
 /// The question of one edge that these words ask, if they ask one: a line from behind the edge's
@@ -29,11 +60,10 @@ pub enum EdgeQuestion {
 pub fn edge_question_of(text: &[u8]) -> Option<EdgeQuestion>
     ensures { result ≡ edge_question_of text.now }
 {
-    let (verb, rest) = parted(b' ', text)?;
-    if verb == b"owner".as_slice() {
-        return Some(EdgeQuestion::Owner(station(rest)?));
+    match parted(b' ', text) {
+        None => question_alone(text),
+        Some((verb, rest)) => question_with(verb, rest),
     }
-    None
 }
 
 /// The edge and the question of words with one space between them.

@@ -31,6 +31,8 @@ E restart N\n\
 E port P\n\
 E report\n\
 E owner VNI MAC\n\
+E counts\n\
+E stations [VNI]\n\
 edges\n\
 help\n",
     )
