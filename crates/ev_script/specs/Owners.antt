@@ -1,5 +1,5 @@
 -- Who owns a station, and why: the best advert of each originator, in the order in which they are preferred.
-use Rattle.std.specs.Prelude.{ℕ, zero, suc, ◌==◌, if◌then◌else◌, List, [], ◌∷◌, ◌++◌, codes, decimal}
+use Rattle.std.specs.Prelude.{◌≡◌, ℕ, zero, suc, ◌==◌, if◌then◌else◌, List, [], ◌∷◌, ◌++◌, codes, decimal}
 use Rattle.std.specs.Prelude.{Option, Some, None}
 use Rattle.std.specs.List.{list_any}
 use Rattle.ether_wire.specs.Addr.{addr_text}
@@ -55,3 +55,12 @@ owner_line number o = decimal number ++ codes " owner " ++ owner_name o ++ codes
 abbrev pub owner_text : ℕ → Table → ℕ → ℕ → List ℕ
 owner_text number t vni mac =
     owner_line number (owner t vni mac) ++ offer_lines number (ranked 64 [] (updates_of t vni mac))
+
+-- whose the first one of the adverts is
+abbrev pub leader : List Offer → Option ℕ
+leader [] = None
+leader (offer ∷ more) = Some offer.0.originator
+
+-- the first advert that is told is the owner's, and none is told where nobody owns the address
+abbrev pub OwnerLeads : Type 0
+OwnerLeads = (t : Table) (vni mac : ℕ) → leader (ranked 64 [] (updates_of t vni mac)) ≡ owner t vni mac

@@ -3,11 +3,13 @@
 
 mod checking;
 mod edge_view;
+mod laws;
 mod script;
 mod simulate;
 
 pub use checking::{Found, check_lines};
 pub use edge_view::{put_edge, put_edge_line, put_edge_view};
+pub use laws::owner_leads;
 pub use script::{
     Command, EdgeQuestion, Hex, MOST_OCTETS, Mode, Question, edge_question_of, parse, question_of,
     why_text,

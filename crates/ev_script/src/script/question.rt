@@ -2,7 +2,7 @@
 ghost use Rattle.std.specs.Prelude.{◌≡◌};
 ghost use Rattle.ev_script.specs.Script.{question_alone, question_with, edge_question_of, of_edge, question_of};
 
-use crate::script::parse::{number, station};
+use crate::script::parsing::{number, station};
 use ether_wire::{Vni, parted};
 use mac_arena::Station;
 
