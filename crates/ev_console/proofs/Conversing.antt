@@ -1,6 +1,7 @@
 -- How a conversation goes on, octet by octet.
 use Rattle.std.proofs.Common.{◌≡◌, ℕ, zero, suc, ◌+◌, Bool, true, false, not, cond, List, [], ◌∷◌, ◌++◌, take}
-use Rattle.std.proofs.Common.{Option, Result, Ok, Err, refl, sym, ap, subst, ◌∙◌, append_assoc, append-nil, codes, ◌<◌, length, length-append, arith}
+use Rattle.std.proofs.Common.{Option, Result, Ok, Err, refl, sym, ap, subst, ◌∙◌, append_assoc, append-nil, codes}
+use Rattle.std.proofs.Common.{◌<◌, length, length-append, arith}
 use Rattle.std.specs.List.{flat_map}
 use Rattle.std.proofs.lemmas.List.{take_all, take-append-le}
 use Rattle.std.proofs.lemmas.Grind.{flat_map-append}
@@ -12,8 +13,8 @@ use Rattle.ev_links.specs.Coming.{behind}
 use Rattle.ev_peers.proofs.Behind.{behind_none, behind_twice}
 use Rattle.ev_console.specs.Asking.{Asked}
 use Rattle.ev_console.specs.Answers.{AnswersLine, Replies}
-use Rattle.ev_console.specs.Conversation.{feed, is_feed, IsLine, kept, Exchange, IsExchange, lines_of, asked_of, said_of}
-use Rattle.ev_console.specs.Conversation.{AreExchanges, is_cut, missing_feed, BreaksOff, SoFar, ToOctets, TakesOctets}
+use Rattle.ev_console.specs.Conversation.{feed, is_feed, IsLine, kept, Exchange, IsExchange, lines_of, asked_of}
+use Rattle.ev_console.specs.Conversation.{said_of, AreExchanges, is_cut, missing_feed, BreaksOff, SoFar, ToOctets, TakesOctets}
 use Rattle.ev_console.specs.Conversation.{TakesEnd}
 
 -- ---- what is kept of a line

@@ -66,7 +66,8 @@ module _ (turn count : ℕ) (source mid last : Source) (held buffer : List ℕ) 
       → 0 < length buffer → Gets mid last buffer (Ok 0) → TakesEnd count held middle after e new r
       → Converses count source last before after old new r
   goes_end after new (Ok done) turns room got takes =
-      let s = sofar_whole count (g.input ++ missing_feed g.input) before after old new (takes g.input before old g.sofar) in
+      let s = sofar_whole count (g.input ++ missing_feed g.input) before after old new
+      (takes g.input before old g.sofar) in
       record {
         input = g.input;
         read = whole_ended turn source mid last g.input buffer g.read turns room got;

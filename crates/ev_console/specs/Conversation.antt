@@ -164,7 +164,7 @@ TakesEnd count held middle after mid new result =
 
 -- ---- edges of this process
 
--- A conversation with some number of edges: what they answered isn't told, but that each line was answered by its words.
+-- A conversation with some number of edges: what they were asked isn't told, but each line was answered by its words.
 pub record Talks (source source' : Source) (old new : End) (result : Result (Unit {0}) Device) : Type 0 where
   pub count : ℕ
   pub is : Converses count source source' None None old new result

@@ -1,4 +1,5 @@
 //! The edges of this process as a console asks them.
+ghost use Rattle.std.specs.Prelude.{◌≡◌, IfOk};
 
 use crate::operated::{Operated, Unreached};
 use ev_book::BookRefusal;
@@ -25,7 +26,9 @@ impl<'x, R: Wait> Edges<'x, R> {
     }
 
     /// The edge with this number.
-    fn reach(&self, edge: u64) -> Result<Control<'x>, Unreached> {
+    fn reach(&self, edge: u64) -> Result<Control<'x>, Unreached>
+        ensures { IfOk result (λ control. control.mailbox.now.number ≡ edge) }
+    {
         match self.running.edge(edge as usize) {
             Some(control) => Ok(control),
             None => Err(Unreached::NoEdge),

@@ -11,3 +11,6 @@ mod table;
 
 pub use conversation::{converse, converse_with};
 pub use operated::{Operated, Unreached};
+
+#[cfg(test)]
+mod tests;

@@ -4,7 +4,8 @@ use Rattle.ev_console.proofs.conversation.keep.Goals as goal
 
 pub returns-then-len-lt-KEPT : goal.returns-then-len-lt-KEPT
 returns-then-len-lt-KEPT c = c.push.ensures.items
-    ∙ sym (take_short 20001 c.args.line.now.items c.args.octet (omega (arith, c.if-len-lt-KEPT.true, c.len.ensures.value)))
+    ∙ sym (take_short 20001 c.args.line.now.items c.args.octet
+    (omega (arith, c.if-len-lt-KEPT.true, c.len.ensures.value)))
 
 pub returns-else-len-lt-KEPT : goal.returns-else-len-lt-KEPT
 returns-else-len-lt-KEPT c =

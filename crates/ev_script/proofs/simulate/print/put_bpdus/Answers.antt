@@ -16,5 +16,6 @@ loop-sent-preserved g c =
     c.in_ok-put_bpdu.ensures
     ∙ ap (λ (e : End). with_text e (bpdu_line c.args.edge one)) c.loop-sent.invariant
     ∙ with_text_twice start (flat_map (bpdu_line c.args.edge) (take place all)) (bpdu_line c.args.edge one)
-    ∙ ap (λ (t : ℕ × Bpdu). with_text start (flat_map (bpdu_line c.args.edge) (take place all) ++ bpdu_line c.args.edge t)) c.sent-item.is
+    ∙ ap (λ (t : ℕ × Bpdu). with_text start (flat_map (bpdu_line c.args.edge) (take place all)
+    ++ bpdu_line c.args.edge t)) c.sent-item.is
     ∙ ap (with_text start) (sym (one_behind (bpdu_line c.args.edge) all place one c.loop-sent-test.true))
