@@ -10,7 +10,7 @@ use Rattle.ether_wire.specs.declared.ends.Device.{Device}
 use Rattle.ether_wire.specs.Ends.{End, with_text, Puts}
 use Rattle.ether_wire.proofs.Appending.{with_text_twice, with_text_none}
 use Rattle.ev_links.specs.Coming.{behind}
-use Rattle.ev_peers.proofs.Behind.{behind_none, behind_twice}
+use Rattle.ev_links.proofs.Behind.{behind_none, behind_twice}
 use Rattle.ev_console.specs.Asking.{Asked}
 use Rattle.ev_console.specs.Answers.{AnswersLine, Replies}
 use Rattle.ev_console.specs.Conversation.{feed, is_feed, IsLine, kept, Exchange, IsExchange, lines_of, asked_of}

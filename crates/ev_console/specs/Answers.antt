@@ -15,7 +15,7 @@ use Rattle.ev_peers.specs.declared.request.Command.{Command as Step}
 use Rattle.ev_peers.specs.declared.request.Command.TheVariants as steps
 use Rattle.ev_links.specs.Coming.{behind}
 use Rattle.ev_script.specs.declared.script.question.Question.{Question}
-use Rattle.ev_script.specs.declared.script.question.Question.TheVariants.{Help, Edges}
+use Rattle.ev_script.specs.declared.script.question.Question.TheVariants.{Help, Edges, OfEdge}
 use Rattle.ev_script.specs.Script.{Command, up, down, mcheck, second, frame, tunnel, pin, unpin, thaw, announce}
 use Rattle.ev_script.specs.Script.{deliver, port, report, restart, line_of, question_of}
 use Rattle.ev_script.specs.Simulation.{port_number}
@@ -153,6 +153,7 @@ ShowsEdges count = λ asked text. (answers : List ServedSeen) × (length answers
 abbrev pub AnswersQuestion : ℕ → Question → List Asked → List ℕ → Type 0
 AnswersQuestion count Help = Says help_text
 AnswersQuestion count Edges = ShowsEdges count
+AnswersQuestion count (OfEdge e question) = Says simulated_text
 
 abbrev pub AnswersAsked : ℕ → List ℕ → Option Question → List Asked → List ℕ → Type 0
 AnswersAsked count line None = AnswersWords line (line_of line)

@@ -179,6 +179,7 @@ fn answer_question<O: Operated, W: Out>(
     match question {
         Question::Help => put_help(out),
         Question::Edges => show_edges(alloc, operated, out),
+        Question::OfEdge(_, _) => put_simulated(out),
     }
 }
 

@@ -55,9 +55,10 @@ fn originators() -> ArrayVec<Addr, 64> {
     originators
 }
 
-fn config() -> EdgeConfig {
+// The edge with this address.
+fn config(address: u32) -> EdgeConfig {
     EdgeConfig {
-        address: Addr::new(0x0a00_0001),
+        address: Addr::new(address),
         incarnation: 0,
         originators: originators(),
         vnis: networks(),
@@ -79,7 +80,7 @@ fn config() -> EdgeConfig {
 impl Lab {
     fn new(alloc: Global) -> Result<Self, AllocError> {
         Ok(Lab {
-            edge: Edge::open(alloc, config())?,
+            edge: Edge::open(alloc, config(0x0a00_0001))?,
             steps: 0,
             asked: 0,
         })
