@@ -1,3 +1,4 @@
 pub mod RunEdges
+pub mod Serving
 pub mod Needs
 pub mod Obstacles

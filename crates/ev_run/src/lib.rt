@@ -1,15 +1,20 @@
 //! Edges that run over UDP sockets until an input ends, and what is told of them then.
 #![tactic(auto)]
 
+mod clients;
+mod control_socket;
 mod needs;
 mod obstacles;
 mod print;
 mod print_needs;
 mod run;
+mod serve;
 mod sockets;
 
+pub use control_socket::ListenError;
 pub use needs::{Needs, needs_of};
 pub use obstacles::{Cause, End, Obstacle, Seat, obstacles_of};
 pub use print_needs::{put_needs, put_obstacles};
 pub use run::{run_buffered, run_edges};
+pub use serve::{serve_buffered, serve_edges};
 pub use sockets::BindError;

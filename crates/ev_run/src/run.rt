@@ -8,6 +8,8 @@ ghost use Rattle.ev_edge.specs.Config.{IsConfig};
 ghost use Rattle.ev_report.specs.Ends.{AreOpen, devices};
 ghost use Rattle.ev_run.specs.RunEdges.{EachConfig, ReadsOut, sends_failed, link_failed, was_out_of_memory, all_lost, noted_text, PutsRest, TellsMeanwhile, TellsRest, Ran, TellsStartError, RunsEdges};
 
+use crate::clients::read_out;
+use crate::control_socket::ControlSocket;
 use crate::print::{put_notes, put_reports};
 use crate::sockets::{PortSocket, Sockets, StartError, bind_all, put_bind_error, wake_all};
 use ether_wire::{Device, In, Out};
@@ -31,7 +33,7 @@ pub(crate) const TUNNELS: u16 = 4789;
 type Ready<'x, R> = Setup<Wire<'x, R>, UdpOut<'x>>;
 
 /// Reads up to the end, whatever is read: whether no read failed, and 2^40 of them reached it.
-fn is_read_out<E: In>(reader: &mut E) -> bool
+pub(crate) fn is_read_out<E: In>(reader: &mut E) -> bool
     requires { Allows (2 ^ 40) (E.end reader.old) }
     ensures { ReadsOut (E.end reader.old) (E.end reader.new) result }
 {
@@ -222,7 +224,8 @@ fn tell_meanwhile<R: Wait, N: Out>(rt: &R, boards: &Boards, notes: &mut N) -> Re
 /// What a run of edges comes to: each of them, and whether the input was read up to its end.
 type Reached = (Vec<Result<Outcome, AllocError>>, bool);
 
-/// Runs edges until the reader ends, and stops them then.
+/// Runs edges until the reader ends, and stops them then. Clients of a socket may ask them
+/// meanwhile.
 fn run_reading<'x, R: Threads + Wait + Clock + Sync, E: In>(
     rt: &'x R,
     alloc: Global,
@@ -230,6 +233,7 @@ fn run_reading<'x, R: Threads + Wait + Clock + Sync, E: In>(
     boards: &Boards,
     sockets: &'x [Sockets],
     stop: &'x AtomicBool,
+    control: Option<&ControlSocket>,
     reader: &mut E,
 ) -> Reached
     requires { Allows (2 ^ 40) (E.end reader.old) }
@@ -243,12 +247,12 @@ fn run_reading<'x, R: Threads + Wait + Clock + Sync, E: In>(
         start,
         boards,
         &OpenGate,
-        |_running| -> (bool, &mut E)
+        |running| -> (bool, &mut E)
             requires { Allows (2 ^ 40) (E.end reader.now) }
             ensures same { result.1.ghost_name ≡ reader.entry.ghost_name }
             ensures read { ReadsOut (E.end reader.entry.now) (E.end result.1.now) result.0 }
         {
-            let is_read = is_read_out(&mut *reader);
+            let is_read = read_out(rt, alloc, running, control, &mut *reader);
             stop.store(true, Ordering::SeqCst);
             wake_all(sockets);
             (is_read, reader)
@@ -257,7 +261,8 @@ fn run_reading<'x, R: Threads + Wait + Clock + Sync, E: In>(
     (ended, is_read)
 }
 
-/// Runs the edges of a configuration over these sockets until the reader ends.
+/// Runs the edges of a configuration over these sockets until the reader ends. Clients of a socket
+/// may ask them meanwhile.
 ///
 /// # Errors
 ///
@@ -267,6 +272,7 @@ fn run_bound<R: Threads + Wait + Clock + Sync, E: In, W: Out, N: Out + Send>(
     alloc: Global,
     configs: Vec<EdgeConfig>,
     sockets: &[Sockets],
+    control: Option<&ControlSocket>,
     reader: &mut E,
     out: &mut W,
     notes: &mut N,
@@ -304,7 +310,16 @@ fn run_bound<R: Threads + Wait + Clock + Sync, E: In, W: Out, N: Out + Send>(
             ensures all { vec_len result.0.0 ≡ start.entry }
             ensures read { ReadsOut (E.end reader.entry.now) (E.end result.1.now) result.0.1 }
         {
-            let reached = run_reading(rt, alloc, start, &boards, sockets, &stop, &mut *reader);
+            let reached = run_reading(
+                rt,
+                alloc,
+                start,
+                &boards,
+                sockets,
+                &stop,
+                control,
+                &mut *reader,
+            );
             (reached, reader)
         },
     );
@@ -323,6 +338,44 @@ fn tell_start_error<N: Out>(start_error: StartError, notes: &mut N) -> u8
         }
         StartError::Unnamed => DEVICE,
         StartError::NoMemory => MEMORY,
+    }
+}
+
+/// `run_edges`, with a socket whose clients may ask the edges meanwhile, or without.
+pub(crate) fn run_asked<R: Threads + Wait + Net + Clock + Sync, E: In, W: Out, N: Out + Send>(
+    rt: &R,
+    alloc: Global,
+    config: Config,
+    control: Option<&ControlSocket>,
+    reader: &mut E,
+    out: &mut W,
+    notes: &mut N,
+) -> u8
+    requires config { AreConfigs config.edges.items }
+    requires reader { Allows (2 ^ 40) (E.end reader.old) }
+    requires out { IsOpen (W.end out.old) }
+    requires notes { IsOpen (N.end notes.old) }
+    ensures { RunsEdges (length config.edges.items)
+        (devices (E.end reader.old) (W.end out.old) (N.end notes.old))
+        (devices (E.end reader.new) (W.end out.new) (N.end notes.new)) result }
+{
+    let sockets = match bind_all(rt, alloc, &config, TUNNELS) {
+        Ok(sockets) => sockets,
+        Err(start_error) => return tell_start_error(start_error, notes),
+    };
+    let Config { edges, links: _ } = config;
+    match run_bound(
+        rt,
+        alloc,
+        edges,
+        sockets.as_slice(),
+        control,
+        reader,
+        out,
+        notes,
+    ) {
+        Ok(status) => status,
+        Err(_) => MEMORY,
     }
 }
 
@@ -350,15 +403,7 @@ pub fn run_edges<R: Threads + Wait + Net + Clock + Sync, E: In, W: Out, N: Out +
         (devices (E.end reader.old) (W.end out.old) (N.end notes.old))
         (devices (E.end reader.new) (W.end out.new) (N.end notes.new)) result }
 {
-    let sockets = match bind_all(rt, alloc, &config, TUNNELS) {
-        Ok(sockets) => sockets,
-        Err(start_error) => return tell_start_error(start_error, notes),
-    };
-    let Config { edges, links: _ } = config;
-    match run_bound(rt, alloc, edges, sockets.as_slice(), reader, out, notes) {
-        Ok(status) => status,
-        Err(_) => MEMORY,
-    }
+    run_asked(rt, alloc, config, None, reader, out, notes)
 }
 
 /// `run_edges` with few and large writes: it takes the devices, and gives them back.

@@ -1,0 +1,183 @@
+//! The socket at which a run is asked while its edges run: a Unix stream socket at a path, for its
+//! user alone.
+ghost use Rattle.std.specs.Prelude.{◌≡◌};
+ghost use Rattle.ether_wire.specs.Ends.{IsOpen, Puts};
+ghost use Rattle.ev_run.specs.Serving.{reason_of, listen_error_text};
+
+use ether_wire::{Device, Out};
+use std::fs::{Files, Permissions};
+use std::io::ErrorKind;
+use std::net::{Net, Shutdown};
+use std::os::fd::{AsFd, AsRawFd, OwnedFd};
+use std::os::unix::fs::{FileTypeExt, MetadataExt, PermissionsExt};
+use std::os::unix::net::{SocketAddr, UnixListener, UnixStream};
+use std::{fs, io};
+
+/// How many clients may wait until they are accepted: as many as the system lets.
+const BACKLOG: i32 = -1;
+
+/// Why nothing can listen at a path.
+#[derive(Clone, Copy, Debug, PartialEq, Eq)]
+pub enum ListenError {
+    /// Somebody listens there.
+    InUse,
+    /// A file is there that is no socket.
+    NotSocket,
+    /// The path leads into a folder that isn't there.
+    NoFolder,
+    /// It is longer than a socket's may be: 107 octets.
+    TooLong,
+    /// This user may not.
+    Denied,
+    /// The system has no memory for it.
+    NoMemory,
+    /// Anything else.
+    Other,
+}
+
+/// What an error of the system says of a path.
+fn listen_error_of(kind: ErrorKind) -> ListenError {
+    match kind {
+        ErrorKind::AddrInUse => ListenError::InUse,
+        ErrorKind::NotFound => ListenError::NoFolder,
+        ErrorKind::NotADirectory => ListenError::NoFolder,
+        ErrorKind::InvalidInput => ListenError::TooLong,
+        ErrorKind::PermissionDenied => ListenError::Denied,
+        ErrorKind::OutOfMemory => ListenError::NoMemory,
+        _ => ListenError::Other,
+    }
+}
+
+/// What the system gave, or what its error says of a path.
+fn explained<T: Drop>(given: io::Result<T>) -> Result<T, ListenError> {
+    match given {
+        Ok(value) => Ok(value),
+        Err(error) => Err(listen_error_of(error.kind())),
+    }
+}
+
+impl ListenError {
+    /// The words behind the path.
+    fn reason(self) -> &'static [u8]
+        ensures { result.now ≡ reason_of self }
+    {
+        match self {
+            ListenError::InUse => b"it is in use\n",
+            ListenError::NotSocket => b"it is a file that is no socket\n",
+            ListenError::NoFolder => b"there is no such folder\n",
+            ListenError::TooLong => b"it is too long\n",
+            ListenError::Denied => b"it isn't permitted\n",
+            ListenError::NoMemory => b"there is no memory\n",
+            ListenError::Other => b"the system refuses it\n",
+        }
+    }
+}
+
+/// Tells at which path nothing can listen, and why.
+#[tactic(auto, using(ether_wire::proofs::Appending::with_text_twice))]
+pub(crate) fn put_listen_error<N: Out>(
+    notes: &mut N,
+    path: &[u8],
+    why: ListenError,
+) -> Result<(), Device>
+    requires { IsOpen (N.end notes.old) }
+    ensures { Puts (N.end notes.old) (N.end notes.new) (listen_error_text path.now why) result }
+{
+    notes.put(b"can't listen at ")?;
+    notes.put(path)?;
+    notes.put(b": ")?;
+    notes.put(why.reason())
+}
+
+/// The file at a path, as the system counts files, if there is one.
+fn file_at<R: Files>(rt: &R, path: &str) -> Option<(u64, u64)> {
+    let found = fs::symlink_metadata(rt, path).ok()?;
+    Some((found.dev(), found.ino()))
+}
+
+/// Removes the socket at a path at which nobody listens any more. One at which somebody does, and
+/// any other file, stays.
+fn clear<R: Files + Net>(rt: &R, path: &str) -> Result<(), ListenError> {
+    let found = match fs::symlink_metadata(rt, path) {
+        Ok(found) => found,
+        Err(error) if error.kind() == ErrorKind::NotFound => return Ok(()),
+        Err(error) => return Err(listen_error_of(error.kind())),
+    };
+    if !found.file_type().is_socket() {
+        return Err(ListenError::NotSocket);
+    }
+    match UnixStream::connect(rt, path) {
+        Ok(_) => Err(ListenError::InUse),
+        Err(error) if error.kind() == ErrorKind::ConnectionRefused => {
+            explained(fs::remove_file(rt, path))
+        }
+        Err(error) => Err(listen_error_of(error.kind())),
+    }
+}
+
+/// A socket that listens at a path. Its file can be read and written by its user alone.
+#[derive(Drop)]
+pub(crate) struct ControlSocket {
+    listener: UnixListener,
+    /// The same socket, to be shut down.
+    end: UnixStream,
+    /// Its file, as the system counts files.
+    file: Option<(u64, u64)>,
+}
+
+impl ControlSocket {
+    /// Lets a socket listen that was bound at this path. It can't be connected to before that, so
+    /// nobody but its user ever can.
+    fn listen<R: Files>(rt: &R, path: &str, socket: OwnedFd) -> Result<Self, ListenError> {
+        explained(fs::set_permissions(rt, path, Permissions::from_mode(0o600)))?;
+        let end = UnixStream::from(explained(socket.try_clone())?);
+        if libc::net::listen(socket.as_raw_fd(), BACKLOG) != 0 {
+            return Err(ListenError::Other);
+        }
+        Ok(ControlSocket {
+            listener: UnixListener::from(socket),
+            end,
+            file: file_at(rt, path),
+        })
+    }
+
+    /// A socket that listens at this path. One that lies there from a run that was killed is
+    /// removed first.
+    pub(crate) fn open<R: Files + Net>(rt: &R, path: &[u8]) -> Result<Self, ListenError> {
+        let Ok(path) = str::from_utf8(path) else {
+            return Err(ListenError::Other);
+        };
+        let address = explained(SocketAddr::from_pathname(path))?;
+        clear(rt, path)?;
+        let socket = explained(rt.unix_socket())?;
+        explained(rt.bind_unix(socket.as_fd(), &address))?;
+        match ControlSocket::listen(rt, path, socket) {
+            Ok(control) => Ok(control),
+            Err(why) => {
+                let _ = fs::remove_file(rt, path);
+                Err(why)
+            }
+        }
+    }
+
+    /// The next client that connects.
+    pub(crate) fn accept(&self) -> io::Result<UnixStream> {
+        let (stream, _) = self.listener.accept()?;
+        Ok(stream)
+    }
+
+    /// Lets no client connect any more: who waits for one is woken by an error.
+    pub(crate) fn end(&self) {
+        let _ = self.end.shutdown(Shutdown::Both);
+    }
+
+    /// Removes the socket's file, unless another one lies there by now.
+    pub(crate) fn remove<R: Files>(&self, rt: &R, path: &[u8]) {
+        let Ok(path) = str::from_utf8(path) else {
+            return;
+        };
+        if file_at(rt, path) == self.file {
+            let _ = fs::remove_file(rt, path);
+        }
+    }
+}

@@ -1,0 +1,85 @@
+//! Edges that carry frames as in a run, and answer clients at a control socket meanwhile.
+ghost use Rattle.std.specs.Prelude.{◌^◌, length};
+ghost use Rattle.ether_wire.specs.Ends.{IsOpen, Allows};
+ghost use Rattle.ev_fabric.specs.Opening.{AreConfigs};
+ghost use Rattle.ev_report.specs.Ends.{AreOpen, devices};
+ghost use Rattle.ev_run.specs.Serving.{TellsListenError, ServesEdges};
+
+use crate::control_socket::{ControlSocket, ListenError, put_listen_error};
+use crate::run::run_asked;
+use ether_wire::{In, Out};
+use ev_config::Config;
+use ev_report::{Buffers, DEVICE, Devices};
+use std::alloc::Global;
+use std::fs::Files;
+use std::net::Net;
+use std::sync::Wait;
+use std::thread::Threads;
+use std::time::Clock;
+
+/// Tells at which path nothing can listen, and answers the status.
+fn tell_listen_error<N: Out>(path: &[u8], why: ListenError, notes: &mut N) -> u8
+    requires { IsOpen (N.end notes.old) }
+    ensures { TellsListenError path.now (N.end notes.old) (N.end notes.new) result }
+{
+    let _ = put_listen_error(notes, path, why);
+    DEVICE
+}
+
+/// Runs the edges of a configuration as `run_edges` does, and answers up to 8 clients at a time
+/// meanwhile, which connect to a Unix stream socket at the path `control`: what they do changes
+/// nothing of what the run promises. The socket's file is there for its user alone, and is removed
+/// at the end.
+///
+/// Where nothing can listen at the path no edge begins, a line on `notes` says why, and the status
+/// is 4.
+pub fn serve_edges<R: Threads + Wait + Net + Files + Clock + Sync, E: In, W: Out, N: Out + Send>(
+    rt: &R,
+    alloc: Global,
+    config: Config,
+    control: &[u8],
+    reader: &mut E,
+    out: &mut W,
+    notes: &mut N,
+) -> u8
+    requires config { AreConfigs config.edges.items }
+    requires reader { Allows (2 ^ 40) (E.end reader.old) }
+    requires out { IsOpen (W.end out.old) }
+    requires notes { IsOpen (N.end notes.old) }
+    ensures { ServesEdges control.now (length config.edges.items)
+        (devices (E.end reader.old) (W.end out.old) (N.end notes.old))
+        (devices (E.end reader.new) (W.end out.new) (N.end notes.new)) result }
+{
+    let socket = match ControlSocket::open(rt, control) {
+        Ok(socket) => socket,
+        Err(why) => return tell_listen_error(control, why, notes),
+    };
+    let status = run_asked(rt, alloc, config, Some(&socket), reader, out, notes);
+    socket.remove(rt, control);
+    status
+}
+
+/// `serve_edges` with few and large writes: it takes the devices, and gives them back.
+pub fn serve_buffered<H: Threads + Wait + Net + Files + Clock + Sync, R: In, W: Out, N: Out + Send>(
+    rt: &H,
+    alloc: Global,
+    config: Config,
+    control: &[u8],
+    devices: Devices<R, W, N>,
+) -> (u8, Devices<R, W, N>)
+    requires config { AreConfigs config.edges.items }
+    requires devices { AreOpen devices }
+    ensures { ServesEdges control.now (length config.edges.items) devices result.1 result.0 }
+{
+    let mut all = Buffers::new(devices);
+    let status = serve_edges(
+        rt,
+        alloc,
+        config,
+        control,
+        &mut all.reader,
+        &mut all.out,
+        &mut all.notes,
+    );
+    all.finish(status)
+}
