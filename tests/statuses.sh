@@ -610,7 +610,7 @@ run check --script "$work/script" --run --config "$conf"
 { cat "$work/takes" && echo "ok: 1 line"; } > "$work/looked"
 tell "what a run takes, and a script" gives 0 "$work/looked" ""
 for words in "check --run" "check --run yes --config $conf" "check --run --run --config $conf" "check --run=1 --config $conf" \
-  "run --run --config $conf" "simulate --run --config $conf"; do
+  "run --run --config $conf" "serve --run --config $conf" "serve" "simulate --run --config $conf"; do
   # shellcheck disable=SC2086
   run $words
   tell "words: $words" is_usage
@@ -656,6 +656,42 @@ tell "an address that is in use, by the edge's own tunnels" gives 4 "$work/empty
 status=0
 "$evpnd" run --config "$conf" < "$work/in" > "$work/out" 2> /dev/full || status=$?
 tell "an address that can't be bound, which can't be told" [ "$status" = 4 ]
+
+# ---- edges that are asked while they run (what clients are told stands in tools/test_serve.py)
+# serves PATH: a configuration with a control socket there
+serves() { runs "$ends" && sed -i "1i control = \"$1\"" "$conf"; }
+control=$work/control
+serves "$control"
+printf 'edge 1\nflood 5001 %s.1 1 up\n' "$host" > "$work/one"
+run serve --config "$conf"
+tell "an edge is served" gives 0 "$work/one" ""
+tell "its socket is gone at the end" [ ! -e "$control" ]
+status=0
+"$evpnd" serve --config "$conf" < "$work/in" > /dev/full 2> "$work/notes" || status=$?
+tell "a full output, of an edge that was served" fails "$unwritten"
+status=0
+"$evpnd" serve --config "$conf" <&- > "$work/out" 2> "$work/notes" || status=$?
+tell "edges to be served, and a closed input" gives 4 "$work/empty" "standard input: it is closed"
+run run --config "$conf"
+tell "a run has no control socket" tells "config control"
+: > "$control"
+run serve --config "$conf"
+tell "a control socket where another file is" gives 4 "$work/empty" "can't listen at $control: it is a file that is no socket"
+status=0
+"$evpnd" serve --config "$conf" < "$work/in" > "$work/out" 2> /dev/full || status=$?
+tell "the same, which can't be told" [ "$status" = 4 ]
+serves "$control/in/no/folder"
+run serve --config "$conf"
+tell "a control socket below a file" gives 4 "$work/empty" "can't listen at $control/in/no/folder: there is no such folder"
+rm "$control"
+serves "$control"
+sed -i "s/$host.1:20001/192.0.2.1:20001/" "$conf"
+run serve --config "$conf"
+tell "an address that no device has, of edges to be served" gives 4 "$work/empty" "can't bind 192.0.2.1:20001: no device here has it"
+tell "no socket stays behind then" [ ! -e "$control" ]
+runs "$ends"
+run serve --config "$conf"
+tell "edges to be served without a control socket" tells "config control"
 
 # ---- the notes on a piece are there while the next one is awaited
 cp "$record" "$work/in"

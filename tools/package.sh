@@ -6,8 +6,8 @@
 # FOLDER gets evpnd_VERSION_ARCHITECTURE.deb; the version is the first of CHANGELOG.md, with the day and the commit behind it.
 # PROGRAM is the proved build, crates/evpnd/out/evpnd if none is named; FILE is what `rt check` printed when it was proved,
 # which goes into the package (without it the package says that its log isn't there).
-# In the package: /usr/bin/evpnd, evpnd-audit, evpnd-bgp and evpnd-records, the tools (/usr/share/evpnd), man pages made of
-# the help, the docs, the examples of monitoring, and the SHA-256 sums of the program and of the sources that it was built from.
+# In the package: /usr/bin/evpnd, evpndctl with its completion, evpnd-audit, evpnd-bgp and evpnd-records, the tools
+# (/usr/share/evpnd), man pages made of the help, the docs, the examples of monitoring, and the SHA-256 sums of the program and of the sources that it was built from.
 # tests/outside/package.sh tries it in a folder with nothing but Debian.
 set -eu
 top=$(cd "$(dirname "$0")/.." && pwd)
@@ -42,10 +42,13 @@ root=$work/root
 share=$root/usr/share/evpnd
 doc=$root/usr/share/doc/evpnd
 man=$root/usr/share/man/man1
-mkdir -p "$root/DEBIAN" "$root/usr/bin" "$share" "$doc/crates" "$man"
+completions=$root/usr/share/bash-completion/completions
+mkdir -p "$root/DEBIAN" "$root/usr/bin" "$share" "$doc/crates" "$man" "$completions"
 
 # ---- the program and the tools
 install -m 755 "$program" "$root/usr/bin/evpnd"
+install -m 755 "$top/tools/evpndctl" "$root/usr/bin/evpndctl"
+install -m 644 "$top/tools/evpndctl.bash" "$completions/evpndctl"
 for tool in "$top"/tools/audit_*.py "$top"/tools/evpnd_*.py; do
   install -m 644 "$tool" "$share/"
 done
@@ -81,6 +84,7 @@ page() { # NAME COMMAND ..: a page of a command's help
     printf '.TH %s 1 "%s" "evpnd %s"\n.SH NAME\n%s \\- ' "$(echo "$name" | tr a-z A-Z)" "$day" "$version" "$name"
     case $name in
       evpnd) echo 'tables, owners and edges of Ethernet VPN' ;;
+      evpndctl) echo 'asks edges that run (evpnd serve) over their control socket' ;;
       evpnd-audit) echo 'compares where a fabric forwards MACs with what its routes say' ;;
       evpnd-bgp) echo 'a gateway between update records and a BGP EVPN fabric, by GoBGP' ;;
       *) echo 'update records from readable lines and from the routes of FRR, and back' ;;
@@ -91,6 +95,7 @@ page() { # NAME COMMAND ..: a page of a command's help
   } | gzip -9n > "$man/$name.1.gz"
 }
 page evpnd "$program" --help
+page evpndctl python3 -B "$top/tools/evpndctl" --help
 page evpnd-audit python3 -B "$top/tools/evpnd_audit.py" --help
 page evpnd-bgp python3 -B "$top/tools/evpnd_bgp.py" --help
 page evpnd-records python3 -B "$top/tools/evpnd_records.py" --help

@@ -85,13 +85,13 @@ def edge(address: str, number: int, *cables: Cable, keys: str = "") -> str:
 class Running:
     """The program on a configuration, until `end`."""
 
-    def __init__(self, text: str, notes: int = subprocess.PIPE) -> None:
+    def __init__(self, text: str, notes: int = subprocess.PIPE, subcommand: str = "run") -> None:
         self.folder = tempfile.TemporaryDirectory()
         path = os.path.join(self.folder.name, "edges.toml")
         with open(path, "w", encoding="utf-8") as it:
             it.write(text)
         pipes = {"stdin": subprocess.PIPE, "stdout": subprocess.PIPE, "stderr": notes}
-        self.program = subprocess.Popen([PROGRAM, "run", "--config", path], **pipes)
+        self.program = subprocess.Popen([PROGRAM, subcommand, "--config", path], **pipes)
 
     def resident(self) -> int:
         """How much memory it has, in kilobytes."""

@@ -20,6 +20,7 @@ use Rattle.ev_run.specs.declared.obstacles.Obstacle.{Obstacle}
 use Rattle.ev_run.specs.Needs.{needs_of, needs_text}
 use Rattle.ev_run.specs.Obstacles.{obstacles_of}
 use Rattle.evpnd.specs.declared.check.Purpose.{Purpose}
+use Rattle.ev_config.specs.Config.{ConfigOf}
 use Rattle.evpnd.specs.Checks.{Desk, desk, OfFile, Sums, TellsObstacles, SumsRun, Checks}
 use Rattle.evpnd.specs.Scripts.{lines_text, Looks, OfScript, Behind}
 use Rattle.evpnd.proofs.Filed.{holds_put}
@@ -134,7 +135,7 @@ checked_ready purpose (Err refusal.NoMemory) s input out out' notes notes' statu
     let three = h.1 in absurd (omega (arith, three, done))
 
 pub ready : (purpose : Purpose) (path : Text) (s s' : Shelf) (input : Source) (out out' notes notes' : End) (status : ℕ)
-    → OfFile purpose.is_run (Checks purpose) path (desk s (devices input out notes))
+    → OfFile (ConfigOf purpose.is_run) (Checks purpose) path (desk s (devices input out notes))
     (desk s' (devices input out' notes')) status
     → HasRoom s → IsOpen out → IsOpen notes → status ≡ 0 → IsReady s' out' notes'
 ready purpose path s s' input out out' notes notes' status (inl h) room o n done =

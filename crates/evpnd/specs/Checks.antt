@@ -1,5 +1,5 @@
 -- What becomes of a configuration's file.
-use Rattle.std.specs.Prelude.{◌≡◌, ℕ, ◌+◌, ◌⊎◌, Bool, List, [], ◌∷◌, ◌++◌, Option, Result, Ok, Err, if◌then◌else◌}
+use Rattle.std.specs.Prelude.{◌≡◌, ℕ, ◌+◌, ◌⊎◌, List, [], ◌∷◌, ◌++◌, Option, Result, Ok, Err, if◌then◌else◌}
 use Rattle.std.specs.Prelude.{MatchBool}
 use Rattle.ether_wire.specs.Ends.{End, Source}
 use Rattle.ev_config.specs.declared.whole.Config.{Config}
@@ -43,21 +43,28 @@ pub record IsUnread (option : Named) (path : Text) (before after : Desk) (status
   pub noted : Holds before.devices.notes after.devices.notes (unread_text option path why)
   pub status_is : status ≡ 4
 
+-- what a text gives for a configuration of a kind
+abbrev pub Gives : Type 0 → Type 1
+Gives X = Text → Result X ConfigRefusal → Type 0
+
+-- what is done with that
+abbrev pub Uses : Type 0 → Type 1
+Uses X = Result X ConfigRefusal → Devices → Devices → ℕ → Type 0
+
 -- the file has this text, and what it gives for a configuration is used so
-pub record IsRead (for_run : Bool) (uses : Result Config ConfigRefusal → Devices → Devices → ℕ
-    → Type 0) (path : Text) (before after : Desk) (status : ℕ) : Type 0 where
+pub record IsRead {X : Type 0} (gives : Gives X) (uses : Uses X) (path : Text) (before after : Desk)
+    (status : ℕ) : Type 0 where
   pub shelf_kept : after.shelf ≡ before.shelf
   pub text : Text
   pub read : IsTextOf before.shelf path text
-  pub found : Result Config ConfigRefusal
-  pub is_found : ConfigOf for_run text found
+  pub found : Result X ConfigRefusal
+  pub is_found : gives text found
   pub used : uses found before.devices after.devices status
 
 -- what is done with what a file gives for a configuration
-abbrev pub OfFile : Bool → (Result Config ConfigRefusal → Devices → Devices → ℕ → Type 0) → Text → Desk → Desk → ℕ
-    → Type 0
-OfFile for_run uses path before after status = IsRefusedText before after status
-    ⊎ (IsUnread named.Config path before after status ⊎ IsRead for_run uses path before after status)
+abbrev pub OfFile : {X : Type 0} → Gives X → Uses X → Text → Desk → Desk → ℕ → Type 0
+OfFile gives uses path before after status = IsRefusedText before after status
+    ⊎ (IsUnread named.Config path before after status ⊎ IsRead gives uses path before after status)
 
 -- ---- a check
 

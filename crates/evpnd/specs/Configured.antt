@@ -1,46 +1,60 @@
 -- What becomes of a configuration that is wanted, to be used.
-use Rattle.std.specs.Prelude.{◌≡◌, ℕ, ◌++◌, Bool, codes, string_bytes, Result, Ok, Err}
+use Rattle.std.specs.Prelude.{◌≡◌, ℕ, ◌⊎◌, ◌++◌, codes, string_bytes, String, Result, Ok, Err}
+use Rattle.std.specs.declared.alloc.Global.{Global}
 use Rattle.ether_wire.specs.Ends.{End, Source}
-use Rattle.ev_config.specs.declared.whole.Config.{Config}
 use Rattle.ev_config.specs.declared.config.ConfigRefusal.{ConfigRefusal}
 use Rattle.ev_config.specs.declared.config.ConfigRefusal.TheVariants as refusal
 use Rattle.ev_report.specs.Ends.{Devices, devices}
 use Rattle.evpnd.specs.Files.{Text, Shelf, IsTextOf}
-use Rattle.ev_config.specs.Config.{ConfigOf}
-use Rattle.evpnd.specs.Checks.{desk, OfFile}
+use Rattle.evpnd.specs.declared.files.Named.TheVariants as named
+use Rattle.evpnd.specs.Checks.{Desk, desk, IsRefusedText, IsUnread, Gives, Uses, OfFile}
 use Rattle.ev_report.specs.Usage.{TellsUsage}
 
 -- `config KEY`
 abbrev pub config_text : Text → Text
 config_text key = codes "config " ++ key ++ codes "\n"
 
--- A configuration is used; or its first faulty key is told, or that its text is no document (2); or there was no memory
--- to
+-- There is no configuration: its first faulty key is told, or that its text is no document (2); or there was no memory to
 -- read it (3), and no device was called.
-abbrev pub OfFound : (Config → Devices → Devices → ℕ → Type 0) → Result Config ConfigRefusal → Devices → Devices → ℕ
-    → Type 0
+abbrev pub Refuses : ConfigRefusal → Devices → Devices → ℕ → Type 0
+Refuses (refusal.Key key) before after status = TellsUsage (config_text (string_bytes key)) before after status
+Refuses refusal.Text before after status = TellsUsage (config_text (codes "text")) before after status
+Refuses refusal.NoMemory before after status = (after ≡ before) × (status ≡ 3)
+
+-- A configuration is used, or there is none.
+abbrev pub OfFound : {X : Type 0} → (X → Devices → Devices → ℕ → Type 0) → Uses X
 OfFound uses (Ok config) before after status = uses config before after status
-OfFound uses (Err (refusal.Key key)) before after status =
-    TellsUsage (config_text (string_bytes key)) before after status
-OfFound uses (Err refusal.Text) before after status = TellsUsage (config_text (codes "text")) before after status
-OfFound uses (Err refusal.NoMemory) before after status = (after ≡ before) × (status ≡ 3)
+OfFound uses (Err refused) before after status = Refuses refused before after status
 
 -- none is used
-abbrev pub Never : Config → Devices → Devices → ℕ → Type 0
+abbrev pub Never : {X : Type 0} → X → Devices → Devices → ℕ → Type 0
 Never config before after status = ⊥
 
 -- A text gives this configuration; or this status, and what is found is told, whatever the input and the output have.
-abbrev pub TextGives : Bool → Text → End → End → Result Config ℕ → Type 0
-TextGives for_run text notes notes' (Ok config) = (notes' ≡ notes) × ConfigOf for_run text (Ok config)
-TextGives for_run text notes notes' (Err status) =
-    (found : Result Config ConfigRefusal) × ConfigOf for_run text found
+abbrev pub TextGives : {X : Type 0} → Gives X → Text → End → End → Result X ℕ → Type 0
+TextGives gives text notes notes' (Ok config) = (notes' ≡ notes) × gives text (Ok config)
+TextGives {X = X} gives text notes notes' (Err status) =
+    (found : Result X ConfigRefusal) × gives text found
     × ((input : Source) → (out : End) → OfFound Never found (devices input out notes) (devices input out notes')
     status)
 
+-- there is no text of the file at a path: there was no memory for it, or it can't be read, which is told
+abbrev pub IsTextless : Text → Desk → Desk → ℕ → Type 0
+IsTextless path before after status = IsRefusedText before after status
+    ⊎ IsUnread named.Config path before after status
+
+-- The file at a path has this text; or there is none, whatever the input and the output have: then the status.
+abbrev pub FileHas : Text → Shelf → Shelf → End → End → Result (String Global) ℕ → Type 0
+FileHas path shelf shelf' notes notes' (Ok text) =
+    (shelf' ≡ shelf) × (notes' ≡ notes) × IsTextOf shelf path (string_bytes text)
+FileHas path shelf shelf' notes notes' (Err status) =
+    (input : Source) → (out : End) → IsTextless path (desk shelf (devices input out notes))
+    (desk shelf' (devices input out notes')) status
+
 -- The file at a path has a text that gives this configuration; or this status, and what is found is told.
-abbrev pub FileGives : Bool → Text → Shelf → Shelf → End → End → Result Config ℕ → Type 0
-FileGives for_run path shelf shelf' notes notes' (Ok config) = (shelf' ≡ shelf) × (notes' ≡ notes)
-    × ((text : Text) × IsTextOf shelf path text × ConfigOf for_run text (Ok config))
-FileGives for_run path shelf shelf' notes notes' (Err status) =
-    (input : Source) → (out : End) → OfFile for_run (OfFound Never) path (desk shelf (devices input out notes))
+abbrev pub FileGives : {X : Type 0} → Gives X → Text → Shelf → Shelf → End → End → Result X ℕ → Type 0
+FileGives gives path shelf shelf' notes notes' (Ok config) = (shelf' ≡ shelf) × (notes' ≡ notes)
+    × ((text : Text) × IsTextOf shelf path text × gives text (Ok config))
+FileGives {X = X} gives path shelf shelf' notes notes' (Err status) =
+    (input : Source) → (out : End) → OfFile gives (OfFound {X = X} Never) path (desk shelf (devices input out notes))
     (desk shelf' (devices input out notes')) status

@@ -6,7 +6,7 @@ use Rattle.evpnd.specs.declared.program.Argv.{Argv}
 use Rattle.evpnd.specs.declared.program.Argv.TheVariants.{Words, NotText, NoMemory}
 use Rattle.ev_words.specs.declared.subcommand.Subcommand.{Subcommand}
 use Rattle.ev_words.specs.declared.subcommand.Subcommand.TheVariants.{Report, Migrate, Check, Simulate, Play}
-use Rattle.ev_words.specs.declared.subcommand.Subcommand.TheVariants.{Run, Version}
+use Rattle.ev_words.specs.declared.subcommand.Subcommand.TheVariants.{Run, Serve, Version}
 use Rattle.ev_words.specs.Args.{Parts, program, Spells}
 use Rattle.ev_script.specs.declared.script.mode.Mode.TheVariants as mode
 use Rattle.ev_report.specs.Originators.{Text}
@@ -18,7 +18,8 @@ use Rattle.evpnd.specs.Scripts.{ChecksAll}
 use Rattle.evpnd.specs.Version.{TellsVersion}
 use Rattle.ev_report.specs.Report.{Reports}
 use Rattle.ev_report.specs.Migrations.{Migrates}
-use Rattle.evpnd.specs.Used.{SimulatesFound, RunsFound}
+use Rattle.ev_config.specs.Config.{ConfigOf, ServedOf}
+use Rattle.evpnd.specs.Used.{SimulatesFound, RunsFound, ServesFound}
 use Rattle.evpnd.specs.declared.streams.Stream.{Stream}
 use Rattle.evpnd.specs.declared.host.Descriptors.{Descriptors}
 use Rattle.evpnd.specs.declared.check.Purpose.{Purpose}
@@ -49,7 +50,12 @@ not_text = codes "error: a word isn't UTF-8\n"
 
 -- the edges of a file are run, where no standard stream was closed
 abbrev pub RunsOpen : Option Stream → Text → Desk → Desk → ℕ → Type 0
-RunsOpen closed path before after status = Unclosed (OfFile true RunsFound path) closed before after status
+RunsOpen closed path before after status =
+    Unclosed (OfFile (ConfigOf true) RunsFound path) closed before after status
+
+-- so they are run, and may be asked meanwhile
+abbrev pub ServesOpen : Option Stream → Text → Desk → Desk → ℕ → Type 0
+ServesOpen closed path before after status = Unclosed (OfFile ServedOf ServesFound path) closed before after status
 
 -- what a check is for
 abbrev pub purpose_of : Bool → Descriptors → Purpose
@@ -63,11 +69,12 @@ FollowsAs given Migrate list more flag before after status = (after.shelf ≡ be
     × OfList Migrates list before.devices after.devices status
 FollowsAs given Check path more flag before after status = ChecksAll (purpose_of flag given) path more before after
     status
-FollowsAs given Simulate path more flag before after status = OfFile false (SimulatesFound mode.Simulate) path before
-    after status
-FollowsAs given Play path more flag before after status = OfFile false (SimulatesFound mode.Play) path before after
-    status
+FollowsAs given Simulate path more flag before after status = OfFile (ConfigOf false)
+    (SimulatesFound mode.Simulate) path before after status
+FollowsAs given Play path more flag before after status = OfFile (ConfigOf false)
+    (SimulatesFound mode.Play) path before after status
 FollowsAs given Run path more flag before after status = RunsOpen given.closed path before after status
+FollowsAs given Serve path more flag before after status = ServesOpen given.closed path before after status
 FollowsAs given Version nothing more flag before after status = (after.shelf ≡ before.shelf)
     × TellsVersion before.devices after.devices status
 

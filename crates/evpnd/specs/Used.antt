@@ -1,12 +1,14 @@
 -- What a configuration is used for: a script on its edges, or a run of them.
-use Rattle.std.specs.Prelude.{ℕ, Result}
+use Rattle.std.specs.Prelude.{ℕ, length, string_bytes, Result}
 use Rattle.ev_config.specs.declared.whole.Config.{Config}
+use Rattle.ev_config.specs.declared.whole.Served.{Served}
 use Rattle.ev_config.specs.declared.config.ConfigRefusal.{ConfigRefusal}
 use Rattle.ev_report.specs.Ends.{Devices}
 use Rattle.evpnd.specs.Configured.{OfFound}
 use Rattle.ev_script.specs.declared.script.mode.Mode.{Mode}
 use Rattle.ev_script.specs.Simulation.{Simulates}
 use Rattle.ev_run.specs.RunEdges.{RunsConfig}
+use Rattle.ev_run.specs.Serving.{ServesEdges}
 
 -- a script is run on the edges of a configuration
 abbrev pub SimulatesEdges : Mode → Config → Devices → Devices → ℕ → Type 0
@@ -15,5 +17,12 @@ SimulatesEdges mode config before after status = Simulates mode config.edges.ite
 abbrev pub SimulatesFound : Mode → Result Config ConfigRefusal → Devices → Devices → ℕ → Type 0
 SimulatesFound mode = OfFound (SimulatesEdges mode)
 
+-- the edges of one are run, and may be asked at its socket meanwhile
+abbrev pub ServesConfig : Served → Devices → Devices → ℕ → Type 0
+ServesConfig served = ServesEdges (string_bytes served.control) (length served.config.edges.items)
+
 abbrev pub RunsFound : Result Config ConfigRefusal → Devices → Devices → ℕ → Type 0
 RunsFound = OfFound RunsConfig
+
+abbrev pub ServesFound : Result Served ConfigRefusal → Devices → Devices → ℕ → Type 0
+ServesFound = OfFound ServesConfig

@@ -2,6 +2,7 @@
 ghost use Rattle.std.specs.Prelude.{◌≡◌, ◌++◌, is_ok, if◌then◌else◌, option_map, MatchBool};
 ghost use Rattle.ether_wire.specs.Ends.{Source, IsOpen, Puts};
 ghost use Rattle.ev_report.specs.Ends.{devices};
+ghost use Rattle.ev_config.specs.Config.{ConfigOf};
 ghost use Rattle.evpnd.specs.Files.{Text, HasRoom};
 ghost use Rattle.ev_report.specs.Usage.{IsTold};
 ghost use Rattle.ev_run.specs.Needs.{needs_of, needs_text};
@@ -177,8 +178,8 @@ fn check<F: Files, W: Out, N: Out>(
     requires files { HasRoom (F.shelf files.old) }
     requires out { IsOpen (W.end out) }
     requires notes { IsOpen (N.end notes) }
-    ensures { (input : Source) → OfFile wanted.entry.purpose.is_run (Checks wanted.entry.purpose)
-        wanted.entry.path.now
+    ensures { (input : Source) → OfFile (ConfigOf wanted.entry.purpose.is_run)
+        (Checks wanted.entry.purpose) wanted.entry.path.now
         (desk (F.shelf files.old) (devices input (W.end out) (N.end notes)))
         (desk (F.shelf files.new) (devices input (W.end result.1) (N.end result.2))) result.0 }
 {

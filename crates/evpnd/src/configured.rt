@@ -1,15 +1,17 @@
 //! The configuration in a file, and what is told where there is none.
 ghost use Rattle.std.specs.Prelude.{◌≡◌, IfOk};
-ghost use Rattle.ether_wire.specs.Ends.{IsOpen, Puts};
+ghost use Rattle.ether_wire.specs.Ends.{End, Source, IsOpen, Puts};
+ghost use Rattle.ev_config.specs.Config.{ConfigOf, ServedOf};
 ghost use Rattle.ev_fabric.specs.Opening.{AreConfigs};
 ghost use Rattle.evpnd.specs.Files.{HasRoom};
 ghost use Rattle.ev_report.specs.Usage.{IsTold};
-ghost use Rattle.evpnd.specs.Configured.{config_text, TextGives, FileGives};
+ghost use Rattle.ev_report.specs.Ends.{devices};
+ghost use Rattle.evpnd.specs.Configured.{config_text, Refuses, TextGives, FileHas, FileGives};
 
 use crate::check::unread_status;
 use crate::files::{FileFault, Files, Named, put_unread};
 use ether_wire::{Device, Out};
-use ev_config::{Config, ConfigRefusal, config_of};
+use ev_config::{Config, ConfigRefusal, Served, config_of, served_config_of};
 use ev_report::{MEMORY, usage_status};
 use std::alloc::Global;
 
@@ -32,6 +34,19 @@ fn tell_key<N: Out>(key: &[u8], notes: &mut N) -> u8
     usage_status(put_key(notes, key))
 }
 
+/// Tells why there is no configuration, and answers the status.
+fn tell_refusal<N: Out>(refusal: &ConfigRefusal, notes: &mut N) -> u8
+    requires { IsOpen (N.end notes.old) }
+    ensures { (input : Source) → (out : End) → Refuses refusal.now
+        (devices input out (N.end notes.old)) (devices input out (N.end notes.new)) result }
+{
+    match refusal {
+        ConfigRefusal::NoMemory => MEMORY,
+        ConfigRefusal::Text => tell_key(b"text", notes),
+        ConfigRefusal::Key(key) => tell_key(key.as_bytes(), notes),
+    }
+}
+
 /// The configuration that a text spells, or the status where it spells none, which is told.
 fn configured_by<N: Out>(
     alloc: Global,
@@ -40,14 +55,46 @@ fn configured_by<N: Out>(
     notes: &mut N,
 ) -> Result<Config, u8>
     requires { IsOpen (N.end notes.old) }
-    ensures value { TextGives for_run text.now (N.end notes.old) (N.end notes.new) result }
+    ensures value { TextGives (ConfigOf for_run) text.now (N.end notes.old) (N.end notes.new)
+        result }
     ensures opens { IfOk result (λ c. AreConfigs c.edges.items) }
 {
     match config_of(alloc, text, for_run) {
         Ok(config) => Ok(config),
-        Err(ConfigRefusal::NoMemory) => Err(MEMORY),
-        Err(ConfigRefusal::Text) => Err(tell_key(b"text", notes)),
-        Err(ConfigRefusal::Key(key)) => Err(tell_key(key.as_bytes(), notes)),
+        Err(refusal) => Err(tell_refusal(&refusal, notes)),
+    }
+}
+
+/// So of edges that may be asked while they run.
+fn served_by<N: Out>(alloc: Global, text: &str, notes: &mut N) -> Result<Served, u8>
+    requires { IsOpen (N.end notes.old) }
+    ensures value { TextGives ServedOf text.now (N.end notes.old) (N.end notes.new) result }
+    ensures opens { IfOk result (λ s. AreConfigs s.config.edges.items) }
+{
+    match served_config_of(alloc, text) {
+        Ok(served) => Ok(served),
+        Err(refusal) => Err(tell_refusal(&refusal, notes)),
+    }
+}
+
+/// The text of the file at a path.
+///
+/// # Errors
+///
+/// The status, where memory is refused, or the file can't be read, which is told.
+fn text_at<F: Files, N: Out>(files: &mut F, path: &str, notes: &mut N) -> Result<String, u8>
+    requires files { HasRoom (F.shelf files.old) }
+    requires notes { IsOpen (N.end notes.old) }
+    ensures { FileHas path.now (F.shelf files.old) (F.shelf files.new)
+        (N.end notes.old) (N.end notes.new) result }
+{
+    match files.text_of(path) {
+        Ok(text) => Ok(text),
+        Err(FileFault::NoMemory) => Err(MEMORY),
+        Err(FileFault::Unread(why)) => {
+            let told = put_unread(notes, Named::Config, path.as_bytes(), why);
+            Err(unread_status(told))
+        }
     }
 }
 
@@ -66,16 +113,35 @@ pub(crate) fn configured<F: Files, N: Out>(
 ) -> Result<Config, u8>
     requires files { HasRoom (F.shelf files.old) }
     requires notes { IsOpen (N.end notes.old) }
-    ensures value { FileGives for_run path.now (F.shelf files.old) (F.shelf files.new)
+    ensures value { FileGives (ConfigOf for_run) path.now (F.shelf files.old) (F.shelf files.new)
         (N.end notes.old) (N.end notes.new) result }
     ensures opens { IfOk result (λ c. AreConfigs c.edges.items) }
 {
-    match files.text_of(path) {
+    match text_at(files, path, notes) {
         Ok(text) => configured_by(alloc, text.as_str(), for_run, notes),
-        Err(FileFault::NoMemory) => Err(MEMORY),
-        Err(FileFault::Unread(why)) => {
-            let told = put_unread(notes, Named::Config, path.as_bytes(), why);
-            Err(unread_status(told))
-        }
+        Err(status) => Err(status),
+    }
+}
+
+/// So of edges that may be asked while they run.
+///
+/// # Errors
+///
+/// As `configured`.
+pub(crate) fn served<F: Files, N: Out>(
+    alloc: Global,
+    files: &mut F,
+    path: &str,
+    notes: &mut N,
+) -> Result<Served, u8>
+    requires files { HasRoom (F.shelf files.old) }
+    requires notes { IsOpen (N.end notes.old) }
+    ensures value { FileGives ServedOf path.now (F.shelf files.old) (F.shelf files.new)
+        (N.end notes.old) (N.end notes.new) result }
+    ensures opens { IfOk result (λ s. AreConfigs s.config.edges.items) }
+{
+    match text_at(files, path, notes) {
+        Ok(text) => served_by(alloc, text.as_str(), notes),
+        Err(status) => Err(status),
     }
 }

@@ -15,7 +15,7 @@ pub(crate) struct Descriptors {
 /// What the system gives.
 #[derive(Drop)]
 pub(crate) struct Host<'a, H> {
-    /// Threads, sockets and the clock, for `evpnd run` alone.
+    /// Threads, sockets and the clock, for `evpnd run` and `evpnd serve` alone.
     pub(crate) rt: &'a H,
     /// Memory.
     pub(crate) alloc: Global,

@@ -8,6 +8,7 @@ mod files;
 mod host;
 mod program;
 mod run_file;
+mod serve_file;
 mod simulate;
 mod streams;
 mod version;

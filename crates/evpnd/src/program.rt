@@ -9,12 +9,13 @@ ghost use Rattle.evpnd.specs.Checks.{desk};
 ghost use Rattle.evpnd.specs.Scripts.{ChecksAll};
 ghost use Rattle.evpnd.specs.Streams.{Unclosed, IsClosed};
 ghost use Rattle.ev_report.specs.Failures.{failures_of};
-ghost use Rattle.evpnd.specs.Program.{world, purpose_of, TellsFault, not_text, RunsOpen, FollowsAs, Follows, FollowsTelling, RunsWords, RunsProgram};
+ghost use Rattle.evpnd.specs.Program.{world, purpose_of, TellsFault, not_text, RunsOpen, ServesOpen, FollowsAs, Follows, FollowsTelling, RunsWords, RunsProgram};
 
 use crate::check::{Purpose, Wanted, check_all};
 use crate::files::Files;
 use crate::host::{Descriptors, Host};
 use crate::run_file::run_file;
+use crate::serve_file::serve_file;
 use crate::simulate::simulate;
 use crate::streams::tell_closed;
 use crate::version::version;
@@ -26,6 +27,7 @@ use ev_report::{
 use ev_script::Mode;
 use ev_words::{ArgsError, Invocation, Parser, Subcommand, invocation_of};
 use std::alloc::Global;
+use std::fs::Files as SocketFiles;
 use std::net::Net;
 use std::sync::Wait;
 use std::thread::Threads;
@@ -91,7 +93,13 @@ fn wanted_of<'a>(descriptors: Descriptors, invocation: &Invocation<'a>) -> Wante
 
 /// Runs the edges that the file at a path configures, where no standard stream was closed: a socket
 /// would have its number.
-fn run_open<H: Threads + Wait + Net + Clock + Sync, F: Files, R: In, W: Out, N: Out + Send>(
+fn run_open<
+    H: Threads + Wait + Net + SocketFiles + Clock + Sync,
+    F: Files,
+    R: In,
+    W: Out,
+    N: Out + Send,
+>(
     host: &Host<'_, H>,
     files: &mut F,
     path: &str,
@@ -108,8 +116,38 @@ fn run_open<H: Threads + Wait + Net + Clock + Sync, F: Files, R: In, W: Out, N: 
     }
 }
 
+/// So runs edges that may be asked meanwhile.
+fn serve_open<
+    H: Threads + Wait + Net + SocketFiles + Clock + Sync,
+    F: Files,
+    R: In,
+    W: Out,
+    N: Out + Send,
+>(
+    host: &Host<'_, H>,
+    files: &mut F,
+    path: &str,
+    devices: Devices<R, W, N>,
+) -> (u8, Devices<R, W, N>)
+    requires files { HasRoom (F.shelf files.old) }
+    requires devices { AreOpen devices }
+    ensures { ServesOpen host.now.descriptors.closed path.now (desk (F.shelf files.old) devices)
+        (desk (F.shelf files.new) result.1) result.0 }
+{
+    match host.descriptors.closed {
+        None => serve_file(host.rt, host.alloc, files, path, devices),
+        Some(stream) => tell_closed(stream, devices),
+    }
+}
+
 /// Does what the words say.
-fn follow<H: Threads + Wait + Net + Clock + Sync, F: Files, R: In, W: Out, N: Out + Send>(
+fn follow<
+    H: Threads + Wait + Net + SocketFiles + Clock + Sync,
+    F: Files,
+    R: In,
+    W: Out,
+    N: Out + Send,
+>(
     host: &Host<'_, H>,
     invocation: Invocation<'_>,
     files: &mut F,
@@ -136,12 +174,19 @@ fn follow<H: Threads + Wait + Net + Clock + Sync, F: Files, R: In, W: Out, N: Ou
         Subcommand::Simulate => simulate(alloc, Mode::Simulate, files, invocation.value, devices),
         Subcommand::Play => simulate(alloc, Mode::Play, files, invocation.value, devices),
         Subcommand::Run => run_open(host, files, invocation.value, devices),
+        Subcommand::Serve => serve_open(host, files, invocation.value, devices),
         Subcommand::Version => version(devices),
     }
 }
 
 /// Does what the words say, and tells whether reading or writing failed.
-fn follow_telling<H: Threads + Wait + Net + Clock + Sync, F: Files, R: In, W: Out, N: Out + Send>(
+fn follow_telling<
+    H: Threads + Wait + Net + SocketFiles + Clock + Sync,
+    F: Files,
+    R: In,
+    W: Out,
+    N: Out + Send,
+>(
     host: &Host<'_, H>,
     invocation: Invocation<'_>,
     files: &mut F,
@@ -159,7 +204,7 @@ fn follow_telling<H: Threads + Wait + Net + Clock + Sync, F: Files, R: In, W: Ou
 
 /// A run over these words.
 fn run_words<
-    H: Threads + Wait + Net + Clock + Sync,
+    H: Threads + Wait + Net + SocketFiles + Clock + Sync,
     P: Parser,
     F: Files,
     R: In,
@@ -197,7 +242,7 @@ fn run_words<
 /// where the words aren't the program's or ask for help, or a configuration is faulty, 1 where the
 /// input is broken, else 0. Where a standard stream is closed edges don't begin to run: 4.
 pub(crate) fn run<
-    H: Threads + Wait + Net + Clock + Sync,
+    H: Threads + Wait + Net + SocketFiles + Clock + Sync,
     P: Parser,
     F: Files,
     R: In,

@@ -1,5 +1,6 @@
 //! `evpnd run`: the edges of a configuration, over sockets.
 ghost use Rattle.std.specs.Prelude.{true};
+ghost use Rattle.ev_config.specs.Config.{ConfigOf};
 ghost use Rattle.evpnd.specs.Files.{HasRoom};
 ghost use Rattle.ev_report.specs.Ends.{AreOpen};
 ghost use Rattle.evpnd.specs.Checks.{desk, OfFile};
@@ -32,8 +33,8 @@ pub(crate) fn run_file<
 ) -> (u8, Devices<R, W, N>)
     requires files { HasRoom (F.shelf files.old) }
     requires devices { AreOpen devices }
-    ensures { OfFile true RunsFound path.now (desk (F.shelf files.old) devices)
-        (desk (F.shelf files.new) result.1) result.0 }
+    ensures { OfFile (ConfigOf true) RunsFound path.now
+        (desk (F.shelf files.old) devices) (desk (F.shelf files.new) result.1) result.0 }
 {
     let mut devices = devices;
     match configured(alloc, files, path, true, &mut devices.notes) {

@@ -1,6 +1,7 @@
 //! `evpnd simulate` and `evpnd play`: a script on the edges of a configuration.
 ghost use Rattle.std.specs.Prelude.{false};
 ghost use Rattle.ev_report.specs.Ends.{AreOpen};
+ghost use Rattle.ev_config.specs.Config.{ConfigOf};
 ghost use Rattle.evpnd.specs.Files.{HasRoom};
 ghost use Rattle.evpnd.specs.Checks.{desk, OfFile};
 ghost use Rattle.evpnd.specs.Used.{SimulatesFound};
@@ -22,8 +23,8 @@ pub(crate) fn simulate<F: Files, R: In, W: Out, N: Out>(
 ) -> (u8, Devices<R, W, N>)
     requires files { HasRoom (F.shelf files.old) }
     requires devices { AreOpen devices }
-    ensures { OfFile false (SimulatesFound mode) path.now (desk (F.shelf files.old) devices)
-        (desk (F.shelf files.new) result.1) result.0 }
+    ensures { OfFile (ConfigOf false) (SimulatesFound mode) path.now
+        (desk (F.shelf files.old) devices) (desk (F.shelf files.new) result.1) result.0 }
 {
     let mut devices = devices;
     match configured(alloc, files, path, false, &mut devices.notes) {

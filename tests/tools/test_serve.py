@@ -1,0 +1,389 @@
+"""Edges that run and are asked meanwhile (`evpnd serve`): questions and steps over the control socket, clients of every kind."""
+
+import contextlib
+import os
+import re
+import select
+import socket
+import stat
+import subprocess
+import sys
+import tempfile
+import time
+import unittest
+
+from test_audit import needs_program
+from test_records import TOP
+from test_run import BROADCAST, FLOODS, HOST, VNI, Cable, Running, edge, frame, learnt, station
+
+# addresses of these tests' own, beside those of test_run.py
+ONE, TWO = HOST + "1", HOST + "2"
+SEATS = 8
+WRONG = b"error: the first line isn't 'console'\n"
+MAC = "02:00:00:00:00:01"
+
+
+class Client:
+    """A connection to a control socket."""
+
+    def __init__(self, path: str, seconds: float = 10) -> None:
+        self.socket = socket.socket(socket.AF_UNIX, socket.SOCK_STREAM)
+        self.socket.settimeout(seconds)
+        try:
+            self.socket.connect(path)
+        except OSError:
+            self.socket.close()
+            raise
+
+    def send(self, octets: bytes) -> "Client":
+        """Sends these octets, as far as somebody is there to take them."""
+        with contextlib.suppress(BrokenPipeError):
+            self.socket.sendall(octets)
+        return self
+
+    def rest(self) -> bytes:
+        """What comes until the connection ends."""
+        came = b""
+        while True:
+            try:
+                octets = self.socket.recv(65535)
+            except ConnectionResetError:
+                return came
+            if not octets:
+                return came
+            came += octets
+
+    def ask(self, line: str) -> str:
+        """The answer to a line, without the empty line behind it."""
+        self.send(line.encode() + b"\n")
+        came = b""
+        while not (came == b"\n" or came.endswith(b"\n\n")):
+            octets = self.socket.recv(65535)
+            if not octets:
+                raise AssertionError(f"it ended behind {came!r}")
+            came += octets
+        return came[:-1].decode()
+
+    def close(self) -> None:
+        """Ends the connection."""
+        self.socket.close()
+
+
+class Served(unittest.TestCase):
+    """Two edges, one cable each, and a control socket."""
+
+    def setUp(self) -> None:
+        folder = tempfile.TemporaryDirectory()
+        self.addCleanup(folder.cleanup)
+        self.path = os.path.join(folder.name, "control")
+        self.one, self.two = Cable(), Cable()
+        self.addCleanup(self.one.here.close)
+        self.addCleanup(self.two.here.close)
+
+    def text(self) -> str:
+        """The configuration."""
+        return f'control = "{self.path}"\n' + edge(ONE, 1, self.one) + edge(TWO, 2, self.two)
+
+    def started(self) -> Running:
+        """A run of it."""
+        running = Running(self.text(), subcommand="serve")
+        self.addCleanup(running.kill)
+        return running
+
+    def begin(self) -> None:
+        """Runs it, and waits until both edges have heard of each other."""
+        self.running = self.started()
+        for _ in range(100):
+            if self.is_ready():
+                return
+            time.sleep(0.05)
+        self.fail(self.running.end())
+
+    def is_ready(self) -> bool:
+        """Whether somebody listens at the path, and each edge reports what both said at first."""
+        try:
+            client = Client(self.path)
+        except OSError:
+            return False
+        client.send(b"console\n")
+        told = [client.ask(f"{number} report") for number in (1, 2)]
+        client.close()
+        return told == [FLOODS, FLOODS]
+
+    def client(self) -> Client:
+        """A client more, that says nothing yet."""
+        client = Client(self.path)
+        self.addCleanup(client.close)
+        return client
+
+    def console(self) -> Client:
+        """A client that asks."""
+        return self.client().send(b"console\n")
+
+    def seated(self) -> Client:
+        """A client that asks and was answered; again where those that have just gone still have their seats."""
+        for _ in range(100):
+            client = self.console()
+            try:
+                client.ask("help")
+                return client
+            except (AssertionError, OSError):
+                time.sleep(0.05)
+        raise AssertionError("busy for five seconds")
+
+    def hears_station(self) -> None:
+        """Station 1 speaks at edge 1, and is heard at edge 2's cable."""
+        octets = frame(BROADCAST, station(1), b"who is there")
+        for _ in range(50):
+            self.one.send(octets)
+            if self.two.receive(0.2) == octets:
+                break
+        else:
+            self.fail("no frame came")
+        while self.two.receive(0.1):
+            pass
+
+    def ends_well(self, report: str = FLOODS, seconds: float = 2.5) -> None:
+        """Its input ends, and the run with it within this time, with this report of both edges. The clock of an edge looks once a second."""
+        begun = time.monotonic()
+        status, out, notes = self.running.end()
+        self.assertLess(time.monotonic() - begun, seconds)
+        self.assertEqual((status, out, notes), (0, f"edge 1\n{report}edge 2\n{report}", ""))
+        self.assertFalse(os.path.lexists(self.path))
+
+
+@needs_program
+class Asked(Served):
+    """What is asked of edges that run."""
+
+    def setUp(self) -> None:
+        super().setUp()
+        self.begin()
+
+    def test_edges(self) -> None:
+        """Each edge with its ports and networks, as docs/script.md has it."""
+        lines = "".join(f"{n} edge {address} ports 1:{VNI} networks {VNI}\n" for n, address in ((1, ONE), (2, TWO)))
+        self.assertEqual(self.console().ask("edges"), lines)
+        self.ends_well()
+
+    def test_report(self) -> None:
+        """That of an edge's table, before and after a station was heard."""
+        console = self.console()
+        self.assertEqual(console.ask("2 report"), FLOODS)
+        self.hears_station()
+        for _ in range(50):
+            told = console.ask("2 report")
+            if told != FLOODS:
+                break
+            time.sleep(0.05)
+        self.assertEqual(told, FLOODS + learnt(1, ONE, 2))
+        self.ends_well(FLOODS + learnt(1, ONE, 2))
+
+    def test_port(self) -> None:
+        """A port that passes frames at once, and one that there isn't."""
+        console = self.console()
+        self.assertEqual(console.ask("1 port 1"), "1 port 1 designated forwarding passes\n")
+        self.assertEqual(console.ask("1 port 2"), "1 refused edge 16\n")
+        self.assertEqual(console.ask("3 port 1"), "3 refused fabric 18\n")
+        self.ends_well()
+
+    def test_pin(self) -> None:
+        """A station that is pinned by one client is static to another one, and at the end."""
+        self.assertNotIn("refused", self.console().ask(f"1 pin {VNI} {MAC} 1"))
+        pinned = FLOODS + f"mac {VNI} {MAC} {ONE} 2 static 0\nowner {VNI} {MAC} {ONE}\n"
+        self.assertEqual(self.console().ask("1 report"), pinned)
+        self.assertIn("refused edge 16", self.console().ask(f"1 pin {VNI} {MAC} 2"))
+        self.ends_well(pinned)
+
+    def test_bad_line(self) -> None:
+        """It is told, and the next one is answered."""
+        console = self.console()
+        self.assertNotEqual(console.ask("1 dance"), "")
+        self.assertEqual(console.ask("1 report"), FLOODS)
+        self.ends_well()
+
+    def test_evpndctl(self) -> None:
+        """The tool, over the socket."""
+        for words, status, out in ((["1", "report"], 0, FLOODS), (["1", "port", "9"], 1, "1 refused edge 16\n")):
+            tool = [sys.executable, os.path.join(TOP, "tools", "evpndctl"), "--control", self.path, *words]
+            done = subprocess.run(tool, capture_output=True, encoding="utf-8", timeout=20, check=False)
+            self.assertEqual((done.returncode, done.stdout, done.stderr), (status, out, ""))
+        self.ends_well()
+
+
+@needs_program
+class Clients(Served):
+    """Clients of every kind, which disturb neither each other nor the edges."""
+
+    def setUp(self) -> None:
+        super().setUp()
+        self.begin()
+
+    def test_wrong_first_line(self) -> None:
+        """Anything but `console` gets a word of what is wrong, and the connection ends."""
+        for octets in (b"records\n", b"edges\n", b"\n", b"console \n", b"CONSOLE\n", b"console\r\n", b"\xff\x00" * 500, b"consoles and more\n"):
+            self.assertEqual(self.client().send(octets).rest(), WRONG, octets)
+        self.ends_well()
+
+    def test_ninth_is_busy(self) -> None:
+        """Eight are served; the ninth is told so, and another one is served once one of the eight has gone."""
+        held = [self.seated() for _ in range(SEATS)]
+        self.assertEqual(self.client().rest(), b"busy\n")
+        self.assertEqual(self.console().rest(), b"busy\n")
+        held[3].close()
+        self.assertEqual(self.seated().ask("1 report"), FLOODS)
+        for client in held[:3] + held[4:]:
+            self.assertEqual(client.ask("1 report"), FLOODS)
+        self.ends_well()
+
+    def test_end_with_clients(self) -> None:
+        """The run ends within its second whatever clients do: eight that say nothing, or ask, or broke off in mid-line."""
+        for octets in (b"", b"cons", b"console\n", b"console\n1 rep", b"console\n1 report\n" * 2, b"console\n\xff\xff\n", b"garbage", b""):
+            self.client().send(octets)
+        self.ends_well()
+
+    def test_end_with_clients_that_do_not_read(self) -> None:
+        """They ask until there is no room for more, read nothing, and the run ends all the same."""
+        for _ in range(SEATS):
+            self.flood(self.console())
+        self.ends_well()
+
+    @staticmethod
+    def flood(client: Client) -> None:
+        """Asks until there is no room for more."""
+        client.socket.settimeout(0.5)
+        try:
+            while True:
+                client.send(b"1 report\n" * 1000)
+        except socket.timeout:
+            pass
+
+    def test_client_that_does_not_read(self) -> None:
+        """It waits alone: another one is answered, and frames go on. After ten seconds it is cut off."""
+        begun = time.monotonic()
+        deaf = self.console()
+        self.flood(deaf)
+        self.assertEqual(self.console().ask("1 report"), FLOODS)
+        self.hears_station()
+        poll = select.poll()
+        poll.register(deaf.socket, 0)  # for a connection that has ended alone
+        self.assertNotEqual(poll.poll(20_000), [])
+        self.assertGreater(time.monotonic() - begun, 9)
+        self.assertEqual(self.console().ask("1 port 1"), "1 port 1 designated forwarding passes\n")
+        self.ends_well(FLOODS + learnt(1, ONE, 2))
+
+    def test_silent_client_is_cut_off(self) -> None:
+        """One that says nothing keeps its seat for ten seconds."""
+        begun = time.monotonic()
+        silent = Client(self.path, 20)
+        self.addCleanup(silent.close)
+        self.assertEqual(silent.rest(), b"")
+        self.assertGreater(time.monotonic() - begun, 9)
+        self.ends_well()
+
+    def test_many_clients(self) -> None:
+        """3,000 one after the other, some of which break off: neither memory nor threads grow with them."""
+        sizes, threads = [], []
+        for turn in range(3000):
+            client = Client(self.path)
+            if turn % 3 == 0:
+                client.send(b"garbage\n").rest()
+            elif turn % 3 == 1:
+                client.send(b"console\nedges\n1 rep")
+            client.close()
+            if turn % 1000 == 999:
+                last = self.seated()
+                self.assertEqual(last.ask("1 report"), FLOODS)
+                last.close()
+                time.sleep(0.5)
+                sizes.append(self.running.resident())
+                threads.append(len(os.listdir(f"/proc/{self.running.program.pid}/task")))
+        self.assertLess(sizes[-1], sizes[0] + 1024, f"kilobytes after each 1,000: {sizes}")
+        self.assertEqual(threads, threads[:1] * 3)
+        self.ends_well()
+
+
+@needs_program
+class Socket(Served):
+    """The socket's file."""
+
+    def refused(self, why: str) -> None:
+        """It doesn't begin, for this cause."""
+        self.assertEqual(self.started().end(), (4, "", f"can't listen at {self.path}: {why}\n"))
+
+    def test_file_is_its_users_alone(self) -> None:
+        """Its mode is 0600, whatever the mask of the one who starts it."""
+        before = os.umask(0)
+        try:
+            self.begin()
+        finally:
+            os.umask(before)
+        mode = os.lstat(self.path).st_mode
+        self.assertTrue(stat.S_ISSOCK(mode))
+        self.assertEqual(stat.S_IMODE(mode), 0o600)
+        self.ends_well()
+
+    def test_socket_of_a_killed_run(self) -> None:
+        """Nobody listens there any more: it is taken over."""
+        self.begin()
+        self.running.program.kill()
+        self.running.program.communicate()
+        self.assertTrue(os.path.lexists(self.path))
+        self.begin()
+        self.assertEqual(self.console().ask("1 report"), FLOODS)
+        self.ends_well()
+
+    def test_somebody_listens(self) -> None:
+        """Another run's socket stays, and is asked as before."""
+        self.begin()
+        self.refused("it is in use")
+        self.assertEqual(self.console().ask("1 report"), FLOODS)
+        self.ends_well()
+
+    def test_another_file(self) -> None:
+        """It stays as it is."""
+        with open(self.path, "w", encoding="ascii") as it:
+            it.write("kept\n")
+        self.refused("it is a file that is no socket")
+        with open(self.path, encoding="ascii") as it:
+            self.assertEqual(it.read(), "kept\n")
+
+    def test_link_to_a_file(self) -> None:
+        os.symlink("/dev/null", self.path)
+        self.refused("it is a file that is no socket")
+
+    def test_no_folder(self) -> None:
+        self.path = os.path.join(self.path, "control")
+        self.refused("there is no such folder")
+
+    def test_longest_path(self) -> None:
+        """107 octets are one of a socket, 108 aren't: the configuration is wrong then."""
+        folder = os.path.dirname(self.path)
+        self.path = os.path.join(folder, "x" * (107 - len(folder) - 1))
+        self.begin()
+        self.ends_well()
+        self.path += "x"
+        self.assertEqual(self.started().end(), (2, "", "config control\n"))
+
+    def test_file_that_was_moved_away(self) -> None:
+        """What lies at the path at the end and isn't the socket stays, and the run ends as ever."""
+        self.begin()
+        os.unlink(self.path)
+        with open(self.path, "w", encoding="ascii"):
+            pass
+        status, _, notes = self.running.end()
+        self.assertEqual((status, notes), (0, ""))
+        self.assertTrue(os.path.isfile(self.path))
+
+    def test_edges_that_do_not_begin(self) -> None:
+        """Where an address can't be bound no socket stays behind."""
+        with socket.socket(socket.AF_INET, socket.SOCK_DGRAM) as other:
+            other.bind((ONE, self.one.port))
+            status, out, notes = self.started().end()
+        self.assertEqual((status, out), (4, ""))
+        self.assertRegex(notes, rf"^can't bind {re.escape(ONE)}:\d+: it is in use\n$")
+        self.assertFalse(os.path.lexists(self.path))
+
+
+if __name__ == "__main__":
+    unittest.main()

@@ -1,0 +1,25 @@
+# Completion of evpndctl for bash: `source tools/evpndctl.bash`. The words are those of `evpndctl help`, the edges those of
+# `evpndctl edges`, asked of the socket that the line names; where nobody answers there are none.
+
+_evpndctl() {
+  local word=${COMP_WORDS[COMP_CWORD]} before=${COMP_WORDS[COMP_CWORD-1]} at=1
+  COMPREPLY=()
+  if [ "$before" = --control ]; then
+    mapfile -t COMPREPLY < <(compgen -f -- "$word")
+    return
+  fi
+  local asks=("${COMP_WORDS[0]}")
+  if [ "${COMP_WORDS[1]}" = --control ] && [ "$COMP_CWORD" -gt 2 ]; then
+    asks+=(--control "${COMP_WORDS[2]}")
+    at=3
+  fi
+  local place=$((COMP_CWORD - at)) words=
+  case $place in
+    0) words=$({ "${asks[@]}" edges; "${asks[@]}" help; } 2> /dev/null < /dev/null | awk '$1 != "E" {print $1}') ;;
+    1) words=$("${asks[@]}" help 2> /dev/null < /dev/null | awk '$1 == "E" {print $2}') ;;
+  esac
+  [ "$at $place" = "1 0" ] && words+=" --control"
+  mapfile -t COMPREPLY < <(compgen -W "$words" -- "$word" | sort -u)
+}
+
+complete -F _evpndctl evpndctl
