@@ -7,8 +7,8 @@ use Rattle.evpnd.specs.declared.files.Unread.{Unread}
 use Rattle.evpnd.specs.declared.files.Named.TheVariants as named
 use Rattle.evpnd.specs.Files.{Text, Shelf, IsTextOf, unread_text}
 use Rattle.ev_report.specs.Ends.{Devices, devices, Holds}
-use Rattle.evpnd.specs.Checks.{Desk, desk, Gives, Uses, OfFile}
-use Rattle.evpnd.specs.Configured.{OfFound, Never, TextGives, IsTextless, FileGives}
+use Rattle.evpnd.specs.Checks.{Desk, desk, IsTextless, Gives, Uses, OfFile}
+use Rattle.evpnd.specs.Configured.{OfFound, Never, TextGives, FileGives}
 
 pub holds_put : (a b : End) (r : Result (Unit {0}) Device) (text : Text) → Puts a b text r → Holds a b text
 holds_put a b (Ok x) text h = record { written = λ _. h; failures = inl (ap (λ (y : End). y.failures) h) }
@@ -28,26 +28,21 @@ unreadable path s s' input out a b r why status more put is =
     let noted = holds_put a b r (unread_text named.Config path why) put in
     inr (record { failed = more; why = why; input = refl; out = refl; noted = noted; status_is = is })
 
--- then nothing is found in it
-pub of_textless : {X : Type 0} (gives : Gives X) (uses : Uses X) (path : Text) (b a : Desk) (status : ℕ)
-    → IsTextless path b a status → OfFile gives uses path b a status
-of_textless gives uses path b a status (inl h) = inl h
-of_textless gives uses path b a status (inr h) = inr (inl h)
-
 -- the file has this text
-pub of_read : {X : Type 0} (gives : Gives X) (uses : Uses X) (path text : Text) (s s' : Shelf) (d d' : Devices) (status : ℕ)
+pub of_read : {X : Type 0} (gives : Gives X) (uses : Uses X) (path text : Text) (s s' : Shelf) (d d' : Devices)
+    (status : ℕ)
     → (s' ≡ s) × IsTextOf s path text
     → (found : Result X ConfigRefusal) × gives text found × uses found d d' status
     → OfFile gives uses path (desk s d) (desk s' d') status
 of_read gives uses path text s s' d d' status from used =
-    inr (inr (record {
+    inr (record {
       shelf_kept = from.0;
       text = text;
       read = from.1;
       found = used.0;
       is_found = used.1;
       used = used.2;
-    }))
+    })
 
 -- ---- a configuration that is used
 
@@ -63,20 +58,19 @@ found_never uses (Err refused) d d' status h = h
 pub of_never : {X : Type 0} (uses : UsesConfig X) (gives : Gives X) (path : Text) (b a : Desk) (status : ℕ)
     → OfFile gives (OfFound Never) path b a status → OfFile gives (OfFound uses) path b a status
 of_never uses gives path b a status (inl h) = inl h
-of_never uses gives path b a status (inr (inl h)) = inr (inl h)
-of_never uses gives path b a status (inr (inr r)) =
-    inr (inr (record {
+of_never uses gives path b a status (inr r) =
+    inr (record {
       shelf_kept = r.shelf_kept;
       text = r.text;
       read = r.read;
       found = r.found;
       is_found = r.is_found;
       used = found_never uses r.found b.devices a.devices status r.used;
-    }))
+    })
 
 -- the configuration is used
-pub of_used : {X : Type 0} (uses : UsesConfig X) (gives : Gives X) (path : Text) (s s' : Shelf) (before mid after : Devices)
-    (config : X) (status : ℕ)
+pub of_used : {X : Type 0} (uses : UsesConfig X) (gives : Gives X) (path : Text) (s s' : Shelf)
+    (before mid after : Devices) (config : X) (status : ℕ)
     → FileGives gives path s s' before.notes mid.notes (Ok config) → mid ≡ record before { notes = mid.notes }
     → uses config mid after status
     → OfFile gives (OfFound uses) path (desk s before) (desk s' after) status
@@ -99,11 +93,3 @@ file_gives {X = X} gives path text s s' notes mid notes' (Err status) from given
       subst (λ (e : End). OfFound {X = X} Never given.0 (devices input out e) (devices input out notes')
           status) from.1 (given.2 input out),
     )
-
--- there is no text of the file, so no configuration
-pub file_gives_none : {X : Type 0} (gives : Gives X) (path : Text) (s s' : Shelf) (notes notes' : End) (status : ℕ)
-    → ((input : Source) (out : End) → IsTextless path (desk s (devices input out notes))
-    (desk s' (devices input out notes')) status) → FileGives gives path s s' notes notes' (Err status)
-file_gives_none {X = X} gives path s s' notes notes' status none = λ input out.
-    of_textless gives (OfFound {X = X} Never) path (desk s (devices input out notes)) (desk s' (devices input out notes'))
-    status (none input out)

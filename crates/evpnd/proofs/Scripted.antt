@@ -138,11 +138,11 @@ pub ready : (purpose : Purpose) (path : Text) (s s' : Shelf) (input : Source) (o
     → OfFile (ConfigOf purpose.is_run) (Checks purpose) path (desk s (devices input out notes))
     (desk s' (devices input out' notes')) status
     → HasRoom s → IsOpen out → IsOpen notes → status ≡ 0 → IsReady s' out' notes'
-ready purpose path s s' input out out' notes notes' status (inl h) room o n done =
+ready purpose path s s' input out out' notes notes' status (inl (inl h)) room o n done =
     let three = h.status_is in absurd (omega (arith, three, done))
-ready purpose path s s' input out out' notes notes' status (inr (inl h)) room o n done =
+ready purpose path s s' input out out' notes notes' status (inl (inr h)) room o n done =
     let four = h.status_is in absurd (omega (arith, four, done))
-ready purpose path s s' input out out' notes notes' status (inr (inr r)) room o n done =
+ready purpose path s s' input out out' notes notes' status (inr r) room o n done =
     checked_ready purpose r.found s' input out out' notes notes' status r.used done
     (subst (λ (x : Shelf). HasRoom x) (sym r.shelf_kept) room) o n
 

@@ -1,21 +1,19 @@
 -- What becomes of a configuration that is wanted, to be used.
-use Rattle.std.specs.Prelude.{◌≡◌, ℕ, ◌⊎◌, ◌++◌, codes, string_bytes, String, Result, Ok, Err}
-use Rattle.std.specs.declared.alloc.Global.{Global}
+use Rattle.std.specs.Prelude.{◌≡◌, ℕ, ◌++◌, codes, string_bytes, Result, Ok, Err}
 use Rattle.ether_wire.specs.Ends.{End, Source}
 use Rattle.ev_config.specs.declared.config.ConfigRefusal.{ConfigRefusal}
 use Rattle.ev_config.specs.declared.config.ConfigRefusal.TheVariants as refusal
 use Rattle.ev_report.specs.Ends.{Devices, devices}
 use Rattle.evpnd.specs.Files.{Text, Shelf, IsTextOf}
-use Rattle.evpnd.specs.declared.files.Named.TheVariants as named
-use Rattle.evpnd.specs.Checks.{Desk, desk, IsRefusedText, IsUnread, Gives, Uses, OfFile}
+use Rattle.evpnd.specs.Checks.{desk, Gives, Uses, OfFile}
 use Rattle.ev_report.specs.Usage.{TellsUsage}
 
 -- `config KEY`
 abbrev pub config_text : Text → Text
 config_text key = codes "config " ++ key ++ codes "\n"
 
--- There is no configuration: its first faulty key is told, or that its text is no document (2); or there was no memory to
--- read it (3), and no device was called.
+-- There is no configuration: its first faulty key is told, or that its text is no document (2); or there was no memory
+-- to read it (3), and no device was called.
 abbrev pub Refuses : ConfigRefusal → Devices → Devices → ℕ → Type 0
 Refuses (refusal.Key key) before after status = TellsUsage (config_text (string_bytes key)) before after status
 Refuses refusal.Text before after status = TellsUsage (config_text (codes "text")) before after status
@@ -37,19 +35,6 @@ TextGives {X = X} gives text notes notes' (Err status) =
     (found : Result X ConfigRefusal) × gives text found
     × ((input : Source) → (out : End) → OfFound Never found (devices input out notes) (devices input out notes')
     status)
-
--- there is no text of the file at a path: there was no memory for it, or it can't be read, which is told
-abbrev pub IsTextless : Text → Desk → Desk → ℕ → Type 0
-IsTextless path before after status = IsRefusedText before after status
-    ⊎ IsUnread named.Config path before after status
-
--- The file at a path has this text; or there is none, whatever the input and the output have: then the status.
-abbrev pub FileHas : Text → Shelf → Shelf → End → End → Result (String Global) ℕ → Type 0
-FileHas path shelf shelf' notes notes' (Ok text) =
-    (shelf' ≡ shelf) × (notes' ≡ notes) × IsTextOf shelf path (string_bytes text)
-FileHas path shelf shelf' notes notes' (Err status) =
-    (input : Source) → (out : End) → IsTextless path (desk shelf (devices input out notes))
-    (desk shelf' (devices input out notes')) status
 
 -- The file at a path has a text that gives this configuration; or this status, and what is found is told.
 abbrev pub FileGives : {X : Type 0} → Gives X → Text → Shelf → Shelf → End → End → Result X ℕ → Type 0

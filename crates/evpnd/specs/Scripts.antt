@@ -49,7 +49,8 @@ Behind first path before after status =
 
 -- A configuration is checked for a purpose, and where it is right the script too, if one was given.
 abbrev pub ChecksAll : Purpose → Text → Option Text → Desk → Desk → ℕ → Type 0
-ChecksAll purpose path None before after status = OfFile (ConfigOf purpose.is_run) (Checks purpose) path before after status
+ChecksAll purpose path None before after status =
+    OfFile (ConfigOf purpose.is_run) (Checks purpose) path before after status
 ChecksAll purpose path (Some script) before after status =
     (mid : Desk) × (first : ℕ) × OfFile (ConfigOf purpose.is_run) (Checks purpose) path before mid first
     × Behind first script mid after status

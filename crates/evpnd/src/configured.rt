@@ -1,12 +1,13 @@
 //! The configuration in a file, and what is told where there is none.
-ghost use Rattle.std.specs.Prelude.{◌≡◌, IfOk};
+ghost use Rattle.std.specs.Prelude.{◌≡◌, IfOk, IfErr, string_bytes};
 ghost use Rattle.ether_wire.specs.Ends.{End, Source, IsOpen, Puts};
 ghost use Rattle.ev_config.specs.Config.{ConfigOf, ServedOf};
 ghost use Rattle.ev_fabric.specs.Opening.{AreConfigs};
-ghost use Rattle.evpnd.specs.Files.{HasRoom};
+ghost use Rattle.evpnd.specs.Files.{HasRoom, IsTextOf};
+ghost use Rattle.evpnd.specs.Checks.{desk, IsTextless};
 ghost use Rattle.ev_report.specs.Usage.{IsTold};
 ghost use Rattle.ev_report.specs.Ends.{devices};
-ghost use Rattle.evpnd.specs.Configured.{config_text, Refuses, TextGives, FileHas, FileGives};
+ghost use Rattle.evpnd.specs.Configured.{config_text, Refuses, TextGives, FileGives};
 
 use crate::check::unread_status;
 use crate::files::{FileFault, Files, Named, put_unread};
@@ -85,8 +86,12 @@ fn served_by<N: Out>(alloc: Global, text: &str, notes: &mut N) -> Result<Served,
 fn text_at<F: Files, N: Out>(files: &mut F, path: &str, notes: &mut N) -> Result<String, u8>
     requires files { HasRoom (F.shelf files.old) }
     requires notes { IsOpen (N.end notes.old) }
-    ensures { FileHas path.now (F.shelf files.old) (F.shelf files.new)
-        (N.end notes.old) (N.end notes.new) result }
+    ensures has { IfOk result (λ text. (F.shelf files.new ≡ F.shelf files.old)
+        × (N.end notes.new ≡ N.end notes.old)
+        × IsTextOf (F.shelf files.old) path.now (string_bytes text)) }
+    ensures none { IfErr result (λ status. (input : Source) → (out : End) → IsTextless path.now
+        (desk (F.shelf files.old) (devices input out (N.end notes.old)))
+        (desk (F.shelf files.new) (devices input out (N.end notes.new))) status) }
 {
     match files.text_of(path) {
         Ok(text) => Ok(text),

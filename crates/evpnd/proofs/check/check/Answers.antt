@@ -1,9 +1,9 @@
-use Rattle.std.proofs.Common.{List, ℕ, refl, subst}
+use Rattle.std.proofs.Common.{inl, List, ℕ, refl, subst}
 use Rattle.std.specs.Prelude.{string_bytes}
 use Rattle.ev_report.specs.Ends.{devices}
 use Rattle.ev_config.specs.Config.{ConfigOf}
 use Rattle.evpnd.specs.Checks.{Checks, ChecksText}
-use Rattle.evpnd.proofs.Filed.{no_memory, unreadable, of_textless, of_read}
+use Rattle.evpnd.proofs.Filed.{no_memory, unreadable, of_read}
 use Rattle.evpnd.proofs.check.check.Goals as goal
 
 pub returns-in-Ok : goal.returns-in-Ok
@@ -25,8 +25,7 @@ returns-in-Ok g c input =
 
 pub returns-in-Err-NoMemory : goal.returns-in-Err-NoMemory
 returns-in-Err-NoMemory g c input =
-    of_textless (ConfigOf c.args.wanted.purpose.is_run) (Checks c.args.wanted.purpose) c.args.wanted.path.now _ _ 3
-    (no_memory c.args.wanted.path.now (g.F.Files.shelf c.args.files.now) (g.F.Files.shelf c.text_of.new.self)
+    inl (no_memory c.args.wanted.path.now (g.F.Files.shelf c.args.files.now) (g.F.Files.shelf c.text_of.new.self)
     (devices input (g.W.Out.end c.args.out) (g.N.Out.end c.args.notes)) 3
     (rw c.in-Err-NoMemory.field-0-is at c.in-Err-NoMemory.ensures) refl)
 
@@ -35,8 +34,6 @@ returns-in-Err-Unread g c input =
     let e = g.N.Out.end c.args.notes in
     let n = g.N.Out.end c.put_unread-told.new.notes in
     let put = rw c.as_bytes.ensures.value at c.put_unread-told.ensures in
-    of_textless (ConfigOf c.args.wanted.purpose.is_run) (Checks c.args.wanted.purpose) c.args.wanted.path.now _ _
-    c.unread_status.result
-    (unreadable c.args.wanted.path.now (g.F.Files.shelf c.args.files.now) (g.F.Files.shelf c.text_of.new.self) input
+    inl (unreadable c.args.wanted.path.now (g.F.Files.shelf c.args.files.now) (g.F.Files.shelf c.text_of.new.self) input
     (g.W.Out.end c.args.out) e n c.put_unread-told.result _ c.unread_status.result
     (rw c.in-Err-Unread.field-0-is at c.in-Err-Unread.ensures) put c.unread_status.ensures)

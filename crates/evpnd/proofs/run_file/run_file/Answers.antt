@@ -13,8 +13,8 @@ returns-in-Ok g c =
     (g.N.Out.end c.devices.inside.notes) in
     let s = g.F.Files.shelf c.args.files.now in
     let s' = g.F.Files.shelf c.configured.new.files in
-    subst (λ (d : Devices). OfFile (ConfigOf true) RunsFound c.args.path.now (desk s d) (desk s' c.run_buffered.result.1)
-    c.run_buffered.result.0)
+    subst (λ (d : Devices). OfFile (ConfigOf true) RunsFound c.args.path.now (desk s d)
+    (desk s' c.run_buffered.result.1) c.run_buffered.result.0)
     c.devices.view_is
     (of_used RunsConfig (ConfigOf true) c.args.path.now s s' before
     (devices (g.R.In.end c.devices.inside.reader) (g.W.Out.end c.devices.inside.out)

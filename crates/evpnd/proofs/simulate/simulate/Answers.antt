@@ -27,8 +27,9 @@ returns-in-Err g c =
     (g.N.Out.end c.devices.inside.notes) in
     let s = g.F.Files.shelf c.args.files.now in
     let s' = g.F.Files.shelf c.configured.new.files in
-    subst (λ (d : Devices). OfFile (ConfigOf false) (SimulatesFound c.args.mode) c.args.path.now (desk s d) (desk s' (devices
-    (g.R.In.end c.devices.inside.reader) (g.W.Out.end c.devices.inside.out) (g.N.Out.end c.configured.new.notes)))
+    subst (λ (d : Devices). OfFile (ConfigOf false) (SimulatesFound c.args.mode) c.args.path.now (desk s d)
+    (desk s' (devices (g.R.In.end c.devices.inside.reader) (g.W.Out.end c.devices.inside.out)
+    (g.N.Out.end c.configured.new.notes)))
     c.in-Err.status)
     c.devices.view_is
     (of_never (SimulatesEdges c.args.mode) (ConfigOf false) c.args.path.now (desk s before)
