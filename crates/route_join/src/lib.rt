@@ -24,5 +24,6 @@ pub use laws::{
     join_of_tables, join_repeats, merge_completes, newer_stands, none_taken, one_joined, one_owner,
     one_table, one_taken, others_stay, owner_along, owner_is, same_owner, updates_of_are,
 };
+pub use owner::{advert_in, is_better};
 pub use table::{Table, TakeError, Taken, Unmerged};
 pub use updates::{Updates, UpdatesOf};

@@ -6,7 +6,7 @@ use route_wire::{Advert, Content};
 use std::cmp::Ordering;
 
 /// What is advertised, if anything.
-pub(crate) fn advert_in(content: &Content) -> Option<Advert>
+pub fn advert_in(content: &Content) -> Option<Advert>
     ensures { result ≡ advert_in content.now }
 {
     match content {
@@ -18,7 +18,7 @@ pub(crate) fn advert_in(content: &Content) -> Option<Advert>
 /// Whether the first of two adverts of an address is better, told the order of their registers:
 /// static first, then the higher sequence number, then the register that comes first in a report,
 /// whose originator is the lower one, or else its IP address.
-pub(crate) fn is_better(one: &Advert, other: &Advert, order: Ordering) -> bool
+pub fn is_better(one: &Advert, other: &Advert, order: Ordering) -> bool
     ensures { result ≡ is_better_by one.now.is_static other.now.is_static
         one.now.sequence other.now.sequence order }
 {

@@ -10,8 +10,8 @@ use crate::edge_view::stations::{is_own, own_station};
 use ether_wire::{Device, Out, put_decimal};
 use ev_edge::Edge;
 use mac_arena::Station;
-use route_join::Updates;
-use route_wire::{Content, Update};
+use route_join::{Updates, advert_in};
+use route_wire::Update;
 
 /// What was counted of the registers of an edge's table.
 #[derive(Clone, Copy, Debug)]
@@ -32,10 +32,7 @@ pub(crate) struct Counts {
 fn advertises(update: &Update) -> bool
     ensures { result ≡ advertises update.now }
 {
-    match update.value().content {
-        Content::Withdrawn => false,
-        Content::Advert(_) => true,
-    }
+    advert_in(&update.value().content).is_some()
 }
 
 /// Whether a station is pinned at an edge.

@@ -2,13 +2,13 @@
 ghost use Rattle.std.specs.Prelude.{◌≡◌, [], None};
 ghost use Rattle.route_join.specs.Updates.{updates_of};
 ghost use Rattle.ether_wire.specs.Ends.{IsOpen, Puts};
-ghost use Rattle.route_join.specs.Owner.{is_better, better_of};
+ghost use Rattle.route_join.specs.Owner.{better_of};
 ghost use Rattle.ev_script.specs.Owners.{said_by, best_but, ranked, offer_line, offer_lines, owner_line, owner_text};
 
 use arrayvec::ArrayVec;
 use ether_wire::{Addr, Device, Mac, Out, Vni, put_addr, put_decimal};
-use route_join::{Table, UpdatesOf};
-use route_wire::{Advert, Content, Register, Update};
+use route_join::{Table, UpdatesOf, advert_in, is_better};
+use route_wire::{Advert, Register, Update};
 
 /// So many originators a table listens to at most.
 const MOST_ORIGINATORS: usize = 64;
@@ -23,22 +23,7 @@ fn said_by(told: &[Addr], update: &Update) -> Option<Advert>
     if told.contains(&update.register().originator) {
         return None;
     }
-    match update.value().content {
-        Content::Withdrawn => None,
-        Content::Advert(advert) => Some(advert),
-    }
-}
-
-/// Whether the first of two adverts of an address is better (RFC 7432, section 15): static first,
-/// then the higher sequence number, then the register that comes first.
-fn is_better(one: &Offer, other: &Offer) -> bool
-    ensures { result ≡ is_better one.now.1 one.now.0 other.now.1 other.now.0 }
-{
-    if one.1.is_static != other.1.is_static {
-        return one.1.is_static;
-    }
-    one.1.sequence > other.1.sequence
-        || one.1.sequence == other.1.sequence && one.0.cmp(&other.0).is_lt()
+    advert_in(&update.value().content)
 }
 
 /// The better of what a register says, if anything, and the best so far.
@@ -49,9 +34,8 @@ fn better_of(register: Register, said: Option<Advert>, best: Option<Offer>) -> O
         (None, best) => best,
         (Some(advert), None) => Some((register, advert)),
         (Some(advert), Some(best)) => {
-            let offer = (register, advert);
-            if is_better(&offer, &best) {
-                Some(offer)
+            if is_better(&advert, &best.1, register.cmp(&best.0)) {
+                Some((register, advert))
             } else {
                 Some(best)
             }
