@@ -1,6 +1,6 @@
 -- The configuration that a document gives, or its first fault.
-use Rattle.std.specs.Prelude.{◌≡◌, ℕ, ◌+◌, Bool, true, List, [], ◌∷◌, ◌++◌, map, codes, string_bytes, Some, None, Result}
-use Rattle.std.specs.Prelude.{Ok, Err}
+use Rattle.std.specs.Prelude.{◌≡◌, ℕ, ◌+◌, Bool, true, List, [], ◌∷◌, ◌++◌, map, codes, string_bytes, Some, None}
+use Rattle.std.specs.Prelude.{Result, Ok, Err}
 use Rattle.toml.specs.Data.{Items, no_items, item, Members, as_table}
 use Rattle.toml.specs.Parse.{parse_document}
 use Rattle.arrayvec.specs.ArrayVec.{ArrayVec}

@@ -14,7 +14,8 @@ use Rattle.ev_links.proofs.Behind.{behind_none, behind_twice}
 use Rattle.ev_console.specs.Asking.{Asked}
 use Rattle.ev_console.specs.Answers.{AnswersLine, Replies}
 use Rattle.ev_console.specs.Conversation.{feed, is_feed, IsLine, kept, Exchange, IsExchange, lines_of, asked_of}
-use Rattle.ev_console.specs.Conversation.{said_of, AreExchanges, is_cut, missing_feed, BreaksOff, SoFar, ToOctets, TakesOctets}
+use Rattle.ev_console.specs.Conversation.{said_of, AreExchanges, is_cut, missing_feed, BreaksOff, SoFar}
+use Rattle.ev_console.specs.Conversation.{ToOctets, TakesOctets}
 use Rattle.ev_console.specs.Conversation.{TakesEnd}
 
 -- ---- what is kept of a line
