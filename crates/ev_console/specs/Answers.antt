@@ -1,4 +1,5 @@
 -- What a line of the console asks of edges that run, and what it is answered.
+use Rattle.std.specs.Prelude.{◌<◌}
 use Rattle.std.specs.Prelude.{◌≡◌, ◌⊎◌, ℕ, List, [], ◌∷◌, ◌++◌, length, codes, Option, Some, None, Result, Ok, Err}
 use Rattle.std.specs.Global.{Vec}
 use Rattle.std.specs.declared.alloc.AllocError.{AllocError}
@@ -61,9 +62,9 @@ served_seen_text e (Ok (Ok served)) = edge_words e served.address served.ports.i
 served_seen_text e (Ok (Err refused)) = no_memory_text e
 served_seen_text e (Err unreached) = unreached_text e unreached
 
--- the report of these updates, or that memory was refused to it
+-- the report of these updates; or, where there are some, that memory was refused to it
 abbrev pub TellsUpdates : ℕ → List Fields → List ℕ → Type 0
-TellsUpdates e updates = λ text. IsReportOf updates text ⊎ (text ≡ no_memory_text e)
+TellsUpdates e updates = λ text. IsReportOf updates text ⊎ (0 < length updates) × (text ≡ no_memory_text e)
 
 -- so of what was shown
 abbrev pub TellsShown : ℕ → Result (Vec Fields) AllocError → List ℕ → Type 0

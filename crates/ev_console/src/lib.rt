@@ -11,6 +11,3 @@ mod table;
 
 pub use conversation::{converse, converse_with};
 pub use operated::{Operated, Unreached};
-
-#[cfg(test)]
-mod tests;

@@ -1,3 +1,4 @@
+use Rattle.std.proofs.Common.{◌<◌, length}
 use Rattle.std.proofs.Common.{inl, inr, [], refl, sym, arith}
 use Rattle.std.proofs.lemmas.Bool.Decides.{nat_tests}
 use Rattle.ether_wire.proofs.Appending.{with_text_none}
@@ -21,8 +22,10 @@ returns-in-Some g c = record {
 }
 
 pub returns-in-None : goal.returns-in-None
-returns-in-None g c = record {
-  text = no_memory_text c.args.edge;
-  told = inr refl;
-  written = c.put_no_memory.ensures;
-}
+returns-in-None g c =
+    let some : 0 < length c.args.updates.now = grind (arith, nat_tests) in
+    record {
+      text = no_memory_text c.args.edge;
+      told = inr (some, refl);
+      written = c.put_no_memory.ensures;
+    }
