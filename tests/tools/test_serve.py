@@ -221,7 +221,8 @@ class Clients(Served):
 
     def test_wrong_first_line(self) -> None:
         """Anything but `console` gets a word of what is wrong, and the connection ends."""
-        for octets in (b"records\n", b"edges\n", b"\n", b"console \n", b"CONSOLE\n", b"console\r\n", b"\xff\x00" * 500, b"consoles and more\n"):
+        self.assertEqual(self.client().send(b"records\n").rest(), b"error: records aren't exchanged yet\n")
+        for octets in (b"records \n", b"edges\n", b"\n", b"console \n", b"CONSOLE\n", b"console\r\n", b"\xff\x00" * 500, b"consoles and more\n"):
             self.assertEqual(self.client().send(octets).rest(), WRONG, octets)
         self.ends_well()
 

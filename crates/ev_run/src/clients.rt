@@ -99,6 +99,8 @@ struct Hall<'x, R> {
 enum Wanted {
     /// To ask, line after line.
     Console,
+    /// To exchange records, which comes later.
+    Records,
     /// Anything else.
     Unknown,
     /// Nothing: it has gone, or said nothing for too long.
@@ -135,6 +137,7 @@ fn first_line(stream: &UnixStream) -> Option<ArrayVec<u8, OPENING>> {
 fn wanted_by(stream: &UnixStream) -> Wanted {
     match first_line(stream) {
         Some(line) if line.as_slice() == b"console".as_slice() => Wanted::Console,
+        Some(line) if line.as_slice() == b"records".as_slice() => Wanted::Records,
         Some(_) => Wanted::Unknown,
         None => Wanted::Nothing,
     }
@@ -164,6 +167,7 @@ fn attend<R: Wait>(hall: &Hall<'_, R>, stream: &UnixStream) -> io::Result<()> {
             stream.set_read_timeout(None)?;
             console(hall, stream);
         }
+        Wanted::Records => say(stream, b"error: records aren't exchanged yet\n"),
         Wanted::Unknown => say(stream, b"error: the first line isn't 'console'\n"),
         Wanted::Nothing => {}
     }
