@@ -16,8 +16,8 @@ use Rattle.ev_report.specs.Ends.{Tells}
 use Rattle.ev_report.proofs.Taking.{tells_more, tells_none}
 use Rattle.ev_links.specs.Coming.{behind}
 use Rattle.ev_links.proofs.Behind.{behind_none, behind_twice}
-use Rattle.ev_script.specs.Views.{each_from}
-use Rattle.ev_script.proofs.Each.{each_both}
+use Rattle.ev_view.specs.EdgeViews.{each_from}
+use Rattle.ev_view.proofs.Each.{each_both}
 use Rattle.ev_console.specs.Asking.{Asked, ServedSeen, served_seen, served_from}
 use Rattle.ev_console.specs.Table.{IsReportOf}
 use Rattle.ev_console.specs.declared.operated.Unreached.{Unreached}

@@ -22,11 +22,12 @@ use Rattle.ev_script.specs.Script.{deliver, port, report, restart, line_of, ques
 use Rattle.ev_script.specs.Simulation.{port_number}
 use Rattle.ev_script.specs.Faults.{why_of, why_text}
 use Rattle.ev_script.specs.Printing.{words_text, number_text, reply_text, refusal_text, port_text}
-use Rattle.ev_script.specs.Views.{each_from, edge_words}
+use Rattle.ev_view.specs.EdgeViews.{each_from, edge_words}
 use Rattle.ev_console.specs.declared.operated.Unreached.{Unreached}
 use Rattle.ev_console.specs.declared.operated.Unreached.TheVariants.{NoEdge, Ended}
 use Rattle.ev_console.specs.Asking.{Asked, Entered, TableSeen, PortSeen, ServedSeen, entered, table_seen, port_seen}
-use Rattle.ev_console.specs.Asking.{served_from}
+use Rattle.ev_console.specs.Asking.{ViewSeen, view_seen, served_from}
+use Rattle.ev_view.specs.declared.view.EdgeQuestion.{EdgeQuestion}
 use Rattle.ev_console.specs.Table.{IsReportOf}
 
 -- ---- what is told of an answer
@@ -56,6 +57,11 @@ port_seen_text e p (Err unreached) = unreached_text e unreached
 -- `E refused edge 15`
 abbrev pub no_memory_text : ℕ → List ℕ
 no_memory_text e = refusal_text e fabric.NoMemory
+
+abbrev pub view_seen_text : ℕ → ViewSeen → List ℕ
+view_seen_text e (Ok (Ok text)) = text.items
+view_seen_text e (Ok (Err refused)) = no_memory_text e
+view_seen_text e (Err unreached) = unreached_text e unreached
 
 abbrev pub served_seen_text : ℕ → ServedSeen → List ℕ
 served_seen_text e (Ok (Ok served)) = edge_words e served.address served.ports.items served.vnis.items
@@ -143,7 +149,12 @@ abbrev pub help_text : List ℕ
 help_text =
     codes "E up P\n" ++ codes "E down P\n" ++ codes "E mcheck P\n" ++ codes "E pin VNI MAC P\n"
     ++ codes "E unpin VNI MAC\n" ++ codes "E thaw VNI MAC\n" ++ codes "E port P\n" ++ codes "E report\n"
-    ++ codes "edges\n" ++ codes "help\n"
+    ++ codes "E owner VNI MAC\n" ++ codes "E counts\n" ++ codes "E stations [VNI]\n" ++ codes "edges\n"
+    ++ codes "help\n"
+
+abbrev pub ShowsView : ℕ → EdgeQuestion → List Asked → List ℕ → Type 0
+ShowsView e q = λ asked text.
+    (answer : ViewSeen) × (asked ≡ view_seen e q answer ∷ []) × (text ≡ view_seen_text e answer)
 
 -- each edge is asked once, the first one first, and has a line
 abbrev pub ShowsEdges : ℕ → List Asked → List ℕ → Type 0
@@ -154,7 +165,7 @@ ShowsEdges count = λ asked text. (answers : List ServedSeen) × (length answers
 abbrev pub AnswersQuestion : ℕ → Question → List Asked → List ℕ → Type 0
 AnswersQuestion count Help = Says help_text
 AnswersQuestion count Edges = ShowsEdges count
-AnswersQuestion count (OfEdge e question) = Says simulated_text
+AnswersQuestion count (OfEdge e q) = ShowsView e q
 
 abbrev pub AnswersAsked : ℕ → List ℕ → Option Question → List Asked → List ℕ → Type 0
 AnswersAsked count line None = AnswersWords line (line_of line)

@@ -8,6 +8,7 @@ use Rattle.ev_book.specs.declared.refusal.BookRefusal.{BookRefusal}
 use Rattle.ev_peers.specs.declared.request.Command.{Command as Step}
 use Rattle.ev_peers.specs.declared.request.PortView.{PortView}
 use Rattle.ev_peers.specs.declared.request.Served.{Served}
+use Rattle.ev_view.specs.declared.view.EdgeQuestion.{EdgeQuestion}
 use Rattle.ev_console.specs.declared.operated.Unreached.{Unreached}
 
 -- what a step is answered
@@ -22,6 +23,10 @@ TableSeen = Result (Result (Vec Fields) AllocError) Unreached
 abbrev pub PortSeen : Type 0
 PortSeen = Result (Option PortView) Unreached
 
+-- what is told of a question
+abbrev pub ViewSeen : Type 0
+ViewSeen = Result (Result (Vec ℕ) AllocError) Unreached
+
 -- what an edge serves
 abbrev pub ServedSeen : Type 0
 ServedSeen = Result (Result Served AllocError) Unreached
@@ -31,6 +36,7 @@ pub data Asked : Type 0 where
   entered : ℕ → Step → Entered → Asked
   table_seen : ℕ → TableSeen → Asked
   port_seen : ℕ → ℕ → PortSeen → Asked
+  view_seen : ℕ → EdgeQuestion → ViewSeen → Asked
   served_seen : ℕ → ServedSeen → Asked
 
 -- what these edges serve, the first of which has this number

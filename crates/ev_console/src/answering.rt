@@ -3,14 +3,17 @@ ghost use Rattle.std.specs.Prelude.{◌≡◌, true, OnOk};
 ghost use Rattle.ether_wire.specs.Ends.{IsOpen};
 ghost use Rattle.ev_report.specs.Ends.{Tells};
 ghost use Rattle.ev_script.specs.Script.{command_of, line_of};
-ghost use Rattle.ev_console.specs.Answers.{Steps, ShowsTable, ShowsPort, ShowsEdges, Says, simulated_text, served_seen_text, AnswersCommand, AnswersWords, AnswersQuestion, AnswersLine, Does, Replies};
+ghost use Rattle.ev_console.specs.Answers.{Steps, ShowsTable, ShowsPort, ShowsView, ShowsEdges, Says, simulated_text, served_seen_text, AnswersCommand, AnswersWords, AnswersQuestion, AnswersLine, Does, Replies};
 
 use crate::operated::{Operated, Unreached};
-use crate::printing::{put_bad, put_entered, put_help, put_port_seen, put_served, put_simulated};
+use crate::printing::{
+    put_bad, put_entered, put_help, put_port_seen, put_served, put_simulated, put_view_seen,
+};
 use crate::table::put_table_seen;
 use ether_wire::{Device, Out};
 use ev_peers::{Command as Step, Served};
 use ev_script::{Command, Question, parse, port_number, question_of};
+use ev_view::EdgeQuestion;
 use std::alloc::{AllocError, Global};
 
 /// Enters a step, and tells what became of it.
@@ -61,6 +64,23 @@ fn show_port<O: Operated, W: Out>(
     put_port_seen(out, edge, port, &answer)
 }
 
+/// Tells what is asked of an edge.
+fn show_view<O: Operated, W: Out>(
+    alloc: Global,
+    operated: &mut O,
+    edge: u64,
+    question: &EdgeQuestion,
+    out: &mut W,
+) -> Result<(), Device>
+    requires { IsOpen (W.end out.old) }
+    ensures does { Does (ShowsView edge question.now) (O.asked operated.old) (O.asked operated.new)
+        (W.end out.old) (W.end out.new) result }
+    ensures count { O.count operated.new ≡ O.count operated.old }
+{
+    let answer = operated.view(alloc, edge, question);
+    put_view_seen(out, edge, &answer)
+}
+
 /// Tells what an edge serves, where nothing has failed: whether nothing has failed then.
 fn tell_served<W: Out>(
     is_told: bool,
@@ -105,8 +125,7 @@ fn refuse<O: Operated, W: Out>(operated: &mut O, out: &mut W) -> Result<(), Devi
     put_simulated(out)
 }
 
-/// Does what a command asks of its edge, and tells what became of it. What will be asked of edges
-/// beside this (`E owner`, `E stations`, `E counts`) has its place here.
+/// Does what a command asks of its edge, and tells what became of it.
 fn perform<O: Operated, W: Out>(
     alloc: Global,
     operated: &mut O,
@@ -179,7 +198,7 @@ fn answer_question<O: Operated, W: Out>(
     match question {
         Question::Help => put_help(out),
         Question::Edges => show_edges(alloc, operated, out),
-        Question::OfEdge(_, _) => put_simulated(out),
+        Question::OfEdge(edge, question) => show_view(alloc, operated, edge, &question, out),
     }
 }
 

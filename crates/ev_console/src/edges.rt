@@ -5,6 +5,7 @@ use crate::operated::{Operated, Unreached};
 use ev_book::BookRefusal;
 use ev_edge::Reply;
 use ev_peers::{Command, Control, PortView, Running, Served};
+use ev_view::EdgeQuestion;
 use route_wire::Update;
 use std::alloc::{AllocError, Global};
 use std::sync::Wait;
@@ -72,6 +73,18 @@ impl<R: Wait> Operated for Edges<'_, R> {
     fn port(&mut self, edge: u64, port: u8) -> Result<Option<PortView>, Unreached> {
         match self.reach(edge)?.port(self.rt, port) {
             Some(view) => Ok(view),
+            None => Err(Unreached::Ended),
+        }
+    }
+
+    fn view(
+        &mut self,
+        alloc: Global,
+        edge: u64,
+        question: &EdgeQuestion,
+    ) -> Result<Result<Vec<u8>, AllocError>, Unreached> {
+        match self.reach(edge)?.view(self.rt, alloc, *question) {
+            Some(text) => Ok(text),
             None => Err(Unreached::Ended),
         }
     }

@@ -1,11 +1,12 @@
 //! Edges that run, as a console asks them.
 ghost use Rattle.std.specs.Prelude.{◌≡◌, ℕ, Option, List, [], ◌∷◌};
 ghost use Rattle.ev_links.specs.Coming.{behind};
-ghost use Rattle.ev_console.specs.Asking.{Asked, entered, table_seen, port_seen, served_seen};
+ghost use Rattle.ev_console.specs.Asking.{Asked, entered, table_seen, port_seen, view_seen, served_seen};
 
 use ev_book::BookRefusal;
 use ev_edge::Reply;
 use ev_peers::{Command, PortView, Served};
+use ev_view::EdgeQuestion;
 use route_wire::Update;
 use std::alloc::{AllocError, Global};
 
@@ -58,6 +59,17 @@ pub trait Operated {
     fn port(&mut self, edge: u64, port: u8) -> Result<Option<PortView>, Unreached>
         ensures asked { asked self.new
             ≡ behind (asked self.old) (port_seen edge port result ∷ []) }
+        ensures count { count self.new ≡ count self.old };
+
+    /// What is told of a question of the edge, with its number before each line.
+    fn view(
+        &mut self,
+        alloc: Global,
+        edge: u64,
+        question: &EdgeQuestion,
+    ) -> Result<Result<Vec<u8>, AllocError>, Unreached>
+        ensures asked { asked self.new
+            ≡ behind (asked self.old) (view_seen edge question.now result ∷ []) }
         ensures count { count self.new ≡ count self.old };
 
     /// What the edge serves.

@@ -1,7 +1,7 @@
 //! What a console tells of what edges answer, in the words of a simulation.
 ghost use Rattle.std.specs.Prelude.{◌≡◌, ◌++◌, codes};
 ghost use Rattle.ether_wire.specs.Ends.{IsOpen, Puts};
-ghost use Rattle.ev_console.specs.Answers.{unreached_text, book_refusal_text, entered_text, port_seen_text, no_memory_text, served_seen_text, bad_text, help_text, simulated_text};
+ghost use Rattle.ev_console.specs.Answers.{unreached_text, book_refusal_text, entered_text, port_seen_text, no_memory_text, view_seen_text, served_seen_text, bad_text, help_text, simulated_text};
 
 use crate::operated::Unreached;
 use ether_wire::{Device, Out};
@@ -9,7 +9,8 @@ use ev_book::BookRefusal;
 use ev_edge::{EdgeRefusal, Refusal, Reply};
 use ev_fabric::FabricRefusal;
 use ev_peers::{PortView, Served};
-use ev_script::{put_edge_line, put_number, put_port, put_refusal, put_reply, put_words, why_text};
+use ev_script::{put_number, put_port, put_refusal, put_reply, put_words, why_text};
+use ev_view::put_edge_line;
 use std::alloc::AllocError;
 
 /// Writes why an edge answers nothing.
@@ -103,6 +104,22 @@ pub(crate) fn put_served<W: Out>(
     }
 }
 
+/// Writes what is told of a question.
+pub(crate) fn put_view_seen<W: Out>(
+    out: &mut W,
+    edge: u64,
+    answer: &Result<Result<Vec<u8>, AllocError>, Unreached>,
+) -> Result<(), Device>
+    requires { IsOpen (W.end out.old) }
+    ensures { Puts (W.end out.old) (W.end out.new) (view_seen_text edge answer.now) result }
+{
+    match answer {
+        Ok(Ok(text)) => out.put(text.as_slice()),
+        Ok(Err(_)) => put_no_memory(out, edge),
+        Err(unreached) => put_unreached(out, edge, *unreached),
+    }
+}
+
 /// Writes why a line is a bad one.
 #[tactic(auto, using(ether_wire::proofs::Appending::with_text_twice))]
 pub(crate) fn put_bad<W: Out>(out: &mut W, line: &[u8]) -> Result<(), Device>
@@ -135,6 +152,9 @@ E unpin VNI MAC\n\
 E thaw VNI MAC\n\
 E port P\n\
 E report\n\
+E owner VNI MAC\n\
+E counts\n\
+E stations [VNI]\n\
 edges\n\
 help\n",
     )

@@ -12,6 +12,8 @@ use Rattle.ev_edge.specs.Edge.{Edge, address_of, table_of}
 use Rattle.ev_edge.specs.declared.event.Event.{Event}
 use Rattle.ev_edge.specs.declared.event.Event.TheVariants as events
 use Rattle.ev_edge.specs.declared.reply.Reply.{Reply}
+use Rattle.ev_view.specs.declared.view.EdgeQuestion.{EdgeQuestion}
+use Rattle.ev_view.specs.EdgeViews.{edge_view_text}
 use Rattle.ev_book.specs.declared.refusal.BookRefusal.{BookRefusal}
 use Rattle.ev_book.specs.Book.{BookState, PassState}
 use Rattle.ev_peers.specs.declared.request.Command.{Command}
@@ -19,7 +21,7 @@ use Rattle.ev_peers.specs.declared.request.Command.TheVariants as commands
 use Rattle.ev_peers.specs.declared.request.Request.{Request}
 use Rattle.ev_peers.specs.declared.request.Request.TheVariants.{Enter, Read}
 use Rattle.ev_peers.specs.declared.request.Reading.{Reading}
-use Rattle.ev_peers.specs.declared.request.Reading.TheVariants.{Table, Port, Served as Serves}
+use Rattle.ev_peers.specs.declared.request.Reading.TheVariants.{Table, Port, Served as Serves, View}
 use Rattle.ev_peers.specs.declared.request.Answer.{Answer}
 use Rattle.ev_peers.specs.declared.request.Answer.TheVariants as replies
 use Rattle.ev_peers.specs.declared.request.PortView.{PortView}
@@ -59,6 +61,11 @@ ShowsPort tree p (Some view) = IsPort p (length tree.ports) × (slice_get tree.p
     × (IsTrue view.passes ↔ Passes tree p)
 ShowsPort tree p None = IsPort p (length tree.ports) → ⊥
 
+-- the text of the question, with this number before each line; memory may be refused to it
+abbrev pub ShowsView : ℕ → Edge → EdgeQuestion → Result (Vec ℕ) AllocError → Type 0
+ShowsView number e q (Ok text) = text.items ≡ edge_view_text number e q
+ShowsView number e q (Err refused) = Unit {0}
+
 -- its address, the network of each port, and the networks that it serves; memory may be refused to them
 abbrev pub ShowsServed : Edge → Result Served AllocError → Type 0
 ShowsServed e (Ok served) = (served.address ≡ address_of e) × (served.ports.items ≡ e.routes.ports)
@@ -73,6 +80,8 @@ Shows e (Port p) (replies.Port view) = ShowsPort e.tree p view
 Shows e (Port p) answer = ⊥
 Shows e (Serves alloc) (replies.Served served) = ShowsServed e served
 Shows e (Serves alloc) answer = ⊥
+Shows e (View alloc number q) (replies.View text) = ShowsView number e q text
+Shows e (View alloc number q) answer = ⊥
 
 -- It shows some book as it stood. Which one stood under the lock, no caller knows.
 pub record Looked (reading : Reading) (answer : Answer) : Type 0 where

@@ -4,7 +4,7 @@ ghost use Rattle.std.specs.Prelude.{◌≡◌, ◌++◌, IfOk};
 ghost use Rattle.route_join.specs.Updates.{all_updates};
 ghost use Rattle.ev_edge.specs.Edge.{table_of};
 ghost use Rattle.ev_book.specs.Entering.{answered};
-ghost use Rattle.ev_peers.specs.Control.{Obeys, ShowsTable, ShowsPort, ShowsServed, Shows, Looked, Fulfils, Answers};
+ghost use Rattle.ev_peers.specs.Control.{Obeys, ShowsTable, ShowsPort, ShowsServed, ShowsView, Shows, Looked, Fulfils, Answers};
 
 use crate::gate::Gate;
 use crate::outlet::Outlet;
@@ -13,6 +13,7 @@ use crate::shared_edge::{Scratch, SharedEdge};
 use ether_wire::Vni;
 use ev_book::{Book, BookRefusal, Pass};
 use ev_edge::{Edge, Reply};
+use ev_view::EdgeQuestion;
 use route_wire::Update;
 use rstp_run::bridge::Bridge;
 use std::alloc::{AllocError, Global};
@@ -94,6 +95,18 @@ fn view_of(bridge: &Bridge, port: u8) -> Option<PortView>
     })
 }
 
+/// What is told of a question of an edge.
+fn view_text(
+    alloc: Global,
+    number: u64,
+    edge: &Edge,
+    question: &EdgeQuestion,
+) -> Result<Vec<u8>, AllocError>
+    ensures { ShowsView number edge.now question.now result }
+{
+    ev_view::view_of(alloc, number, edge, question)
+}
+
 /// What a reading shows of an edge.
 fn shown(edge: &Edge, reading: &Reading) -> Answer
     ensures { Shows edge.now reading.now result }
@@ -102,6 +115,9 @@ fn shown(edge: &Edge, reading: &Reading) -> Answer
         Reading::Table(alloc) => Answer::Table(updates_of(*alloc, edge)),
         Reading::Port(port) => Answer::Port(view_of(edge.bridge(), *port)),
         Reading::Served(alloc) => Answer::Served(served_by(*alloc, edge)),
+        Reading::View(alloc, number, question) => {
+            Answer::View(view_text(*alloc, *number, edge, question))
+        }
     }
 }
 

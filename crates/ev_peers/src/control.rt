@@ -7,6 +7,7 @@ use crate::request::{Command, PortView, Reading, Request, Served};
 use crate::shared_mailbox::SharedMailbox;
 use ev_book::BookRefusal;
 use ev_edge::Reply;
+use ev_view::EdgeQuestion;
 use route_wire::Update;
 use std::alloc::{AllocError, Global};
 use std::sync::Wait;
@@ -77,5 +78,16 @@ impl Control<'_> {
         self.mailbox
             .ask(rt, &Request::Read(Reading::Served(alloc)))?
             .served()
+    }
+
+    /// What is told of a question, with the edge's number before each line.
+    pub fn view<R: Wait>(
+        &self,
+        rt: &R,
+        alloc: Global,
+        question: EdgeQuestion,
+    ) -> Option<Result<Vec<u8>, AllocError>> {
+        let reading = Reading::View(alloc, self.mailbox.number as u64, question);
+        self.mailbox.ask(rt, &Request::Read(reading))?.view()
     }
 }

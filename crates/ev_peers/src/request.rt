@@ -5,6 +5,7 @@ ghost use Rattle.ev_peers.specs.Control.{event_of};
 use ether_wire::{Addr, Vni};
 use ev_book::BookRefusal;
 use ev_edge::{Event, Reply};
+use ev_view::EdgeQuestion;
 use mac_arena::Station;
 use route_wire::Update;
 use rstp_state::port::PortState;
@@ -37,6 +38,9 @@ pub enum Reading {
     Port(u8),
     /// What it serves, in memory of this allocator.
     Served(Global),
+    /// What is told of the question, with this number before each line, in memory of this
+    /// allocator.
+    View(Global, u64, EdgeQuestion),
 }
 
 /// What the operator asks of an edge.
@@ -80,6 +84,8 @@ pub enum Answer {
     Port(Option<PortView>),
     /// What it serves, or that memory was refused to that.
     Served(Result<Served, AllocError>),
+    /// What is told of a question, or that memory was refused to that.
+    View(Result<Vec<u8>, AllocError>),
 }
 
 impl Answer {
@@ -88,7 +94,7 @@ impl Answer {
         match self {
             Answer::Entered(Ok(reply)) => Some(Ok(mem::replace(reply, Reply::nothing()))),
             Answer::Entered(Err(refusal)) => Some(Err(*refusal)),
-            Answer::Table(_) | Answer::Port(_) | Answer::Served(_) => None,
+            Answer::Table(_) | Answer::Port(_) | Answer::Served(_) | Answer::View(_) => None,
         }
     }
 
@@ -96,7 +102,7 @@ impl Answer {
     pub(crate) fn table(self) -> Option<Result<Vec<Update>, AllocError>> {
         match self {
             Answer::Table(updates) => Some(updates),
-            Answer::Entered(_) | Answer::Port(_) | Answer::Served(_) => None,
+            Answer::Entered(_) | Answer::Port(_) | Answer::Served(_) | Answer::View(_) => None,
         }
     }
 
@@ -104,7 +110,7 @@ impl Answer {
     pub(crate) fn port(&self) -> Option<Option<PortView>> {
         match self {
             Answer::Port(view) => Some(*view),
-            Answer::Entered(_) | Answer::Table(_) | Answer::Served(_) => None,
+            Answer::Entered(_) | Answer::Table(_) | Answer::Served(_) | Answer::View(_) => None,
         }
     }
 
@@ -112,7 +118,15 @@ impl Answer {
     pub(crate) fn served(self) -> Option<Result<Served, AllocError>> {
         match self {
             Answer::Served(served) => Some(served),
-            Answer::Entered(_) | Answer::Table(_) | Answer::Port(_) => None,
+            Answer::Entered(_) | Answer::Table(_) | Answer::Port(_) | Answer::View(_) => None,
+        }
+    }
+
+    /// What is told of a question, if one was asked.
+    pub(crate) fn view(self) -> Option<Result<Vec<u8>, AllocError>> {
+        match self {
+            Answer::View(text) => Some(text),
+            Answer::Entered(_) | Answer::Table(_) | Answer::Port(_) | Answer::Served(_) => None,
         }
     }
 }

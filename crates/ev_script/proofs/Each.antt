@@ -6,29 +6,6 @@ use Rattle.std.proofs.lemmas.Option.{get_or_from_slice_get, slice_get_past}
 use Rattle.std.specs.List.{flat_map}
 use Rattle.std.proofs.lemmas.Grind.{flat_map-append}
 use Rattle.ev_fabric.specs.Fabric.{nth}
-use Rattle.ev_script.specs.Views.{each_from}
-
-pub each_both : {X : Type 0} (text : ℕ → X → List ℕ) (number : ℕ) (xs ys : List X) → each_from text number (xs ++ ys)
-    ≡ each_from text number xs ++ each_from text (number + length xs) ys
-each_both text number [] ys = ap (λ n. each_from text n ys) (grind arith)
-each_both text number (x ∷ xs) ys =
-    ap (λ more. text number x ++ more) (each_both text (number + 1) xs ys
-    ∙ ap (λ n. each_from text (number + 1) xs ++ each_from text n ys) (grind arith))
-    ∙ sym (append_assoc (text number x) (each_from text (number + 1) xs) (each_from text (number + length (x ∷ xs)) ys))
-
--- one more
-pub each_more : {X : Type 0} (text : ℕ → X → List ℕ) (number : ℕ) (all : List X) (place : ℕ) (d : X)
-    → place < length all
-    → each_from text number (take (place + 1) all) ≡ each_from text number (take place all)
-    ++ text (number + place) (get_or all place d)
-each_more text number all place d within =
-    let before = take place all in
-    let one = get_or all place d in
-    let count : number + length before ≡ number + place =
-    ap (λ n. number + n) (length-take-le place all (omega arith)) in
-    ap (each_from text number) (take_more all place d within) ∙ each_both text number before (one ∷ [])
-    ∙ ap (λ n. each_from text number before ++ each_from text n (one ∷ [])) count
-    ∙ ap (λ t. each_from text number before ++ t) (append-nil (text (number + place) one))
 
 -- the one at a place that is counted from 1
 pub at_next : {X : Type 0} (xs : List X) (i n : ℕ) (x d : X) → n ≡ suc i → nth xs n ≡ Some x → get_or xs i d ≡ x

@@ -4,5 +4,4 @@ pub mod Minding
 pub mod Pairs
 pub mod Playings
 pub mod Putting
-pub mod Ranking
 pub mod Simulating

@@ -4,7 +4,4 @@ pub mod Playing
 pub mod Printing
 pub mod Faults
 pub mod Shown
-pub mod Owners
-pub mod Stations
-pub mod Counts
 pub mod Views

@@ -12,8 +12,8 @@ use Rattle.ev_script.specs.declared.script.command.Verb.TheVariants.{Unpin, Thaw
 use Rattle.ev_script.specs.declared.script.command.Verb.TheVariants.{Restart}
 use Rattle.ev_script.specs.declared.script.question.Question.{Question}
 use Rattle.ev_script.specs.declared.script.question.Question.TheVariants.{Help, Edges, OfEdge}
-use Rattle.ev_script.specs.declared.script.question.EdgeQuestion.{EdgeQuestion}
-use Rattle.ev_script.specs.declared.script.question.EdgeQuestion.TheVariants.{Owner, Counts, Stations}
+use Rattle.ev_view.specs.declared.view.EdgeQuestion.{EdgeQuestion}
+use Rattle.ev_view.specs.declared.view.EdgeQuestion.TheVariants.{Owner, Counts, Stations}
 use Rattle.ev_script.specs.declared.script.mode.Mode.{Mode}
 use Rattle.ev_script.specs.declared.script.mode.Mode.TheVariants.{Simulate, Play}
 use Rattle.ev_script.specs.declared.script.command.Command as read

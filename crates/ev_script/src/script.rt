@@ -16,4 +16,4 @@ pub use hex::Hex;
 pub(crate) use lines::cut_line;
 pub use mode::Mode;
 pub use parsing::{MOST_OCTETS, parse};
-pub use question::{EdgeQuestion, Question, edge_question_of, question_of};
+pub use question::{Question, edge_question_of, question_of};

@@ -4,7 +4,7 @@ ghost use Rattle.ev_script.specs.Script.{question_alone, question_with, edge_que
 
 use crate::script::parsing::{number, station};
 use ether_wire::{Vni, parted};
-use mac_arena::Station;
+use ev_view::EdgeQuestion;
 
 /// A question.
 #[derive(Clone, Copy, Debug)]
@@ -15,17 +15,6 @@ pub enum Question {
     Edges,
     /// How the edge of this number is. There may be none.
     OfEdge(u64, EdgeQuestion),
-}
-
-/// A question that one edge alone answers.
-#[derive(Clone, Copy, Debug)]
-pub enum EdgeQuestion {
-    /// Who owns a station, and why.
-    Owner(Station),
-    /// How much it holds.
-    Counts,
-    /// Which stations it has learnt, of a network or of all.
-    Stations(Option<Vni>),
 }
 
 /// A question of one edge that is a verb alone.

@@ -4,11 +4,11 @@ ghost use Rattle.ether_wire.specs.Ends.{IsOpen, Puts};
 ghost use Rattle.ev_fabric.specs.Fabric.{nth};
 ghost use Rattle.ev_script.specs.Views.{help_text, edges_text, no_edge_text, edge_answer, view_text};
 
-use crate::edge_view::{put_edge, put_edge_view};
-use crate::script::{EdgeQuestion, Question};
+use crate::script::Question;
 use ether_wire::{Device, Out, put_decimal};
 use ev_edge::Edge;
 use ev_fabric::Fabric;
+use ev_view::{EdgeQuestion, put_edge, put_edge_view};
 
 /// Writes which lines there are.
 fn put_help<W: Out>(out: &mut W) -> Result<(), Device>

@@ -2,8 +2,9 @@ use Rattle.std.proofs.Common.{◌≡◌, ℕ, suc, ◌+◌, ◌<◌, ◌++◌, a
 use Rattle.ether_wire.specs.Ends.{End, with_text}
 use Rattle.ether_wire.proofs.Appending.{with_text_twice}
 use Rattle.ev_edge.specs.Edge.{Edge}
-use Rattle.ev_script.specs.Views.{each_from, edge_line}
-use Rattle.ev_script.proofs.Each.{each_more, at_next}
+use Rattle.ev_view.specs.EdgeViews.{each_from, edge_line}
+use Rattle.ev_script.proofs.Each.{at_next}
+use Rattle.ev_view.proofs.Each.{each_more}
 use Rattle.ev_script.proofs.simulate.viewing.put_edges.Goals as goal
 
 pub loop-place-preserved : goal.loop-place-preserved

@@ -1,6 +1,6 @@
 use Rattle.std.proofs.Common.{◌≡◌, take}
 use Rattle.ether_wire.specs.Ends.{with_text}
-use Rattle.ev_script.specs.Views.{each_from, edge_line}
+use Rattle.ev_view.specs.EdgeViews.{each_from, edge_line}
 use Rattle.ev_script.proofs.simulate.viewing.put_edges.Given as goal
 
 abbrev pub invariant-loop-place : goal.invariant-loop-place

@@ -1,8 +1,0 @@
-use Rattle.std.proofs.Common.{◌≡◌, take}
-use Rattle.ether_wire.specs.Ends.{with_text}
-use Rattle.ev_script.specs.Views.{each_from, network_words}
-use Rattle.ev_script.proofs.edge_view.put_networks.Given as goal
-
-abbrev pub invariant-loop-place : goal.invariant-loop-place
-invariant-loop-place g l = g.W.Out.end l.out
-    ≡ with_text (g.W.Out.end l.initial.out) (each_from network_words 1 (take l.place l.vnis))

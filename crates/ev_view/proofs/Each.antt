@@ -1,0 +1,27 @@
+-- Texts of each of a list, one after the other.
+use Rattle.std.proofs.Common.{◌≡◌, ℕ, ◌+◌, ◌<◌, List, [], ◌∷◌, ◌++◌, take, length, get_or, append-nil, append_assoc}
+use Rattle.std.proofs.Common.{sym, ap, ◌∙◌, arith}
+use Rattle.std.proofs.lemmas.List.{take_more, length-take-le}
+use Rattle.ev_view.specs.EdgeViews.{each_from}
+
+pub each_both : {X : Type 0} (text : ℕ → X → List ℕ) (number : ℕ) (xs ys : List X) → each_from text number (xs ++ ys)
+    ≡ each_from text number xs ++ each_from text (number + length xs) ys
+each_both text number [] ys = ap (λ n. each_from text n ys) (grind arith)
+each_both text number (x ∷ xs) ys =
+    ap (λ more. text number x ++ more) (each_both text (number + 1) xs ys
+    ∙ ap (λ n. each_from text (number + 1) xs ++ each_from text n ys) (grind arith))
+    ∙ sym (append_assoc (text number x) (each_from text (number + 1) xs) (each_from text (number + length (x ∷ xs)) ys))
+
+-- one more
+pub each_more : {X : Type 0} (text : ℕ → X → List ℕ) (number : ℕ) (all : List X) (place : ℕ) (d : X)
+    → place < length all
+    → each_from text number (take (place + 1) all) ≡ each_from text number (take place all)
+    ++ text (number + place) (get_or all place d)
+each_more text number all place d within =
+    let before = take place all in
+    let one = get_or all place d in
+    let count : number + length before ≡ number + place =
+    ap (λ n. number + n) (length-take-le place all (omega arith)) in
+    ap (each_from text number) (take_more all place d within) ∙ each_both text number before (one ∷ [])
+    ∙ ap (λ n. each_from text number before ++ each_from text n (one ∷ [])) count
+    ∙ ap (λ t. each_from text number before ++ t) (append-nil (text (number + place) one))

@@ -1,0 +1,5 @@
+pub mod Owners
+pub mod Stations
+pub mod Counts
+pub mod EdgeViews
+pub mod Sheet

@@ -1,0 +1,15 @@
+//! What is told of one edge that is asked for: its line, who owns a station and why, how much it
+//! holds, which stations it has learnt.
+#![tactic(auto)]
+
+mod counts;
+mod edge_line;
+mod laws;
+mod owner;
+mod sheet;
+mod stations;
+mod view;
+
+pub use edge_line::{put_edge, put_edge_line};
+pub use laws::owner_leads;
+pub use view::{EdgeQuestion, put_edge_view, view_of};

@@ -1,0 +1,73 @@
+//! What is told of one edge that is asked for. It takes no memory, and the edge alone is looked at.
+ghost use Rattle.std.specs.Prelude.{◌≡◌, IfOk};
+ghost use Rattle.ether_wire.specs.Ends.{IsOpen, Puts};
+ghost use Rattle.ev_view.specs.EdgeViews.{edge_view_text};
+
+use crate::counts::put_counts;
+use crate::owner::put_owner;
+use crate::sheet::Sheet;
+use crate::stations::put_stations;
+use ether_wire::{Device, Out, Vni};
+use ev_edge::Edge;
+use mac_arena::Station;
+use std::alloc::{AllocError, Global};
+
+/// A question that one edge alone answers.
+#[derive(Clone, Copy, Debug)]
+pub enum EdgeQuestion {
+    /// Who owns a station, and why.
+    Owner(Station),
+    /// How much it holds.
+    Counts,
+    /// Which stations it has learnt, of a network or of all.
+    Stations(Option<Vni>),
+}
+
+/// Writes what is told of a question of this edge, which has this number.
+///
+/// # Errors
+///
+/// `Device` exactly where a call of the writer failed; then no further call is made.
+pub fn put_edge_view<W: Out>(
+    out: &mut W,
+    number: u64,
+    edge: &Edge,
+    question: &EdgeQuestion,
+) -> Result<(), Device>
+    requires { IsOpen (W.end out.old) }
+    ensures { Puts (W.end out.old) (W.end out.new)
+        (edge_view_text number edge.now question.now) result }
+{
+    match question {
+        EdgeQuestion::Owner(station) => put_owner(
+            out,
+            number,
+            edge.table(),
+            station.vni,
+            station.mac,
+        ),
+        EdgeQuestion::Counts => put_counts(out, number, edge),
+        EdgeQuestion::Stations(vni) => put_stations(out, number, edge, vni),
+    }
+}
+
+/// What is told of a question of this edge, which has this number, in memory of its own.
+///
+/// # Errors
+///
+/// Where memory is refused.
+pub fn view_of(
+    alloc: Global,
+    number: u64,
+    edge: &Edge,
+    question: &EdgeQuestion,
+) -> Result<Vec<u8>, AllocError>
+    ensures { IfOk result
+        (λ text. text.items ≡ edge_view_text number edge.now question.now) }
+{
+    let mut sheet = Sheet::new(alloc);
+    match put_edge_view(&mut sheet, number, edge, question) {
+        Ok(()) => Ok(sheet.into_octets()),
+        Err(_) => Err(AllocError),
+    }
+}
