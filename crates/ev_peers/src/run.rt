@@ -5,8 +5,10 @@ ghost use Rattle.ev_peers.specs.EdgeThreads.{HasEdges, setup_of};
 
 use crate::boards::Boards;
 use crate::control::Running;
-use crate::edge_threads::{EdgeLinks, Outcome, edge_worker};
+use crate::edge_links::EdgeLinks;
+use crate::edge_threads::edge_worker;
 use crate::gate::Gate;
+use crate::outcome::Outcome;
 use crate::peers::{Mailboxes, Peers};
 use ev_edge::EdgeConfig;
 use ev_links::{LinkIn, LinkOut};

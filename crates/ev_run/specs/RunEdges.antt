@@ -10,7 +10,7 @@ use Rattle.ether_wire.specs.Addr.{addr_text}
 use Rattle.ev_edge.specs.declared.config.EdgeConfig.{EdgeConfig}
 use Rattle.ev_edge.specs.Config.{IsConfig}
 use Rattle.ev_edge.specs.Edge.{Edge, table_of}
-use Rattle.ev_peers.specs.declared.edge_threads.Outcome.{Outcome}
+use Rattle.ev_peers.specs.declared.outcome.Outcome.{Outcome}
 use Rattle.ev_notices.specs.Telling.{Told, lines_of}
 use Rattle.route_join.specs.Report.{report_of}
 use Rattle.ev_config.specs.declared.whole.Config.{Config}

@@ -1,5 +1,5 @@
 use Rattle.std.proofs.Common.{◌+◌, ◌≤◌, length, vec_len, vec_capacity}
-use Rattle.ev_peers.proofs.edge_threads.start_sending.Given as goal
+use Rattle.ev_peers.proofs.sending.start_sending.Given as goal
 
 abbrev pub invariant-loop-link : goal.invariant-loop-link
 invariant-loop-link g l = record {

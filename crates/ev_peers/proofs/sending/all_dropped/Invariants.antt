@@ -1,5 +1,5 @@
 use Rattle.std.proofs.Common.{◌≡◌, ◌≤◌, length, vec_len, vec_capacity}
-use Rattle.ev_peers.proofs.edge_threads.all_dropped.Given as goal
+use Rattle.ev_peers.proofs.sending.all_dropped.Given as goal
 
 abbrev pub invariant-loop-line : goal.invariant-loop-line
 invariant-loop-line g l = record {

@@ -1,0 +1,79 @@
+//! What an edge comes to when its workers have ended, and what these ended with.
+
+use crate::shared_edge::Ended;
+use ev_book::Totals;
+use ev_edge::Edge;
+
+/// What an edge comes to when its workers have ended.
+#[derive(Drop)]
+pub struct Outcome {
+    /// The edge.
+    pub edge: Edge,
+    /// How many calls of each worker were counted.
+    pub totals: Totals,
+    /// What its workers ended with.
+    pub faults: Faults,
+    /// How many frames found no room: on the line of the tunnel, and behind it on those of the
+    /// ports, port 1 first.
+    pub dropped: Vec<u64>,
+}
+
+/// What the workers of an edge ended with.
+#[derive(Clone, Copy, Debug, PartialEq, Eq)]
+pub struct Faults {
+    /// How many frames were lost in failed calls of links.
+    pub lost: u64,
+    /// Whether the link of a worker failed.
+    pub device: bool,
+    /// Whether the book was refused memory for an event, or a worker its thread.
+    pub memory: bool,
+}
+
+/// What a thread that sends frames gives back: how many were lost, and whether there was a thread.
+pub(crate) type Sent = (u64, Ended);
+
+impl Faults {
+    /// Workers that ended as they should.
+    pub(crate) fn none() -> Self {
+        Faults {
+            lost: 0,
+            device: false,
+            memory: false,
+        }
+    }
+
+    /// Both together.
+    pub(crate) fn and(self, other: Faults) -> Self {
+        Faults {
+            lost: self.lost.saturating_add(other.lost),
+            device: self.device || other.device,
+            memory: self.memory || other.memory,
+        }
+    }
+
+    /// With what one more worker ended with.
+    pub(crate) fn with(self, ended: Ended) -> Self {
+        Faults {
+            lost: self.lost,
+            device: self.device || ended == Ended::Device,
+            memory: self.memory || ended == Ended::NoMemory,
+        }
+    }
+
+    /// With whether a call of the book was refused memory.
+    pub(crate) fn with_out_of_memory(self, out_of_memory: bool) -> Self {
+        Faults {
+            memory: self.memory || out_of_memory,
+            ..self
+        }
+    }
+
+    /// With what was lost over one more link.
+    pub(crate) fn with_lost(self, sent: Sent) -> Self {
+        let faults = self.with(sent.1);
+        Faults {
+            lost: faults.lost.saturating_add(sent.0),
+            ..faults
+        }
+    }
+}

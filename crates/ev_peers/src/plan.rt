@@ -1,0 +1,150 @@
+//! What the threads of an edge need: what each of them enters or sends over, what they share, and
+//! room for them and for what they give back. All of it is made before the first thread starts.
+ghost use Rattle.std.specs.Prelude.{◌≡◌, ◌+◌, ◌≤◌, vec_len, vec_capacity, IfOk};
+ghost use Rattle.ev_peers.specs.EdgeThreads.{HasRoom};
+
+use crate::edge_links::{EdgeLinks, Link};
+use crate::outcome::Sent;
+use crate::shared_edge::Ended;
+use crate::shared_line::SharedLine;
+use ether_wire::Vni;
+use ev_book::Pass;
+use ev_edge::EdgeConfig;
+use std::alloc::{AllocError, Global};
+use std::sync::atomic::AtomicBool;
+use std::sync::ledger::Ledger;
+use std::thread::JoinHandle;
+
+/// What a thread that enters events gives back.
+pub(crate) type Entered<L> = (Pass<L>, Ended);
+
+/// What a worker enters.
+#[derive(Drop)]
+pub(crate) enum Task<I: Drop> {
+    /// The frames that come over this link at the port with this number, of this network.
+    Port(u8, Vni, I),
+    /// The datagrams that come over this link.
+    Tunnel(I),
+    /// The ticks of this clock.
+    Clock(I),
+    /// What the other edges send.
+    Peer,
+}
+
+/// What the threads of an edge share.
+#[derive(Drop)]
+pub(crate) struct Shared {
+    /// What is sent over the tunnel's link, and behind it what is over those of the ports, port 1
+    /// first.
+    pub(crate) lines: Vec<SharedLine>,
+    /// Whether there was no thread, for each task.
+    pub(crate) no_entering: Vec<AtomicBool>,
+    /// Whether there was no thread, for each that sends.
+    pub(crate) no_sending: Vec<AtomicBool>,
+    /// Whether there was no thread for what other edges send.
+    pub(crate) no_peer: AtomicBool,
+    /// Whether a call of the book was refused memory.
+    pub(crate) out_of_memory: AtomicBool,
+}
+
+/// What the threads of an edge begin and end with, so that this needs no memory.
+#[derive(Drop)]
+pub(crate) struct EdgeThreads<L: Ledger, I: Drop, O: Drop> {
+    /// What is entered from links: of the clock, the tunnel, and the ports from
+    /// the last to the first.
+    pub(crate) tasks: Vec<Task<I>>,
+    /// The links that are sent over: that of the tunnel, and those of the ports, port 1 first.
+    pub(crate) outputs: Vec<O>,
+    /// Room for the threads that enter.
+    pub(crate) entering: Vec<JoinHandle<Entered<L>>>,
+    /// Room for the threads that send.
+    pub(crate) sending: Vec<JoinHandle<Sent>>,
+    /// Room for the passes that come back.
+    pub(crate) passes: Vec<Pass<L>>,
+}
+
+/// So many lines on which nothing waits.
+fn empty_lines(alloc: Global, count: usize) -> Result<Vec<SharedLine>, AllocError>
+    ensures { IfOk result (λ lines. vec_len lines ≡ count) }
+{
+    let mut lines = Vec::with_capacity(alloc, count)?;
+    for place in 0..count {
+        let _ = place;
+        lines.push_reserved(SharedLine::new(alloc)?);
+    }
+    Ok(lines)
+}
+
+/// So many words that say no.
+fn no_words(alloc: Global, count: usize) -> Result<Vec<AtomicBool>, AllocError>
+    ensures { IfOk result (λ words. vec_len words ≡ count) }
+{
+    let mut words = Vec::with_capacity(alloc, count)?;
+    for place in 0..count {
+        let _ = place;
+        words.push_reserved(AtomicBool::new(false));
+    }
+    Ok(words)
+}
+
+/// The network of a port.
+fn vni_of(config: &EdgeConfig, port: usize) -> Vni {
+    match config.ports.as_slice().get(port.saturating_sub(1)) {
+        Some(config) => config.vni,
+        None => Vni::default(),
+    }
+}
+
+/// What the threads of an edge with these links and ports need.
+pub(crate) fn planned<L: Ledger, I: Drop, O: Drop>(
+    alloc: Global,
+    links: EdgeLinks<I, O>,
+    config: &EdgeConfig,
+) -> Result<(EdgeThreads<L, I, O>, Shared), AllocError>
+    requires { vec_len links.ports ≤ 253 }
+    ensures tasks { IfOk result (λ r. vec_len r.0.tasks ≡ vec_len links.ports + 2) }
+    ensures no_entering { IfOk result (λ r. vec_len r.1.no_entering ≡ vec_len links.ports + 2) }
+    ensures outputs { IfOk result (λ r. vec_len r.0.outputs ≡ vec_len links.ports + 1) }
+    ensures no_sending { IfOk result (λ r. vec_len r.1.no_sending ≡ vec_len links.ports + 1) }
+    ensures lines { IfOk result (λ r. vec_len r.1.lines ≡ vec_len links.ports + 1) }
+    ensures room { IfOk result (λ r. HasRoom (vec_len r.0.tasks) (vec_len r.0.outputs)
+        (vec_len r.0.entering) (vec_capacity r.0.entering) (vec_len r.0.sending)
+        (vec_capacity r.0.sending) (vec_len r.0.passes) (vec_capacity r.0.passes)) }
+{
+    let EdgeLinks {
+        ports: mut port_links,
+        tunnel: tunnel_link,
+        clock,
+    } = links;
+    let count = port_links.len();
+    let Link {
+        input: tunnel_input,
+        output: tunnel_output,
+    } = tunnel_link;
+    let mut tasks = Vec::with_capacity(alloc, count + 2)?;
+    let mut outputs = Vec::with_capacity(alloc, count + 1)?;
+    tasks.push_reserved(Task::Clock(clock));
+    tasks.push_reserved(Task::Tunnel(tunnel_input));
+    while let Some(Link { input, output }) = port_links.pop() {
+        let port = port_links.len() + 1;
+        tasks.push_reserved(Task::Port(port as u8, vni_of(config, port), input));
+        outputs.push_reserved(output);
+    }
+    outputs.push_reserved(tunnel_output);
+    outputs.as_mut_slice().reverse();
+    let shared = Shared {
+        lines: empty_lines(alloc, count + 1)?,
+        no_entering: no_words(alloc, count + 2)?,
+        no_sending: no_words(alloc, count + 1)?,
+        no_peer: AtomicBool::new(false),
+        out_of_memory: AtomicBool::new(false),
+    };
+    let threads = EdgeThreads {
+        tasks,
+        outputs,
+        entering: Vec::with_capacity(alloc, count + 2)?,
+        sending: Vec::with_capacity(alloc, count + 1)?,
+        passes: Vec::with_capacity(alloc, count + 3)?,
+    };
+    Ok((threads, shared))
+}

@@ -1,0 +1,87 @@
+//! The threads of an edge that send over its links, each what waits on a line of its own.
+ghost use Rattle.std.specs.Prelude.{◌≡◌, ◌+◌, ◌≤◌, length, vec_len, vec_capacity};
+
+use crate::inbox::LineBox;
+use crate::outcome::{Faults, Sent};
+use crate::outlet::Senders;
+use crate::shared_edge::Ended;
+use crate::shared_line::SharedLine;
+use crate::workers::out_worker;
+use ev_links::LinkOut;
+use std::sync::Wait;
+use std::sync::atomic::{AtomicBool, Ordering};
+use std::thread::{JoinHandle, Scope, Threads};
+
+/// A worker that sends over its link, unless there was no thread for it.
+fn send_all<O: LinkOut + Drop, R: Wait>(
+    rt: &R,
+    link: O,
+    line: &SharedLine,
+    is_refused: &AtomicBool,
+) -> Sent {
+    let mut link = link;
+    if is_refused.load(Ordering::SeqCst) {
+        return (0, Ended::NoMemory);
+    }
+    let mut packets = LineBox { rt, line };
+    (out_worker(rt, &mut link, &mut packets), Ended::End)
+}
+
+/// Starts a thread for each link that frames are sent over.
+pub(crate) fn start_sending<'s, 'x: 's, O: LinkOut + Drop + Send + 'x, R: Wait + Sync + 'x>(
+    scope: &Scope<'s, &'x ()>,
+    rt: &'x R,
+    lines: &'x [SharedLine],
+    refused: &'x [AtomicBool],
+    outputs: Vec<O>,
+    running: Vec<JoinHandle<Sent>>,
+) -> (Vec<JoinHandle<Sent>>, Faults)
+    requires lines { vec_len outputs ≤ length lines.now }
+    requires words { vec_len outputs ≤ length refused.now }
+    requires room { vec_len running + vec_len outputs ≤ vec_capacity running }
+{
+    let mut outputs = outputs;
+    let mut running = running;
+    let mut faults = Faults::none();
+    while let Some(link) = outputs.pop() {
+        let line = &lines[outputs.len()];
+        let is_refused = &refused[outputs.len()];
+        match scope.spawn(move || send_all(rt, link, line, is_refused)) {
+            Ok(handle) => running.push_reserved(handle),
+            Err(no_thread) => {
+                is_refused.store(true, Ordering::SeqCst);
+                faults = faults.with_lost((no_thread.value)());
+            }
+        }
+    }
+    (running, faults)
+}
+
+/// Tells those that send over links to stop.
+pub(crate) fn stop_sending<R: Wait>(outlet: &Senders<'_, R>) {
+    for line in outlet.lines {
+        line.end(outlet.rt);
+    }
+}
+
+/// Waits for the threads that send.
+pub(crate) fn join_sending<R: Threads>(rt: &R, running: Vec<JoinHandle<Sent>>) -> Faults {
+    let mut running = running;
+    let mut faults = Faults::none();
+    while let Some(handle) = running.pop() {
+        faults = faults.with_lost(handle.join(rt));
+    }
+    faults
+}
+
+/// How many frames found no room, by line.
+pub(crate) fn all_dropped<R: Wait>(rt: &R, lines: &[SharedLine], dropped: Vec<u64>) -> Vec<u64>
+    requires { (vec_len dropped ≡ 0) × (length lines.now ≤ vec_capacity dropped) }
+    ensures { vec_len result ≡ length lines.now }
+{
+    let mut dropped = dropped;
+    for line in lines {
+        dropped.push_reserved(line.dropped(rt));
+    }
+    dropped
+}
