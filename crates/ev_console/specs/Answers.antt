@@ -12,8 +12,8 @@ use Rattle.ev_fabric.specs.declared.refusal.FabricRefusal.TheVariants as fabric
 use Rattle.ev_book.specs.declared.refusal.BookRefusal.{BookRefusal}
 use Rattle.ev_book.specs.declared.refusal.BookRefusal.TheVariants.{PassStrange, PassSpent, NoRoom, Edge}
 use Rattle.ev_book.specs.Refusal.{refusal_number}
-use Rattle.ev_peers.specs.declared.request.Command.{Command as Step}
-use Rattle.ev_peers.specs.declared.request.Command.TheVariants as steps
+use Rattle.ev_mailboxes.specs.declared.request.Command.{Command as Step}
+use Rattle.ev_mailboxes.specs.declared.request.Command.TheVariants as steps
 use Rattle.ev_links.specs.Coming.{behind}
 use Rattle.ev_script.specs.declared.script.question.Question.{Question}
 use Rattle.ev_script.specs.declared.script.question.Question.TheVariants.{Help, Edges, OfEdge}

@@ -5,9 +5,9 @@ use Rattle.std.specs.declared.alloc.AllocError.{AllocError}
 use Rattle.route_wire.specs.Fields.{Fields}
 use Rattle.ev_edge.specs.declared.reply.Reply.{Reply}
 use Rattle.ev_book.specs.declared.refusal.BookRefusal.{BookRefusal}
-use Rattle.ev_peers.specs.declared.request.Command.{Command as Step}
-use Rattle.ev_peers.specs.declared.request.PortView.{PortView}
-use Rattle.ev_peers.specs.declared.request.Served.{Served}
+use Rattle.ev_mailboxes.specs.declared.request.Command.{Command as Step}
+use Rattle.ev_mailboxes.specs.declared.request.PortView.{PortView}
+use Rattle.ev_mailboxes.specs.declared.request.Served.{Served}
 use Rattle.ev_view.specs.declared.view.EdgeQuestion.{EdgeQuestion}
 use Rattle.ev_console.specs.declared.operated.Unreached.{Unreached}
 

@@ -11,7 +11,7 @@ use crate::printing::{
 };
 use crate::table::put_table_seen;
 use ether_wire::{Device, Out};
-use ev_peers::{Command as Step, Served};
+use ev_mailboxes::{Command as Step, Served};
 use ev_script::{Command, Question, parse, port_number, question_of};
 use ev_view::EdgeQuestion;
 use std::alloc::{AllocError, Global};

@@ -8,7 +8,7 @@ use crate::edges::Edges;
 use crate::operated::Operated;
 use arrayvec::ArrayVec;
 use ether_wire::{Device, In, Out};
-use ev_peers::Running;
+use ev_mailboxes::Running;
 use ev_report::MOST_READS;
 use std::alloc::Global;
 use std::sync::Wait;

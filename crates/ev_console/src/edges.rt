@@ -4,7 +4,7 @@ ghost use Rattle.std.specs.Prelude.{◌≡◌, IfOk};
 use crate::operated::{Operated, Unreached};
 use ev_book::BookRefusal;
 use ev_edge::Reply;
-use ev_peers::{Command, Control, PortView, Running, Served};
+use ev_mailboxes::{Command, Control, PortView, Running, Served};
 use ev_view::EdgeQuestion;
 use route_wire::Update;
 use std::alloc::{AllocError, Global};

@@ -5,7 +5,7 @@ ghost use Rattle.ev_console.specs.Asking.{Asked, entered, table_seen, port_seen,
 
 use ev_book::BookRefusal;
 use ev_edge::Reply;
-use ev_peers::{Command, PortView, Served};
+use ev_mailboxes::{Command, PortView, Served};
 use ev_view::EdgeQuestion;
 use route_wire::Update;
 use std::alloc::{AllocError, Global};

@@ -8,7 +8,7 @@ use ether_wire::{Device, Out};
 use ev_book::BookRefusal;
 use ev_edge::{EdgeRefusal, Refusal, Reply};
 use ev_fabric::FabricRefusal;
-use ev_peers::{PortView, Served};
+use ev_mailboxes::{PortView, Served};
 use ev_script::{put_number, put_port, put_refusal, put_reply, put_words, why_text};
 use ev_view::put_edge_line;
 use std::alloc::AllocError;

@@ -16,16 +16,16 @@ use Rattle.ev_view.specs.declared.view.EdgeQuestion.{EdgeQuestion}
 use Rattle.ev_view.specs.EdgeViews.{edge_view_text}
 use Rattle.ev_book.specs.declared.refusal.BookRefusal.{BookRefusal}
 use Rattle.ev_book.specs.Book.{BookState, PassState}
-use Rattle.ev_peers.specs.declared.request.Command.{Command}
-use Rattle.ev_peers.specs.declared.request.Command.TheVariants as commands
-use Rattle.ev_peers.specs.declared.request.Request.{Request}
-use Rattle.ev_peers.specs.declared.request.Request.TheVariants.{Enter, Read}
-use Rattle.ev_peers.specs.declared.request.Reading.{Reading}
-use Rattle.ev_peers.specs.declared.request.Reading.TheVariants.{Table, Port, Served as Serves, View}
-use Rattle.ev_peers.specs.declared.request.Answer.{Answer}
-use Rattle.ev_peers.specs.declared.request.Answer.TheVariants as replies
-use Rattle.ev_peers.specs.declared.request.PortView.{PortView}
-use Rattle.ev_peers.specs.declared.request.Served.{Served}
+use Rattle.ev_mailboxes.specs.declared.request.Command.{Command}
+use Rattle.ev_mailboxes.specs.declared.request.Command.TheVariants as commands
+use Rattle.ev_mailboxes.specs.declared.request.Request.{Request}
+use Rattle.ev_mailboxes.specs.declared.request.Request.TheVariants.{Enter, Read}
+use Rattle.ev_mailboxes.specs.declared.request.Reading.{Reading}
+use Rattle.ev_mailboxes.specs.declared.request.Reading.TheVariants.{Table, Port, Served as Serves, View}
+use Rattle.ev_mailboxes.specs.declared.request.Answer.{Answer}
+use Rattle.ev_mailboxes.specs.declared.request.Answer.TheVariants as replies
+use Rattle.ev_mailboxes.specs.declared.request.PortView.{PortView}
+use Rattle.ev_mailboxes.specs.declared.request.Served.{Served}
 use Rattle.ev_peers.specs.Giving.{Parcel}
 use Rattle.ev_links.specs.Coming.{behind}
 use Rattle.ev_peers.specs.Passing.{Word, answers, PassesOn}

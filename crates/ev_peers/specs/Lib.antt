@@ -1,5 +1,4 @@
 pub mod Giving
-pub mod Mailbox
 pub mod EdgeThreads
 pub mod Passing
 pub mod Control

@@ -9,7 +9,7 @@ use Rattle.ev_book.specs.declared.refusal.BookRefusal.{BookRefusal}
 use Rattle.ev_book.specs.Book.{BookState, PassState}
 use Rattle.ev_book.specs.Entering.{CallsBook}
 use Rattle.ev_notices.specs.declared.alarm.Alarm.{Alarm}
-use Rattle.ev_peers.specs.declared.request.Answer.{Answer}
+use Rattle.ev_mailboxes.specs.declared.request.Answer.{Answer}
 use Rattle.ev_notices.specs.declared.receptions.Reception.{Reception}
 use Rattle.ev_notices.specs.Alarm.{alarm_of, is_second}
 use Rattle.ev_peers.specs.Giving.{Parcel, parcels_of}

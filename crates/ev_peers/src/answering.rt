@@ -4,15 +4,15 @@ ghost use Rattle.std.specs.Prelude.{◌≡◌, ◌++◌, IfOk};
 ghost use Rattle.route_join.specs.Updates.{all_updates};
 ghost use Rattle.ev_edge.specs.Edge.{table_of};
 ghost use Rattle.ev_book.specs.Entering.{answered};
-ghost use Rattle.ev_peers.specs.Control.{Obeys, ShowsTable, ShowsPort, ShowsServed, ShowsView, Shows, Looked, Fulfils, Answers};
+ghost use Rattle.ev_peers.specs.Control.{event_of, Obeys, ShowsTable, ShowsPort, ShowsServed, ShowsView, Shows, Looked, Fulfils, Answers};
 
 use crate::gate::Gate;
 use crate::outlet::Outlet;
-use crate::request::{Answer, Command, PortView, Reading, Request, Served, event_of};
 use crate::shared_edge::{Scratch, SharedEdge};
 use ether_wire::Vni;
 use ev_book::{Book, BookRefusal, Pass};
-use ev_edge::{Edge, Reply};
+use ev_edge::{Edge, Event, Reply};
+use ev_mailboxes::{Answer, Command, PortView, Reading, Request, Served};
 use ev_view::EdgeQuestion;
 use route_wire::Update;
 use rstp_run::bridge::Bridge;
@@ -28,6 +28,20 @@ fn replied(answer: Result<(), BookRefusal>, reply: &mut Reply) -> Result<Reply, 
     match answer {
         Ok(()) => Ok(mem::replace(reply, Reply::nothing())),
         Err(refusal) => Err(refusal),
+    }
+}
+
+/// The step as an event of an edge.
+fn event_of(command: &Command) -> Event<'static>
+    ensures { result ≡ event_of command.now }
+{
+    match command {
+        Command::Pin(station, port) => Event::Pin(*station, *port),
+        Command::Unpin(station) => Event::Unpin(*station),
+        Command::Thaw(station) => Event::Thaw(*station),
+        Command::Mcheck(port) => Event::Mcheck(*port),
+        Command::PortUp(port) => Event::PortUp(*port),
+        Command::PortDown(port) => Event::PortDown(*port),
     }
 }
 

@@ -3,7 +3,6 @@
 ghost use Rattle.std.specs.Prelude.{◌≡◌, ◌+◌, ◌≤◌, vec_len, vec_capacity};
 
 use crate::gate::Gate;
-use crate::inbox::UpdateBox;
 use crate::outcome::Faults;
 use crate::outlet::Senders;
 use crate::plan::{Entered, Shared, Task};
@@ -11,6 +10,7 @@ use crate::shared_edge::{Ended, SharedEdge};
 use crate::workers::{clock_worker, peer_worker, port_worker, tunnel_worker};
 use ev_book::Pass;
 use ev_links::LinkIn;
+use ev_mailboxes::UpdateBox;
 use std::sync::Wait;
 use std::sync::atomic::{AtomicBool, Ordering};
 use std::sync::ledger::Ledger;

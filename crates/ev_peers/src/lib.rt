@@ -4,40 +4,28 @@
 #![tactic(auto)]
 
 mod answering;
-mod boards;
-mod control;
-mod desk;
 mod edge_links;
 mod edge_threads;
 mod entering;
 mod gate;
 mod giving;
-mod inbox;
-mod mailbox;
 mod outcome;
 mod outlet;
-mod peers;
+mod packets;
 mod plan;
-mod request;
 mod run;
 mod sending;
 mod shared_edge;
 mod shared_line;
-mod shared_mailbox;
 mod workers;
 
-pub use boards::Boards;
-pub use control::{Control, Running};
 pub use edge_links::{EdgeLinks, Link};
 pub use edge_threads::edge_worker;
 pub use gate::{Gate, OpenGate, Point};
 pub use giving::give_out;
-pub use inbox::{NoticeBox, PacketsIn, UpdatesIn};
-pub use mailbox::{Mailbox, Message};
 pub use outcome::{Faults, Outcome};
 pub use outlet::{Outlet, Target};
-pub use peers::{Mailboxes, Peers};
-pub use request::{Answer, Command, PortView, Reading, Request, Served};
+pub use packets::PacketsIn;
 pub use run::{Setup, Start, run_all};
 pub use shared_edge::{Ended, SharedEdge};
 pub use workers::{clock_worker, out_worker, peer_worker, port_worker, tunnel_worker};

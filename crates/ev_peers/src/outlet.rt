@@ -5,10 +5,9 @@ ghost use Rattle.ev_peers.specs.Giving.{Parcel, parcel, first_parcel};
 ghost use Rattle.ev_links.specs.Coming.{behind};
 ghost use Rattle.ev_peers.specs.Passing.{Word, has_room, record_of, second_passes, tells, hears, answers};
 
-use crate::peers::Peers;
-use crate::request::Answer;
 use crate::shared_line::SharedLine;
 use ether_wire::Addr;
+use ev_mailboxes::{Answer, Peers};
 use ev_notices::{Alarm, Reception};
 use route_wire::Update;
 use std::sync::Wait;

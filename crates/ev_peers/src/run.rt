@@ -3,15 +3,13 @@ ghost use Rattle.std.specs.Prelude.{◌≡◌, ◌+◌, ◌≤◌, vec_len, vec_
 ghost use Rattle.ev_edge.specs.Config.{IsConfig};
 ghost use Rattle.ev_peers.specs.EdgeThreads.{HasEdges, setup_of};
 
-use crate::boards::Boards;
-use crate::control::Running;
 use crate::edge_links::EdgeLinks;
 use crate::edge_threads::edge_worker;
 use crate::gate::Gate;
 use crate::outcome::Outcome;
-use crate::peers::{Mailboxes, Peers};
 use ev_edge::EdgeConfig;
 use ev_links::{LinkIn, LinkOut};
+use ev_mailboxes::{Boards, Mailboxes, Peers, Running};
 use std::alloc::{AllocError, Global};
 use std::marker::{Brand, Model};
 use std::sync::Wait;

@@ -1,9 +1,9 @@
 //! The threads of an edge that send over its links, each what waits on a line of its own.
 ghost use Rattle.std.specs.Prelude.{◌≡◌, ◌+◌, ◌≤◌, length, vec_len, vec_capacity};
 
-use crate::inbox::LineBox;
 use crate::outcome::{Faults, Sent};
 use crate::outlet::Senders;
+use crate::packets::LineBox;
 use crate::shared_edge::Ended;
 use crate::shared_line::SharedLine;
 use crate::workers::out_worker;

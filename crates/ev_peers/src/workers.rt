@@ -8,14 +8,14 @@ ghost use Rattle.ev_peers.specs.Sending.{gone, Sends, OutEnds};
 
 use crate::answering::answer;
 use crate::gate::Gate;
-use crate::inbox::{PacketsIn, UpdatesIn};
-use crate::mailbox::Message;
 use crate::outlet::Outlet;
+use crate::packets::PacketsIn;
 use crate::shared_edge::{Ended, Scratch, SharedEdge};
 use ether_wire::{Addr, Vni};
 use ev_book::Pass;
 use ev_edge::Event;
 use ev_links::{LONGEST, LinkIn, LinkOut};
+use ev_mailboxes::{Message, UpdatesIn};
 use ev_notices::{Input, Reception};
 use ev_tunnel::unwrap_datagram;
 use std::sync::Wait;

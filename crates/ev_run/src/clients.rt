@@ -9,7 +9,7 @@ use crate::run::is_read_out;
 use arrayvec::ArrayVec;
 use ether_wire::{Buffered, In, Reader, Writer};
 use ev_console::converse;
-use ev_peers::Running;
+use ev_mailboxes::Running;
 use std::alloc::Global;
 use std::io::{Read, Write};
 use std::net::Shutdown;

@@ -2,8 +2,8 @@
 use Rattle.std.specs.Prelude.{ℕ, ◌+◌, ◌-◌, ◌^◌, min, ◌&&◌, ◌||◌, Bool, false, true, nat_lt, nat_le, if◌then◌else◌, List}
 use Rattle.std.specs.Prelude.{[], ◌∷◌, ◌++◌, length, drop, Option, Some, None}
 use Rattle.route_wire.specs.Fields.{Fields}
-use Rattle.ev_peers.specs.declared.mailbox.Message.{Message}
-use Rattle.ev_peers.specs.declared.mailbox.Message.TheVariants.{Record, Room}
+use Rattle.ev_mailboxes.specs.declared.mailbox.Message.{Message}
+use Rattle.ev_mailboxes.specs.declared.mailbox.Message.TheVariants.{Record, Room}
 
 -- Updates that wait, the first one first, and for how many there are places; whether the edge is behind; whether
 -- another

@@ -1,10 +1,8 @@
 //! What the operator asks of an edge that runs, and what the edge answers.
-ghost use Rattle.std.specs.Prelude.{◌≡◌};
-ghost use Rattle.ev_peers.specs.Control.{event_of};
 
 use ether_wire::{Addr, Vni};
 use ev_book::BookRefusal;
-use ev_edge::{Event, Reply};
+use ev_edge::Reply;
 use ev_view::EdgeQuestion;
 use mac_arena::Station;
 use route_wire::Update;
@@ -128,19 +126,5 @@ impl Answer {
             Answer::View(text) => Some(text),
             Answer::Entered(_) | Answer::Table(_) | Answer::Port(_) | Answer::Served(_) => None,
         }
-    }
-}
-
-/// The step as an event of an edge.
-pub(crate) fn event_of(command: &Command) -> Event<'static>
-    ensures { result ≡ event_of command.now }
-{
-    match command {
-        Command::Pin(station, port) => Event::Pin(*station, *port),
-        Command::Unpin(station) => Event::Unpin(*station),
-        Command::Thaw(station) => Event::Thaw(*station),
-        Command::Mcheck(port) => Event::Mcheck(*port),
-        Command::PortUp(port) => Event::PortUp(*port),
-        Command::PortDown(port) => Event::PortDown(*port),
     }
 }

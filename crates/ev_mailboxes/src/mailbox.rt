@@ -1,7 +1,7 @@
 //! What waits for an edge from the other ones: their updates, as far as there is room, and a call
 //! where one of them has room again.
 ghost use Rattle.std.specs.Prelude.{◌≡◌, ◌+◌, ◌^◌, ◌<◌, ◌≤◌, IfOk};
-ghost use Rattle.ev_peers.specs.Mailbox.{no_mail, after_update, after_call, after_end, after_close, first_of, after_take};
+ghost use Rattle.ev_mailboxes.specs.Mailbox.{no_mail, after_update, after_call, after_end, after_close, first_of, after_take};
 
 use crate::request::Request;
 use route_wire::Update;
@@ -47,7 +47,7 @@ impl Model for Mailbox {
     ghost use Rattle.std.specs.Coded.{codes};
     ghost use Rattle.std.specs.FinMap.{code};
     ghost use Rattle.std.specs.VecDeque.{deque_capacity};
-    ghost use Rattle.ev_peers.specs.Mailbox.{Mail, mail_of};
+    ghost use Rattle.ev_mailboxes.specs.Mailbox.{Mail, mail_of};
 
     ghost Value = { Mail };
 

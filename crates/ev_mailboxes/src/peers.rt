@@ -76,7 +76,7 @@ impl Peers<'_> {
     }
 
     /// Whether no other edge is behind.
-    pub(crate) fn have_room(&self) -> bool {
+    pub fn have_room(&self) -> bool {
         for (place, mailbox) in self.mailboxes.iter().enumerate() {
             if place + 1 != self.number && mailbox.is_behind() {
                 return false;
@@ -86,7 +86,7 @@ impl Peers<'_> {
     }
 
     /// Sends an update to each of the others.
-    pub(crate) fn send<R: Wait>(&self, rt: &R, update: Update) {
+    pub fn send<R: Wait>(&self, rt: &R, update: Update) {
         for (place, mailbox) in self.mailboxes.iter().enumerate() {
             if place + 1 != self.number {
                 mailbox.put(rt, update);
@@ -95,17 +95,17 @@ impl Peers<'_> {
     }
 
     /// Tells this edge's board that a second passes.
-    pub(crate) fn second<R: Wait>(&self, rt: &R) {
+    pub fn second<R: Wait>(&self, rt: &R) {
         self.boards.second(rt, self.number);
     }
 
     /// Puts an alert on this edge's board.
-    pub(crate) fn alarm<R: Wait>(&self, rt: &R, alarm: Alarm) {
+    pub fn alarm<R: Wait>(&self, rt: &R, alarm: Alarm) {
         self.boards.alarm(rt, self.number, alarm);
     }
 
     /// Tells that receiving over a link of this edge failed, or works again.
-    pub(crate) fn reception<R: Wait>(&self, rt: &R, reception: Reception) {
+    pub fn reception<R: Wait>(&self, rt: &R, reception: Reception) {
         self.boards.reception(rt, self.number, reception);
     }
 
@@ -128,21 +128,21 @@ impl Peers<'_> {
     }
 
     /// Answers the request that this edge's worker of updates was sent last.
-    pub(crate) fn answer<R: Wait>(&self, rt: &R, answer: Answer) {
+    pub fn answer<R: Wait>(&self, rt: &R, answer: Answer) {
         if let Some(mailbox) = self.own() {
             mailbox.answer(rt, answer);
         }
     }
 
     /// Lets this edge's worker of updates end once nothing waits.
-    pub(crate) fn end<R: Wait>(&self, rt: &R) {
+    pub fn end<R: Wait>(&self, rt: &R) {
         if let Some(mailbox) = self.own() {
             mailbox.end(rt);
         }
     }
 
     /// Tells that this edge takes no updates any more: so no other one keeps its own back for it.
-    pub(crate) fn leave<R: Wait>(&self, rt: &R) {
+    pub fn leave<R: Wait>(&self, rt: &R) {
         if let Some(mailbox) = self.own() {
             mailbox.close(rt);
         }
@@ -150,7 +150,7 @@ impl Peers<'_> {
     }
 
     /// Whether an update for this edge was lost, since each place was taken.
-    pub(crate) fn has_lost<R: Wait>(&self, rt: &R) -> bool {
+    pub fn has_lost<R: Wait>(&self, rt: &R) -> bool {
         match self.own() {
             Some(mailbox) => mailbox.lost(rt) > 0,
             None => false,

@@ -20,7 +20,7 @@ pub struct Running<'x> {
 
 impl<'x> Running<'x> {
     /// The edges of these mailboxes.
-    pub(crate) fn new(mailboxes: &'x Mailboxes) -> Self {
+    pub fn new(mailboxes: &'x Mailboxes) -> Self {
         Running { mailboxes }
     }
 
