@@ -11,7 +11,7 @@ ghost use Rattle.rstp_roles.specs.AllPorts.{
   with_sync,
 };
 
-use crate::role_transitions::has_role;
+use crate::acting::has_role;
 use rstp_state::port::PortState;
 
 /// The port is to come in step: sync.

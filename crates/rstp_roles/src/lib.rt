@@ -2,6 +2,7 @@
 //! 17.30, in this project's own table). Each rule is a function, and so is each rule's guard.
 #![tactic(auto)]
 
+mod acting;
 mod all_ports;
 pub mod firing;
 pub mod role_transitions;
