@@ -1,5 +1,5 @@
 # Completion of evpndctl for bash: `source tools/evpndctl.bash`. The words are those of `evpndctl help`, the edges those of
-# `evpndctl edges`, asked of the socket that the line names; where nobody answers there are none.
+# `evpndctl edges`, asked of the socket that the line names; where nobody answers there are none but evpndctl's own.
 
 _evpndctl() {
   local word=${COMP_WORDS[COMP_CWORD]} before=${COMP_WORDS[COMP_CWORD-1]} at=1
@@ -15,8 +15,8 @@ _evpndctl() {
   fi
   local place=$((COMP_CWORD - at)) words=
   case $place in
-    0) words=$({ "${asks[@]}" edges; "${asks[@]}" help; } 2> /dev/null < /dev/null | awk '$1 != "E" {print $1}') ;;
-    1) words=$("${asks[@]}" help 2> /dev/null < /dev/null | awk '$1 == "E" {print $2}') ;;
+    0) words="$({ "${asks[@]}" edges; "${asks[@]}" help; } 2> /dev/null < /dev/null | awk '$1 != "E" {print $1}') watch records" ;;
+    1) [[ ${COMP_WORDS[at]} =~ ^[0-9]+$ ]] && words=$("${asks[@]}" help 2> /dev/null < /dev/null | awk '$1 == "E" {print $2}') ;;
   esac
   [ "$at $place" = "1 0" ] && words+=" --control"
   mapfile -t COMPREPLY < <(compgen -W "$words" -- "$word" | sort -u)

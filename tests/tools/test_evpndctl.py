@@ -1,13 +1,15 @@
 """evpndctl (tools/evpndctl) against a console that answers as it is told here."""
 
 import os
+import re
+import signal
 import socket
 import subprocess
 import sys
 import tempfile
 import threading
 import unittest
-from typing import Dict, List, Tuple
+from typing import Dict, List, Tuple, Union
 
 from test_records import TOP
 
@@ -18,11 +20,19 @@ EDGES = b"1 edge 10.0.0.1 ports 1:5001 networks 5001\n2 edge 10.0.0.2 ports - ne
 REPORT = b"flood 5001 10.0.0.1 1 up\n\n"
 
 
-class Server:
-    """A socket at a path, where each line gets the answer that is told here. Behind one that isn't whole the connection ends."""
+STATION, OTHER = "02:00:00:00:00:0a", "02:00:00:00:00:0b"
+RECORD = b"EV\x03\x01" + bytes(36)
 
-    def __init__(self, path: str, answers: Dict[str, bytes]) -> None:
-        self.answers, self.heard = {"console": b"", **answers}, []
+
+class Server:
+    """A socket at a path, where each line gets the answer that is told here. Behind one that isn't whole the connection ends.
+
+    Of several answers to a line each is given once, but the last one again and again.
+    """
+
+    def __init__(self, path: str, answers: Dict[str, Union[bytes, List[bytes]]]) -> None:
+        told = {line: answer if isinstance(answer, list) else [answer] for line, answer in answers.items()}
+        self.answers, self.heard = {"console": [b""], **told}, []
         self.listener = socket.socket(socket.AF_UNIX, socket.SOCK_STREAM)
         self.listener.bind(path)
         self.listener.listen()
@@ -41,7 +51,8 @@ class Server:
                 self.heard.append(heard)
                 for line in lines:
                     heard.append(line)
-                    answer = self.answers[line.decode().rstrip("\n")]
+                    answers = self.answers[line.decode().rstrip("\n")]
+                    answer = answers.pop(0) if len(answers) > 1 else answers[0]
                     connection.sendall(answer)
                     if answer and not answer.endswith(b"\n\n") and answer != b"\n":
                         break
@@ -139,7 +150,8 @@ class Evpndctl(unittest.TestCase):
         self.assertIn(f"{self.path}: it ended the connection", notes)
 
     def test_words(self) -> None:
-        for words in (["--contro"], ["--control"], ["--port", "1"], ["edges\n1 report"]):
+        wrong = (["watch", "0"], ["watch", "1", "2"], ["watch", "soon"], ["watch", "nan"])
+        for words in (["--contro"], ["--control"], ["--port", "1"], ["edges\n1 report"], *wrong):
             status, out, notes = self.ask(*words)
             self.assertEqual((status, out), (2, ""), words)
             self.assertIn("usage: evpndctl", notes)
@@ -148,6 +160,109 @@ class Evpndctl(unittest.TestCase):
         status, out, _ = self.run_tool("--help")
         self.assertEqual(status, 0)
         self.assertIn("EVPND_CONTROL", out)
+
+    def watch(self, edges: str, *rounds: Dict[str, str], lines: int) -> List[str]:
+        """So many lines of a watch whose looks find these answers, without the time; then SIGINT ends it."""
+        answers = {line: [f"{found[line]}\n".encode() for found in rounds] for line in rounds[0]}
+        self.server({"edges": f"{edges}\n".encode(), **answers})
+        words = [sys.executable, TOOL, "--control", self.path, "watch", "0.05"]
+        with subprocess.Popen(words, stdout=subprocess.PIPE, stderr=subprocess.PIPE, encoding="utf-8") as tool:
+            told = [tool.stdout.readline() for _ in range(lines)]
+            tool.send_signal(signal.SIGINT)
+            rest, notes = tool.communicate(timeout=20)
+        self.assertEqual((tool.returncode, rest, notes), (0, "", ""))
+        for line in told:
+            self.assertRegex(line, "^[0-2][0-9]:[0-5][0-9]:[0-6][0-9] ")
+        return [line.split(" ", 1)[1].rstrip("\n") for line in told]
+
+    def test_watch(self) -> None:
+        """A station that is there at first, then one more, a move to another edge, one from port to port, and a station that goes."""
+        edge = "1 edge 10.0.0.1 ports 1:5001,2:5001 networks 5001\n"
+        here, away = f"owner 5001 {STATION} 10.0.0.1\n", f"owner 5001 {STATION} 10.0.0.7\n"
+        heard = f"1 station 5001 {STATION} port 1 age 3\n"
+        other, nobody = f"1 station 5001 {OTHER} port 2 pinned\n", f"owner 5001 {OTHER} none\n"
+        pinned = f"owner 5001 {OTHER} 10.0.0.1\n"
+        told = self.watch(
+            edge,
+            {"1 stations": heard, "1 report": "flood 5001 10.0.0.1 1 up\n" + here},
+            {"1 stations": heard.replace("3", "4") + other, "1 report": here + pinned},
+            {"1 stations": other, "1 report": away + pinned},
+            {"1 stations": heard.replace("port 1", "port 2") + other, "1 report": here + pinned},
+            {"1 stations": heard, "1 report": here + nobody},
+            lines=6,
+        )
+        wanted = [
+            f"known 5001 {STATION} at 10.0.0.1 port 1",
+            f"new 5001 {OTHER} at 10.0.0.1 port 2 pinned",
+            f"moved 5001 {STATION} from 10.0.0.1 port 1 to 10.0.0.7",
+            f"moved 5001 {STATION} from 10.0.0.7 to 10.0.0.1 port 2",
+            f"moved 5001 {STATION} from 10.0.0.1 port 2 to 10.0.0.1 port 1",
+            f"gone 5001 {OTHER} from 10.0.0.1 port 2 pinned",
+        ]
+        self.assertEqual(told, wanted)
+
+    def test_watch_of_two_edges(self) -> None:
+        """What they agree on is one line; where they don't, both are told. A frozen station is told, whoever owns it."""
+        edges = "1 edge 10.0.0.1 ports 1:5001 networks 5001\n2 edge 10.0.0.2 ports 1:5001 networks 5001\n"
+        one, two = f"owner 5001 {STATION} 10.0.0.1\n", f"owner 5001 {STATION} 10.0.0.2\n"
+        at_one, at_two = (f"{number} station 5001 {STATION} port 1 age 0\n" for number in (1, 2))
+        frozen = f"1 station 5001 {STATION} frozen\n"
+        told = self.watch(
+            edges,
+            {"1 stations": at_one, "2 stations": "", "1 report": one, "2 report": one},
+            {"1 stations": at_one, "2 stations": at_two, "1 report": one, "2 report": two},
+            {"1 stations": frozen, "2 stations": at_two, "1 report": two, "2 report": two},
+            {"1 stations": "", "2 stations": at_two, "1 report": two, "2 report": two},
+            lines=5,
+        )
+        both = "10.0.0.1 port 1 or 10.0.0.2 port 1"
+        wanted = [
+            f"known 5001 {STATION} at 10.0.0.1 port 1",
+            f"moved 5001 {STATION} from 10.0.0.1 port 1 to {both}",
+            f"moved 5001 {STATION} from {both} to 10.0.0.2 port 1",
+            f"frozen 5001 {STATION} at 10.0.0.1",
+            f"thawed 5001 {STATION} at 10.0.0.1",
+        ]
+        self.assertEqual(told, wanted)
+
+    def test_watch_in_mid_step(self) -> None:
+        """Where an edge has withdrawn the port between two questions nothing is told, until it is clear where the station is."""
+        edge, here = "1 edge 10.0.0.1 ports 1:5001 networks 5001\n", f"owner 5001 {STATION} 10.0.0.1\n"
+        told = self.watch(
+            edge,
+            {"1 stations": f"1 station 5001 {STATION} port 1 age 3\n", "1 report": here},
+            {"1 stations": "", "1 report": here},
+            {"1 stations": "", "1 report": here.replace("10.0.0.1", "none")},
+            lines=2,
+        )
+        self.assertEqual(told, [f"known 5001 {STATION} at 10.0.0.1 port 1", f"gone 5001 {STATION} from 10.0.0.1 port 1"])
+
+    def test_end_of_what_is_watched(self) -> None:
+        """The edges' end is told, and ends the watch."""
+        self.server({"edges": [EDGES, b"1 edge 10.0.0.1"], "1 stations": b"\n", "2 stations": b"\n", "1 report": b"\n", "2 report": b"\n"})
+        status, out, notes = self.ask("watch", "0.05")
+        self.assertEqual((status, out), (2, ""))
+        self.assertIn(f"{self.path}: it ended the connection", notes)
+
+    def test_records(self) -> None:
+        """What stands on standard input comes behind `records`, and what comes is printed, until either side ends."""
+        server = self.server({"records": RECORD + b"\n\n", RECORD.decode(): b""})
+        status, out, notes = self.ask("records", typed=RECORD + b"\n")
+        self.assertEqual((status, out.encode(), notes), (0, RECORD + b"\n\n", ""))
+        self.assertEqual(server.heard, [[b"records\n", RECORD + b"\n"]])
+
+    def test_records_until_the_edges_end(self) -> None:
+        """An end that isn't ours is told, and so is what there is instead of records."""
+        for answer, why in ((RECORD, "it ended the connection"), (b"busy\n", "busy"), (b"error: why\n", "error: why")):
+            with self.subTest(why=why):
+                server = self.server({"records": answer})
+                words = [sys.executable, TOOL, "--control", self.path, "records"]
+                with subprocess.Popen(words, stdin=subprocess.PIPE, stdout=subprocess.PIPE, stderr=subprocess.PIPE) as tool:
+                    self.assertEqual(tool.stdout.read(), answer if answer == RECORD else b"")
+                    self.assertRegex(tool.stderr.read().decode(), f"^evpndctl: {re.escape(self.path)}: {why}.*\n$")
+                    self.assertEqual(tool.wait(20), 2)
+                server.end()
+                os.unlink(self.path)
 
     def complete(self, *words: str) -> List[str]:
         """What bash offers for the last of these words."""
@@ -159,14 +274,16 @@ class Evpndctl(unittest.TestCase):
     def test_completion(self) -> None:
         """The first word is an edge, or one of those that name none; the second what an edge does."""
         self.server({"edges": EDGES, "help": HELP})
-        self.assertEqual(self.complete(""), ["--control", "1", "2", "edges", "help"])
+        self.assertEqual(self.complete(""), ["--control", "1", "2", "edges", "help", "records", "watch"])
         self.assertEqual(self.complete("1", ""), ["pin", "port", "report"])
         self.assertEqual(self.complete("1", "p"), ["pin", "port"])
         self.assertEqual(self.complete("--control", self.path, "1", "r"), ["report"])
         self.assertEqual(self.complete("1", "port", ""), [])
+        self.assertEqual(self.complete("w"), ["watch"])
+        self.assertEqual(self.complete("watch", ""), [])
 
     def test_completion_where_nobody_answers(self) -> None:
-        self.assertEqual(self.complete(""), ["--control"])
+        self.assertEqual(self.complete(""), ["--control", "records", "watch"])
         self.assertEqual(self.complete("1", ""), [])
 
 
