@@ -17,6 +17,7 @@ missing. Nothing here is proved.
 
 import argparse
 import collections
+import itertools
 import os
 import signal
 import socket
@@ -30,7 +31,7 @@ from evpnd_records import add_route_words, vnis_of
 from frr_routes import FOLDED, Routes
 from gobgp import PROTOS, Daemon, Declined, Event, NoDaemon
 from update_records import Fault, Refused, Register, Unreadable, Update
-from update_records import read_address, read_records, record_of, register_of
+from update_records import read_address, read_records, record_of, register_of, update_of_report
 
 HOLD = 10  # seconds in which what an earlier life left may be said anew, before it is withdrawn
 AGAIN = 1  # seconds between two tries of a connection
@@ -116,6 +117,7 @@ class Gateway:
         self.is_known = self.is_alone = False
         self.is_up = False
         self.was_up, self.stopping = threading.Event(), threading.Event()
+        self.control: Optional[str] = None
 
     # ---- from BGP to records
 
@@ -176,6 +178,22 @@ class Gateway:
         self.announcing.add(left)
         for update in met.values():
             self.answer(update)
+        self.look_back()
+
+    def look_back(self) -> None:
+        """Withdraws what edges at a socket have of the fabric by an earlier life, once BGP has had its time to say it."""
+        with self.lock:
+            is_due = self.control is not None and self.strangers is None
+        if not is_due:
+            return
+        try:
+            updates = reported(self.control)
+        except (OSError, ValueError, Unreadable) as fault:
+            self.told[f"the edges don't report what an earlier life has told them ({fault})"] += 1
+            return
+        for update in updates:
+            if update.originator not in self.originators:
+                self.answer(update)
 
     def write(self, out: BinaryIO, pending: Pending) -> None:
         """Writes what waits, until nothing comes any more; not in the second that is this life's incarnation."""
@@ -310,7 +328,7 @@ class Gateway:
 
     def by_socket(self, path: str) -> None:
         """Sessions at a Unix socket, one after the other."""
-        trouble = ""
+        trouble, self.control = "", path
         while not self.stopping.is_set():
             try:
                 with socket.socket(socket.AF_UNIX) as connection:
@@ -331,6 +349,7 @@ class Gateway:
         """One session, until either side ends it."""
         pending = self.begin_session()
         writer = started(self.write_socket, connection, pending)
+        started(self.look_back)
         try:
             with connection.makefile("rb") as stream:
                 tell(f"session ended: {self.read(stream) or 'by the other side'}")
@@ -384,6 +403,28 @@ class Gateway:
             tell("not all of ours is withdrawn: this gateway's next life, or gobgpd's end, withdraws the rest")
         for kinds in (self.left_out, self.told, self.refused):
             kinds.tell_counts()
+
+
+def asked(path: str, *lines: str) -> List[str]:
+    """What the edges at a control socket answer to lines of their console (docs/script.md); nothing where there is none."""
+    with socket.socket(socket.AF_UNIX) as connection:
+        connection.settimeout(PATIENCE)
+        connection.connect(path)
+        connection.sendall("\n".join(["console", *lines, ""]).encode())
+        answers: List[str] = []
+        with connection.makefile(encoding="utf-8") as stream:
+            for _ in lines:
+                answers += itertools.takewhile(bool, (line.rstrip("\n") for line in stream))
+        return answers
+
+
+def reported(path: str) -> List[Update]:
+    """The registers that the edges at a control socket have in their tables."""
+    edges = asked(path, "edges")
+    if not edges or not edges[0][:1].isdigit():
+        raise Unreadable(edges[0] if edges else "no answer")
+    lines = asked(path, *(f"{line.split(' ')[0]} report" for line in edges))
+    return [update for update in map(update_of_report, dict.fromkeys(lines)) if update is not None]
 
 
 def started(body: Callable, *words: object) -> threading.Thread:

@@ -348,6 +348,22 @@ def update_of_line(line: str) -> Update:
     return Update(originator, vni, mac, ip, advert, counter, incarnation)
 
 
+REGISTER_LINE = re.compile(
+    r"(?:flood|mac) ([0-9]+) (?:(\S+) )?(\S+) (?:([0-9]+)\.)?([0-9]+) (up|withdrawn|dynamic|static)(?: ([0-9]+))?( .*)?"
+)
+
+
+def update_of_report(line: str) -> Optional[Update]:
+    """The update that a register's line of a report says (docs/routes.md); nothing of an owner's line."""
+    found = REGISTER_LINE.fullmatch(line)
+    if found is None:
+        return None
+    vni, mac, originator, incarnation, counter, state, sequence, rest = found.groups(default="")
+    words = ["withdraw" if state == "withdrawn" else "advert", originator, vni, mac or "flood"]
+    words += (["static"] if state == "static" else []) + (["seq", sequence] if sequence else [])
+    return update_of_line(" ".join([*words, rest, "counter", counter, "incarnation", incarnation or "0"]))
+
+
 def options_of(words: List[str]) -> Dict[str, str]:
     """The options behind a line's key, each at most once."""
     options: Dict[str, str] = {}

@@ -8,10 +8,12 @@ import contextlib
 import io
 import os
 import queue
+import random
 import socket
 import subprocess
 import sys
 import tempfile
+import threading
 import time
 import types
 import unittest
@@ -23,7 +25,10 @@ from bgp_routes import Heard, Names, Own, Pmsi, Route, announced_by, is_target, 
 from evpnd_bgp import Gateway, Pending  # noqa: E402
 from frr_routes import Routes  # noqa: E402
 from gobgp import Declined, Event, Messages, NoDaemon  # noqa: E402
-from update_records import Advert, Unreadable, Update, read_records, record_of, update_of_line  # noqa: E402
+from report_model import line_of, random_update, report_of  # noqa: E402
+from report_model import register_of as place_of  # noqa: E402
+from update_records import Advert, Unreadable, Update, read_records, record_of  # noqa: E402
+from update_records import newness_of, update_of_line, update_of_report  # noqa: E402
 
 ONE, TWO, LEAF = (bytes([10, 0, 0, last]) for last in (1, 2, 100))
 STATION, OTHER = "02:00:00:00:00:0a", "02:00:00:00:00:0b"
@@ -245,6 +250,30 @@ class WhatIsLeftOut(unittest.TestCase):
     def test_macs(self):
         for mac in ("01:00:5e:00:00:01", "", "02-00-00-00-00-0a"):
             self.assertEqual(self.left_out(leaf_route(mac)), {"an address that a record can't say": 1})
+
+
+class ReportsBecomeUpdates(unittest.TestCase):
+    """A report's lines (docs/routes.md), as edges that run tell them."""
+
+    def test_lines(self):
+        lines = {
+            "flood 5001 10.0.0.1 1 up": "advert 10.0.0.1 5001 flood",
+            "flood 5001 10.0.0.1 7.2 withdrawn": "withdraw 10.0.0.1 5001 flood counter 2 incarnation 7",
+            f"mac 5001 {STATION} 10.0.0.1 3 withdrawn": f"withdraw 10.0.0.1 5001 {STATION} counter 3",
+            f"mac 5001 {STATION} 10.0.0.1 3 dynamic 9": f"advert 10.0.0.1 5001 {STATION} seq 9 counter 3",
+            f"mac 5001 {STATION} 10.0.0.1 6.3 static 0 ip 192.0.2.9 label2 7":
+                f"advert 10.0.0.1 5001 {STATION} ip 192.0.2.9 static seq 0 label2 7 counter 3 incarnation 6",
+        }
+        for line, wanted in lines.items():
+            self.assertEqual(update_of_report(line), update(wanted), line)
+        for line in (f"owner 5001 {STATION} 10.0.0.1", f"owner 5001 {STATION} none", "", "bad: no such edge"):
+            self.assertIsNone(update_of_report(line))
+
+    def test_any_register(self):
+        numbers = random.Random(11)
+        for _ in range(1000):
+            each = random_update(numbers)
+            self.assertEqual(update_of_report(line_of(each)), each)
 
 
 class Hears(unittest.TestCase):
@@ -576,6 +605,54 @@ class Stand:
             self.table[route.key()] = route
 
 
+class Edges:
+    """Edges in the place of `evpnd serve`, at a Unix socket: they say their records, take what comes, and report it."""
+
+    def __init__(self, path: str, *own: str) -> None:
+        self.own, self.table, self.is_busy = [update(line) for line in own], {}, False
+        self.sessions: list = []
+        self.listener = socket.socket(socket.AF_UNIX)
+        self.listener.bind(path)
+        self.listener.listen()
+        threading.Thread(target=self.serve, daemon=True).start()
+
+    def serve(self) -> None:
+        """Takes one client after the other."""
+        with contextlib.suppress(OSError):
+            while True:
+                connection, _ = self.listener.accept()
+                threading.Thread(target=self.answer, args=(connection,), daemon=True).start()
+
+    def answer(self, connection: socket.socket) -> None:
+        """Does what a client's first line asks for, until it ends."""
+        with connection, connection.makefile("rb") as stream, contextlib.suppress(OSError):
+            word = stream.readline()
+            if word == b"records\n":
+                self.sessions.append(connection)
+                connection.sendall(b"".join(map(record_of, self.own)))
+                for each in read_records(stream):
+                    self.take(each)
+            elif self.is_busy:
+                connection.sendall(b"busy\n")
+            else:
+                answers = {b"edges\n": "1 edge 10.0.0.1 ports 1:5001 networks 5001\n", b"1 report\n": report_of(self.table)}
+                for line in stream:
+                    connection.sendall((answers[line] + "\n").encode())
+
+    def take(self, each: Update) -> None:
+        """Enters a record: the newest of a register stays."""
+        old = self.table.get(place_of(each))
+        if old is None or newness_of(each) > newness_of(old):
+            self.table[place_of(each)] = each
+
+    def end(self) -> None:
+        """Ends all sessions, as a killed program does."""
+        self.listener.close()
+        for connection in self.sessions:
+            with contextlib.suppress(OSError):
+                connection.shutdown(socket.SHUT_RDWR)
+
+
 class Joins(unittest.TestCase):
     """The gateway's threads, from one side to the other."""
 
@@ -756,6 +833,84 @@ class Joins(unittest.TestCase):
         self.writes((100, STATION, Advert(), 1), (100, None, None, 2))
         for older, newer in zip(read_records(io.BytesIO(old)), read_records(io.BytesIO(self.out.getvalue()))):
             self.assertGreater(newer.incarnation, older.incarnation)
+
+    def edges(self) -> Edges:
+        """Edges that run at a socket, with a station of their own."""
+        folder = tempfile.TemporaryDirectory()
+        self.addCleanup(folder.cleanup)
+        self.path = os.path.join(folder.name, "control")
+        edges = Edges(self.path, "advert 10.0.0.1 5001 flood", f"advert 10.0.0.1 5001 {OTHER} seq 0 counter 2")
+        self.addCleanup(edges.end)
+        return edges
+
+    def at_the_edges(self) -> Gateway:
+        """A running gateway at their socket, with a later incarnation than the one before it."""
+        gateway = Gateway(self.stand, Routes(EVERY), [ONE], Names(0))
+        gateway.heard.incarnation -= 4 - len(self.gateways)
+        self.gateways.append(gateway)
+        self.threads += [program.started(gateway.by_socket, self.path), program.started(gateway.announce), program.started(gateway.watch)]
+        return gateway
+
+    def kill(self, gateway: Gateway, edges: Edges) -> None:
+        """Ends a gateway in mid-session: neither GoBGP nor the edges hear of it."""
+        table = dict(self.stand.table)
+        gateway.stopping.set()
+        for connection in edges.sessions:
+            connection.shutdown(socket.SHUT_RDWR)
+        self.stand.events.put(NoDaemon("killed"))
+        for thread in (self.threads[-3], self.threads[-1]):
+            thread.join(5)
+        gateway.announcing.close()
+        self.threads[-2].join(5)
+        self.stand.table = table
+
+    def has(self, edges: Edges, *wanted: tuple) -> None:
+        """Sees that the edges soon have these registers of others: originator's last octet, MAC or none, advert."""
+        found = lambda: {(each.originator[3], each.mac and each.mac.hex(":"), each.advert) for each in edges.table.values()}  # noqa: E731
+        reached(lambda: found() == set(wanted))
+        self.assertEqual(found(), set(wanted))
+
+    def test_a_killed_gateway_is_followed_at_the_edges(self):
+        """What the first one brought is refreshed, and withdrawn where BGP has ceased to say it while there was none."""
+        edges = self.edges()
+        first = self.at_the_edges()
+        for route in (leaf_route(), leaf_route("02:00:00:00:00:0c"), leaf_flood()):
+            self.stand.events.put(Event("a", route))
+        self.has(edges, (100, STATION, Advert()), (100, "02:00:00:00:00:0c", Advert()), (100, None, Advert()))
+        self.announces(("10.0.0.1", "", None), ("10.0.0.1", OTHER, (False, 0)))
+        self.kill(first, edges)
+        old = dict(edges.table)
+        self.at_the_edges()
+        self.stand.events.put(Event("a", leaf_route()))
+        self.stand.events.put(Event("a", leaf_flood()))
+        self.has(edges, (100, STATION, Advert()), (100, "02:00:00:00:00:0c", None), (100, None, Advert()))
+        for register, each in edges.table.items():
+            self.assertGreater(each.incarnation, old[register].incarnation)
+        self.announces(("10.0.0.1", "", None), ("10.0.0.1", OTHER, (False, 0)))
+
+    def test_edges_that_begin_anew_are_told_all(self):
+        """A gateway outlives them: all of the fabric is said to the new ones, all of theirs is announced."""
+        edges = self.edges()
+        self.at_the_edges()
+        self.stand.events.put(Event("a", leaf_route()))
+        self.has(edges, (100, STATION, Advert()))
+        self.announces(("10.0.0.1", "", None), ("10.0.0.1", OTHER, (False, 0)))
+        edges.end()
+        self.announces()
+        os.unlink(self.path)
+        edges = Edges(self.path, "advert 10.0.0.1 5001 flood incarnation 1")
+        self.addCleanup(edges.end)
+        self.has(edges, (100, STATION, Advert()))
+        self.announces(("10.0.0.1", "", None))
+
+    def test_edges_that_answer_others(self):
+        """That they have no seat for the question is told."""
+        edges = self.edges()
+        edges.is_busy = True
+        self.at_the_edges()
+        self.stand.events.put(Event("a", leaf_route()))
+        self.has(edges, (100, STATION, Advert()))
+        self.assertTrue(reached(lambda: "an earlier life has told them (busy)" in self.said.getvalue()))
 
     def test_garbage_ends_the_stream_with_a_line_and_nothing_else(self):
         gateway = self.gateway()
