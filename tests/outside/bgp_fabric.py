@@ -141,11 +141,11 @@ def gateway_text(neighbour: str, own: str, autonomous: int = 65000) -> str:
 class Gateway(Child):
     """A running gateway, at standard input and output if nothing else is said."""
 
-    def __init__(self, folder: str, path: str, name: str, way: Tuple[str, ...] = ("--stdio",)) -> None:
+    def __init__(self, folder: str, path: str, name: str, way: Tuple[str, ...] = ("--stdio",), own: str = OURS) -> None:
         self.out, self.notes = (os.path.join(folder, f"{name}.{kind}") for kind in ("records", "notes"))
         words = ["/usr/bin/python3", "-B", os.path.join(TOP, "tools", "evpnd_bgp.py"), "--gobgp", f"unix:{path}"]
         with open(self.out, "wb") as out, open(self.notes, "wb") as notes:
-            super().__init__([*words, "--own", OURS, *way], stdin=subprocess.PIPE, stdout=out, stderr=notes)
+            super().__init__([*words, "--own", own, *way], stdin=subprocess.PIPE, stdout=out, stderr=notes)
 
     def tell(self, *lines: str) -> None:
         """Gives it records."""

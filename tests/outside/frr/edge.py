@@ -44,6 +44,7 @@ class Edge:
         self.outside = f"{self.inside}-pe"
         self.root = root.rstrip("/")
         self.vnis, self.access, self.single = list(vnis), access, single
+        self.address, self.bgpd_lines = OWN, BGPD_LINES
         self.folder = tempfile.mkdtemp(prefix="evpnd-frr-", dir=f"{self.root}/var/tmp" if root else None)
         self.frr_folder = self.folder[len(self.root) :]
         self.children: List[subprocess.Popen] = []
@@ -88,7 +89,7 @@ class Edge:
             run("ip", "-n", namespace, "addr", "add", address, "dev", "up0")
             run("ip", "-n", namespace, "link", "set", "up0", "up")
         inside = ["ip", "-n", self.inside]
-        run(*inside, "addr", "add", f"{OWN}/32", "dev", "lo")
+        run(*inside, "addr", "add", f"{self.address}/32", "dev", "lo")
         run(*inside, "route", "add", "10.0.0.0/24", "via", "192.168.77.2")
         if self.single:
             self.make_single_device()
@@ -100,7 +101,7 @@ class Edge:
         """A VNI's bridge, its VXLAN device and, where they are wanted, its access port with an address on the bridge."""
         inside = ["ip", "-n", self.inside]
         run(*inside, "link", "add", f"br{vni}", "type", "bridge")
-        vxlan = ["type", "vxlan", "id", str(vni), "dstport", "4789", "local", OWN, "nolearning"]
+        vxlan = ["type", "vxlan", "id", str(vni), "dstport", "4789", "local", self.address, "nolearning"]
         run(*inside, "link", "add", f"vxlan{vni}", *vxlan)
         run(*inside, "link", "set", f"vxlan{vni}", "master", f"br{vni}")
         for device in (f"br{vni}", f"vxlan{vni}"):
@@ -122,7 +123,7 @@ class Edge:
         """One VXLAN device for all VNIs in one bridge with VLANs: VLAN 10, 11, .. are the VNIs in order."""
         inside, bridge = ["ip", "-n", self.inside], ["bridge", "-n", self.inside]
         run(*inside, "link", "add", "br0", "type", "bridge", "vlan_filtering", "1", "vlan_default_pvid", "0")
-        vxlan = ["type", "vxlan", "dstport", "4789", "local", OWN, "nolearning", "external", "vnifilter"]
+        vxlan = ["type", "vxlan", "dstport", "4789", "local", self.address, "nolearning", "external", "vnifilter"]
         run(*inside, "link", "add", "vxlan0", *vxlan)
         run(*inside, "link", "set", "vxlan0", "master", "br0")
         run(*bridge, "link", "set", "dev", "vxlan0", "vlan_tunnel", "on")
@@ -156,7 +157,7 @@ class Edge:
         os.chmod(self.folder, 0o755)
         inner = self.frr_folder
         self.within(*self.frr("chown", "frr:frr", inner))
-        lines = {"zebra": "hostname edge\n", "bgpd": BGPD_LINES}
+        lines = {"zebra": "hostname edge\n", "bgpd": self.bgpd_lines}
         for daemon, text in lines.items():
             path = os.path.join(self.folder, f"{daemon}.conf")
             with open(path, "w", encoding="utf-8") as stream:

@@ -1,0 +1,20 @@
+#!/usr/bin/env bash
+# usage: tests/outside/fabric.sh [evpnd]        (the built program; by default the one that `rt run` leaves)
+#
+# One `evpnd serve` in a fabric of two FRR leaves with Linux's bridges and VXLAN devices, by the gateway tools/evpnd_bgp.py
+# and a route reflector, all of them real; then two `evpnd serve` without BGP, joined by socat. Hosts ping each other while
+# one of them moves, and while a leaf, the gateway and the edges are killed and started. It tells what was lost, and how
+# long it took until all agreed. It needs root, /dev/net/tun, and Debian's packages gobgpd, golang-github-osrg-gobgp-dev,
+# protobuf-compiler, libprotobuf-dev, python3-grpcio, python3-protobuf, frr, iproute2, iputils-ping and socat; it names
+# what is missing. Networks, folders and daemons are this run's own. The last line is `ok`. It takes some three minutes,
+# and is no part of the gate.
+set -u
+here=$(cd "$(dirname "$0")" && pwd)
+. "$here/bgp_needs.sh"
+[ "$(id -u)" = 0 ] || { echo "this needs root"; exit 2; }
+needs "FRR's bgpd" frr test -x /usr/lib/frr/bgpd
+needs bridge iproute2 command -v bridge
+needs ping iputils-ping command -v ping
+needs socat socat command -v socat
+needs "tap devices" "nothing, but the kernel's module tun" test -e /dev/net/tun
+EVPND=$(realpath "$evpnd") exec unshare --net /usr/bin/python3 -B "$here/served_fabric.py"
