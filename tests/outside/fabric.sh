@@ -1,5 +1,6 @@
 #!/usr/bin/env bash
-# usage: tests/outside/fabric.sh [evpnd]        (the built program; by default the one that `rt run` leaves)
+# usage: tests/outside/fabric.sh [evpnd]                        (the built program; by default the one that `rt run` leaves)
+#        tests/outside/fabric.sh evpnd ROUTES MINUTES
 #
 # One `evpnd serve` in a fabric of two FRR leaves with Linux's bridges and VXLAN devices, by the gateway tools/evpnd_bgp.py
 # and a route reflector, all of them real; then two `evpnd serve` without BGP, joined by socat. Hosts ping each other while
@@ -7,7 +8,8 @@
 # long it took until all agreed. It needs root, /dev/net/tun, and Debian's packages gobgpd, golang-github-osrg-gobgp-dev,
 # protobuf-compiler, libprotobuf-dev, python3-grpcio, python3-protobuf, frr, iproute2, iputils-ping and socat; it names
 # what is missing. Networks, folders and daemons are this run's own. The last line is `ok`. It takes some three minutes,
-# and is no part of the gate.
+# and is no part of the gate. With ROUTES it brings so many of these into one `evpnd serve`, and then lets stations move
+# ten times a second for so many minutes, while hosts ping each other.
 set -u
 here=$(cd "$(dirname "$0")" && pwd)
 . "$here/bgp_needs.sh"
@@ -17,4 +19,6 @@ needs bridge iproute2 command -v bridge
 needs ping iputils-ping command -v ping
 needs socat socat command -v socat
 needs "tap devices" "nothing, but the kernel's module tun" test -e /dev/net/tun
-EVPND=$(realpath "$evpnd") exec unshare --net /usr/bin/python3 -B "$here/served_fabric.py"
+program=("$here/served_fabric.py")
+[ $# -lt 3 ] || program=("$here/served_load.py" "$2" "$3")
+EVPND=$(realpath "$evpnd") exec unshare --net /usr/bin/python3 -B "${program[@]}"

@@ -13,6 +13,7 @@ import signal
 import subprocess
 import sys
 import tempfile
+import threading
 from concurrent.futures import ThreadPoolExecutor
 from typing import Any, Callable, Dict, Iterable, List, NamedTuple, Optional, Tuple
 
@@ -131,22 +132,35 @@ class Relay:
 
 
 class Pings:
-    """Five pings a second from a host to others, until the end."""
+    """Pings from a host to others, five a second if nothing else is said, until the end."""
 
-    def __init__(self, host: "Host", others: Iterable["Host"]) -> None:
-        words = ["ping", "-n", "-i", "0.2", "-W", "1"]
+    def __init__(self, host: "Host", others: Iterable["Host"], every: float = 0.2) -> None:
+        words = ["ping", "-n", "-i", str(every), "-W", "1"]
         how = {"stdout": subprocess.PIPE, "stderr": subprocess.DEVNULL}
         self.running = [host.lab.start(host.netns, *words, other.address, **how) for other in others]
+        self.texts: List[str] = []
+        self.sent, self.slowest = 0, 0.0
+        self.readers = [threading.Thread(target=self.read, args=(each,)) for each in self.running]
+        for reader in self.readers:
+            reader.start()
+
+    def read(self, child: Child) -> None:
+        """Reads what one of them prints."""
+        self.texts.append(child.process.stdout.read().decode())
 
     def end(self) -> int:
         """How many found no answer before the last one that found one; all, where none did."""
-        lost = 0
         for each in self.running:
             each.process.send_signal(signal.SIGINT)
-            text = each.process.communicate(timeout=PATIENCE)[0].decode()
+        for reader in self.readers:
+            reader.join(PATIENCE)
+        lost = 0
+        for text in self.texts:
             answered = {int(number) for number in re.findall(r"icmp_seq=([0-9]+) ttl", text)}
             sent = int(re.search(r"([0-9]+) packets transmitted", text)[1])
             lost += (max(answered) if answered else sent) - len(answered)
+            self.sent += sent
+            self.slowest = max([self.slowest, *map(float, re.findall(r"time=([0-9.]+) ms", text))])
         return lost
 
 
