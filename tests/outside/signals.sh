@@ -1,9 +1,9 @@
 #!/usr/bin/env bash
 # usage: tests/outside/signals.sh [evpnd]        (the built program; by default the one that `rt run` leaves)
 #
-# Runs two edges by examples/run/evpnd-run, ends them by SIGTERM and by SIGINT, and looks whether both reports come; starts it with
+# Runs two edges by examples/run/evpnd-run, and serves two; ends them by SIGTERM and by SIGINT, and looks whether both reports come; starts it with
 # each of the descriptors 0 to 2 closed, which it has to refuse; and has systemd-analyze look at the unit, where that is there. It
-# needs no root, the UDP ports of examples/run/two_edges.toml, and some ten seconds. It is no part of the gate.
+# needs no root, the UDP ports of examples/run/two_edges.toml, the socket of served.toml, and some ten seconds. It is no part of the gate.
 set -u
 cd "$(dirname "$0")/../.."
 export EVPND=${1:-$PWD/crates/evpnd/out/evpnd}
@@ -13,18 +13,19 @@ trap 'rm -rf "$work"' EXIT
 differs=0
 tell() { if [ "$2" = "$3" ]; then echo "as said: $1"; else echo "DIFFERS: $1: $2, not $3"; differs=$((differs + 1)); fi; }
 
-for signal in TERM INT; do
+for way in "TERM two_edges.toml" "INT two_edges.toml" "TERM served.toml serve" "INT served.toml serve"; do
+  read -r signal file word <<< "$way"
   # bash lets no background job of a script have SIGINT: python3 gives it back
   python3 -c 'import os, signal, sys; signal.signal(signal.SIGINT, signal.SIG_DFL); os.execv(sys.argv[1], sys.argv[1:])' \
-    examples/run/evpnd-run examples/run/two_edges.toml < /dev/null > "$work/report" 2> "$work/notes" &
+    examples/run/evpnd-run "examples/run/$file" $word < /dev/null > "$work/report" 2> "$work/notes" &
   # the edges have begun, and signals are caught, when their tunnels are there (port 4789): ten seconds at the most
   for _ in $(seq 100); do grep -q '0200007F:12B5' /proc/net/udp && break; sleep 0.1; done
   sleep 0.5
   kill -s "$signal" $!
   wait $!
-  tell "SIG$signal: the status is 0" $? 0
-  tell "SIG$signal: both reports are there" "$(grep -c '^edge [12]$' "$work/report")" 2
-  tell "SIG$signal: nothing is told" "$(cat "$work/notes")" ""
+  tell "SIG$way: the status is 0" $? 0
+  tell "SIG$way: both reports are there" "$(grep -c '^edge [12]$' "$work/report")" 2
+  tell "SIG$way: nothing is told" "$(cat "$work/notes")" ""
 done
 
 examples/run/evpnd-run examples/run/two_edges.toml <&- > "$work/out" 2> "$work/notes"
