@@ -4,6 +4,7 @@ import contextlib
 import os
 import re
 import select
+import signal
 import socket
 import stat
 import subprocess
@@ -209,6 +210,23 @@ class Asked(Served):
             done = subprocess.run(tool, capture_output=True, encoding="utf-8", timeout=20, check=False)
             self.assertEqual((done.returncode, done.stdout, done.stderr), (status, out, ""))
         self.ends_well()
+
+    def test_watch(self) -> None:
+        """`evpndctl watch` shows a station that is pinned and unpinned, until SIGINT; the run goes on."""
+        console = self.console()
+        words = [sys.executable, os.path.join(TOP, "tools", "evpndctl"), "--control", self.path, "watch", "0.1"]
+        with subprocess.Popen(words, stdout=subprocess.PIPE, stderr=subprocess.PIPE, encoding="utf-8") as tool:
+            console.ask(f"1 pin {VNI} {MAC} 1")
+            came = tool.stdout.readline()
+            console.ask(f"1 unpin {VNI} {MAC}")
+            went = tool.stdout.readline()
+            tool.send_signal(signal.SIGINT)
+            rest, notes = tool.communicate(timeout=20)
+        self.assertRegex(came, rf"^[0-9:]+ (new|known) {VNI} {MAC} at {re.escape(ONE)} port 1 pinned\n$")
+        self.assertRegex(went, rf"^[0-9:]+ gone {VNI} {MAC} from {re.escape(ONE)} port 1 pinned\n$")
+        self.assertEqual((tool.returncode, rest, notes), (0, "", ""))
+        withdrawn = f"mac {VNI} {MAC} {ONE} 3 withdrawn\nowner {VNI} {MAC} none\n"
+        self.ends_well(FLOODS + withdrawn)
 
 
 @needs_program
