@@ -9,7 +9,8 @@
 # protobuf-compiler, libprotobuf-dev, python3-grpcio, python3-protobuf, frr, iproute2, iputils-ping and socat; it names
 # what is missing. Networks, folders and daemons are this run's own. The last line is `ok`. It takes some three minutes,
 # and is no part of the gate. With ROUTES it brings so many of these into one `evpnd serve`, and then lets stations move
-# ten times a second for so many minutes, while hosts ping each other.
+# ten times a second for so many minutes, while hosts ping each other. LEAVES is a folder with another Debian that has frr
+# (frr/leaves.py), for another version of FRR than this host's.
 set -u
 here=$(cd "$(dirname "$0")" && pwd)
 . "$here/bgp_needs.sh"

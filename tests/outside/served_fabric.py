@@ -2,6 +2,7 @@
 
 Host 1 stands at our edge, host 2 at leaf one, host 3 at leaf two. Host 4 moves, and its home is leaf one. After each step
 all that can be asked have to name the same owner of each host: evpndctl, vtysh at both leaves, and their kernels' tables.
+Host N has the address 02:00:00:00:77:0N.
 """
 
 import sys
@@ -54,8 +55,9 @@ class Fabric:
         begun = time.monotonic() if since is None else since
         asked = [each for each in (self.served, self.one, self.two) if each is not dead]
         found = waited(lambda: not differing(asked, self.homes))
-        after = f"after {time.monotonic() - begun:.1f} s"
-        self.tally.see(found is not None, f"{what}: all agree {after if found is not None else differing(asked, self.homes)}")
+        owners = ", ".join(f"{mac[-5:]} at {home}" for mac, home in self.homes.items())
+        told = f"after {time.monotonic() - begun:.1f} s: {owners}" if found is not None else differing(asked, self.homes)
+        self.tally.see(found is not None, f"{what}: all agree {told}")
 
     def leaves_agree(self) -> Optional[float]:
         """The seconds until both leaves name the wanted owners."""

@@ -280,7 +280,7 @@ class Leaf(Edge):
     """An FRR leaf on the wire, with ports at which a cable can be put in."""
 
     def __init__(self, lab: Lab, name: str, address: str, reflector: str) -> None:
-        super().__init__(name)
+        super().__init__(name, os.environ.get("LEAVES", ""))
         self.lab, self.name, self.address = lab, f"leaf {name}", address
         self.bgpd_lines = LEAF_LINES.format(address, reflector)
         lab.leaves.append(self)
