@@ -2,7 +2,7 @@
 # usage: tests/outside/signals.sh [evpnd]        (the built program; by default the one that `rt run` leaves)
 #
 # Runs two edges by examples/run/evpnd-run, and serves two; ends them by SIGTERM and by SIGINT, and looks whether both reports come; starts it with
-# each of the descriptors 0 to 2 closed, which it has to refuse; and has systemd-analyze look at the unit, where that is there. It
+# each of the descriptors 0 to 2 closed, which it has to refuse; and has systemd-analyze look at the units, where that is there. It
 # needs no root, the UDP ports of examples/run/two_edges.toml, the socket of served.toml, and some ten seconds. It is no part of the gate.
 set -u
 cd "$(dirname "$0")/../.."
@@ -38,9 +38,11 @@ examples/run/evpnd-run examples/run/two_edges.toml < /dev/null > "$work/out" 2>&
 tell "descriptor 2 closed: the status is 4" $? 4
 
 if command -v systemd-analyze > "$work/found"; then
-  sed 's|/usr/local/bin/evpnd-run|/bin/true|' examples/run/evpnd.service > "$work/evpnd.service"
-  systemd-analyze verify "$work/evpnd.service" > "$work/verified" 2>&1
-  tell "systemd reads the unit" "$? $(cat "$work/verified")" "0 "
+  for unit in examples/run/evpnd.service examples/fabric/evpnd-serve.service examples/fabric/evpnd-bgp.service; do
+    sed -e 's#/usr/local/bin/evpnd-run#/bin/true#' -e 's#/usr/bin/evpnd-bgp#/bin/true#' $unit > "$work/${unit##*/}"
+    systemd-analyze verify "$work/${unit##*/}" > "$work/verified" 2>&1
+    tell "systemd reads $unit" "$? $(cat "$work/verified")" "0 "
+  done
 else
   echo "not tried: systemd-analyze isn't here"
 fi
