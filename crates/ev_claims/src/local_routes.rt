@@ -4,20 +4,19 @@ ghost use Rattle.std.specs.Prelude.{◌≡◌, ◌≢◌, ◌⊎◌, ◌+◌, �
 ghost use Rattle.ether_wire.specs.Addr.{is_group};
 ghost use Rattle.route_join.specs.Table.{AreOriginators, value_at, is_listed};
 ghost use Rattle.route_join.specs.Taken.{taken_of};
-ghost use Rattle.mac_arena.specs.Learning.{entry_at, is_full, is_pinned, IsLatest, first_unpinned, stations_at};
-ghost use Rattle.mac_arena.specs.ListsName.{ListsName};
+ghost use Rattle.mac_arena.specs.Learning.{entry_at, is_full, is_pinned, IsLatest};
 ghost use Rattle.ether_wire.specs.Ports.{has_port};
 ghost use Rattle.ev_claims.specs.Speaker.{announced, is_originated, is_ahead, is_spent, is_returning, IsOwnAt, IsNoOwnAt};
-ghost use Rattle.ev_claims.specs.LocalRoutes.{AreGood, entries, vni_at, is_member, key_of, station_of, after_advert, after_refresh, after_pin, after_shift, after_update, after_removal, after_removals, after_take, after_losing_at, after_own, after_announcement, lost_at, loses_pinned};
-ghost use Rattle.mac_arena.specs.Laws.{unpinned_on};
-ghost use Rattle.ev_claims.specs.Leaving.{after_ageing, after_flush, due_in, AreKept};
+ghost use Rattle.ev_claims.specs.LocalRoutes.{AreGood, entries, vni_at, is_member, key_of, station_of, after_advert, after_refresh, after_pin, after_shift, after_update, after_removal, after_take, after_losing_at, after_own, after_announcement, lost_at, loses_pinned};
 ghost use Rattle.ev_claims.specs.Opening.{IsOpening};
+
+mod leaving;
 
 use crate::opening::Start;
 pub use crate::speaker::OwnError;
 use crate::speaker::Speaker;
 use arrayvec::ArrayVec;
-use ether_wire::{Addr, Mac, NO_PORTS, Vni, next_port, place_of_port, with_port};
+use ether_wire::{Addr, Mac, NO_PORTS, Vni, place_of_port, with_port};
 use mac_arena::{Entry, MacTable, Station};
 use route_join::{Table, TakeError, Taken};
 use route_wire::{Advert, Content, Ip, Key, Update};
@@ -354,28 +353,6 @@ impl LocalRoutes {
         self.speaker.import_own(update)
     }
 
-    /// The unpinned stations that were last heard at this second or before go and are withdrawn,
-    /// the one heard longest ago first. It takes no memory.
-    pub fn age(&mut self, limit: u64)
-        ensures { self.new ≡ after_ageing self.old limit }
-    {
-        while let Some(station) = self.oldest_due(limit) {
-            self.remove(&station);
-        }
-    }
-
-    /// The unpinned stations behind the ports of a set go and are withdrawn, port by port, in the
-    /// order in which they came to each. It takes no memory.
-    pub fn flush(&mut self, ports: u64)
-        ensures { self.new ≡ after_flush self.old ports }
-    {
-        let mut after = 0;
-        while let Some(port) = next_port(ports, after) {
-            self.flush_port(port);
-            after = port;
-        }
-    }
-
     /// Whether an own register waits to be announced.
     pub fn has_pending(&self) -> bool
         ensures { result ≡ is_some (slice_get self.now.speaker.pending 0) }
@@ -397,50 +374,6 @@ impl LocalRoutes {
         ensures none { IfNone result (self.old.speaker.pending ≡ []) }
     {
         self.speaker.announce()
-    }
-
-    /// The unpinned stations behind a port go, in the order in which they came to it. Those behind
-    /// other ports keep their order.
-    fn flush_port(&mut self, port: u8)
-        requires { 0 < port }
-        ensures after { self.new ≡ after_removals self.old (unpinned_on self.old.learned port) }
-        ensures others { AreKept self.old.learned self.new.learned port }
-    {
-        while let Some(station) = self.first_unpinned(port) {
-            self.remove(&station);
-        }
-    }
-
-    /// The unpinned station behind the port that came to it first, if there is such a port.
-    fn first_unpinned(&self, port: u8) -> Option<Station>
-        requires { 0 < port }
-        ensures first { result ≡ slice_get (unpinned_on self.now.learned port) 0 }
-        ensures lists { ListsName self.now.learned }
-    {
-        let _count = self.learned.len();
-        let ports = self.ports.as_slice();
-        if port as usize > ports.len() {
-            return None;
-        }
-        self.learned.first_of(port)
-    }
-
-    /// The station heard longest ago, if it is due.
-    fn oldest_due(&self, limit: u64) -> Option<Station>
-        ensures first { result ≡ slice_get (due_in self.now.learned limit) 0 }
-        ensures lists { ListsName self.now.learned }
-    {
-        let _count = self.learned.len();
-        let Some(station) = self.learned.oldest() else {
-            return None
-        };
-        let Some(entry) = self.learned.look(&station) else {
-            return None
-        };
-        if entry.last > limit {
-            return None;
-        }
-        Some(station)
     }
 
     /// Takes another edge's update into the table alone.
