@@ -1,4 +1,5 @@
-"""Our own rules of CONTRIBUTING.md that a reader of texts can see: heads of files, comments of public items, lengths of lines.
+"""Our own rules of CONTRIBUTING.md that a reader of texts can see: heads of files, comments of public items, lengths of lines and
+files, numbers of parameters.
 
 What doesn't keep a rule yet is named or counted here. A count may not rise, and one that falls is to be entered.
 """
@@ -24,6 +25,17 @@ LONG_RT = {  # bpdu_wire's is the row of a table, ether_wire's are tables of dig
     "crates/rstp_net/src/laws.rt": 1,
 }
 LONG_ANTT = 10
+MOST_LINES, MOST_PARAMETERS = 450, 6
+MANY_PARAMETERS = {  # `self` isn't counted; ev_tunnel's are the arguments that a decision is of
+    "crates/ev_peers/src/edge_threads.rt": {"edge_worker": 8, "run_workers": 10},
+    "crates/ev_peers/src/entering.rt": {"start_entering": 8},
+    "crates/ev_peers/src/run.rt": {"run_ready": 7, "run_within": 8, "start_edges": 8},
+    "crates/ev_peers/src/workers.rt": {"enter_datagram": 7, "note_call": 7, "turn": 8, "turn_port": 7},
+    "crates/ev_run/src/run.rt": {"run_asked": 7, "run_bound": 8, "run_reading": 8},
+    "crates/ev_run/src/serve.rt": {"serve_edges": 7},
+    "crates/ev_tunnel/src/decision.rt": {"decide": 8, "decide_into": 9},
+    "crates/ev_tunnel/src/laws.rt": {"known_goes_to_one_place": 8, "members_that_pass": 8, "never_back": 8},
+}
 
 
 def files(ending: str, part: str = "") -> List[str]:
@@ -55,6 +67,34 @@ def can_be_broken(line: str) -> bool:
     return not text.startswith(("ghost use ", "pub ghost use ", "#[")) and '"' not in text
 
 
+def behind_brackets(text: str, start: int) -> int:
+    """The place behind the bracket that closes the one here. An arrow's `>` closes none."""
+    depth = 0
+    for place in range(start, len(text)):
+        if text[place] in "(<[{":
+            depth += 1
+        elif text[place] in ")]}" or text[place] == ">" and text[place - 1] != "-":
+            depth -= 1
+            if depth == 0:
+                return place + 1
+    return len(text)
+
+
+def parameters(text: str) -> Iterator[Tuple[str, int]]:
+    """Each function of a source, with the number of its parameters but `self`."""
+    text = re.sub(r"//[^\n]*", "", text)
+    for found in re.finditer(r"\bfn (\w+)", text):
+        start = found.end()
+        if text[start] == "<":
+            start = behind_brackets(text, start)
+        inner = text[start + 1 : behind_brackets(text, start) - 1]
+        while re.search(r"[(<\[{]", inner):  # types within types hold commas
+            at = re.search(r"[(<\[{]", inner).start()
+            inner = inner[:at] + inner[behind_brackets(inner, at) :]
+        names = [part.strip() for part in inner.split(",") if part.strip()]
+        yield found[1], sum(not re.match(r"(&('\w+ )?)?(mut )?self\b", name) for name in names)
+
+
 class Rules(unittest.TestCase):
     """Each rule."""
 
@@ -82,6 +122,24 @@ class Rules(unittest.TestCase):
     def test_lines_of_antt(self):
         """Their number may not rise; where it has fallen, enter the new one."""
         self.assertLessEqual(sum(len(line) > ANTT_WIDTH for name in files(".antt") for line in lines_of(name)), LONG_ANTT)
+
+    def test_lengths_of_files(self):
+        long = {name: len(lines_of(name)) - 1 for name in files(".rt", "/src/") if len(lines_of(name)) - 1 > MOST_LINES}
+        self.assertEqual(long, {})
+
+    def test_parameters(self):
+        """None more than these; where one has fewer, enter that."""
+        many = {name: {function: count for function, count in parameters("\n".join(lines_of(name))) if count > MOST_PARAMETERS}
+                for name in files(".rt", "/src/") if "/tests" not in name}
+        self.assertEqual({name: found for name, found in many.items() if found}, MANY_PARAMETERS)
+
+    def test_counts_of_parameters(self):
+        """The rule's own reading."""
+        source = """fn none() {}
+fn one(self, a: u8) fn two<F: Fn(u8, u8) -> u8>(&mut self, a: Result<u8, ()>, b: F,)
+fn three<'x>(&'x self, a: &[(u8, u8)], b: impl Fn(u8, u8) -> bool, // c: u8
+    c: [u8; 4]) -> (u8, u8)"""
+        self.assertEqual(list(parameters(source)), [("none", 0), ("one", 1), ("two", 2), ("three", 3)])
 
     def test_subjects_of_commits(self):
         words = ["git", "log", "--no-merges", "--format=%h %s", f"{SUBJECTS_SINCE}..HEAD"]
