@@ -7,4 +7,5 @@ pub mod Spelt
 pub mod Streams
 pub mod Unfinished
 pub mod Feeding
+pub mod Steps
 pub mod Cuttings

@@ -1,7 +1,8 @@
 use Rattle.std.proofs.Common.{ap, ◌∙◌}
 use Rattle.route_wire.specs.declared.stream.Next.TheVariants.{More, Record, Refused, Fault}
 use Rattle.route_wire.specs.Feed.{Held, shown}
-use Rattle.ev_report.proofs.Feeding.{none_next, same_after}
+use Rattle.route_wire.proofs.Steps.{same_after}
+use Rattle.ev_report.proofs.Feeding.{none_next}
 use Rattle.ev_report.proofs.stream.Intake.fault.Goals as goal
 
 pub returns-in-More : goal.returns-in-More

@@ -8,7 +8,7 @@ use Rattle.route_wire.specs.Feed.{Held, HasRead, added, shown}
 use Rattle.ev_report.specs.declared.stream.Intake.{Intake}
 use Rattle.ev_report.specs.Progressing.{State, state}
 use Rattle.ev_report.proofs.Taking.{octets_next, answers_none, answers_fed, answers_refused, tells_none, or_false}
-use Rattle.ev_report.proofs.Feeding.{feeds_some, feeds_version, next_holds_none}
+use Rattle.route_wire.proofs.Steps.{feeds_some, feeds_version, next_holds_none}
 use Rattle.ev_report.proofs.Refusals.{refused_otherwise}
 use Rattle.ev_report.proofs.stream.Intake.step.Goals as goal
 
