@@ -81,7 +81,7 @@ class Fabric:
                     wrong[f"{host.name} to {other.name}"] = came
         self.tally.see(not wrong, f"{what}: {BROADCASTS} broadcasts of each host come to each other one once{wrong or ''}")
 
-    def pinging(self, step: Callable[[], None], host: Host) -> Tuple[int, int]:
+    def pinging(self, step: Callable[[], object], host: Host) -> Tuple[int, int]:
         """Does something while a host pings all others, and they it; gives how many pings were lost each way."""
         others = [each for each in self.hosts if each is not host]
         to, of = Pings(host, others), [Pings(each, [host]) for each in others]
@@ -150,7 +150,7 @@ def gateway_dies(fabric: Fabric, tally: Tally) -> None:
     fabric.homes[SILENT] = ONE
     fabric.agree("a station of leaf one's")
     host = fabric.hosts[1]
-    lost = fabric.pinging(lambda: fabric.gateway.kill() and None, fabric.hosts[0])
+    lost = fabric.pinging(fabric.gateway.kill, fabric.hosts[0])
     tally.see(lost == (0, 0), f"the gateway is killed: {sum(lost)} of 30 pings a second are lost")
     host.plug(fabric.two.port(2))
     fabric.homes[host.mac] = TWO
