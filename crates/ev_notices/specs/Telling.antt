@@ -16,7 +16,7 @@ use Rattle.ev_notices.specs.declared.receptions.Input.{Input}
 use Rattle.ev_notices.specs.declared.receptions.Input.TheVariants.{Port, Tunnel, Clock}
 use Rattle.ev_notices.specs.declared.receptions.Reception.{Reception as Change}
 use Rattle.ev_notices.specs.declared.telling.News.{News}
-use Rattle.ev_notices.specs.declared.telling.News.TheVariants.{Alerts, Reception, Untold}
+use Rattle.ev_notices.specs.declared.telling.News.TheVariants.{Alerts, Reception, Untold, Refused}
 use Rattle.ev_links.specs.Coming.{behind, after_these}
 
 -- ---- a line
@@ -84,12 +84,19 @@ abbrev pub untold_text : ℕ → ℕ → List ℕ
 untold_text edge count =
     edge_text edge ++ codes "receiving failed or was there again " ++ decimal count ++ codes " more times\n"
 
+-- ---- records of a connection
+
+-- `records: refused NUMBER`, of a record or of the octets behind the last one
+abbrev pub refused_text : ℕ → List ℕ
+refused_text number = codes "records: refused " ++ decimal number ++ codes "\n"
+
 -- ---- all lines
 
 abbrev pub news_text : ℕ → News → List ℕ
 news_text edge (Alerts notice) = notice_text edge notice
 news_text edge (Reception change) = reception_text edge change
 news_text edge (Untold count) = untold_text edge count
+news_text edge (Refused number) = refused_text number
 
 -- news, and the number of the edge that they are about
 abbrev pub Told : Type 0

@@ -1,15 +1,17 @@
-//! What an operator is told of edges that run: alerts, links that fail and work again, and the
-//! lines that are written of them.
+//! What an operator is told of edges that run: alerts, links that fail and work again, records that
+//! weren't taken, and the lines that are written of them.
 #![tactic(auto)]
 
 mod alarm;
 mod board;
 mod in_turn;
 mod receptions;
+mod records;
 mod telling;
 
 pub use alarm::{Alarm, alarm_of, alert_of, is_second};
 pub use board::{Board, Notice, Posted};
 pub use in_turn::tell_in_turn;
 pub use receptions::{Input, Reception, Receptions};
+pub use records::Refusals;
 pub use telling::{News, NoticesIn, notice_worker, put_notice};

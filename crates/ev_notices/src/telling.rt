@@ -3,7 +3,7 @@ ghost use Rattle.std.specs.Prelude.{◌≡◌, ◌++◌, ◌∷◌, [], Option, 
 ghost use Rattle.std.specs.Fmt.{decimal};
 ghost use Rattle.ether_wire.specs.Ends.{IsOpen, Puts};
 ghost use Rattle.ev_links.specs.Coming.{behind};
-ghost use Rattle.ev_notices.specs.Telling.{Told, alert_words, edge_text, count_text, held_text, station_text, place_text, about_text, alarm_text, notice_text, input_text, state_text, reception_text, untold_text, news_text, TellsAll};
+ghost use Rattle.ev_notices.specs.Telling.{Told, alert_words, edge_text, count_text, held_text, station_text, place_text, about_text, alarm_text, notice_text, input_text, state_text, reception_text, untold_text, refused_text, news_text, TellsAll};
 
 use crate::alarm::Alarm;
 use crate::board::Notice;
@@ -22,6 +22,9 @@ pub enum News {
     Reception(Reception),
     /// So many times this wasn't told.
     Untold(u64),
+    /// That records which came over a connection were refused: a fault of the stream by its number
+    /// (1 to 4), or a refusal of a record (5 and above). It is of no edge.
+    Refused(u64),
 }
 
 /// Where what an operator is told comes from.
@@ -205,6 +208,17 @@ fn put_untold<N: Out>(notes: &mut N, edge: u64, count: u64) -> Result<(), Device
     notes.put(b" more times\n")
 }
 
+/// Writes `records: refused NUMBER`.
+#[tactic(auto, using(ether_wire::proofs::Appending::with_text_twice))]
+fn put_refused<N: Out>(notes: &mut N, number: u64) -> Result<(), Device>
+    requires { IsOpen (N.end notes.old) }
+    ensures { Puts (N.end notes.old) (N.end notes.new) (refused_text number) result }
+{
+    notes.put(b"records: refused ")?;
+    put_decimal(notes, number)?;
+    notes.put(b"\n")
+}
+
 /// Writes what an operator is told at once of the edge with this number, and sees that it goes out.
 ///
 /// # Errors
@@ -223,6 +237,10 @@ fn put_news<N: Out>(notes: &mut N, edge: u64, news: &News) -> Result<(), Device>
         }
         News::Untold(count) => {
             put_untold(notes, edge, *count)?;
+            notes.flush()
+        }
+        News::Refused(number) => {
+            put_refused(notes, *number)?;
             notes.flush()
         }
     }
