@@ -7,7 +7,7 @@ use Rattle.std.proofs.lemmas.Grind.{get_or-set_at}
 use Rattle.std.proofs.lemmas.Map.Views.{exact_unsigned_eq}
 use Rattle.route_wire.specs.Fields.{Fields}
 use Rattle.ev_exchange.specs.declared.receiver.TheConstants.{KINDS}
-use Rattle.ev_exchange.specs.Receiving.{Given, behind, times, capped, AreCounts, news_of, handed_behind, handed}
+use Rattle.ev_exchange.specs.Receiving.{times, capped, AreCounts, news_of, handed_behind, handed}
 
 -- ---- counts
 times_push : (kind : ℕ) (answers : List (Result Fields ℕ)) (a : Result Fields ℕ)
@@ -60,9 +60,3 @@ behind_push earlier (x ∷ answers) a =
 pub handed_push : (answers : List (Result Fields ℕ)) (a : Result Fields ℕ)
     → handed (answers ++ a ∷ []) ≡ handed answers ++ news_of answers a
 handed_push answers a = behind_push [] answers a
-
--- ---- an entrance
-pub behind_twice : (k : Given) (a b : List (Result Fields ℕ))
-    → behind (behind k a) b ≡ behind k (a ++ b)
-behind_twice None a b = refl
-behind_twice (Some xs) a b = ap Some (append_assoc xs a b)

@@ -12,10 +12,12 @@ use Rattle.route_wire.specs.Stream.{whole_up_to}
 use Rattle.route_wire.specs.Feed.{HasRead, added, is_rest, shown, next_by, next_of}
 use Rattle.route_wire.proofs.Cuttings.{read_whole_stream}
 use Rattle.ev_exchange.specs.declared.stream_end.StreamEnd.{StreamEnd}
-use Rattle.ev_exchange.specs.Receiving.{Received, Given, behind, AreCounts, news_of, handed, HasReceived}
+use Rattle.ev_links.specs.Coming.{behind}
+use Rattle.ev_exchange.specs.Receiving.{Received, Given, AreCounts, news_of, handed, HasReceived}
 use Rattle.ev_exchange.specs.Receiving.{Delivers, end_by}
 use Rattle.ev_exchange.specs.Receiving.{end_of_next}
-use Rattle.ev_exchange.proofs.Counting.{handed_push, behind_twice}
+use Rattle.ev_links.proofs.Behind.{behind_twice, behind_none}
+use Rattle.ev_exchange.proofs.Counting.{handed_push}
 
 -- what goes on of what a feed has next, behind earlier answers
 abbrev pub news_next : List (Result Fields ℕ) → Next → List (Result Fields ℕ)
@@ -23,10 +25,6 @@ news_next earlier More = []
 news_next earlier (Record u) = news_of earlier (Ok u)
 news_next earlier (Refused refusal) = news_of earlier (Err refusal)
 news_next earlier (Faulted fault) = []
-
-behind_none : (k : Given) → behind k [] ≡ k
-behind_none Option.None = refl
-behind_none (Option.Some xs) = ap Option.Some (append-nil xs)
 
 handed_next : (answers : List (Result Fields ℕ)) (x : Next)
     → handed (answers ++ added x) ≡ handed answers ++ news_next answers x

@@ -1,7 +1,7 @@
 -- One record more, and none.
 use Rattle.std.proofs.Common.{◌≡◌, ℕ, ◌+◌, Bool, true, false, List, [], ◌∷◌, ◌++◌, map, drop, Result, Ok, refl, sym, ap}
 use Rattle.std.proofs.Common.{Err, cond, is_ok, subst, ◌∙◌, append_assoc, append-nil}
-use Rattle.std.specs.List.{concat, filter}
+use Rattle.std.specs.List.{concat}
 use Rattle.std.proofs.lemmas.List.Folds.{concat-append}
 use Rattle.ether_wire.specs.Ends.{End, with_text, Puts}
 use Rattle.ether_wire.specs.declared.ends.Device.{Device}
@@ -9,7 +9,7 @@ use Rattle.ether_wire.proofs.Appending.{with_text_twice}
 use Rattle.route_wire.specs.Fields.{Fields}
 use Rattle.route_wire.specs.Record.{ReadsUpTo, Reads}
 use Rattle.route_wire.specs.Encode.{spelling_of}
-use Rattle.ev_exchange.specs.Sending.{Sending, records_of, all_ok, HasSent}
+use Rattle.ev_exchange.specs.Sending.{Sending, records_of, all_ok, is_own, own_of, HasSent}
 
 -- answers, and then those of what is left
 reads_on : (newest : ℕ) (s : List ℕ) (xs ys : List (Result Fields ℕ)) (r t : List ℕ) → ReadsUpTo newest s xs r
@@ -79,8 +79,8 @@ sent_put s e e' o b u octets (Err device) same opened spells put is last start s
     (λ _. put ∙ ap (λ (x : Sending). x.end.failures + 1) same) last h
 
 -- ---- a walk over updates of which some are said
-pub one_said : (p : Fields → Bool) (us : List Fields) (u : Fields) (rest so_far whole : List Fields) → us ≡ u ∷ rest
-    → p u ≡ true → so_far ++ filter p us ≡ whole → (so_far ++ u ∷ []) ++ filter p rest ≡ whole
-one_said p us u rest so_far whole steps own e = append_assoc so_far (u ∷ []) (filter p rest)
-    ∙ ap (λ b. so_far ++ cond b (u ∷ filter p rest) (filter p rest)) (sym own)
-    ∙ ap (λ x. so_far ++ filter p x) (sym steps) ∙ e
+pub own_is : (o : ℕ) (u : Fields) → is_own o u ≡ true → own_of o (u ∷ []) ≡ u ∷ []
+own_is o u own = ap (λ b. cond b (u ∷ []) []) own
+
+pub own_isnt : (o : ℕ) (u : Fields) → is_own o u ≡ false → own_of o (u ∷ []) ≡ []
+own_isnt o u other = ap (λ b. cond b (u ∷ []) []) other

@@ -1,3 +1,4 @@
 pub mod Receiving
 pub mod Sending
+pub mod Saying
 pub mod Laws

@@ -9,6 +9,10 @@ use Rattle.route_wire.specs.Fields.{Fields}
 use Rattle.route_wire.specs.Stream.{whole_of}
 use Rattle.route_wire.specs.Record.{Answers}
 use Rattle.route_wire.specs.Feed.{Held, HasRead}
+use Rattle.ether_wire.specs.Ends.{Source}
+use Rattle.ev_links.specs.Coming.{behind}
+use Rattle.ev_report.specs.declared.ending.Ending.{Ending}
+use Rattle.ev_report.specs.Ends.{Gave, fault_told}
 use Rattle.ev_exchange.specs.declared.receiver.TheConstants.{KINDS}
 use Rattle.ev_exchange.specs.declared.stream_end.StreamEnd.{StreamEnd}
 use Rattle.ev_exchange.specs.declared.stream_end.StreamEnd.TheVariants.{Whole as Ended, Cut, Faulty}
@@ -21,11 +25,6 @@ pub record Received : Type 0 where
 -- what an entrance was given, where it tells it: updates and refusals
 abbrev pub Given : Type 0
 Given = Option (List (Result Fields ℕ))
-
--- and these behind it; an entrance that tells nothing goes on so
-abbrev pub behind : Given → List (Result Fields ℕ) → Given
-behind None more = None
-behind (Some given) more = Some (given ++ more)
 
 -- ---- refusals
 
@@ -93,3 +92,20 @@ pub record Delivers (stream : List ℕ) (start given : Given) (counts : List ℕ
   pub handed_on : given ≡ behind start (handed answers)
   pub counted : AreCounts counts answers
   pub end_is : end ≡ end_by (whole_of rest) rest
+
+-- ---- a reader's stream
+
+-- the fault that the end of a stream tells
+abbrev pub fault_by : StreamEnd → Option ℕ
+fault_by Ended = None
+fault_by (Cut octets) = None
+fault_by (Faulty fault) = Some fault
+
+-- A reader gave octets up to its end, to a failure, or to the first fault of the stream that they are, which is of records
+-- of version 3 at most. Of that stream an entrance was given what goes on, refusals are counted, and its end is told.
+pub record Receives (old new : Source) (start given : Given) (counts : List ℕ) (end : StreamEnd) (ending : Ending) :
+    Type 0 where
+  pub input : List ℕ
+  pub gave : Gave 3 old new input ending
+  pub delivers : Delivers input start given counts end
+  pub shows : fault_told ending ≡ fault_by end

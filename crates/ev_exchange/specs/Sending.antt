@@ -19,9 +19,13 @@ pub record Sending : Type 0 where
 abbrev pub is_own : ℕ → Fields → Bool
 is_own o u = u.register.originator == o
 
+-- of updates those of its own registers
+abbrev pub own_of : ℕ → List Fields → List Fields
+own_of o us = filter (is_own o) us
+
 -- of its table each register of its own with its value, in the order of a report
 abbrev pub own_updates : Table → ℕ → List Fields
-own_updates t o = filter (is_own o) (all_updates t)
+own_updates t o = own_of o (all_updates t)
 
 -- Each of the updates is the value of a register of o, each such register that has a value is among them, and they are
 -- in the order of a report, at most one of a register.
@@ -48,3 +52,7 @@ pub record HasSent (s : Sending) (start : End) (sent : List Fields) : Type 0 whe
   pub written : s.is_open ≡ true → s.end ≡ with_text start (records_of sent)
   pub failed : s.is_open ≡ false → s.end.failures ≡ start.failures + 1
   pub again : (rest : List ℕ) → Reads (records_of sent ++ rest) (all_ok sent) rest
+
+-- these updates were said behind all that was sent
+abbrev pub HasSaid : Sending → Sending → List Fields → Type 0
+HasSaid s s' us = (start : End) (sent : List Fields) → HasSent s start sent → HasSent s' start (sent ++ us)

@@ -1,6 +1,7 @@
 //! Where what comes over a connection goes on.
 ghost use Rattle.std.specs.Prelude.{◌≡◌, ◌∷◌, [], Ok, Err};
-ghost use Rattle.ev_exchange.specs.Receiving.{Given, behind};
+ghost use Rattle.ev_links.specs.Coming.{behind};
+ghost use Rattle.ev_exchange.specs.Receiving.{Given};
 
 use route_wire::Update;
 

@@ -1,16 +1,22 @@
 //! The records between two processes of edges: what one writes on a connection, and what the other
-//! takes from it. No program uses it yet; `evpnd serve`, which joins processes over sockets, will.
+//! takes from it. `evpnd serve` joins processes by it, over sockets.
 #![tactic(auto)]
 
+mod announcing;
 mod entrance;
+mod intake;
 mod laws;
 mod receiver;
+mod saying;
 mod sender;
 mod stream_end;
 
+pub use announcing::{Announcing, EdgeTable};
 pub use entrance::Entrance;
+pub use intake::{Incoming, receive};
 pub use laws::{both_agree, newest_arrives, own_registers_agree, own_updates_are, said_is_carried};
 pub use receiver::{KINDS, Receiver};
+pub use saying::announce;
 pub use sender::Sender;
 pub use stream_end::StreamEnd;
 

@@ -1,12 +1,10 @@
 //! What one process says on a connection: what its edges say when it begins, and each update that
 //! they announce since, in their order.
-ghost use Rattle.std.specs.Prelude.{◌≡◌, ◌++◌, ◌∷◌, [], ◌==◌, List, false};
-ghost use Rattle.ether_wire.specs.Ends.{End, IsOpen};
-ghost use Rattle.route_wire.specs.Fields.{Fields};
-ghost use Rattle.ev_exchange.specs.Sending.{HasSent, own_updates};
+ghost use Rattle.std.specs.Prelude.{◌≡◌, ◌∷◌, [], false};
+ghost use Rattle.ether_wire.specs.Ends.{IsOpen};
+ghost use Rattle.ev_exchange.specs.Sending.{HasSent, HasSaid, own_of};
 
 use ether_wire::{Addr, Out};
-use route_join::Table;
 use route_wire::{Update, write};
 use std::marker::Model;
 
@@ -41,8 +39,7 @@ impl<W: Out> Sender<W> {
     /// Says an update: its record is written, or a call has failed.
     pub fn put(&mut self, update: &Update)
         ensures shut { self.old.is_open ≡ false → self.new ≡ self.old }
-        ensures sent { (start : End) (sent : List Fields) → HasSent self.old start sent
-            → HasSent self.new start (sent ++ update.now ∷ []) }
+        ensures said { HasSaid self.old self.new (update.now ∷ []) }
     {
         let record = write(update);
         if self.is_open {
@@ -50,25 +47,31 @@ impl<W: Out> Sender<W> {
         }
     }
 
-    /// Says what an edge says at present: of its table each register of its own, those that are
-    /// withdrawn too, in the order of a report. It takes no memory.
-    pub fn say(&mut self, originator: Addr, table: &Table)
+    /// Says an update if it is of this edge's own registers.
+    fn put_own(&mut self, originator: Addr, update: &Update)
         ensures shut { self.old.is_open ≡ false → self.new ≡ self.old }
-        ensures sent { (start : End) (sent : List Fields) → HasSent self.old start sent
-            → HasSent self.new start (sent ++ own_updates table.now originator) }
+        ensures said { HasSaid self.old self.new (own_of originator (update.now ∷ [])) }
     {
-        for update in table.updates() {
-            if update.register().originator == originator {
-                self.put(&update);
-            }
+        if update.register().originator == originator {
+            self.put(update);
+        }
+    }
+
+    /// Says what an edge originates: of what its table holds each register of its own, those
+    /// that are withdrawn too, in the order in which they are given. It takes no memory.
+    pub fn originate(&mut self, originator: Addr, updates: &[Update])
+        ensures shut { self.old.is_open ≡ false → self.new ≡ self.old }
+        ensures said { HasSaid self.old self.new (own_of originator updates.now) }
+    {
+        for update in updates {
+            self.put_own(originator, update);
         }
     }
 
     /// Has the writer give out what it holds, if anything.
     pub fn flush(&mut self)
         ensures shut { self.old.is_open ≡ false → self.new ≡ self.old }
-        ensures sent { (start : End) (sent : List Fields) → HasSent self.old start sent
-            → HasSent self.new start sent }
+        ensures said { HasSaid self.old self.new [] }
     {
         if self.is_open {
             self.is_open = self.out.flush().is_ok();

@@ -1,6 +1,9 @@
 //! Connections whose octets were written down by the layout of a record, and ends that fail.
+mod announced;
 mod received;
 mod sent;
+
+use route_wire::{BAD_KIND, Update, Whole, read_one, whole_of};
 
 /// The flood list of network 5001, advertised by 10.0.0.1 with counter 1, in version 3.
 const FLOOD: [u8; 44] = [
@@ -20,4 +23,25 @@ fn with(mut record: [u8; 44], place: usize, octet: u8) -> [u8; 44] {
         *old = octet;
     }
     record
+}
+
+/// The edge 10.0.0.1.
+const EDGE: u32 = 0x0a00_0001;
+
+/// The update that a record spells.
+fn update(record: &[u8; 44]) -> Result<Update, u8> {
+    match whole_of(record) {
+        Whole::Length(44) => read_one(record),
+        _ => Err(BAD_KIND),
+    }
+}
+
+/// The same record of the edge 10.0.0.2.
+fn of_another() -> [u8; 44] {
+    with(with(with(FLOOD, 9, 2), 32, 2), 43, 2)
+}
+
+/// The withdrawal with counter 2.
+fn withdrawn() -> [u8; 44] {
+    with(with(FLOOD, KIND, 2), COUNTER, 2)
 }

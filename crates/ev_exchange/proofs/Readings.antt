@@ -1,0 +1,158 @@
+-- A connection that is read, read after read.
+use Rattle.std.proofs.Common.{◌≡◌, ℕ, ◌+◌, ◌<◌, ◌^◌, ◌==◌, Bool, true, false, List, [], ◌∷◌, ◌++◌, take, length, Option}
+use Rattle.std.proofs.Common.{Some, None, Result, Ok, Err, refl, sym, ap, subst, ◌∙◌, arith, append-nil}
+use Rattle.ether_wire.specs.declared.ends.Device.{Device}
+use Rattle.ether_wire.specs.Ends.{Source, Allows, Gets}
+use Rattle.route_wire.specs.declared.stream.Whole.{Whole}
+use Rattle.route_wire.specs.declared.stream.Whole.TheVariants.{Rest, Fault, Length}
+use Rattle.route_wire.specs.Fields.{Fields}
+use Rattle.route_wire.specs.Stream.{whole_of}
+use Rattle.route_wire.specs.Record.{Answers}
+use Rattle.ev_report.specs.declared.ending.Ending.{Ending}
+use Rattle.ev_report.specs.declared.ending.Ending.TheVariants.{Ended, Failed, Faulty, Unended}
+use Rattle.ev_report.specs.Ends.{IsFaultless, Gives, fault_in}
+use Rattle.ev_report.specs.Input.{Gathers}
+use Rattle.ev_report.proofs.Reading.{at_end, same_source, prepend_known_none, gives_one}
+use Rattle.ev_report.proofs.Gathering.{gathers_none, gathers_more}
+use Rattle.ev_exchange.specs.declared.stream_end.StreamEnd.{StreamEnd}
+use Rattle.ev_exchange.specs.declared.stream_end.StreamEnd.TheVariants.{Whole as Complete, Cut, Faulty as Broken}
+use Rattle.ev_exchange.specs.Receiving.{Received, Given, HasReceived, Delivers, end_by, fault_by, Receives}
+
+-- the fault that a stream's end tells is the one that its rest shows
+fault_shown : (w : Whole) (rest : List ℕ) → fault_by (end_by w rest) ≡ None → fault_in w ≡ None
+fault_shown Rest rest e = refl
+fault_shown (Fault fault) rest e = e
+fault_shown (Length n) rest e = refl
+
+faultless : (stream : List ℕ) (start given : Given) (counts : List ℕ) (end : StreamEnd)
+    → Delivers stream start given counts end → fault_by end ≡ None → IsFaultless 3 stream
+faultless stream start given counts end d none = record {
+  answers = d.answers;
+  rest = d.rest;
+  answered = d.answered;
+  faultless = fault_shown (whole_of d.rest) d.rest (ap fault_by (sym d.end_is) ∙ none);
+}
+
+-- nothing came, and so there is no fault
+pub empty_faultless : (start given : Given) (counts : List ℕ) (end : StreamEnd) → Delivers [] start given counts end
+    → fault_by end ≡ None
+empty_faultless start given counts end d = ap fault_by d.end_is ∙ go d.answers d.rest d.answered
+  where
+    go : (answers : List (Result Fields ℕ)) (rest : List ℕ) → Answers [] answers rest
+        → fault_by (end_by (whole_of rest) rest) ≡ None
+    go [] rest a = ap (λ (r : List ℕ). fault_by (end_by (whole_of r) r)) (sym a.reads)
+    go (x ∷ answers) rest a = cc
+
+-- so many reads gave octets, which were received
+pub record Coming (turn : ℕ) (source mid : Source) (start given : Given) (r : Received) (end : StreamEnd) :
+    Type 0 where
+  pub input : List ℕ
+  pub read : Gathers turn source mid input
+  pub received : HasReceived r start given input
+  pub delivers : Delivers input start given r.counts end
+
+pub coming_none : (s : Source) (given : Given) (r : Received) (end : StreamEnd) → HasReceived r given given []
+    → Delivers [] given given r.counts end → Coming 0 s s given given r end
+coming_none s given r end h d = record { input = []; read = gathers_none s [] refl; received = h; delivers = d }
+
+module _ (turn : ℕ) (source mid : Source) (start given : Given) (r : Received) (end : StreamEnd)
+    (c : Coming turn source mid start given r end) where
+  pub coming_allows : Allows (2 ^ 40) source → turn < 2 ^ 40 → Allows 1 mid
+  coming_allows a turns = record {
+    reads = let r = c.read.gives.reads in let m = c.read.many in let b = a.reads in omega arith;
+    failures = let r = c.read.gives.unfailed in let b = a.failures in omega arith;
+  }
+
+  -- a piece more
+  module _ (last : Source) (buffer : List ℕ) (n : ℕ) (got : Gets mid last buffer (Ok n)) (some : 0 < n)
+      (given' : Given) (r' : Received) (end' : StreamEnd)
+      (took : (start : Given) (stream : List ℕ) → HasReceived r start given stream
+      → HasReceived r' start given' (stream ++ take n buffer))
+      (ends : (start : Given) (stream : List ℕ) → HasReceived r' start given' stream
+      → Delivers stream start given' r'.counts end') where
+    pub coming_more : Coming (turn + 1) source last start given' r' end'
+    coming_more = record {
+      input = c.input ++ take n buffer;
+      read = gathers_more turn source mid last c.input buffer c.read n got some;
+      received = took start c.input c.received;
+      delivers = ends start (c.input ++ take n buffer) (took start c.input c.received);
+    }
+
+    pub receives_fault : (fault : ℕ) → turn < 2 ^ 40 → fault_by end ≡ None → Some fault ≡ fault_by end'
+        → Receives source last start given' r'.counts end' (Faulty fault)
+    receives_fault fault turns none shows = record {
+      input = c.input ++ take n buffer;
+      gave = record {
+        pieces = c.read.pieces;
+        behind = mid;
+        gives = c.read.gives;
+        faultless = subst (IsFaultless 3) c.read.is (faultless c.input start given r.counts end c.delivers none);
+        ends = (take n buffer, gives_one mid last buffer n got some, ap (λ x. x ++ take n buffer) c.read.is);
+        few = let a = c.read.gives.reads in let b = got.reads in let k = c.read.many in omega arith;
+      };
+      delivers = ends start (c.input ++ take n buffer) (took start c.input c.received);
+      shows = shows;
+    }
+
+  module _ (none : fault_by end ≡ None) where
+    pub receives_end : (last : Source) (buffer : List ℕ) → turn < 2 ^ 40 → 0 < length buffer
+        → Gets mid last buffer (Ok 0) → Receives source last start given r.counts end Ended
+    receives_end last buffer turns room got = record {
+      input = c.input;
+      gave = record {
+        pieces = c.read.pieces;
+        behind = mid;
+        gives = c.read.gives;
+        faultless = subst (IsFaultless 3) c.read.is (faultless c.input start given r.counts end c.delivers none);
+        ends = (
+          at_end mid.octets (got.takes.ends room refl),
+          same_source last (record mid { reads = mid.reads + 1 })
+              (sym (got.takes.next ∙ prepend_known_none last.octets)) (got.failures ∙ grind arith) got.reads,
+          c.read.is,
+        );
+        few = let a = c.read.gives.reads in let b = got.reads in let k = c.read.many in omega arith;
+      };
+      delivers = c.delivers;
+      shows = sym none;
+    }
+
+    pub receives_failed : (last : Source) (buffer : List ℕ) (device : Device) → turn < 2 ^ 40
+        → Gets mid last buffer (Err device) → Receives source last start given r.counts end Failed
+    receives_failed last buffer device turns got = record {
+      input = c.input;
+      gave = record {
+        pieces = c.read.pieces;
+        behind = mid;
+        gives = c.read.gives;
+        faultless = subst (IsFaultless 3) c.read.is (faultless c.input start given r.counts end c.delivers none);
+        ends = (
+          same_source last (record mid { failures = mid.failures + 1; reads = mid.reads + 1 }) got.keeps got.failures
+              got.reads,
+          c.read.is,
+        );
+        few = let a = c.read.gives.reads in let b = got.reads in let k = c.read.many in omega arith;
+      };
+      delivers = c.delivers;
+      shows = sym none;
+    }
+
+    pub receives_unended : turn ≡ 2 ^ 40 → Receives source mid start given r.counts end Unended
+    receives_unended turns = record {
+      input = c.input;
+      gave = record {
+        pieces = c.read.pieces;
+        behind = mid;
+        gives = c.read.gives;
+        faultless = subst (IsFaultless 3) c.read.is (faultless c.input start given r.counts end c.delivers none);
+        ends = (refl, c.read.many ∙ turns, c.read.is);
+        few = let a = c.read.gives.reads in let k = c.read.many in omega arith;
+      };
+      delivers = c.delivers;
+      shows = sym none;
+    }
+
+-- the same of a receiver and ends that are known to be these
+pub receives_as : (old new : Source) (start given : Given) (r r' : Received) (end end' : StreamEnd)
+    (ending ending' : Ending) → Receives old new start given r.counts end ending
+    → (r' ≡ r) × (end' ≡ end) × (ending' ≡ ending) → Receives old new start given r'.counts end' ending'
+receives_as old new start given r r' end end' ending ending' h e = rw (e.0, e.1, e.2) h
