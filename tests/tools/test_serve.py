@@ -12,15 +12,17 @@ import sys
 import tempfile
 import time
 import unittest
+from typing import List
 
 from test_audit import needs_program
 from test_records import TOP
 from test_run import BROADCAST, FLOODS, HOST, VNI, Cable, Running, edge, frame, learnt, station
+from update_records import Answer, Update, line_of, read_records, record_of, update_of_line
 
 # addresses of these tests' own, beside those of test_run.py
 ONE, TWO = HOST + "1", HOST + "2"
 SEATS = 8
-WRONG = b"error: the first line isn't 'console'\n"
+WRONG = b"error: the first line is neither 'console' nor 'records'\n"
 MAC = "02:00:00:00:00:01"
 
 
@@ -72,6 +74,8 @@ class Client:
 
 class Served(unittest.TestCase):
     """Two edges, one cable each, and a control socket."""
+
+    notes = ""  # what stands on standard error at the end
 
     def setUp(self) -> None:
         folder = tempfile.TemporaryDirectory()
@@ -149,7 +153,7 @@ class Served(unittest.TestCase):
         begun = time.monotonic()
         status, out, notes = self.running.end()
         self.assertLess(time.monotonic() - begun, seconds)
-        self.assertEqual((status, out, notes), (0, f"edge 1\n{report}edge 2\n{report}", ""))
+        self.assertEqual((status, out, notes), (0, f"edge 1\n{report}edge 2\n{report}", self.notes))
         self.assertFalse(os.path.lexists(self.path))
 
 
@@ -238,8 +242,7 @@ class Clients(Served):
         self.begin()
 
     def test_wrong_first_line(self) -> None:
-        """Anything but `console` gets a word of what is wrong, and the connection ends."""
-        self.assertEqual(self.client().send(b"records\n").rest(), b"error: records aren't exchanged yet\n")
+        """Anything but `console` and `records` gets a word of what is wrong, and the connection ends."""
         for octets in (b"records \n", b"edges\n", b"\n", b"console \n", b"CONSOLE\n", b"console\r\n", b"\xff\x00" * 500, b"consoles and more\n"):
             self.assertEqual(self.client().send(octets).rest(), WRONG, octets)
         self.ends_well()
@@ -320,6 +323,89 @@ class Clients(Served):
         self.assertLess(sizes[-1], sizes[0] + 1024, f"kilobytes after each 1,000: {sizes}")
         self.assertEqual(threads, threads[:1] * 3)
         self.ends_well()
+
+
+@needs_program
+class Records(Served):
+    """Records that are exchanged with edges that run."""
+
+    def setUp(self) -> None:
+        super().setUp()
+        self.begin()
+
+    def joined(self) -> Client:
+        """A client that exchanges records, and has read what the edges say when it begins."""
+        client = self.client().send(b"records\n")
+        self.assertEqual(self.lines(client, 2), [f"advert {ONE} {VNI} flood", f"advert {TWO} {VNI} flood"])
+        return client
+
+    def lines(self, client: Client, many: int) -> List[str]:
+        """The next so many records, as readable lines."""
+        stream = client.socket.makefile("rb", 0)
+        return [self.line(answer) for _, answer in zip(range(many), read_records(stream))]
+
+    def line(self, answer: Answer) -> str:
+        """An update as a line."""
+        self.assertIsInstance(answer, Update)
+        return line_of(answer)
+
+    def pinned(self, number: int, mac: str) -> str:
+        """The record's line of a station that an edge pins, which has announced two things before."""
+        self.assertEqual(self.console().ask(f"{number} pin {VNI} {mac} 1"), "")
+        return f"advert {(ONE, TWO)[number - 1]} {VNI} {mac} static seq 0 counter 2"
+
+    def test_both_edges_say_what_they_are_and_then_what_they_announce(self) -> None:
+        """First the registers of each edge's own, and then each update once, to each of two clients."""
+        first, second = self.joined(), self.joined()
+        wanted = [self.pinned(1, MAC), self.pinned(2, MAC[:-1] + "2")]
+        self.assertEqual(self.lines(first, 2), wanted)
+        self.assertEqual(self.lines(second, 2), wanted)
+        late = self.client().send(b"records\n")
+        self.assertEqual(len(self.lines(late, 4)), 4)
+
+    def test_what_comes_is_taken(self) -> None:
+        """A withdrawal of edge 2's flood list, of a later life, is taken at edge 1, and not at edge 2: that one says anew what it is."""
+        client = self.joined()
+        client.send(record_of(update_of_line(f"withdraw {TWO} {VNI} flood counter 9")))
+        for _ in range(100):
+            report = self.console().ask("1 report")
+            if report != FLOODS:
+                break
+            time.sleep(0.05)
+        self.assertNotIn(f"flood {VNI} {TWO} 1 up\n", report)
+
+    def test_refused_records_are_told_once_a_kind(self) -> None:
+        """Behind them records are taken; a fault ends the connection alone, and is told, too."""
+        octets = bytearray(record_of(update_of_line(f"advert {ONE} {VNI} flood")))
+        octets[14:22] = bytes(8)  # a counter of 0
+        for _ in range(2):
+            client = self.joined()
+            client.send(bytes(octets) * 3).send(b"GET / HTTP/1.1\r\n\r\n")
+            self.assertEqual(client.rest(), b"")
+        self.notes = "records: refused 14\nrecords: refused 1\n"
+        self.hears_station()
+        self.ends_well(FLOODS + learnt(1, ONE, 2))
+
+    def test_clients_that_break_off(self) -> None:
+        """In mid-record, and eight at once that read nothing: nothing else is disturbed, and the run ends in its time."""
+        octets = record_of(update_of_line(f"advert {ONE} {VNI} flood"))
+        for cut in (1, 8, len(octets) - 1):
+            self.joined().send(octets[:cut]).close()
+        held = [self.seated_records() for _ in range(SEATS - 1)]
+        self.hears_station()
+        self.assertEqual(self.seated().ask("1 port 1"), "1 port 1 designated forwarding passes\n")
+        self.assertEqual(len(held), SEATS - 1)
+        self.ends_well(FLOODS + learnt(1, ONE, 2))
+
+    def seated_records(self) -> Client:
+        """A client that exchanges records and reads nothing; again where those that have just gone still have their seats."""
+        for _ in range(100):
+            client = self.client().send(b"records\n")
+            with contextlib.suppress(OSError):
+                if client.socket.recv(44, socket.MSG_WAITALL | socket.MSG_PEEK)[:2] == b"EV":
+                    return client
+            time.sleep(0.05)
+        raise AssertionError("busy for five seconds")
 
 
 @needs_program

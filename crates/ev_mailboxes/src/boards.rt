@@ -1,6 +1,6 @@
 //! The boards of all edges, which their workers share with the one that tells the operator.
 
-use ev_notices::{Alarm, Board, News, Reception, Receptions};
+use ev_notices::{Alarm, Board, News, Reception, Receptions, Refusals};
 use std::alloc::{AllocError, Global};
 use std::sync::{Condvar, Mutex, Wait};
 
@@ -28,6 +28,8 @@ struct OfEdge {
 #[derive(Drop)]
 pub struct Boards {
     all: Vec<OfEdge>,
+    /// What of other processes was refused.
+    refusals: Mutex<Refusals>,
     bell: Mutex<Bell>,
     /// Rung behind the lock of the bell.
     ringing: Condvar,
@@ -50,6 +52,7 @@ impl Boards {
         }
         Ok(Boards {
             all,
+            refusals: Mutex::new(Refusals::new()),
             bell: Mutex::new(Bell {
                 is_rung: false,
                 has_ended: false,
@@ -105,13 +108,24 @@ impl Boards {
         }
     }
 
+    /// Tells that what came from another process was refused, each number once.
+    pub(crate) fn refuse<R: Wait>(&self, rt: &R, number: u8) {
+        let is_put = self.refusals.lock(rt).put(number);
+        if is_put {
+            self.ring(rt, false);
+        }
+    }
+
     /// Tells that nothing more is put up.
     pub fn end<R: Wait>(&self, rt: &R) {
         self.ring(rt, true);
     }
 
-    /// What waits first, with the number of its edge.
+    /// What waits first, with the number of its edge, or 0 where it is of none.
     fn first<R: Wait>(&self, rt: &R) -> Option<(u64, News)> {
+        if let Some(number) = self.refusals.lock(rt).take() {
+            return Some((0, News::Refused(u64::from(number))));
+        }
         for (place, of_edge) in self.all.iter().enumerate() {
             let edge = place as u64 + 1;
             if let Some(reception) = of_edge.receptions.lock(rt).take() {

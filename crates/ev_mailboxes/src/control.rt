@@ -2,6 +2,9 @@
 //! show what it holds.
 ghost use Rattle.std.specs.Prelude.{◌≡◌, IfSome};
 
+use crate::boards::Boards;
+use crate::outbox::Outbox;
+use crate::outboxes::Joined;
 use crate::peers::Mailboxes;
 use crate::request::{Command, PortView, Reading, Request, Served};
 use crate::shared_mailbox::SharedMailbox;
@@ -16,12 +19,13 @@ use std::sync::Wait;
 #[derive(Clone, Copy, Drop)]
 pub struct Running<'x> {
     mailboxes: &'x Mailboxes,
+    boards: &'x Boards,
 }
 
 impl<'x> Running<'x> {
-    /// The edges of these mailboxes.
-    pub fn new(mailboxes: &'x Mailboxes) -> Self {
-        Running { mailboxes }
+    /// The edges of these mailboxes and boards.
+    pub fn new(mailboxes: &'x Mailboxes, boards: &'x Boards) -> Self {
+        Running { mailboxes, boards }
     }
 
     /// How many edges there are.
@@ -35,6 +39,29 @@ impl<'x> Running<'x> {
     {
         let mailbox = self.mailboxes.of(number)?;
         Some(Control { mailbox })
+    }
+
+    /// Takes a place for a connection, which is told what the edges announce from now on. None
+    /// where eight have one.
+    ///
+    /// # Errors
+    ///
+    /// Where memory is refused.
+    pub fn join<R: Wait>(&self, rt: &R, alloc: Global) -> Result<Option<Joined<'x>>, AllocError> {
+        let outbox = Outbox::new(alloc)?;
+        Ok(self.mailboxes.outboxes().join(rt, outbox))
+    }
+
+    /// Has each edge take an update that came from another process, behind what waits there. It
+    /// waits where an edge is behind.
+    pub fn take<R: Wait>(&self, rt: &R, update: &Update) {
+        self.mailboxes.take(rt, update);
+    }
+
+    /// Tells the operator that what came from another process was refused: a fault of its stream by
+    /// its number (1 to 4), or a refusal of a record (5 and above). Each is told once.
+    pub fn refuse<R: Wait>(&self, rt: &R, number: u8) {
+        self.boards.refuse(rt, number);
     }
 }
 

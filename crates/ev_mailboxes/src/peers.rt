@@ -5,6 +5,7 @@ ghost use Rattle.std.specs.Prelude.{◌≡◌, IfSome};
 
 use crate::boards::Boards;
 use crate::mailbox::Message;
+use crate::outboxes::Outboxes;
 use crate::request::Answer;
 use crate::shared_mailbox::SharedMailbox;
 use ev_notices::{Alarm, Reception};
@@ -12,11 +13,12 @@ use route_wire::Update;
 use std::alloc::{AllocError, Global};
 use std::sync::Wait;
 
-/// The mailboxes of all edges. No clause says what goes over them, since none names what a lock
-/// holds.
+/// The mailboxes of all edges, and the outboxes of the connections to other processes. No clause
+/// says what goes over them, since none names what a lock holds.
 #[derive(Drop)]
 pub struct Mailboxes {
     all: Vec<SharedMailbox>,
+    outboxes: Outboxes,
 }
 
 impl Mailboxes {
@@ -30,12 +32,28 @@ impl Mailboxes {
         for place in 0..edges {
             all.push(SharedMailbox::new(alloc, place + 1, workers)?)?;
         }
-        Ok(Mailboxes { all })
+        Ok(Mailboxes {
+            all,
+            outboxes: Outboxes::new(),
+        })
     }
 
     /// How many edges there are.
     pub(crate) fn edges(&self) -> usize {
         self.all.len()
+    }
+
+    /// Puts an update that came from another process into the mailbox of each edge, and waits where
+    /// one is behind.
+    pub(crate) fn take<R: Wait>(&self, rt: &R, update: &Update) {
+        for mailbox in self.all.iter() {
+            mailbox.put_waiting(rt, *update);
+        }
+    }
+
+    /// The outboxes of the connections to other processes.
+    pub(crate) fn outboxes(&self) -> &Outboxes {
+        &self.outboxes
     }
 
     /// The mailbox of the edge with this number, from 1.
@@ -54,6 +72,7 @@ impl Mailboxes {
     pub fn seen_by<'x>(&'x self, number: usize, boards: &'x Boards) -> Peers<'x> {
         Peers {
             mailboxes: self.all.as_slice(),
+            outboxes: &self.outboxes,
             boards,
             number,
         }
@@ -64,6 +83,7 @@ impl Mailboxes {
 #[derive(Clone, Copy, Drop)]
 pub struct Peers<'x> {
     mailboxes: &'x [SharedMailbox],
+    outboxes: &'x Outboxes,
     boards: &'x Boards,
     /// The edge's number, from 1.
     number: usize,
@@ -85,13 +105,14 @@ impl Peers<'_> {
         true
     }
 
-    /// Sends an update to each of the others.
+    /// Sends an update to each of the others, and to other processes.
     pub fn send<R: Wait>(&self, rt: &R, update: Update) {
         for (place, mailbox) in self.mailboxes.iter().enumerate() {
             if place + 1 != self.number {
                 mailbox.put(rt, update);
             }
         }
+        self.outboxes.put(rt, update);
     }
 
     /// Tells this edge's board that a second passes.
@@ -120,8 +141,10 @@ impl Peers<'_> {
 
     /// Waits for what the others send. None once nothing waits and nothing more comes.
     pub(crate) fn next<R: Wait>(&self, rt: &R) -> Option<Message> {
-        let (message, has_room_again) = self.own()?.next(rt);
+        let own = self.own()?;
+        let (message, has_room_again) = own.next(rt);
         if has_room_again {
+            own.ring_room();
             self.call(rt);
         }
         message

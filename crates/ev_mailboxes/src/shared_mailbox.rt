@@ -30,6 +30,8 @@ pub(crate) struct SharedMailbox {
     bell: Condvar,
     /// Rung behind the lock, when who asks has something to take, has room, or gets no answer.
     desk_bell: Condvar,
+    /// Rung behind the lock, when its edge isn't behind any more.
+    room_bell: Condvar,
 }
 
 impl SharedMailbox {
@@ -49,6 +51,7 @@ impl SharedMailbox {
             is_behind: AtomicBool::new(false),
             bell: Condvar::new(),
             desk_bell: Condvar::new(),
+            room_bell: Condvar::new(),
         })
     }
 
@@ -66,6 +69,26 @@ impl SharedMailbox {
                 .store(held.mailbox.is_behind(), Ordering::SeqCst);
         }
         self.bell.notify_one();
+    }
+
+    /// Puts an update behind the others once its edge isn't behind, and waits until then.
+    pub(crate) fn put_waiting<R: Wait>(&self, rt: &R, update: Update) {
+        let mut held = self.held.lock(rt);
+        for _ in rt.forever() {
+            if !held.mailbox.is_behind() {
+                held.mailbox.put(update);
+                self.is_behind
+                    .store(held.mailbox.is_behind(), Ordering::SeqCst);
+                self.bell.notify_one();
+                return;
+            }
+            held = self.room_bell.wait(rt, held);
+        }
+    }
+
+    /// Wakes who waits until its edge isn't behind.
+    pub(crate) fn ring_room(&self) {
+        self.room_bell.notify_all();
     }
 
     /// Tells its edge that another one has room again.
@@ -95,6 +118,7 @@ impl SharedMailbox {
             self.is_behind.store(false, Ordering::SeqCst);
         }
         self.desk_bell.notify_all();
+        self.room_bell.notify_all();
     }
 
     /// Waits for what goes first, a request before all updates, and answers whether its edge was

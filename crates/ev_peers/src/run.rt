@@ -229,7 +229,7 @@ fn run_within<
         ended,
     } = ready;
     let running = start_edges(scope, rt, alloc, setups, mailboxes, boards, gate, running);
-    let told = until(Running::new(mailboxes));
+    let told = until(Running::new(mailboxes, boards));
     (join_edges(rt, running, ended), told)
 }
 

@@ -5,6 +5,7 @@ ghost use Rattle.ether_wire.specs.Ends.{Allows};
 ghost use Rattle.ev_run.specs.RunEdges.{ReadsOut};
 
 use crate::control_socket::ControlSocket;
+use crate::records::exchange;
 use crate::run::is_read_out;
 use arrayvec::ArrayVec;
 use ether_wire::{Buffered, In, Reader, Writer};
@@ -99,7 +100,7 @@ struct Hall<'x, R> {
 enum Wanted {
     /// To ask, line after line.
     Console,
-    /// To exchange records, which comes later.
+    /// To exchange records.
     Records,
     /// Anything else.
     Unknown,
@@ -158,7 +159,7 @@ fn say(stream: &UnixStream, words: &[u8]) {
 }
 
 /// Gives a client what it wants.
-fn attend<R: Wait>(hall: &Hall<'_, R>, stream: &UnixStream) -> io::Result<()> {
+fn attend<R: Threads + Wait + Sync>(hall: &Hall<'_, R>, stream: &UnixStream) -> io::Result<()> {
     let patience = Some(Duration::from_secs(PATIENCE));
     stream.set_write_timeout(patience)?;
     stream.set_read_timeout(patience)?;
@@ -167,15 +168,25 @@ fn attend<R: Wait>(hall: &Hall<'_, R>, stream: &UnixStream) -> io::Result<()> {
             stream.set_read_timeout(None)?;
             console(hall, stream);
         }
-        Wanted::Records => say(stream, b"error: records aren't exchanged yet\n"),
-        Wanted::Unknown => say(stream, b"error: the first line isn't 'console'\n"),
+        Wanted::Records => {
+            stream.set_read_timeout(None)?;
+            exchange(hall.rt, hall.alloc, hall.running, stream);
+        }
+        Wanted::Unknown => say(
+            stream,
+            b"error: the first line is neither 'console' nor 'records'\n",
+        ),
         Wanted::Nothing => {}
     }
     Ok(())
 }
 
 /// Attends to a client, and frees its seat.
-fn attend_seated<R: Wait>(hall: &Hall<'_, R>, stream: UnixStream, place: usize) {
+fn attend_seated<R: Threads + Wait + Sync>(
+    hall: &Hall<'_, R>,
+    stream: UnixStream,
+    place: usize,
+) {
     let _ = attend(hall, &stream);
     let _ = stream.shutdown(Shutdown::Both);
     hall.seats.lock(hall.rt).leave(place);

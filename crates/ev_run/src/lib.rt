@@ -7,6 +7,7 @@ mod needs;
 mod obstacles;
 mod print;
 mod print_needs;
+mod records;
 mod run;
 mod serve;
 mod sockets;
