@@ -169,7 +169,7 @@ is_ok() { [ "$status" = 0 ] && [ ! -s "$work/notes" ] && grep -qE "^ok: [0-9]+ e
 says() { is_usage && [ "$(cat "$work/notes")" = "$1" ]; }
 
 # names KEY: a usage whose one line says what stands at the key
-names() { is_usage && [ "$(wc -l < "$work/notes")" = 1 ] && grep -qE "^(edge [0-9]+(, port [0-9]+)?: )?$1 is .*, (allowed|which) " "$work/notes"; }
+names() { is_usage && [ "$(wc -l < "$work/notes")" = 1 ] && grep -qE "^((edge|peer) [0-9]+(, port [0-9]+)?: )?$1 is .*, (allowed|which) " "$work/notes"; }
 
 # ok NAME [LINE]: the configuration in $conf is right, by this line
 ok() {
@@ -610,6 +610,7 @@ run check --script "$work/script" --run --config "$conf"
 { cat "$work/takes" && echo "ok: 1 line"; } > "$work/looked"
 tell "what a run takes, and a script" gives 0 "$work/looked" ""
 for words in "check --run" "check --run yes --config $conf" "check --run --run --config $conf" "check --run=1 --config $conf" \
+  "check --serve" "check --serve --serve --config $conf" "run --serve --config $conf" "serve --serve --config $conf" \
   "run --run --config $conf" "serve --run --config $conf" "serve" "simulate --run --config $conf"; do
   # shellcheck disable=SC2086
   run $words
@@ -692,6 +693,103 @@ tell "no socket stays behind then" [ ! -e "$control" ]
 runs "$ends"
 run serve --config "$conf"
 tell "edges to be served without a control socket" tells "config control"
+
+# ---- peers, edges that run elsewhere, and check --serve, which tells the same faults
+# peers LINE..: a configuration to be served, with a peer of each of these lines
+peers() {
+  serves "$control"
+  local line
+  for line in "$@"; do printf '[[peer]]\n%s\n' "$line" >> "$conf"; done
+}
+
+# unserved NAME KEY LINE: the configuration in $conf can't be served: the key is told, and by a check this line
+unserved() {
+  run serve --config "$conf"
+  tell "$1" says "config $2"
+  run check --serve --config "$conf"
+  tell "$1, checked" says "$3"
+}
+
+an_address="allowed is an IPv4 address that no edge and no peer before has, as '10.0.0.9'"
+tables="allowed are tables, each written as [[peer]], at most 64 with those of [[edge]]"
+there='address = "10.0.0.9"'
+peers "$there" 'address = "10.0.0.8"'
+run serve --config "$conf"
+tell "an edge with peers is served" gives 0 "$work/one" ""
+run check --serve --config "$conf"
+printf '%s\n' "ok: 1 edge, 1 port, 1 VNI, 2 peers" "9 threads" "2 UDP sockets" "about 4 MiB of memory" \
+  "for 8 clients at most 17 threads, 18 sockets and about 2 MiB of memory more" > "$work/served"
+tell "it is checked" gives 0 "$work/served" ""
+run check --run --serve --config "$conf"
+tell "so with both flags" gives 0 "$work/served" ""
+for limit in 22 23; do
+  status=0
+  (ulimit -n $limit && exec "$evpnd" check --serve --config "$conf") < "$work/in" > "$work/out" 2> "$work/notes" || status=$?
+  [ $limit = 23 ] || tell "one descriptor less" gives 2 "$work/empty" "20 sockets and 3 standard streams, allowed are 22 descriptors"
+done
+tell "as many descriptors as edges and clients need" gives 0 "$work/served" ""
+for subcommand in run simulate play check "check --run"; do
+  # shellcheck disable=SC2086
+  run $subcommand --config "$conf"
+  tell "$subcommand: no control" tells control
+  sed '/^control/d' "$conf" > "$work/uncontrolled"
+  # shellcheck disable=SC2086
+  run $subcommand --config "$work/uncontrolled"
+  tell "$subcommand: no peers" tells peer
+done
+peers "address = \"$host.1\""
+unserved "a peer that is an edge" address "peer 1: address is '$host.1', which edge 1 has, $an_address"
+peers "$there" 'address = "10.0.0.8"' "$there"
+unserved "two equal peers" address "peer 3: address is '10.0.0.9', which peer 1 has, $an_address"
+peers 'address = "10.0.0.09"'
+unserved "an octet of a peer" address "peer 1: address is '10.0.0.09', whose octet 09 has a leading zero, $an_address"
+peers "address = 9"
+unserved "a peer's address that is no text" address "peer 1: address is 9, $an_address"
+peers "$there" 'Address = "10.0.0.8"'
+unserved "a peer without an address" address "peer 2: address is missing, $an_address"
+peers "$there"$'\nname = 1'
+unserved "an unknown key of a peer" name "peer 1: name is 1, which is no key of a peer"
+peers "$there"$'\nadress = 1'
+unserved "a key that is near to one" adress "peer 1: adress is 1, which is no key of a peer: did you mean address?"
+for value in '"10.0.0.9"' 9 '[9]' '[]'; do
+  serves "$control"
+  sed -i "1i peer = $value" "$conf"
+  run serve --config "$conf"
+  tell "peer = $value" says "config peer"
+  run check --serve --config "$conf"
+  tell "peer = $value, checked" names peer
+done
+serves "$control"
+printf '[peer]\n%s\n' "$there" >> "$conf"
+unserved "one table of a peer" peer "peer is a table, as [peer] writes one, $tables"
+mapfile -t many < <(seq -f 'address = "10.0.0.%g"' 64)
+peers "${many[@]}"
+unserved "64 peers beside an edge" peer "peer is an array, $tables"
+peers "${many[@]:1}"
+run check --serve --config "$conf"
+tell "63 peers beside an edge" [ "$status $(head -n 1 "$work/out")" = "0 ok: 1 edge, 1 port, 1 VNI, 63 peers" ]
+
+# which fault is told first: the file's keys, an unknown key, the edges, the peers
+peers "address = 1"
+sed -i 's/^vnis.*/vnis = 1/' "$conf"
+unserved "an edge's fault before a peer's" vnis "edge 1: vnis is 1, allowed are 1 to 64 different numbers, 0 to 16777215"
+sed -i '1i name = 1' "$conf"
+unserved "an unknown key before an edge's fault" name "name is 1, which is no key of the file"
+sed -i '/peer/,$d' "$conf"
+sed -i '1i peer = 1' "$conf"
+unserved "peer before an unknown key" peer "peer is 1, $tables"
+sed -i 's/^control.*/control = ""/' "$conf"
+a_path="allowed is the path of a socket, 1 to 107 octets, none of them 0"
+unserved "control before peer" control "control is '', $a_path"
+sed -i '/^control/d' "$conf"
+unserved "no control" control "control is missing, $a_path"
+sed -i '1i edge = 1' "$conf"
+sed -i '/edge]]/,$d' "$conf"
+unserved "edge before control" edge "edge is 1, allowed are 1 to 64 tables, each written as [[edge]]"
+peers "$there"
+sed -i "s/$host.1:30001/0.0.0.0:1/" "$conf"
+run check --serve --config "$conf"
+tell "what hinders edges to be served" gives 2 "$work/empty" "edge 1, port 1: remote is 0.0.0.0:1, and address 0.0.0.0 is nobody's"
 
 # ---- the notes on a piece are there while the next one is awaited
 cp "$record" "$work/in"

@@ -1,20 +1,22 @@
 -- Edges that fit together, one by one, and then told of each other.
 use Rattle.std.proofs.Common.{◌≡◌, ℕ, zero, suc, ◌<◌, ◌≤◌, ◌⊎◌, inl, inr, true, false, List, [], ◌∷◌, ◌++◌, length, map}
 use Rattle.std.proofs.Common.{refl, sym, ap, subst, ◌∙◌, arith, Contains}
-use Rattle.std.specs.Prelude.{eqb}
+use Rattle.std.specs.Prelude.{eqb, Some, Ok}
 use Rattle.std.specs.List.{IsDistinct, list_any}
 use Rattle.std.proofs.lemmas.Bool.{eqb-true}
 use Rattle.std.proofs.lemmas.List.{length-map}
-use Rattle.std.proofs.lemmas.List.Elements.{Contains-push_cases}
+use Rattle.std.proofs.lemmas.List.Elements.{Contains-append_left, Contains-push_cases}
 use Rattle.std.proofs.lemmas.Map.Views.{Contains-from_any}
+use Rattle.toml.specs.Data.{Data, Items, item, Members, as_table}
 use Rattle.ev_edge.specs.declared.config.PortConfig.{PortConfig}
 use Rattle.ev_edge.specs.declared.config.EdgeConfig.{EdgeConfig}
 use Rattle.ev_edge.specs.Config.{IsConfig, vnis_of}
 use Rattle.ev_fabric.specs.Fabric.{addresses_of}
 use Rattle.ev_fabric.specs.Opening.{AreConfigs}
 use Rattle.ev_config.specs.declared.edge.Described.{Described}
-use Rattle.ev_config.specs.Config.{Edges, Whole, no_edges, with_edge, listening, whole_of}
-use Rattle.ev_config.specs.Fitting.{AreServed, Fits, FitTogether}
+use Rattle.ev_config.specs.Config.{Edges, Whole, no_edges, with_edge, listening, whole_of, told}
+use Rattle.ev_config.specs.ConfigPeer.{peer_of, listed_from}
+use Rattle.ev_config.specs.Fitting.{AreAmong, Fits, FitTogether}
 use Rattle.ev_config.proofs.Listing.{same_tests, distinct_more, distinct_none}
 
 -- a number that the test finds is there
@@ -27,11 +29,11 @@ vnis_push : (ps : List PortConfig) (p : PortConfig) → vnis_of (ps ++ p ∷ [])
 vnis_push [] p = refl
 vnis_push (x ∷ ps) p = ap (λ vs. x.vni ∷ vs) (vnis_push ps p)
 
-pub none_served : (vnis : List ℕ) → AreServed [] vnis
+pub none_served : (vnis : List ℕ) → AreAmong [] vnis
 none_served vnis v (n, l, e) = absurd (omega (arith, l))
 
-pub served_more : (ps : List PortConfig) (p : PortConfig) (vnis : List ℕ) → AreServed (vnis_of ps) vnis
-    → Contains vnis p.vni → AreServed (vnis_of (ps ++ p ∷ [])) vnis
+pub served_more : (ps : List PortConfig) (p : PortConfig) (vnis : List ℕ) → AreAmong (vnis_of ps) vnis
+    → Contains vnis p.vni → AreAmong (vnis_of (ps ++ p ∷ [])) vnis
 served_more ps p vnis h one v c = go (Contains-push_cases (vnis_of ps) p.vni v
     (subst (λ l. Contains l v) (vnis_push ps p) c))
   where
@@ -64,6 +66,21 @@ fit_more e d h one new = record {
     go c (inl b) = h.fit c b
     go c (inr p) = subst Fits p one
 
+-- ---- listed
+
+pub all_listed : (xs : List ℕ) → AreAmong xs xs
+all_listed xs o at = at
+
+pub listed_more : (names xs : List ℕ) (x : ℕ) → AreAmong names xs → AreAmong names (xs ++ x ∷ [])
+listed_more names xs x h o at = Contains-append_left xs (x ∷ []) o (h o at)
+
+one_there : (names xs : List ℕ) → 0 < length names → AreAmong names xs → 0 < length xs
+one_there [] xs some h = absurd (omega (arith, some))
+one_there (n ∷ ns) xs some h = go (h n (zero, omega arith, refl))
+  where
+    go : Contains xs n → 0 < length xs
+    go (i, l, e) = omega (arith, l)
+
 -- ---- told of each other
 
 same_names : (names : List ℕ) (cs : List EdgeConfig) → addresses_of (map (listening names) cs) ≡ addresses_of cs
@@ -92,27 +109,40 @@ name_there (x ∷ cs) c (suc n, l, e) = next (name_there cs c (n, omega (arith, 
     next : Contains (addresses_of cs) c.address → Contains (addresses_of (x ∷ cs)) c.address
     next (m, k, p) = (suc m, omega (arith, k), p)
 
-opens : (e : Edges) → 0 < length e.addresses → length e.addresses ≤ 64 → FitTogether e → AreConfigs (whole_of e).0
-opens e some few h = record {
+-- addresses to listen to: they differ, there are few, and those of all edges are among them
+pub record AreHeard (names listed : List ℕ) : Type 0 where
+  pub distinct : IsDistinct eqb listed
+  pub few : length listed ≤ 64
+  pub all : AreAmong names listed
+
+-- so edges open that are told of such addresses
+opens : (e : Edges) (heard : List ℕ) → 0 < length e.addresses → length e.addresses ≤ 64 → AreHeard e.addresses heard
+    → FitTogether e → AreConfigs (told heard e).0
+opens e heard some few a h = record {
   some = subst (λ n. 0 < n) count some;
   few = subst (λ n. n ≤ 64) count few;
   apart = subst (IsDistinct eqb) same h.apart;
-  configs = λ c in'. is_config c (untold e.addresses e.configs c in');
-  listed = λ c in' o at. lists c (untold e.addresses e.configs c in') o
-      (subst (λ names. Contains names o) (sym same) at);
+  configs = λ c in'. is_config c (untold heard e.configs c in');
+  listed = λ c in' o at. lists c (untold heard e.configs c in') o
+      (a.all o (subst (λ names. Contains names o) (sym same) at));
 }
   where
-    same : e.addresses ≡ addresses_of (map (listening e.addresses) e.configs)
-    same = h.named ∙ sym (same_names e.addresses e.configs)
+    same : e.addresses ≡ addresses_of (map (listening heard) e.configs)
+    same = h.named ∙ sym (same_names heard e.configs)
 
-    count : length e.addresses ≡ length (map (listening e.addresses) e.configs)
+    count : length e.addresses ≡ length (map (listening heard) e.configs)
     count = ap length h.named ∙ length-map e.configs (λ (c : EdgeConfig). c.address)
-        ∙ sym (length-map e.configs (listening e.addresses))
+        ∙ sym (length-map e.configs (listening heard))
 
-    of_told : (d : EdgeConfig) → Contains e.configs d → Fits d → IsConfig (listening e.addresses d)
+    of_told : (d : EdgeConfig) → Contains e.configs d → Fits d → IsConfig (listening heard d)
     of_told d in' f = record {
-      originators = record { some = some; few = few; distinct = h.apart };
-      listed = subst (λ names. Contains names d.address) (sym h.named) (name_there e.configs d in');
+      originators = record {
+        some = one_there e.addresses heard some a.all;
+        few = a.few;
+        distinct = a.distinct;
+      };
+      listed = a.all d.address
+          (subst (λ names. Contains names d.address) (sym h.named) (name_there e.configs d in'));
       distinct = f.distinct;
       some_port = f.some_port;
       served = f.served;
@@ -123,13 +153,25 @@ opens e some few h = record {
       hello = f.hello;
     }
 
-    is_config : (c : EdgeConfig) → WasOne e.addresses e.configs c → IsConfig c
+    is_config : (c : EdgeConfig) → WasOne heard e.configs c → IsConfig c
     is_config c (d, in', p) = subst IsConfig p (of_told d in' (h.fit d in'))
 
-    lists : (c : EdgeConfig) → WasOne e.addresses e.configs c → (o : ℕ) → Contains e.addresses o
+    lists : (c : EdgeConfig) → WasOne heard e.configs c → (o : ℕ) → Contains heard o
         → Contains c.originators.items o
     lists c (d, in', p) o at = subst (λ (x : EdgeConfig). Contains x.originators.items o) p at
 
+pub opens_with : (w : Whole) (e : Edges) (heard : List ℕ) → w ≡ told heard e → 0 < length e.addresses
+    → length e.addresses ≤ 64 → AreHeard e.addresses heard → FitTogether e → AreConfigs w.0
+opens_with w e heard is some few a h = subst (λ (x : Whole). AreConfigs x.0) (sym is) (opens e heard some few a h)
+
 pub opens_as : (w : Whole) (e : Edges) → w ≡ whole_of e → 0 < length e.addresses → length e.addresses ≤ 64
     → FitTogether e → AreConfigs w.0
-opens_as w e is some few h = subst (λ (x : Whole). AreConfigs x.0) (sym is) (opens e some few h)
+opens_as w e is some few h =
+    opens_with w e e.addresses is some few (record { distinct = h.apart; few = few; all = all_listed e.addresses }) h
+
+-- ---- the addresses of peers
+
+-- one more, where its table has it
+pub listed_next : (before : List ℕ) (d : Data) (ds : Items) (t : Members) (a : ℕ) → as_table d ≡ Some t
+    → peer_of before t ≡ Ok a → listed_from before (item d ds) ≡ listed_from (before ++ a ∷ []) ds
+listed_next before d ds t a p q = rw (p, q) refl

@@ -1,6 +1,7 @@
 -- The configuration that a document gives, or its first fault.
-use Rattle.std.specs.Prelude.{◌≡◌, ℕ, ◌+◌, Bool, true, List, [], ◌∷◌, ◌++◌, map, codes, string_bytes, Some, None}
-use Rattle.std.specs.Prelude.{Result, Ok, Err}
+use Rattle.std.specs.Prelude.{◌≡◌, ℕ, ◌+◌, Bool, true, false, List, [], ◌∷◌, ◌++◌, map, codes, string_bytes, String}
+use Rattle.std.specs.Prelude.{Some, None, Result, Ok, Err}
+use Rattle.std.specs.declared.alloc.Global.{Global}
 use Rattle.toml.specs.Data.{Items, no_items, item, Members, as_table}
 use Rattle.toml.specs.Parse.{parse_document}
 use Rattle.arrayvec.specs.ArrayVec.{ArrayVec}
@@ -12,10 +13,14 @@ use Rattle.ev_config.specs.declared.keys.Fault.{Fault}
 use Rattle.ev_config.specs.declared.keys.Fault.TheVariants as fault
 use Rattle.ev_config.specs.declared.whole.Config.{Config}
 use Rattle.ev_config.specs.declared.whole.Served.{Served}
+use Rattle.ev_config.specs.declared.whole.Use.{Use}
+use Rattle.ev_config.specs.declared.whole.Use.TheVariants.{Any, Run, Serve}
 use Rattle.ev_config.specs.declared.config.ConfigRefusal.{ConfigRefusal}
 use Rattle.ev_config.specs.declared.config.ConfigRefusal.TheVariants as refusal
-use Rattle.ev_config.specs.Keys.{Key, ◌>>=◌, read_or, required, tables_in, path_in, only}
+use Rattle.ev_config.specs.Keys.{Key, ◌>>=◌, read_or, required, optional, tables_in, count_of, tables_beside}
+use Rattle.ev_config.specs.Keys.{path_in, only}
 use Rattle.ev_config.specs.ConfigEdge.{edge_of}
+use Rattle.ev_config.specs.ConfigPeer.{listed_from}
 
 -- the edges read so far
 pub record Edges : Type 0 where
@@ -94,19 +99,44 @@ ConfigOf for_run = TextGives view_of (config_in for_run)
 abbrev pub ServedWhole : Type 0
 ServedWhole = Whole × List ℕ
 
+-- the edges, each told of these addresses, and the links of each one's ports
+abbrev pub told : List ℕ → Edges → Whole
+told addresses edges = (map (listening addresses) edges.configs, edges.links)
+
+-- each of these edges listens to all, and to the peers of these tables
+abbrev pub with_peers : Items → Edges → Result Whole Key
+with_peers peers edges = do
+  addresses ← listed_from edges.addresses peers
+  Ok (told addresses edges)
+
 abbrev pub served_in : Members → Result ServedWhole Key
 served_in t = do
   tables ← required (codes "edge") tables_in t
   path ← required (codes "control") path_in t
-  _ ← only (codes "edge" ∷ codes "control" ∷ []) t
-  edges ← described true tables
-  Ok (edges, path)
+  peers ← optional (codes "peer") (tables_beside (count_of tables)) no_items t
+  _ ← only (codes "edge" ∷ codes "control" ∷ codes "peer" ∷ []) t
+  edges ← edges_from true no_edges tables
+  all ← with_peers peers edges
+  Ok (all, path)
 
 abbrev pub served_view : Served → ServedWhole
 served_view s = (view_of s.config, string_bytes s.control)
 
 abbrev pub ServedOf : List ℕ → Result Served ConfigRefusal → Type 0
 ServedOf = TextGives served_view served_in
+
+-- so the edges alone, whatever the path is
+abbrev pub ServedEdgesOf : List ℕ → Result Config ConfigRefusal → Type 0
+ServedEdgesOf text (Ok config) =
+    (control : String Global) × ServedOf text (Ok (record { config = config; control = control }))
+ServedEdgesOf text (Err refused) = ServedOf text (Err refused)
+
+-- ---- a configuration for a use
+
+abbrev pub ConfigFor : Use → List ℕ → Result Config ConfigRefusal → Type 0
+ConfigFor Any = ConfigOf false
+ConfigFor Run = ConfigOf true
+ConfigFor Serve = ServedEdgesOf
 
 -- ---- a document, and a fault of one
 

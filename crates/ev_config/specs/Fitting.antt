@@ -6,15 +6,15 @@ use Rattle.ev_edge.specs.Config.{vnis_of}
 use Rattle.ev_fabric.specs.Fabric.{addresses_of}
 use Rattle.ev_config.specs.Config.{Edges}
 
--- each port's network is one of the edge's
-abbrev pub AreServed : List ℕ → List ℕ → Type 0
-AreServed networks vnis = (v : ℕ) → Contains networks v → Contains vnis v
+-- each of the first numbers is among the second
+abbrev pub AreAmong : List ℕ → List ℕ → Type 0
+AreAmong xs ys = (n : ℕ) → Contains xs n → Contains ys n
 
 -- what an edge has to be, whomever it listens to
 pub record Fits (c : EdgeConfig) : Type 0 where
   pub distinct : IsDistinct eqb c.vnis.items
   pub some_port : 1 ≤ length c.ports.items
-  pub served : AreServed (vnis_of c.ports.items) c.vnis.items
+  pub served : AreAmong (vnis_of c.ports.items) c.vnis.items
   pub some_place : 1 ≤ c.capacity
   pub places : c.capacity ≤ 65536
   pub some_bucket : 1 ≤ c.buckets

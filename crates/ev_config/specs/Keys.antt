@@ -134,6 +134,11 @@ are_tables (item d ds) = is_some (as_table d) && are_tables ds
 abbrev pub tables_in : Data → Option Items
 tables_in d = option_and_then (λ ds. if is_few ds && are_tables ds then Some ds else None) (as_array d)
 
+-- such an array, of 64 tables at most with so many others
+abbrev pub tables_beside : ℕ → Data → Option Items
+tables_beside others d =
+    option_and_then (λ ds. if nat_le (others + count_of ds) 64 then Some ds else None) (tables_in d)
+
 -- ---- other keys
 
 abbrev pub is_among : List Key → Key → Bool

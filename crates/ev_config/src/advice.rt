@@ -4,12 +4,12 @@ ghost use Rattle.ether_wire.specs.Ends.{IsOpen};
 ghost use Rattle.ether_wire.specs.Memory.{page_end};
 
 use crate::edge::EDGE_KEYS;
-use crate::edges::FILE_KEYS;
 use crate::hints::{meant, put_hint};
 use crate::keys::{addr_in, bridge_in, tables_at};
-use crate::place::{Place, place_of};
+use crate::peers::PEER_KEYS;
+use crate::place::{Place, file_keys, place_of};
 use crate::port::PORT_KEYS;
-use crate::whole::Config;
+use crate::whole::{Config, Use};
 use ether_wire::{Device, Out, Page, Vni, put_decimal};
 use ev_edge::EdgeConfig;
 use std::alloc::Global;
@@ -52,6 +52,28 @@ fn allowed_in_port(key: &str) -> &'static str {
         "admin_edge" | "auto_edge" | "point_to_point" => "allowed are true and false",
         "local" | "remote" => "allowed is an IPv4 address with a UDP port, as '127.0.0.1:5000'",
         _ => "which is no key of a port",
+    }
+}
+
+/// What may stand at a key of the document itself.
+fn allowed_in_file(wanted: Use, key: &str) -> &'static str {
+    match key {
+        "edge" => "allowed are 1 to 64 tables, each written as [[edge]]",
+        "control" if wanted == Use::Serve =>
+            "allowed is the path of a socket, 1 to 107 octets, none of them 0",
+        "peer" if wanted == Use::Serve =>
+            "allowed are tables, each written as [[peer]], at most 64 with those of [[edge]]",
+        "control" | "peer" => "which is a key of what `serve` runs alone",
+        _ => "which is no key of the file",
+    }
+}
+
+/// What may stand at a key of a peer.
+fn allowed_in_peer(key: &str) -> &'static str {
+    match key {
+        "address" =>
+            "allowed is an IPv4 address that no edge and no peer before has, as '10.0.0.9'",
+        _ => "which is no key of a peer",
     }
 }
 
@@ -103,6 +125,16 @@ fn put_shown(line: &mut Line, text: &str) -> Result<(), Device>
     Ok(())
 }
 
+/// Writes the number of a table of this name: `edge 2`.
+fn put_number(line: &mut Line, name: &[u8], number: usize) -> Result<(), Device>
+    requires { IsOpen (page_end line.old) }
+    ensures { OnOk result ((page_end line.new).failures ≡ (page_end line.old).failures) }
+{
+    line.put(name)?;
+    line.put(b" ")?;
+    put_decimal(line, number as u64)
+}
+
 /// Writes where the table is: `edge 2, port 3: `.
 fn put_place(line: &mut Line, place: Place<'_>) -> Result<(), Device>
     requires { IsOpen (page_end line.old) }
@@ -111,15 +143,16 @@ fn put_place(line: &mut Line, place: Place<'_>) -> Result<(), Device>
     match place {
         Place::File(_) => Ok(()),
         Place::Edge(edge, _) => {
-            line.put(b"edge ")?;
-            put_decimal(line, edge as u64)?;
+            put_number(line, b"edge", edge)?;
             line.put(b": ")
         }
         Place::Port(edge, port, _) => {
-            line.put(b"edge ")?;
-            put_decimal(line, edge as u64)?;
-            line.put(b", port ")?;
-            put_decimal(line, port as u64)?;
+            put_number(line, b"edge", edge)?;
+            put_number(line, b", port", port)?;
+            line.put(b": ")
+        }
+        Place::Peer(peer, _) => {
+            put_number(line, b"peer", peer)?;
             line.put(b": ")
         }
     }
@@ -128,18 +161,20 @@ fn put_place(line: &mut Line, place: Place<'_>) -> Result<(), Device>
 /// The table of a place.
 fn table_of(place: Place<'_>) -> &Table {
     match place {
-        Place::File(table) | Place::Edge(_, table) | Place::Port(_, _, table) => table,
+        Place::File(table)
+        | Place::Edge(_, table)
+        | Place::Port(_, _, table)
+        | Place::Peer(_, table) => table,
     }
 }
 
 /// What may stand at a key there.
-fn allowed<'a>(place: Place<'_>, key: &str) -> &'a str {
+fn allowed<'a>(wanted: Use, place: Place<'_>, key: &str) -> &'a str {
     match place {
-        Place::File(_) if key == "edge" => "allowed are 1 to 64 tables, each written as [[edge]]",
-        Place::File(_) if key == "control" => "which is a key of what `serve` runs alone",
-        Place::File(_) => "which is no key of the file",
+        Place::File(_) => allowed_in_file(wanted, key),
         Place::Edge(..) => allowed_in_edge(key),
         Place::Port(..) => allowed_in_port(key),
+        Place::Peer(..) => allowed_in_peer(key),
     }
 }
 
@@ -167,41 +202,54 @@ fn is_twin(other: &Value, key: &str, value: &Value) -> bool {
     }
 }
 
-/// The first of these edges that has the value at a key, from 1.
-fn twin_among(edges: &Array, before: usize, key: &str, value: &Value) -> Option<usize> {
-    for (at, other) in edges.iter().enumerate().take(before) {
+/// A table that has a value already.
+#[derive(Clone, Copy)]
+struct Twin {
+    /// The key of its array.
+    name: &'static str,
+    /// Its number, from 1.
+    number: usize,
+}
+
+/// The first of so many tables of an array that has the value at a key.
+fn twin_among(
+    document: &Table,
+    name: &'static str,
+    before: usize,
+    key: &str,
+    value: &Value,
+) -> Option<Twin> {
+    let tables = tables_at(document, name).ok()?;
+    for (at, other) in tables.iter().enumerate().take(before) {
         if is_twin(other, key, value) {
-            return Some(at.saturating_add(1));
+            let number = at.saturating_add(1);
+            return Some(Twin { name, number });
         }
     }
     None
 }
 
-/// The first edge before the place that has the value at a key.
-fn twin_of(document: &Table, place: Place<'_>, key: &str, value: &Value) -> Option<usize> {
+/// The first edge or peer before the place that has the value at a key.
+fn twin_of(document: &Table, place: Place<'_>, key: &str, value: &Value) -> Option<Twin> {
     match place {
-        Place::Edge(edge, _) => {
-            let edges = tables_at(document, "edge").ok()?;
-            twin_among(edges, edge.saturating_sub(1), key, value)
-        }
+        Place::Edge(edge, _) => { twin_among(document, "edge", edge.saturating_sub(1), key, value) }
+        Place::Peer(peer, _) => match twin_among(document, "edge", usize::MAX, key, value) {
+            Some(twin) => Some(twin),
+            None => twin_among(document, "peer", peer.saturating_sub(1), key, value),
+        },
         Place::File(_) | Place::Port(..) => None,
     }
 }
 
 /// Writes why a text is wrong, where that is known.
-fn put_text_reason(
-    line: &mut Line,
-    twin: Option<usize>,
-    key: &str,
-    text: &str,
-) -> Result<(), Device>
+fn put_text_reason(line: &mut Line, twin: Option<Twin>, key: &str, text: &str) -> Result<(), Device>
     requires { IsOpen (page_end line.old) }
     ensures { OnOk result ((page_end line.new).failures ≡ (page_end line.old).failures) }
 {
     match twin {
-        Some(edge) => {
-            line.put(b", which edge ")?;
-            put_decimal(line, edge as u64)?;
+        Some(Twin { name, number }) => {
+            line.put(b", which ")?;
+            put_number(line, name.as_bytes(), number)?;
             line.put(b" has")
         }
         None => put_hint(line, key, text),
@@ -215,6 +263,7 @@ fn put_table_reason(line: &mut Line, place: Place<'_>, key: &str) -> Result<(), 
 {
     match (place, key) {
         (Place::File(_), "edge") => line.put(b", as [edge] writes one"),
+        (Place::File(_), "peer") => line.put(b", as [peer] writes one"),
         (Place::Edge(..), "port") => line.put(b", as [edge.port] writes one"),
         _ => Ok(()),
     }
@@ -262,20 +311,27 @@ fn put_found(line: &mut Line, document: &Table, place: Place<'_>, key: &str) -> 
 }
 
 /// The key of such a table that was meant by another, where one is near.
-fn meant_in(alloc: Global, place: Place<'_>, key: &str) -> Option<&'static str> {
+fn meant_in(alloc: Global, wanted: Use, place: Place<'_>, key: &str) -> Option<&'static str> {
     match place {
-        Place::File(_) => meant(alloc, &FILE_KEYS, key),
+        Place::File(_) => meant(alloc, file_keys(wanted), key),
         Place::Edge(..) => meant(alloc, &EDGE_KEYS, key),
         Place::Port(..) => meant(alloc, &PORT_KEYS, key),
+        Place::Peer(..) => meant(alloc, &PEER_KEYS, key),
     }
 }
 
 /// Writes which key was meant, where one that is none is near to it.
-fn put_meant(line: &mut Line, alloc: Global, place: Place<'_>, key: &str) -> Result<(), Device>
+fn put_meant(
+    line: &mut Line,
+    alloc: Global,
+    wanted: Use,
+    place: Place<'_>,
+    key: &str,
+) -> Result<(), Device>
     requires { IsOpen (page_end line.old) }
     ensures { OnOk result ((page_end line.new).failures ≡ (page_end line.old).failures) }
 {
-    match meant_in(alloc, place, key) {
+    match meant_in(alloc, wanted, place, key) {
         Some(known) if known != key => {
             line.put(b": did you mean ")?;
             line.put(known.as_bytes())?;
@@ -286,13 +342,19 @@ fn put_meant(line: &mut Line, alloc: Global, place: Place<'_>, key: &str) -> Res
 }
 
 /// Writes the end of a line: what is allowed, or which key was meant.
-fn put_allowed(line: &mut Line, alloc: Global, place: Place<'_>, key: &str) -> Result<(), Device>
+fn put_allowed(
+    line: &mut Line,
+    alloc: Global,
+    wanted: Use,
+    place: Place<'_>,
+    key: &str,
+) -> Result<(), Device>
     requires { IsOpen (page_end line.old) }
     ensures { OnOk result ((page_end line.new).failures ≡ (page_end line.old).failures) }
 {
     line.put(b", ")?;
-    line.put(allowed(place, key).as_bytes())?;
-    put_meant(line, alloc, place, key)?;
+    line.put(allowed(wanted, place, key).as_bytes())?;
+    put_meant(line, alloc, wanted, place, key)?;
     line.put(b"\n")
 }
 
@@ -300,23 +362,23 @@ fn put_allowed(line: &mut Line, alloc: Global, place: Place<'_>, key: &str) -> R
 fn put_fault(
     line: &mut Line,
     alloc: Global,
-    for_run: bool,
+    wanted: Use,
     document: &Table,
     key: &str,
 ) -> Result<(), Device>
     requires { IsOpen (page_end line.old) }
     ensures { OnOk result ((page_end line.new).failures ≡ (page_end line.old).failures) }
 {
-    let place = place_of(for_run, document);
+    let place = place_of(wanted, document);
     put_place(line, place)?;
     put_found(line, document, place, key)?;
-    put_allowed(line, alloc, place, key)
+    put_allowed(line, alloc, wanted, place, key)
 }
 
 /// The line that tells of a faulty key.
-pub(crate) fn fault_line(alloc: Global, for_run: bool, document: &Table, key: &str) -> Line {
+pub(crate) fn fault_line(alloc: Global, wanted: Use, document: &Table, key: &str) -> Line {
     let mut line = Line::new();
-    let _fits = put_fault(&mut line, alloc, for_run, document, key);
+    let _fits = put_fault(&mut line, alloc, wanted, document, key);
     line
 }
 
@@ -370,6 +432,25 @@ fn put_count(line: &mut Line, lead: &[u8], count: usize, one: &[u8]) -> Result<(
     line.put(if count == 1 { b"" } else { b"s" })
 }
 
+/// How many edges run elsewhere.
+fn count_peers(config: &Config) -> usize {
+    match config.edges.first() {
+        Some(edge) => edge.originators.len().saturating_sub(config.edges.len()),
+        None => 0,
+    }
+}
+
+/// Writes how many edges run elsewhere, where there are any.
+fn put_peers(line: &mut Line, count: usize) -> Result<(), Device>
+    requires { IsOpen (page_end line.old) }
+    ensures { OnOk result ((page_end line.new).failures ≡ (page_end line.old).failures) }
+{
+    match count {
+        0 => Ok(()),
+        _ => put_count(line, b", ", count, b" peer"),
+    }
+}
+
 /// Writes how much there is.
 fn put_summary(line: &mut Line, config: &Config) -> Result<(), Device>
     requires { IsOpen (page_end line.old) }
@@ -378,6 +459,7 @@ fn put_summary(line: &mut Line, config: &Config) -> Result<(), Device>
     put_count(line, b"ok: ", config.edges.len(), b" edge")?;
     put_count(line, b", ", count_ports(config), b" port")?;
     put_count(line, b", ", count_vnis(config), b" VNI")?;
+    put_peers(line, count_peers(config))?;
     line.put(b"\n")
 }
 
@@ -422,11 +504,11 @@ pub(crate) fn syntax_line(text: &str, error: &Error) -> Line {
     line
 }
 
-/// What is told of a text that is no configuration, perhaps none for a run, and of its faulty key
-/// if it is a document.
-pub fn refusal_line(alloc: Global, for_run: bool, text: &str, key: Option<&str>) -> Line {
+/// What is told of a text that is no configuration, perhaps none for such a use, and of its faulty
+/// key if it is a document.
+pub fn refusal_line(alloc: Global, wanted: Use, text: &str, key: Option<&str>) -> Line {
     match toml::table_from_str(alloc, text) {
-        Ok(table) => fault_line(alloc, for_run, &table, key.unwrap_or("text")),
+        Ok(table) => fault_line(alloc, wanted, &table, key.unwrap_or("text")),
         Err(error) if error.is_memory() => plain_line(key),
         Err(error) => syntax_line(text, &error),
     }

@@ -2,11 +2,11 @@
 ghost use Rattle.std.specs.Prelude.{IfOk};
 ghost use Rattle.toml.specs.View.{table_view};
 ghost use Rattle.ev_fabric.specs.Opening.{AreConfigs};
-ghost use Rattle.ev_config.specs.Config.{ConfigOf, ServedOf, Reads, Tells};
+ghost use Rattle.ev_config.specs.Config.{ConfigOf, ServedOf, ServedEdgesOf, ConfigFor, Reads, Tells};
 
 use crate::edges::{config_in, served_in};
 use crate::keys::Fault;
-use crate::whole::{Config, Served};
+use crate::whole::{Config, Served, Use};
 use std::alloc::Global;
 use toml::Table;
 
@@ -63,7 +63,8 @@ pub fn config_of(alloc: Global, text: &str, for_run: bool) -> Result<Config, Con
 }
 
 /// The configuration that a text spells of edges that are asked while they run: that of a run, with
-/// the path of a Unix socket at the key `control`.
+/// the path of a Unix socket at the key `control`, and perhaps with peers, edges that run
+/// elsewhere. Each edge listens to all edges and to all peers.
 ///
 /// # Errors
 ///
@@ -76,5 +77,36 @@ pub fn served_config_of(alloc: Global, text: &str) -> Result<Served, ConfigRefus
     match served_in(alloc, &table) {
         Ok(served) => Ok(served),
         Err(fault) => Err(refusal_of(alloc, fault)),
+    }
+}
+
+/// The edges of `served_config_of`, for whom the path doesn't matter.
+fn served_edges_of(alloc: Global, text: &str) -> Result<Config, ConfigRefusal>
+    ensures { ServedEdgesOf text.now result }
+{
+    match served_config_of(alloc, text) {
+        Ok(served) => {
+            let Served {
+                config,
+                control: _path,
+            } = served;
+            Ok(config)
+        }
+        Err(refusal) => Err(refusal),
+    }
+}
+
+/// The configuration that a text spells for a use.
+///
+/// # Errors
+///
+/// As `config_of`.
+pub fn config_for(alloc: Global, text: &str, wanted: Use) -> Result<Config, ConfigRefusal>
+    ensures { ConfigFor wanted text.now result }
+{
+    match wanted {
+        Use::Any => config_of(alloc, text, false),
+        Use::Run => config_of(alloc, text, true),
+        Use::Serve => served_edges_of(alloc, text),
     }
 }

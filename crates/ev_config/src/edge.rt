@@ -2,12 +2,14 @@
 ghost use Rattle.std.specs.Prelude.{◌≡◌, ◌≤◌, ◌<◌, ◌^◌, codes, eqb, false, IfOk};
 ghost use Rattle.std.specs.List.{list_any, IsDistinct};
 ghost use Rattle.toml.specs.View.{table_view};
-ghost use Rattle.ev_config.specs.Keys.{Gives, required, addr_in, bridge_in, new_among};
+ghost use Rattle.ev_config.specs.Keys.{Gives, required, bridge_in, new_among};
 ghost use Rattle.ev_config.specs.Fitting.{Fits};
 ghost use Rattle.ev_config.specs.ConfigEdge.{names_of, tree_of, limits_of, related, edge_from, edge_of};
 
 use crate::endpoint::PortEndpoints;
-use crate::keys::{Fault, addr_in, bridge_in, number, only, steps, tables_at, value_at, vnis_at};
+use crate::keys::{
+    Fault, bridge_in, new_address_at, number, only, steps, tables_at, value_at, vnis_at,
+};
 use crate::port::{Ports, ports_of};
 use arrayvec::ArrayVec;
 use bpdu_wire::BridgeId;
@@ -71,28 +73,6 @@ pub(crate) struct Described {
     pub(crate) links: ArrayVec<PortEndpoints, 64>,
 }
 
-/// Whether the address is one of these.
-fn has_address(addresses: &[Addr], address: Addr) -> bool
-    ensures { result ≡ list_any (λ x. eqb x address) addresses.now }
-{
-    addresses.contains(&address)
-}
-
-/// The edge's address, none of those before.
-fn address_of<'a>(table: &'a Table, before: &[Addr]) -> Result<Addr, Fault<'a>>
-    ensures value { Gives (λ n. n) (required (codes "address")
-        (λ d. new_among before.now (addr_in d)) (table_view table.now)) result }
-    ensures new { IfOk result (λ n. list_any (λ x. eqb x n) before.now ≡ false) }
-{
-    let Some(value) = value_at(table, "address") else {
-        return Err(Fault::Key("address"));
-    };
-    match addr_in(value) {
-        Some(address) if !has_address(before, address) => Ok(address),
-        _ => Err(Fault::Key("address")),
-    }
-}
-
 /// Whether the bridge is one of these.
 fn has_bridge(bridges: &[Mac], bridge: Mac) -> bool
     ensures { result ≡ list_any (λ x. eqb x bridge) bridges.now }
@@ -125,7 +105,7 @@ pub(crate) fn names_of<'a>(
     ensures new { IfOk result (λ n. list_any (λ x. eqb x n.address) addresses.now ≡ false) }
     ensures distinct { IfOk result (λ n. IsDistinct eqb n.vnis.items) }
 {
-    let address = address_of(table, addresses)?;
+    let address = new_address_at(table, addresses)?;
     let bridge = bridge_of(table, bridges)?;
     let vnis = vnis_at(table, "vnis")?;
     Ok(Names {

@@ -1,15 +1,18 @@
 //! The edges of a document.
-ghost use Rattle.std.specs.Prelude.{◌≡◌, ◌+◌, ◌≤◌, ◌<◌, length, map, Ok, eqb, false, vec_len, IfOk, OnOk};
+ghost use Rattle.std.specs.Prelude.{◌≡◌, ◌+◌, ◌≤◌, ◌<◌, length, map, Ok, eqb, false, vec_len, codes, IfOk, IfSome, OnOk};
 ghost use Rattle.std.specs.List.{list_any};
+ghost use Rattle.std.specs.Option.{option_map_or};
+ghost use Rattle.toml.specs.Data.{no_items};
 ghost use Rattle.toml.specs.View.{table_view, array_view};
 ghost use Rattle.ev_fabric.specs.Opening.{AreConfigs};
 ghost use Rattle.ev_config.specs.Fitting.{Fits, FitTogether};
-ghost use Rattle.ev_config.specs.Keys.{Gives};
-ghost use Rattle.ev_config.specs.Config.{no_edges, with_edge, edges_view, edges_from, listening, whole_of, described, config_in, view_of, served_in, served_view};
+ghost use Rattle.ev_config.specs.Keys.{Gives, optional, tables_beside, count_of};
+ghost use Rattle.ev_config.specs.Config.{no_edges, with_edge, edges_view, edges_from, listening, whole_of, described, config_in, view_of, with_peers, served_in, served_view};
 
 use crate::edge::{Described, edge_of};
 use crate::endpoint::PortEndpoints;
-use crate::keys::{Fault, only, path_at, tables_at};
+use crate::keys::{Fault, only, path_at, tables_at, tables_beside};
+use crate::peers::listed_with;
 use crate::whole::{Config, Served};
 use arrayvec::ArrayVec;
 use ether_wire::{Addr, Mac};
@@ -22,7 +25,7 @@ use toml::value::Array;
 pub(crate) const FILE_KEYS: [&'static str; 1] = ["edge"];
 
 /// Those of a document of edges that are asked while they run.
-pub(crate) const SERVED_KEYS: [&'static str; 2] = ["edge", "control"];
+pub(crate) const SERVED_KEYS: [&'static str; 3] = ["edge", "control", "peer"];
 
 /// The edges read so far, with their addresses and bridges. They listen to nobody yet.
 #[derive(Drop)]
@@ -104,6 +107,20 @@ fn listen_all(edges: &mut [EdgeConfig], addresses: &ArrayVec<Addr, 64>)
     }
 }
 
+/// The configuration of these edges: each listens to these addresses.
+fn told(
+    configs: Vec<EdgeConfig>,
+    links: Vec<ArrayVec<PortEndpoints, 64>>,
+    addresses: &ArrayVec<Addr, 64>,
+) -> Config
+    requires { vec_len links ≡ vec_len configs }
+    ensures { view_of result ≡ (map (listening addresses.now.items) configs.items, links.items) }
+{
+    let mut edges = configs;
+    listen_all(edges.as_mut_slice(), addresses);
+    Config { edges, links }
+}
+
 /// The configuration of these edges: each listens to all.
 fn whole_of(edges: Edges) -> Config
     requires { vec_len edges.links ≡ vec_len edges.configs }
@@ -112,14 +129,32 @@ fn whole_of(edges: Edges) -> Config
     let Edges {
         addresses,
         bridges: _,
-        mut configs,
+        configs,
         links,
     } = edges;
-    listen_all(configs.as_mut_slice(), &addresses);
-    Config {
-        edges: configs,
+    told(configs, links, &addresses)
+}
+
+/// The configuration of these edges, which listen to the peers in these tables, too.
+fn with_peers<'a>(edges: Edges, peers: Option<&'a Array>) -> Result<Config, Fault<'a>>
+    requires each { vec_len edges.links ≡ vec_len edges.configs }
+    requires some { 0 < length edges.addresses.items }
+    requires few { length edges.addresses.items ≤ 64 }
+    requires room { IfSome peers (λ a. length edges.addresses.items + length a.now.items ≤ 64) }
+    requires together { FitTogether (edges_view edges) }
+    ensures value { Gives view_of
+        (with_peers (option_map_or (λ a. array_view a.now) peers.entry no_items)
+        (edges_view edges)) result }
+    ensures opens { IfOk result (λ c. AreConfigs c.edges.items) }
+{
+    let Edges {
+        addresses,
+        bridges: _,
+        configs,
         links,
-    }
+    } = edges;
+    let listed = listed_with(addresses, peers)?;
+    Ok(told(configs, links, &listed))
 }
 
 /// The configuration of these tables.
@@ -147,6 +182,19 @@ pub(crate) fn config_in<'a>(
     described(alloc, for_run, tables)
 }
 
+/// The tables of the peers beside these edges, if there are any.
+#[tactic(auto, using(crate::proofs::Walking::count_of_view))]
+pub(crate) fn peers_at<'a>(table: &'a Table, edges: &Array) -> Result<Option<&'a Array>, Fault<'a>>
+    requires { length edges.now.items ≤ 64 }
+    ensures value { Gives (λ v. option_map_or (λ a. array_view a.now) v no_items)
+        (optional (codes "peer") (tables_beside (count_of (array_view edges.now))) no_items
+        (table_view table.now)) result }
+    ensures room { IfOk result
+        (λ v. IfSome v (λ a. length edges.now.items + length a.now.items ≤ 64)) }
+{
+    tables_beside(table, "peer", edges.len())
+}
+
 /// The configuration of a document of edges that are asked while they run.
 pub(crate) fn served_in<'a>(alloc: Global, table: &'a Table) -> Result<Served, Fault<'a>>
     ensures value { Gives served_view (served_in (table_view table.now)) result }
@@ -154,8 +202,10 @@ pub(crate) fn served_in<'a>(alloc: Global, table: &'a Table) -> Result<Served, F
 {
     let tables = tables_at(table, "edge")?;
     let path = path_at(table, "control")?;
+    let peers = peers_at(table, tables)?;
     only(table, &SERVED_KEYS)?;
-    let config = described(alloc, true, tables)?;
+    let edges = edges_of(alloc, true, tables)?;
+    let config = with_peers(edges, peers)?;
     let control = String::from_str(alloc, path)?;
     Ok(Served { config, control })
 }

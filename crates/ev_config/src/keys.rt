@@ -1,9 +1,10 @@
 //! What the keys of a table hold.
-ghost use Rattle.std.specs.Prelude.{◌≡◌, ◌+◌, ◌<◌, ◌≤◌, ◌^◌, ◌∷◌, length, option_map, IfOk, IfSome, map, true, false, eqb, []};
+ghost use Rattle.std.specs.Prelude.{◌≡◌, ◌+◌, ◌<◌, ◌≤◌, ◌^◌, ◌∷◌, length, option_map, IfOk, IfSome, map, true, false, eqb, [], codes};
 ghost use Rattle.std.specs.List.{list_any, IsDistinct};
-ghost use Rattle.toml.specs.Data.{get_member};
+ghost use Rattle.std.specs.Option.{option_map_or};
+ghost use Rattle.toml.specs.Data.{get_member, no_items};
 ghost use Rattle.toml.specs.View.{view, table_view, array_view};
-ghost use Rattle.ev_config.specs.Keys.{Gives, optional, required, number_in, steps_in, flag_in, addr_in, bridge_in, endpoint_in, is_path, path_in, vni_in, vnis_in, new_among, numbers_from, is_among, only, read_or, is_few, are_tables, tables_in};
+ghost use Rattle.ev_config.specs.Keys.{Gives, optional, required, number_in, steps_in, flag_in, addr_in, bridge_in, endpoint_in, is_path, path_in, vni_in, vnis_in, new_among, numbers_from, is_among, only, read_or, is_few, are_tables, tables_in, tables_beside};
 ghost use Rattle.ev_config.specs.declared.keys.Fault.TheVariants.{NoMemory};
 
 use crate::endpoint::{Endpoint, read_endpoint};
@@ -143,6 +144,28 @@ pub(crate) fn addr_in(value: &Value) -> Option<Addr>
     Addr::read_text(value.as_str()?.as_bytes())
 }
 
+/// Whether the address is one of these.
+fn has_address(addresses: &[Addr], address: Addr) -> bool
+    ensures { result ≡ list_any (λ x. eqb x address) addresses.now }
+{
+    addresses.contains(&address)
+}
+
+/// The address at its key, none of those before.
+pub(crate) fn new_address_at<'a>(table: &'a Table, before: &[Addr]) -> Result<Addr, Fault<'a>>
+    ensures value { Gives (λ n. n) (required (codes "address")
+        (λ d. new_among before.now (addr_in d)) (table_view table.now)) result }
+    ensures new { IfOk result (λ n. list_any (λ x. eqb x n) before.now ≡ false) }
+{
+    let Some(value) = value_at(table, "address") else {
+        return Err(Fault::Key("address"));
+    };
+    match addr_in(value) {
+        Some(address) if !has_address(before, address) => Ok(address),
+        _ => Err(Fault::Key("address")),
+    }
+}
+
 /// The address of one station that a value spells.
 pub(crate) fn bridge_in(value: &Value) -> Option<Mac>
     ensures { result ≡ bridge_in (view value.now) }
@@ -245,6 +268,18 @@ fn are_tables(array: &Array) -> bool
     true
 }
 
+/// The array of 1 to 64 tables that a value is.
+fn tables_in(value: &Value) -> Option<&Array>
+    ensures value { option_map (λ v. array_view v.now) result ≡ tables_in (view value.now) }
+    ensures some { IfSome result (λ v. 0 < length v.now.items) }
+    ensures few { IfSome result (λ v. length v.now.items ≤ 64) }
+{
+    match value.as_array() {
+        Some(array) if is_few(array) && are_tables(array) => Some(array),
+        _ => None,
+    }
+}
+
 /// The array of 1 to 64 tables at a key.
 pub(crate) fn tables_at<'a>(table: &'a Table, key: &'a str) -> Result<&'a Array, Fault<'a>>
     ensures value { Gives (λ v. array_view v.now)
@@ -255,9 +290,43 @@ pub(crate) fn tables_at<'a>(table: &'a Table, key: &'a str) -> Result<&'a Array,
     let Some(value) = value_at(table, key) else {
         return Err(Fault::Key(key));
     };
-    match value.as_array() {
-        Some(array) if is_few(array) && are_tables(array) => Ok(array),
-        _ => Err(Fault::Key(key)),
+    match tables_in(value) {
+        Some(tables) => Ok(tables),
+        None => Err(Fault::Key(key)),
+    }
+}
+
+/// Such an array, of 64 tables at most with so many others.
+#[tactic(auto, using(crate::proofs::Walking::count_of_view))]
+fn tables_in_beside(value: &Value, others: usize) -> Option<&Array>
+    requires { others ≤ 64 }
+    ensures value { option_map (λ v. array_view v.now) result
+        ≡ tables_beside others (view value.now) }
+    ensures room { IfSome result (λ v. others + length v.now.items ≤ 64) }
+{
+    match tables_in(value) {
+        Some(tables) if others + tables.len() <= 64 => Some(tables),
+        _ => None,
+    }
+}
+
+/// The one at a key, if there is one.
+pub(crate) fn tables_beside<'a>(
+    table: &'a Table,
+    key: &'a str,
+    others: usize,
+) -> Result<Option<&'a Array>, Fault<'a>>
+    requires { others ≤ 64 }
+    ensures value { Gives (λ v. option_map_or (λ a. array_view a.now) v no_items)
+        (optional key.now (tables_beside others) no_items (table_view table.now)) result }
+    ensures room { IfOk result (λ v. IfSome v (λ a. others + length a.now.items ≤ 64)) }
+{
+    match value_at(table, key) {
+        None => Ok(None),
+        Some(value) => match tables_in_beside(value, others) {
+            Some(tables) => Ok(Some(tables)),
+            None => Err(Fault::Key(key)),
+        },
     }
 }
 

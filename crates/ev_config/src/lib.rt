@@ -8,11 +8,12 @@ mod edges;
 mod endpoint;
 mod hints;
 mod keys;
+mod peers;
 mod place;
 mod port;
 mod whole;
 
 pub use advice::{Line, refusal_line, summary_line};
-pub use config::{ConfigRefusal, config_of, served_config_of};
+pub use config::{ConfigRefusal, config_for, config_of, served_config_of};
 pub use endpoint::{Endpoint, PortEndpoints};
-pub use whole::{Config, Served};
+pub use whole::{Config, Served, Use};

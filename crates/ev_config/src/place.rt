@@ -2,15 +2,17 @@
 ghost use Rattle.std.specs.Prelude.{◌≤◌, length};
 
 use crate::edge::{EDGE_KEYS, edge_of, limits_of, names_of, related, tree_of};
-use crate::edges::FILE_KEYS;
-use crate::keys::{only, tables_at, vnis_at};
+use crate::edges::{FILE_KEYS, SERVED_KEYS, peers_at};
+use crate::keys::{only, path_at, tables_at, vnis_at};
+use crate::peers::peer_of;
 use crate::port::port_of;
+use crate::whole::Use;
 use arrayvec::ArrayVec;
 use ether_wire::{Addr, Mac};
 use toml::Table;
 use toml::value::Array;
 
-/// A table of the document. Edges and ports count from 1.
+/// A table of the document. Edges, ports and peers count from 1.
 #[derive(Clone, Copy)]
 pub(crate) enum Place<'a> {
     /// The document's own.
@@ -19,6 +21,8 @@ pub(crate) enum Place<'a> {
     Edge(usize, &'a Table),
     /// That of this edge's port.
     Port(usize, usize, &'a Table),
+    /// This peer's.
+    Peer(usize, &'a Table),
 }
 
 /// The addresses and bridges of the edges before one.
@@ -28,22 +32,44 @@ struct Before {
     bridges: ArrayVec<Mac, 64>,
 }
 
-/// The first faulty table of a document that has a fault; for a run each port needs its endpoints.
-pub(crate) fn place_of(for_run: bool, table: &Table) -> Place<'_> {
+/// The keys that the document may have itself.
+pub(crate) fn file_keys(wanted: Use) -> &'static [&'static str] {
+    match wanted {
+        Use::Any | Use::Run => &FILE_KEYS,
+        Use::Serve => &SERVED_KEYS,
+    }
+}
+
+/// The first faulty table of a document that has a fault.
+pub(crate) fn place_of(wanted: Use, table: &Table) -> Place<'_> {
     match tables_at(table, "edge") {
-        Ok(edges) if only(table, &FILE_KEYS).is_ok() => {
-            place_among(for_run, edges).unwrap_or(Place::File(table))
+        Ok(edges) if only(table, file_keys(wanted)).is_ok() => {
+            place_in(wanted, table, edges).unwrap_or(Place::File(table))
         }
         _ => Place::File(table),
     }
 }
 
-/// The first faulty table of these edges.
-fn place_among(for_run: bool, edges: &Array) -> Option<Place<'_>> {
+/// The first faulty table of these edges, or of the peers beside them.
+fn place_in<'a>(wanted: Use, table: &'a Table, edges: &'a Array) -> Option<Place<'a>>
+    requires { length edges.now.items ≤ 64 }
+{
+    if wanted == Use::Serve {
+        path_at(table, "control").ok()?;
+        peers_at(table, edges).ok()?;
+    }
     let mut before = Before {
         addresses: ArrayVec::new(),
         bridges: ArrayVec::new(),
     };
+    match place_among(wanted != Use::Any, edges, &mut before) {
+        Some(place) => Some(place),
+        None => peer_among(tables_at(table, "peer").ok()?, before.addresses),
+    }
+}
+
+/// The first faulty table of these edges. All before it are noted.
+fn place_among<'a>(for_run: bool, edges: &'a Array, before: &mut Before) -> Option<Place<'a>> {
     for (at, value) in edges.iter().enumerate() {
         let table = value.as_table()?;
         match edge_of(
@@ -56,7 +82,22 @@ fn place_among(for_run: bool, edges: &Array) -> Option<Place<'_>> {
                 let _fits = before.addresses.try_push(edge.config.address);
                 let _fits = before.bridges.try_push(edge.bridge);
             }
-            Err(_) => return Some(place_in_edge(for_run, at + 1, &before, table)),
+            Err(_) => return Some(place_in_edge(for_run, at + 1, before, table)),
+        }
+    }
+    None
+}
+
+/// The first faulty table of these peers, beside edges of these addresses.
+fn peer_among<'a>(peers: &'a Array, edges: ArrayVec<Addr, 64>) -> Option<Place<'a>> {
+    let mut before = edges;
+    for (at, value) in peers.iter().enumerate() {
+        let table = value.as_table()?;
+        match peer_of(before.as_slice(), table) {
+            Ok(address) => {
+                let _fits = before.try_push(address);
+            }
+            Err(_) => return Some(Place::Peer(at + 1, table)),
         }
     }
     None

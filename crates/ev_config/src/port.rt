@@ -3,7 +3,7 @@ ghost use Rattle.std.specs.Prelude.{◌≡◌, ◌+◌, ◌≤◌, ◌<◌, ℕ,
 ghost use Rattle.toml.specs.View.{table_view, array_view};
 ghost use Rattle.ev_config.specs.Keys.{Gives, required, vni_in, one_of};
 ghost use Rattle.ev_edge.specs.Config.{vnis_of};
-ghost use Rattle.ev_config.specs.Fitting.{AreServed};
+ghost use Rattle.ev_config.specs.Fitting.{AreAmong};
 ghost use Rattle.ev_config.specs.ConfigPort.{endpoint_of, port_of, no_ports, with_port, ports_from};
 
 use crate::endpoint::{Endpoint, PortEndpoints};
@@ -113,8 +113,8 @@ fn add_port(ports: &mut Ports, port: Port)
     ensures value { ports.new ≡ with_port ports.old port }
     ensures configs { length ports.new.configs.items ≡ length ports.old.configs.items + 1 }
     ensures links { length ports.new.links.items ≡ length ports.old.links.items + 1 }
-    ensures served { (vnis : List ℕ) → AreServed (vnis_of ports.old.configs.items) vnis →
-        Contains vnis port.config.vni → AreServed (vnis_of ports.new.configs.items) vnis }
+    ensures served { (vnis : List ℕ) → AreAmong (vnis_of ports.old.configs.items) vnis →
+        Contains vnis port.config.vni → AreAmong (vnis_of ports.new.configs.items) vnis }
 {
     let PortEndpoints { local, remote } = port.link;
     ports.configs.push(port.config);
@@ -132,7 +132,7 @@ pub(crate) fn ports_of<'a>(
     ensures value { Gives (λ p. p)
         (ports_from for_run vnis.now no_ports (array_view tables.now)) result }
     ensures count { IfOk result (λ p. length p.configs.items ≡ length tables.now.items) }
-    ensures served { IfOk result (λ p. AreServed (vnis_of p.configs.items) vnis.now) }
+    ensures served { IfOk result (λ p. AreAmong (vnis_of p.configs.items) vnis.now) }
 {
     let mut ports = Ports {
         configs: ArrayVec::new(),

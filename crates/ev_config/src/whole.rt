@@ -15,6 +15,17 @@ pub struct Config {
     ghost each: { vec_len links ≡ vec_len edges },
 }
 
+/// What a configuration is wanted for.
+#[derive(Clone, Copy, Debug, PartialEq, Eq)]
+pub enum Use {
+    /// Anything: ports may lack their endpoints.
+    Any,
+    /// A run.
+    Run,
+    /// A run whose edges are asked meanwhile.
+    Serve,
+}
+
 /// What a document describes for edges that are asked while they run.
 #[derive(Drop)]
 pub struct Served {

@@ -1,5 +1,5 @@
 -- What a run takes at its beginning.
-use Rattle.std.specs.Prelude.{ℕ, ◌+◌, ◌-◌, ◌*◌, ◌/◌, ◌^◌, min, List, ◌++◌, length, fold, codes}
+use Rattle.std.specs.Prelude.{ℕ, ◌+◌, ◌-◌, ◌*◌, ◌/◌, ◌^◌, min, Bool, if◌then◌else◌, List, [], ◌++◌, length, fold, codes}
 use Rattle.std.specs.Fmt.{decimal}
 use Rattle.ev_edge.specs.declared.config.EdgeConfig.{EdgeConfig}
 use Rattle.ev_report.specs.Originators.{Text}
@@ -42,6 +42,16 @@ alone = record { threads = 2; sockets = 0; memory = 2351104 }
 abbrev pub needs_of : List EdgeConfig → Needs
 needs_of edges = fold with_edge alone edges
 
+-- ---- clients that ask meanwhile
+
+-- At most so many sockets: that where they come in, two for each of 8, and one of a client for whom there is no seat.
+abbrev pub client_sockets : ℕ
+client_sockets = 18
+
+abbrev pub sockets_of : Bool → List EdgeConfig → ℕ
+sockets_of is_asked edges =
+    if is_asked then min ((needs_of edges).sockets + client_sockets) most else (needs_of edges).sockets
+
 -- ---- what is told of it
 
 abbrev pub threads_text : ℕ → Text
@@ -57,3 +67,11 @@ memory_text memory = codes "about " ++ decimal (memory / 1048576 + 1) ++ codes "
 -- a line each
 abbrev pub needs_text : Needs → Text
 needs_text n = threads_text n.threads ++ sockets_text n.sockets ++ memory_text n.memory
+
+-- what clients take besides: a thread where they come in, two for each of 8, and memory for these
+abbrev pub clients_text : Text
+clients_text = codes "for 8 clients at most 17 threads, 18 sockets and about 2 MiB of memory more\n"
+
+-- so where clients may ask meanwhile
+abbrev pub asked_text : Bool → Needs → Text
+asked_text is_asked n = needs_text n ++ (if is_asked then clients_text else [])

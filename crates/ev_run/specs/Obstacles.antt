@@ -17,7 +17,7 @@ use Rattle.ev_run.specs.declared.obstacles.Seat.{Seat}
 use Rattle.ev_run.specs.declared.obstacles.Obstacle.{Obstacle}
 use Rattle.ev_run.specs.declared.obstacles.Obstacle.TheVariants.{Unheard, Useless, TooMany}
 use Rattle.ev_run.specs.RunEdges.{each_from, endpoint_text}
-use Rattle.ev_run.specs.Needs.{needs_of}
+use Rattle.ev_run.specs.Needs.{sockets_of}
 
 -- ---- sockets that hinder each other
 
@@ -101,10 +101,11 @@ abbrev pub count_obstacles : ℕ → Option ℕ → List Obstacle
 count_obstacles sockets None = []
 count_obstacles sockets (Some most) = if nat_lt (most - 3) sockets then TooMany sockets most ∷ [] else []
 
-abbrev pub obstacles_of : List EdgeConfig → List (ArrayVec PortEndpoints) → Option ℕ → List Obstacle
-obstacles_of edges all most =
+-- those of a run, perhaps one that clients ask meanwhile
+abbrev pub obstacles_of : List EdgeConfig → List (ArrayVec PortEndpoints) → Bool → Option ℕ → List Obstacle
+obstacles_of edges all is_asked most =
     (each_from edge_obstacles 1 edges ++ all_ports_obstacles edges all)
-    ++ count_obstacles (needs_of edges).sockets most
+    ++ count_obstacles (sockets_of is_asked edges) most
 
 -- ---- what is told of them
 

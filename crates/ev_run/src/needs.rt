@@ -1,6 +1,6 @@
 //! What a run takes at its beginning.
 ghost use Rattle.std.specs.Prelude.{◌≡◌, ◌≤◌};
-ghost use Rattle.ev_run.specs.Needs.{edge_threads, edge_sockets, edge_memory, with_edge, alone, needs_of};
+ghost use Rattle.ev_run.specs.Needs.{edge_threads, edge_sockets, edge_memory, with_edge, alone, needs_of, sockets_of};
 
 use ev_config::Config;
 use ev_edge::EdgeConfig;
@@ -15,6 +15,10 @@ pub struct Needs {
     /// About how many octets of memory it takes: as many as runs were seen to take.
     pub memory: u64,
 }
+
+/// How many sockets clients take at most, who ask while a run goes on: that where they come in, two
+/// for each of 8, and one of a client for whom there is no seat.
+const CLIENT_SOCKETS: u64 = 18;
 
 /// How many threads an edge has: two for each port and two for the tunnel, of which one receives
 /// and one sends; one for the clock, one for what other edges say, and its own.
@@ -67,4 +71,16 @@ pub fn needs_of(config: &Config) -> Needs
         needs = needs.with(edge);
     }
     needs
+}
+
+/// How many sockets a run has at most, where it may be that clients ask meanwhile.
+pub fn sockets_of(config: &Config, is_asked: bool) -> u64
+    ensures { result ≡ sockets_of is_asked config.now.edges.items }
+{
+    let sockets = needs_of(config).sockets;
+    if is_asked {
+        sockets.saturating_add(CLIENT_SOCKETS)
+    } else {
+        sockets
+    }
 }

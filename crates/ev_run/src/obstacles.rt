@@ -5,7 +5,7 @@ ghost use Rattle.std.specs.List.{list_any};
 ghost use Rattle.ev_run.specs.Obstacles.{clashes, tunnel_of, is_tunnel, is_local, local_cause, remote_cause, useless, local_obstacles, remote_obstacles, port_obstacles, ports_obstacles, all_ports_obstacles, edge_obstacles, count_obstacles, obstacles_of};
 ghost use Rattle.ev_run.specs.RunEdges.{each_from};
 
-use crate::needs::needs_of;
+use crate::needs::sockets_of;
 use crate::run::TUNNELS;
 use arrayvec::ArrayVec;
 use ether_wire::Addr;
@@ -308,8 +308,8 @@ fn add_count(found: &mut Vec<Obstacle>, sockets: u64, most: Option<u64>) -> Resu
     }
 }
 
-/// What of a configuration no run can use, in its order; `most` is how many descriptors there may
-/// be.
+/// What of a configuration no run can use, in its order, perhaps one that clients ask meanwhile;
+/// `most` is how many descriptors there may be.
 ///
 /// # Errors
 ///
@@ -317,14 +317,15 @@ fn add_count(found: &mut Vec<Obstacle>, sockets: u64, most: Option<u64>) -> Resu
 pub fn obstacles_of(
     alloc: Global,
     config: &Config,
+    is_asked: bool,
     most: Option<u64>,
 ) -> Result<Vec<Obstacle>, AllocError>
     ensures { IfOk result (λ found. found.items
-        ≡ obstacles_of config.now.edges.items config.now.links.items most) }
+        ≡ obstacles_of config.now.edges.items config.now.links.items is_asked most) }
 {
     let mut found = Vec::new(alloc);
     add_edges(&mut found, config.edges.as_slice())?;
     add_all_ports(&mut found, config.edges.as_slice(), config.links.as_slice())?;
-    add_count(&mut found, needs_of(config).sockets, most)?;
+    add_count(&mut found, sockets_of(config, is_asked), most)?;
     Ok(found)
 }

@@ -1,6 +1,7 @@
 //! What is told of what a run takes, and of what it can't use.
 ghost use Rattle.ether_wire.specs.Ends.{IsOpen, Puts};
-ghost use Rattle.ev_run.specs.Needs.{threads_text, sockets_text, memory_text, needs_text};
+ghost use Rattle.std.specs.Prelude.{◌++◌, [], if◌then◌else◌};
+ghost use Rattle.ev_run.specs.Needs.{threads_text, sockets_text, memory_text, needs_text, clients_text, asked_text};
 ghost use Rattle.ev_run.specs.Obstacles.{lead_text, cause_text, port_text, seat_text, end_text, most_text, obstacle_text, told_of, obstacles_text};
 
 use crate::needs::Needs;
@@ -46,13 +47,41 @@ fn put_memory<W: Out>(out: &mut W, memory: u64) -> Result<(), Device>
 ///
 /// `Device` exactly where a call of the writer failed; then no further call is made.
 #[tactic(auto, using(ether_wire::proofs::Appending::with_text_twice))]
-pub fn put_needs<W: Out>(out: &mut W, needs: Needs) -> Result<(), Device>
+fn put_needs<W: Out>(out: &mut W, needs: Needs) -> Result<(), Device>
     requires { IsOpen (W.end out.old) }
     ensures { Puts (W.end out.old) (W.end out.new) (needs_text needs) result }
 {
     put_threads(out, needs.threads)?;
     put_sockets(out, needs.sockets)?;
     put_memory(out, needs.memory)
+}
+
+/// Writes what clients take besides, where they may ask meanwhile.
+#[tactic(auto, using(ether_wire::proofs::Appending::with_text_none))]
+fn put_clients<W: Out>(out: &mut W, is_asked: bool) -> Result<(), Device>
+    requires { IsOpen (W.end out.old) }
+    ensures { Puts (W.end out.old) (W.end out.new)
+        (if is_asked then clients_text else []) result }
+{
+    if !is_asked {
+        return Ok(());
+    }
+    out.put(b"for 8 clients at most 17 threads, 18 sockets and about 2 MiB of memory more\n")
+}
+
+/// Writes what a run takes, and what its clients take at most where they may ask meanwhile, a line
+/// each.
+///
+/// # Errors
+///
+/// As `put_needs`.
+#[tactic(auto, using(ether_wire::proofs::Appending::with_text_twice))]
+pub fn put_asked_needs<W: Out>(out: &mut W, needs: Needs, is_asked: bool) -> Result<(), Device>
+    requires { IsOpen (W.end out.old) }
+    ensures { Puts (W.end out.old) (W.end out.new) (asked_text is_asked needs) result }
+{
+    put_needs(out, needs)?;
+    put_clients(out, is_asked)
 }
 
 /// Writes `, port P: `.

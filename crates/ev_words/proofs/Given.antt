@@ -36,9 +36,10 @@ use Rattle.ev_words.specs.declared.subcommand.Subcommand.{Subcommand}
 use Rattle.ev_words.specs.declared.subcommand.Subcommand.TheVariants.{Report, Migrate, Check, Simulate, Play}
 use Rattle.ev_words.specs.declared.subcommand.Subcommand.TheVariants.{Run, Serve, Version}
 use Rattle.ev_words.specs.declared.subcommand.Given.{Given}
-use Rattle.ev_words.specs.declared.subcommand.Given.TheVariants.{Originators, Config, Script, ForRun}
+use Rattle.ev_words.specs.declared.subcommand.Given.TheVariants.{Originators, Config, Script, ForRun, ForServe}
+use Rattle.ev_words.specs.declared.subcommand.Aim.{Aim}
 use Rattle.ev_words.specs.Args.{Parts, subcommands, name_of, option_name, needs_of, takes_of, with_option, with_flag}
-use Rattle.ev_words.specs.Args.{flag_of, is_flagged, subcommand_app, program, named, needed_in, given_in, invocation_in}
+use Rattle.ev_words.specs.Args.{aim_in, subcommand_app, program, named, needed_in, given_in, invocation_in}
 
 -- ---- options
 
@@ -450,18 +451,18 @@ leaf x = built_leaf (inherited above (subcommand_app x).top)
 abbrev help_leaf : Shape
 help_leaf = built_leaf (inherited (record above { disable_help_subcommand = false }) help_shape)
 
--- a subcommand of this name, with an option that has to be given, and perhaps one and a flag that may be
-abbrev leaf_of : Text → Given → Option Given → Option Given → Shape
-leaf_of name needs takes flag =
-    built_leaf (inherited above (with_flag flag
-    (with_option false takes (with_option true (Some needs) (new_app name)))).top)
+-- a subcommand of this name, with an option that has to be given, and perhaps one and two flags that may be
+abbrev leaf_of : Text → Given → Option Given → Option Given → Option Given → Shape
+leaf_of name needs takes flag other =
+    built_leaf (inherited above (with_flag other (with_flag flag
+    (with_option false takes (with_option true (Some needs) (new_app name))))).top)
 
 -- where its level passes, the one that has to be given has a value
 one_given : (name : Text) (needs : Given) (words : List Text)
-    → level_fault (leaf_of name needs None None) [] nothing_held words false [] ≡ []
-    → is_some (first_of (option_name needs) (rows_after (leaf_of name needs None None).rules [] words)) ≡ true
+    → level_fault (leaf_of name needs None None None) [] nothing_held words false [] ≡ []
+    → is_some (first_of (option_name needs) (rows_after (leaf_of name needs None None None).rules [] words)) ≡ true
 one_given name needs words f =
-    let s = leaf_of name needs None None in
+    let s = leaf_of name needs None None None in
     let p = level_passes s [] words false [] f in
     let fine = walk_fine s refl [] words (walk_from nothing_held) p.0 (refl, refl) in
     let rows = rows_after s.rules [] words in
@@ -474,13 +475,13 @@ one_given name needs words f =
     go true b f = refl
     go false b f = cc
 
--- so where there are one and a flag that may be given
-one_of_three : (name : Text) (needs takes flag : Given) (words : List Text)
-    → level_fault (leaf_of name needs (Some takes) (Some flag)) [] nothing_held words false [] ≡ []
-    → is_some (first_of (option_name needs) (rows_after (leaf_of name needs (Some takes) (Some flag)).rules [] words))
-    ≡ true
-one_of_three name needs takes flag words f =
-    let s = leaf_of name needs (Some takes) (Some flag) in
+-- so where there are one and two flags that may be given
+one_of_four : (name : Text) (needs takes flag other : Given) (words : List Text)
+    → level_fault (leaf_of name needs (Some takes) (Some flag) (Some other)) [] nothing_held words false [] ≡ []
+    → is_some (first_of (option_name needs)
+    (rows_after (leaf_of name needs (Some takes) (Some flag) (Some other)).rules [] words)) ≡ true
+one_of_four name needs takes flag other words f =
+    let s = leaf_of name needs (Some takes) (Some flag) (Some other) in
     let p = level_passes s [] words false [] f in
     let fine = walk_fine s refl [] words (walk_from nothing_held) p.0 (refl, refl) in
     let rows = rows_after s.rules [] words in
@@ -488,22 +489,23 @@ one_of_three name needs takes flag words f =
     defaults_full s.rules _ (settled_full s refl (walk s.rules [] nothing_held words).held p.2 fine.0) in
     given_first (option_name needs) rows
     (go (is_given (option_name needs) rows) (is_given (option_name takes) rows) (is_given (option_name flag) rows)
-    (is_given (codes "help") rows) p.3)
+    (is_given (option_name other) rows) (is_given (codes "help") rows) p.3)
     full
   where
-    go : (a c d b : Bool)
-        → check_kinds false false (not a || ((false && not c) || ((false && not d) || ((false && not b) || false))))
+    go : (a c d e b : Bool)
+        → check_kinds false false
+        (not a || ((false && not c) || ((false && not d) || ((false && not e) || ((false && not b) || false)))))
         ≡ []
         → a ≡ true
-    go true c d b f = refl
-    go false c d b f = cc
+    go true c d e b f = refl
+    go false c d e b f = cc
 
 -- a subcommand whose level passes has the value of the option that it has to be given
 option_given : (x : Subcommand) (words : List Text) → level_fault (leaf x) [] nothing_held words false [] ≡ []
     → is_some (needed_in (needs_of x) (rows_after (leaf x).rules [] words)) ≡ true
 option_given Report words f = one_given (codes "report") Originators words f
 option_given Migrate words f = one_given (codes "migrate") Originators words f
-option_given Check words f = one_of_three (codes "check") Config Script ForRun words f
+option_given Check words f = one_of_four (codes "check") Config Script ForRun ForServe words f
 option_given Simulate words f = one_given (codes "simulate") Config words f
 option_given Play words f = one_given (codes "play") Config words f
 option_given Run words f = one_given (codes "run") Config words f
@@ -522,8 +524,8 @@ names_it Serve = refl
 names_it Version = refl
 
 -- an invocation's parts
-abbrev pub the_parts : Subcommand → Option Text → Bool → Text → Parts
-the_parts s more flagged text = (s, text, more, flagged)
+abbrev pub the_parts : Subcommand → Option Text → Aim → Text → Parts
+the_parts s more aim text = (s, text, more, aim)
 
 abbrev pub found_as : Text → List Row → Option (Text × List Row)
 found_as name rows = Some (name, rows)
@@ -534,7 +536,7 @@ invocation_is_there x rows has = rw (names_it x) (go (needed_in (needs_of x) row
   where
     go : (o : Option Text) → is_some o ≡ true
         → is_some {T = Parts} (option_and_then
-        (λ (text : Text). Some (x, text, given_in (takes_of x) rows, is_flagged (flag_of x) rows)) o) ≡ true
+        (λ (text : Text). Some (x, text, given_in (takes_of x) rows, aim_in x rows)) o) ≡ true
     go None h = absurd (true≢false (sym h))
     go (Some text) h = refl
 
@@ -608,25 +610,25 @@ not_none words found f same none =
 -- ---- the invocation at the subcommand that was used
 
 pub invocation_found : (all : Option (Text × List Row)) (name : Text) (rows : List Row) (s : Subcommand)
-    (o more : Option Text) (flagged : Bool) → all ≡ found_as name rows → Some s ≡ named name → o
+    (o more : Option Text) (aim : Aim) → all ≡ found_as name rows → Some s ≡ named name → o
     ≡ needed_in (needs_of s) rows
-    → more ≡ given_in (takes_of s) rows → flagged ≡ is_flagged (flag_of s) rows
-    → option_map (the_parts s more flagged) o ≡ invocation_in all
-invocation_found all name rows s o more flagged is found text besides flags =
-    go o more flagged ∙ ap (λ (m : Option Text). option_and_then (λ (text : Text). Some (the_parts s m flagged text))
+    → more ≡ given_in (takes_of s) rows → aim ≡ aim_in s rows
+    → option_map (the_parts s more aim) o ≡ invocation_in all
+invocation_found all name rows s o more aim is found text besides flags =
+    go o more aim ∙ ap (λ (m : Option Text). option_and_then (λ (text : Text). Some (the_parts s m aim text))
     o) besides
-    ∙ ap (λ (b : Bool). option_and_then (λ (text : Text). Some (the_parts s (given_in (takes_of s) rows) b text)) o)
+    ∙ ap (λ (b : Aim). option_and_then (λ (text : Text). Some (the_parts s (given_in (takes_of s) rows) b text)) o)
     flags
     ∙ ap (λ (t : Option Text).
     option_and_then (λ (text : Text). Some
-    (the_parts s (given_in (takes_of s) rows) (is_flagged (flag_of s) rows) text)) t) text
+    (the_parts s (given_in (takes_of s) rows) (aim_in s rows) text)) t) text
     ∙ ap (option_and_then (λ (x : Subcommand).
     option_and_then (λ (text : Text). Some
-    (the_parts x (given_in (takes_of x) rows) (is_flagged (flag_of x) rows) text))
+    (the_parts x (given_in (takes_of x) rows) (aim_in x rows) text))
     (needed_in (needs_of x) rows))) found
     ∙ ap invocation_in (sym is)
   where
-    go : (o more : Option Text) (flagged : Bool) → option_map (the_parts s more flagged) o
-        ≡ option_and_then (λ (text : Text). Some (the_parts s more flagged text)) o
-    go None more flagged = refl
-    go (Some text) more flagged = refl
+    go : (o more : Option Text) (aim : Aim) → option_map (the_parts s more aim) o
+        ≡ option_and_then (λ (text : Text). Some (the_parts s more aim text)) o
+    go None more aim = refl
+    go (Some text) more aim = refl

@@ -1,6 +1,6 @@
 -- The program's words, as `clap` reads them.
 use Rattle.std.specs.Prelude.{◌≡◌, ◌≢◌, ℕ, ◌+◌, ◌⊎◌, Bool, true, false, List, [], ◌∷◌, ◌++◌, codes, find, Option, Some}
-use Rattle.std.specs.Prelude.{None, option_map, Result, Ok, Err, OnOk, IfErr}
+use Rattle.std.specs.Prelude.{None, option_map, Result, Ok, Err, OnOk, IfErr, if◌then◌else◌}
 use Rattle.std.specs.Option.{option_map_or}
 use Rattle.std.specs.Str.{bytes_eq}
 use Rattle.ether_wire.specs.Parse.{◌>>=◌}
@@ -14,7 +14,9 @@ use Rattle.ev_words.specs.declared.subcommand.Subcommand.{Subcommand}
 use Rattle.ev_words.specs.declared.subcommand.Subcommand.TheVariants.{Report, Migrate, Check, Simulate, Play}
 use Rattle.ev_words.specs.declared.subcommand.Subcommand.TheVariants.{Run, Serve, Version}
 use Rattle.ev_words.specs.declared.subcommand.Given.{Given}
-use Rattle.ev_words.specs.declared.subcommand.Given.TheVariants.{Originators, Config, Script, ForRun}
+use Rattle.ev_words.specs.declared.subcommand.Given.TheVariants.{Originators, Config, Script, ForRun, ForServe}
+use Rattle.ev_words.specs.declared.subcommand.Aim.{Aim}
+use Rattle.ev_words.specs.declared.subcommand.Aim.TheVariants as aim
 use Rattle.ev_words.specs.declared.args.Invocation.{Invocation}
 use Rattle.ev_words.specs.declared.args.ClapParser.{ClapParser}
 use Rattle.ev_words.specs.declared.args.ArgsError.{ArgsError}
@@ -40,6 +42,7 @@ option_name Originators = codes "originators"
 option_name Config = codes "config"
 option_name Script = codes "script"
 option_name ForRun = codes "run"
+option_name ForServe = codes "serve"
 
 -- the option that it has to be given
 abbrev pub needs_of : Subcommand → Option Given
@@ -74,6 +77,17 @@ flag_of Run = None
 flag_of Serve = None
 flag_of Version = None
 
+-- one more that it may be given
+abbrev pub other_flag_of : Subcommand → Option Given
+other_flag_of Report = None
+other_flag_of Migrate = None
+other_flag_of Check = Some ForServe
+other_flag_of Simulate = None
+other_flag_of Play = None
+other_flag_of Run = None
+other_flag_of Serve = None
+other_flag_of Version = None
+
 -- ---- the command
 
 -- `--NAME VALUE`, which has to be there or may be
@@ -103,7 +117,8 @@ with_flag flag a = record a { top = record a.top { rules = a.top.rules ++ flag_r
 -- a subcommand
 abbrev pub subcommand_app : Subcommand → App
 subcommand_app s =
-    with_flag (flag_of s) (with_option false (takes_of s) (with_option true (needs_of s) (new_app (name_of s))))
+    let taking = with_option false (takes_of s) (with_option true (needs_of s) (new_app (name_of s))) in
+    with_flag (other_flag_of s) (with_flag (flag_of s) taking)
 
 abbrev pub with_subcommands : App → List Subcommand → App
 with_subcommands a [] = a
@@ -134,9 +149,17 @@ given_in (Some option) rows = first_of (option_name option) rows
 abbrev pub is_flagged : Option Given → List Row → Bool
 is_flagged flag rows = option_map_or (λ text. bytes_eq text (codes "true")) (given_in flag rows) false
 
--- a subcommand, the text of what it has to be given, and of what it may be given, and whether its flag was
+-- what a check is for, by its two flags: where it is for edges that are served, the other one says no more
+abbrev pub aim_of : Bool → Bool → Aim
+aim_of is_run is_served = if is_served then aim.Serve else if is_run then aim.Run else aim.Any
+
+-- so of a subcommand's flags among the matches
+abbrev pub aim_in : Subcommand → List Row → Aim
+aim_in s rows = aim_of (is_flagged (flag_of s) rows) (is_flagged (other_flag_of s) rows)
+
+-- a subcommand, the text of what it has to be given, and of what it may be given, and what its flags say
 abbrev pub Parts : Type 0
-Parts = Subcommand × Text × Option Text × Bool
+Parts = Subcommand × Text × Option Text × Aim
 
 -- the subcommand of this name, with its options' texts among the matches
 abbrev pub invocation_in : Option (Text × List Row) → Option Parts
@@ -144,14 +167,14 @@ invocation_in found = do
   f ← found
   s ← named f.0
   text ← needed_in (needs_of s) f.1
-  Some (s, text, given_in (takes_of s) f.1, is_flagged (flag_of s) f.1)
+  Some (s, text, given_in (takes_of s) f.1, aim_in s f.1)
 
 abbrev pub parts_of : Invocation → Parts
 parts_of invocation = (
   invocation.subcommand,
   invocation.value.now,
   option_map (λ text. text.now) invocation.more,
-  invocation.is_for_run,
+  invocation.aim,
 )
 
 -- the words have no fault, and are this invocation

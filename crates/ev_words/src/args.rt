@@ -2,9 +2,9 @@
 ghost use Rattle.std.specs.Prelude.{◌≡◌, ◌≢◌, ◌+◌, ◌<◌, ◌^◌, map, string_bytes, IfOk, OnOk, OnErr, ℕ, Option, option_map, false};
 ghost use Rattle.clap.specs.Words.{app_of, found_of, kind_of, rows_of, rule_of, subcommand_rows_of, with_subcommand};
 ghost use Rattle.clap.specs.declared.builder.command.Command.TheViews.{out-Command};
-ghost use Rattle.ev_words.specs.Args.{option_name, needed_in, given_in, is_flagged, invocation_in, parts_of, IsAnswer, Parses, Invokes, parser_refusals, program, subcommand_app, option_rule, with_option, flag_rule, with_flag};
+ghost use Rattle.ev_words.specs.Args.{option_name, needed_in, given_in, is_flagged, aim_of, aim_in, invocation_in, parts_of, IsAnswer, Parses, Invokes, parser_refusals, program, subcommand_app, option_rule, with_option, flag_rule, with_flag};
 
-use crate::subcommand::{Given, Subcommand, named};
+use crate::subcommand::{Aim, Given, Subcommand, named};
 use clap::error::ErrorKind;
 use clap::{Arg, ArgAction, ArgMatches, Command, Error};
 use std::alloc::{AllocError, Global};
@@ -17,8 +17,8 @@ pub struct Invocation<'a> {
     pub value: &'a str,
     /// The value of the one that it may be given besides, where it was.
     pub more: Option<&'a str>,
-    /// Whether the flag `--run` was given.
-    pub is_for_run: bool,
+    /// What a check is for.
+    pub aim: Aim,
 }
 
 /// Why the words are no invocation.
@@ -98,7 +98,8 @@ fn subcommand_command<'a>(alloc: Global, subcommand: Subcommand) -> Result<Comma
         .after_help(subcommand.help());
     let needing = with_option(alloc, command, subcommand.needs(), true)?;
     let taking = with_option(alloc, needing, subcommand.takes(), false)?;
-    with_flag(alloc, taking, subcommand.flag())
+    let flagged = with_flag(alloc, taking, subcommand.flag())?;
+    with_flag(alloc, flagged, subcommand.other_flag())
 }
 
 /// What the program does, and what help tells of all subcommands.
@@ -270,6 +271,28 @@ fn is_flagged<'a>(flag: Option<Given>, matches: &ArgMatches<'a>) -> bool
     }
 }
 
+/// What a check is for, by its two flags.
+fn aim_of(is_run: bool, is_served: bool) -> Aim
+    ensures { result ≡ aim_of is_run is_served }
+{
+    if is_served {
+        Aim::Serve
+    } else if is_run {
+        Aim::Run
+    } else {
+        Aim::Any
+    }
+}
+
+/// So by the flags of a subcommand.
+fn aim_in<'a>(subcommand: Subcommand, matches: &ArgMatches<'a>) -> Aim
+    ensures { result ≡ aim_in subcommand (rows_of (found_of matches.now)) }
+{
+    let is_run = is_flagged(subcommand.flag(), matches);
+    let is_served = is_flagged(subcommand.other_flag(), matches);
+    aim_of(is_run, is_served)
+}
+
 /// The invocation at the subcommand that was used.
 fn invocation_in<'a>(matches: &ArgMatches<'a>) -> Option<Invocation<'a>>
     ensures { option_map parts_of result ≡ invocation_in (subcommand_rows_of matches.now) }
@@ -278,11 +301,11 @@ fn invocation_in<'a>(matches: &ArgMatches<'a>) -> Option<Invocation<'a>>
     let subcommand = named(name)?;
     let value = needed_in(subcommand.needs(), inner)?;
     let more = given_in(subcommand.takes(), inner);
-    let is_for_run = is_flagged(subcommand.flag(), inner);
+    let aim = aim_in(subcommand, inner);
     Some(Invocation {
         subcommand,
         value,
         more,
-        is_for_run,
+        aim,
     })
 }

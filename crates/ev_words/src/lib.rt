@@ -5,4 +5,4 @@ mod args;
 mod subcommand;
 
 pub use args::{ArgsError, ClapParser, Invocation, Parser, invocation_of};
-pub use subcommand::Subcommand;
+pub use subcommand::{Aim, Subcommand};

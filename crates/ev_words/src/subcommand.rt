@@ -1,6 +1,6 @@
 //! The program's subcommands: what each is given, and what help says of it.
 ghost use Rattle.std.specs.Prelude.{◌≡◌};
-ghost use Rattle.ev_words.specs.Args.{name_of, option_name, needs_of, takes_of, flag_of, named};
+ghost use Rattle.ev_words.specs.Args.{name_of, option_name, needs_of, takes_of, flag_of, other_flag_of, named};
 
 /// What the program can do.
 #[derive(Clone, Copy, Debug, PartialEq, Eq)]
@@ -9,7 +9,7 @@ pub enum Subcommand {
     Report,
     /// `evpnd migrate --originators LIST`
     Migrate,
-    /// `evpnd check --config FILE`, perhaps with `--script FILE`, with `--run`
+    /// `evpnd check --config FILE`, perhaps with `--script FILE`, with `--run` or `--serve`
     Check,
     /// `evpnd simulate --config FILE`
     Simulate,
@@ -34,6 +34,19 @@ pub(crate) enum Given {
     Script,
     /// `--run`
     ForRun,
+    /// `--serve`
+    ForServe,
+}
+
+/// What a check is for.
+#[derive(Clone, Copy, Debug, PartialEq, Eq)]
+pub enum Aim {
+    /// Anything.
+    Any,
+    /// A run: `--run`.
+    Run,
+    /// A run whose edges are asked meanwhile: `--serve`.
+    Serve,
 }
 
 impl Subcommand {
@@ -84,6 +97,16 @@ impl Subcommand {
     {
         match self {
             Subcommand::Check => Some(Given::ForRun),
+            _ => None,
+        }
+    }
+
+    /// One more that it may be given, if there is one.
+    pub(crate) fn other_flag(self) -> Option<Given>
+        ensures { result ≡ other_flag_of self }
+    {
+        match self {
+            Subcommand::Check => Some(Given::ForServe),
             _ => None,
         }
     }
@@ -149,6 +172,9 @@ With --run it is checked whether it can be run: each port needs `local` and `rem
 sockets may hinder each other. Standard error has what hinders a run. If nothing does, standard
 output has how many threads and sockets it takes, and about how much memory.
 
+With --serve it is checked so whether it can be served: `control` has to be there, and `peer` may
+be. Standard output has besides what 8 clients take at most.
+
 Where it is right and --script names a script, that is read too, and nothing of it is run. Standard
 error has a line for each of its lines that `simulate` would refuse: FILE:LINE: and why. If there is
 none, standard output has how many lines it has.
@@ -163,6 +189,7 @@ Status, the greatest that applies:
 Example:
   evpnd check --config fabric.toml
   evpnd check --config fabric.toml --run
+  evpnd check --config examples/run/served.toml --serve
   evpnd check --config fabric.toml --script story"
             }
             Subcommand::Simulate => {
@@ -262,6 +289,7 @@ impl Given {
             Given::Config => "config",
             Given::Script => "script",
             Given::ForRun => "run",
+            Given::ForServe => "serve",
         }
     }
 
@@ -270,7 +298,7 @@ impl Given {
         match self {
             Given::Originators => "LIST",
             Given::Config | Given::Script => "FILE",
-            Given::ForRun => "",
+            Given::ForRun | Given::ForServe => "",
         }
     }
 
@@ -281,6 +309,7 @@ impl Given {
             Given::Config => "The path of a configuration, a TOML document",
             Given::Script => "The path of a script, whose lines are checked too",
             Given::ForRun => "Check what `run` needs too, and tell what it takes at its beginning",
+            Given::ForServe => "So of `serve`, with its keys `control` and `peer`",
         }
     }
 }

@@ -17,11 +17,13 @@ use Rattle.evpnd.specs.declared.files.Unread.{Unread}
 use Rattle.evpnd.specs.declared.files.Named.TheVariants.{Script}
 use Rattle.evpnd.specs.Files.{Text, Shelf, HasRoom, IsTextOf, unread_text}
 use Rattle.ev_run.specs.declared.obstacles.Obstacle.{Obstacle}
-use Rattle.ev_run.specs.Needs.{needs_of, needs_text}
+use Rattle.ev_run.specs.Needs.{needs_of, asked_text}
 use Rattle.ev_run.specs.Obstacles.{obstacles_of}
 use Rattle.evpnd.specs.declared.check.Purpose.{Purpose}
-use Rattle.ev_config.specs.Config.{ConfigOf}
-use Rattle.evpnd.specs.Checks.{Desk, desk, OfFile, Sums, TellsObstacles, SumsRun, Checks}
+use Rattle.ev_config.specs.declared.whole.Use.{Use}
+use Rattle.ev_config.specs.declared.whole.Use.TheVariants.{Any, Run, Serve}
+use Rattle.ev_config.specs.Config.{ConfigFor}
+use Rattle.evpnd.specs.Checks.{Desk, desk, OfFile, Sums, TellsObstacles, SumsRun, SumsFor, Checks}
 use Rattle.evpnd.specs.Scripts.{lines_text, Looks, OfScript, Behind}
 use Rattle.evpnd.proofs.Filed.{holds_put}
 
@@ -104,7 +106,7 @@ checked_ready : (purpose : Purpose) (found : Result Config ConfigRefusal) (s : S
     (out out' notes notes' : End)
     (status : ℕ) → Checks purpose found (devices input out notes) (devices input out' notes') status
     → status ≡ 0 → HasRoom s → IsOpen out → IsOpen notes → IsReady s out' notes'
-checked_ready purpose (Ok config) s input out out' notes notes' status h done room o n = go purpose.is_run h.1
+checked_ready purpose (Ok config) s input out out' notes notes' status h done room o n = go purpose.wanted h.1
   where
     open_behind : (text : Text) → notes' ≡ notes → Holds out out' text
         → ◌≡◌ {A = ℕ} status (cond (has_failed out out') 4 0)
@@ -117,16 +119,21 @@ checked_ready purpose (Ok config) s input out out' notes notes' status h done ro
               (λ (e : End). IsOpen e) (sym same) n;
         }
 
-    told : (found : List Obstacle) → TellsObstacles found (needs_of config.edges.items) out out' notes notes' status
+    told : (found : List Obstacle) (takes : Text) → TellsObstacles found takes out out' notes notes' status
         → IsReady s out' notes'
-    told [] t = open_behind (t.1.0 ++ needs_text (needs_of config.edges.items)) t.0 t.1.1 t.1.2
-    told (one ∷ more) t = absurd (two_or_four (has_failed notes notes') status t.1.status_is done)
+    told [] takes t = open_behind (t.1.0 ++ takes) t.0 t.1.1 t.1.2
+    told (one ∷ more) takes t = absurd (two_or_four (has_failed notes notes') status t.1.status_is done)
 
-    go : (b : Bool) → MatchBool b (SumsRun purpose.most config out out' notes notes' status)
-        ((notes' ≡ notes) × Sums out out' status) → IsReady s out' notes'
-    go true (inl t) = told (obstacles_of config.edges.items config.links.items purpose.most) t
-    go true (inr m) = let three = m.2 in absurd (omega (arith, three, done))
-    go false p = open_behind p.1.0 p.0 p.1.1 p.1.2
+    run : (is_asked : Bool) → SumsRun is_asked purpose.most config out out' notes notes' status → IsReady s out' notes'
+    run is_asked (inl t) =
+        told (obstacles_of config.edges.items config.links.items is_asked purpose.most)
+        (asked_text is_asked (needs_of config.edges.items)) t
+    run is_asked (inr m) = let three = m.2 in absurd (omega (arith, three, done))
+
+    go : (wanted : Use) → SumsFor wanted purpose.most config out out' notes notes' status → IsReady s out' notes'
+    go Any p = open_behind p.1.0 p.0 p.1.1 p.1.2
+    go Run p = run false p
+    go Serve p = run true p
 checked_ready purpose (Err (refusal.Key key)) s input out out' notes notes' status h done room o n =
     absurd (two_or_four (has_failed notes notes') status h.2.1.status_is done)
 checked_ready purpose (Err refusal.Text) s input out out' notes notes' status h done room o n =
@@ -135,7 +142,7 @@ checked_ready purpose (Err refusal.NoMemory) s input out out' notes notes' statu
     let three = h.1 in absurd (omega (arith, three, done))
 
 pub ready : (purpose : Purpose) (path : Text) (s s' : Shelf) (input : Source) (out out' notes notes' : End) (status : ℕ)
-    → OfFile (ConfigOf purpose.is_run) (Checks purpose) path (desk s (devices input out notes))
+    → OfFile (ConfigFor purpose.wanted) (Checks purpose) path (desk s (devices input out notes))
     (desk s' (devices input out' notes')) status
     → HasRoom s → IsOpen out → IsOpen notes → status ≡ 0 → IsReady s' out' notes'
 ready purpose path s s' input out out' notes notes' status (inl (inl h)) room o n done =

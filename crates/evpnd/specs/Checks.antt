@@ -1,6 +1,6 @@
 -- What becomes of a configuration's file.
-use Rattle.std.specs.Prelude.{◌≡◌, ℕ, ◌+◌, ◌⊎◌, List, [], ◌∷◌, ◌++◌, Option, Result, Ok, Err, if◌then◌else◌}
-use Rattle.std.specs.Prelude.{MatchBool}
+use Rattle.std.specs.Prelude.{◌≡◌, ℕ, ◌+◌, ◌⊎◌, Bool, true, false, List, [], ◌∷◌, ◌++◌, Option, Result, Ok, Err}
+use Rattle.std.specs.Prelude.{if◌then◌else◌}
 use Rattle.ether_wire.specs.Ends.{End, Source}
 use Rattle.ev_config.specs.declared.whole.Config.{Config}
 use Rattle.ev_config.specs.declared.config.ConfigRefusal.{ConfigRefusal}
@@ -11,10 +11,11 @@ use Rattle.evpnd.specs.declared.files.Named.TheVariants as named
 use Rattle.evpnd.specs.Files.{Text, Shelf, IsTextOf, unread_text}
 use Rattle.ev_report.specs.Ends.{Devices, devices, has_failed, Holds}
 use Rattle.ev_report.specs.Usage.{IsTold}
-use Rattle.ev_config.specs.Config.{ConfigOf}
-use Rattle.ev_run.specs.declared.needs.Needs.{Needs}
+use Rattle.ev_config.specs.declared.whole.Use.{Use}
+use Rattle.ev_config.specs.declared.whole.Use.TheVariants.{Any, Run, Serve}
+use Rattle.ev_config.specs.Config.{ConfigFor}
 use Rattle.ev_run.specs.declared.obstacles.Obstacle.{Obstacle}
-use Rattle.ev_run.specs.Needs.{needs_of, needs_text}
+use Rattle.ev_run.specs.Needs.{needs_of, asked_text}
 use Rattle.ev_run.specs.Obstacles.{obstacles_of, obstacles_text}
 use Rattle.evpnd.specs.declared.check.Purpose.{Purpose}
 
@@ -88,25 +89,30 @@ SumsWith more before after status =
     (text : Text) × Holds before after (text ++ more) × (status ≡ (if has_failed before after then 4 else 0))
 
 -- Nothing hinders a run, and what it takes is written; or what hinders it is told.
-abbrev pub TellsObstacles : List Obstacle → Needs → End → End → End → End → ℕ → Type 0
-TellsObstacles [] needs out out' notes notes' status =
-    (notes' ≡ notes) × SumsWith (needs_text needs) out out' status
-TellsObstacles (one ∷ more) needs out out' notes notes' status =
+abbrev pub TellsObstacles : List Obstacle → Text → End → End → End → End → ℕ → Type 0
+TellsObstacles [] takes out out' notes notes' status = (notes' ≡ notes) × SumsWith takes out out' status
+TellsObstacles (one ∷ more) takes out out' notes notes' status =
     (out' ≡ out) × IsTold (obstacles_text (one ∷ more)) notes notes' status
 
--- so of a configuration, where there may be so many descriptors; or there was no memory for what hinders it
-abbrev pub SumsRun : Option ℕ → Config → End → End → End → End → ℕ → Type 0
-SumsRun most config out out' notes notes' status =
-    TellsObstacles (obstacles_of config.edges.items config.links.items most) (needs_of config.edges.items) out out'
-    notes notes' status
+-- So of a configuration's run, perhaps one that clients ask meanwhile, where there may be so many descriptors; or there
+-- was no memory for what hinders it.
+abbrev pub SumsRun : Bool → Option ℕ → Config → End → End → End → End → ℕ → Type 0
+SumsRun is_asked most config out out' notes notes' status =
+    TellsObstacles (obstacles_of config.edges.items config.links.items is_asked most)
+    (asked_text is_asked (needs_of config.edges.items)) out out' notes notes' status
     ⊎ ((out' ≡ out) × (notes' ≡ notes) × (status ≡ 3))
 
--- A configuration is summed up on the output (0), for a run or for any use; what is wrong with it is told on the notes
--- (2), or there was no memory (3); nothing was read, nothing else written.
+-- so for a use
+abbrev pub SumsFor : Use → Option ℕ → Config → End → End → End → End → ℕ → Type 0
+SumsFor Any most config out out' notes notes' status = (notes' ≡ notes) × Sums out out' status
+SumsFor Run most config out out' notes notes' status = SumsRun false most config out out' notes notes' status
+SumsFor Serve most config out out' notes notes' status = SumsRun true most config out out' notes notes' status
+
+-- A configuration is summed up on the output for its use (0); what is wrong with it is told on the notes (2), or there
+-- was no memory (3); nothing was read, nothing else written.
 abbrev pub Checks : Purpose → Result Config ConfigRefusal → Devices → Devices → ℕ → Type 0
 Checks purpose (Ok config) before after status = (after.input ≡ before.input)
-    × MatchBool purpose.is_run (SumsRun purpose.most config before.out after.out before.notes after.notes status)
-    ((after.notes ≡ before.notes) × Sums before.out after.out status)
+    × SumsFor purpose.wanted purpose.most config before.out after.out before.notes after.notes status
 Checks purpose (Err (refusal.Key key)) before after status = (after.input ≡ before.input) × (after.out ≡ before.out)
     × TellsLine before.notes after.notes status
 Checks purpose (Err refusal.Text) before after status = (after.input ≡ before.input) × (after.out ≡ before.out)
@@ -116,5 +122,5 @@ Checks purpose (Err refusal.NoMemory) before after status = (after ≡ before) �
 -- what a text gives for a configuration is so checked, whatever the reader has
 abbrev pub ChecksText : Purpose → Text → End → End → End → End → ℕ → Type 0
 ChecksText purpose text out notes out' notes' status =
-    (found : Result Config ConfigRefusal) × ConfigOf purpose.is_run text found
+    (found : Result Config ConfigRefusal) × ConfigFor purpose.wanted text found
     × ((input : Source) → Checks purpose found (devices input out notes) (devices input out' notes') status)

@@ -7,6 +7,10 @@ use Rattle.evpnd.specs.declared.program.Argv.TheVariants.{Words, NotText, NoMemo
 use Rattle.ev_words.specs.declared.subcommand.Subcommand.{Subcommand}
 use Rattle.ev_words.specs.declared.subcommand.Subcommand.TheVariants.{Report, Migrate, Check, Simulate, Play}
 use Rattle.ev_words.specs.declared.subcommand.Subcommand.TheVariants.{Run, Serve, Version}
+use Rattle.ev_words.specs.declared.subcommand.Aim.{Aim}
+use Rattle.ev_words.specs.declared.subcommand.Aim.TheVariants as aim
+use Rattle.ev_config.specs.declared.whole.Use.{Use}
+use Rattle.ev_config.specs.declared.whole.Use.TheVariants as used
 use Rattle.ev_words.specs.Args.{Parts, program, Spells}
 use Rattle.ev_script.specs.declared.script.mode.Mode.TheVariants as mode
 use Rattle.ev_report.specs.Originators.{Text}
@@ -57,25 +61,31 @@ RunsOpen closed path before after status =
 abbrev pub ServesOpen : Option Stream → Text → Desk → Desk → ℕ → Type 0
 ServesOpen closed path before after status = Unclosed (OfFile ServedOf ServesFound path) closed before after status
 
--- what a check is for
-abbrev pub purpose_of : Bool → Descriptors → Purpose
-purpose_of is_run descriptors = record { is_run = is_run; most = descriptors.most }
+-- what a configuration is wanted for, by the aim of a check
+abbrev pub use_of : Aim → Use
+use_of aim.Any = used.Any
+use_of aim.Run = used.Run
+use_of aim.Serve = used.Serve
 
--- what each subcommand does with the value of the option that it needs, with that of one more, and with its flag
-abbrev pub FollowsAs : Descriptors → Subcommand → Text → Option Text → Bool → Desk → Desk → ℕ → Type 0
-FollowsAs given Report list more flag before after status = (after.shelf ≡ before.shelf)
+-- what a check is for
+abbrev pub purpose_of : Aim → Descriptors → Purpose
+purpose_of aim descriptors = record { wanted = use_of aim; most = descriptors.most }
+
+-- what each subcommand does with the value of the option that it needs, with that of one more, and with its flags
+abbrev pub FollowsAs : Descriptors → Subcommand → Text → Option Text → Aim → Desk → Desk → ℕ → Type 0
+FollowsAs given Report list more aim before after status = (after.shelf ≡ before.shelf)
     × OfList Reports list before.devices after.devices status
-FollowsAs given Migrate list more flag before after status = (after.shelf ≡ before.shelf)
+FollowsAs given Migrate list more aim before after status = (after.shelf ≡ before.shelf)
     × OfList Migrates list before.devices after.devices status
-FollowsAs given Check path more flag before after status = ChecksAll (purpose_of flag given) path more before after
+FollowsAs given Check path more aim before after status = ChecksAll (purpose_of aim given) path more before after
     status
-FollowsAs given Simulate path more flag before after status = OfFile (ConfigOf false)
+FollowsAs given Simulate path more aim before after status = OfFile (ConfigOf false)
     (SimulatesFound mode.Simulate) path before after status
-FollowsAs given Play path more flag before after status = OfFile (ConfigOf false)
+FollowsAs given Play path more aim before after status = OfFile (ConfigOf false)
     (SimulatesFound mode.Play) path before after status
-FollowsAs given Run path more flag before after status = RunsOpen given.closed path before after status
-FollowsAs given Serve path more flag before after status = ServesOpen given.closed path before after status
-FollowsAs given Version nothing more flag before after status = (after.shelf ≡ before.shelf)
+FollowsAs given Run path more aim before after status = RunsOpen given.closed path before after status
+FollowsAs given Serve path more aim before after status = ServesOpen given.closed path before after status
+FollowsAs given Version nothing more aim before after status = (after.shelf ≡ before.shelf)
     × TellsVersion before.devices after.devices status
 
 abbrev pub Follows : Descriptors → Parts → Desk → Desk → ℕ → Type 0

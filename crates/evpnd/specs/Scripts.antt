@@ -7,7 +7,7 @@ use Rattle.ev_report.specs.Ends.{has_failed, Holds}
 use Rattle.ev_report.specs.Notes.{status_of}
 use Rattle.ev_script.specs.Script.{Follows}
 use Rattle.ev_script.specs.Faults.{is_good, faults_text}
-use Rattle.ev_config.specs.Config.{ConfigOf}
+use Rattle.ev_config.specs.Config.{ConfigFor}
 use Rattle.evpnd.specs.declared.files.Named.TheVariants.{Script}
 use Rattle.evpnd.specs.Files.{Text, IsTextOf}
 use Rattle.evpnd.specs.declared.check.Purpose.{Purpose}
@@ -50,7 +50,7 @@ Behind first path before after status =
 -- A configuration is checked for a purpose, and where it is right the script too, if one was given.
 abbrev pub ChecksAll : Purpose → Text → Option Text → Desk → Desk → ℕ → Type 0
 ChecksAll purpose path None before after status =
-    OfFile (ConfigOf purpose.is_run) (Checks purpose) path before after status
+    OfFile (ConfigFor purpose.wanted) (Checks purpose) path before after status
 ChecksAll purpose path (Some script) before after status =
-    (mid : Desk) × (first : ℕ) × OfFile (ConfigOf purpose.is_run) (Checks purpose) path before mid first
+    (mid : Desk) × (first : ℕ) × OfFile (ConfigFor purpose.wanted) (Checks purpose) path before mid first
     × Behind first script mid after status

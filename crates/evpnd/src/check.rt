@@ -1,28 +1,28 @@
 //! `evpnd check`: whether a configuration is right.
-ghost use Rattle.std.specs.Prelude.{◌≡◌, ◌++◌, is_ok, if◌then◌else◌, option_map, MatchBool};
+ghost use Rattle.std.specs.Prelude.{◌≡◌, ◌++◌, is_ok, if◌then◌else◌, option_map};
 ghost use Rattle.ether_wire.specs.Ends.{Source, IsOpen, Puts};
 ghost use Rattle.ev_report.specs.Ends.{devices};
-ghost use Rattle.ev_config.specs.Config.{ConfigOf};
+ghost use Rattle.ev_config.specs.Config.{ConfigFor};
 ghost use Rattle.evpnd.specs.Files.{Text, HasRoom};
 ghost use Rattle.ev_report.specs.Usage.{IsTold};
-ghost use Rattle.ev_run.specs.Needs.{needs_of, needs_text};
+ghost use Rattle.ev_run.specs.Needs.{needs_of, asked_text};
 ghost use Rattle.ev_run.specs.Obstacles.{obstacles_of, obstacles_text};
-ghost use Rattle.evpnd.specs.Checks.{desk, OfFile, Sums, TellsLine, SumsWith, TellsObstacles, SumsRun, Checks, ChecksText};
+ghost use Rattle.evpnd.specs.Checks.{desk, OfFile, Sums, TellsLine, SumsWith, TellsObstacles, SumsRun, SumsFor, Checks, ChecksText};
 ghost use Rattle.evpnd.specs.Scripts.{ChecksAll};
 
 use crate::check_script::check_behind;
 use crate::files::{FileFault, Files, Named, put_unread};
 use ether_wire::{Device, Out};
-use ev_config::{Config, ConfigRefusal, config_of, refusal_line, summary_line};
+use ev_config::{Config, ConfigRefusal, Use, config_for, refusal_line, summary_line};
 use ev_report::{DEVICE, DONE, MEMORY, tell, usage_status};
-use ev_run::{Obstacle, needs_of, obstacles_of, put_needs, put_obstacles};
+use ev_run::{Obstacle, needs_of, obstacles_of, put_asked_needs, put_obstacles};
 use std::alloc::Global;
 
 /// What a check is for.
 #[derive(Clone, Copy, Debug)]
 pub(crate) struct Purpose {
-    /// Whether the configuration is to be run.
-    pub(crate) is_run: bool,
+    /// What the configuration is wanted for.
+    pub(crate) wanted: Use,
     /// How many descriptors there may be then, where that is told.
     pub(crate) most: Option<u64>,
 }
@@ -57,22 +57,22 @@ fn sum_up<W: Out>(config: &Config, out: &mut W) -> u8
 }
 
 /// Writes how much a configuration has, and what a run of it takes.
-fn put_sums<W: Out>(config: &Config, out: &mut W) -> Result<(), Device>
+fn put_sums<W: Out>(config: &Config, is_asked: bool, out: &mut W) -> Result<(), Device>
     requires { IsOpen (W.end out.old) }
     ensures { (text : Text) × Puts (W.end out.old) (W.end out.new)
-        (text ++ needs_text (needs_of config.now.edges.items)) result }
+        (text ++ asked_text is_asked (needs_of config.now.edges.items)) result }
 {
     out.put(summary_line(config).octets())?;
-    put_needs(out, needs_of(config))
+    put_asked_needs(out, needs_of(config), is_asked)
 }
 
 /// Writes how much a configuration has, and what a run of it takes, and answers the status.
-fn sum_up_run<W: Out>(config: &Config, out: &mut W) -> u8
+fn sum_up_run<W: Out>(config: &Config, is_asked: bool, out: &mut W) -> u8
     requires { IsOpen (W.end out.old) }
-    ensures { SumsWith (needs_text (needs_of config.now.edges.items)) (W.end out.old)
+    ensures { SumsWith (asked_text is_asked (needs_of config.now.edges.items)) (W.end out.old)
         (W.end out.new) result }
 {
-    done_status(put_sums(config, out))
+    done_status(put_sums(config, is_asked, out))
 }
 
 /// Tells what hinders a run.
@@ -84,15 +84,49 @@ fn tell_obstacles<N: Out>(found: &[Obstacle], notes: &mut N) -> u8
 }
 
 /// Writes what a run takes where nothing hinders it, or tells what does.
-fn tell_run<W: Out, N: Out>(config: &Config, found: &[Obstacle], out: &mut W, notes: &mut N) -> u8
+fn tell_run<W: Out, N: Out>(
+    config: &Config,
+    is_asked: bool,
+    found: &[Obstacle],
+    out: &mut W,
+    notes: &mut N,
+) -> u8
     requires out { IsOpen (W.end out.old) }
     requires notes { IsOpen (N.end notes.old) }
-    ensures { TellsObstacles found.now (needs_of config.now.edges.items)
+    ensures { TellsObstacles found.now (asked_text is_asked (needs_of config.now.edges.items))
         (W.end out.old) (W.end out.new) (N.end notes.old) (N.end notes.new) result }
 {
     match found {
-        [] => sum_up_run(config, out),
+        [] => sum_up_run(config, is_asked, out),
         _ => tell_obstacles(found, notes),
+    }
+}
+
+/// What a run is checked for.
+#[derive(Clone, Copy)]
+struct Run {
+    /// Whether clients may ask meanwhile.
+    is_asked: bool,
+    /// How many descriptors there may be, where that is told.
+    most: Option<u64>,
+}
+
+/// Writes what a run of a configuration takes, or tells what hinders it.
+fn sum_up_or_tell<W: Out, N: Out>(
+    alloc: Global,
+    run: Run,
+    config: &Config,
+    out: &mut W,
+    notes: &mut N,
+) -> u8
+    requires out { IsOpen (W.end out.old) }
+    requires notes { IsOpen (N.end notes.old) }
+    ensures { SumsRun run.is_asked run.most config.now (W.end out.old) (W.end out.new)
+        (N.end notes.old) (N.end notes.new) result }
+{
+    match obstacles_of(alloc, config, run.is_asked, run.most) {
+        Ok(found) => tell_run(config, run.is_asked, found.as_slice(), out, notes),
+        Err(_) => MEMORY,
     }
 }
 
@@ -106,24 +140,27 @@ fn sum_up_for<W: Out, N: Out>(
 ) -> u8
     requires out { IsOpen (W.end out.old) }
     requires notes { IsOpen (N.end notes.old) }
-    ensures { MatchBool purpose.is_run
-        (SumsRun purpose.most config.now (W.end out.old) (W.end out.new) (N.end notes.old)
-        (N.end notes.new) result)
-        ((N.end notes.new ≡ N.end notes.old) × Sums (W.end out.old) (W.end out.new) result) }
+    ensures { SumsFor purpose.wanted purpose.most config.now (W.end out.old) (W.end out.new)
+        (N.end notes.old) (N.end notes.new) result }
 {
-    if !purpose.is_run {
-        return sum_up(config, out);
-    }
-    match obstacles_of(alloc, config, purpose.most) {
-        Ok(found) => tell_run(config, found.as_slice(), out, notes),
-        Err(_) => MEMORY,
+    let most = purpose.most;
+    match purpose.wanted {
+        Use::Any => sum_up(config, out),
+        Use::Run => {
+            let is_asked = false;
+            sum_up_or_tell(alloc, Run { is_asked, most }, config, out, notes)
+        }
+        Use::Serve => {
+            let is_asked = true;
+            sum_up_or_tell(alloc, Run { is_asked, most }, config, out, notes)
+        }
     }
 }
 
 /// Tells where a text is no configuration.
 fn tell_refusal<N: Out>(
     alloc: Global,
-    for_run: bool,
+    wanted: Use,
     text: &str,
     key: Option<&str>,
     notes: &mut N,
@@ -131,7 +168,7 @@ fn tell_refusal<N: Out>(
     requires { IsOpen (N.end notes.old) }
     ensures { TellsLine (N.end notes.old) (N.end notes.new) result }
 {
-    tell(refusal_line(alloc, for_run, text, key).octets(), notes)
+    tell(refusal_line(alloc, wanted, text, key).octets(), notes)
 }
 
 /// Checks a text.
@@ -147,12 +184,12 @@ fn check_text<W: Out, N: Out>(
     ensures { ChecksText purpose text.now (W.end out) (N.end notes) (W.end result.1)
         (N.end result.2) result.0 }
 {
-    let status = match config_of(alloc, text, purpose.is_run) {
+    let status = match config_for(alloc, text, purpose.wanted) {
         Ok(config) => sum_up_for(alloc, purpose, &config, &mut out, &mut notes),
         Err(ConfigRefusal::NoMemory) => MEMORY,
-        Err(ConfigRefusal::Text) => tell_refusal(alloc, purpose.is_run, text, None, &mut notes),
+        Err(ConfigRefusal::Text) => tell_refusal(alloc, purpose.wanted, text, None, &mut notes),
         Err(ConfigRefusal::Key(key)) => {
-            tell_refusal(alloc, purpose.is_run, text, Some(key.as_str()), &mut notes)
+            tell_refusal(alloc, purpose.wanted, text, Some(key.as_str()), &mut notes)
         }
     };
     (status, out, notes)
@@ -178,7 +215,7 @@ fn check<F: Files, W: Out, N: Out>(
     requires files { HasRoom (F.shelf files.old) }
     requires out { IsOpen (W.end out) }
     requires notes { IsOpen (N.end notes) }
-    ensures { (input : Source) → OfFile (ConfigOf wanted.entry.purpose.is_run)
+    ensures { (input : Source) → OfFile (ConfigFor wanted.entry.purpose.wanted)
         (Checks wanted.entry.purpose) wanted.entry.path.now
         (desk (F.shelf files.old) (devices input (W.end out) (N.end notes)))
         (desk (F.shelf files.new) (devices input (W.end result.1) (N.end result.2))) result.0 }

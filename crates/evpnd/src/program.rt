@@ -9,7 +9,7 @@ ghost use Rattle.evpnd.specs.Checks.{desk};
 ghost use Rattle.evpnd.specs.Scripts.{ChecksAll};
 ghost use Rattle.evpnd.specs.Streams.{Unclosed, IsClosed};
 ghost use Rattle.ev_report.specs.Failures.{failures_of};
-ghost use Rattle.evpnd.specs.Program.{world, purpose_of, TellsFault, not_text, RunsOpen, ServesOpen, FollowsAs, Follows, FollowsTelling, RunsWords, RunsProgram};
+ghost use Rattle.evpnd.specs.Program.{world, use_of, purpose_of, TellsFault, not_text, RunsOpen, ServesOpen, FollowsAs, Follows, FollowsTelling, RunsWords, RunsProgram};
 
 use crate::check::{Purpose, Wanted, check_all};
 use crate::files::Files;
@@ -21,11 +21,12 @@ use crate::streams::tell_closed;
 use crate::version::version;
 use clap::Error;
 use ether_wire::{In, Out};
+use ev_config::Use;
 use ev_report::{
     Devices, Failures, MEMORY, migrate_list, report_list, tell, tell_failed, tell_words,
 };
 use ev_script::Mode;
-use ev_words::{ArgsError, Invocation, Parser, Subcommand, invocation_of};
+use ev_words::{Aim, ArgsError, Invocation, Parser, Subcommand, invocation_of};
 use std::alloc::Global;
 use std::fs::Files as SocketFiles;
 use std::net::Net;
@@ -75,17 +76,28 @@ fn check_on<F: Files, R: In, W: Out, N: Out>(
     (status, Devices { reader, out, notes })
 }
 
+/// What a configuration is wanted for, by the aim of a check.
+fn use_of(aim: Aim) -> Use
+    ensures { result ≡ use_of aim }
+{
+    match aim {
+        Aim::Any => Use::Any,
+        Aim::Run => Use::Run,
+        Aim::Serve => Use::Serve,
+    }
+}
+
 /// What an invocation asks to be checked.
 fn wanted_of<'a>(descriptors: Descriptors, invocation: &Invocation<'a>) -> Wanted<'a>
     ensures path { result.path ≡ invocation.now.value }
     ensures script { result.script ≡ invocation.now.more }
-    ensures purpose { result.purpose ≡ purpose_of invocation.now.is_for_run descriptors }
+    ensures purpose { result.purpose ≡ purpose_of invocation.now.aim descriptors }
 {
     Wanted {
         path: invocation.value,
         script: invocation.more,
         purpose: Purpose {
-            is_run: invocation.is_for_run,
+            wanted: use_of(invocation.aim),
             most: descriptors.most,
         },
     }

@@ -3,7 +3,7 @@ use Rattle.std.specs.Prelude.{eqb}
 use Rattle.std.specs.List.{list_any}
 use Rattle.ev_edge.specs.Config.{vnis_of}
 use Rattle.ev_config.specs.declared.edge.Described.{Described}
-use Rattle.ev_config.specs.Fitting.{AreServed, Fits}
+use Rattle.ev_config.specs.Fitting.{AreAmong, Fits}
 use Rattle.ev_config.proofs.edge.edge_of.Goals as goal
 
 pub returns-clause-new : goal.returns-clause-new
@@ -21,7 +21,7 @@ returns-clause-fits c =
     (record {
       distinct = c.in_ok-names.ensures.distinct;
       some_port = one;
-      served = subst (λ (vs : List ℕ). AreServed (vnis_of ports) vs) c.as_slice.ensures.value
+      served = subst (λ (vs : List ℕ). AreAmong (vnis_of ports) vs) c.as_slice.ensures.value
           c.in_ok-ports.ensures.served;
       some_place = c.in_ok-limits.ensures.some_place;
       places = c.in_ok-limits.ensures.places;

@@ -1,7 +1,7 @@
 use Rattle.std.proofs.Common.{rules, sym, ap, List, Option, Some, None, option_map, ◌≡◌, ◌∙◌, refl}
 use Rattle.clap.specs.Words.{Row, Text, rows_of, found_of, subcommand_rows_of}
 use Rattle.ev_words.specs.declared.args.Invocation.{Invocation}
-use Rattle.ev_words.specs.Args.{needs_of, takes_of, flag_of, needed_in, given_in, is_flagged, parts_of}
+use Rattle.ev_words.specs.Args.{needs_of, takes_of, needed_in, given_in, aim_in, parts_of}
 use Rattle.ev_words.proofs.Given.{found_as, invocation_found}
 use Rattle.ev_words.proofs.args.invocation_in.Goals as goal
 
@@ -30,7 +30,7 @@ returns-in_err-value c =
     let text : None ≡ needed_in (needs_of s) rows = c.in_err-value.ensures
     ∙ ap (λ o. needed_in o rows) c.needs.ensures in
     ap (λ (o : Option Invocation). option_map parts_of o) none
-    ∙ invocation_found all c.in_ok-name.name.now rows s None (given_in (takes_of s) rows) (is_flagged (flag_of s) rows)
+    ∙ invocation_found all c.in_ok-name.name.now rows s None (given_in (takes_of s) rows) (aim_in s rows)
     is
     c.in_ok-subcommand.ensures text refl refl
 
@@ -46,8 +46,6 @@ returns c =
     ∙ ap (λ o. needed_in o rows) c.needs.ensures in
     let more : option_map (λ text. text.now) c.given_in-more.result ≡ given_in (takes_of s) rows =
     c.given_in-more.ensures ∙ ap (λ o. given_in o rows) c.takes.ensures in
-    let flagged : c.is_flagged-is_for_run.result ≡ is_flagged (flag_of s) rows =
-    c.is_flagged-is_for_run.ensures ∙ ap (λ o. is_flagged o rows) c.flag.ensures in
     invocation_found all c.in_ok-name.name.now rows s (Some c.in_ok-value.value.now) _ _ is c.in_ok-subcommand.ensures
     text
-    more flagged
+    more c.aim_in-aim.ensures

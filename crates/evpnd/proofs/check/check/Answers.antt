@@ -1,7 +1,7 @@
 use Rattle.std.proofs.Common.{inl, List, ℕ, refl, subst}
 use Rattle.std.specs.Prelude.{string_bytes}
 use Rattle.ev_report.specs.Ends.{devices}
-use Rattle.ev_config.specs.Config.{ConfigOf}
+use Rattle.ev_config.specs.Config.{ConfigFor}
 use Rattle.evpnd.specs.Checks.{Checks, ChecksText}
 use Rattle.evpnd.proofs.Filed.{no_memory, unreadable, of_read}
 use Rattle.evpnd.proofs.check.check.Goals as goal
@@ -15,7 +15,7 @@ returns-in-Ok g c input =
     let purpose = c.args.wanted.purpose in
     let used = subst (λ (t : List ℕ). ChecksText purpose t out notes out' notes' c.check_text.result.0)
     c.as_str.ensures.value c.check_text.ensures in
-    of_read (ConfigOf purpose.is_run) (Checks purpose) c.args.wanted.path.now (string_bytes c.in-Ok.text)
+    of_read (ConfigFor purpose.wanted) (Checks purpose) c.args.wanted.path.now (string_bytes c.in-Ok.text)
     (g.F.Files.shelf c.args.files.now) (g.F.Files.shelf c.text_of.new.self)
     (devices input out notes) (devices input out' notes') c.check_text.result.0 c.in-Ok.ensures (
       used.0,

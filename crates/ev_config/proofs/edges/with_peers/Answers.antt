@@ -1,0 +1,14 @@
+use Rattle.ev_config.specs.Config.{edges_view, view_of}
+use Rattle.ev_config.proofs.Fitting.{opens_with}
+use Rattle.ev_config.proofs.edges.with_peers.Goals as goal
+
+pub returns-clause-opens : goal.returns-clause-opens
+returns-clause-opens c =
+    opens_with (view_of c.told.result) (edges_view c.args.edges) c.in_ok-listed.listed.items c.told.ensures
+    c.requires.some c.requires.few
+    (record {
+      distinct = c.in_ok-listed.ensures.distinct;
+      few = c.in_ok-listed.ensures.few;
+      all = c.in_ok-listed.ensures.listed;
+    })
+    c.requires.together
