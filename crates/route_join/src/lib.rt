@@ -25,5 +25,6 @@ pub use laws::{
     one_table, one_taken, others_stay, owner_along, owner_is, same_owner, updates_of_are,
 };
 pub use owner::{advert_in, is_better};
+pub use salt::Salted;
 pub use table::{Table, TakeError, Taken, Unmerged};
 pub use updates::{Updates, UpdatesOf};

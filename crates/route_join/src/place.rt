@@ -40,6 +40,7 @@ fn cmp_within(one: &Register, other: &Register) -> Ordering
 
 /// Where a register stands among updates of its subject in the order of their registers, or
 /// where it would stand.
+#[inline(always)]
 pub(crate) fn place(updates: &[Update], register: &Register) -> Result<usize, usize>
     requires { AreAbout (subject_of register.now.key) (entries_of updates.now) }
     ensures { result ≡ place_of updates.now register.now }

@@ -4,15 +4,15 @@ ghost use Rattle.std.specs.Prelude.{◌≡◌};
 
 use std::hash::{BuildHasher, FoldHasher, Hasher};
 
-/// Makes the hasher of each subject: one that has read the table's salt already.
+/// Makes the hasher of each subject or register: one that has read the table's salt already.
 #[derive(Clone, Copy, Drop)]
-pub(crate) struct Salted {
+pub struct Salted {
     start: FoldHasher,
 }
 
 impl Salted {
     /// Hashes under this salt.
-    pub(crate) fn new(salt: u64) -> Self {
+    pub fn new(salt: u64) -> Self {
         let mut start = FoldHasher::default();
         start.write(&salt.to_le_bytes());
         Salted { start }

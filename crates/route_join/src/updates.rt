@@ -64,6 +64,8 @@ impl<'a> Iterator for UpdatesOf<'a> {
 
     ghost remaining = { item_count (λ left. left) };
 
+    // inlined, so that an update isn't copied on its way into a loop
+    #[inline(always)]
     fn next(&mut self) -> Option<Update> {
         if let Some((first, others)) = self.few.split_first() {
             self.few = others;
