@@ -9,9 +9,8 @@ use crate::keys::{addr_in, bridge_in, tables_at};
 use crate::peers::PEER_KEYS;
 use crate::place::{Place, file_keys, place_of};
 use crate::port::PORT_KEYS;
-use crate::whole::{Config, Use};
-use ether_wire::{Device, Out, Page, Vni, put_decimal};
-use ev_edge::EdgeConfig;
+use crate::whole::Use;
+use ether_wire::{Device, Out, Page, put_decimal};
 use std::alloc::Global;
 use toml::de::Error;
 use toml::value::Array;
@@ -379,94 +378,6 @@ fn put_fault(
 pub(crate) fn fault_line(alloc: Global, wanted: Use, document: &Table, key: &str) -> Line {
     let mut line = Line::new();
     let _fits = put_fault(&mut line, alloc, wanted, document, key);
-    line
-}
-
-/// How many ports the edges have.
-fn count_ports(config: &Config) -> usize {
-    let mut count = 0usize;
-    for edge in config.edges.iter() {
-        count = count.saturating_add(edge.ports.len());
-    }
-    count
-}
-
-/// Whether one of the first edges serves the network.
-fn is_served(config: &Config, edges: usize, vni: Vni) -> bool {
-    for edge in config.edges.iter().take(edges) {
-        if edge.vnis.contains(&vni) {
-            return true;
-        }
-    }
-    false
-}
-
-/// How many networks the edge behind the first ones serves that none of them does.
-fn count_new(config: &Config, edges: usize, edge: &EdgeConfig) -> usize {
-    let mut count = 0usize;
-    for vni in edge.vnis.iter() {
-        if !is_served(config, edges, *vni) {
-            count = count.saturating_add(1);
-        }
-    }
-    count
-}
-
-/// How many networks the edges serve.
-fn count_vnis(config: &Config) -> usize {
-    let mut count = 0usize;
-    for (edges, edge) in config.edges.iter().enumerate() {
-        count = count.saturating_add(count_new(config, edges, edge));
-    }
-    count
-}
-
-/// Writes a number of things, behind what leads to it.
-fn put_count(line: &mut Line, lead: &[u8], count: usize, one: &[u8]) -> Result<(), Device>
-    requires { IsOpen (page_end line.old) }
-    ensures { OnOk result ((page_end line.new).failures ≡ (page_end line.old).failures) }
-{
-    line.put(lead)?;
-    put_decimal(line, count as u64)?;
-    line.put(one)?;
-    line.put(if count == 1 { b"" } else { b"s" })
-}
-
-/// How many edges run elsewhere.
-fn count_peers(config: &Config) -> usize {
-    match config.edges.first() {
-        Some(edge) => edge.originators.len().saturating_sub(config.edges.len()),
-        None => 0,
-    }
-}
-
-/// Writes how many edges run elsewhere, where there are any.
-fn put_peers(line: &mut Line, count: usize) -> Result<(), Device>
-    requires { IsOpen (page_end line.old) }
-    ensures { OnOk result ((page_end line.new).failures ≡ (page_end line.old).failures) }
-{
-    match count {
-        0 => Ok(()),
-        _ => put_count(line, b", ", count, b" peer"),
-    }
-}
-
-/// Writes how much there is.
-fn put_summary(line: &mut Line, config: &Config) -> Result<(), Device>
-    requires { IsOpen (page_end line.old) }
-    ensures { OnOk result ((page_end line.new).failures ≡ (page_end line.old).failures) }
-{
-    put_count(line, b"ok: ", config.edges.len(), b" edge")?;
-    put_count(line, b", ", count_ports(config), b" port")?;
-    put_count(line, b", ", count_vnis(config), b" VNI")?;
-    put_peers(line, count_peers(config))?;
-    line.put(b"\n")
-}
-
-/// The line that tells of a configuration without fault.
-pub fn summary_line(config: &Config) -> Line {
-    let mut line = Line::new();
-    let _fits = put_summary(&mut line, config);
     line
 }
 

@@ -101,8 +101,8 @@ fault_by Ended = None
 fault_by (Cut octets) = None
 fault_by (Faulty fault) = Some fault
 
--- A reader gave octets up to its end, to a failure, or to the first fault of the stream that they are, which is of records
--- of version 3 at most. Of that stream an entrance was given what goes on, refusals are counted, and its end is told.
+-- A reader gave octets up to its end, to a failure, or to the first fault of the stream that they are, which is of
+-- records of version 3 at most. Of it an entrance was given what goes on, refusals are counted, and its end is told.
 pub record Receives (old new : Source) (start given : Given) (counts : List ℕ) (end : StreamEnd) (ending : Ending) :
     Type 0 where
   pub input : List ℕ

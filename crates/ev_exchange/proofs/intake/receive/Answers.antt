@@ -3,8 +3,8 @@ use Rattle.std.proofs.lemmas.Bool.Decides.{nat_tests}
 use Rattle.ether_wire.specs.Ends.{Gets}
 use Rattle.ev_report.specs.declared.ending.Ending.TheVariants.{Ended, Failed, Faulty, Unended}
 use Rattle.ev_exchange.specs.Receiving.{Received}
-use Rattle.ev_exchange.proofs.Readings.{Coming, coming_none, coming_more, empty_faultless, receives_end, receives_failed}
-use Rattle.ev_exchange.proofs.Readings.{receives_fault, receives_unended, receives_as}
+use Rattle.ev_exchange.proofs.Readings.{Coming, coming_none, coming_more, empty_faultless, receives_end}
+use Rattle.ev_exchange.proofs.Readings.{receives_failed, receives_fault, receives_unended, receives_as}
 use Rattle.ev_exchange.proofs.intake.receive.Goals as goal
 
 pub loop-turn-init : goal.loop-turn-init
