@@ -30,8 +30,8 @@ from lanes import in_lanes
 from sources import bodies, closed
 from tried import tried_tests
 
-# What a check of the largest crate was seen to need, and half as much again. (The kit reckons more, and lets processors idle.)
-MOST_MEMORY = 4_500_000_000
+# What a check of the largest crate was seen to need. (The kit reckons more, and lets processors idle.)
+MOST_MEMORY = 5_500_000_000
 NOTHING = "other\tproof"
 
 
