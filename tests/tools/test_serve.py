@@ -397,6 +397,31 @@ class Records(Served):
         self.assertEqual(len(held), SEATS - 1)
         self.ends_well(FLOODS + learnt(1, ONE, 2))
 
+    def test_peer_that_does_not_read(self) -> None:
+        """Stations speak until no more of them can be told it: it is cut off, while frames go on and another one hears all the time."""
+        deaf, hears = self.joined(), self.joined()
+        poll = select.poll()
+        poll.register(deaf.socket, 0)  # for a connection that has ended alone
+        begun = time.monotonic()
+        told, number = b"", 0
+        while not poll.poll(0) and time.monotonic() - begun < 40:
+            number += 1
+            self.one.send(frame(BROADCAST, bytes([2, 1]) + number.to_bytes(4, "big"), b""))
+            told = self.taken(hears, told)
+        self.assertNotEqual(poll.poll(0), [])
+        self.assertNotEqual(told, b"")
+        while self.two.receive(0.1):
+            pass
+        self.hears_station()
+        again = self.client().send(b"records\n")
+        self.assertEqual(self.lines(again, 1), [f"advert {ONE} {VNI} flood"])
+
+    def taken(self, client: Client, before: bytes) -> bytes:
+        """What came to a client at once, of which the last piece is kept."""
+        if select.select([client.socket], [], [], 0)[0]:
+            return client.socket.recv(65535)
+        return before
+
     def seated_records(self) -> Client:
         """A client that exchanges records and reads nothing; again where those that have just gone still have their seats."""
         for _ in range(100):
