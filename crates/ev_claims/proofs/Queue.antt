@@ -12,6 +12,8 @@ use Rattle.idx_links.specs.Links.{has, without, list_at, IsFree}
 use Rattle.idx_links.specs.Families.{Families, lists_of}
 use Rattle.route_wire.specs.declared.update.Register.{Register}
 use Rattle.route_wire.specs.Order.{register_cmp}
+use Rattle.route_wire.specs.contracts.update.RegisterPartialEq.TheImpl as register
+use Rattle.route_wire.specs.Ties.{tied_registers}
 use Rattle.route_join.proofs.Tables.{same_register, itself_register}
 use Rattle.ev_claims.specs.Pending.{marked, register_at, queue, node_of, IsPending}
 
@@ -205,6 +207,11 @@ pub on_queue : (f : Families) (n : ℕ) (r : Option ℕ) → length (lists_of f 
 on_queue f n None one e on within = cc
 on_queue f n (Some l) one e on within = only_list f l n one within on
 
+pub off_lists : (f : Families) (n : ℕ) (r : Option ℕ) → is_some r ≡ false → IfNone r (IsFree (lists_of f 0) n)
+    → (l : ℕ) → has (list_at (lists_of f 0) l) n ≡ false
+off_lists f n None e free l = free l
+off_lists f n (Some k) e free l = cc
+
 -- ---- a register is marked
 pub marked_is : (f f' : Families) (rs : List Register) (nodes : List (Register × ℕ)) (room : ℕ) (r : Register)
     (node : ℕ) → IsPending f rs nodes room → node_of nodes r ≡ Some node → has (queue f) node ≡ false
@@ -259,6 +266,17 @@ get_contains (x ∷ rs) zero r e = (0, omega arith, let same : x ≡ r = cc in s
 get_contains (x ∷ rs) (suc n) r e = let h = get_contains rs n r e in
     (suc h.0, (let less = h.1 in omega (arith, less)), h.2)
 
+at_contains : (rs : List Register) (r : Register) → Contains rs r → (n : ℕ) × (slice_get rs n ≡ Some r)
+at_contains [] r (n, l, e) = absurd (omega (arith, l))
+at_contains (x ∷ rs) r (zero, l, e) = (0, ap Some e)
+at_contains (x ∷ rs) r (suc n, l, e) = let h = at_contains rs r (n, (omega (arith, l)), e) in (suc h.0, h.1)
+
+pub not_known : (f : Families) (rs : List Register) (nodes : List (Register × ℕ)) (room : ℕ) (r : Register)
+    → IsPending f rs nodes room → node_of nodes r ≡ None → Contains rs r → false ≡ true
+not_known f rs nodes room r p none h =
+    let at = at_contains rs r h in
+    let bad : None ≡ Some at.0 = sym none ∙ p.there at.0 r at.1 in cc
+
 at_before : (rs : List Register) (r q : Register) (n : ℕ) → slice_get rs n ≡ Some q
     → slice_get (rs ++ r ∷ []) n ≡ Some q
 at_before [] r q n e = cc
@@ -284,7 +302,7 @@ length_pushed (x ∷ rs) r = ap suc (length_pushed rs r)
 pub room_pending : (f f' : Families) (rs : List Register) (nodes nodes' : List (Register × ℕ)) (room room' : ℕ)
     (r : Register) → IsPending f rs nodes room
     → f'.families ≡ f.families → f'.nodes ≡ room' → room' < 2 ^ 32 → length rs < room' → node_of nodes r ≡ None
-    → ((q : Register) → node_of nodes' q ≡ cond (eq_by_cmp register_cmp r q) (Some (length rs)) (node_of nodes q))
+    → ((q : Register) → node_of nodes' q ≡ cond (register.eq-value.it r q) (Some (length rs)) (node_of nodes q))
     → IsPending f' (rs ++ r ∷ []) nodes' room'
 room_pending f f' rs nodes nodes' room room' r p same counted small more absent updates = record {
   one = ap length same ∙ p.one;
@@ -295,24 +313,25 @@ room_pending f f' rs nodes nodes' room room' r p same counted small more absent 
   within = λ n t. (let low = p.within n (ap (λ fs. has (slice_index_or (slice_index_or fs 0 []) 0 []) n) (sym same)
       ∙ t) in let l = length_pushed rs r in omega (arith, low, l));
   there = λ n q at. elim (pushed_parts rs r q n at) as (λ _. node_of nodes' q ≡ Some n) [
-    | inl old ↦ updates q ∙ kept q n (p.there n q old) (eq_by_cmp register_cmp r q) refl
+    | inl old ↦ updates q ∙ kept q n (p.there n q old) (register.eq-value.it r q) refl
     | inr new ↦ ap (node_of nodes') (sym new.1) ∙ updates r
-        ∙ ap (λ b. cond b (Some (length rs)) (node_of nodes r)) (itself_register r) ∙ ap Some (sym new.0)
+        ∙ ap (λ b. cond b (Some (length rs)) (node_of nodes r)) (tied_registers r r ∙ itself_register r)
+        ∙ ap Some (sym new.0)
   ];
-  back = λ q n at. from q n (eq_by_cmp register_cmp r q) refl (sym (updates q) ∙ at);
+  back = λ q n at. from q n (register.eq-value.it r q) refl (sym (updates q) ∙ at);
 }
   where
-    kept : (q : Register) (n : ℕ) → node_of nodes q ≡ Some n → (b : Bool) → eq_by_cmp register_cmp r q ≡ b
-        → cond (eq_by_cmp register_cmp r q) (Some (length rs)) (node_of nodes q) ≡ Some n
-    kept q n is true e = absurd (let same = same_register r q e in
+    kept : (q : Register) (n : ℕ) → node_of nodes q ≡ Some n → (b : Bool) → register.eq-value.it r q ≡ b
+        → cond (register.eq-value.it r q) (Some (length rs)) (node_of nodes q) ≡ Some n
+    kept q n is true e = absurd (let same = same_register r q (sym (tied_registers r q) ∙ e) in
         let bad : None ≡ Some n = sym absent ∙ ap (node_of nodes) same ∙ is in cc)
     kept q n is false e = ap (λ b. cond b (Some (length rs)) (node_of nodes q)) e ∙ is
 
-    from : (q : Register) (n : ℕ) (b : Bool) → eq_by_cmp register_cmp r q ≡ b
-        → cond (eq_by_cmp register_cmp r q) (Some (length rs)) (node_of nodes q) ≡ Some n
+    from : (q : Register) (n : ℕ) (b : Bool) → register.eq-value.it r q ≡ b
+        → cond (register.eq-value.it r q) (Some (length rs)) (node_of nodes q) ≡ Some n
         → slice_get (rs ++ r ∷ []) n ≡ Some q
     from q n true e at =
-        let same = same_register r q e in
+        let same = same_register r q (sym (tied_registers r q) ∙ e) in
         let number : length rs ≡ n = (let h : Some (length rs) ≡ Some n =
         sym (ap (λ b. cond b (Some (length rs)) (node_of nodes q)) e) ∙ at in cc) in
         ap (slice_get (rs ++ r ∷ [])) (sym number) ∙ at_end rs r ∙ ap Some same

@@ -83,6 +83,7 @@ impl LocalRoutes {
             start.incarnation,
             start.originators,
             start.capacity + LATEST,
+            start.salt,
         )?;
         speaker.open(vnis.as_slice())?;
         let ports = start.ports.len() as u8;

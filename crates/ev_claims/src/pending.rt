@@ -5,9 +5,10 @@ ghost use Rattle.ev_claims.specs.Pending.{marked};
 
 use crate::register_key::RegisterKey;
 use idx_links::Family;
+use route_join::Salted;
 use route_wire::Register;
 use std::alloc::{AllocError, Global};
-use std::collections::BTreeMap;
+use std::collections::HashMap;
 use std::marker::Model;
 
 /// The registers that an edge says something of, each with a node of one linked list: those that
@@ -17,7 +18,7 @@ use std::marker::Model;
 pub struct Pending {
     links: Family<1>,
     registers: Vec<RegisterKey>,
-    nodes: BTreeMap<RegisterKey, usize>,
+    nodes: HashMap<RegisterKey, usize, Salted>,
     room: usize,
     marks: Vec<usize>,
 }
@@ -36,8 +37,9 @@ impl Model for Pending {
 }
 
 impl Pending {
-    /// Nothing is known, and nothing waits. The ring has this many places.
-    pub fn new(alloc: Global, places: usize) -> Result<Self, AllocError>
+    /// Nothing is known, and nothing waits. The ring has this many places, and registers are found
+    /// by a hash under the salt.
+    pub fn new(alloc: Global, places: usize, salt: u64) -> Result<Self, AllocError>
         ensures { IfOk result (λ p. p ≡ record { known = []; waiting = [] }) }
     {
         let links = Family::new(alloc, [1], 0)?;
@@ -45,7 +47,7 @@ impl Pending {
         Ok(Pending {
             links,
             registers: Vec::new(alloc),
-            nodes: BTreeMap::new(alloc),
+            nodes: HashMap::with_hasher(alloc, Salted::new(salt)),
             room: 0,
             marks,
         })

@@ -55,23 +55,24 @@ impl Model for Speaker {
 
 impl Speaker {
     /// Nothing is originated yet. As many of the latest own updates as there are places are found
-    /// at once by their numbers.
+    /// at once by their numbers. Registers are found by a hash under the salt.
     pub fn new(
         alloc: Global,
         address: Addr,
         incarnation: u32,
         originators: ArrayVec<Addr, 64>,
         places: usize,
+        salt: u64,
     ) -> Result<Self, AllocError>
         requires originators { AreOriginators originators.items }
         requires listed { Contains originators.items address }
         ensures { IfOk result (λ v. v ≡ silent address incarnation originators.items) }
     {
-        let pending = Pending::new(alloc, places)?;
+        let pending = Pending::new(alloc, places, salt)?;
         Ok(Speaker {
             address,
             incarnation,
-            table: Table::new(alloc, originators),
+            table: Table::with_salt(alloc, originators, salt),
             counter: 0,
             pending,
         })

@@ -1,10 +1,9 @@
-use Rattle.std.proofs.Common.{◌≡◌, ◌++◌, ◌∷◌, [], ◌<◌, cond, Some, length, map, sym, ap, subst, ◌∙◌}
+use Rattle.std.proofs.Common.{◌≡◌, ◌++◌, ◌∷◌, [], ◌<◌, cond, Some, None, length, map, sym, ap, subst, ◌∙◌, true, false}
 use Rattle.std.specs.Prelude.{Contains, slice_index_or}
-use Rattle.std.specs.Ordering.{eq_by_cmp}
-use Rattle.route_wire.specs.Order.{register_cmp}
+use Rattle.route_wire.specs.contracts.update.RegisterPartialEq.TheImpl as register
 use Rattle.route_join.proofs.Leaders.{on_ok}
 use Rattle.ev_claims.specs.Pending.{Pending, queue, register_at, node_of, IsPending}
-use Rattle.ev_claims.proofs.Queue.{get_contains, room_pending, same_names}
+use Rattle.ev_claims.proofs.Queue.{get_contains, room_pending, same_names, not_known}
 use Rattle.ev_claims.proofs.pending.Pending.make_room.Goals as goal
 
 pub returns-in-Some-clause-known : goal.returns-in-Some-clause-known
@@ -30,7 +29,7 @@ invariant_of-self-2 c =
     c.spare_node.ensures.small
     (subst (λ n. n < c.spare_node.new.room) count c.in_ok-spare_node.ensures.enough)
     (ap (node_of f.nodes.entries) (sym c.new.ensures) ∙ sym c.in_default.ensures.value)
-    (λ q. updates.0 q ∙ (λ i. cond (eq_by_cmp register_cmp (c.new-2.ensures i) q) (Some (count i))
+    (λ q. updates.0 q ∙ (λ i. cond (register.eq-value.it (c.new-2.ensures i) q) (Some (count i))
     (node_of f.nodes.entries q))))
 
 pub returns-clause-waiting : goal.returns-clause-waiting
@@ -44,3 +43,27 @@ returns-clause-waiting c =
     ap (λ fs. slice_index_or (slice_index_or fs 0 []) 0 []) c.spare_node.ensures.families in
     (λ i. map (register_at (items i)) (same i)) ∙ same_names rs reg (queue f.links) c.self.invariant.within
     ∙ ap (λ (p : Pending). p.waiting) c.self.view_is
+
+pub returns-in_err-reserve-clause-there : goal.returns-in_err-reserve-clause-there
+returns-in_err-reserve-clause-there c h =
+    let f = c.self.inside in
+    let none = ap (node_of f.nodes.entries) (sym c.new.ensures) ∙ sym c.in_default.ensures.value in
+    let known = subst (λ (p : Pending). Contains p.known c.args.register.now) (sym c.self.view_is) h in
+    absurd (let bad : false ≡ true = not_known f.links f.registers.items f.nodes.entries f.room c.args.register.now
+    c.self.invariant none known in cc)
+
+pub returns-in_err-spare_node-clause-there : goal.returns-in_err-spare_node-clause-there
+returns-in_err-spare_node-clause-there c h =
+    let f = c.self.inside in
+    let none = ap (node_of f.nodes.entries) (sym c.new.ensures) ∙ sym c.in_default.ensures.value in
+    let known = subst (λ (p : Pending). Contains p.known c.args.register.now) (sym c.self.view_is) h in
+    absurd (let bad : false ≡ true = not_known f.links f.registers.items f.nodes.entries f.room c.args.register.now
+    c.self.invariant none known in cc)
+
+pub returns-then-is_err-clause-there : goal.returns-then-is_err-clause-there
+returns-then-is_err-clause-there c h =
+    let f = c.self.inside in
+    let none = ap (node_of f.nodes.entries) (sym c.new.ensures) ∙ sym c.in_default.ensures.value in
+    let known = subst (λ (p : Pending). Contains p.known c.args.register.now) (sym c.self.view_is) h in
+    not_known f.links f.registers.items f.nodes.entries f.room c.args.register.now
+    c.self.invariant none known

@@ -1,7 +1,8 @@
-use Rattle.std.proofs.Common.{not, sym, ap, ◌∙◌, map}
+use Rattle.std.proofs.Common.{◌≡◌, not, sym, ap, subst, ◌∙◌, map, true, false, arith, lit<}
+use Rattle.std.specs.Prelude.{Contains}
 use Rattle.ev_claims.specs.Pending.{Pending, queue, register_at, node_of, marked}
 use Rattle.ev_claims.proofs.Queue.{queue_pushed, waits, unmarked_waiting, off_queue, on_queue, marked_is}
-use Rattle.ev_claims.proofs.Queue.{marked_pending}
+use Rattle.ev_claims.proofs.Queue.{marked_pending, not_known, off_lists, at_get}
 use Rattle.ev_claims.proofs.pending.Pending.mark.Goals as goal
 
 pub invariant_of-self : goal.invariant_of-self
@@ -44,3 +45,33 @@ returns-else-is_none c =
       known = p.known;
       waiting = marked p.waiting c.args.register;
     } in q) c.self.view_is
+
+pub returns-in_default : goal.returns-in_default
+returns-in_default c =
+    let f = c.self.inside in
+    let none = ap (node_of f.nodes.entries) (sym c.new.ensures) ∙ sym c.in_default.ensures.value in
+    let known = subst (λ (p : Pending). Contains p.known c.args.register) (sym c.self.view_is) c.requires in
+    absurd (let bad : false ≡ true = not_known f.links f.registers.items f.nodes.entries f.room c.args.register
+    c.self.invariant none known in cc)
+
+pub list_of-requires : goal.list_of-requires
+list_of-requires c =
+    let f = c.self.inside in
+    let p = c.self.invariant in
+    let at = ap (node_of f.nodes.entries) (sym c.new.ensures) ∙ sym c.in-Some.ensures.value in
+    let low = (at_get f.registers.items c.in-Some.node.now c.args.register (p.back c.args.register _ at)).0 in
+    let fits = p.fits in
+    let counted = p.counted in
+    (lit< tt, (lit< tt, omega (arith, low, fits, counted)))
+
+pub push_back-requires : goal.push_back-requires
+push_back-requires c =
+    let f = c.self.inside in
+    let p = c.self.invariant in
+    let at = ap (node_of f.nodes.entries) (sym c.new.ensures) ∙ sym c.in-Some.ensures.value in
+    let low = (at_get f.registers.items c.in-Some.node.now c.args.register (p.back c.args.register _ at)).0 in
+    let fits = p.fits in
+    let counted = p.counted in
+    let list = p.list in
+    (lit< tt, (lit< tt, (omega (arith, list), (omega (arith, low, fits, counted), off_lists f.links c.in-Some.node.now
+    c.list_of.result (c.is_none.ensures ∙ ap not c.if-is_none.true) c.list_of.ensures.off))))

@@ -10,6 +10,6 @@ invariant_of-result c =
     let a = c.args.address in
     let n = c.args.incarnation in
     let nobody : Pending = record { known = []; waiting = [] } in
-    subst (λ (p : Pending). IsSpeaker (speaker_of a n c.new-2.result 0 p) p.known) (sym c.in_ok-pending.ensures)
-    (subst (λ (t : Table). IsSpeaker (speaker_of a n t 0 nobody) []) (sym c.new-2.ensures)
+    subst (λ (p : Pending). IsSpeaker (speaker_of a n c.with_salt.result 0 p) p.known) (sym c.in_ok-pending.ensures)
+    (subst (λ (t : Table). IsSpeaker (speaker_of a n t 0 nobody) []) (sym c.with_salt.ensures)
     (silent_speaker a n c.args.originators.items c.requires.listed))
