@@ -343,12 +343,13 @@ impl Value {
     pub fn is_newer(&self, other: &Value) -> bool
         ensures { result ≡ is_newer self.now other.now }
     {
-        other
-            .incarnation
-            .cmp(&self.incarnation)
-            .then(other.counter.cmp(&self.counter))
-            .then(other.content.cmp(&self.content))
-            .is_lt()
+        if other.incarnation != self.incarnation {
+            return other.incarnation < self.incarnation;
+        }
+        if other.counter != self.counter {
+            return other.counter < self.counter;
+        }
+        other.content.cmp(&self.content).is_lt()
     }
 }
 
