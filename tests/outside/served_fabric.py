@@ -18,7 +18,7 @@ from histories import Tally  # noqa: E402, isort: skip
 OURS, REFLECTOR, ONE, TWO = "10.0.0.1", "10.0.0.9", "10.0.0.11", "10.0.0.12"
 LEFT, RIGHT = "10.0.0.21", "10.0.0.22"
 BROADCASTS = 50
-SILENT = "02:00:00:00:78:01"  # a station of leaf one that speaks once
+SILENT = "02:00:00:00:78:01"  # a station that no host has
 
 
 class Fabric:
@@ -287,6 +287,8 @@ def without_bgp(tally: Tally) -> None:
         pair.all_ping("then")
         reports = [each.ask("1", "report") for each in (pair.left, pair.right)]
         tally.see(reports[0] == reports[1] != [], "both report the same")
+        pair.right.ask("1", "pin", str(VNI), SILENT, "2")
+        waited(lambda: SILENT in pair.left.owners(), 10)
         pair.part()
         pair.right.child.kill()
         begun = time.monotonic()
@@ -295,6 +297,7 @@ def without_bgp(tally: Tally) -> None:
         waited(lambda: pair.hosts[1].reaches(pair.hosts[0]), 20)
         pair.agree(f"one is killed, and begins anew with incarnation {pair.right.incarnation}", begun)
         pair.all_ping("then")
+        print(f"   a station that was pinned in its earlier life is at {pair.left.owners().get(SILENT, NOBODY)} for the other one")
         for each in (pair.left, pair.right):
             print(f"   {each.name} ends with status {each.end()[0]} and has told: {'; '.join(each.noted().splitlines()) or 'nothing'}")
 

@@ -97,6 +97,7 @@ def moving(load: Load, count: int, minutes: float, tally: Tally) -> None:
             delays.append(waited(lambda: load.served.ask("1", "owner", str(VNI), mac)[:1] == [f"1 owner {new}"], 20))  # noqa: B023
     print_delays(delays, moves, time.monotonic() - begun)
     tally.see(None not in delays, "each move that was looked at was known in time")
+    print(f"{load.memory()}, before a report", flush=True)
     wanted = {mac_of(place): LEAVES[home] for place, home in enumerate(homes)}
     found = waited(lambda: owners_of(load, wanted) == wanted, 60)
     tally.see(found is not None, f"after {moves} moves the edge names the owner of each of {count} stations")
