@@ -3,12 +3,12 @@
 
     evpnd_bgp.py --watch [SECONDS]            the fabric's routes and their changes, as records on standard output
     evpnd_bgp.py --own LIST --stdio           the same; records on standard input are announced, until it ends
-    evpnd_bgp.py --own LIST --socket PATH     the same at the Unix socket of a program that speaks records
+    evpnd_bgp.py --own LIST --socket PATH     the same at the control socket of edges that run (`evpnd serve`)
 
-LIST has the addresses of our edges, with commas. A record of one of them becomes a route of BGP; of any other it is
-never announced, since it is the fabric's own. A route whose next hop is one of our edges becomes no record. So nothing
-comes back to where it came from. What can't be said is left out: each kind is told once on standard error, and counted
-at the end.
+LIST has the addresses of our edges, with commas: all that speak records there, also those of other hosts. A record of
+one of them becomes a route of BGP; of any other it is never announced, since it is the fabric's own. A route whose next
+hop is one of our edges becomes no record. So nothing comes back to where it came from. What can't be said is left out:
+each kind is told once on standard error, and counted at the end.
 
 GoBGP's daemon runs with an API (`gobgpd --api-hosts 127.0.0.1:50051`). docs/fabric.md has its configuration. Status 0;
 1 where a stream ended by a fault or in a record, or a watch found no daemon; 2 for usage, or where a package is
@@ -181,7 +181,7 @@ class Gateway:
         self.look_back()
 
     def look_back(self) -> None:
-        """Withdraws what edges at a socket have of the fabric by an earlier life, once BGP has had its time to say it."""
+        """Withdraws what an earlier life has told edges at a socket, once BGP has had its time to say it anew."""
         with self.lock:
             is_due = self.control is not None and self.strangers is None
         if not is_due:
@@ -406,7 +406,7 @@ class Gateway:
 
 
 def asked(path: str, *lines: str) -> List[str]:
-    """What the edges at a control socket answer to lines of their console (docs/script.md); nothing where there is none."""
+    """What edges at a control socket answer to lines of their console (docs/script.md); nothing where there is none."""
     with socket.socket(socket.AF_UNIX) as connection:
         connection.settimeout(PATIENCE)
         connection.connect(path)
