@@ -8,7 +8,7 @@ import time
 import unittest
 from typing import List
 
-from test_audit import needs_program
+from test_audit import PROGRAM, needs_program
 from test_records import TOP
 from test_run import BROADCAST, FLOODS, ONE, TWO, Cable, Running, TwoCables, edge, frame, learnt, station
 
@@ -108,6 +108,18 @@ class Joined(TwoCables):
         report = FLOODS + f"{mac} {ONE} 3 withdrawn\n{mac} {TWO} 2 dynamic 1\nowner 5001 02:00:00:00:00:01 {TWO}\n"
         self.both_report(report)
         self.end_well(report)
+
+
+@needs_program
+class Example(unittest.TestCase):
+    """The configuration of docs/fabric.md."""
+
+    def test_it_can_be_served(self) -> None:
+        path = os.path.join(TOP, "examples", "fabric", "edge.toml")
+        words = [PROGRAM, "check", "--serve", "--config", path]
+        done = subprocess.run(words, capture_output=True, encoding="utf-8", check=False, timeout=20)
+        self.assertEqual((done.returncode, done.stderr), (0, ""))
+        self.assertTrue(done.stdout.startswith("ok: 1 edge, 1 port, 1 VNI, 1 peer\n"), done.stdout)
 
 
 if __name__ == "__main__":
