@@ -27,9 +27,6 @@ LONG_RT = {  # bpdu_wire's is the row of a table, ether_wire's are tables of dig
 LONG_ANTT = 10
 MOST_LINES, MOST_PARAMETERS = 450, 6
 MANY_PARAMETERS = {  # `self` isn't counted; ev_tunnel's are the arguments that a decision is of
-    "crates/ev_peers/src/edge_threads.rt": {"edge_worker": 8, "run_workers": 10},
-    "crates/ev_peers/src/entering.rt": {"start_entering": 8},
-    "crates/ev_peers/src/run.rt": {"run_ready": 7, "run_within": 8, "start_edges": 8},
     "crates/ev_peers/src/workers.rt": {"enter_datagram": 7, "note_call": 7, "turn": 8, "turn_port": 7},
     "crates/ev_run/src/run.rt": {"run_asked": 7, "run_bound": 8, "run_reading": 8},
     "crates/ev_run/src/serve.rt": {"serve_edges": 7},

@@ -4,7 +4,7 @@ ghost use Rattle.ev_edge.specs.Config.{IsConfig};
 ghost use Rattle.ev_peers.specs.EdgeThreads.{IsReady};
 
 use crate::edge_links::EdgeLinks;
-use crate::entering::{join_entering, start_entering, start_peer};
+use crate::entering::{Workplace, join_entering, start_entering, start_peer};
 use crate::gate::Gate;
 use crate::outcome::{Faults, Outcome};
 use crate::outlet::Senders;
@@ -69,7 +69,6 @@ fn run_within<
     R: Threads + Wait + Sync + 'x,
 >(
     scope: &Scope<'s, &'x ()>,
-    rt: &'x R,
     shared_edge: &SharedEdge<'x, L, G, R>,
     outlet: &Senders<'x, R>,
     ready_threads: ReadyThreads<'x, L, I, O>,
@@ -89,19 +88,18 @@ fn run_within<
         sending,
         passes,
     } = threads;
+    let rt = shared_edge.rt;
     let lines = shared.lines.as_slice();
     let words = shared.no_sending.as_slice();
     let (sending, no_sent) = start_sending(scope, rt, lines, words, outputs, sending);
-    let peer = start_peer::<L, I, G, R>(scope, shared_edge, shared, outlet, peer);
-    let (entering, passes, begun) = start_entering(
-        scope,
-        shared_edge,
+    let workplace = Workplace {
+        shared_edge: shared_edge.again(),
+        outlet: outlet.again(),
         shared,
-        outlet,
-        tasks,
-        fresh,
-        entering,
-        passes,
+    };
+    let peer = start_peer::<L, I, G, R>(scope, &workplace, peer);
+    let (entering, passes, begun) = start_entering(
+        scope, &workplace, tasks, fresh, entering, passes,
     );
     let (mut passes, entered) = join_entering(rt, entering, passes);
     outlet.peers.end(rt);
@@ -118,6 +116,21 @@ fn run_within<
     )
 }
 
+/// What an edge runs over.
+#[derive(Drop)]
+pub struct Host<'x, G, R> {
+    /// What may wait, and starts threads.
+    pub rt: &'x R,
+    /// What gives memory.
+    pub alloc: Global,
+    /// Is told of each call of the edge's book.
+    pub gate: &'x G,
+    /// The edge's number, from 1.
+    pub number: usize,
+    /// The other edges, and the edge's own board.
+    pub peers: Peers<'x>,
+}
+
 /// Runs the workers of an edge over its book.
 fn run_workers<
     'x,
@@ -127,29 +140,14 @@ fn run_workers<
     G: Gate + Sync + 'x,
     R: Threads + Wait + Sync + 'x,
 >(
-    rt: &'x R,
-    gate: &'x G,
-    edge: usize,
+    host: &'x Host<'x, G, R>,
     bridge: Mac,
     book: &'x Mutex<Book<L>>,
-    shared: &'x Shared,
-    peers: Peers<'x>,
-    threads: EdgeThreads<L, I, O>,
-    fresh: Vec<Pass<L>>,
-    peer: Pass<L>,
+    ready_threads: ReadyThreads<'x, L, I, O>,
 ) -> (Vec<Pass<L>>, Faults)
-    requires { IsReady (vec_len threads.tasks) (vec_len threads.outputs) (vec_len threads.entering)
-        (vec_capacity threads.entering) (vec_len threads.sending) (vec_capacity threads.sending)
-        (vec_len threads.passes) (vec_capacity threads.passes) (vec_len shared.now.no_entering)
-        (vec_len shared.now.no_sending) (vec_len shared.now.lines) (vec_len fresh) }
-    ensures { vec_len result.0 ≡ vec_len fresh + 1 }
+    ensures { vec_len result.0 ≡ ready_threads.entry + 1 }
 {
-    let ready_threads = ReadyThreads {
-        threads,
-        fresh,
-        peer,
-        shared,
-    };
+    let (rt, shared) = (host.rt, ready_threads.shared);
     thread::scope(
         thread::scope_env(),
         rt,
@@ -159,17 +157,17 @@ fn run_workers<
             let shared_edge = SharedEdge {
                 rt,
                 book,
-                gate,
-                edge,
+                gate: host.gate,
+                edge: host.number,
                 bridge,
                 out_of_memory: &shared.out_of_memory,
             };
             let outlet = Senders {
                 rt,
                 lines: shared.lines.as_slice(),
-                peers,
+                peers: host.peers,
             };
-            run_within(scope, rt, &shared_edge, &outlet, ready_threads)
+            run_within(scope, &shared_edge, &outlet, ready_threads)
         },
     )
 }
@@ -192,14 +190,10 @@ pub fn edge_worker<
     G: Gate + Sync,
     R: Threads + Wait + Sync,
 >(
-    rt: &R,
-    alloc: Global,
+    host: Host<'_, G, R>,
     blank: Blank,
-    number: usize,
     config: EdgeConfig,
     links: EdgeLinks<I, O>,
-    peers: Peers<'_>,
-    gate: &G,
 ) -> Result<Outcome, AllocError>
     requires name { blank.name ≡ L.name }
     requires parts { blank.parts ≡ L.parts }
@@ -209,6 +203,7 @@ pub fn edge_worker<
     ensures totals { IfOk result (λ o. length o.totals ≡ vec_len links.ports + 3) }
     ensures dropped { IfOk result (λ o. vec_len o.dropped ≡ vec_len links.ports + 1) }
 {
+    let (rt, alloc, peers) = (host.rt, host.alloc, host.peers);
     let count = links.ports.len() + 3;
     let bridge = bridge_of(&config);
     let dropped = Vec::with_capacity(alloc, links.ports.len() + 1)?;
@@ -219,9 +214,13 @@ pub fn edge_worker<
     };
     fresh.as_mut_slice().reverse();
     let book = Mutex::new(book);
-    let (passes, faults) = run_workers(
-        rt, gate, number, bridge, &book, &shared, peers, threads, fresh, peer,
-    );
+    let ready_threads = ReadyThreads {
+        threads,
+        fresh,
+        peer,
+        shared: &shared,
+    };
+    let (passes, faults) = run_workers(&host, bridge, &book, ready_threads);
     let (edge, totals) = book.into_inner().close(passes);
     let out_of_memory = shared.out_of_memory.load(Ordering::SeqCst) || peers.has_lost(rt);
     Ok(Outcome {

@@ -16,6 +16,17 @@ use std::sync::atomic::{AtomicBool, Ordering};
 use std::sync::ledger::Ledger;
 use std::thread::{JoinHandle, Scope, Threads};
 
+/// What the workers of an edge that enter events enter them into, give to, and share.
+#[derive(Drop)]
+pub(crate) struct Workplace<'x, L: Ledger, G, R> {
+    /// The edge.
+    pub(crate) shared_edge: SharedEdge<'x, L, G, R>,
+    /// Where they give what the edge's book answers.
+    pub(crate) outlet: Senders<'x, R>,
+    /// What all threads of the edge share.
+    pub(crate) shared: &'x Shared,
+}
+
 /// A worker that enters what its task says, unless there was no thread for it.
 fn enter_task<L: Ledger, I: LinkIn + Drop, G: Gate, R: Wait>(
     shared_edge: &SharedEdge<'_, L, G, R>,
@@ -89,15 +100,13 @@ pub(crate) fn start_entering<
     R: Wait + Sync + 'x,
 >(
     scope: &Scope<'s, &'x ()>,
-    shared_edge: &SharedEdge<'x, L, G, R>,
-    shared: &'x Shared,
-    outlet: &Senders<'x, R>,
+    workplace: &Workplace<'x, L, G, R>,
     tasks: Vec<Task<I>>,
     fresh: Vec<Pass<L>>,
     running: Vec<JoinHandle<Entered<L>>>,
     passes: Vec<Pass<L>>,
 ) -> (Vec<JoinHandle<Entered<L>>>, Vec<Pass<L>>, Faults)
-    requires words { vec_len tasks ≤ vec_len shared.now.no_entering }
+    requires words { vec_len tasks ≤ vec_len workplace.now.shared.now.no_entering }
     requires fresh { vec_len fresh ≡ vec_len tasks }
     requires running { vec_len running + vec_len tasks ≤ vec_capacity running }
     requires passes { vec_len passes + vec_len tasks + 1 ≤ vec_capacity passes }
@@ -105,13 +114,14 @@ pub(crate) fn start_entering<
         ≡ vec_len running + vec_len passes + vec_len tasks }
     ensures room { vec_capacity result.1 ≡ vec_capacity passes }
 {
+    let shared = workplace.shared;
     let mut fresh = fresh;
     let mut tasks = tasks;
     let mut running = running;
     let mut passes = passes;
     let mut faults = Faults::none();
     while let (Some(task), Some(pass)) = (tasks.pop(), fresh.pop()) {
-        let (shared_edge, outlet) = (shared_edge.again(), outlet.again());
+        let (shared_edge, outlet) = (workplace.shared_edge.again(), workplace.outlet.again());
         let is_refused = &shared.no_entering[tasks.len()];
         match scope.spawn(move || enter_alone(shared_edge, outlet, pass, task, is_refused)) {
             Ok(handle) => running.push_reserved(handle),
@@ -157,15 +167,13 @@ pub(crate) fn start_peer<
     R: Wait + Sync + 'x,
 >(
     scope: &Scope<'s, &'x ()>,
-    shared_edge: &SharedEdge<'x, L, G, R>,
-    shared: &'x Shared,
-    outlet: &Senders<'x, R>,
+    workplace: &Workplace<'x, L, G, R>,
     pass: Pass<L>,
 ) -> Result<JoinHandle<Entered<L>>, Entered<L>> {
-    let peers = outlet.peers;
+    let (shared_edge, outlet) = (workplace.shared_edge.again(), workplace.outlet.again());
+    let (rt, peers) = (shared_edge.rt, outlet.peers);
     let task: Task<I> = Task::Peer;
-    let (rt, shared_edge, outlet) = (shared_edge.rt, shared_edge.again(), outlet.again());
-    let is_refused = &shared.no_peer;
+    let is_refused = &workplace.shared.no_peer;
     match scope.spawn(move || enter_alone(shared_edge, outlet, pass, task, is_refused)) {
         Ok(handle) => Ok(handle),
         Err(no_thread) => {

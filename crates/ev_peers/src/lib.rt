@@ -20,7 +20,7 @@ mod shared_line;
 mod workers;
 
 pub use edge_links::{EdgeLinks, Link};
-pub use edge_threads::edge_worker;
+pub use edge_threads::{Host, edge_worker};
 pub use gate::{Gate, OpenGate, Point};
 pub use giving::give_out;
 pub use outcome::{Faults, Outcome};

@@ -4,12 +4,12 @@ ghost use Rattle.ev_edge.specs.Config.{IsConfig};
 ghost use Rattle.ev_peers.specs.EdgeThreads.{HasEdges, setup_of};
 
 use crate::edge_links::EdgeLinks;
-use crate::edge_threads::edge_worker;
+use crate::edge_threads::{Host, edge_worker};
 use crate::gate::Gate;
 use crate::outcome::Outcome;
 use ev_edge::EdgeConfig;
 use ev_links::{LinkIn, LinkOut};
-use ev_mailboxes::{Boards, Mailboxes, Peers, Running};
+use ev_mailboxes::{Boards, Mailboxes, Running};
 use std::alloc::{AllocError, Global};
 use std::marker::{Brand, Model};
 use std::sync::Wait;
@@ -69,18 +69,45 @@ fn workers_of<I: Drop, O: Drop>(setups: &[Setup<I, O>]) -> u32 {
     workers
 }
 
+/// What edges run over beside each other.
+#[derive(Drop)]
+struct Common<'x, G, R> {
+    /// What may wait, and starts threads.
+    rt: &'x R,
+    /// What gives memory.
+    alloc: Global,
+    /// Is told of each call of a book.
+    gate: &'x G,
+    /// What waits for each edge.
+    mailboxes: &'x Mailboxes,
+    /// What the operator is told.
+    boards: &'x Boards,
+}
+
+impl<'x, G, R> Common<'x, G, R> {
+    /// What the edge with this number runs over.
+    fn host(&self, number: usize) -> Host<'x, G, R> {
+        Host {
+            rt: self.rt,
+            alloc: self.alloc,
+            gate: self.gate,
+            number,
+            peers: self.mailboxes.seen_by(number, self.boards),
+        }
+    }
+}
+
 /// One edge, under a ledger of its own.
 fn run_one<
     I: LinkIn + Drop + Send,
     O: LinkOut + Drop + Send,
     G: Gate + Sync,
     R: Threads + Wait + Sync,
->(rt: &R, alloc: Global, number: usize, setup: Setup<I, O>, peers: Peers<'_>, gate: &G) -> Ran {
+>(host: Host<'_, G, R>, setup: Setup<I, O>) -> Ran {
     let Setup { config, links } = setup;
     let blank = Blank::new(links.ports.len() as u64 + 3);
-    let ran = edge_worker::<Brand, I, O, G, R>(
-        rt, alloc, blank, number, config, links, peers, gate,
-    );
+    let (rt, peers) = (host.rt, host.peers);
+    let ran = edge_worker::<Brand, I, O, G, R>(host, blank, config, links);
     peers.leave(rt);
     ran
 }
@@ -95,12 +122,8 @@ fn start_edges<
     R: Threads + Wait + Sync + 'x,
 >(
     scope: &Scope<'s, &'x ()>,
-    rt: &'x R,
-    alloc: Global,
+    common: &Common<'x, G, R>,
     setups: Vec<Setup<I, O>>,
-    mailboxes: &'x Mailboxes,
-    boards: &'x Boards,
-    gate: &'x G,
     running: Vec<Option<JoinHandle<Ran>>>,
 ) -> Vec<Option<JoinHandle<Ran>>>
     requires room { (vec_len running ≡ 0) × (vec_len setups ≤ vec_capacity running) }
@@ -109,12 +132,12 @@ fn start_edges<
     let mut setups = setups;
     let mut running = running;
     while let Some(setup) = setups.pop() {
-        let number = setups.len() + 1;
-        let peers = mailboxes.seen_by(number, boards);
-        let handle = match scope.spawn(move || run_one(rt, alloc, number, setup, peers, gate)) {
+        let host = common.host(setups.len() + 1);
+        let peers = host.peers;
+        let handle = match scope.spawn(move || run_one(host, setup)) {
             Ok(handle) => Some(handle),
             Err(_) => {
-                peers.leave(rt);
+                peers.leave(common.rt);
                 None
             }
         };
@@ -211,11 +234,7 @@ fn run_within<
     T,
 >(
     scope: &Scope<'s, &'x ()>,
-    rt: &'x R,
-    alloc: Global,
-    gate: &'x G,
-    mailboxes: &'x Mailboxes,
-    boards: &'x Boards,
+    common: &Common<'x, G, R>,
     ready: Ready<I, O>,
     until: F,
 ) -> (Vec<Ran>, T)
@@ -228,9 +247,9 @@ fn run_within<
         running,
         ended,
     } = ready;
-    let running = start_edges(scope, rt, alloc, setups, mailboxes, boards, gate, running);
-    let told = until(Running::new(mailboxes, boards));
-    (join_edges(rt, running, ended), told)
+    let running = start_edges(scope, common, setups, running);
+    let told = until(Running::new(common.mailboxes, common.boards));
+    (join_edges(common.rt, running, ended), told)
 }
 
 /// Runs the edges until `until` has returned and all their workers have ended.
@@ -242,26 +261,18 @@ fn run_ready<
     R: Threads + Wait + Sync + 'x,
     F: FnOnce(Running<'_>) -> T + Drop,
     T,
->(
-    rt: &'x R,
-    alloc: Global,
-    gate: &'x G,
-    mailboxes: &'x Mailboxes,
-    boards: &'x Boards,
-    ready: Ready<I, O>,
-    until: F,
-) -> (Vec<Ran>, T)
+>(common: Common<'x, G, R>, ready: Ready<I, O>, until: F) -> (Vec<Ran>, T)
     requires { F.IsAlwaysCallable until }
     ensures all { vec_len result.0 ≡ ready }
     ensures until { (running : _) × F.post until running result.1 }
 {
     thread::scope(
         thread::scope_env(),
-        rt,
+        common.rt,
         move |scope| -> (Vec<Ran>, T)
             requires { F.IsAlwaysCallable until }
             ensures { (vec_len result.0 ≡ ready) × ((running : _) × F.post until running result.1) }
-        { run_within(scope, rt, alloc, gate, mailboxes, boards, ready, until) },
+        { run_within(scope, &common, ready, until) },
     )
 }
 
@@ -283,7 +294,14 @@ pub fn run_all<
     ensures until { (running : _) × F.post until running result.1 }
 {
     let Start { ready, mailboxes } = start;
-    let ran = run_ready(rt, alloc, gate, &mailboxes, boards, ready, until);
+    let common = Common {
+        rt,
+        alloc,
+        gate,
+        mailboxes: &mailboxes,
+        boards,
+    };
+    let ran = run_ready(common, ready, until);
     boards.end(rt);
     ran
 }
