@@ -182,11 +182,7 @@ fn attend<R: Threads + Wait + Sync>(hall: &Hall<'_, R>, stream: &UnixStream) -> 
 }
 
 /// Attends to a client, and frees its seat.
-fn attend_seated<R: Threads + Wait + Sync>(
-    hall: &Hall<'_, R>,
-    stream: UnixStream,
-    place: usize,
-) {
+fn attend_seated<R: Threads + Wait + Sync>(hall: &Hall<'_, R>, stream: UnixStream, place: usize) {
     let _ = attend(hall, &stream);
     let _ = stream.shutdown(Shutdown::Both);
     hall.seats.lock(hall.rt).leave(place);

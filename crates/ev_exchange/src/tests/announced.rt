@@ -63,10 +63,8 @@ impl Announcing for Two {
 /// Whether octets are these records.
 fn are(octets: &[u8], records: &[[u8; 44]]) -> bool {
     octets.len() == 44 * records.len()
-        && records
-            .iter()
-            .enumerate()
-            .all(|(place, record)| octets[44 * place..44 * (place + 1)] == record[..])
+        && records.iter().enumerate().all(|(place, record)| octets[44 * place..44 * (place + 1)]
+            == record[..])
 }
 
 #[test]

@@ -72,6 +72,17 @@ push_back-requires c =
     let low = (at_get f.registers.items c.in-Some.node.now c.args.register (p.back c.args.register _ at)).0 in
     let fits = p.fits in
     let counted = p.counted in
-    let list = p.list in
-    (lit< tt, (lit< tt, (omega (arith, list), (omega (arith, low, fits, counted), off_lists f.links c.in-Some.node.now
-    c.list_of.result (c.is_none.ensures ∙ ap not c.if-is_none.true) c.list_of.ensures.off))))
+    let list = p.list in (
+      lit< tt,
+      (
+        lit< tt,
+        (
+          omega (arith, list),
+          (
+            omega (arith, low, fits, counted),
+            off_lists f.links c.in-Some.node.now
+                c.list_of.result (c.is_none.ensures ∙ ap not c.if-is_none.true) c.list_of.ensures.off,
+          ),
+        ),
+      ),
+    )
