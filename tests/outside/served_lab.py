@@ -15,7 +15,7 @@ import sys
 import tempfile
 import threading
 from concurrent.futures import ThreadPoolExecutor
-from typing import Any, Callable, Dict, Iterable, List, NamedTuple, Optional, Tuple
+from typing import Any, Callable, Dict, Iterable, List, NamedTuple, Optional, Set, Tuple
 
 HERE = os.path.dirname(os.path.abspath(__file__))
 TOP = os.path.dirname(os.path.dirname(HERE))
@@ -131,6 +131,15 @@ class Relay:
         self.child.kill(signal.SIGTERM)
 
 
+def numbers_of(told: Iterable[int]) -> Set[int]:
+    """The numbers of pings that were answered: ping tells them by their last 16 bits."""
+    numbers, last = set(), 0
+    for low in told:
+        last += (low - last + 0x8000) % 0x10000 - 0x8000
+        numbers.add(last)
+    return numbers
+
+
 class Pings:
     """Pings from a host to others, five a second if nothing else is said, until the end."""
 
@@ -156,7 +165,7 @@ class Pings:
             reader.join(PATIENCE)
         lost = 0
         for text in self.texts:
-            answered = {int(number) for number in re.findall(r"icmp_seq=([0-9]+) ttl", text)}
+            answered = numbers_of(int(number) for number in re.findall(r"icmp_seq=([0-9]+) ttl", text))
             sent = int(re.search(r"([0-9]+) packets transmitted", text)[1])
             lost += (max(answered) if answered else sent) - len(answered)
             self.sent += sent
