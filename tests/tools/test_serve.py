@@ -325,9 +325,8 @@ class Clients(Served):
         self.ends_well()
 
 
-@needs_program
-class Records(Served):
-    """Records that are exchanged with edges that run."""
+class Joined(Served):
+    """Edges that exchange records with clients."""
 
     def setUp(self) -> None:
         super().setUp()
@@ -348,6 +347,11 @@ class Records(Served):
         """An update as a line."""
         self.assertIsInstance(answer, Update)
         return line_of(answer)
+
+
+@needs_program
+class Records(Joined):
+    """Records that are exchanged with edges that run."""
 
     def pinned(self, number: int, mac: str) -> str:
         """The record's line of a station that an edge pins, which has announced two things before."""
@@ -397,6 +401,25 @@ class Records(Served):
         self.assertEqual(len(held), SEATS - 1)
         self.ends_well(FLOODS + learnt(1, ONE, 2))
 
+    def seated_records(self) -> Client:
+        """A client that exchanges records and reads nothing; again where those that have just gone still have their seats."""
+        for _ in range(100):
+            client = self.client().send(b"records\n")
+            with contextlib.suppress(OSError):
+                if client.socket.recv(44, socket.MSG_WAITALL | socket.MSG_PEEK)[:2] == b"EV":
+                    return client
+            time.sleep(0.05)
+        raise AssertionError("busy for five seconds")
+
+
+@needs_program
+class Deaf(Joined):
+    """One that records are told to and that doesn't read them, at edges that learn more stations than its socket has room for."""
+
+    def text(self) -> str:
+        """The configuration, with room for as many stations as an edge may have."""
+        return super().text().replace("bridge = ", "capacity = 65536\nbridge = ")
+
     def test_peer_that_does_not_read(self) -> None:
         """Stations speak until no more of them can be told it: it is cut off, while frames go on and another one hears all the time."""
         deaf, hears = self.joined(), self.joined()
@@ -421,16 +444,6 @@ class Records(Served):
         if select.select([client.socket], [], [], 0)[0]:
             return client.socket.recv(65535)
         return before
-
-    def seated_records(self) -> Client:
-        """A client that exchanges records and reads nothing; again where those that have just gone still have their seats."""
-        for _ in range(100):
-            client = self.client().send(b"records\n")
-            with contextlib.suppress(OSError):
-                if client.socket.recv(44, socket.MSG_WAITALL | socket.MSG_PEEK)[:2] == b"EV":
-                    return client
-            time.sleep(0.05)
-        raise AssertionError("busy for five seconds")
 
 
 @needs_program
