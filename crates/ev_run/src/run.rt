@@ -225,22 +225,32 @@ fn tell_meanwhile<R: Wait, N: Out>(rt: &R, boards: &Boards, notes: &mut N) -> Re
 /// What a run of edges comes to: each of them, and whether the input was read up to its end.
 type Reached = (Vec<Result<Outcome, AllocError>>, bool);
 
+/// What edges run over.
+#[derive(Drop)]
+pub(crate) struct Host<'x, R> {
+    /// What may wait, starts threads and has sockets and a clock.
+    pub(crate) rt: &'x R,
+    /// What gives memory.
+    pub(crate) alloc: Global,
+    /// The socket whose clients may ask the edges, if there is one.
+    pub(crate) control: Option<&'x ControlSocket>,
+}
+
 /// Runs edges until the reader ends, and stops them then. Clients of a socket may ask them
 /// meanwhile.
 fn run_reading<'x, R: Threads + Wait + Clock + Sync, E: In>(
-    rt: &'x R,
-    alloc: Global,
+    host: &Host<'x, R>,
     start: Start<Wire<'x, R>, UdpOut<'x>>,
     boards: &Boards,
     sockets: &'x [Sockets],
     stop: &'x AtomicBool,
-    control: Option<&ControlSocket>,
     reader: &mut E,
 ) -> Reached
     requires { Allows (2 ^ 40) (E.end reader.old) }
     ensures all { vec_len result.0 ≡ start.entry }
     ensures read { ReadsOut (E.end reader.old) (E.end reader.new) result.1 }
 {
+    let (rt, alloc, control) = (host.rt, host.alloc, host.control);
     // The reader comes back from the closure: by its name it is known to be this one.
     let (ended, (is_read, _reader)) = run_all(
         rt,
@@ -269,11 +279,9 @@ fn run_reading<'x, R: Threads + Wait + Clock + Sync, E: In>(
 ///
 /// Where memory is refused before an edge has begun.
 fn run_bound<R: Threads + Wait + Clock + Sync, E: In, W: Out, N: Out + Send>(
-    rt: &R,
-    alloc: Global,
+    host: &Host<'_, R>,
     configs: Vec<EdgeConfig>,
     sockets: &[Sockets],
-    control: Option<&ControlSocket>,
     reader: &mut E,
     out: &mut W,
     notes: &mut N,
@@ -290,6 +298,7 @@ fn run_bound<R: Threads + Wait + Clock + Sync, E: In, W: Out, N: Out + Send>(
     ensures out { OnErr result (W.end out.new ≡ W.end out.old) }
     ensures notes { OnErr result (N.end notes.new ≡ N.end notes.old) }
 {
+    let (rt, alloc) = (host.rt, host.alloc);
     let stop = AtomicBool::new(false);
     let setups = all_ready(rt, alloc, configs, sockets, &stop)?;
     let boards = Boards::new(alloc, setups.len())?;
@@ -311,16 +320,7 @@ fn run_bound<R: Threads + Wait + Clock + Sync, E: In, W: Out, N: Out + Send>(
             ensures all { vec_len result.0.0 ≡ start.entry }
             ensures read { ReadsOut (E.end reader.entry.now) (E.end result.1.now) result.0.1 }
         {
-            let reached = run_reading(
-                rt,
-                alloc,
-                start,
-                &boards,
-                sockets,
-                &stop,
-                control,
-                &mut *reader,
-            );
+            let reached = run_reading(host, start, &boards, sockets, &stop, &mut *reader);
             (reached, reader)
         },
     );
@@ -344,10 +344,8 @@ fn tell_start_error<N: Out>(start_error: StartError, notes: &mut N) -> u8
 
 /// `run_edges`, with a socket whose clients may ask the edges meanwhile, or without.
 pub(crate) fn run_asked<R: Threads + Wait + Net + Clock + Sync, E: In, W: Out, N: Out + Send>(
-    rt: &R,
-    alloc: Global,
+    host: &Host<'_, R>,
     config: Config,
-    control: Option<&ControlSocket>,
     reader: &mut E,
     out: &mut W,
     notes: &mut N,
@@ -360,21 +358,12 @@ pub(crate) fn run_asked<R: Threads + Wait + Net + Clock + Sync, E: In, W: Out, N
         (devices (E.end reader.old) (W.end out.old) (N.end notes.old))
         (devices (E.end reader.new) (W.end out.new) (N.end notes.new)) result }
 {
-    let sockets = match bind_all(rt, alloc, &config, TUNNELS) {
+    let sockets = match bind_all(host.rt, host.alloc, &config, TUNNELS) {
         Ok(sockets) => sockets,
         Err(start_error) => return tell_start_error(start_error, notes),
     };
     let Config { edges, links: _ } = config;
-    match run_bound(
-        rt,
-        alloc,
-        edges,
-        sockets.as_slice(),
-        control,
-        reader,
-        out,
-        notes,
-    ) {
+    match run_bound(host, edges, sockets.as_slice(), reader, out, notes) {
         Ok(status) => status,
         Err(_) => MEMORY,
     }
@@ -404,7 +393,12 @@ pub fn run_edges<R: Threads + Wait + Net + Clock + Sync, E: In, W: Out, N: Out +
         (devices (E.end reader.old) (W.end out.old) (N.end notes.old))
         (devices (E.end reader.new) (W.end out.new) (N.end notes.new)) result }
 {
-    run_asked(rt, alloc, config, None, reader, out, notes)
+    let host = Host {
+        rt,
+        alloc,
+        control: None,
+    };
+    run_asked(&host, config, reader, out, notes)
 }
 
 /// `run_edges` with few and large writes: it takes the devices, and gives them back.

@@ -6,7 +6,7 @@ ghost use Rattle.ev_report.specs.Ends.{AreOpen, devices};
 ghost use Rattle.ev_run.specs.Serving.{TellsListenError, ServesEdges};
 
 use crate::control_socket::{ControlSocket, ListenError, put_listen_error};
-use crate::run::run_asked;
+use crate::run::{Host, run_asked};
 use ether_wire::{In, Out};
 use ev_config::Config;
 use ev_report::{Buffers, DEVICE, Devices};
@@ -54,7 +54,12 @@ pub fn serve_edges<R: Threads + Wait + Net + Files + Clock + Sync, E: In, W: Out
         Ok(socket) => socket,
         Err(why) => return tell_listen_error(control, why, notes),
     };
-    let status = run_asked(rt, alloc, config, Some(&socket), reader, out, notes);
+    let host = Host {
+        rt,
+        alloc,
+        control: Some(&socket),
+    };
+    let status = run_asked(&host, config, reader, out, notes);
     socket.remove(rt, control);
     status
 }
