@@ -6,7 +6,6 @@ mod laws;
 mod local_routes;
 mod opening;
 mod pending;
-mod register_key;
 mod speaker;
 #[cfg(test)]
 mod tests;

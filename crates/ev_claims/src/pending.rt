@@ -3,9 +3,8 @@ ghost use Rattle.std.specs.Prelude.{◌≡◌, ◌++◌, ◌∷◌, [], ℕ, ◌
 ghost use Rattle.idx_links.specs.Families.{lists_of};
 ghost use Rattle.ev_claims.specs.Pending.{marked};
 
-use crate::register_key::RegisterKey;
 use idx_links::Family;
-use route_join::Salted;
+use route_join::{RegisterKey, Salted};
 use route_wire::Register;
 use std::alloc::{AllocError, Global};
 use std::collections::HashMap;

@@ -25,6 +25,7 @@ pub use laws::{
     one_table, one_taken, others_stay, owner_along, owner_is, same_owner, updates_of_are,
 };
 pub use owner::{advert_in, is_better};
+pub use register_key::RegisterKey;
 pub use salt::Salted;
 pub use table::{Table, TakeError, Taken, Unmerged};
 pub use updates::{Updates, UpdatesOf};

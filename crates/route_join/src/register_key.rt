@@ -1,13 +1,13 @@
-//! A register as a tree keeps it: contracts see the register itself.
+//! A register as lists and maps keep it: contracts see the register itself.
 ghost use Rattle.std.specs.Prelude.{◌≡◌, refl, Some};
 
 use route_wire::Register;
 use std::cmp::Ordering;
 use std::marker::Model;
 
-/// A register that is kept in a tree.
-#[derive(Clone, Copy, PartialEq, Eq)]
-pub(crate) struct RegisterKey {
+/// A register that is kept in lists and maps.
+#[derive(Clone, Copy, PartialEq, Eq, Hash)]
+pub struct RegisterKey {
     register: Register,
 }
 
@@ -23,10 +23,17 @@ impl Model for RegisterKey {
 
 impl RegisterKey {
     /// The register, to be kept.
-    pub(crate) fn new(register: Register) -> Self
+    pub fn new(register: Register) -> Self
         ensures { result ≡ register }
     {
         RegisterKey { register }
+    }
+
+    /// The register that is kept.
+    pub fn register(&self) -> Register
+        ensures { result ≡ self.now }
+    {
+        self.register
     }
 }
 
