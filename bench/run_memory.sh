@@ -15,11 +15,12 @@ rustc --edition 2024 -C opt-level=3 -o "$work/plain" bench/run_memory/plain.rs
 
 # The copy takes along what earlier checks kept, where they did. The driver's files end in .txt here, since the gate stops
 # at a Rattle file that is in none of the repository's crates.
+below() { sed -n "s/^$1\( [^:]*\)\{0,1\}: //p" crates.txt; }
 build() {
   local copy=$work/copy crate
   mkdir -p "$copy/crates"
   cp HANDLES "$copy/"
-  for crate in $(sed -n 's/^ev_edge: //p' crates.txt) ev_edge ev_view ev_book ev_links ev_notices ev_mailboxes ev_peers; do
+  for crate in $(for one in ev_peers $(below ev_peers); do echo "$one" "$(below "$one")"; done | tr ' ' '\n' | sort -u); do
     [ -d "crates/$crate" ] || continue
     cp -a "crates/$crate" "$copy/crates/"
     grep -E "^$crate( [^:]*)?:" crates.txt >> "$copy/crates.txt"
