@@ -1,3 +1,4 @@
+pub mod Backlogs
 pub mod Behind
 pub mod Coming
 pub mod Lines

@@ -40,70 +40,53 @@ fit_put [] h fit one = (one, tt)
 fit_put (g ∷ heads) h fit one = (fit.0, fit_put heads h fit.1 one)
 
 -- one frame more
-pub line_put : (heads : List Head) (octets : List ℕ) (start places1 places2 places3 : ℕ) (moved : List ℕ) (start' : ℕ)
-    (h : Head) (more : List ℕ) (places2' : ℕ) → IsLine heads octets start places1 places2 places3
-    → drop start' moved ≡ drop start octets → start' ≤ length moved → h.size ≡ length more → h.size ≤ 9026
-    → places2 ≤ places2' → IsLine (heads ++ h ∷ []) (moved ++ more) start' places1 places2' places3
-line_put heads octets start p1 p2 p3 moved start' h more p2' line same within size fits wide =
-    let was = length-drop start octets in
-    let is = ap length (sym same) ∙ length-drop start' moved in
-    let long = length-append moved more in
+pub line_put : (heads : List Head) (octets : List ℕ) (places1 places2 : ℕ) (h : Head) (more : List ℕ)
+    → IsLine heads octets places1 places2 → h.size ≡ length more → h.size ≤ 9026
+    → IsLine (heads ++ h ∷ []) (octets ++ more) places1 places2
+line_put heads octets p1 p2 h more line size fits =
+    let long = length-append octets more in
     let one = sizes_put heads h in
     let all = line.all in
-    let for_octets = line.for_octets in
     record {
-      within = omega (arith, within, long);
-      all = omega (arith, was, is, long, one, all, size, within);
+      all = omega (arith, long, one, all, size);
       fit = fit_put heads h line.fit fits;
       for_heads = line.for_heads;
-      for_octets = omega (arith, for_octets, wide);
       for_bpdus = line.for_bpdus;
     }
 
 -- without the first one
-pub line_left : (h : Head) (heads : List Head) (octets : List ℕ) (start places1 places2 places3 : ℕ)
-    → IsLine (h ∷ heads) octets start places1 places2 places3
-    → IsLine heads octets (start + h.size) places1 places2 places3
-line_left h heads octets start p1 p2 p3 line =
+pub line_left : (h : Head) (heads : List Head) (octets : List ℕ) (places1 places2 : ℕ)
+    → IsLine (h ∷ heads) octets places1 places2 → IsLine heads (drop h.size octets) places1 places2
+line_left h heads octets p1 p2 line =
     let all = line.all in
-    let within = line.within in
+    let left = length-drop h.size octets in
     record {
-      within = omega (arith, all, within);
-      all = omega (arith, all, within);
+      all = omega (arith, all, left);
       fit = line.fit.1;
       for_heads = line.for_heads;
-      for_octets = line.for_octets;
       for_bpdus = line.for_bpdus;
     }
 
 -- what a frame that is put leaves, where there is room for it
-pub put_view : (bpdus : List (List ℕ)) (heads heads' : List Head) (octets octets' : List ℕ) (start start' dropped : ℕ)
-    (ended : Bool) (to : ℕ) (more : List ℕ) (h : Head) (frames waiting : ℕ) → sizes heads ≡ length octets - start
-    → heads' ≡ heads ++ h ∷ [] → h.to ≡ to → h.size ≡ length more → drop start' octets' ≡ drop start octets ++ more
-    → frames ≡ length heads → waiting ≡ length octets - start
+pub put_view : (bpdus : List (List ℕ)) (heads : List Head) (octets : List ℕ) (dropped : ℕ) (ended : Bool) (to : ℕ)
+    (more : List ℕ) (h : Head) (frames waiting : ℕ) → sizes heads ≡ length octets → h.to ≡ to → h.size ≡ length more
+    → frames ≡ length heads → waiting ≡ length octets
     → (nat_le (length more) 9026 && nat_lt frames 1024 && nat_le (waiting + length more) 262144) ≡ true
-    → waiting_of bpdus (cut heads' (drop start' octets')) dropped ended
-    ≡ after_frame (packet to more) (waiting_of bpdus (cut heads (drop start octets)) dropped ended)
-put_view bpdus heads heads' octets octets' start start' dropped ended to more h frames waiting all e to_is size moved
-    many long room =
-    let left = length-drop start octets in
-    let e' : sizes heads ≡ length (drop start octets) = omega (arith, all, left) in
-    let count : length (cut heads (drop start octets)) ≡ frames = cut_length heads (drop start octets) ∙ sym many in
-    let octets_are : octets_of (cut heads (drop start octets)) ≡ waiting = cut_octets heads (drop start octets) e' ∙ all
-    ∙ sym long in
-    rw (count, octets_are, room, e, moved, cut_put heads h (drop start octets) more e' size, to_is) refl
+    → waiting_of bpdus (cut (heads ++ h ∷ []) (octets ++ more)) dropped ended
+    ≡ after_frame (packet to more) (waiting_of bpdus (cut heads octets) dropped ended)
+put_view bpdus heads octets dropped ended to more h frames waiting all to_is size many long room =
+    let count : length (cut heads octets) ≡ frames = cut_length heads octets ∙ sym many in
+    let octets_are : octets_of (cut heads octets) ≡ waiting = cut_octets heads octets all ∙ all ∙ sym long in
+    rw (count, octets_are, room, cut_put heads h octets more all size, to_is) refl
 
 -- and where there is none
-pub dropped_view : (bpdus : List (List ℕ)) (heads : List Head) (octets : List ℕ) (start dropped dropped' : ℕ)
-    (ended : Bool) (to : ℕ) (more : List ℕ) (frames waiting : ℕ) → sizes heads ≡ length octets - start
-    → dropped' ≡ min (dropped + 1) (2 ^ 64 - 1) → frames ≡ length heads → waiting ≡ length octets - start
+pub dropped_view : (bpdus : List (List ℕ)) (heads : List Head) (octets : List ℕ) (dropped dropped' : ℕ) (ended : Bool)
+    (to : ℕ) (more : List ℕ) (frames waiting : ℕ) → sizes heads ≡ length octets
+    → dropped' ≡ min (dropped + 1) (2 ^ 64 - 1) → frames ≡ length heads → waiting ≡ length octets
     → (nat_le (length more) 9026 && nat_lt frames 1024 && nat_le (waiting + length more) 262144) ≡ false
-    → waiting_of bpdus (cut heads (drop start octets)) dropped' ended
-    ≡ after_frame (packet to more) (waiting_of bpdus (cut heads (drop start octets)) dropped ended)
-dropped_view bpdus heads octets start dropped dropped' ended to more frames waiting all e many long room =
-    let left = length-drop start octets in
-    let e' : sizes heads ≡ length (drop start octets) = omega (arith, all, left) in
-    let count : length (cut heads (drop start octets)) ≡ frames = cut_length heads (drop start octets) ∙ sym many in
-    let octets_are : octets_of (cut heads (drop start octets)) ≡ waiting = cut_octets heads (drop start octets) e' ∙ all
-    ∙ sym long in
+    → waiting_of bpdus (cut heads octets) dropped' ended
+    ≡ after_frame (packet to more) (waiting_of bpdus (cut heads octets) dropped ended)
+dropped_view bpdus heads octets dropped dropped' ended to more frames waiting all e many long room =
+    let count : length (cut heads octets) ≡ frames = cut_length heads octets ∙ sym many in
+    let octets_are : octets_of (cut heads octets) ≡ waiting = cut_octets heads octets all ∙ all ∙ sym long in
     rw (count, octets_are, room, e) refl

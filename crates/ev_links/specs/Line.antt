@@ -97,11 +97,9 @@ abbrev pub NoneTooLong : List Head → Type 0
 NoneTooLong [] = Unit
 NoneTooLong (h ∷ heads) = (h.size ≤ 9026) × NoneTooLong heads
 
--- The heads are those of the octets from `start` on, none is too long, and there is place for as much as may wait.
-pub record IsLine (heads : List Head) (octets : List ℕ) (start heads_place octets_place bpdus_place : ℕ) : Type 0 where
-  pub within : start ≤ length octets
-  pub all : sizes heads ≡ length octets - start
+-- The heads are those of the octets, and none is too long.
+pub record IsLine (heads : List Head) (octets : List ℕ) (heads_place bpdus_place : ℕ) : Type 0 where
+  pub all : sizes heads ≡ length octets
   pub fit : NoneTooLong heads
   pub for_heads : heads_place ≡ 1024
-  pub for_octets : 524288 ≤ octets_place
   pub for_bpdus : bpdus_place ≡ 16

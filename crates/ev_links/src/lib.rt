@@ -2,6 +2,7 @@
 //! the lines on which they wait to be sent.
 #![tactic(auto)]
 
+mod backlog;
 mod channels;
 mod fail_at;
 mod line;
