@@ -7,10 +7,12 @@ ghost use Rattle.ev_book.specs.Entering.{answered};
 ghost use Rattle.ev_peers.specs.Control.{event_of, Obeys, ShowsTable, ShowsPort, ShowsServed, ShowsView, Shows, Looked, Fulfils, Answers};
 
 use crate::gate::Gate;
+use crate::giving::Carried;
 use crate::outlet::Outlet;
-use crate::shared_edge::{Scratch, SharedEdge};
+use crate::shared_edge::SharedEdge;
+use crate::worker::Worker;
 use ether_wire::Vni;
-use ev_book::{Book, BookRefusal, Pass};
+use ev_book::{Book, BookRefusal};
 use ev_edge::{Edge, Event, Reply};
 use ev_mailboxes::{Answer, Command, PortView, Reading, Request, Served};
 use ev_view::EdgeQuestion;
@@ -46,21 +48,19 @@ fn event_of(command: &Command) -> Event<'static>
 }
 
 /// Enters a step, and passes on what it gives out, as any event.
-fn obey<L: Ledger, O: Outlet, G: Gate, R: Wait>(
-    shared_edge: &SharedEdge<'_, L, G, R>,
-    pass: &mut Pass<L>,
-    outlet: &mut O,
-    scratch: &mut Scratch,
+fn obey<L: Ledger, O: Outlet + Drop, G: Gate, R: Wait>(
+    worker: &mut Worker<'_, L, O, G, R>,
     command: &Command,
 ) -> Result<Reply, BookRefusal>
-    ensures { Obeys shared_edge.now.bridge command.now result
-        pass.old (O.parcels outlet.old) (O.records outlet.old)
-        pass.new (O.parcels outlet.new) (O.records outlet.new) }
+    ensures obeys { Obeys worker.old.shared_edge.now.bridge command.now result
+        worker.old.pass (O.parcels worker.old.outlet) (O.records worker.old.outlet)
+        worker.new.pass (O.parcels worker.new.outlet) (O.records worker.new.outlet) }
+    ensures stays { worker.new.shared_edge ≡ worker.old.shared_edge }
 {
     let event = event_of(command);
-    let answer = shared_edge.give(pass, outlet, scratch, &event, Vni::new(0), &[]);
-    let answer = replied(answer, &mut scratch.reply);
-    shared_edge.announce(pass, outlet, &mut scratch.reply);
+    let answer = worker.give(&event, &Carried::none());
+    let answer = replied(answer, &mut worker.scratch.reply);
+    worker.announce();
     answer
 }
 
@@ -154,37 +154,31 @@ fn look<L: Ledger, G: Gate, R: Wait>(
 }
 
 /// Does what is asked for.
-fn fulfil<L: Ledger, O: Outlet, G: Gate, R: Wait>(
-    shared_edge: &SharedEdge<'_, L, G, R>,
-    pass: &mut Pass<L>,
-    outlet: &mut O,
-    scratch: &mut Scratch,
+fn fulfil<L: Ledger, O: Outlet + Drop, G: Gate, R: Wait>(
+    worker: &mut Worker<'_, L, O, G, R>,
     request: &Request,
 ) -> Answer
-    ensures { Fulfils shared_edge.now.bridge request.now result
-        pass.old (O.parcels outlet.old) (O.records outlet.old)
-        pass.new (O.parcels outlet.new) (O.records outlet.new) }
+    ensures fulfils { Fulfils worker.old.shared_edge.now.bridge request.now result
+        worker.old.pass (O.parcels worker.old.outlet) (O.records worker.old.outlet)
+        worker.new.pass (O.parcels worker.new.outlet) (O.records worker.new.outlet) }
+    ensures stays { worker.new.shared_edge ≡ worker.old.shared_edge }
 {
     match request {
-        Request::Enter(command) => {
-            Answer::Entered(obey(shared_edge, pass, outlet, scratch, command))
-        }
-        Request::Read(reading) => look(shared_edge, reading),
+        Request::Enter(command) => Answer::Entered(obey(worker, command)),
+        Request::Read(reading) => look(worker.shared_edge, reading),
     }
 }
 
 /// Does what is asked for, and answers.
-pub(crate) fn answer<L: Ledger, O: Outlet, G: Gate, R: Wait>(
-    shared_edge: &SharedEdge<'_, L, G, R>,
-    pass: &mut Pass<L>,
-    outlet: &mut O,
-    scratch: &mut Scratch,
+pub(crate) fn answer<L: Ledger, O: Outlet + Drop, G: Gate, R: Wait>(
+    worker: &mut Worker<'_, L, O, G, R>,
     request: &Request,
 )
-    ensures { Answers shared_edge.now.bridge request.now
-        pass.old (O.parcels outlet.old) (O.records outlet.old)
-        pass.new (O.parcels outlet.new) (O.records outlet.new) }
+    ensures answers { Answers worker.old.shared_edge.now.bridge request.now
+        worker.old.pass (O.parcels worker.old.outlet) (O.records worker.old.outlet)
+        worker.new.pass (O.parcels worker.new.outlet) (O.records worker.new.outlet) }
+    ensures stays { worker.new.shared_edge ≡ worker.old.shared_edge }
 {
-    let answer = fulfil(shared_edge, pass, outlet, scratch, request);
-    outlet.answer(answer);
+    let answer = fulfil(worker, request);
+    worker.outlet.answer(answer);
 }

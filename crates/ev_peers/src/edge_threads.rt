@@ -32,16 +32,16 @@ fn bridge_of(config: &EdgeConfig) -> Mac {
 /// What the workers of an edge begin with, ready to run. It is seen as how many
 /// passes the tasks have.
 #[derive(Drop)]
-struct ReadyThreads<'x, L: Ledger, I: Drop, O: Drop> {
+struct ReadyThreads<'x, L: Ledger, I: Drop, O: Drop, G, R> {
     threads: EdgeThreads<L, I, O>,
     /// The passes of the tasks, the last task's first.
     fresh: Vec<Pass<L>>,
     /// The pass of the worker of other edges' records.
     peer: Pass<L>,
-    shared: &'x Shared,
+    workplace: &'x Workplace<'x, L, G, R>,
 }
 
-impl<'x, L: Ledger, I: Drop, O: Drop> Model for ReadyThreads<'x, L, I, O> {
+impl<'x, L: Ledger, I: Drop, O: Drop, G, R> Model for ReadyThreads<'x, L, I, O, G, R> {
     ghost use Rattle.std.specs.Prelude.{ℕ, vec_len, vec_capacity};
     ghost use Rattle.ev_peers.specs.EdgeThreads.{IsReady};
 
@@ -50,10 +50,12 @@ impl<'x, L: Ledger, I: Drop, O: Drop> Model for ReadyThreads<'x, L, I, O> {
     ghost view = { λ l. vec_len l.fresh };
 
     ghost invariant = { λ l. IsReady (vec_len l.threads.tasks) (vec_len l.threads.outputs)
-        (vec_len l.threads.entering) (vec_capacity l.threads.entering) (vec_len l.threads.sending)
-        (vec_capacity l.threads.sending) (vec_len l.threads.passes) (vec_capacity l.threads.passes)
-        (vec_len l.shared.now.no_entering) (vec_len l.shared.now.no_sending)
-        (vec_len l.shared.now.lines) (vec_len l.fresh) };
+        (vec_len l.threads.entering.running) (vec_capacity l.threads.entering.running)
+        (vec_len l.threads.sending) (vec_capacity l.threads.sending)
+        (vec_len l.threads.entering.passes) (vec_capacity l.threads.entering.passes)
+        (vec_len l.workplace.now.shared.now.no_entering)
+        (vec_len l.workplace.now.shared.now.no_sending)
+        (vec_len l.workplace.now.shared.now.lines) (vec_len l.fresh) };
 }
 
 /// Starts the workers of an edge, each on a thread, waits until they have ended, and gives all
@@ -69,9 +71,7 @@ fn run_within<
     R: Threads + Wait + Sync + 'x,
 >(
     scope: &Scope<'s, &'x ()>,
-    shared_edge: &SharedEdge<'x, L, G, R>,
-    outlet: &Senders<'x, R>,
-    ready_threads: ReadyThreads<'x, L, I, O>,
+    ready_threads: ReadyThreads<'x, L, I, O, G, R>,
 ) -> (Vec<Pass<L>>, Faults)
     ensures { vec_len result.0 ≡ ready_threads.entry + 1 }
 {
@@ -79,29 +79,19 @@ fn run_within<
         threads,
         fresh,
         peer,
-        shared,
+        workplace,
     } = ready_threads;
     let EdgeThreads {
         tasks,
         outputs,
         entering,
         sending,
-        passes,
     } = threads;
-    let rt = shared_edge.rt;
-    let lines = shared.lines.as_slice();
-    let words = shared.no_sending.as_slice();
-    let (sending, no_sent) = start_sending(scope, rt, lines, words, outputs, sending);
-    let workplace = Workplace {
-        shared_edge: shared_edge.again(),
-        outlet: outlet.again(),
-        shared,
-    };
-    let peer = start_peer::<L, I, G, R>(scope, &workplace, peer);
-    let (entering, passes, begun) = start_entering(
-        scope, &workplace, tasks, fresh, entering, passes,
-    );
-    let (mut passes, entered) = join_entering(rt, entering, passes);
+    let (rt, outlet) = (workplace.shared_edge.rt, &workplace.outlet);
+    let (sending, no_sent) = start_sending(scope, rt, workplace.shared, outputs, sending);
+    let peer = start_peer::<L, I, G, R>(scope, workplace, peer);
+    let (entering, begun) = start_entering(scope, workplace, tasks, fresh, entering);
+    let (mut passes, entered) = join_entering(rt, entering);
     outlet.peers.end(rt);
     let (pass, ended) = match peer {
         Ok(handle) => handle.join(rt),
@@ -131,6 +121,35 @@ pub struct Host<'x, G, R> {
     pub peers: Peers<'x>,
 }
 
+/// What the workers of an edge enter into its book, give to, and share.
+fn workplace_of<'x, L: Ledger, G, R>(
+    host: &Host<'x, G, R>,
+    bridge: Mac,
+    book: &'x Mutex<Book<L>>,
+    shared: &'x Shared,
+) -> Workplace<'x, L, G, R>
+    ensures { result.shared.now ≡ shared.now }
+{
+    let shared_edge = SharedEdge {
+        rt: host.rt,
+        book,
+        gate: host.gate,
+        edge: host.number,
+        bridge,
+        out_of_memory: &shared.out_of_memory,
+    };
+    let outlet = Senders {
+        rt: host.rt,
+        lines: shared.lines.as_slice(),
+        peers: host.peers,
+    };
+    Workplace {
+        shared_edge,
+        outlet,
+        shared,
+    }
+}
+
 /// Runs the workers of an edge over its book.
 fn run_workers<
     'x,
@@ -139,36 +158,15 @@ fn run_workers<
     O: LinkOut + Drop + Send + 'x,
     G: Gate + Sync + 'x,
     R: Threads + Wait + Sync + 'x,
->(
-    host: &'x Host<'x, G, R>,
-    bridge: Mac,
-    book: &'x Mutex<Book<L>>,
-    ready_threads: ReadyThreads<'x, L, I, O>,
-) -> (Vec<Pass<L>>, Faults)
+>(rt: &'x R, ready_threads: ReadyThreads<'x, L, I, O, G, R>) -> (Vec<Pass<L>>, Faults)
     ensures { vec_len result.0 ≡ ready_threads.entry + 1 }
 {
-    let (rt, shared) = (host.rt, ready_threads.shared);
     thread::scope(
         thread::scope_env(),
         rt,
         move |scope| -> (Vec<Pass<L>>, Faults)
             ensures { vec_len result.0 ≡ ready_threads.entry + 1 }
-        {
-            let shared_edge = SharedEdge {
-                rt,
-                book,
-                gate: host.gate,
-                edge: host.number,
-                bridge,
-                out_of_memory: &shared.out_of_memory,
-            };
-            let outlet = Senders {
-                rt,
-                lines: shared.lines.as_slice(),
-                peers: host.peers,
-            };
-            run_within(scope, &shared_edge, &outlet, ready_threads)
-        },
+        { run_within(scope, ready_threads) },
     )
 }
 
@@ -214,13 +212,14 @@ pub fn edge_worker<
     };
     fresh.as_mut_slice().reverse();
     let book = Mutex::new(book);
+    let workplace = workplace_of(&host, bridge, &book, &shared);
     let ready_threads = ReadyThreads {
         threads,
         fresh,
         peer,
-        shared: &shared,
+        workplace: &workplace,
     };
-    let (passes, faults) = run_workers(&host, bridge, &book, ready_threads);
+    let (passes, faults) = run_workers(rt, ready_threads);
     let (edge, totals) = book.into_inner().close(passes);
     let out_of_memory = shared.out_of_memory.load(Ordering::SeqCst) || peers.has_lost(rt);
     Ok(Outcome {

@@ -1,5 +1,5 @@
 //! What a reply gives to the links of its edge.
-ghost use Rattle.std.specs.Prelude.{◌≡◌, ◌≤◌, Some, map, length};
+ghost use Rattle.std.specs.Prelude.{◌≡◌, ◌≤◌, [], Some, map, length};
 ghost use Rattle.ether_wire.specs.Ports.{ports_of};
 ghost use Rattle.ev_peers.specs.Giving.{bpdu_parcel, to_ports, to_edges, decided, parcels_of};
 ghost use Rattle.ev_links.specs.Coming.{behind};
@@ -9,6 +9,28 @@ use bpdu_wire::{Bpdu, write};
 use ether_wire::{Addr, Mac, Vni, next_port, write_bpdu_frame};
 use ev_edge::Reply;
 use ev_tunnel::{Decision, wrap};
+
+/// What an event carries: a frame of a network, of at most 9,018 octets, or none.
+#[derive(Clone, Copy)]
+pub struct Carried<'a> {
+    /// The network.
+    pub vni: Vni,
+    /// The frame.
+    pub frame: &'a [u8],
+}
+
+impl Carried<'_> {
+    /// No frame, and so no network.
+    pub(crate) fn none() -> Self
+        ensures vni { result.vni ≡ 0 }
+        ensures frame { result.frame.now ≡ [] }
+    {
+        Carried {
+            vni: Vni::new(0),
+            frame: &[],
+        }
+    }
+}
 
 /// Gives each BPDU to its port, before frames, in a frame from this bridge.
 fn give_bpdus<O: Outlet>(outlet: &mut O, bridge: Mac, bpdus: &[(u8, Bpdu)])
@@ -51,43 +73,41 @@ fn give_edges<O: Outlet>(outlet: &mut O, edges: &[Addr], datagram: &[u8])
 /// Gives a frame where it was decided to go: to the ports as it is, to the edges in a datagram.
 fn give_decided<O: Outlet>(
     outlet: &mut O,
-    scratch: &mut [u8; 9026],
-    vni: Vni,
-    frame: &[u8],
+    datagram: &mut [u8; 9026],
+    carried: &Carried<'_>,
     decision: &Decision,
 )
-    requires { length frame.now ≤ 9018 }
-    ensures frames { O.parcels outlet.new
-        ≡ behind (O.parcels outlet.old) (decided vni frame.now (Some decision.now)) }
+    requires { length carried.now.frame.now ≤ 9018 }
+    ensures frames { O.parcels outlet.new ≡ behind (O.parcels outlet.old)
+        (decided carried.now.vni carried.now.frame.now (Some decision.now)) }
     ensures records { O.records outlet.new ≡ O.records outlet.old }
 {
-    give_ports(outlet, decision.local, frame);
+    give_ports(outlet, decision.local, carried.frame);
     let edges = decision.remote.as_slice();
     if edges.is_empty() {
         return;
     }
-    let size = wrap(scratch, vni, frame);
-    give_edges(outlet, edges, &scratch[..size]);
+    let size = wrap(datagram, carried.vni, carried.frame);
+    give_edges(outlet, edges, &datagram[..size]);
 }
 
 /// Gives what a reply gives out to the links of its edge: each BPDU to its port, in a frame from
-/// this bridge; then the frame of network `vni`, of at most 9,018 octets, where it was decided to
-/// go, to the ports as it is and to the edges in a datagram.
+/// this bridge; then the frame that the event carried where it was decided to go, to the ports as
+/// it is and to the edges in a datagram, for which there is `datagram`.
 pub fn give_out<O: Outlet>(
     outlet: &mut O,
-    scratch: &mut [u8; 9026],
+    datagram: &mut [u8; 9026],
     bridge: Mac,
-    vni: Vni,
-    frame: &[u8],
+    carried: &Carried<'_>,
     reply: &Reply,
 )
-    requires { length frame.now ≤ 9018 }
-    ensures frames { O.parcels outlet.new
-        ≡ behind (O.parcels outlet.old) (parcels_of bridge vni frame.now reply.now) }
+    requires { length carried.now.frame.now ≤ 9018 }
+    ensures frames { O.parcels outlet.new ≡ behind (O.parcels outlet.old)
+        (parcels_of bridge carried.now.vni carried.now.frame.now reply.now) }
     ensures records { O.records outlet.new ≡ O.records outlet.old }
 {
     give_bpdus(outlet, bridge, reply.bpdus.as_slice());
     if let Some(decision) = &reply.decision {
-        give_decided(outlet, scratch, vni, frame, decision);
+        give_decided(outlet, datagram, carried, decision);
     }
 }

@@ -17,15 +17,17 @@ mod run;
 mod sending;
 mod shared_edge;
 mod shared_line;
+mod worker;
 mod workers;
 
 pub use edge_links::{EdgeLinks, Link};
 pub use edge_threads::{Host, edge_worker};
 pub use gate::{Gate, OpenGate, Point};
-pub use giving::give_out;
+pub use giving::{Carried, give_out};
 pub use outcome::{Faults, Outcome};
 pub use outlet::{Outlet, Target};
 pub use packets::PacketsIn;
 pub use run::{Setup, Start, run_all};
 pub use shared_edge::{Ended, SharedEdge};
+pub use worker::Worker;
 pub use workers::{clock_worker, out_worker, peer_worker, port_worker, tunnel_worker};

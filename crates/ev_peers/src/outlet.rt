@@ -10,6 +10,7 @@ use ether_wire::Addr;
 use ev_mailboxes::{Answer, Peers};
 use ev_notices::{Alarm, Reception};
 use route_wire::Update;
+use std::alloc::AllocError;
 use std::sync::Wait;
 
 /// Which link of an edge gets a frame.
@@ -74,8 +75,8 @@ pub trait Outlet {
         ensures parcels { parcels self.new ≡ parcels self.old };
 }
 
-/// The lines to an edge's links, the mailboxes of the other edges, and the operator's board.
-#[derive(Drop)]
+/// The lines to an edge's links, the mailboxes of the other edges, and the operator's board. It
+/// refers to them, and is copied for each worker.
 pub(crate) struct Senders<'x, R> {
     /// What may wait for a lock.
     pub(crate) rt: &'x R,
@@ -85,16 +86,13 @@ pub(crate) struct Senders<'x, R> {
     pub(crate) peers: Peers<'x>,
 }
 
-impl<'x, R> Senders<'x, R> {
-    /// The same lines, mailboxes and board.
-    pub(crate) fn again(&self) -> Self {
-        Senders {
-            rt: self.rt,
-            lines: self.lines,
-            peers: self.peers,
-        }
+impl<'x, R> Clone for Senders<'x, R> {
+    fn clone(&self) -> Result<Self, AllocError> {
+        Ok(*self)
     }
 }
+
+impl<'x, R> Copy for Senders<'x, R> {}
 
 impl<R: Wait> Outlet for Senders<'_, R> {
     ghost use Rattle.std.specs.Prelude.{None};

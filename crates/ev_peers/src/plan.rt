@@ -47,6 +47,15 @@ pub(crate) struct Shared {
     pub(crate) out_of_memory: AtomicBool,
 }
 
+/// What there is of the threads that enter events.
+#[derive(Drop)]
+pub(crate) struct Entering<L: Ledger> {
+    /// Those that run.
+    pub(crate) running: Vec<JoinHandle<Entered<L>>>,
+    /// The passes that came back.
+    pub(crate) passes: Vec<Pass<L>>,
+}
+
 /// What the threads of an edge begin and end with, so that this needs no memory.
 #[derive(Drop)]
 pub(crate) struct EdgeThreads<L: Ledger, I: Drop, O: Drop> {
@@ -55,12 +64,10 @@ pub(crate) struct EdgeThreads<L: Ledger, I: Drop, O: Drop> {
     pub(crate) tasks: Vec<Task<I>>,
     /// The links that are sent over: that of the tunnel, and those of the ports, port 1 first.
     pub(crate) outputs: Vec<O>,
-    /// Room for the threads that enter.
-    pub(crate) entering: Vec<JoinHandle<Entered<L>>>,
+    /// Room for the threads that enter, and for the passes that come back.
+    pub(crate) entering: Entering<L>,
     /// Room for the threads that send.
     pub(crate) sending: Vec<JoinHandle<Sent>>,
-    /// Room for the passes that come back.
-    pub(crate) passes: Vec<Pass<L>>,
 }
 
 /// So many lines on which nothing waits.
@@ -108,8 +115,9 @@ pub(crate) fn planned<L: Ledger, I: Drop, O: Drop>(
     ensures no_sending { IfOk result (λ r. vec_len r.1.no_sending ≡ vec_len links.ports + 1) }
     ensures lines { IfOk result (λ r. vec_len r.1.lines ≡ vec_len links.ports + 1) }
     ensures room { IfOk result (λ r. HasRoom (vec_len r.0.tasks) (vec_len r.0.outputs)
-        (vec_len r.0.entering) (vec_capacity r.0.entering) (vec_len r.0.sending)
-        (vec_capacity r.0.sending) (vec_len r.0.passes) (vec_capacity r.0.passes)) }
+        (vec_len r.0.entering.running) (vec_capacity r.0.entering.running) (vec_len r.0.sending)
+        (vec_capacity r.0.sending) (vec_len r.0.entering.passes)
+        (vec_capacity r.0.entering.passes)) }
 {
     let EdgeLinks {
         ports: mut port_links,
@@ -139,12 +147,15 @@ pub(crate) fn planned<L: Ledger, I: Drop, O: Drop>(
         no_peer: AtomicBool::new(false),
         out_of_memory: AtomicBool::new(false),
     };
+    let entering = Entering {
+        running: Vec::with_capacity(alloc, count + 2)?,
+        passes: Vec::with_capacity(alloc, count + 3)?,
+    };
     let threads = EdgeThreads {
         tasks,
         outputs,
-        entering: Vec::with_capacity(alloc, count + 2)?,
+        entering,
         sending: Vec::with_capacity(alloc, count + 1)?,
-        passes: Vec::with_capacity(alloc, count + 3)?,
     };
     Ok((threads, shared))
 }

@@ -4,6 +4,7 @@ ghost use Rattle.std.specs.Prelude.{◌≡◌, ◌+◌, ◌≤◌, length, vec_l
 use crate::outcome::{Faults, Sent};
 use crate::outlet::Senders;
 use crate::packets::LineBox;
+use crate::plan::Shared;
 use crate::shared_edge::Ended;
 use crate::shared_line::SharedLine;
 use crate::workers::out_worker;
@@ -31,21 +32,20 @@ fn send_all<O: LinkOut + Drop, R: Wait>(
 pub(crate) fn start_sending<'s, 'x: 's, O: LinkOut + Drop + Send + 'x, R: Wait + Sync + 'x>(
     scope: &Scope<'s, &'x ()>,
     rt: &'x R,
-    lines: &'x [SharedLine],
-    refused: &'x [AtomicBool],
+    shared: &'x Shared,
     outputs: Vec<O>,
     running: Vec<JoinHandle<Sent>>,
 ) -> (Vec<JoinHandle<Sent>>, Faults)
-    requires lines { vec_len outputs ≤ length lines.now }
-    requires words { vec_len outputs ≤ length refused.now }
+    requires lines { vec_len outputs ≤ vec_len shared.now.lines }
+    requires words { vec_len outputs ≤ vec_len shared.now.no_sending }
     requires room { vec_len running + vec_len outputs ≤ vec_capacity running }
 {
     let mut outputs = outputs;
     let mut running = running;
     let mut faults = Faults::none();
     while let Some(link) = outputs.pop() {
-        let line = &lines[outputs.len()];
-        let is_refused = &refused[outputs.len()];
+        let line = &shared.lines[outputs.len()];
+        let is_refused = &shared.no_sending[outputs.len()];
         match scope.spawn(move || send_all(rt, link, line, is_refused)) {
             Ok(handle) => running.push_reserved(handle),
             Err(no_thread) => {

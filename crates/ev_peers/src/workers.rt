@@ -8,11 +8,12 @@ ghost use Rattle.ev_peers.specs.Sending.{gone, Sends, OutEnds};
 
 use crate::answering::answer;
 use crate::gate::Gate;
+use crate::giving::Carried;
 use crate::outlet::Outlet;
 use crate::packets::PacketsIn;
-use crate::shared_edge::{Ended, Scratch, SharedEdge};
+use crate::shared_edge::Ended;
+use crate::worker::Worker;
 use ether_wire::{Addr, Vni};
-use ev_book::Pass;
 use ev_edge::Event;
 use ev_links::{LONGEST, LinkIn, LinkOut};
 use ev_mailboxes::{Message, UpdatesIn};
@@ -35,37 +36,37 @@ enum Source {
 /// The octets of the longest frame.
 const FRAME: usize = 9018;
 
-/// A network and a frame of it, or none where the frame is longer than any.
-fn fitting<'a>(vni: Vni, frame: &'a [u8]) -> (Vni, &'a [u8])
-    ensures fits { length result.1.now ≤ 9018 }
-    ensures fitting { (result.0, result.1.now) ≡ fitting (vni, frame.now) }
+/// This frame of a network, or none where it is longer than any.
+fn fitting<'a>(vni: Vni, frame: &'a [u8]) -> Carried<'a>
+    ensures fits { length result.frame.now ≤ 9018 }
+    ensures fitting { (result.vni, result.frame.now) ≡ fitting (vni, frame.now) }
 {
     if frame.len() > FRAME {
-        return (Vni::new(0), &[]);
+        return Carried::none();
     }
-    (vni, frame)
+    Carried { vni, frame }
 }
 
-/// The network and the frame that a tunnel's datagram carries, or none where it isn't one.
-fn unwrapped<'a>(octets: &'a [u8]) -> (Vni, &'a [u8])
-    ensures fits { length result.1.now ≤ 9018 }
-    ensures unwrapped { (result.0, result.1.now) ≡ unwrapped (instance_of octets.now) }
+/// The frame that a tunnel's datagram carries, or none where it isn't one.
+fn unwrapped<'a>(octets: &'a [u8]) -> Carried<'a>
+    ensures fits { length result.frame.now ≤ 9018 }
+    ensures unwrapped { (result.vni, result.frame.now) ≡ unwrapped (instance_of octets.now) }
 {
     match unwrap_datagram(octets) {
         Ok((vni, frame)) => fitting(vni, frame),
-        Err(_) => (Vni::new(0), &[]),
+        Err(_) => Carried::none(),
     }
 }
 
-/// The network and the frame of a datagram that comes over a link: none of a clock's.
-fn carried<'a>(source: &Source, octets: &'a [u8]) -> (Vni, &'a [u8])
-    ensures fits { length result.1.now ≤ 9018 }
-    ensures carried { (result.0, result.1.now) ≡ carried source.now octets.now }
+/// The frame of a datagram that comes over a link: none of a clock's.
+fn carried<'a>(source: &Source, octets: &'a [u8]) -> Carried<'a>
+    ensures fits { length result.frame.now ≤ 9018 }
+    ensures carried { (result.vni, result.frame.now) ≡ carried source.now octets.now }
 {
     match source {
         Source::Port(_, vni) => fitting(*vni, octets),
         Source::Tunnel => unwrapped(octets),
-        Source::Clock => (Vni::new(0), &[]),
+        Source::Clock => Carried::none(),
     }
 }
 
@@ -82,44 +83,41 @@ fn event_of<'a>(source: &Source, from: Addr, octets: &'a [u8]) -> Option<Event<'
 }
 
 /// Enters what a datagram of a link is, if it is anything.
-fn enter_datagram<L: Ledger, O: Outlet, G: Gate, R: Wait>(
-    shared_edge: &SharedEdge<'_, L, G, R>,
-    pass: &mut Pass<L>,
-    outlet: &mut O,
-    scratch: &mut Scratch,
+fn enter_datagram<L: Ledger, O: Outlet + Drop, G: Gate, R: Wait>(
+    worker: &mut Worker<'_, L, O, G, R>,
     source: &Source,
     from: Addr,
     octets: &[u8],
 )
-    ensures { Handles shared_edge.now.bridge source.now
-        (standing pass.old (O.parcels outlet.old) (O.records outlet.old)) (arrival from octets.now)
-        (standing pass.new (O.parcels outlet.new) (O.records outlet.new)) }
+    ensures handles { Handles worker.old.shared_edge.now.bridge source.now
+        (standing worker.old.pass (O.parcels worker.old.outlet) (O.records worker.old.outlet))
+        (arrival from octets.now)
+        (standing worker.new.pass (O.parcels worker.new.outlet) (O.records worker.new.outlet)) }
+    ensures stays { worker.new.shared_edge ≡ worker.old.shared_edge }
 {
     let Some(event) = event_of(source, from, octets) else {
         return;
     };
-    let (vni, frame) = carried(source, octets);
-    shared_edge.act(pass, outlet, scratch, &event, vni, frame);
+    worker.act(&event, &carried(source, octets));
 }
 
 /// Brings an access port up, or takes it down.
-fn turn_port<L: Ledger, O: Outlet, G: Gate, R: Wait>(
-    shared_edge: &SharedEdge<'_, L, G, R>,
-    pass: &mut Pass<L>,
-    outlet: &mut O,
-    scratch: &mut Scratch,
+fn turn_port<L: Ledger, O: Outlet + Drop, G: Gate, R: Wait>(
+    worker: &mut Worker<'_, L, O, G, R>,
     port: u8,
     vni: Vni,
     is_up: bool,
 )
-    ensures { Turns shared_edge.now.bridge (Port port vni) is_up
-        (standing pass.old (O.parcels outlet.old) (O.records outlet.old))
-        (standing pass.new (O.parcels outlet.new) (O.records outlet.new)) }
+    ensures turns { Turns worker.old.shared_edge.now.bridge (Port port vni) is_up
+        (standing worker.old.pass (O.parcels worker.old.outlet) (O.records worker.old.outlet))
+        (standing worker.new.pass (O.parcels worker.new.outlet) (O.records worker.new.outlet)) }
+    ensures stays { worker.new.shared_edge ≡ worker.old.shared_edge }
 {
+    let carried = Carried { vni, frame: &[] };
     if is_up {
-        shared_edge.act(pass, outlet, scratch, &Event::PortUp(port), vni, &[]);
+        worker.act(&Event::PortUp(port), &carried);
     } else {
-        shared_edge.act(pass, outlet, scratch, &Event::PortDown(port), vni, &[]);
+        worker.act(&Event::PortDown(port), &carried);
     }
 }
 
@@ -137,76 +135,72 @@ fn input_of(source: &Source) -> Input
 /// Tells the operator that a link works again or has failed, and has its access port come up or go
 /// down: a bridge that hears nothing there any more would take itself for the only one, and open a
 /// ring.
-fn change<L: Ledger, O: Outlet, G: Gate, R: Wait>(
-    shared_edge: &SharedEdge<'_, L, G, R>,
-    pass: &mut Pass<L>,
-    outlet: &mut O,
-    scratch: &mut Scratch,
+fn change<L: Ledger, O: Outlet + Drop, G: Gate, R: Wait>(
+    worker: &mut Worker<'_, L, O, G, R>,
     source: &Source,
     works: bool,
 )
-    ensures { Changes shared_edge.now.bridge source.now works
-        (standing pass.old (O.parcels outlet.old) (O.records outlet.old))
-        (standing pass.new (O.parcels outlet.new) (O.records outlet.new)) }
+    ensures changes { Changes worker.old.shared_edge.now.bridge source.now works
+        (standing worker.old.pass (O.parcels worker.old.outlet) (O.records worker.old.outlet))
+        (standing worker.new.pass (O.parcels worker.new.outlet) (O.records worker.new.outlet)) }
+    ensures stays { worker.new.shared_edge ≡ worker.old.shared_edge }
 {
-    outlet.reception(Reception {
+    worker.outlet.reception(Reception {
         input: input_of(source),
         works,
     });
     if let Source::Port(port, vni) = source {
-        turn_port(shared_edge, pass, outlet, scratch, *port, *vni, works);
+        turn_port(worker, *port, *vni, works);
     }
 }
 
 /// Does so where a call of the link went another way than the one before.
-fn note_call<L: Ledger, O: Outlet, G: Gate, R: Wait>(
-    shared_edge: &SharedEdge<'_, L, G, R>,
-    pass: &mut Pass<L>,
-    outlet: &mut O,
-    scratch: &mut Scratch,
+fn note_call<L: Ledger, O: Outlet + Drop, G: Gate, R: Wait>(
+    worker: &mut Worker<'_, L, O, G, R>,
     source: &Source,
     works: &mut bool,
     has_brought: bool,
 )
     ensures works { works.new ≡ has_brought }
-    ensures becomes { Becomes shared_edge.now.bridge source.now works.old has_brought
-        (standing pass.old (O.parcels outlet.old) (O.records outlet.old))
-        (standing pass.new (O.parcels outlet.new) (O.records outlet.new)) }
+    ensures becomes { Becomes worker.old.shared_edge.now.bridge source.now works.old has_brought
+        (standing worker.old.pass (O.parcels worker.old.outlet) (O.records worker.old.outlet))
+        (standing worker.new.pass (O.parcels worker.new.outlet) (O.records worker.new.outlet)) }
+    ensures stays { worker.new.shared_edge ≡ worker.old.shared_edge }
 {
     if *works != has_brought {
         *works = has_brought;
-        change(shared_edge, pass, outlet, scratch, source, has_brought);
+        change(worker, source, has_brought);
     }
 }
 
 /// Waits for what comes over a link next and enters it, and answers whether that wasn't the end.
 /// A link that fails is called again.
-fn turn<L: Ledger, I: LinkIn, O: Outlet, G: Gate, R: Wait>(
-    shared_edge: &SharedEdge<'_, L, G, R>,
-    pass: &mut Pass<L>,
-    outlet: &mut O,
-    scratch: &mut Scratch,
+fn turn<L: Ledger, I: LinkIn, O: Outlet + Drop, G: Gate, R: Wait>(
+    worker: &mut Worker<'_, L, O, G, R>,
     buffer: &mut [u8],
     link: &mut I,
     source: &Source,
     works: &mut bool,
 ) -> bool
     requires { I.failed link.old + 1 < 2 ^ 64 }
-    ensures { TurnsOnce result shared_edge.now.bridge source.now (I.came link.old)
-        (hearing works.old (standing pass.old (O.parcels outlet.old) (O.records outlet.old)))
+    ensures turns { TurnsOnce result worker.old.shared_edge.now.bridge source.now (I.came link.old)
+        (hearing works.old
+        (standing worker.old.pass (O.parcels worker.old.outlet) (O.records worker.old.outlet)))
         (I.came link.new)
-        (hearing works.new (standing pass.new (O.parcels outlet.new) (O.records outlet.new))) }
+        (hearing works.new
+        (standing worker.new.pass (O.parcels worker.new.outlet) (O.records worker.new.outlet))) }
+    ensures stays { worker.new.shared_edge ≡ worker.old.shared_edge }
 {
     match link.recv(buffer) {
         Ok(Some((from, size))) => {
             let (octets, _) = buffer.split_at(size);
-            note_call(shared_edge, pass, outlet, scratch, source, works, true);
-            enter_datagram(shared_edge, pass, outlet, scratch, source, from, octets);
+            note_call(worker, source, works, true);
+            enter_datagram(worker, source, from, octets);
             true
         }
         Ok(None) => false,
         Err(_) => {
-            note_call(shared_edge, pass, outlet, scratch, source, works, false);
+            note_call(worker, source, works, false);
             true
         }
     }
@@ -215,36 +209,27 @@ fn turn<L: Ledger, I: LinkIn, O: Outlet, G: Gate, R: Wait>(
 /// Enters what comes over a link until it ends, and answers whether its last call brought
 /// something. One octet more than the longest datagram has room, so that none is cut to a shorter
 /// one that would be taken for whole.
-fn hear_all<L: Ledger, I: LinkIn, O: Outlet, G: Gate, R: Wait>(
-    shared_edge: &SharedEdge<'_, L, G, R>,
-    pass: &mut Pass<L>,
-    outlet: &mut O,
+fn hear_all<L: Ledger, I: LinkIn, O: Outlet + Drop, G: Gate, R: Wait>(
+    worker: &mut Worker<'_, L, O, G, R>,
     link: &mut I,
     source: &Source,
 ) -> bool
-    ensures { Hears shared_edge.now.bridge source.now (I.failed link.new) (I.came link.old)
-        (hearing true (standing pass.old (O.parcels outlet.old) (O.records outlet.old)))
+    ensures { Hears worker.old.shared_edge.now.bridge source.now (I.failed link.new)
+        (I.came link.old)
+        (hearing true
+        (standing worker.old.pass (O.parcels worker.old.outlet) (O.records worker.old.outlet)))
         (I.came link.new)
-        (hearing result (standing pass.new (O.parcels outlet.new) (O.records outlet.new))) }
+        (hearing result
+        (standing worker.new.pass (O.parcels worker.new.outlet) (O.records worker.new.outlet))) }
 {
-    let mut scratch = Scratch::new();
     let mut buffer = [0u8; 9027];
     let mut works = true;
+    let shared_edge = worker.shared_edge;
     for _ in shared_edge.rt.forever() {
         if link.failures() == u64::MAX {
             return works;
         }
-        let goes_on = turn(
-            shared_edge,
-            pass,
-            outlet,
-            &mut scratch,
-            &mut buffer,
-            link,
-            source,
-            &mut works,
-        );
-        if !goes_on {
+        if !turn(worker, &mut buffer, link, source, &mut works) {
             return works;
         }
     }
@@ -252,20 +237,20 @@ fn hear_all<L: Ledger, I: LinkIn, O: Outlet, G: Gate, R: Wait>(
 }
 
 /// Enters what comes over a link until it ends, and answers whether a call of it failed meanwhile.
-fn link_worker<L: Ledger, I: LinkIn, O: Outlet, G: Gate, R: Wait>(
-    shared_edge: &SharedEdge<'_, L, G, R>,
-    pass: &mut Pass<L>,
-    outlet: &mut O,
+fn link_worker<L: Ledger, I: LinkIn, O: Outlet + Drop, G: Gate, R: Wait>(
+    worker: &mut Worker<'_, L, O, G, R>,
     link: &mut I,
     source: &Source,
 ) -> Ended
     ensures ended { result ≡ ended_of (I.failed link.old) (I.failed link.new) }
-    ensures works { Ends shared_edge.now.bridge source.now (I.failed link.new) (I.came link.old)
-        (standing pass.old (O.parcels outlet.old) (O.records outlet.old)) (I.came link.new)
-        (standing pass.new (O.parcels outlet.new) (O.records outlet.new)) }
+    ensures works { Ends worker.old.shared_edge.now.bridge source.now (I.failed link.new)
+        (I.came link.old)
+        (standing worker.old.pass (O.parcels worker.old.outlet) (O.records worker.old.outlet))
+        (I.came link.new)
+        (standing worker.new.pass (O.parcels worker.new.outlet) (O.records worker.new.outlet)) }
 {
     let before = link.failures();
-    let _ = hear_all(shared_edge, pass, outlet, link, source);
+    let _ = hear_all(worker, link, source);
     if before < link.failures() {
         Ended::Device
     } else {
@@ -277,99 +262,94 @@ fn link_worker<L: Ledger, I: LinkIn, O: Outlet, G: Gate, R: Wait>(
 /// Where its link fails the port is taken down until the link works again.
 ///
 /// It ends with `Device` exactly where a call of the link failed.
-pub fn port_worker<L: Ledger, I: LinkIn, O: Outlet, G: Gate, R: Wait>(
-    shared_edge: &SharedEdge<'_, L, G, R>,
-    pass: &mut Pass<L>,
-    outlet: &mut O,
+pub fn port_worker<L: Ledger, I: LinkIn, O: Outlet + Drop, G: Gate, R: Wait>(
+    worker: &mut Worker<'_, L, O, G, R>,
     link: &mut I,
     port: u8,
     vni: Vni,
 ) -> Ended
     ensures ended { result ≡ ended_of (I.failed link.old) (I.failed link.new) }
-    ensures works { PortEnds shared_edge.now.bridge port vni (I.failed link.new) (I.came link.old)
-        (standing pass.old (O.parcels outlet.old) (O.records outlet.old)) (I.came link.new)
-        (standing pass.new (O.parcels outlet.new) (O.records outlet.new)) }
+    ensures works { PortEnds worker.old.shared_edge.now.bridge port vni (I.failed link.new)
+        (I.came link.old)
+        (standing worker.old.pass (O.parcels worker.old.outlet) (O.records worker.old.outlet))
+        (I.came link.new)
+        (standing worker.new.pass (O.parcels worker.new.outlet) (O.records worker.new.outlet)) }
 {
-    let mut scratch = Scratch::new();
-    turn_port(shared_edge, pass, outlet, &mut scratch, port, vni, true);
-    link_worker(shared_edge, pass, outlet, link, &Source::Port(port, vni))
+    turn_port(worker, port, vni, true);
+    link_worker(worker, link, &Source::Port(port, vni))
 }
 
 /// Enters the datagrams that other edges send. An empty one is none.
 ///
 /// It ends with `Device` exactly where a call of the link failed.
-pub fn tunnel_worker<L: Ledger, I: LinkIn, O: Outlet, G: Gate, R: Wait>(
-    shared_edge: &SharedEdge<'_, L, G, R>,
-    pass: &mut Pass<L>,
-    outlet: &mut O,
+pub fn tunnel_worker<L: Ledger, I: LinkIn, O: Outlet + Drop, G: Gate, R: Wait>(
+    worker: &mut Worker<'_, L, O, G, R>,
     link: &mut I,
 ) -> Ended
     ensures ended { result ≡ ended_of (I.failed link.old) (I.failed link.new) }
-    ensures works { Ends shared_edge.now.bridge Tunnel (I.failed link.new) (I.came link.old)
-        (standing pass.old (O.parcels outlet.old) (O.records outlet.old)) (I.came link.new)
-        (standing pass.new (O.parcels outlet.new) (O.records outlet.new)) }
+    ensures works { Ends worker.old.shared_edge.now.bridge Tunnel (I.failed link.new)
+        (I.came link.old)
+        (standing worker.old.pass (O.parcels worker.old.outlet) (O.records worker.old.outlet))
+        (I.came link.new)
+        (standing worker.new.pass (O.parcels worker.new.outlet) (O.records worker.new.outlet)) }
 {
-    link_worker(shared_edge, pass, outlet, link, &Source::Tunnel)
+    link_worker(worker, link, &Source::Tunnel)
 }
 
 /// Enters a second at each tick of a clock.
 ///
 /// It ends with `Device` exactly where a call of the clock failed.
-pub fn clock_worker<L: Ledger, I: LinkIn, O: Outlet, G: Gate, R: Wait>(
-    shared_edge: &SharedEdge<'_, L, G, R>,
-    pass: &mut Pass<L>,
-    outlet: &mut O,
+pub fn clock_worker<L: Ledger, I: LinkIn, O: Outlet + Drop, G: Gate, R: Wait>(
+    worker: &mut Worker<'_, L, O, G, R>,
     clock: &mut I,
 ) -> Ended
     ensures ended { result ≡ ended_of (I.failed clock.old) (I.failed clock.new) }
-    ensures works { Ends shared_edge.now.bridge Clock (I.failed clock.new) (I.came clock.old)
-        (standing pass.old (O.parcels outlet.old) (O.records outlet.old)) (I.came clock.new)
-        (standing pass.new (O.parcels outlet.new) (O.records outlet.new)) }
+    ensures works { Ends worker.old.shared_edge.now.bridge Clock (I.failed clock.new)
+        (I.came clock.old)
+        (standing worker.old.pass (O.parcels worker.old.outlet) (O.records worker.old.outlet))
+        (I.came clock.new)
+        (standing worker.new.pass (O.parcels worker.new.outlet) (O.records worker.new.outlet)) }
 {
-    link_worker(shared_edge, pass, outlet, clock, &Source::Clock)
+    link_worker(worker, clock, &Source::Clock)
 }
 
 /// Enters an update of another edge, looks for announcements where one has room for them again, or
 /// answers the operator.
-fn enter_message<L: Ledger, O: Outlet, G: Gate, R: Wait>(
-    shared_edge: &SharedEdge<'_, L, G, R>,
-    pass: &mut Pass<L>,
-    outlet: &mut O,
-    scratch: &mut Scratch,
+fn enter_message<L: Ledger, O: Outlet + Drop, G: Gate, R: Wait>(
+    worker: &mut Worker<'_, L, O, G, R>,
     message: &Message,
 )
-    ensures { Takes shared_edge.now.bridge
-        (standing pass.old (O.parcels outlet.old) (O.records outlet.old)) message.now
-        (standing pass.new (O.parcels outlet.new) (O.records outlet.new)) }
+    ensures takes { Takes worker.old.shared_edge.now.bridge
+        (standing worker.old.pass (O.parcels worker.old.outlet) (O.records worker.old.outlet))
+        message.now
+        (standing worker.new.pass (O.parcels worker.new.outlet) (O.records worker.new.outlet)) }
+    ensures stays { worker.new.shared_edge ≡ worker.old.shared_edge }
 {
     match message {
-        Message::Record(update) => {
-            let event = Event::Take(*update);
-            shared_edge.act(pass, outlet, scratch, &event, Vni::new(0), &[]);
-        }
-        Message::Room => shared_edge.announce(pass, outlet, &mut scratch.reply),
-        Message::Ask(request) => answer(shared_edge, pass, outlet, scratch, request),
+        Message::Record(update) => worker.act(&Event::Take(*update), &Carried::none()),
+        Message::Room => worker.announce(),
+        Message::Ask(request) => answer(worker, request),
     }
 }
 
 /// Enters the updates that other edges send, until there are no more, looks for announcements where
 /// one of them has room again, and answers what the operator asks.
-pub fn peer_worker<L: Ledger, I: UpdatesIn, O: Outlet, G: Gate, R: Wait>(
-    shared_edge: &SharedEdge<'_, L, G, R>,
-    pass: &mut Pass<L>,
-    outlet: &mut O,
+pub fn peer_worker<L: Ledger, I: UpdatesIn, O: Outlet + Drop, G: Gate, R: Wait>(
+    worker: &mut Worker<'_, L, O, G, R>,
     updates: &mut I,
 ) -> Ended
-    ensures { PeerEnds result shared_edge.now.bridge (I.came updates.old)
-        (standing pass.old (O.parcels outlet.old) (O.records outlet.old)) (I.came updates.new)
-        (standing pass.new (O.parcels outlet.new) (O.records outlet.new)) }
+    ensures { PeerEnds result worker.old.shared_edge.now.bridge
+        (I.came updates.old)
+        (standing worker.old.pass (O.parcels worker.old.outlet) (O.records worker.old.outlet))
+        (I.came updates.new)
+        (standing worker.new.pass (O.parcels worker.new.outlet) (O.records worker.new.outlet)) }
 {
-    let mut scratch = Scratch::new();
+    let shared_edge = worker.shared_edge;
     for _ in shared_edge.rt.forever() {
         let Some(message) = updates.next() else {
             return Ended::End;
         };
-        enter_message(shared_edge, pass, outlet, &mut scratch, &message);
+        enter_message(worker, &message);
     }
     unreachable!()
 }

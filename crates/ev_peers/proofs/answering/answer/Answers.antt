@@ -1,10 +1,10 @@
 use Rattle.std.proofs.Common.{rules}
 use Rattle.ev_peers.proofs.answering.answer.Goals as goal
 
-pub returns : goal.returns
-returns g c = record {
+pub returns-clause-answers : goal.returns-clause-answers
+returns-clause-answers g c = record {
   answer = c.fulfil-answer.result;
-  before = g.O.Outlet.records c.fulfil-answer.new.outlet;
+  before = g.O.Outlet.records c.fulfil-answer.new.worker.outlet;
   fulfils = search rules;
   told = search rules;
 }

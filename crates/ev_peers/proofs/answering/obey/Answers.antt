@@ -2,11 +2,11 @@ use Rattle.std.proofs.Common.{rules}
 use Rattle.ev_book.specs.Entering.{answered}
 use Rattle.ev_peers.proofs.answering.obey.Goals as goal
 
-pub returns : goal.returns
-returns g c = record {
+pub returns-clause-obeys : goal.returns-clause-obeys
+returns-clause-obeys g c = record {
   passes = record {
-    answer = answered c.give-answer.result c.give-answer.new.scratch.reply;
-    middle = c.give-answer.new.pass;
+    answer = answered c.give-answer.result c.give-answer.new.self.scratch.reply;
+    middle = c.give-answer.new.self.pass;
     entered = search rules;
     parcels = search rules;
     announces = search rules;

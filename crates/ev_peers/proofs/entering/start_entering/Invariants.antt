@@ -7,9 +7,9 @@ invariant-loop-task g l = record {
   fresh : vec_len l.fresh ≡ vec_len l.tasks;
   running : vec_len l.running + vec_len l.tasks ≤ vec_capacity l.running;
   passes : vec_len l.passes + vec_len l.tasks + 1 ≤ vec_capacity l.passes;
-  all : vec_len l.running + vec_len l.passes + vec_len l.tasks ≡ vec_len l.fn.running + vec_len l.fn.passes
-      + vec_len l.fn.tasks;
-  capacity : vec_capacity l.passes ≡ vec_capacity l.fn.passes;
+  all : vec_len l.running + vec_len l.passes + vec_len l.tasks ≡ vec_len l.fn.entering.running
+      + vec_len l.fn.entering.passes + vec_len l.fn.tasks;
+  capacity : vec_capacity l.passes ≡ vec_capacity l.fn.entering.passes;
 }
 
 abbrev pub decreases-loop-task : goal.decreases-loop-task

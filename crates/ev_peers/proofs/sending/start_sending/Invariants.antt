@@ -1,10 +1,10 @@
-use Rattle.std.proofs.Common.{◌+◌, ◌≤◌, length, vec_len, vec_capacity}
+use Rattle.std.proofs.Common.{◌+◌, ◌≤◌, vec_len, vec_capacity}
 use Rattle.ev_peers.proofs.sending.start_sending.Given as goal
 
 abbrev pub invariant-loop-link : goal.invariant-loop-link
 invariant-loop-link g l = record {
-  lines : vec_len l.outputs ≤ length l.lines;
-  words : vec_len l.outputs ≤ length l.refused;
+  lines : vec_len l.outputs ≤ vec_len l.shared.lines;
+  words : vec_len l.outputs ≤ vec_len l.shared.no_sending;
   room : vec_len l.running + vec_len l.outputs ≤ vec_capacity l.running;
 }
 

@@ -7,21 +7,26 @@ use Rattle.ev_links.proofs.Coming.{goes_on}
 use Rattle.ev_peers.proofs.workers.hear_all.Goals as goal
 
 -- where it wasn't the end, a call was answered
-answered : (b : Bool) (bridge : ℕ) (source : Source) (came : Option (List (Option Call))) (h : Hearing)
-    (came' : Option (List (Option Call))) (h' : Hearing) → b ≡ true → TurnsOnce b bridge source came h came' h'
-    → DoesOne (Answers bridge source) came h came' h'
-answered b bridge source came h came' h' e t = subst (λ (x : Bool). TurnsOnce x bridge source came h came' h') e t
+answered : (b : Bool) (now bridge : ℕ) (source : Source) (came : Option (List (Option Call))) (h : Hearing)
+    (came' : Option (List (Option Call))) (h' : Hearing) → b ≡ true → now ≡ bridge
+    → TurnsOnce b now source came h came' h' → DoesOne (Answers bridge source) came h came' h'
+answered b now bridge source came h came' h' e same t = subst (λ (x : ℕ). DoesOne (Answers x source) came h came' h')
+    same (subst (λ (x : Bool). TurnsOnce x now source came h came' h') e t)
 
 pub loop-preserved : goal.loop-preserved
-loop-preserved g c =
-    let came = g.I.LinkIn.came c.loop.link in
-    let came' = g.I.LinkIn.came c.turn-goes_on.new.link in
-    let h = hearing c.loop.works (standing c.loop.pass (g.O.Outlet.parcels c.loop.outlet)
-    (g.O.Outlet.records c.loop.outlet)) in
-    let h' = hearing c.turn-goes_on.new.works (standing c.turn-goes_on.new.pass
-    (g.O.Outlet.parcels c.turn-goes_on.new.outlet) (g.O.Outlet.records c.turn-goes_on.new.outlet)) in
-    goes_on (Answers c.args.shared_edge.now.bridge c.args.source.now) (g.I.LinkIn.came c.args.link.now) came came'
-    (hearing true (standing c.args.pass.now (g.O.Outlet.parcels c.args.outlet.now)
-    (g.O.Outlet.records c.args.outlet.now))) h h' c.loop.invariant
-    (answered c.turn-goes_on.result c.args.shared_edge.now.bridge c.args.source.now came h came' h' (search rules)
-    c.turn-goes_on.ensures)
+loop-preserved g c = record {
+  answered =
+      let bridge = c.args.worker.now.shared_edge.now.bridge in
+      let came = g.I.LinkIn.came c.loop.link in
+      let came' = g.I.LinkIn.came c.turn.new.link in
+      let h = hearing c.loop.works (standing c.loop.worker.pass (g.O.Outlet.parcels c.loop.worker.outlet)
+      (g.O.Outlet.records c.loop.worker.outlet)) in
+      let h' = hearing c.turn.new.works (standing c.turn.new.worker.pass
+      (g.O.Outlet.parcels c.turn.new.worker.outlet) (g.O.Outlet.records c.turn.new.worker.outlet)) in
+      goes_on (Answers bridge c.args.source.now) (g.I.LinkIn.came c.args.link.now) came came'
+      (hearing true (standing c.args.worker.now.pass (g.O.Outlet.parcels c.args.worker.now.outlet)
+      (g.O.Outlet.records c.args.worker.now.outlet))) h h' c.loop.invariant.answered
+      (answered c.turn.result c.loop.worker.shared_edge.now.bridge bridge c.args.source.now came h came' h'
+      (search rules) (search rules) c.turn.ensures.turns);
+  stays = search rules;
+}

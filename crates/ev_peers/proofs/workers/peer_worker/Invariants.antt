@@ -1,9 +1,14 @@
+use Rattle.std.proofs.Common.{◌≡◌}
 use Rattle.ev_peers.specs.Working.{standing, Takes}
 use Rattle.ev_links.specs.Coming.{DoesAll}
 use Rattle.ev_peers.proofs.workers.peer_worker.Given as goal
 
 -- all that came up to here was taken
 abbrev pub invariant-loop : goal.invariant-loop
-invariant-loop g l = DoesAll (Takes l.shared_edge.bridge) (g.I.UpdatesIn.came l.initial.updates)
-    (standing l.initial.pass (g.O.Outlet.parcels l.initial.outlet) (g.O.Outlet.records l.initial.outlet))
-    (g.I.UpdatesIn.came l.updates) (standing l.pass (g.O.Outlet.parcels l.outlet) (g.O.Outlet.records l.outlet))
+invariant-loop g l = record {
+  took : DoesAll (Takes l.initial.worker.shared_edge.now.bridge) (g.I.UpdatesIn.came l.initial.updates)
+      (standing l.initial.worker.pass (g.O.Outlet.parcels l.initial.worker.outlet)
+      (g.O.Outlet.records l.initial.worker.outlet)) (g.I.UpdatesIn.came l.updates)
+      (standing l.worker.pass (g.O.Outlet.parcels l.worker.outlet) (g.O.Outlet.records l.worker.outlet));
+  stays : l.worker.shared_edge ≡ l.initial.worker.shared_edge;
+}

@@ -1,0 +1,172 @@
+//! What a worker of an edge works with, and what it does with one event.
+ghost use Rattle.std.specs.Prelude.{◌≡◌, ◌≤◌, length};
+ghost use Rattle.ev_book.specs.Entering.{answered};
+ghost use Rattle.ev_links.specs.Coming.{behind};
+ghost use Rattle.ev_peers.specs.Passing.{Entered, Announces, PassesOn, given_by, signs_of};
+
+use crate::gate::Gate;
+use crate::giving::{Carried, give_out};
+use crate::outlet::Outlet;
+use crate::shared_edge::SharedEdge;
+use ether_wire::{Mac, Vni};
+use ev_book::{BookRefusal, Pass};
+use ev_edge::{Event, Reply};
+use ev_notices::{alarm_of, is_second};
+use std::sync::Wait;
+use std::sync::ledger::Ledger;
+
+/// Where a worker writes what it needs for one event, over that of the event before.
+#[derive(Drop)]
+pub(crate) struct Scratch {
+    /// What the book replies.
+    pub(crate) reply: Reply,
+    /// The datagram that carries the event's frame.
+    datagram: [u8; 9026],
+}
+
+/// What a worker of an edge works with.
+#[derive(Drop)]
+pub struct Worker<'x, L: Ledger, O: Drop, G, R> {
+    /// The edge.
+    pub shared_edge: &'x SharedEdge<'x, L, G, R>,
+    /// The pass with which it calls the edge's book.
+    pub pass: Pass<L>,
+    /// Where it gives what the book answers.
+    pub outlet: O,
+    /// Where it writes what it needs for one event.
+    pub(crate) scratch: Scratch,
+}
+
+impl<'x, L: Ledger, O: Drop, G, R> Worker<'x, L, O, G, R> {
+    /// A worker of this edge, with this pass, which gives to this outlet.
+    pub fn new(shared_edge: &'x SharedEdge<'x, L, G, R>, pass: Pass<L>, outlet: O) -> Self
+        ensures shared_edge { result.shared_edge.now ≡ shared_edge.now }
+        ensures pass { result.pass ≡ pass }
+        ensures outlet { result.outlet ≡ outlet }
+    {
+        let scratch = Scratch {
+            reply: Reply::nothing(),
+            datagram: [0u8; 9026],
+        };
+        Worker {
+            shared_edge,
+            pass,
+            outlet,
+            scratch,
+        }
+    }
+}
+
+impl<L: Ledger, O: Outlet + Drop, G: Gate, R: Wait> Worker<'_, L, O, G, R> {
+    /// Asks for the edge's announcements until there is none or one is refused, and gives
+    /// each to the other edges. Where one of these has no room it asks no further: what isn't
+    /// asked for stays pending in the edge, which needs no memory for it.
+    pub(crate) fn announce(&mut self)
+        ensures announces { Announces self.old.pass (O.records self.old.outlet) self.new.pass
+            (O.records self.new.outlet) }
+        ensures parcels { O.parcels self.new.outlet ≡ O.parcels self.old.outlet }
+        ensures stays { self.new.shared_edge ≡ self.old.shared_edge }
+    {
+        let shared_edge = self.shared_edge;
+        for _ in shared_edge.rt.forever() {
+            if !self.outlet.has_room() {
+                return;
+            }
+            let Some(update) = shared_edge.ask(&mut self.pass, &mut self.scratch.reply) else {
+                return;
+            };
+            self.outlet.record(update);
+        }
+        unreachable!()
+    }
+
+    /// Enters an event with the frame that it carries, and gives what is answered: frames to the
+    /// links, what the operator is to know to the board.
+    pub(crate) fn give(
+        &mut self,
+        event: &Event<'_>,
+        carried: &Carried<'_>,
+    ) -> Result<(), BookRefusal>
+        requires { length carried.now.frame.now ≤ 9018 }
+        ensures entered { Entered self.old.pass event.now
+            (answered result self.new.scratch.reply) self.new.pass }
+        ensures parcels { O.parcels self.new.outlet ≡ behind (O.parcels self.old.outlet)
+            (given_by self.old.shared_edge.now.bridge carried.now.vni carried.now.frame.now
+            (answered result self.new.scratch.reply)) }
+        ensures records { O.records self.new.outlet ≡ behind (O.records self.old.outlet)
+            (signs_of carried.now.vni event.now (answered result self.new.scratch.reply)) }
+        ensures stays { self.new.shared_edge ≡ self.old.shared_edge }
+    {
+        let shared_edge = self.shared_edge;
+        let answer = shared_edge.enter(&mut self.pass, event, &mut self.scratch.reply);
+        let outlet = &mut self.outlet;
+        give_signs(outlet, carried.vni, event, &answer, &self.scratch.reply);
+        give_answer(
+            outlet,
+            &mut self.scratch,
+            shared_edge.bridge,
+            carried,
+            &answer,
+        );
+        answer
+    }
+
+    /// Enters an event with the frame that it carries, and passes on what it gives out: frames to
+    /// the links, what the operator is to know to the board, and then what is to be announced to
+    /// the other edges.
+    pub(crate) fn act(&mut self, event: &Event<'_>, carried: &Carried<'_>)
+        requires { length carried.now.frame.now ≤ 9018 }
+        ensures passes { PassesOn self.old.shared_edge.now.bridge
+            carried.now.vni carried.now.frame.now self.old.pass event.now
+            (O.parcels self.old.outlet) (O.records self.old.outlet) self.new.pass
+            (O.parcels self.new.outlet) (O.records self.new.outlet) }
+        ensures stays { self.new.shared_edge ≡ self.old.shared_edge }
+    {
+        let _ = self.give(event, carried);
+        self.announce();
+    }
+}
+
+/// Gives what an answer gives out to the links of its edge. A refusal gives nothing.
+#[tactic(auto, using(ev_links::proofs::Behind::behind_none))]
+fn give_answer<O: Outlet>(
+    outlet: &mut O,
+    scratch: &mut Scratch,
+    bridge: Mac,
+    carried: &Carried<'_>,
+    answer: &Result<(), BookRefusal>,
+)
+    requires { length carried.now.frame.now ≤ 9018 }
+    ensures parcels { O.parcels outlet.new ≡ behind (O.parcels outlet.old)
+        (given_by bridge carried.now.vni carried.now.frame.now
+        (answered answer.now scratch.old.reply)) }
+    ensures records { O.records outlet.new ≡ O.records outlet.old }
+    ensures reply { scratch.new.reply ≡ scratch.old.reply }
+{
+    if answer.is_ok() {
+        let Scratch { reply, datagram } = scratch;
+        give_out(outlet, datagram, bridge, carried, reply);
+    }
+}
+
+/// Tells the operator's board that a second passed, where one did, and what the operator is to know
+/// of an answer.
+#[tactic(auto, using(ev_links::proofs::Behind::behind_none, ev_links::proofs::Behind::behind_twice))]
+fn give_signs<O: Outlet>(
+    outlet: &mut O,
+    vni: Vni,
+    event: &Event<'_>,
+    answer: &Result<(), BookRefusal>,
+    reply: &Reply,
+)
+    ensures records { O.records outlet.new ≡ behind (O.records outlet.old)
+        (signs_of vni event.now (answered answer.now reply.now)) }
+    ensures parcels { O.parcels outlet.new ≡ O.parcels outlet.old }
+{
+    if is_second(event) {
+        outlet.second();
+    }
+    if let Some(alarm) = alarm_of(vni, event, answer, reply) {
+        outlet.alarm(alarm);
+    }
+}
