@@ -165,11 +165,14 @@ is_fine() { [ "$status" = 0 ] && [ ! -s "$work/notes" ] && [ ! -s "$work/out" ];
 
 is_ok() { [ "$status" = 0 ] && [ ! -s "$work/notes" ] && grep -qE "^ok: [0-9]+ edges?, [0-9]+ ports?, [0-9]+ VNIs?$" "$work/out"; }
 
-# says TEXT: a usage whose one line is this text
-says() { is_usage && [ "$(cat "$work/notes")" = "$1" ]; }
+# says LINE..: a usage whose lines are these
+says() { is_usage && [ "$(cat "$work/notes")" = "$(printf '%s\n' "$@")" ]; }
 
-# names KEY: a usage whose one line says what stands at the key
-names() { is_usage && [ "$(wc -l < "$work/notes")" = 1 ] && grep -qE "^((edge|peer) [0-9]+(, port [0-9]+)?: )?$1 is .*, (allowed|which) " "$work/notes"; }
+# names KEY COUNT: a usage of so many lines, the first of which says what stands at the key
+names() {
+  is_usage && [ "$(wc -l < "$work/notes")" = "$2" ] &&
+    head -n 1 "$work/notes" | grep -qE "^((edge|peer) [0-9]+(, port [0-9]+)?: )?$1 is .*, (allowed|which) "
+}
 
 # ok NAME [LINE]: the configuration in $conf is right, by this line
 ok() {
@@ -178,10 +181,16 @@ ok() {
   [ -z "${2-}" ] || tell "$1, summed up" [ "$(cat "$work/out")" = "$2" ]
 }
 
-# wrong NAME LINE: the configuration in $conf is wrong, and this is told
+# wrong NAME LINE..: the configuration in $conf is wrong, and these faults are told
 wrong() {
   run check --config "$conf"
-  tell "$1, checked" says "$2"
+  tell "$1, checked" says "${@:2}"
+}
+
+# wrong_for FLAG NAME LINE..: so where it is checked with this flag
+wrong_for() {
+  run check "$1" --config "$conf"
+  tell "$2, checked with $1" says "${@:3}"
 }
 
 # fine NAME EDGE_LINES PORT_LINES: one edge of these lines is right
@@ -192,13 +201,14 @@ fine() {
   ok "$1"
 }
 
-# faulty NAME TEXT EDGE_LINES PORT_LINES: one edge of these lines is wrong, and the note has this text
+# faulty NAME TEXT EDGE_LINES PORT_LINES [COUNT]: one edge of these lines has one fault, or so many, and the note has
+# this text
 faulty() {
   edge "$3" "$4" > "$conf"
   opened
   tell "$1" tells "$2"
   run check --config "$conf"
-  tell "$1, checked" names "${2#config }"
+  tell "$1, checked" names "${2#config }" "${5-1}"
 }
 
 cp "$work/empty" "$work/in"
@@ -274,16 +284,16 @@ for key in local remote; do
 done
 faulty "a port without its network" "config vni" "$named" "cost = 1"
 faulty "a port of another network" "config vni" "$named" "vni = 5002"
-faulty "an unknown key of a port" "config Cost" "$named" $'vni = 5001\nCost = 1\ncosts = 2'
+faulty "an unknown key of a port" "config Cost" "$named" $'vni = 5001\nCost = 1\ncosts = 2' 2
 
 # an edge's names, and which fault is the first
-faulty "no address" "config address" "" "vni = 5001"
+faulty "no address" "config address" "" "vni = 5001" 3
 for address in 10.0.0 10.0.0.01 10.0.0.256 10.0.0.1. ""; do
-  faulty "address $address" "config address" "address = \"$address\"" "vni = 5001"
+  faulty "address $address" "config address" "address = \"$address\"" "vni = 5001" 3
 done
-faulty "no bridge" "config bridge" 'address = "10.0.0.1"' "vni = 5001"
+faulty "no bridge" "config bridge" 'address = "10.0.0.1"' "vni = 5001" 2
 for bridge in 02:aa:00:00:00:0 02:AA:00:00:00:01 02-aa-00-00-00-01 03:aa:00:00:00:01 02:aa:00:00:00:01:02; do
-  faulty "bridge $bridge" "config bridge" $'address = "10.0.0.1"\n'"bridge = \"$bridge\"" "vni = 5001"
+  faulty "bridge $bridge" "config bridge" $'address = "10.0.0.1"\n'"bridge = \"$bridge\"" "vni = 5001" 2
 done
 for vnis in "[]" "[5001, 5001]" "[16777216]" "[-1]" '["5001"]' "[$(seq -s, 65)]"; do
   faulty "vnis $vnis" "config vnis" "${named/\[5001\]/$vnis}" "vni = 5001"
@@ -294,9 +304,9 @@ edge "${named/\[5001\]/[$(seq -s, 64)]}" "vni = 64" > "$conf"
 opened
 tell "64 networks" is_fine
 ok "64 networks" "ok: 1 edge, 1 port, 64 VNIs"
-faulty "an unknown key of an edge" "config Priority" "$named"$'\nunknown = 1\nPriority = 1\nmax_age = 29' "vni = 5002"
-faulty "the relation of the times before the ports" "config max_age" "$named"$'\nmax_age = 29' "vni = 5002"
-faulty "hello before what comes behind it" "config hello" "$named"$'\nhold = 0\nhello = 0\nunknown = 1' "vni = 5002"
+faulty "an unknown key of an edge" "config Priority" "$named"$'\nunknown = 1\nPriority = 1\nmax_age = 29' "vni = 5002" 4
+faulty "the relation of the times before the ports" "config max_age" "$named"$'\nmax_age = 29' "vni = 5002" 2
+faulty "hello before what comes behind it" "config hello" "$named"$'\nhold = 0\nhello = 0\nunknown = 1' "vni = 5002" 4
 printf '[[edge]]\n%s\n' "$named" > "$conf"
 opened
 tell "no port" tells "config port"
@@ -324,7 +334,8 @@ wrong "65 ports" "edge 1: port is an array, allowed are 1 to 64 tables, each wri
 { edge "$named" "vni = 5001" && edge "$named" "vni = 5001"; } > "$conf"
 opened
 tell "an address twice" tells "config address"
-wrong "an address twice" "edge 2: address is '10.0.0.1', which edge 1 has, allowed is an IPv4 address that no edge before has, as '10.0.0.1'"
+wrong "an address twice" "edge 2: address is '10.0.0.1', which edge 1 has, allowed is an IPv4 address that no edge before has, as '10.0.0.1'" \
+  "edge 2: bridge is '02:aa:00:00:00:01', which edge 1 has, allowed is a MAC address of one station that no edge before has, as '02:aa:00:00:00:01'"
 { edge "$named" "vni = 5001" && edge "${named/.1\"/.2\"}" "vni = 5001"; } > "$conf"
 opened
 tell "a bridge twice" tells "config bridge"
@@ -342,6 +353,7 @@ ok "the third port of the second edge put right" "ok: 2 edges, 4 ports, 1 VNI"
 an_address="allowed is an IPv4 address that no edge before has, as '10.0.0.1'"
 a_bridge="allowed is a MAC address of one station that no edge before has, as '02:aa:00:00:00:01'"
 a_place="allowed is an IPv4 address with a UDP port, as '127.0.0.1:5000'"
+some_vnis="allowed are 1 to 64 different numbers, 0 to 16777215"
 while IFS='|' read -r address reason; do
   edge "${named/10.0.0.1/$address}" "vni = 5001" > "$conf"
   wrong "address $address" "edge 1: address is '$address'$reason, $an_address"
@@ -394,6 +406,37 @@ second=${named//1\"/2\"}
 { edge "$named" "vni = 5001" && edge "$second" "vni = 5001" && edge "${second/.2\"/.3\"}" "vni = 5001"; } > "$conf"
 wrong "the bridge of the second edge" "edge 3: bridge is '02:aa:00:00:00:02', which edge 2 has, $a_bridge"
 
+# each fault, in the order in which the keys are read: in one edge, in two, in a port, in a peer
+edge "$named"$'\nhold = 0\nhello = 3\nHold = 1' "vni = 5001" > "$conf"
+wrong "three faults of an edge" "edge 1: hello is 3, allowed are 1 to 2" "edge 1: hold is 0, allowed are 1 to 10" \
+  "edge 1: Hold is 1, which is no key of an edge: did you mean hold?"
+times="allowed are 6 to 40, at least 2 * (hello + 1), at most 2 * (forward_delay - 1)"
+edge "$named"$'\nmax_age = 29\nsalt = -1' $'vni = 5002\ncost = 0\nx = 1' > "$conf"
+wrong "an edge's times behind its keys, and then its port" "edge 1: salt is -1, allowed are 0 to 9223372036854775807" \
+  "edge 1: max_age is 29, $times" "edge 1, port 1: vni is 5002, allowed is one of the edge's vnis" \
+  "edge 1, port 1: cost is 0, allowed are 1 to 200000000" "edge 1, port 1: x is 1, which is no key of a port"
+edge "$named"$'\nmax_age = 29\nforward_delay = 3' "vni = 5001" > "$conf"
+wrong "times of which one is faulty aren't compared" "edge 1: forward_delay is 3, allowed are 4 to 30"
+edge "${named/5001/-1}" $'vni = 7\nauto_edge = 1\n[[edge.port]]\nvni = -7' > "$conf"
+wrong "a port takes any network where the edge's are faulty" "edge 1: vnis is an array, $some_vnis" \
+  "edge 1, port 1: auto_edge is 1, allowed are true and false" "edge 1, port 2: vni is -7, allowed is one of the edge's vnis"
+{ edge "$named"$'\nageing = 9' "vni = 5002" && edge "${named/.1\"/.2\"}"$'\nbuckets = 0' "vni = 5001" && edge "$second" "vni = 5001"; } > "$conf"
+wrong "faults of three edges" "edge 1: ageing is 9, allowed are 10 to 1000000" \
+  "edge 1, port 1: vni is 5002, allowed is one of the edge's vnis" \
+  "edge 2: bridge is '02:aa:00:00:00:01', which edge 1 has, $a_bridge" "edge 2: buckets is 0, allowed are 1 to 65536" \
+  "edge 3: address is '10.0.0.2', which edge 2 has, $an_address"
+edge "$named" $'vni = 5001\nlocal = 1' > "$conf"
+wrong_for --run "a port without a remote end" "edge 1, port 1: local is 1, $a_place" "edge 1, port 1: remote is missing, $a_place"
+a_peer="allowed is an IPv4 address that no edge and no peer before has, as '10.0.0.9'"
+ends=$'vni = 5001\nlocal = "127.0.0.1:5000"\nremote = "127.0.0.1:5001"'
+{ printf 'control = ""\nControl = 1\n' && edge "$named"$'\nhold = 0' "$ends"; } > "$conf"
+printf '[[peer]]\naddress = "10.0.0.1"\nport = 1\n[[peer]]\n[[peer]]\naddress = "10.0.0.3"\n[[peer]]\naddress = "10.0.0.3"\n' >> "$conf"
+wrong_for --serve "faults of a socket, of an edge and of peers" \
+  "control is '', allowed is the path of a socket, 1 to 107 octets, none of them 0" \
+  "Control is 1, which is no key of the file: did you mean control?" "edge 1: hold is 0, allowed are 1 to 10" \
+  "peer 1: address is '10.0.0.1', which edge 1 has, $a_peer" "peer 1: port is 1, which is no key of a peer" \
+  "peer 2: address is missing, $a_peer" "peer 4: address is '10.0.0.3', which peer 3 has, $a_peer"
+
 # the file
 cp "$work/empty" "$conf"
 opened
@@ -402,15 +445,17 @@ wrong "an empty configuration" "edge is missing, allowed are 1 to 64 tables, eac
 printf 'edge = 1\na = 1\n' > "$conf"
 opened
 tell "edge that is no array" tells "config edge"
-wrong "edge that is no array" "edge is 1, allowed are 1 to 64 tables, each written as [[edge]]"
+wrong "edge that is no array" "edge is 1, allowed are 1 to 64 tables, each written as [[edge]]" "a is 1, which is no key of the file"
 { printf 'b = 1\nB = 2\n' && edge "" "vni = 5001"; } > "$conf"
 opened
 tell "an unknown key of the file, before the edges" tells "config B"
-wrong "an unknown key of the file, before the edges" "B is 2, which is no key of the file"
+nameless=("edge 1: address is missing, $an_address" "edge 1: bridge is missing, $a_bridge" "edge 1: vnis is missing, $some_vnis")
+wrong "an unknown key of the file, before the edges" "B is 2, which is no key of the file" "b is 1, which is no key of the file" \
+  "${nameless[@]}"
 { printf '"b\\u001b[2J\\n\\u009b\\u00e4" = "\\u0007"\n' && edge "" "vni = 5001"; } > "$conf"
-wrong "a key and a value that would steer a terminal" "b?[2J??ä is '?', which is no key of the file"
+wrong "a key and a value that would steer a terminal" "b?[2J??ä is '?', which is no key of the file" "${nameless[@]}"
 { printf '"%0200d" = 1\n' 0 && edge "" "vni = 5001"; } > "$conf"
-wrong "a key of 200 characters" "$(printf '%0100d' 0) is 1, which is no key of the file"
+wrong "a key of 200 characters" "$(printf '%0100d' 0) is 1, which is no key of the file" "${nameless[@]}"
 for n in $(seq 65); do printf '[[edge]]\naddress = "10.0.0.%s"\nbridge = "02:aa:00:00:00:%02x"\nvnis = [5001]\n[[edge.port]]\nvni = 5001\n' "$n" "$n"; done > "$conf"
 opened
 tell "65 edges" tells "config edge"
@@ -702,12 +747,12 @@ peers() {
   for line in "$@"; do printf '[[peer]]\n%s\n' "$line" >> "$conf"; done
 }
 
-# unserved NAME KEY LINE: the configuration in $conf can't be served: the key is told, and by a check this line
+# unserved NAME KEY LINE..: the configuration in $conf can't be served: the key is told, and by a check these lines
 unserved() {
   run serve --config "$conf"
   tell "$1" says "config $2"
   run check --serve --config "$conf"
-  tell "$1, checked" says "$3"
+  tell "$1, checked" says "${@:3}"
 }
 
 an_address="allowed is an IPv4 address that no edge and no peer before has, as '10.0.0.9'"
@@ -746,7 +791,8 @@ unserved "an octet of a peer" address "peer 1: address is '10.0.0.09', whose oct
 peers "address = 9"
 unserved "a peer's address that is no text" address "peer 1: address is 9, $an_address"
 peers "$there" 'Address = "10.0.0.8"'
-unserved "a peer without an address" address "peer 2: address is missing, $an_address"
+unserved "a peer without an address" address "peer 2: address is missing, $an_address" \
+  "peer 2: Address is '10.0.0.8', which is no key of a peer: did you mean address?"
 peers "$there"$'\nname = 1'
 unserved "an unknown key of a peer" name "peer 1: name is 1, which is no key of a peer"
 peers "$there"$'\nadress = 1'
@@ -757,7 +803,7 @@ for value in '"10.0.0.9"' 9 '[9]' '[]'; do
   run serve --config "$conf"
   tell "peer = $value" says "config peer"
   run check --serve --config "$conf"
-  tell "peer = $value, checked" names peer
+  tell "peer = $value, checked" names peer 1
 done
 serves "$control"
 printf '[peer]\n%s\n' "$there" >> "$conf"
@@ -772,20 +818,23 @@ tell "63 peers beside an edge" [ "$status $(head -n 1 "$work/out")" = "0 ok: 1 e
 # which fault is told first: the file's keys, an unknown key, the edges, the peers
 peers "address = 1"
 sed -i 's/^vnis.*/vnis = 1/' "$conf"
-unserved "an edge's fault before a peer's" vnis "edge 1: vnis is 1, allowed are 1 to 64 different numbers, 0 to 16777215"
+wrong_vnis="edge 1: vnis is 1, allowed are 1 to 64 different numbers, 0 to 16777215"
+unserved "an edge's fault before a peer's" vnis "$wrong_vnis" "peer 1: address is 1, $an_address"
 sed -i '1i name = 1' "$conf"
-unserved "an unknown key before an edge's fault" name "name is 1, which is no key of the file"
+a_name="name is 1, which is no key of the file"
+unserved "an unknown key before an edge's fault" name "$a_name" "$wrong_vnis" "peer 1: address is 1, $an_address"
 sed -i '/peer/,$d' "$conf"
 sed -i '1i peer = 1' "$conf"
-unserved "peer before an unknown key" peer "peer is 1, $tables"
+unserved "peer before an unknown key" peer "peer is 1, $tables" "$a_name" "$wrong_vnis"
 sed -i 's/^control.*/control = ""/' "$conf"
 a_path="allowed is the path of a socket, 1 to 107 octets, none of them 0"
-unserved "control before peer" control "control is '', $a_path"
+unserved "control before peer" control "control is '', $a_path" "peer is 1, $tables" "$a_name" "$wrong_vnis"
 sed -i '/^control/d' "$conf"
-unserved "no control" control "control is missing, $a_path"
+unserved "no control" control "control is missing, $a_path" "peer is 1, $tables" "$a_name" "$wrong_vnis"
 sed -i '1i edge = 1' "$conf"
 sed -i '/edge]]/,$d' "$conf"
-unserved "edge before control" edge "edge is 1, allowed are 1 to 64 tables, each written as [[edge]]"
+unserved "edge before control" edge "edge is 1, allowed are 1 to 64 tables, each written as [[edge]]" \
+  "control is missing, $a_path" "peer is 1, $tables" "$a_name"
 peers "$there"
 sed -i "s/$host.1:30001/0.0.0.0:1/" "$conf"
 run check --serve --config "$conf"

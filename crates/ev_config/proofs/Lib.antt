@@ -1,3 +1,6 @@
 pub mod Listing
 pub mod Walking
 pub mod Fitting
+pub mod Lines
+pub mod Agreeing
+pub mod Adding

@@ -17,22 +17,66 @@ edge_keys =
     ∷ codes "forward_delay" ∷ codes "hold" ∷
     codes "ageing" ∷ codes "capacity" ∷ codes "buckets" ∷ codes "salt" ∷ codes "incarnation" ∷ codes "port" ∷ []
 
+-- ---- key by key
+
+-- an address that none of those before is
+abbrev pub address_of : List ℕ → Members → Result ℕ Key
+address_of before t = required (codes "address") (λ d. new_among before (addr_in d)) t
+
+abbrev pub bridge_of : List ℕ → Members → Result ℕ Key
+bridge_of before t = required (codes "bridge") (λ d. new_among before (bridge_in d)) t
+
+abbrev pub networks_of : Members → Result (List ℕ) Key
+networks_of t = required (codes "vnis") vnis_in t
+
+abbrev pub priority_of : Members → Result ℕ Key
+priority_of t = optional (codes "priority") (steps_in 4096 61440) 32768 t
+
+abbrev pub hello_of : Members → Result ℕ Key
+hello_of t = optional (codes "hello") (number_in 1 2) 2 t
+
+abbrev pub max_age_of : Members → Result ℕ Key
+max_age_of t = optional (codes "max_age") (number_in 6 40) 20 t
+
+abbrev pub forward_delay_of : Members → Result ℕ Key
+forward_delay_of t = optional (codes "forward_delay") (number_in 4 30) 15 t
+
+abbrev pub hold_of : Members → Result ℕ Key
+hold_of t = optional (codes "hold") (number_in 1 10) 6 t
+
+abbrev pub ageing_of : Members → Result ℕ Key
+ageing_of t = optional (codes "ageing") (number_in 10 1000000) 300 t
+
+abbrev pub capacity_of : Members → Result ℕ Key
+capacity_of t = optional (codes "capacity") (number_in 1 65536) 1024 t
+
+abbrev pub buckets_of : ℕ → Members → Result ℕ Key
+buckets_of capacity t = optional (codes "buckets") (number_in 1 65536) capacity t
+
+abbrev pub salt_of : Members → Result ℕ Key
+salt_of t = optional (codes "salt") (number_in 0 (2 ^ 63 - 1)) 0 t
+
+abbrev pub incarnation_of : Members → Result ℕ Key
+incarnation_of t = optional (codes "incarnation") (number_in 0 (2 ^ 32 - 1)) 0 t
+
+-- ---- the edge
+
 -- who the edge is, given the addresses and bridges of the edges before it
 abbrev pub names_of : List ℕ → List ℕ → Members → Result Names Key
 names_of addresses bridges t = do
-  address ← required (codes "address") (λ d. new_among addresses (addr_in d)) t
-  bridge ← required (codes "bridge") (λ d. new_among bridges (bridge_in d)) t
-  vnis ← required (codes "vnis") vnis_in t
+  address ← address_of addresses t
+  bridge ← bridge_of bridges t
+  vnis ← networks_of t
   Ok (record { address = address; bridge = bridge; vnis = record { items = vnis } })
 
 -- its bridge's identifier and times
 abbrev pub tree_of : ℕ → Members → Result Settings Key
 tree_of bridge t = do
-  priority ← optional (codes "priority") (steps_in 4096 61440) 32768 t
-  hello ← optional (codes "hello") (number_in 1 2) 2 t
-  max_age ← optional (codes "max_age") (number_in 6 40) 20 t
-  forward_delay ← optional (codes "forward_delay") (number_in 4 30) 15 t
-  hold ← optional (codes "hold") (number_in 1 10) 6 t
+  priority ← priority_of t
+  hello ← hello_of t
+  max_age ← max_age_of t
+  forward_delay ← forward_delay_of t
+  hold ← hold_of t
   Ok (record {
     identifier = priority * 2 ^ 48 + bridge;
     hello = hello;
@@ -44,16 +88,20 @@ tree_of bridge t = do
 -- how much it keeps, how long, and in which of its lives
 abbrev pub limits_of : Members → Result Limits Key
 limits_of t = do
-  ageing ← optional (codes "ageing") (number_in 10 1000000) 300 t
-  capacity ← optional (codes "capacity") (number_in 1 65536) 1024 t
-  buckets ← optional (codes "buckets") (number_in 1 65536) capacity t
-  salt ← optional (codes "salt") (number_in 0 (2 ^ 63 - 1)) 0 t
-  incarnation ← optional (codes "incarnation") (number_in 0 (2 ^ 32 - 1)) 0 t
+  ageing ← ageing_of t
+  capacity ← capacity_of t
+  buckets ← buckets_of capacity t
+  salt ← salt_of t
+  incarnation ← incarnation_of t
   Ok (record { ageing = ageing; capacity = capacity; buckets = buckets; salt = salt; incarnation = incarnation })
 
 -- 2 * (forward_delay - 1) >= max_age >= 2 * (hello + 1)
+abbrev pub times_fit : ℕ → ℕ → ℕ → Bool
+times_fit hello max_age forward_delay =
+    nat_le max_age (2 * (forward_delay - 1)) && nat_le (2 * (hello + 1)) max_age
+
 abbrev pub fits_together : Settings → Bool
-fits_together tree = nat_le tree.max_age (2 * (tree.forward_delay - 1)) && nat_le (2 * (tree.hello + 1)) tree.max_age
+fits_together tree = times_fit tree.hello tree.max_age tree.forward_delay
 
 abbrev pub related : Settings → Result Bool Key
 related tree = if fits_together tree then Ok true else Err (codes "max_age")

@@ -21,15 +21,37 @@ endpoint_at is_needed key (Some d) = read_or key (option_map (λ e. Some e) (end
 abbrev pub endpoint_of : Bool → Key → Members → Result (Option Endpoint) Key
 endpoint_of is_needed key t = endpoint_at is_needed key (get_member key t)
 
+-- ---- key by key
+
+abbrev pub vni_of : List ℕ → Members → Result ℕ Key
+vni_of vnis t = required (codes "vni") (λ d. one_of vnis (vni_in d)) t
+
+abbrev pub cost_of : Members → Result ℕ Key
+cost_of t = optional (codes "cost") (number_in 1 200000000) 20000 t
+
+abbrev pub priority_of : Members → Result ℕ Key
+priority_of t = optional (codes "priority") (steps_in 16 240) 128 t
+
+abbrev pub admin_edge_of : Members → Result Bool Key
+admin_edge_of t = optional (codes "admin_edge") flag_in false t
+
+abbrev pub auto_edge_of : Members → Result Bool Key
+auto_edge_of t = optional (codes "auto_edge") flag_in true t
+
+abbrev pub point_to_point_of : Members → Result Bool Key
+point_to_point_of t = optional (codes "point_to_point") flag_in true t
+
+-- ---- the port
+
 -- what stands in a port's table, given the networks of its edge
 abbrev pub port_of : Bool → List ℕ → Members → Result Port Key
 port_of for_run vnis t = do
-  vni ← required (codes "vni") (λ d. one_of vnis (vni_in d)) t
-  cost ← optional (codes "cost") (number_in 1 200000000) 20000 t
-  priority ← optional (codes "priority") (steps_in 16 240) 128 t
-  admin_edge ← optional (codes "admin_edge") flag_in false t
-  auto_edge ← optional (codes "auto_edge") flag_in true t
-  point_to_point ← optional (codes "point_to_point") flag_in true t
+  vni ← vni_of vnis t
+  cost ← cost_of t
+  priority ← priority_of t
+  admin_edge ← admin_edge_of t
+  auto_edge ← auto_edge_of t
+  point_to_point ← point_to_point_of t
   local ← endpoint_of for_run (codes "local") t
   remote ← endpoint_of for_run (codes "remote") t
   _ ← only port_keys t

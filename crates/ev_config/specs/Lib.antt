@@ -4,4 +4,6 @@ pub mod ConfigPort
 pub mod ConfigEdge
 pub mod ConfigPeer
 pub mod Config
+pub mod Faults
+pub mod Told
 pub mod Fitting

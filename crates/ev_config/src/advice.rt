@@ -4,20 +4,29 @@ ghost use Rattle.ether_wire.specs.Ends.{IsOpen};
 ghost use Rattle.ether_wire.specs.Memory.{page_end};
 
 use crate::edge::EDGE_KEYS;
+use crate::edges::{FILE_KEYS, SERVED_KEYS};
+use crate::faults::FaultyKey;
 use crate::hints::{meant, put_hint};
 use crate::keys::{addr_in, bridge_in, tables_at};
 use crate::peers::PEER_KEYS;
-use crate::place::{Place, file_keys, place_of};
+use crate::place::Place;
 use crate::port::PORT_KEYS;
 use crate::whole::Use;
 use ether_wire::{Device, Out, Page, put_decimal};
 use std::alloc::Global;
-use toml::de::Error;
 use toml::value::Array;
 use toml::{Table, Value};
 
 /// Room for a line.
 pub type Line = Page<1024>;
+
+/// The keys that the document may have itself.
+fn file_keys(wanted: Use) -> &'static [&'static str] {
+    match wanted {
+        Use::Any | Use::Run => &FILE_KEYS,
+        Use::Serve => &SERVED_KEYS,
+    }
+}
 
 /// What may stand at a key of an edge.
 fn allowed_in_edge(key: &str) -> &'static str {
@@ -114,7 +123,7 @@ fn put_plain_char(line: &mut Line, c: char) -> Result<(), Device>
 }
 
 /// Writes as much of a text as a line has room for.
-fn put_shown(line: &mut Line, text: &str) -> Result<(), Device>
+pub(crate) fn put_shown(line: &mut Line, text: &str) -> Result<(), Device>
     requires { IsOpen (page_end line.old) }
     ensures { OnOk result ((page_end line.new).failures ≡ (page_end line.old).failures) }
 {
@@ -353,8 +362,7 @@ fn put_allowed(
 {
     line.put(b", ")?;
     line.put(allowed(wanted, place, key).as_bytes())?;
-    put_meant(line, alloc, wanted, place, key)?;
-    line.put(b"\n")
+    put_meant(line, alloc, wanted, place, key)
 }
 
 /// Writes where a key is faulty, what stands there, why it is wrong and what is allowed.
@@ -363,81 +371,25 @@ fn put_fault(
     alloc: Global,
     wanted: Use,
     document: &Table,
-    key: &str,
+    fault: FaultyKey<'_>,
 ) -> Result<(), Device>
     requires { IsOpen (page_end line.old) }
     ensures { OnOk result ((page_end line.new).failures ≡ (page_end line.old).failures) }
 {
-    let place = place_of(wanted, document);
+    let FaultyKey { place, key } = fault;
     put_place(line, place)?;
     put_found(line, document, place, key)?;
     put_allowed(line, alloc, wanted, place, key)
 }
 
 /// The line that tells of a faulty key.
-pub(crate) fn fault_line(alloc: Global, wanted: Use, document: &Table, key: &str) -> Line {
+pub(crate) fn fault_line(
+    alloc: Global,
+    wanted: Use,
+    document: &Table,
+    fault: FaultyKey<'_>,
+) -> Line {
     let mut line = Line::new();
-    let _fits = put_fault(&mut line, alloc, wanted, document, key);
+    let _fits = put_fault(&mut line, alloc, wanted, document, fault);
     line
-}
-
-/// Writes in which line the text is no TOML, and why.
-fn put_syntax(line: &mut Line, text: &str, error: &Error) -> Result<(), Device>
-    requires { IsOpen (page_end line.old) }
-    ensures { OnOk result ((page_end line.new).failures ≡ (page_end line.old).failures) }
-{
-    line.put(b"line ")?;
-    put_decimal(line, line_of(text, error))?;
-    line.put(b": ")?;
-    put_shown(line, error.message())?;
-    line.put(b"\n")
-}
-
-/// The line of an error in a text, from 1.
-fn line_of(text: &str, error: &Error) -> u64 {
-    let start = match error.span() {
-        Some(span) => span.start,
-        None => 0,
-    };
-    let mut number = 1u64;
-    for octet in text.as_bytes().iter().take(start) {
-        if *octet == b'\n' {
-            number = number.saturating_add(1);
-        }
-    }
-    number
-}
-
-/// The line that tells where a text is no TOML document.
-pub(crate) fn syntax_line(text: &str, error: &Error) -> Line {
-    let mut line = Line::new();
-    let _fits = put_syntax(&mut line, text, error);
-    line
-}
-
-/// What is told of a text that is no configuration, perhaps none for such a use, and of its faulty
-/// key if it is a document.
-pub fn refusal_line(alloc: Global, wanted: Use, text: &str, key: Option<&str>) -> Line {
-    match toml::table_from_str(alloc, text) {
-        Ok(table) => fault_line(alloc, wanted, &table, key.unwrap_or("text")),
-        Err(error) if error.is_memory() => plain_line(key),
-        Err(error) => syntax_line(text, &error),
-    }
-}
-
-/// What is told where there is no memory to say more.
-fn plain_line(key: Option<&str>) -> Line {
-    let mut line = Line::new();
-    let _fits = put_plain(&mut line, key.unwrap_or("text"));
-    line
-}
-
-/// Writes the faulty key alone.
-fn put_plain(line: &mut Line, key: &str) -> Result<(), Device>
-    requires { IsOpen (page_end line.old) }
-    ensures { OnOk result ((page_end line.new).failures ≡ (page_end line.old).failures) }
-{
-    line.put(b"config ")?;
-    put_shown(line, key)?;
-    line.put(b"\n")
 }

@@ -4,7 +4,7 @@ ghost use Rattle.std.specs.List.{list_any, IsDistinct};
 ghost use Rattle.toml.specs.View.{table_view};
 ghost use Rattle.ev_config.specs.Keys.{Gives, required, bridge_in, new_among};
 ghost use Rattle.ev_config.specs.Fitting.{Fits};
-ghost use Rattle.ev_config.specs.ConfigEdge.{names_of, tree_of, limits_of, related, edge_from, edge_of};
+ghost use Rattle.ev_config.specs.ConfigEdge.{priority_of, hello_of, max_age_of, forward_delay_of, hold_of, ageing_of, capacity_of, buckets_of, salt_of, incarnation_of, names_of, tree_of, limits_of, times_fit, related, edge_from, edge_of};
 
 use crate::endpoint::PortEndpoints;
 use crate::keys::{
@@ -81,7 +81,7 @@ fn has_bridge(bridges: &[Mac], bridge: Mac) -> bool
 }
 
 /// The bridge's address, none of those before.
-fn bridge_of<'a>(table: &'a Table, before: &[Mac]) -> Result<Mac, Fault<'a>>
+pub(crate) fn bridge_of<'a>(table: &'a Table, before: &[Mac]) -> Result<Mac, Fault<'a>>
     ensures { Gives (λ n. n) (required (codes "bridge") (λ d. new_among before.now (bridge_in d))
         (table_view table.now)) result }
 {
@@ -115,6 +115,47 @@ pub(crate) fn names_of<'a>(
     })
 }
 
+/// The bridge's priority.
+pub(crate) fn priority_of<'a>(table: &'a Table) -> Result<u64, Fault<'a>>
+    ensures value { Gives (λ n. n) (priority_of (table_view table.now)) result }
+    ensures high { IfOk result (λ n. n ≤ 61440) }
+{
+    steps(table, "priority", 4096, 61_440, 32_768)
+}
+
+/// How many seconds pass from one message to the next.
+pub(crate) fn hello_of<'a>(table: &'a Table) -> Result<u64, Fault<'a>>
+    ensures value { Gives (λ n. n) (hello_of (table_view table.now)) result }
+    ensures low { IfOk result (λ n. 1 ≤ n) }
+    ensures high { IfOk result (λ n. n ≤ 2) }
+{
+    number(table, "hello", 1, 2, 2)
+}
+
+/// How many seconds old a message may be.
+pub(crate) fn max_age_of<'a>(table: &'a Table) -> Result<u64, Fault<'a>>
+    ensures value { Gives (λ n. n) (max_age_of (table_view table.now)) result }
+    ensures high { IfOk result (λ n. n ≤ 40) }
+{
+    number(table, "max_age", 6, 40, 20)
+}
+
+/// How many seconds a port waits before each step to forwarding.
+pub(crate) fn forward_delay_of<'a>(table: &'a Table) -> Result<u64, Fault<'a>>
+    ensures value { Gives (λ n. n) (forward_delay_of (table_view table.now)) result }
+    ensures high { IfOk result (λ n. n ≤ 30) }
+{
+    number(table, "forward_delay", 4, 30, 15)
+}
+
+/// How many messages go in a second.
+pub(crate) fn hold_of<'a>(table: &'a Table) -> Result<u64, Fault<'a>>
+    ensures value { Gives (λ n. n) (hold_of (table_view table.now)) result }
+    ensures high { IfOk result (λ n. n ≤ 10) }
+{
+    number(table, "hold", 1, 10, 6)
+}
+
 /// The bridge's identifier and times.
 pub(crate) fn tree_of<'a>(bridge: Mac, table: &'a Table) -> Result<Settings, Fault<'a>>
     ensures value { Gives (λ s. s) (tree_of bridge (table_view table.now)) result }
@@ -122,11 +163,11 @@ pub(crate) fn tree_of<'a>(bridge: Mac, table: &'a Table) -> Result<Settings, Fau
     ensures hello { IfOk result (λ s. s.hello ≤ 2) }
     ensures forward_delay { IfOk result (λ s. s.forward_delay ≤ 30) }
 {
-    let priority = steps(table, "priority", 4096, 61_440, 32_768)?;
-    let hello = number(table, "hello", 1, 2, 2)?;
-    let max_age = number(table, "max_age", 6, 40, 20)?;
-    let forward_delay = number(table, "forward_delay", 4, 30, 15)?;
-    let hold = number(table, "hold", 1, 10, 6)?;
+    let priority = priority_of(table)?;
+    let hello = hello_of(table)?;
+    let max_age = max_age_of(table)?;
+    let forward_delay = forward_delay_of(table)?;
+    let hold = hold_of(table)?;
     Ok(Settings {
         identifier: BridgeId::from_parts(priority as u16, bridge.number()),
         hello: hello as u16,
@@ -134,6 +175,48 @@ pub(crate) fn tree_of<'a>(bridge: Mac, table: &'a Table) -> Result<Settings, Fau
         forward_delay: forward_delay as u16,
         hold: hold as u32,
     })
+}
+
+/// How many seconds an entry lives that isn't heard again.
+pub(crate) fn ageing_of<'a>(table: &'a Table) -> Result<u64, Fault<'a>>
+    ensures value { Gives (λ n. n) (ageing_of (table_view table.now)) result }
+{
+    number(table, "ageing", 10, 1_000_000, 300)
+}
+
+/// How many stations the edge keeps.
+pub(crate) fn capacity_of<'a>(table: &'a Table) -> Result<u64, Fault<'a>>
+    ensures value { Gives (λ n. n) (capacity_of (table_view table.now)) result }
+    ensures low { IfOk result (λ n. 1 ≤ n) }
+    ensures high { IfOk result (λ n. n ≤ 65536) }
+{
+    number(table, "capacity", 1, 65_536, 1024)
+}
+
+/// How many buckets the stations are in, as many as stations where that is left out.
+pub(crate) fn buckets_of<'a>(capacity: u64, table: &'a Table) -> Result<u64, Fault<'a>>
+    requires low { 1 ≤ capacity }
+    requires high { capacity ≤ 65536 }
+    ensures value { Gives (λ n. n) (buckets_of capacity (table_view table.now)) result }
+    ensures low { IfOk result (λ n. 1 ≤ n) }
+    ensures high { IfOk result (λ n. n ≤ 65536) }
+{
+    number(table, "buckets", 1, 65_536, capacity)
+}
+
+/// The salt of the buckets.
+pub(crate) fn salt_of<'a>(table: &'a Table) -> Result<u64, Fault<'a>>
+    ensures value { Gives (λ n. n) (salt_of (table_view table.now)) result }
+{
+    number(table, "salt", 0, 0x7fff_ffff_ffff_ffff, 0)
+}
+
+/// In which of its lives the edge is.
+pub(crate) fn incarnation_of<'a>(table: &'a Table) -> Result<u64, Fault<'a>>
+    ensures value { Gives (λ n. n) (incarnation_of (table_view table.now)) result }
+    ensures high { IfOk result (λ n. n < 2 ^ 32) }
+{
+    number(table, "incarnation", 0, 0xffff_ffff, 0)
 }
 
 /// How much the edge keeps, how long, and in which of its lives.
@@ -145,11 +228,11 @@ pub(crate) fn limits_of<'a>(table: &'a Table) -> Result<Limits, Fault<'a>>
     ensures buckets { IfOk result (λ l. l.buckets ≤ 65536) }
     ensures incarnation { IfOk result (λ l. l.incarnation < 2 ^ 32) }
 {
-    let ageing = number(table, "ageing", 10, 1_000_000, 300)?;
-    let capacity = number(table, "capacity", 1, 65_536, 1024)?;
-    let buckets = number(table, "buckets", 1, 65_536, capacity)?;
-    let salt = number(table, "salt", 0, 0x7fff_ffff_ffff_ffff, 0)?;
-    let incarnation = number(table, "incarnation", 0, 0xffff_ffff, 0)?;
+    let ageing = ageing_of(table)?;
+    let capacity = capacity_of(table)?;
+    let buckets = buckets_of(capacity, table)?;
+    let salt = salt_of(table)?;
+    let incarnation = incarnation_of(table)?;
     Ok(Limits {
         ageing,
         capacity,
@@ -159,15 +242,23 @@ pub(crate) fn limits_of<'a>(table: &'a Table) -> Result<Limits, Fault<'a>>
     })
 }
 
-/// Refuses times that don't fit together (IEEE 802.1D-2004, section 17.14).
+/// Whether times fit together (IEEE 802.1D-2004, section 17.14).
+pub(crate) fn times_fit(hello: u64, max_age: u64, forward_delay: u64) -> bool
+    requires hello { hello ≤ 2 }
+    requires forward_delay { forward_delay ≤ 30 }
+    ensures { result ≡ times_fit hello max_age forward_delay }
+{
+    max_age <= 2 * forward_delay.saturating_sub(1) && 2 * (hello + 1) <= max_age
+}
+
+/// Refuses times that don't fit together.
 pub(crate) fn related<'a>(tree: &Settings) -> Result<bool, Fault<'a>>
     requires hello { tree.now.hello ≤ 2 }
     requires forward_delay { tree.now.forward_delay ≤ 30 }
     ensures { Gives (λ b. b) (related tree.now) result }
 {
-    if tree.max_age <= 2 * tree.forward_delay.saturating_sub(1)
-        && 2 * (tree.hello + 1) <= tree.max_age
-    {
+    let hello = tree.hello as u64;
+    if times_fit(hello, tree.max_age as u64, tree.forward_delay as u64) {
         Ok(true)
     } else {
         Err(Fault::Key("max_age"))

@@ -227,7 +227,7 @@ pub(crate) fn vni_in(value: &Value) -> Option<Vni>
 }
 
 /// Whether a key is one of these.
-fn is_among(keys: &[&str], key: &str) -> bool
+pub(crate) fn is_among(keys: &[&str], key: &str) -> bool
     ensures { result ≡ is_among (map (λ k. k.now) keys.now) key.now }
 {
     keys.iter().any(|k| *k == key)

@@ -3,19 +3,25 @@
 
 mod advice;
 mod config;
+mod document;
 mod edge;
 mod edges;
 mod endpoint;
+mod faults;
 mod hints;
 mod keys;
+mod laws;
 mod peers;
 mod place;
 mod port;
+mod refusal;
 mod summary;
 mod whole;
 
-pub use advice::{Line, refusal_line};
+pub use advice::Line;
 pub use config::{ConfigRefusal, config_for, config_of, served_config_of};
 pub use endpoint::{Endpoint, PortEndpoints};
+pub use laws::readings_agree;
+pub use refusal::put_refusal;
 pub use summary::summary_line;
 pub use whole::{Config, Served, Use};

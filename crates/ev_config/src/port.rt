@@ -4,7 +4,7 @@ ghost use Rattle.toml.specs.View.{table_view, array_view};
 ghost use Rattle.ev_config.specs.Keys.{Gives, required, vni_in, one_of};
 ghost use Rattle.ev_edge.specs.Config.{vnis_of};
 ghost use Rattle.ev_config.specs.Fitting.{AreAmong};
-ghost use Rattle.ev_config.specs.ConfigPort.{endpoint_of, port_of, no_ports, with_port, ports_from};
+ghost use Rattle.ev_config.specs.ConfigPort.{cost_of, priority_of, admin_edge_of, auto_edge_of, point_to_point_of, endpoint_of, port_of, no_ports, with_port, ports_from};
 
 use crate::endpoint::{Endpoint, PortEndpoints};
 use crate::keys::{Fault, endpoint_in, flag, has_vni, number, only, steps, value_at, vni_in};
@@ -47,7 +47,7 @@ pub(crate) struct Ports {
 
 /// The network of the port, one of the edge's.
 #[tactic(auto, using(crate::proofs::Fitting::there))]
-fn vni_of<'a>(table: &'a Table, vnis: &[Vni]) -> Result<Vni, Fault<'a>>
+pub(crate) fn vni_of<'a>(table: &'a Table, vnis: &[Vni]) -> Result<Vni, Fault<'a>>
     ensures value { Gives (λ n. n)
         (required (codes "vni") (λ d. one_of vnis.now (vni_in d)) (table_view table.now)) result }
     ensures served { IfOk result (λ v. Contains vnis.now v) }
@@ -62,7 +62,7 @@ fn vni_of<'a>(table: &'a Table, vnis: &[Vni]) -> Result<Vni, Fault<'a>>
 }
 
 /// The endpoint at a key, which may be left out unless it is needed.
-fn endpoint_of<'a>(
+pub(crate) fn endpoint_of<'a>(
     table: &'a Table,
     key: &'a str,
     is_needed: bool,
@@ -79,17 +79,54 @@ fn endpoint_of<'a>(
     }
 }
 
+/// The cost of the port.
+pub(crate) fn cost_of<'a>(table: &'a Table) -> Result<u64, Fault<'a>>
+    ensures value { Gives (λ n. n) (cost_of (table_view table.now)) result }
+    ensures high { IfOk result (λ n. n ≤ 200000000) }
+{
+    number(table, "cost", 1, 200_000_000, 20_000)
+}
+
+/// The port's priority.
+pub(crate) fn priority_of<'a>(table: &'a Table) -> Result<u64, Fault<'a>>
+    ensures value { Gives (λ n. n) (priority_of (table_view table.now)) result }
+    ensures high { IfOk result (λ n. n ≤ 240) }
+{
+    steps(table, "priority", 16, 240, 128)
+}
+
+/// Whether the port is taken for one at the edge of the network.
+pub(crate) fn admin_edge_of<'a>(table: &'a Table) -> Result<bool, Fault<'a>>
+    ensures { Gives (λ b. b) (admin_edge_of (table_view table.now)) result }
+{
+    flag(table, "admin_edge", false)
+}
+
+/// Whether that is found out by itself.
+pub(crate) fn auto_edge_of<'a>(table: &'a Table) -> Result<bool, Fault<'a>>
+    ensures { Gives (λ b. b) (auto_edge_of (table_view table.now)) result }
+{
+    flag(table, "auto_edge", true)
+}
+
+/// Whether one bridge alone is behind the port.
+pub(crate) fn point_to_point_of<'a>(table: &'a Table) -> Result<bool, Fault<'a>>
+    ensures { Gives (λ b. b) (point_to_point_of (table_view table.now)) result }
+{
+    flag(table, "point_to_point", true)
+}
+
 /// The port of a table, given the networks of its edge.
 pub(crate) fn port_of<'a>(for_run: bool, vnis: &[Vni], table: &'a Table) -> Result<Port, Fault<'a>>
     ensures value { Gives (λ p. p) (port_of for_run vnis.now (table_view table.now)) result }
     ensures served { IfOk result (λ p. Contains vnis.now p.config.vni) }
 {
     let vni = vni_of(table, vnis)?;
-    let cost = number(table, "cost", 1, 200_000_000, 20_000)?;
-    let priority = steps(table, "priority", 16, 240, 128)?;
-    let admin_edge = flag(table, "admin_edge", false)?;
-    let auto_edge = flag(table, "auto_edge", true)?;
-    let point_to_point = flag(table, "point_to_point", true)?;
+    let cost = cost_of(table)?;
+    let priority = priority_of(table)?;
+    let admin_edge = admin_edge_of(table)?;
+    let auto_edge = auto_edge_of(table)?;
+    let point_to_point = point_to_point_of(table)?;
     let local = endpoint_of(table, "local", for_run)?;
     let remote = endpoint_of(table, "remote", for_run)?;
     only(table, &PORT_KEYS)?;

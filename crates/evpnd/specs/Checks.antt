@@ -79,9 +79,9 @@ abbrev pub Sums : End → End → ℕ → Type 0
 Sums before after status = (text : Text) × Holds before after text
     × (status ≡ (if has_failed before after then 4 else 0))
 
--- a line is told, or a call of the notes failed
-abbrev pub TellsLine : End → End → ℕ → Type 0
-TellsLine before after status = (text : Text) × IsTold text before after status
+-- some text is told, or a call of the notes failed
+abbrev pub TellsSome : End → End → ℕ → Type 0
+TellsSome before after status = (text : Text) × IsTold text before after status
 
 -- some text and behind it this one was written on the output, or a call of it failed
 abbrev pub SumsWith : Text → End → End → ℕ → Type 0
@@ -114,9 +114,9 @@ abbrev pub Checks : Purpose → Result Config ConfigRefusal → Devices → Devi
 Checks purpose (Ok config) before after status = (after.input ≡ before.input)
     × SumsFor purpose.wanted purpose.most config before.out after.out before.notes after.notes status
 Checks purpose (Err (refusal.Key key)) before after status = (after.input ≡ before.input) × (after.out ≡ before.out)
-    × TellsLine before.notes after.notes status
+    × TellsSome before.notes after.notes status
 Checks purpose (Err refusal.Text) before after status = (after.input ≡ before.input) × (after.out ≡ before.out)
-    × TellsLine before.notes after.notes status
+    × TellsSome before.notes after.notes status
 Checks purpose (Err refusal.NoMemory) before after status = (after ≡ before) × (status ≡ 3)
 
 -- what a text gives for a configuration is so checked, whatever the reader has

@@ -7,14 +7,14 @@ ghost use Rattle.evpnd.specs.Files.{Text, HasRoom};
 ghost use Rattle.ev_report.specs.Usage.{IsTold};
 ghost use Rattle.ev_run.specs.Needs.{needs_of, asked_text};
 ghost use Rattle.ev_run.specs.Obstacles.{obstacles_of, obstacles_text};
-ghost use Rattle.evpnd.specs.Checks.{desk, OfFile, Sums, TellsLine, SumsWith, TellsObstacles, SumsRun, SumsFor, Checks, ChecksText};
+ghost use Rattle.evpnd.specs.Checks.{desk, OfFile, Sums, TellsSome, SumsWith, TellsObstacles, SumsRun, SumsFor, Checks, ChecksText};
 ghost use Rattle.evpnd.specs.Scripts.{ChecksAll};
 
 use crate::check_script::check_behind;
 use crate::files::{FileFault, Files, Named, put_unread};
 use ether_wire::{Device, Out};
-use ev_config::{Config, ConfigRefusal, Use, config_for, refusal_line, summary_line};
-use ev_report::{DEVICE, DONE, MEMORY, tell, usage_status};
+use ev_config::{Config, ConfigRefusal, Use, config_for, put_refusal, summary_line};
+use ev_report::{DEVICE, DONE, MEMORY, usage_status};
 use ev_run::{Obstacle, needs_of, obstacles_of, put_asked_needs, put_obstacles};
 use std::alloc::Global;
 
@@ -157,7 +157,7 @@ fn sum_up_for<W: Out, N: Out>(
     }
 }
 
-/// Tells where a text is no configuration.
+/// Tells why a text is no configuration.
 fn tell_refusal<N: Out>(
     alloc: Global,
     wanted: Use,
@@ -166,9 +166,9 @@ fn tell_refusal<N: Out>(
     notes: &mut N,
 ) -> u8
     requires { IsOpen (N.end notes.old) }
-    ensures { TellsLine (N.end notes.old) (N.end notes.new) result }
+    ensures { TellsSome (N.end notes.old) (N.end notes.new) result }
 {
-    tell(refusal_line(alloc, wanted, text, key).octets(), notes)
+    usage_status(put_refusal(notes, alloc, wanted, text, key))
 }
 
 /// Checks a text.

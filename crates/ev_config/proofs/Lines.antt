@@ -1,0 +1,55 @@
+-- Lines that are told one after the other.
+use Rattle.std.proofs.Common.{◌≡◌, ℕ, ◌+◌, ◌⊎◌, inl, inr, List, [], ◌∷◌, ◌++◌, length, Some, Ok, Err, refl, sym, ap}
+use Rattle.std.proofs.Common.{◌∙◌}
+use Rattle.std.proofs.Common.{append_assoc, arith}
+use Rattle.std.specs.Prelude.{Result}
+use Rattle.std.proofs.lemmas.List.{append-nil, length-map}
+use Rattle.toml.specs.Data.{Members}
+use Rattle.toml.specs.Parse.{parse_document}
+use Rattle.ether_wire.specs.declared.ends.Device.{Device}
+use Rattle.ether_wire.specs.Ends.{End, Puts}
+use Rattle.ev_config.specs.declared.faults.FaultyKey.{FaultyKey}
+use Rattle.ev_config.specs.declared.whole.Use.{Use}
+use Rattle.ev_config.specs.Faults.{Faulty, faulty_of, faults_view, faults_in}
+use Rattle.ev_config.specs.Told.{line_text, lines_text, TellsEach, TellsOne, TellsFaults, TellsRefusal}
+
+-- one line more
+pub lines_push : (ws : List (List ℕ)) (w : List ℕ) → lines_text (ws ++ w ∷ []) ≡ lines_text ws ++ line_text w
+lines_push [] w = append-nil (line_text w)
+lines_push (x ∷ ws) w = ap (λ more. line_text x ++ more) (lines_push ws w)
+    ∙ sym (append_assoc (line_text x) (lines_text ws) (line_text w))
+
+pub count_push : (ws : List (List ℕ)) (w : List ℕ) → length (ws ++ w ∷ []) ≡ length ws + 1
+count_push [] w = refl
+count_push (x ∷ ws) w = grind (arith, count_push ws w)
+
+-- as many lines as faults
+pub tells_each : (faults : List FaultyKey) (fs : List Faulty) (old new : End) (r : Result (Unit {0}) Device)
+    → faults_view faults ≡ fs → TellsEach faults old new r → TellsEach fs old new r
+tells_each faults fs old new (Ok done) e (words, count, is) =
+    (words, count ∙ sym (length-map faults faulty_of) ∙ ap length e, is)
+tells_each faults fs old new (Err device) e is = is
+
+-- so some text is put
+pub tells_some : {X : Type 0} (xs : List X) (old new : End) (r : Result (Unit {0}) Device) → TellsEach xs old new r
+    → (told : List ℕ) × Puts old new told r
+tells_some xs old new (Ok done) (words, count, is) = (lines_text words, is)
+tells_some xs old new (Err device) is = ([], is)
+
+-- the faults that were found are those of the document
+pub faults_told : (wanted : Use) (t : Members) (faults : List FaultyKey) (old new : End)
+    (r : Result (Unit {0}) Device) → faults_view faults ≡ faults_in wanted t → TellsEach faults old new r
+    → TellsFaults wanted t old new r
+faults_told wanted t faults old new r e each = inl (tells_each faults (faults_in wanted t) old new r e each)
+
+-- what is told of a document is told of its text
+pub text_told : (wanted : Use) (text : List ℕ) (t : Members) (old new : End) (r : Result (Unit {0}) Device)
+    → parse_document text ≡ Some t → TellsFaults wanted t old new r → TellsRefusal wanted text old new r
+text_told wanted text t old new r is (inl each) = inl (t, is, each)
+text_told wanted text t old new r is (inr one) = inr one
+
+-- so some text is put
+pub refusal_some : (wanted : Use) (text : List ℕ) (old new : End) (r : Result (Unit {0}) Device)
+    → TellsRefusal wanted text old new r → (told : List ℕ) × Puts old new told r
+refusal_some wanted text old new r (inl (t, is, each)) = tells_some (faults_in wanted t) old new r each
+refusal_some wanted text old new r (inr (words, put)) = (line_text words, put)

@@ -1,0 +1,13 @@
+use Rattle.std.proofs.Common.{◌≡◌, ◌+◌, ◌++◌, drop, option_map}
+use Rattle.toml.specs.View.{items_view}
+use Rattle.ev_config.specs.Faults.{faults_view, ports_faults}
+use Rattle.ev_config.proofs.faults.add_ports.Given as goal
+
+abbrev pub invariant-loop-value : goal.invariant-loop-value
+invariant-loop-value l = record {
+  count : l.port ≡ l.value-index + 1;
+  value : faults_view l.faults.items ++ ports_faults l.for_run (option_map (λ v. v.items) l.vnis) l.edge l.port
+      (items_view (drop l.value-index l.tables.items))
+      ≡ faults_view l.initial.faults.items ++ ports_faults l.for_run (option_map (λ v. v.items) l.vnis) l.edge 1
+      (items_view l.tables.items);
+}
