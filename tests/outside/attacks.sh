@@ -2,25 +2,11 @@
 # Needs Linux, root, /dev/net/tun, iproute2 (ip, ss, tc), util-linux (prlimit) and python3; takes two minutes, in some of which it
 # keeps two processors busy. It is no part of the gate.
 #
-# What a run was attacked with, and what it should do then. `open` stands before what is known not to be so yet: whoever mends it puts
-# `tell` in its place. As long as anything differs, known or not, the status is 1. Two attacks have scripts of their own: storm.sh
-# (a storm of broadcasts), rounds.sh (stations that come back again and again).
+# What a run was attacked with, and what it should do then. As long as anything differs the status is 1. Two attacks have scripts of
+# their own: storm.sh (a storm of broadcasts), rounds.sh (stations that come back again and again).
 set -u
 . "$(dirname "$0")/lab.sh"
 needs ip ss tc prlimit python3 sysctl
-known=0
-
-# open WHAT CONDITION..: `tell` of what is known not to be so
-open() {
-  local before=$differs
-  tell "$@"
-  if [ "$differs" != "$before" ]; then
-    known=$((known + 1))
-  else
-    echo "DIFFERS: that is so now, and its word is still 'open'"
-    differs=$((differs + 1))
-  fi
-}
 
 # edge NUMBER PORTS: an edge with so many ports, which says a BPDU a second at each
 edge() {
@@ -154,7 +140,5 @@ tell "a BPDU comes each second, and half a second late at most" [ "$(cat "$work/
 # what waits for the cable may go now
 tc qdisc del dev cable root
 stop > "$work/stopped"
-open "what the system lost at a port is told" grep -qE "port 1.*\\b$lost\\b" "$work/notes"
-
-echo "$known are known to be open"
+tell "what the system lost at a port is told" grep -qx "edge 1 port 1: $lost datagrams dropped by the system" "$work/notes"
 end

@@ -3,7 +3,9 @@
 import os
 import random
 import re
+import resource
 import select
+import signal
 import socket
 import subprocess
 import sys
@@ -80,6 +82,21 @@ def edge(address: str, number: int, *cables: Cable, keys: str = "") -> str:
     """An edge with a port for each cable, and these keys."""
     ports = "".join(f"[[edge.port]]\nvni = {VNI}\nadmin_edge = true\n{it.keys()}" for it in cables)
     return f'[[edge]]\naddress = "{address}"\nbridge = "02:aa:00:00:00:0{number}"\nvnis = [{VNI}]\n{keys}{ports}'
+
+
+class Row(NamedTuple):
+    """What the system says of a UDP socket."""
+
+    waiting: int  # octets
+    dropped: int  # datagrams
+
+
+def row_of(address: str, port: int) -> Row:
+    """What it says of the one that is bound there."""
+    local = f"{socket.inet_aton(address)[::-1].hex().upper()}:{port:04X}"
+    with open("/proc/net/udp", encoding="ascii") as it:
+        words = next(words for words in map(str.split, it) if words[1] == local)
+    return Row(int(words[4].split(":")[1], 16), int(words[-1]))
 
 
 class Running:
@@ -272,8 +289,59 @@ class TwoEdges(TwoCables):
             pass
         self.assertNotEqual(came, b"")
         status, report, notes = self.running.end()
-        self.assertEqual((status, notes), (0, ""))
+        self.assertEqual(status, 0)
+        # a busy machine may have no room for some of so many
+        self.assertRegex(notes, r"^(edge [12] (tunnel|port 1): \d+ datagrams dropped by the system\n)*$")
         self.assertEqual(report, reports(FLOODS + learnt(1, ONE, 2) + learnt(2, TWO, 2)))
+
+
+@needs_program
+class FullSockets(TwoCables):
+    """One edge with two ports, which stands still while its tunnel's socket and that of port 1 are filled."""
+
+    def fill(self) -> None:
+        """Sends both sockets more than they hold. What is sent is no frame that any edge takes."""
+        self.running.program.send_signal(signal.SIGSTOP)
+        for port, many in ((TUNNELS, 1000), (self.one.port, 2000)):
+            for _ in range(many):
+                self.one.here.sendto(b"\xff" * 1400, (ONE, port))
+        self.running.program.send_signal(signal.SIGCONT)
+
+    def lost(self, port: int) -> int:
+        """How many datagrams the system has dropped at a socket, told when nothing waits there any more."""
+        for _ in range(100):
+            row = row_of(ONE, port)
+            if row.waiting == 0:
+                return row.dropped
+            time.sleep(0.05)
+        raise AssertionError(f"{row} at {port}")
+
+    def filled(self, keys: str, subcommand: str) -> str:
+        """Runs the edge, and fills the sockets: what is to be told of them at the end, of port 2's nothing."""
+        self.running = Running(keys + edge(ONE, 1, self.one, self.two), subcommand=subcommand)
+        self.addCleanup(self.running.kill)
+        self.is_carried(self.one, self.two, frame(BROADCAST, station(1), b"first"))
+        self.fill()
+        tunnel, port = self.lost(TUNNELS), self.lost(self.one.port)
+        self.assertTrue(0 < tunnel < 1000 and 0 < port < 2000, (tunnel, port))
+        lines = f"tunnel: {tunnel}", f"port 1: {port}"
+        return "".join(f"edge 1 {line} datagrams dropped by the system\n" for line in lines)
+
+    def test_what_the_system_dropped_is_told(self) -> None:
+        """`run` and `serve` tell it at their end."""
+        with tempfile.TemporaryDirectory() as folder:
+            for keys, subcommand in (("", "run"), (f'control = "{folder}/control"\n', "serve")):
+                lines = self.filled(keys, subcommand)
+                status, _, notes = self.running.end()
+                self.assertEqual((status, notes), (0, lines))
+
+    def test_where_that_cannot_be_read(self) -> None:
+        """Where no file can be opened any more nothing is told of it, and the status is 0."""
+        self.filled("", "run")
+        most = resource.getrlimit(resource.RLIMIT_NOFILE)[1]
+        resource.prlimit(self.running.program.pid, resource.RLIMIT_NOFILE, (3, most))
+        status, _, notes = self.running.end()
+        self.assertEqual((status, notes), (0, ""))
 
 
 @needs_program

@@ -1,7 +1,7 @@
 -- A run of edges: the input that is read out, and what is told at the end.
 use Rattle.std.proofs.Common.{◌≡◌, inl, inr, ℕ, ◌+◌, ◌-◌, ◌<◌, ◌^◌, min, Bool, false, not, ◌||◌, nat_lt, List, [], ◌∷◌}
-use Rattle.std.proofs.Common.{◌++◌, take, length, get_or, append-nil, append_assoc, Result, Ok, Err, is_ok, refl, sym}
-use Rattle.std.proofs.Common.{ap, subst, ◌∙◌, arith}
+use Rattle.std.proofs.Common.{◌++◌, map, take, length, get_or, append-nil, append_assoc, Result, Ok, Err, is_ok, refl}
+use Rattle.std.proofs.Common.{sym, ap, subst, ◌∙◌, arith}
 use Rattle.std.proofs.lemmas.List.{take_more, length-take-le}
 use Rattle.std.proofs.lemmas.List.Sums.{sum_by_push}
 use Rattle.std.specs.List.{sum_by, list_any}
@@ -18,6 +18,7 @@ use Rattle.ev_report.specs.declared.input.ReadError.TheVariants.{Device}
 use Rattle.ev_report.specs.Input.{ReadsWhole, Gathers}
 use Rattle.ev_report.specs.Notes.{status_of}
 use Rattle.ev_run.specs.RunEdges.{EachConfig, bind_error_text, Ended, each_from, reports_from, noted_text, sends_failed}
+use Rattle.ev_run.specs.RunEdges.{system_text, Ran}
 use Rattle.ev_run.specs.RunEdges.{link_failed, was_out_of_memory, all_lost, Drains, IsReadOut, ReadsOut, TellsEnded}
 use Rattle.ev_run.specs.RunEdges.{PutsRest, TellsRest}
 use Rattle.ev_notices.specs.Telling.{Told, lines_of}
@@ -93,6 +94,12 @@ each_more text number all place d within =
     ∙ ap (λ n. each_from text number before ++ each_from text n (one ∷ [])) count
     ∙ ap (λ t. each_from text number before ++ t) (append-nil (text (number + place) one))
 
+-- each of these by what a function makes of it
+pub each_of_map : {A B C : Type 0} (text : ℕ → B → List C) (f : A → B) (number : ℕ) (xs : List A)
+    → each_from (λ n x. text n (f x)) number xs ≡ each_from text number (map f xs)
+each_of_map text f number [] = refl
+each_of_map text f number (x ∷ xs) = ap (λ more. text number (f x) ++ more) (each_of_map text f (number + 1) xs)
+
 -- a list that has what each of these gives, and gets what one more does
 pub gives_more : {A B : Type 0} (gives : ℕ → A → List B) (number : ℕ) (all : List A) (place : ℕ) (d : A)
     (start old new : List B)
@@ -126,16 +133,17 @@ puts_rest start notes notes' alerts text (Ok done) r put rest = puts_behind star
 puts_rest start notes notes' alerts text (Err device) r put rest =
     rw (rest.1, rest.0) put
 
-module _ (ended : List Ended) (is_read : Bool) (out out' notes notes' : End)
+module _ (ended : List Ended) (system : List ℕ) (is_read : Bool) (out out' notes notes' : End)
     (told r s : Result (Unit {0}) device.Device) where
   pub tells_ended : (status : ℕ) → Puts out out' (reports_from 1 ended) r
-      → PutsRest told notes notes' (noted_text ended (all_lost ended)) s
+      → PutsRest told notes notes' (noted_text ended system (all_lost ended)) s
       → status ≡ status_of (((not is_read || list_any link_failed ended) || nat_lt 0 (all_lost ended)) ||
       (not (is_ok r) || not (is_ok s))) (list_any was_out_of_memory ended) false
-      → TellsRest told ended is_read out out' notes notes' status
+      → TellsRest told ended system is_read out out' notes notes' status
   tells_ended status written rest is = λ start alerts lines.
-      let text = lines_of alerts ++ noted_text ended (all_lost ended) in
-      let put = puts_rest start notes notes' (lines_of alerts) (noted_text ended (all_lost ended)) told s lines rest in
+      let last = noted_text ended system (all_lost ended) in
+      let text = lines_of alerts ++ last in
+      let put = puts_rest start notes notes' (lines_of alerts) last told s lines rest in
       let e = (not is_read || list_any link_failed ended) || nat_lt 0 (all_lost ended) in
       let out_of_memory = list_any was_out_of_memory ended in
       record {
@@ -163,26 +171,35 @@ pub tells_nothing : (notes : End) → TellsStartError notes notes 4
 tells_nothing notes = inl (record { text = []; is_text = inl refl; noted = holds_none notes; status_is = refl })
 
 -- no edge began
-pub runs_none : (many : ℕ) (input : Source) (out notes notes' : End) (status : ℕ) → TellsStartError notes notes' status
-    → RunsEdges many (devices input out notes) (devices input out notes') status
-runs_none many input out notes notes' status (inl u) = inr (inl (refl, holds_none out, u))
-runs_none many input out notes notes' status (inr p) = rw p.0 (inr (inr (refused_memory out notes status p.1)))
+pub runs_none : (many : ℕ) (sockets : List (List Endpoint)) (input : Source) (out notes notes' : End) (status : ℕ)
+    → TellsStartError notes notes' status
+    → RunsEdges many sockets (devices input out notes) (devices input out notes') status
+runs_none many sockets input out notes notes' status (inl u) = inr (inl (refl, holds_none out, u))
+runs_none many sockets input out notes notes' status (inr p) = rw p.0 (inr (inr (refused_memory out notes status p.1)))
+
+-- they ran with sockets that are where they should be
+pub runs_bound : (many : ℕ) (bound sockets : List (List Endpoint)) (before after : Devices) (status : ℕ)
+    → Ran many bound before after status → bound ≡ sockets → RunsEdges many sockets before after status
+runs_bound many bound sockets before after status ran same =
+    inl (subst (λ (ends : List (List Endpoint)). Ran many ends before after status) same ran)
 
 -- memory was refused to what the edges begin with
-pub runs_refused : (many : ℕ) (input input' : Source) (out out' notes notes' : End) → out' ≡ out → notes' ≡ notes
-    → RunsEdges many (devices input out notes) (devices input' out' notes') 3
-runs_refused many input input' out out' notes notes' a b = rw (a, b) (inr (inr (refused_memory out notes 3 refl)))
+pub runs_refused : (many : ℕ) (sockets : List (List Endpoint)) (input input' : Source) (out out' notes notes' : End)
+    → out' ≡ out → notes' ≡ notes
+    → RunsEdges many sockets (devices input out notes) (devices input' out' notes') 3
+runs_refused many sockets input input' out out' notes notes' a b =
+    rw (a, b) (inr (inr (refused_memory out notes 3 refl)))
 
 -- ---- writers that are given more at once
 
-module _ (many : ℕ) (before held after : Devices) (status last : ℕ)
+module _ (many : ℕ) (sockets : List (List Endpoint)) (before held after : Devices) (status last : ℕ)
     (p : Passes before.out.failures before.notes.failures held after status last) where
-  passed_ended : (alerts : List Told) (ended : List Ended) (is_read : Bool)
-      → TellsEnded alerts ended is_read before.out held.out before.notes held.notes status
-      → TellsEnded alerts ended is_read before.out after.out before.notes after.notes last
-  passed_ended alerts ended is_read t =
+  passed_ended : (alerts : List Told) (ended : List Ended) (system : List ℕ) (is_read : Bool)
+      → TellsEnded alerts ended system is_read before.out held.out before.notes held.notes status
+      → TellsEnded alerts ended system is_read before.out after.out before.notes after.notes last
+  passed_ended alerts ended system is_read t =
       let text = reports_from 1 ended in
-      let lost = lines_of alerts ++ noted_text ended (all_lost ended) in
+      let lost = lines_of alerts ++ noted_text ended system (all_lost ended) in
       record {
         written = passed_out before held after status last p text t.written;
         noted = passed_notes before held after status last p lost t.noted;
@@ -200,14 +217,15 @@ module _ (many : ℕ) (before held after : Devices) (status last : ℕ)
     status_is = passed_four before held after status last p u.status_is;
   }
 
-  pub passed_runs : RunsEdges many before held status → RunsEdges many before after last
+  pub passed_runs : RunsEdges many sockets before held status → RunsEdges many sockets before after last
   passed_runs (inl r) = inl (record {
     is_read = r.is_read;
     read = subst (λ (s : Source). ReadsOut before.input s r.is_read) (sym p.input) r.read;
     ended = r.ended;
     all = r.all;
     alerts = r.alerts;
-    told = passed_ended r.alerts r.ended r.is_read r.told;
+    table = r.table;
+    told = passed_ended r.alerts r.ended (system_text r.table sockets) r.is_read r.told;
   })
   passed_runs (inr (inl h)) = inr (inl (
     p.input ∙ h.0,

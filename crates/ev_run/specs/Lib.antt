@@ -1,3 +1,5 @@
+pub mod Sockets
+pub mod SystemDrops
 pub mod RunEdges
 pub mod Serving
 pub mod Needs

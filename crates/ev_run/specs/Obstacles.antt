@@ -18,16 +18,13 @@ use Rattle.ev_run.specs.declared.obstacles.Obstacle.{Obstacle}
 use Rattle.ev_run.specs.declared.obstacles.Obstacle.TheVariants.{Unheard, Useless, TooMany}
 use Rattle.ev_run.specs.RunEdges.{each_from, endpoint_text}
 use Rattle.ev_run.specs.Needs.{sockets_of}
+use Rattle.ev_run.specs.Sockets.{tunnel_of}
 
 -- ---- sockets that hinder each other
 
 -- both can't be bound: one UDP port at one address, or at all addresses (0.0.0.0)
 abbrev pub clashes : Endpoint → Endpoint → Bool
 clashes a b = a.port == b.port && (a.address == b.address || (a.address == 0 || b.address == 0))
-
--- where an edge's tunnels are (RFC 7348)
-abbrev pub tunnel_of : EdgeConfig → Endpoint
-tunnel_of c = record { address = c.address; port = 4789 }
 
 abbrev pub is_tunnel : List EdgeConfig → Endpoint → Bool
 is_tunnel edges at = list_any (λ c. clashes (tunnel_of c) at) edges

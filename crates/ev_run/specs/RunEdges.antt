@@ -15,6 +15,10 @@ use Rattle.ev_notices.specs.Telling.{Told, lines_of}
 use Rattle.route_join.specs.Report.{report_of}
 use Rattle.ev_config.specs.declared.whole.Config.{Config}
 use Rattle.ev_config.specs.declared.endpoint.Endpoint.{Endpoint}
+use Rattle.ev_run.specs.Sockets.{endpoints_of}
+use Rattle.ev_run.specs.SystemDrops.{dropped_at}
+use Rattle.ev_run.specs.declared.print.Dropped.{Dropped}
+use Rattle.ev_run.specs.declared.print.Dropped.TheVariants.{NoRoom, BySystem}
 use Rattle.ev_run.specs.declared.sockets.BindError.{BindError}
 use Rattle.ev_run.specs.declared.sockets.BindError.TheVariants as bind_error
 use Rattle.ev_report.specs.declared.input.ReadError.TheVariants.{Device}
@@ -91,17 +95,34 @@ reports_from = each_from ended_text
 abbrev pub link_text : ℕ → Text
 link_text place = if place == 0 then codes "tunnel" else codes "port " ++ decimal place
 
--- `edge E port P: N frames dropped: no room`, where there are any
-abbrev pub dropped_text : ℕ → ℕ → ℕ → Text
-dropped_text number place dropped =
+-- what was dropped: frames that a line had no room for, or datagrams that the system had none for at a socket
+abbrev pub dropped_words : Dropped → Text
+dropped_words NoRoom = codes " frames dropped: no room\n"
+dropped_words BySystem = codes " datagrams dropped by the system\n"
+
+-- `edge E port P: N` and what they were, where there are any
+abbrev pub dropped_text : Dropped → ℕ → ℕ → ℕ → Text
+dropped_text what number place dropped =
     if nat_lt 0 dropped then (codes "edge " ++ decimal number ++ codes " ") ++ link_text place
-    ++ (codes ": " ++ decimal dropped ++ codes " frames dropped: no room\n")
+    ++ (codes ": " ++ decimal dropped ++ dropped_words what)
     else []
 
 -- so of each line of an edge that ran
 abbrev pub drops_text : ℕ → Ended → Text
-drops_text number (Ok outcome) = each_from (dropped_text number) 0 outcome.dropped.items
+drops_text number (Ok outcome) = each_from (dropped_text NoRoom number) 0 outcome.dropped.items
 drops_text number (Err refused) = []
+
+-- how many the system dropped at a link's socket, as its table of sockets tells it
+abbrev pub socket_text : Text → ℕ → ℕ → Endpoint → Text
+socket_text table number place at = dropped_text BySystem number place (dropped_at table at)
+
+-- so of each socket of an edge
+abbrev pub sockets_text : Text → ℕ → List Endpoint → Text
+sockets_text table number ends = each_from (socket_text table number) 0 ends
+
+-- so of those of all edges
+abbrev pub system_text : Text → List (List Endpoint) → Text
+system_text table sockets = each_from (sockets_text table) 1 sockets
 
 -- `lost N`, where sends failed
 abbrev pub lost_text : ℕ → Text
@@ -126,9 +147,9 @@ was_out_of_memory (Err refused) = true
 abbrev pub all_lost : List Ended → ℕ
 all_lost ended = min (sum_by sends_failed ended) (2 ^ 64 - 1)
 
--- what is noted at the end: which links had no room for frames, and `lost N`
-abbrev pub noted_text : List Ended → ℕ → Text
-noted_text ended lost = each_from drops_text 1 ended ++ lost_text lost
+-- what is noted at the end: which links had no room for frames, what the system says of their sockets, and `lost N`
+abbrev pub noted_text : List Ended → Text → ℕ → Text
+noted_text ended system lost = each_from drops_text 1 ended ++ system ++ lost_text lost
 
 -- alerts were told while the edges ran, a line each, the last one first here; or a call of the writer failed
 pub record TellsMeanwhile (notes notes' : End) (told : Result (Unit {0}) device.Device) : Type 0 where
@@ -136,20 +157,20 @@ pub record TellsMeanwhile (notes notes' : End) (told : Result (Unit {0}) device.
   pub lines : Puts notes notes' (lines_of alerts) told
 
 -- The reports of the edges that ran are written. The alerts of meanwhile are noted, and behind them what their lines
--- had no room for, and `lost N` where sends failed. The status is 4 where a device failed, 3 where memory or a thread
--- was refused, else 0.
-pub record TellsEnded (alerts : List Told) (ended : List Ended) (is_read : Bool) (out out' notes notes' : End)
-    (status : ℕ) : Type 0 where
+-- had no room for, what the system says of their sockets, and `lost N` where sends failed. The status is 4 where a
+-- device failed, 3 where memory or a thread was refused, else 0.
+pub record TellsEnded (alerts : List Told) (ended : List Ended) (system : Text) (is_read : Bool)
+    (out out' notes notes' : End) (status : ℕ) : Type 0 where
   pub written : Holds out out' (reports_from 1 ended)
-  pub noted : Holds notes notes' (lines_of alerts ++ noted_text ended (all_lost ended))
+  pub noted : Holds notes notes' (lines_of alerts ++ noted_text ended system (all_lost ended))
   pub status_is : status ≡ status_of (((not is_read || list_any link_failed ended) || nat_lt 0 (all_lost ended)) ||
       (has_failed out out' || has_failed notes notes')) (list_any was_out_of_memory ended) false
 
 -- so it is for whatever alerts were told before
-abbrev pub TellsRest : Result (Unit {0}) device.Device → List Ended → Bool → End → End → End → End → ℕ → Type 0
-TellsRest told ended is_read out out' notes notes' status =
+abbrev pub TellsRest : Result (Unit {0}) device.Device → List Ended → Text → Bool → End → End → End → End → ℕ → Type 0
+TellsRest told ended system is_read out out' notes notes' status =
     (start : End) (alerts : List Told) → Puts start notes (lines_of alerts) told
-    → TellsEnded alerts ended is_read out out' start notes' status
+    → TellsEnded alerts ended system is_read out out' start notes' status
 
 -- what is noted behind the alerts, unless a call has failed
 abbrev pub PutsRest : Result (Unit {0}) device.Device → End → End → Text → Result (Unit {0}) device.Device → Type 0
@@ -158,14 +179,17 @@ PutsRest (Err device) notes notes' text result = (notes' ≡ notes) × (result �
 
 -- ---- a run
 
--- Edges ran until the input's end, and so many came to something.
-pub record Ran (many : ℕ) (before after : Devices) (status : ℕ) : Type 0 where
+-- Edges ran until the input's end, and so many came to something. Their sockets were here; `table` is what the system
+-- told of its UDP sockets then, nothing where that couldn't be read.
+pub record Ran (many : ℕ) (sockets : List (List Endpoint)) (before after : Devices) (status : ℕ) : Type 0 where
   pub is_read : Bool
   pub read : ReadsOut before.input after.input is_read
   pub ended : List Ended
   pub all : length ended ≡ many
   pub alerts : List Told
-  pub told : TellsEnded alerts ended is_read before.out after.out before.notes after.notes status
+  pub table : Text
+  pub told : TellsEnded alerts ended (system_text table sockets) is_read before.out after.out before.notes after.notes
+      status
 
 -- An address couldn't be bound, which is told, or a port has none: the status is 4.
 pub record IsStartError (notes notes' : End) (status : ℕ) : Type 0 where
@@ -178,15 +202,14 @@ pub record IsStartError (notes notes' : End) (status : ℕ) : Type 0 where
 abbrev pub TellsStartError : End → End → ℕ → Type 0
 TellsStartError notes notes' status = IsStartError notes notes' status ⊎ ((notes' ≡ notes) × (status ≡ 3))
 
--- So many edges were run; or no edge began and nothing was read, nothing but that written; or memory was refused to
--- what they
--- begin with.
-abbrev pub RunsEdges : ℕ → Devices → Devices → ℕ → Type 0
-RunsEdges many before after status =
-    Ran many before after status
+-- So many edges were run, with their sockets here; or no edge began and nothing was read, nothing but that written; or
+-- memory was refused to what they begin with.
+abbrev pub RunsEdges : ℕ → List (List Endpoint) → Devices → Devices → ℕ → Type 0
+RunsEdges many sockets before after status =
+    Ran many sockets before after status
     ⊎ (((after.input ≡ before.input) × Holds before.out after.out [] × IsStartError before.notes after.notes status)
     ⊎ IsRefusedMemory before.out after.out before.notes after.notes status)
 
 -- the edges of a configuration are run
 abbrev pub RunsConfig : Config → Devices → Devices → ℕ → Type 0
-RunsConfig config = RunsEdges (length config.edges.items)
+RunsConfig config = RunsEdges (length config.edges.items) (endpoints_of config)

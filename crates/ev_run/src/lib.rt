@@ -1,6 +1,7 @@
 //! Edges that run over UDP sockets until an input ends, and what is told of them then.
 #![tactic(auto)]
 
+mod bound;
 mod clients;
 mod control_socket;
 mod needs;
@@ -11,6 +12,7 @@ mod records;
 mod run;
 mod serve;
 mod sockets;
+mod system_drops;
 
 pub use control_socket::ListenError;
 pub use needs::{Needs, needs_of};

@@ -2,11 +2,11 @@
 //! which nothing can be sent.
 ghost use Rattle.std.specs.Prelude.{◌≡◌, ◌==◌, ◌||◌, ◌++◌, OnOk, IfOk};
 ghost use Rattle.std.specs.List.{list_any};
-ghost use Rattle.ev_run.specs.Obstacles.{clashes, tunnel_of, is_tunnel, is_local, local_cause, remote_cause, useless, local_obstacles, remote_obstacles, port_obstacles, ports_obstacles, all_ports_obstacles, edge_obstacles, count_obstacles, obstacles_of};
+ghost use Rattle.ev_run.specs.Obstacles.{clashes, is_tunnel, is_local, local_cause, remote_cause, useless, local_obstacles, remote_obstacles, port_obstacles, ports_obstacles, all_ports_obstacles, edge_obstacles, count_obstacles, obstacles_of};
 ghost use Rattle.ev_run.specs.RunEdges.{each_from};
 
 use crate::needs::sockets_of;
-use crate::run::TUNNELS;
+use crate::sockets::tunnel_of;
 use arrayvec::ArrayVec;
 use ether_wire::Addr;
 use ev_config::{Config, Endpoint, PortEndpoints};
@@ -78,16 +78,6 @@ fn clashes(a: &Endpoint, b: &Endpoint) -> bool
     ensures { result ≡ clashes a.now b.now }
 {
     a.port == b.port && (a.address == b.address || is_nobody(a.address) || is_nobody(b.address))
-}
-
-/// Where an edge has its tunnels.
-fn tunnel_of(edge: &EdgeConfig) -> Endpoint
-    ensures { result ≡ tunnel_of edge.now }
-{
-    Endpoint {
-        address: edge.address,
-        port: TUNNELS,
-    }
 }
 
 /// Whether an edge has its tunnels there.

@@ -1,10 +1,15 @@
 //! What a run writes when it has ended.
-ghost use Rattle.std.specs.Prelude.{◌++◌, codes};
+ghost use Rattle.std.specs.Prelude.{◌≡◌, ◌++◌, codes, map};
 ghost use Rattle.std.specs.Fmt.{decimal};
 ghost use Rattle.ether_wire.specs.Ends.{IsOpen, Puts};
-ghost use Rattle.ev_run.specs.RunEdges.{edge_text, ended_text, each_from, reports_from, link_text, dropped_text, drops_text, lost_text, noted_text};
+ghost use Rattle.ev_run.specs.declared.print.Dropped.TheVariants.{NoRoom};
+ghost use Rattle.ev_run.specs.Sockets.{bound_at};
+ghost use Rattle.ev_run.specs.RunEdges.{edge_text, ended_text, each_from, reports_from, link_text, dropped_words, dropped_text, drops_text, socket_text, sockets_text, system_text, lost_text, noted_text};
 
+use crate::bound::{PortSocket, Sockets};
+use crate::system_drops::dropped_at;
 use ether_wire::{Device, Out, put_decimal};
+use ev_config::Endpoint;
 use ev_edge::Edge;
 use ev_peers::Outcome;
 use std::alloc::AllocError;
@@ -80,40 +85,68 @@ fn put_edge<N: Out>(notes: &mut N, number: u64) -> Result<(), Device>
     notes.put(b" ")
 }
 
-/// Writes `: N frames dropped: no room`.
+/// What was dropped at a link.
+#[derive(Clone, Copy)]
+enum Dropped {
+    /// Frames that its line had no room for.
+    NoRoom,
+    /// Datagrams that the system had no room for at its socket.
+    BySystem,
+}
+
+impl Dropped {
+    /// The words behind the count.
+    fn words(self) -> &'static [u8]
+        ensures { result.now ≡ dropped_words self }
+    {
+        match self {
+            Dropped::NoRoom => b" frames dropped: no room\n",
+            Dropped::BySystem => b" datagrams dropped by the system\n",
+        }
+    }
+}
+
+/// Writes `: N` and what they were.
 #[tactic(auto, using(ether_wire::proofs::Appending::with_text_twice))]
-fn put_count<N: Out>(notes: &mut N, dropped: u64) -> Result<(), Device>
+fn put_count<N: Out>(notes: &mut N, dropped: u64, what: Dropped) -> Result<(), Device>
     requires { IsOpen (N.end notes.old) }
     ensures { Puts (N.end notes.old) (N.end notes.new)
-        (codes ": " ++ decimal dropped ++ codes " frames dropped: no room\n") result }
+        (codes ": " ++ decimal dropped ++ dropped_words what) result }
 {
     notes.put(b": ")?;
     put_decimal(notes, dropped)?;
-    notes.put(b" frames dropped: no room\n")
+    notes.put(what.words())
 }
 
-/// Writes how many frames a line had no room for, where there were any.
+/// Writes how many were dropped at a link, where there were any.
 #[tactic(auto, using(ether_wire::proofs::Appending::with_text_twice, ether_wire::proofs::Appending::with_text_none))]
-fn put_dropped<N: Out>(notes: &mut N, number: u64, place: u64, dropped: u64) -> Result<(), Device>
+fn put_dropped<N: Out>(
+    notes: &mut N,
+    number: u64,
+    place: u64,
+    dropped: u64,
+    what: Dropped,
+) -> Result<(), Device>
     requires { IsOpen (N.end notes.old) }
-    ensures { Puts (N.end notes.old) (N.end notes.new) (dropped_text number place dropped) result }
+    ensures { Puts (N.end notes.old) (N.end notes.new)
+        (dropped_text what number place dropped) result }
 {
     if dropped == 0 {
         return Ok(());
     }
     put_edge(notes, number)?;
     put_link(notes, place)?;
-    put_count(notes, dropped)
+    put_count(notes, dropped, what)
 }
 
-/// Writes so of each line of an edge.
+/// Writes how many frames each line of an edge had no room for.
 fn put_lines<N: Out>(notes: &mut N, number: u64, dropped: &[u64]) -> Result<(), Device>
     requires { IsOpen (N.end notes.old) }
     ensures { Puts (N.end notes.old) (N.end notes.new)
-        (each_from (dropped_text number) 0 dropped.now) result }
+        (each_from (dropped_text NoRoom number) 0 dropped.now) result }
 {
     for (place, count) in dropped.iter().enumerate() {
-        put_dropped(notes, number, place as u64, *count)?;
+        put_dropped(notes, number, place as u64, *count, Dropped::NoRoom)?;
     }
     Ok(())
 }
@@ -145,21 +178,102 @@ fn put_all_drops<N: Out>(notes: &mut N, ended: &[Result<Outcome, AllocError>]) -
     Ok(())
 }
 
-/// Writes which links had no room for frames, and `lost N` where N sends failed.
+/// The sockets of all edges, and what the system tells of them.
+#[derive(Clone, Copy)]
+pub(crate) struct Watched<'a> {
+    /// The system's table of UDP sockets, nothing where that couldn't be read.
+    pub(crate) table: &'a [u8],
+    /// Those of each edge.
+    pub(crate) sockets: &'a [Sockets],
+}
+
+/// Writes how many datagrams the system dropped at a link's socket, where it did.
+fn put_socket<N: Out>(
+    notes: &mut N,
+    number: u64,
+    place: u64,
+    table: &[u8],
+    at: Endpoint,
+) -> Result<(), Device>
+    requires { IsOpen (N.end notes.old) }
+    ensures { Puts (N.end notes.old) (N.end notes.new)
+        (socket_text table.now number place at) result }
+{
+    put_dropped(
+        notes,
+        number,
+        place,
+        dropped_at(table, at),
+        Dropped::BySystem,
+    )
+}
+
+/// Writes so of the sockets of an edge's ports.
+fn put_ports<N: Out>(
+    notes: &mut N,
+    number: u64,
+    table: &[u8],
+    ports: &[PortSocket],
+) -> Result<(), Device>
+    requires { IsOpen (N.end notes.old) }
+    ensures { Puts (N.end notes.old) (N.end notes.new)
+        (each_from (λ place port. socket_text table.now number place port.local) 1 ports.now)
+        result }
+{
+    for (place, port) in ports.iter().enumerate() {
+        put_socket(notes, number, place as u64 + 1, table, port.local)?;
+    }
+    Ok(())
+}
+
+/// Writes so of the sockets of an edge.
+fn put_sockets<N: Out>(
+    notes: &mut N,
+    number: u64,
+    table: &[u8],
+    sockets: &Sockets,
+) -> Result<(), Device>
+    requires { IsOpen (N.end notes.old) }
+    ensures { Puts (N.end notes.old) (N.end notes.new)
+        (sockets_text table.now number (bound_at sockets.now)) result }
+{
+    put_socket(notes, number, 0, table, sockets.at)?;
+    put_ports(notes, number, table, sockets.ports.as_slice())
+}
+
+/// Writes so of the sockets of all edges.
+fn put_all_sockets<N: Out>(notes: &mut N, table: &[u8], sockets: &[Sockets]) -> Result<(), Device>
+    requires { IsOpen (N.end notes.old) }
+    ensures { Puts (N.end notes.old) (N.end notes.new)
+        (each_from (λ number one. sockets_text table.now number (bound_at one)) 1 sockets.now)
+        result }
+{
+    for (place, one) in sockets.iter().enumerate() {
+        put_sockets(notes, place as u64 + 1, table, one)?;
+    }
+    Ok(())
+}
+
+/// Writes which links had no room for frames, what the system dropped at their sockets, and
+/// `lost N` where N sends failed.
 ///
 /// # Errors
 ///
 /// `Device` exactly where a call of the writer failed; then no further call is made.
-#[tactic(auto, using(ether_wire::proofs::Appending::with_text_twice))]
 pub(crate) fn put_notes<N: Out>(
     notes: &mut N,
     ended: &[Result<Outcome, AllocError>],
+    watched: Watched<'_>,
     lost: u64,
 ) -> Result<(), Device>
     requires { IsOpen (N.end notes.old) }
-    ensures { Puts (N.end notes.old) (N.end notes.new) (noted_text ended.now lost) result }
+    ensures { Puts (N.end notes.old) (N.end notes.new)
+        (noted_text ended.now
+        (system_text watched.entry.table.now (map bound_at watched.entry.sockets.now)) lost)
+        result }
 {
     put_all_drops(notes, ended)?;
+    put_all_sockets(notes, watched.table, watched.sockets)?;
     put_lost(notes, lost)
 }
 

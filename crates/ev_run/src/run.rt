@@ -1,17 +1,20 @@
 //! Edges that carry frames: each on its address at UDP port 4789, its access ports at sockets of
 //! their own, until the input ends. What the operator is to know is told meanwhile.
-ghost use Rattle.std.specs.Prelude.{◌≡◌, ◌+◌, ◌-◌, ◌≤◌, ◌^◌, ◌||◌, min, not, nat_lt, length, vec_len, vec_capacity, IfOk, OnOk, OnErr};
+ghost use Rattle.std.specs.Prelude.{◌≡◌, ◌+◌, ◌-◌, ◌≤◌, ◌^◌, ◌||◌, min, not, nat_lt, length, map, vec_len, vec_capacity, IfOk, OnOk, OnErr};
 ghost use Rattle.std.specs.List.{list_any};
 ghost use Rattle.ether_wire.specs.Ends.{IsOpen, Allows};
 ghost use Rattle.ev_fabric.specs.Opening.{AreConfigs};
 ghost use Rattle.ev_edge.specs.Config.{IsConfig};
 ghost use Rattle.ev_report.specs.Ends.{AreOpen, devices};
-ghost use Rattle.ev_run.specs.RunEdges.{EachConfig, ReadsOut, sends_failed, link_failed, was_out_of_memory, all_lost, noted_text, PutsRest, TellsMeanwhile, TellsRest, Ran, TellsStartError, RunsEdges};
+ghost use Rattle.ev_run.specs.Sockets.{bound_at, endpoints_of};
+ghost use Rattle.ev_run.specs.RunEdges.{EachConfig, ReadsOut, sends_failed, link_failed, was_out_of_memory, all_lost, system_text, noted_text, PutsRest, TellsMeanwhile, TellsRest, Ran, TellsStartError, RunsEdges};
 
+use crate::bound::{PortSocket, Sockets, wake_all};
 use crate::clients::read_out;
 use crate::control_socket::ControlSocket;
-use crate::print::{put_notes, put_reports};
-use crate::sockets::{PortSocket, Sockets, StartError, bind_all, put_bind_error, wake_all};
+use crate::print::{Watched, put_notes, put_reports};
+use crate::sockets::{StartError, TUNNELS, bind_all, put_bind_error};
+use crate::system_drops::udp_table;
 use ether_wire::{Device, In, Out};
 use ev_config::Config;
 use ev_edge::EdgeConfig;
@@ -21,14 +24,12 @@ use ev_notices::notice_worker;
 use ev_peers::{EdgeLinks, Link, OpenGate, Outcome, Setup, Start, run_all};
 use ev_report::{Buffers, DEVICE, Devices, MEMORY, MOST_READS, status_of};
 use std::alloc::{AllocError, Global};
+use std::fs::Files;
 use std::net::Net;
 use std::sync::Wait;
 use std::sync::atomic::{AtomicBool, Ordering};
 use std::thread::{Threads, join};
 use std::time::Clock;
-
-/// The UDP port of tunnels (RFC 7348).
-pub(crate) const TUNNELS: u16 = 4789;
 
 /// An edge over sockets, ready to run.
 type Ready<'x, R> = Setup<Wire<'x, R>, UdpOut<'x>>;
@@ -75,7 +76,7 @@ fn ready<'x, R: Clock>(
 {
     let mut ports = Vec::with_capacity(alloc, sockets.ports.len())?;
     for port in sockets.ports.as_slice() {
-        let PortSocket { socket, remote } = port;
+        let PortSocket { socket, remote, .. } = port;
         let output = UdpOut::new(socket, Destination::Fixed(remote.address, remote.port));
         ports = with_link(ports, Wire::socket(rt, socket, stop), output);
     }
@@ -181,13 +182,16 @@ fn put_rest<N: Out>(
     notes: &mut N,
     told: Result<(), Device>,
     ended: &[Result<Outcome, AllocError>],
+    watched: Watched<'_>,
     lost: u64,
 ) -> Result<(), Device>
     requires { OnOk told (IsOpen (N.end notes.old)) }
-    ensures { PutsRest told (N.end notes.old) (N.end notes.new) (noted_text ended.now lost) result }
+    ensures { PutsRest told (N.end notes.old) (N.end notes.new) (noted_text ended.now
+        (system_text watched.entry.table.now (map bound_at watched.entry.sockets.now)) lost)
+        result }
 {
     match told {
-        Ok(()) => put_notes(notes, ended, lost),
+        Ok(()) => put_notes(notes, ended, watched, lost),
         Err(device) => Err(device),
     }
 }
@@ -197,18 +201,20 @@ fn put_rest<N: Out>(
 fn tell_ended<W: Out, N: Out>(
     told: Result<(), Device>,
     ended: &[Result<Outcome, AllocError>],
+    watched: Watched<'_>,
     is_read: bool,
     out: &mut W,
     notes: &mut N,
 ) -> u8
     requires out { IsOpen (W.end out.old) }
     requires notes { OnOk told (IsOpen (N.end notes.old)) }
-    ensures { TellsRest told ended.now is_read (W.end out.old) (W.end out.new)
-        (N.end notes.old) (N.end notes.new) result }
+    ensures { TellsRest told ended.now
+        (system_text watched.entry.table.now (map bound_at watched.entry.sockets.now)) is_read
+        (W.end out.old) (W.end out.new) (N.end notes.old) (N.end notes.new) result }
 {
     let sum = sum_of(ended);
     let is_told = put_reports(out, ended).is_ok();
-    let is_noted = put_rest(notes, told, ended, sum.lost).is_ok();
+    let is_noted = put_rest(notes, told, ended, watched, sum.lost).is_ok();
     let has_failed = has_failed(sum, is_read, is_told, is_noted);
     status_of(has_failed, sum.is_out_of_memory, false)
 }
@@ -234,6 +240,13 @@ pub(crate) struct Host<'x, R> {
     pub(crate) alloc: Global,
     /// The socket whose clients may ask the edges, if there is one.
     pub(crate) control: Option<&'x ControlSocket>,
+}
+
+impl<'x, R> Host<'x, R> {
+    /// All of it as one value.
+    pub(crate) fn new(rt: &'x R, alloc: Global, control: Option<&'x ControlSocket>) -> Self {
+        Host { rt, alloc, control }
+    }
 }
 
 /// Runs edges until the reader ends, and stops them then. Clients of a socket may ask them
@@ -278,7 +291,7 @@ fn run_reading<'x, R: Threads + Wait + Clock + Sync, E: In>(
 /// # Errors
 ///
 /// Where memory is refused before an edge has begun.
-fn run_bound<R: Threads + Wait + Clock + Sync, E: In, W: Out, N: Out + Send>(
+fn run_bound<R: Threads + Wait + Files + Clock + Sync, E: In, W: Out, N: Out + Send>(
     host: &Host<'_, R>,
     configs: Vec<EdgeConfig>,
     sockets: &[Sockets],
@@ -292,7 +305,7 @@ fn run_bound<R: Threads + Wait + Clock + Sync, E: In, W: Out, N: Out + Send>(
     requires out { IsOpen (W.end out.old) }
     requires notes { IsOpen (N.end notes.old) }
     ensures ran { IfOk result
-        (λ status. Ran (length configs.items)
+        (λ status. Ran (length configs.items) (map bound_at sockets.now)
         (devices (E.end reader.old) (W.end out.old) (N.end notes.old))
         (devices (E.end reader.new) (W.end out.new) (N.end notes.new)) status) }
     ensures out { OnErr result (W.end out.new ≡ W.end out.old) }
@@ -324,7 +337,12 @@ fn run_bound<R: Threads + Wait + Clock + Sync, E: In, W: Out, N: Out + Send>(
             (reached, reader)
         },
     );
-    Ok(tell_ended(told, ended.as_slice(), is_read, out, notes))
+    let table = udp_table(rt, alloc);
+    let watched = Watched {
+        table: table.as_slice(),
+        sockets,
+    };
+    Ok(tell_ended(told, ended.as_slice(), watched, is_read, out, notes))
 }
 
 /// Tells why no edge begins, and answers the status.
@@ -343,22 +361,21 @@ fn tell_start_error<N: Out>(start_error: StartError, notes: &mut N) -> u8
 }
 
 /// `run_edges`, with a socket whose clients may ask the edges meanwhile, or without.
-pub(crate) fn run_asked<R: Threads + Wait + Net + Clock + Sync, E: In, W: Out, N: Out + Send>(
-    host: &Host<'_, R>,
-    config: Config,
-    reader: &mut E,
-    out: &mut W,
-    notes: &mut N,
-) -> u8
+pub(crate) fn run_asked<
+    R: Threads + Wait + Net + Files + Clock + Sync,
+    E: In,
+    W: Out,
+    N: Out + Send,
+>(host: &Host<'_, R>, config: Config, reader: &mut E, out: &mut W, notes: &mut N) -> u8
     requires config { AreConfigs config.edges.items }
     requires reader { Allows (2 ^ 40) (E.end reader.old) }
     requires out { IsOpen (W.end out.old) }
     requires notes { IsOpen (N.end notes.old) }
-    ensures { RunsEdges (length config.edges.items)
+    ensures { RunsEdges (length config.edges.items) (endpoints_of config)
         (devices (E.end reader.old) (W.end out.old) (N.end notes.old))
         (devices (E.end reader.new) (W.end out.new) (N.end notes.new)) result }
 {
-    let sockets = match bind_all(host.rt, host.alloc, &config, TUNNELS) {
+    let sockets = match bind_all(host.rt, host.alloc, &config) {
         Ok(sockets) => sockets,
         Err(start_error) => return tell_start_error(start_error, notes),
     };
@@ -371,13 +388,14 @@ pub(crate) fn run_asked<R: Threads + Wait + Net + Clock + Sync, E: In, W: Out, N
 
 /// Runs the edges of a configuration, each on a thread with its workers, until the reader ends;
 /// then writes `edge E` and the report of each edge, and on `notes` a line for each link that had
-/// no room for frames, and `lost N` where N sends failed. What is read is ignored. While the edges
-/// run `notes` gets a line for each alert that isn't held back, until a call of it fails.
+/// no room for frames, one for each link at whose socket the system had none, where it tells that,
+/// and `lost N` where N sends failed. What is read is ignored. While the edges run `notes` gets a
+/// line for each alert that isn't held back, until a call of it fails.
 ///
 /// The status is the greatest that applies: 4 where a device failed, be it a reader, a writer, a
 /// link or a socket that can't be bound; 3 where memory or a thread was refused; else 0. Where a
 /// socket can't be bound no edge begins, and a line on `notes` says which address, and why.
-pub fn run_edges<R: Threads + Wait + Net + Clock + Sync, E: In, W: Out, N: Out + Send>(
+pub fn run_edges<R: Threads + Wait + Net + Files + Clock + Sync, E: In, W: Out, N: Out + Send>(
     rt: &R,
     alloc: Global,
     config: Config,
@@ -389,20 +407,16 @@ pub fn run_edges<R: Threads + Wait + Net + Clock + Sync, E: In, W: Out, N: Out +
     requires reader { Allows (2 ^ 40) (E.end reader.old) }
     requires out { IsOpen (W.end out.old) }
     requires notes { IsOpen (N.end notes.old) }
-    ensures { RunsEdges (length config.edges.items)
+    ensures { RunsEdges (length config.edges.items) (endpoints_of config)
         (devices (E.end reader.old) (W.end out.old) (N.end notes.old))
         (devices (E.end reader.new) (W.end out.new) (N.end notes.new)) result }
 {
-    let host = Host {
-        rt,
-        alloc,
-        control: None,
-    };
+    let host = Host::new(rt, alloc, None);
     run_asked(&host, config, reader, out, notes)
 }
 
 /// `run_edges` with few and large writes: it takes the devices, and gives them back.
-pub fn run_buffered<H: Threads + Wait + Net + Clock + Sync, R: In, W: Out, N: Out + Send>(
+pub fn run_buffered<H: Threads + Wait + Net + Files + Clock + Sync, R: In, W: Out, N: Out + Send>(
     rt: &H,
     alloc: Global,
     config: Config,
@@ -410,7 +424,8 @@ pub fn run_buffered<H: Threads + Wait + Net + Clock + Sync, R: In, W: Out, N: Ou
 ) -> (u8, Devices<R, W, N>)
     requires config { AreConfigs config.edges.items }
     requires devices { AreOpen devices }
-    ensures { RunsEdges (length config.edges.items) devices result.1 result.0 }
+    ensures { RunsEdges (length config.edges.items) (endpoints_of config)
+        devices result.1 result.0 }
 {
     let mut all = Buffers::new(devices);
     let status = run_edges(

@@ -4,6 +4,7 @@ ghost use Rattle.ether_wire.specs.Ends.{IsOpen, Allows};
 ghost use Rattle.ev_fabric.specs.Opening.{AreConfigs};
 ghost use Rattle.ev_report.specs.Ends.{AreOpen, devices};
 ghost use Rattle.ev_run.specs.Serving.{TellsListenError, ServesEdges};
+ghost use Rattle.ev_run.specs.Sockets.{endpoints_of};
 
 use crate::control_socket::{ControlSocket, ListenError, put_listen_error};
 use crate::run::{Host, run_asked};
@@ -46,7 +47,7 @@ pub fn serve_edges<R: Threads + Wait + Net + Files + Clock + Sync, E: In, W: Out
     requires reader { Allows (2 ^ 40) (E.end reader.old) }
     requires out { IsOpen (W.end out.old) }
     requires notes { IsOpen (N.end notes.old) }
-    ensures { ServesEdges control.now (length config.edges.items)
+    ensures { ServesEdges control.now (length config.edges.items) (endpoints_of config)
         (devices (E.end reader.old) (W.end out.old) (N.end notes.old))
         (devices (E.end reader.new) (W.end out.new) (N.end notes.new)) result }
 {
@@ -54,11 +55,7 @@ pub fn serve_edges<R: Threads + Wait + Net + Files + Clock + Sync, E: In, W: Out
         Ok(socket) => socket,
         Err(why) => return tell_listen_error(control, why, notes),
     };
-    let host = Host {
-        rt,
-        alloc,
-        control: Some(&socket),
-    };
+    let host = Host::new(rt, alloc, Some(&socket));
     let status = run_asked(&host, config, reader, out, notes);
     socket.remove(rt, control);
     status
@@ -74,7 +71,8 @@ pub fn serve_buffered<H: Threads + Wait + Net + Files + Clock + Sync, R: In, W: 
 ) -> (u8, Devices<R, W, N>)
     requires config { AreConfigs config.edges.items }
     requires devices { AreOpen devices }
-    ensures { ServesEdges control.now (length config.edges.items) devices result.1 result.0 }
+    ensures { ServesEdges control.now (length config.edges.items) (endpoints_of config)
+        devices result.1 result.0 }
 {
     let mut all = Buffers::new(devices);
     let status = serve_edges(

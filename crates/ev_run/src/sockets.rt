@@ -1,34 +1,21 @@
-//! The sockets of a run.
-ghost use Rattle.std.specs.Prelude.{◌≡◌, ◌≤◌, vec_len, IfOk};
+//! Binds the sockets of a run, and tells which one can't be bound.
+ghost use Rattle.std.specs.Prelude.{◌≡◌, ◌≤◌, vec_len, map, Some, IfOk};
 ghost use Rattle.ether_wire.specs.Ends.{IsOpen, Puts};
 ghost use Rattle.ev_run.specs.RunEdges.{why_text, endpoint_text, bind_error_text};
+ghost use Rattle.ev_run.specs.Sockets.{tunnel_of, locals_of, bound_at, endpoints_of};
 
+use crate::bound::{PortSocket, Sockets};
 use arrayvec::ArrayVec;
-use ether_wire::{Addr, Device, Out, put_addr, put_decimal};
+use ether_wire::{Device, Out, put_addr, put_decimal};
 use ev_config::{Config, Endpoint, PortEndpoints};
+use ev_edge::EdgeConfig;
 use ev_links::socket_address;
 use std::alloc::Global;
 use std::io::ErrorKind;
 use std::net::{Net, UdpSocket};
 
-/// The socket of a port.
-#[derive(Drop)]
-pub(crate) struct PortSocket {
-    /// Where it takes its frames.
-    pub(crate) socket: UdpSocket,
-    /// Where it sends them.
-    pub(crate) remote: Endpoint,
-}
-
-/// The sockets of an edge.
-#[derive(Drop)]
-pub(crate) struct Sockets {
-    /// That of its tunnels.
-    pub(crate) tunnel: UdpSocket,
-    /// Those of its ports, port 1 first.
-    pub(crate) ports: Vec<PortSocket>,
-    ghost few: { vec_len ports ≤ 64 },
-}
+/// The UDP port of tunnels (RFC 7348).
+pub(crate) const TUNNELS: u16 = 4789;
 
 /// Why an address can't be bound.
 #[derive(Clone, Copy, Debug, PartialEq, Eq)]
@@ -109,6 +96,16 @@ pub(crate) fn put_bind_error<N: Out>(
     notes.put(why.reason())
 }
 
+/// Where an edge has its tunnels.
+pub(crate) fn tunnel_of(edge: &EdgeConfig) -> Endpoint
+    ensures { result ≡ tunnel_of edge.now }
+{
+    Endpoint {
+        address: edge.address,
+        port: TUNNELS,
+    }
+}
+
 /// A socket that is bound there.
 fn bind<R: Net>(rt: &R, at: Endpoint) -> Result<UdpSocket, StartError> {
     match UdpSocket::bind(rt, socket_address(at.address, at.port)) {
@@ -118,11 +115,24 @@ fn bind<R: Net>(rt: &R, at: Endpoint) -> Result<UdpSocket, StartError> {
 }
 
 /// Both ends of a port's link.
-fn ends_of(link: PortEndpoints) -> Result<(Endpoint, Endpoint), StartError> {
+fn ends_of(link: PortEndpoints) -> Result<(Endpoint, Endpoint), StartError>
+    ensures { IfOk result (λ ends. link.local ≡ Some ends.0) }
+{
     match (link.local, link.remote) {
         (Some(local), Some(remote)) => Ok((local, remote)),
         _ => Err(StartError::Unnamed),
     }
+}
+
+/// The socket of a port with these ends.
+fn bind_port<R: Net>(rt: &R, local: Endpoint, remote: Endpoint) -> Result<PortSocket, StartError>
+    ensures { IfOk result (λ port. port.local ≡ local) }
+{
+    Ok(PortSocket {
+        socket: bind(rt, local)?,
+        local,
+        remote,
+    })
 }
 
 /// The sockets of one edge's ports.
@@ -131,7 +141,9 @@ fn bind_ports<R: Net>(
     alloc: Global,
     links: &ArrayVec<PortEndpoints, 64>,
 ) -> Result<Vec<PortSocket>, StartError>
-    ensures { IfOk result (λ ports. vec_len ports ≤ 64) }
+    ensures few { IfOk result (λ ports. vec_len ports ≤ 64) }
+    ensures bound { IfOk result
+        (λ ports. map (λ port. port.local) ports.items ≡ locals_of links.now.items) }
 {
     let links = links.as_slice();
     let Ok(mut ports) = Vec::with_capacity(alloc, links.len()) else {
@@ -139,31 +151,28 @@ fn bind_ports<R: Net>(
     };
     for link in links {
         let (local, remote) = ends_of(*link)?;
-        let socket = bind(rt, local)?;
-        ports.push_reserved(PortSocket { socket, remote });
+        ports.push_reserved(bind_port(rt, local, remote)?);
     }
     Ok(ports)
 }
 
-/// The sockets of all edges, each edge's tunnels at this UDP port of its address.
+/// The sockets of all edges.
 pub(crate) fn bind_all<R: Net>(
     rt: &R,
     alloc: Global,
     config: &Config,
-    tunnels: u16,
 ) -> Result<Vec<Sockets>, StartError>
-    ensures { IfOk result (λ all. vec_len all ≡ vec_len config.now.edges) }
+    ensures all { IfOk result (λ all. vec_len all ≡ vec_len config.now.edges) }
+    ensures bound { IfOk result (λ all. map bound_at all.items ≡ endpoints_of config.now) }
 {
     let Ok(mut all) = Vec::with_capacity(alloc, config.edges.len()) else {
         return Err(StartError::NoMemory);
     };
     for (edge, links) in config.edges.iter().zip(config.links.iter()) {
-        let tunnel = Endpoint {
-            address: edge.address,
-            port: tunnels,
-        };
+        let at = tunnel_of(edge);
         let sockets = Sockets {
-            tunnel: bind(rt, tunnel)?,
+            tunnel: bind(rt, at)?,
+            at,
             ports: bind_ports(rt, alloc, links)?,
         };
         if all.push(sockets).is_err() {
@@ -171,33 +180,4 @@ pub(crate) fn bind_all<R: Net>(
         }
     }
     Ok(all)
-}
-
-/// Sends a socket an empty datagram of its own, to wake its reader. One that is bound to all
-/// addresses of the host is reached at 127.0.0.1.
-fn wake(socket: &UdpSocket) {
-    let Ok(at) = socket.local_addr() else {
-        return;
-    };
-    let at = if at.ip().is_unspecified() {
-        socket_address(Addr::new(0x7f00_0001), at.port())
-    } else {
-        at
-    };
-    let _ = socket.send_to(&[], at);
-}
-
-/// Wakes all readers of sockets.
-pub(crate) fn wake_all(all: &[Sockets]) {
-    for sockets in all {
-        wake(&sockets.tunnel);
-        wake_ports(sockets.ports.as_slice());
-    }
-}
-
-/// Wakes the readers of ports' sockets.
-fn wake_ports(ports: &[PortSocket]) {
-    for port in ports {
-        wake(&port.socket);
-    }
 }

@@ -9,6 +9,7 @@ use Rattle.ev_script.specs.declared.script.mode.Mode.{Mode}
 use Rattle.ev_script.specs.Simulation.{Simulates}
 use Rattle.ev_run.specs.RunEdges.{RunsConfig}
 use Rattle.ev_run.specs.Serving.{ServesEdges}
+use Rattle.ev_run.specs.Sockets.{endpoints_of}
 
 -- a script is run on the edges of a configuration
 abbrev pub SimulatesEdges : Mode → Config → Devices → Devices → ℕ → Type 0
@@ -19,7 +20,8 @@ SimulatesFound mode = OfFound (SimulatesEdges mode)
 
 -- the edges of one are run, and may be asked at its socket meanwhile
 abbrev pub ServesConfig : Served → Devices → Devices → ℕ → Type 0
-ServesConfig served = ServesEdges (string_bytes served.control) (length served.config.edges.items)
+ServesConfig served =
+    ServesEdges (string_bytes served.control) (length served.config.edges.items) (endpoints_of served.config)
 
 abbrev pub RunsFound : Result Config ConfigRefusal → Devices → Devices → ℕ → Type 0
 RunsFound = OfFound RunsConfig

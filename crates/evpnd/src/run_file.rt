@@ -12,6 +12,7 @@ use ether_wire::{In, Out};
 use ev_report::Devices;
 use ev_run::run_buffered;
 use std::alloc::Global;
+use std::fs::Files as SocketFiles;
 use std::net::Net;
 use std::sync::Wait;
 use std::thread::Threads;
@@ -19,7 +20,7 @@ use std::time::Clock;
 
 /// Runs the edges that the file at a path configures.
 pub(crate) fn run_file<
-    H: Threads + Wait + Net + Clock + Sync,
+    H: Threads + Wait + Net + SocketFiles + Clock + Sync,
     F: Files,
     R: In,
     W: Out,

@@ -1,6 +1,7 @@
-use Rattle.std.proofs.Common.{rules, List, sym, subst, ◌∙◌}
+use Rattle.std.proofs.Common.{rules, ℕ, List, map, sym, subst, ◌∙◌}
 use Rattle.ether_wire.specs.Ends.{End, Source}
-use Rattle.ev_run.specs.RunEdges.{ReadsOut, Ended, TellsEnded}
+use Rattle.ev_run.specs.Sockets.{bound_at}
+use Rattle.ev_run.specs.RunEdges.{ReadsOut, Ended, system_text, TellsEnded}
 use Rattle.ev_run.proofs.run.run_bound.Goals as goal
 
 pub returns-clause-ran : goal.returns-clause-ran
@@ -10,6 +11,8 @@ returns-clause-ran g c =
     let is_read = joined.result.1.0.1 in
     let meanwhile = joined.ensures.first.1 in
     let reached = joined.ensures.second.1 in
+    let table = c.udp_table-table.result in
+    let system = system_text table.items (map bound_at c.args.sockets.now) in
     let out = g.W.Out.end c.args.out.now in
     let out' = g.W.Out.end c.tell_ended.new.out in
     let notes = g.N.Out.end c.args.notes.now in
@@ -20,7 +23,12 @@ returns-clause-ran g c =
       ended = ended.items;
       all = sym ended.ok.0 ∙ reached.0 ∙ c.in_ok-start.ensures ∙ c.in_ok-setups.ensures ∙ c.args.configs.ok.0;
       alerts = meanwhile.alerts;
-      told = subst (λ (n : End). TellsEnded meanwhile.alerts ended.items is_read out out' notes n c.tell_ended.result)
-          (search rules) (subst (λ (xs : List Ended). TellsEnded meanwhile.alerts xs is_read out out' notes notes'
-          c.tell_ended.result) c.as_slice.ensures.value (c.tell_ended.ensures notes meanwhile.alerts (search rules)));
+      table = table.items;
+      told = subst (λ (n : End). TellsEnded meanwhile.alerts ended.items system is_read out out' notes n
+          c.tell_ended.result) (search rules)
+          (subst (λ (xs : List Ended). TellsEnded meanwhile.alerts xs system is_read out out' notes notes'
+          c.tell_ended.result) c.as_slice-2.ensures.value
+          (subst (λ (t : List ℕ). TellsEnded meanwhile.alerts c.as_slice-2.result.now
+          (system_text t (map bound_at c.args.sockets.now)) is_read out out' notes notes' c.tell_ended.result)
+          c.as_slice.ensures.value (c.tell_ended.ensures notes meanwhile.alerts (search rules))));
     }

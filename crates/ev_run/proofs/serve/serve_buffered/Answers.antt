@@ -3,6 +3,7 @@ use Rattle.ether_wire.specs.Buffered.{buffered_end}
 use Rattle.ev_report.specs.Ends.{devices}
 use Rattle.ev_report.proofs.Finishing.{buffered}
 use Rattle.ev_run.specs.Serving.{ServesEdges}
+use Rattle.ev_run.specs.Sockets.{endpoints_of}
 use Rattle.ev_run.proofs.Serving.{passed_serves}
 use Rattle.ev_run.proofs.serve.serve_buffered.Goals as goal
 
@@ -11,9 +12,10 @@ returns g c =
     let run = c.serve_edges-status in
     let path = c.args.control.now in
     let many = length c.args.config.edges.items in
+    let sockets = endpoints_of c.args.config in
     let held = devices (g.R.In.end run.new.reader) (buffered_end g.W.Out.end run.new.out)
     (buffered_end g.N.Out.end run.new.notes) in
-    buffered (ServesEdges path many) (passed_serves path many) c.args.devices _ held
+    buffered (ServesEdges path many sockets) (passed_serves path many sockets) c.args.devices _ held
     c.finish.result.1 run.result c.finish.result.0 c.new-all.result.out_failures c.new-all.result.notes_failures
     c.new-all.ensures.devices
     c.new-all.ensures.out c.new-all.ensures.notes run.ensures c.finish.ensures
