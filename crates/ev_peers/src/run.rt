@@ -191,6 +191,8 @@ impl<I: Drop, O: Drop> Model for Ready<I, O> {
 pub struct Start<I: Drop, O: Drop> {
     ready: Ready<I, O>,
     mailboxes: Mailboxes,
+    /// What gives the edges memory.
+    alloc: Global,
 }
 
 impl<I: Drop, O: Drop> Model for Start<I, O> {
@@ -202,7 +204,7 @@ impl<I: Drop, O: Drop> Model for Start<I, O> {
 }
 
 impl<I: Drop, O: Drop> Start<I, O> {
-    /// What these edges begin with, beyond what each of them opens.
+    /// What these edges begin with. What each of them opens besides takes memory from here, too.
     ///
     /// # Errors
     ///
@@ -218,7 +220,11 @@ impl<I: Drop, O: Drop> Start<I, O> {
             running,
             ended,
         };
-        Ok(Start { ready, mailboxes })
+        Ok(Start {
+            ready,
+            mailboxes,
+            alloc,
+        })
     }
 }
 
@@ -288,12 +294,16 @@ pub fn run_all<
     R: Threads + Wait + Sync,
     F: FnOnce(Running<'_>) -> T + Drop,
     T,
->(rt: &R, alloc: Global, start: Start<I, O>, boards: &Boards, gate: &G, until: F) -> (Vec<Ran>, T)
+>(rt: &R, start: Start<I, O>, boards: &Boards, gate: &G, until: F) -> (Vec<Ran>, T)
     requires { F.IsAlwaysCallable until }
     ensures all { vec_len result.0 ≡ start }
     ensures until { (running : _) × F.post until running result.1 }
 {
-    let Start { ready, mailboxes } = start;
+    let Start {
+        ready,
+        mailboxes,
+        alloc,
+    } = start;
     let common = Common {
         rt,
         alloc,

@@ -267,7 +267,6 @@ fn run_reading<'x, R: Threads + Wait + Clock + Sync, E: In>(
     // The reader comes back from the closure: by its name it is known to be this one.
     let (ended, (is_read, _reader)) = run_all(
         rt,
-        alloc,
         start,
         boards,
         &OpenGate,
