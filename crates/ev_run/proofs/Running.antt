@@ -13,13 +13,13 @@ use Rattle.ev_edge.specs.declared.config.EdgeConfig.{EdgeConfig}
 use Rattle.ev_edge.specs.Config.{IsConfig}
 use Rattle.ev_config.specs.declared.endpoint.Endpoint.{Endpoint}
 use Rattle.ev_run.specs.declared.sockets.BindError.{BindError}
-use Rattle.ev_report.specs.Ends.{Devices, devices, has_failed, Passes}
+use Rattle.ev_report.specs.Ends.{Devices, devices, has_failed, Gives, Passes}
 use Rattle.ev_report.specs.declared.input.ReadError.TheVariants.{Device}
 use Rattle.ev_report.specs.Input.{ReadsWhole, Gathers}
 use Rattle.ev_report.specs.Notes.{status_of}
 use Rattle.ev_run.specs.RunEdges.{EachConfig, bind_error_text, Ended, each_from, reports_from, noted_text, sends_failed}
 use Rattle.ev_run.specs.RunEdges.{system_text, Ran}
-use Rattle.ev_run.specs.RunEdges.{link_failed, was_out_of_memory, all_lost, Drains, IsReadOut, ReadsOut, TellsEnded}
+use Rattle.ev_run.specs.RunEdges.{link_failed, was_out_of_memory, all_lost, IsReadOut, ReadsOut, TellsEnded}
 use Rattle.ev_run.specs.RunEdges.{PutsRest, TellsRest}
 use Rattle.ev_notices.specs.Telling.{Told, lines_of}
 use Rattle.ether_wire.proofs.Appending.{puts_behind}
@@ -31,6 +31,12 @@ use Rattle.ev_report.proofs.Reading.{gives_none}
 use Rattle.ev_report.proofs.Silence.{passed_refused, passed_four, holds_none, refused_memory}
 
 -- ---- the input
+
+-- so many reads gave octets, whatever those were
+pub record Drains (turn : ℕ) (old new : Source) : Type 0 where
+  pub pieces : List (List ℕ)
+  pub gives : Gives old new pieces
+  pub many : length pieces ≡ turn
 
 pub drains_none : (s : Source) → Drains 0 s s
 drains_none s = record { pieces = []; gives = gives_none s; many = refl }

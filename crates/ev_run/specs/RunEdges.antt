@@ -22,7 +22,7 @@ use Rattle.ev_run.specs.declared.print.Dropped.TheVariants.{NoRoom, BySystem}
 use Rattle.ev_run.specs.declared.sockets.BindError.{BindError}
 use Rattle.ev_run.specs.declared.sockets.BindError.TheVariants as bind_error
 use Rattle.ev_report.specs.declared.input.ReadError.TheVariants.{Device}
-use Rattle.ev_report.specs.Ends.{Devices, has_failed, Gives, Holds}
+use Rattle.ev_report.specs.Ends.{Devices, has_failed, Holds}
 use Rattle.ev_report.specs.Input.{ReadsWhole}
 use Rattle.ev_report.specs.Notes.{status_of}
 use Rattle.ev_report.specs.Silence.{IsRefusedMemory}
@@ -50,12 +50,6 @@ abbrev pub bind_error_text : Endpoint → BindError → Text
 bind_error_text at why = codes "can't bind " ++ (endpoint_text at ++ codes ": ") ++ why_text why
 
 -- ---- the input
-
--- so many reads gave octets, whatever those were
-pub record Drains (turn : ℕ) (old new : Source) : Type 0 where
-  pub pieces : List (List ℕ)
-  pub gives : Gives old new pieces
-  pub many : length pieces ≡ turn
 
 -- it was read up to its end
 pub record IsReadOut (old new : Source) : Type 0 where

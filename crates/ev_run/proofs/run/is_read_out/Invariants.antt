@@ -1,4 +1,4 @@
-use Rattle.ev_run.specs.RunEdges.{Drains}
+use Rattle.ev_run.proofs.Running.{Drains}
 use Rattle.ev_run.proofs.run.is_read_out.Given as goal
 
 abbrev pub invariant-loop-turn : goal.invariant-loop-turn
