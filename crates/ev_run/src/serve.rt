@@ -1,5 +1,5 @@
 //! Edges that carry frames as in a run, and answer clients at a control socket meanwhile.
-ghost use Rattle.std.specs.Prelude.{◌^◌, length};
+ghost use Rattle.std.specs.Prelude.{◌^◌, length, string_bytes};
 ghost use Rattle.ether_wire.specs.Ends.{IsOpen, Allows};
 ghost use Rattle.ev_fabric.specs.Opening.{AreConfigs};
 ghost use Rattle.ev_report.specs.Ends.{AreOpen, devices};
@@ -9,7 +9,7 @@ ghost use Rattle.ev_run.specs.Sockets.{endpoints_of};
 use crate::control_socket::{ControlSocket, ListenError, put_listen_error};
 use crate::run::{Host, run_asked};
 use ether_wire::{In, Out};
-use ev_config::Config;
+use ev_config::Served;
 use ev_report::{Buffers, DEVICE, Devices};
 use std::alloc::Global;
 use std::fs::Files;
@@ -28,36 +28,38 @@ fn tell_listen_error<N: Out>(path: &[u8], why: ListenError, notes: &mut N) -> u8
 }
 
 /// Runs the edges of a configuration as `run_edges` does, and answers up to 8 clients at a time
-/// meanwhile, which connect to a Unix stream socket at the path `control`: what they do changes
-/// nothing of what the run promises. The socket's file is there for its user alone, and is removed
-/// at the end.
+/// meanwhile, which connect to a Unix stream socket at the path that is configured: what they do
+/// changes nothing of what the run promises. The socket's file is there for its user alone, and is
+/// removed at the end.
 ///
 /// Where nothing can listen at the path no edge begins, a line on `notes` says why, and the status
 /// is 4.
 pub fn serve_edges<R: Threads + Wait + Net + Files + Clock + Sync, E: In, W: Out, N: Out + Send>(
     rt: &R,
     alloc: Global,
-    config: Config,
-    control: &[u8],
+    served: Served,
     reader: &mut E,
     out: &mut W,
     notes: &mut N,
 ) -> u8
-    requires config { AreConfigs config.edges.items }
+    requires config { AreConfigs served.config.edges.items }
     requires reader { Allows (2 ^ 40) (E.end reader.old) }
     requires out { IsOpen (W.end out.old) }
     requires notes { IsOpen (N.end notes.old) }
-    ensures { ServesEdges control.now (length config.edges.items) (endpoints_of config)
+    ensures { ServesEdges (string_bytes served.control) (length served.config.edges.items)
+        (endpoints_of served.config)
         (devices (E.end reader.old) (W.end out.old) (N.end notes.old))
         (devices (E.end reader.new) (W.end out.new) (N.end notes.new)) result }
 {
-    let socket = match ControlSocket::open(rt, control) {
+    let Served { config, control } = served;
+    let path = control.as_bytes();
+    let socket = match ControlSocket::open(rt, path) {
         Ok(socket) => socket,
-        Err(why) => return tell_listen_error(control, why, notes),
+        Err(why) => return tell_listen_error(path, why, notes),
     };
     let host = Host::new(rt, alloc, Some(&socket));
     let status = run_asked(&host, config, reader, out, notes);
-    socket.remove(rt, control);
+    socket.remove(rt, path);
     status
 }
 
@@ -65,21 +67,20 @@ pub fn serve_edges<R: Threads + Wait + Net + Files + Clock + Sync, E: In, W: Out
 pub fn serve_buffered<H: Threads + Wait + Net + Files + Clock + Sync, R: In, W: Out, N: Out + Send>(
     rt: &H,
     alloc: Global,
-    config: Config,
-    control: &[u8],
+    served: Served,
     devices: Devices<R, W, N>,
 ) -> (u8, Devices<R, W, N>)
-    requires config { AreConfigs config.edges.items }
+    requires config { AreConfigs served.config.edges.items }
     requires devices { AreOpen devices }
-    ensures { ServesEdges control.now (length config.edges.items) (endpoints_of config)
+    ensures { ServesEdges (string_bytes served.control) (length served.config.edges.items)
+        (endpoints_of served.config)
         devices result.1 result.0 }
 {
     let mut all = Buffers::new(devices);
     let status = serve_edges(
         rt,
         alloc,
-        config,
-        control,
+        served,
         &mut all.reader,
         &mut all.out,
         &mut all.notes,

@@ -8,7 +8,6 @@ ghost use Rattle.evpnd.specs.Used.{ServesFound};
 use crate::configured::served;
 use crate::files::Files;
 use ether_wire::{In, Out};
-use ev_config::Served;
 use ev_report::Devices;
 use ev_run::serve_buffered;
 use std::alloc::Global;
@@ -39,10 +38,7 @@ pub(crate) fn serve_file<
 {
     let mut devices = devices;
     match served(alloc, files, path, &mut devices.notes) {
-        Ok(found) => {
-            let Served { config, control } = found;
-            serve_buffered(rt, alloc, config, control.as_bytes(), devices)
-        }
+        Ok(found) => serve_buffered(rt, alloc, found, devices),
         Err(status) => (status, devices),
     }
 }

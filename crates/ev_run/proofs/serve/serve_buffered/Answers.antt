@@ -1,4 +1,4 @@
-use Rattle.std.proofs.Common.{length}
+use Rattle.std.proofs.Common.{length, string_bytes}
 use Rattle.ether_wire.specs.Buffered.{buffered_end}
 use Rattle.ev_report.specs.Ends.{devices}
 use Rattle.ev_report.proofs.Finishing.{buffered}
@@ -10,9 +10,9 @@ use Rattle.ev_run.proofs.serve.serve_buffered.Goals as goal
 pub returns : goal.returns
 returns g c =
     let run = c.serve_edges-status in
-    let path = c.args.control.now in
-    let many = length c.args.config.edges.items in
-    let sockets = endpoints_of c.args.config in
+    let path = string_bytes c.args.served.control in
+    let many = length c.args.served.config.edges.items in
+    let sockets = endpoints_of c.args.served.config in
     let held = devices (g.R.In.end run.new.reader) (buffered_end g.W.Out.end run.new.out)
     (buffered_end g.N.Out.end run.new.notes) in
     buffered (ServesEdges path many sockets) (passed_serves path many sockets) c.args.devices _ held

@@ -19,7 +19,7 @@ returns-in-Ok g c =
     (devices (g.R.In.end c.devices.inside.reader) (g.W.Out.end c.devices.inside.out)
     (g.N.Out.end c.served.new.notes))
     c.serve_buffered.result.1 c.in-Ok.found c.serve_buffered.result.0 c.in-Ok.ensures.value refl
-    (rw c.as_bytes.ensures.value at c.serve_buffered.ensures))
+    c.serve_buffered.ensures)
 
 pub returns-in-Err : goal.returns-in-Err
 returns-in-Err g c =
