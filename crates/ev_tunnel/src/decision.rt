@@ -1,5 +1,5 @@
 //! Where a frame goes: the access ports and the edges that get it.
-ghost use Rattle.std.specs.Prelude.{◌≡◌, ◌≤◌, [], length};
+ghost use Rattle.std.specs.Prelude.{◌≡◌};
 ghost use Rattle.std.specs.Option.{ForSome};
 ghost use Rattle.route_join.specs.Owner.{owner};
 ghost use Rattle.route_join.specs.Flood.{flood_of};
@@ -86,26 +86,19 @@ fn local_of(place: &Place, from: Source, ports: Ports) -> u64
     }
 }
 
-/// Puts the edges but for this one into an empty list.
-fn put_others(own: Addr, edges: &[Addr], remote: &mut ArrayVec<Addr, 64>)
-    requires none { remote.old.items ≡ [] }
-    requires few { length edges.now ≤ 64 }
-    ensures { remote.new.items ≡ others_of own edges.now }
+/// Takes this edge out of a list of edges.
+fn leave_out(own: Addr, edges: &mut ArrayVec<Addr, 64>)
+    ensures { edges.new.items ≡ others_of own edges.old.items }
 {
-    for edge in edges {
-        if *edge != own {
-            remote.push(*edge);
-        }
-    }
+    edges.retain(|edge| *edge != own);
 }
 
-/// Puts the edges that a frame is flooded to into an empty list.
+/// Puts the edges that a frame is flooded to in the place of what was there.
 fn put_flood(vni: Vni, table: &Table, own: Addr, remote: &mut ArrayVec<Addr, 64>)
-    requires { remote.old.items ≡ [] }
     ensures { remote.new.items ≡ others_of own (flood_of table.now vni) }
 {
-    let flood = table.flood(vni);
-    put_others(own, flood.as_slice(), remote);
+    table.flood_into(vni, remote);
+    leave_out(own, remote);
 }
 
 /// Puts the edges that get a frame whose destination is at this place, in the place of what was
@@ -120,11 +113,13 @@ fn put_remote(
 )
     ensures { remote.new.items ≡ remote_of place.now from (flood_of table.now vni) own }
 {
-    remote.clear();
     match (from, place) {
         (Source::Port(_), Place::Everywhere) => put_flood(vni, table, own, remote),
-        (Source::Port(_), Place::AtEdge(edge)) => remote.push(*edge),
-        _ => {}
+        (Source::Port(_), Place::AtEdge(edge)) => {
+            remote.clear();
+            remote.push(*edge);
+        }
+        _ => remote.clear(),
     }
 }
 

@@ -1,5 +1,5 @@
 //! The flood list of a network (RFC 7432, section 7.3).
-ghost use Rattle.std.specs.Prelude.{◌≡◌, ◌≤◌, length};
+ghost use Rattle.std.specs.Prelude.{◌≡◌, ◌≤◌, [], length};
 ghost use Rattle.route_join.specs.Table.{entries_of};
 ghost use Rattle.route_join.specs.Flood.{is_flood, floods, flooding};
 
@@ -26,16 +26,16 @@ fn floods(update: &Update, vni: Vni) -> bool
     is_flood(&update.register().key, vni) && advert_in(&update.value().content).is_some()
 }
 
-/// The originators that advertise a network's flood list, in the order of the updates.
-pub(crate) fn flood_of(updates: UpdatesOf<'_>, vni: Vni) -> ArrayVec<Addr, 64>
-    requires { length (flooding vni (entries_of updates)) ≤ 64 }
-    ensures { result.items ≡ flooding vni (entries_of updates.entry) }
+/// Puts the originators that advertise a network's flood list into an empty list, in the order of
+/// the updates.
+pub(crate) fn put_flood(updates: UpdatesOf<'_>, vni: Vni, flood: &mut ArrayVec<Addr, 64>)
+    requires none { flood.old.items ≡ [] }
+    requires few { length (flooding vni (entries_of updates)) ≤ 64 }
+    ensures { flood.new.items ≡ flooding vni (entries_of updates.entry) }
 {
-    let mut flood = ArrayVec::new();
     for update in updates {
         if floods(&update, vni) {
             flood.push(update.register().originator);
         }
     }
-    flood
 }

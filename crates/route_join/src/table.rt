@@ -15,7 +15,7 @@ ghost use Rattle.route_join.specs.Updates.{all_updates, updates_of, AreAllUpdate
 ghost use Rattle.route_wire.specs.declared.update.Value.{Value};
 ghost use Rattle.route_wire.specs.Fields.{Fields};
 
-use crate::flood::flood_of;
+use crate::flood::put_flood;
 use crate::groups::{Groups, put_groups};
 use crate::subject::{Subject, subject_of};
 use crate::updates::{Updates, UpdatesOf};
@@ -241,9 +241,21 @@ impl Table {
         ensures value { result.items ≡ flood_of self.now vni }
         ensures list { IsFloodList self.now vni result.items }
     {
+        let mut flood = ArrayVec::new();
+        self.flood_into(vni, &mut flood);
+        flood
+    }
+
+    /// Writes the same list where another one stood: a caller that keeps one place for it spares
+    /// the copies of a whole list.
+    pub fn flood_into(&self, vni: Vni, flood: &mut ArrayVec<Addr, 64>)
+        ensures value { flood.new.items ≡ flood_of self.now vni }
+        ensures list { IsFloodList self.now vni flood.new.items }
+    {
+        flood.clear();
         match self.groups.get(&Subject::flood(vni)) {
-            None => ArrayVec::new(),
-            Some(group) => flood_of(group.updates(), vni),
+            None => {}
+            Some(group) => put_flood(group.updates(), vni, flood),
         }
     }
 

@@ -7,10 +7,10 @@ use Rattle.route_join.proofs.Edits.{listed_as}
 use Rattle.route_join.proofs.Floods.{flood_fits, is_flood_list}
 use Rattle.route_join.proofs.Groupings.{entries_in_all}
 use Rattle.route_join.proofs.Holding.{flooding_there, flooding_nowhere}
-use Rattle.route_join.proofs.table.Table.flood.Goals as goal
+use Rattle.route_join.proofs.table.Table.flood_into.Goals as goal
 
-pub flood_of-requires : goal.flood_of-requires
-flood_of-requires c =
+pub put_flood-requires-clause-few : goal.put_flood-requires-clause-few
+put_flood-requires-clause-few c =
     let os = c.self.inside.originators.items in
     let gs = c.self.inside.groups in
     let all : flood_of (table_from os (updates_in gs)) c.args.vni ≡ flooding c.args.vni (entries_of c.updates.result) =
@@ -25,7 +25,7 @@ pub returns-in-None-clause-value : goal.returns-in-None-clause-value
 returns-in-None-clause-value c =
     let os = c.self.inside.originators.items in
     let gs = c.self.inside.groups in
-    c.new.ensures ∙ sym (flooding_nowhere c.args.vni gs c.self.invariant.grouped.groups
+    c.clear.ensures ∙ sym (flooding_nowhere c.args.vni gs c.self.invariant.grouped.groups
     (ap (λ s. group_at s c.self.inside.groups) (sym c.flood.ensures) ∙ sym c.in-None.ensures))
     ∙ ap (flooding c.args.vni) (sym (listed_as os (updates_in gs) c.self.invariant.grouped.kept.ordered
     ∙ entries_in_all gs))
@@ -39,7 +39,7 @@ pub returns-in-Some-clause-value : goal.returns-in-Some-clause-value
 returns-in-Some-clause-value c =
     let os = c.self.inside.originators.items in
     let gs = c.self.inside.groups in
-    c.flood_of.ensures ∙ ap (λ us. flooding c.args.vni (entries_of us)) c.updates.ensures.value
+    c.put_flood.ensures ∙ ap (λ us. flooding c.args.vni (entries_of us)) c.updates.ensures.value
     ∙ sym (flooding_there c.args.vni gs c.in-Some.group.now c.self.invariant.grouped.groups
     (ap (λ s. group_at s c.self.inside.groups) (sym c.flood.ensures) ∙ sym c.in-Some.ensures))
     ∙ ap (flooding c.args.vni) (sym (listed_as os (updates_in gs) c.self.invariant.grouped.kept.ordered
