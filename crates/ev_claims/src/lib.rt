@@ -13,3 +13,4 @@ mod tests;
 pub use laws::{aged_out, flushed_out, opening_originates};
 pub use local_routes::{Imported, LocalRoutes, OwnError};
 pub use opening::Start;
+pub use speaker::SPENT;

@@ -15,13 +15,16 @@ use route_wire::{Advert, Content, Key, Register, Update, Value};
 use std::alloc::{AllocError, Global};
 use std::marker::Model;
 
+/// From this number on, an edge's numbers are kept for withdrawals.
+pub const SPENT: u64 = 0x8000_0000_0000_0000;
+
 /// Why an update under the edge's own name wasn't taken. Nothing changed.
 #[derive(Clone, Copy, Debug, PartialEq, Eq)]
 pub enum OwnError {
     /// It is newer than what the edge said, and isn't of an earlier incarnation: another
     /// speaks under this name.
     Ahead,
-    /// It would have to be withdrawn, and the edge's counter is at 2^63 or above.
+    /// It would have to be withdrawn, and the edge's counter is at `SPENT` or above.
     Spent,
     /// There is no memory for the register, or for its withdrawal.
     NoMemory,
@@ -300,7 +303,7 @@ impl Speaker {
         ensures not_ahead { result ≢ Err OwnError.Ahead }
         ensures err { OnErr result (self.new ≡ self.old) }
     {
-        if self.counter >= 0x8000_0000_0000_0000 {
+        if self.counter >= SPENT {
             return Err(OwnError::Spent);
         }
         update.always_well_formed();

@@ -10,11 +10,9 @@ ghost use Rattle.ev_mobility.specs.Window.{is_fifth};
 ghost use Rattle.ev_edge.specs.Learning.{case_of, new_case, numbered_case, moved, learnt, needs_memory, OrNoMemory, Learning};
 
 use crate::edge::Edge;
+use ev_claims::SPENT;
 use ev_mobility::{Alert, Seq, next_seq};
 use mac_arena::Station;
-
-/// From this number on, numbers are kept for withdrawals.
-pub(crate) const SPENT: u64 = 0x8000_0000_0000_0000;
 
 /// What is to be done with the source of a frame.
 #[derive(Clone, Copy, Debug, PartialEq, Eq)]

@@ -4,9 +4,9 @@ ghost use Rattle.ev_edge.specs.Steps.{Pins, answered, nothing};
 ghost use Rattle.ev_edge.specs.Pinning.{Pinning, pin_case, refused_pin, unpinned_case, after_unpin, after_thawing};
 
 use crate::edge::Edge;
-use crate::learning::SPENT;
 use crate::refusal::{EdgeRefusal, Refusal};
 use crate::reply::Reply;
+use ev_claims::SPENT;
 use ev_mobility::{Alert, Seq};
 use mac_arena::Station;
 

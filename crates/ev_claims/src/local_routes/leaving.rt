@@ -51,7 +51,7 @@ impl LocalRoutes {
         ensures first { result ≡ slice_get (unpinned_on self.now.learned port) 0 }
         ensures lists { ListsName self.now.learned }
     {
-        let _count = self.learned.len();
+        self.always_good();
         let ports = self.ports.as_slice();
         if port as usize > ports.len() {
             return None;
@@ -64,7 +64,7 @@ impl LocalRoutes {
         ensures first { result ≡ slice_get (due_in self.now.learned limit) 0 }
         ensures lists { ListsName self.now.learned }
     {
-        let _count = self.learned.len();
+        self.always_good();
         let Some(station) = self.learned.oldest() else {
             return None
         };
