@@ -1,8 +1,8 @@
 -- An edge stays good at each event: of the relation of edge, event, answer and edge alone.
-use Rattle.std.proofs.Common.{◌≡◌, inl, inr, ℕ, ◌+◌, ◌-◌, ◌<◌, ◌≤◌, ◌^◌, Bool, true, false, cond, eqb, not, ◌&&◌}
-use Rattle.std.proofs.Common.{Option, Some, None, Result, Ok, Err, List, [], ◌∷◌, drop, length, map, refl, sym, ap}
+use Rattle.std.proofs.Common.{◌≡◌, inl, inr, ℕ, ◌<◌, ◌^◌, Bool, true, false, cond, eqb, not, ◌&&◌}
+use Rattle.std.proofs.Common.{Option, Some, None, Result, Ok, Err, List, [], ◌∷◌, drop, length, refl, sym, ap}
 use Rattle.std.proofs.Common.{subst, ◌∙◌, arith}
-use Rattle.std.specs.Prelude.{IsSome, nat_le}
+use Rattle.std.specs.Prelude.{IsSome}
 use Rattle.std.specs.FinMap.{FinMap, get}
 use Rattle.std.proofs.lemmas.List.{length-map}
 use Rattle.std.proofs.lemmas.Bool.{false≢true}
@@ -27,7 +27,7 @@ use Rattle.rstp_run.specs.Rules.{Tree}
 use Rattle.rstp_run.specs.Runs.{Firing, Run}
 use Rattle.rstp_run.proofs.Steps.{length-change_at, length-ports_after}
 use Rattle.ev_mobility.specs.declared.alert.Alert.{Alert}
-use Rattle.ev_mobility.specs.declared.alert.Alert.TheVariants.{StaticElsewhere, CounterSpent, TableFull, SequenceSpent}
+use Rattle.ev_mobility.specs.declared.alert.Alert.TheVariants.{StaticElsewhere, CounterSpent, TableFull}
 use Rattle.ev_mobility.specs.declared.seq.Seq.{Seq}
 use Rattle.ev_mobility.specs.declared.seq.Seq.TheVariants.{Next, Static, Spent}
 use Rattle.ev_mobility.specs.declared.window.Window.{Window}
@@ -49,14 +49,15 @@ use Rattle.ev_edge.specs.declared.refusal.EdgeRefusal.{EdgeRefusal}
 use Rattle.ev_edge.specs.declared.refusal.Refusal.{Refusal}
 use Rattle.ev_edge.specs.declared.reply.Reply.{Reply}
 use Rattle.ev_edge.specs.Arrival.{frame_arrival, tunnel_arrival, arrival_on, arrival_at, reserved_arrival, message_in}
-use Rattle.ev_edge.specs.Arrival.{data_in, is_reserved, holds_bpdu, is_up}
-use Rattle.ev_edge.specs.Bridging.{BridgeGoes, next_second, aged}
+use Rattle.ether_wire.specs.Addr.{is_reserved}
+use Rattle.ev_edge.specs.Arrival.{data_in, holds_bpdu, is_up}
+use Rattle.ev_edge.specs.Bridging.{next_second}
 use Rattle.ev_edge.specs.Edge.{Edge, IsGoodEdge, table_of, address_of}
-use Rattle.ev_edge.specs.Learning.{is_spent, move_case, numbered_case, new_case, case_at, case_of, moved}
+use Rattle.ev_edge.specs.Learning.{is_spent, move_case, numbered_case, case_at, case_of, moved}
 use Rattle.ev_edge.specs.Learning.{needs_register, needs_memory, OrNoMemory, Does}
 use Rattle.ev_edge.specs.Pinning.{is_static, unpinned_case, pin_case_at, pin_case, refused_pin, DoesPin, after_unpin}
 use Rattle.ev_edge.specs.Steps.{Steps, LearnsIf, FrameSteps, TunnelSteps, Bridges, BridgesAt, Seconds, Takes}
-use Rattle.ev_edge.specs.Steps.{TakesOther, TakesOwn, Pins}
+use Rattle.ev_edge.specs.Steps.{Pins}
 use Rattle.ev_edge.proofs.Keeping.{removals_ports, taken_ports, second_early, aged_ports}
 use Rattle.ev_edge.proofs.Winning.{pin_fits, pinned_alone}
 use Rattle.ev_edge.proofs.Staying.{Keeps, keeps_of, good_by, advert_keeps, refresh_keeps, pin_keeps, shift_keeps}

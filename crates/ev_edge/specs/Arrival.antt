@@ -2,6 +2,7 @@
 use Rattle.std.specs.Prelude.{ℕ, ◌==◌, ◌&&◌, Bool, not, nat_le, if◌then◌else◌, Option, Some, None, Result, Ok, Err}
 use Rattle.std.specs.Prelude.{List, length, drop, slice_index}
 use Rattle.std.specs.List.{list_any}
+use Rattle.ether_wire.specs.Addr.{is_reserved}
 use Rattle.ether_wire.specs.Frame.{frame_of, destination_of, source_of, has_length, payload_of}
 use Rattle.ether_wire.specs.Ports.{place_of_port}
 use Rattle.ether_wire.specs.declared.frame.FrameRefusal.{FrameRefusal}
@@ -21,11 +22,7 @@ use Rattle.ev_edge.specs.declared.refusal.Refusal.TheVariants.{Ether, Bpdu as Of
 use Rattle.ev_edge.specs.declared.refusal.EdgeRefusal.TheVariants.{UnknownOriginator, NoSuchPort, NoSuchVni}
 use Rattle.ev_edge.specs.Edge.{Edge, table_of, address_of}
 
--- 01-80-C2-00-00-00 to 01-80-C2-00-00-0F: what is sent there stays on its link (IEEE 802.1D-2004, 7.12.6)
-abbrev pub is_reserved : ℕ → Bool
-is_reserved mac = nat_le 0x0180C2000000 mac && nat_le mac 0x0180C200000F
-
--- the first of them, the bridge group address
+-- the bridge group address (IEEE 802.1D-2004, 7.12.6)
 abbrev pub is_bridge_group : ℕ → Bool
 is_bridge_group mac = mac == 0x0180C2000000
 

@@ -27,7 +27,8 @@ use Rattle.ev_edge.specs.declared.refusal.Refusal.{Refusal}
 use Rattle.ev_edge.specs.declared.refusal.Refusal.TheVariants.{Edge as OfEdge}
 use Rattle.ev_edge.specs.declared.reply.Reply.{Reply}
 use Rattle.ev_edge.specs.Edge.{Edge, IsGoodEdge, table_of, address_of}
-use Rattle.ev_edge.specs.Arrival.{is_reserved, frame_arrival, tunnel_arrival}
+use Rattle.ether_wire.specs.Addr.{is_reserved}
+use Rattle.ev_edge.specs.Arrival.{frame_arrival, tunnel_arrival}
 use Rattle.ev_edge.specs.Steps.{FrameSteps, TunnelSteps, Steps}
 use Rattle.ev_edge.specs.Changes.{Changes}
 

@@ -1,7 +1,7 @@
 //! What a frame is that comes at a port or from a tunnel.
 ghost use Rattle.std.specs.Prelude.{◌≡◌};
 ghost use Rattle.ether_wire.specs.Frame.{frame_of};
-ghost use Rattle.ev_edge.specs.Arrival.{is_reserved, has_llc, holds_bpdu, reserved_arrival, data_in, arrival_at, inner_arrival};
+ghost use Rattle.ev_edge.specs.Arrival.{has_llc, holds_bpdu, reserved_arrival, data_in, arrival_at, inner_arrival};
 
 use crate::refusal::Refusal;
 use bpdu_wire::Bpdu;
@@ -20,17 +20,6 @@ pub enum Arrival {
 
 /// The bridge group address.
 const BRIDGE_GROUP: u64 = 0x0180_C200_0000;
-
-/// The last reserved address.
-const LAST_RESERVED: u64 = 0x0180_C200_000F;
-
-// Whether a destination is one of those that aren't forwarded (IEEE 802.1D-2004, 7.12.6).
-fn is_reserved(mac: Mac) -> bool
-    ensures { result ≡ is_reserved mac }
-{
-    let number = mac.number();
-    number >= BRIDGE_GROUP && number <= LAST_RESERVED
-}
 
 // Whether a payload begins with the LLC header of the spanning tree.
 fn has_llc(payload: &[u8]) -> bool
@@ -79,7 +68,7 @@ pub(crate) fn arrival_at(up: bool, vni: Vni, octets: &[u8]) -> Result<Arrival, R
     if !up {
         return Ok(Arrival::Dropped);
     }
-    if is_reserved(frame.destination()) {
+    if frame.destination().is_reserved() {
         return reserved_arrival(&frame);
     }
     Ok(data_in(vni, &frame))
@@ -93,7 +82,7 @@ pub(crate) fn inner_arrival(vni: Vni, octets: &[u8]) -> Result<Arrival, Refusal>
         Ok(frame) => frame,
         Err(refusal) => return Err(Refusal::Ether(refusal)),
     };
-    if is_reserved(frame.destination()) {
+    if frame.destination().is_reserved() {
         return Ok(Arrival::Dropped);
     }
     Ok(data_in(vni, &frame))

@@ -10,28 +10,25 @@ use Rattle.bpdu_wire.specs.declared.refusal.BpduRefusal as bpdu
 use Rattle.vxlan_wire.specs.Vxlan.{instance_of}
 use Rattle.vxlan_wire.proofs.VxlanLemmas.{instance_of-header_of}
 use Rattle.route_join.specs.Table.{is_listed}
-use Rattle.mac_arena.specs.declared.station.Station.{Station}
 use Rattle.mac_arena.specs.declared.station.Entry.{Entry}
 use Rattle.ev_tunnel.specs.Datagram.{datagram_of}
 use Rattle.ev_claims.specs.LocalRoutes.{vni_at}
 use Rattle.ev_edge.specs.declared.arrival.Arrival.{Arrival}
-use Rattle.ev_edge.specs.declared.arrival.Arrival.TheVariants.{Dropped, Message, Data}
+use Rattle.ev_edge.specs.declared.arrival.Arrival.TheVariants.{Dropped, Data}
 use Rattle.ev_edge.specs.declared.event.Event.{Event}
 use Rattle.ev_edge.specs.declared.refusal.EdgeRefusal.TheVariants.{UnknownOriginator, NoSuchVni}
 use Rattle.ev_edge.specs.declared.refusal.Refusal.{Refusal}
 use Rattle.ev_edge.specs.declared.refusal.Refusal.TheVariants.{Edge as OfEdge}
 use Rattle.ev_edge.specs.declared.reply.Reply.{Reply}
 use Rattle.ev_edge.specs.Arrival.{frame_arrival, arrival_on, arrival_at, reserved_arrival, message_in, data_in}
-use Rattle.ev_edge.specs.Arrival.{is_reserved, holds_bpdu, is_up, inner_arrival, serves, is_other, datagram_arrival}
+use Rattle.ether_wire.specs.Addr.{is_reserved}
+use Rattle.ev_edge.specs.Arrival.{holds_bpdu, is_up, inner_arrival, serves, datagram_arrival}
 use Rattle.ev_edge.specs.Arrival.{tunnel_arrival}
 use Rattle.ev_edge.specs.Edge.{Edge, IsGoodEdge, table_of, address_of}
 use Rattle.ev_edge.specs.Steps.{TunnelSteps, Steps}
 use Rattle.ev_edge.proofs.Places.{any_is}
 use Rattle.rstp_run.specs.Events.{Passes}
-use Rattle.ev_fabric.specs.Fabric.{Fabric, IsEdge}
-use Rattle.ev_fabric.specs.Sound.{IsSound}
-use Rattle.ev_fabric.specs.Agreed.{Advertises}
-use Rattle.ev_fabric.specs.Laws.{IsBehindPort, tunnel_frame_in, IsFrameFor, GoesOut, ComesOut, FromPortToPort}
+use Rattle.ev_fabric.specs.Laws.{IsBehindPort, tunnel_frame_in, GoesOut, FromPortToPort}
 use Rattle.ev_fabric.proofs.Places.{contains_at}
 use Rattle.ev_fabric.proofs.Agreements.{learnt}
 use Rattle.ev_fabric.specs.Station.{StationFromPortToPort}
