@@ -53,6 +53,9 @@ impl Reply {
         ensures { self.new ≡ nothing }
     {
         self.keep_decision();
-        self.decision = None;
+        // (to write none clears the octets of a whole decision)
+        if self.decision.is_some() {
+            self.decision = None;
+        }
     }
 }
