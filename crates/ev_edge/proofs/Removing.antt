@@ -1,5 +1,5 @@
 -- Which stations go at an event.
-use Rattle.std.proofs.Common.{◌≡◌, ◌≢◌, inl, inr, ℕ, ◌+◌, ◌-◌, ◌≤◌, Bool, true, false, cond, eqb}
+use Rattle.std.proofs.Common.{◌≡◌, inl, inr, ℕ, ◌+◌, ◌-◌, ◌≤◌, Bool, true, false, cond, eqb}
 use Rattle.std.proofs.Common.{Option, Some, None, Result, Ok, Err, List, [], ◌∷◌, refl, sym, ap, subst}
 use Rattle.std.proofs.Common.{◌∙◌, arith}
 use Rattle.std.specs.Prelude.{◌↔◌, ◌&&◌, ◌||◌, not, nat_le, is_some, IsSome}
@@ -15,17 +15,17 @@ use Rattle.mac_arena.specs.Entry.{pinned_at}
 use Rattle.mac_arena.specs.Station.{is_same}
 use Rattle.mac_arena.specs.Learning.{Learning, entry_at, is_full, is_pinned, learnt_of}
 use Rattle.mac_arena.specs.Learning.{after_learn, after_pin as pinned_on}
-use Rattle.mac_arena.specs.Laws.{ChangesEntry, entry_learnt, is_due}
-use Rattle.mac_arena.specs.ListsName.{ListsName, stands, ages}
-use Rattle.mac_arena.proofs.Entries.{same_or_other, same_self, same_true}
+use Rattle.mac_arena.specs.Laws.{ChangesEntry, entry_learnt}
+use Rattle.mac_arena.specs.ListsName.{ListsName}
+use Rattle.mac_arena.proofs.Entries.{same_or_other, same_true}
 use Rattle.mac_arena.proofs.Going.{due_exact}
 use Rattle.mac_arena.proofs.Looking.{learn_entry, pin_entry}
 use Rattle.rstp_run.specs.declared.event.Event as tree
 use Rattle.rstp_run.specs.declared.event.Event.TheVariants as tree_events
 use Rattle.ev_mobility.specs.declared.alert.Alert.{Alert}
-use Rattle.ev_claims.specs.LocalRoutes.{LocalRoutes, AreGood, vni_at, after_removal, after_removals}
-use Rattle.ev_claims.specs.LocalRoutes.{after_update, after_losing, after_losing_at, is_lost, station_of}
-use Rattle.ev_claims.specs.Leaving.{after_ageing, after_flush, due_in, flushed_in, goes_by_age, goes_by_flush}
+use Rattle.ev_claims.specs.LocalRoutes.{LocalRoutes, vni_at, after_removal, after_removals}
+use Rattle.ev_claims.specs.LocalRoutes.{after_update, after_losing, is_lost, station_of}
+use Rattle.ev_claims.specs.Leaving.{after_ageing, after_flush, due_in, flushed_in, goes_by_age}
 use Rattle.ev_claims.proofs.Changed.{flushes_out, removals_entries}
 use Rattle.ev_claims.proofs.Lists.{removal_lists}
 use Rattle.ev_edge.specs.declared.arrival.Arrival.{Arrival}
@@ -41,14 +41,14 @@ use Rattle.ev_edge.specs.declared.refusal.Refusal.{Refusal}
 use Rattle.ev_edge.specs.declared.reply.Reply.{Reply}
 use Rattle.ev_edge.specs.Edge.{Edge, IsGoodEdge, address_of}
 use Rattle.ev_edge.specs.Arrival.{frame_arrival, tunnel_arrival}
-use Rattle.ev_edge.specs.Bridging.{BridgeGoes, aged, next_second}
+use Rattle.ev_edge.specs.Bridging.{aged, next_second}
 use Rattle.ev_edge.specs.Learning.{Does, case_of}
 use Rattle.ev_edge.specs.Pinning.{DoesPin, pin_case, refused_pin, after_unpin}
 use Rattle.ev_edge.specs.Removed.{GoExactly, nobody, is_flushed, is_old, goes_in_second, is_of}
-use Rattle.ev_edge.specs.Removed.{goes_by_take, goes_by_unpin, FlushRemoves, SecondRemoves}
+use Rattle.ev_edge.specs.Removed.{goes_by_unpin, FlushRemoves, SecondRemoves}
 use Rattle.ev_edge.specs.Removed.{FrameRemoves, RemovesBy, Removed}
 use Rattle.ev_edge.specs.Steps.{Steps, FrameSteps, TunnelSteps, Bridges, BridgesAt, Seconds}
-use Rattle.ev_edge.specs.Steps.{Takes, TakesOther, TakesOwn, Pins, LearnsIf}
+use Rattle.ev_edge.specs.Steps.{Takes, Pins, LearnsIf}
 
 -- ---- one entry
 

@@ -1,10 +1,9 @@
 -- An edge stays good, whatever event comes: of the relation of edge, event, answer and edge alone.
-use Rattle.std.proofs.Common.{◌≡◌, ◌≢◌, inl, inr, ℕ, zero, suc, ◌+◌, ◌-◌, ◌<◌, ◌≤◌, ◌^◌, Bool, true, false, cond, eqb}
-use Rattle.std.proofs.Common.{not, ◌&&◌, ◌||◌, Option, Some, None, Result, Ok, Err, List, [], ◌∷◌, drop, length, map}
+use Rattle.std.proofs.Common.{◌≡◌, ◌≢◌, ℕ, zero, suc, ◌-◌, ◌<◌, ◌≤◌, ◌^◌, Bool, true, false, cond}
+use Rattle.std.proofs.Common.{not, ◌&&◌, ◌||◌, Option, Some, None, Ok, List, [], ◌∷◌, length}
 use Rattle.std.proofs.Common.{refl, sym, ap, subst, ◌∙◌, arith}
-use Rattle.std.specs.Prelude.{IsSome, is_some, nat_le, nat_lt, IsTrue, ◌↔◌}
+use Rattle.std.specs.Prelude.{IsSome, is_some, nat_le, nat_lt}
 use Rattle.std.specs.Option.{option_map}
-use Rattle.std.proofs.lemmas.List.{length-map}
 use Rattle.std.proofs.lemmas.Bool.{false≢true}
 use Rattle.std.proofs.lemmas.Bool.Decides.{nat_tests}
 use Rattle.ether_wire.specs.Addr.{is_group}
@@ -21,18 +20,17 @@ use Rattle.mac_arena.specs.declared.station.Entry.{Entry}
 use Rattle.mac_arena.specs.declared.table.Learnt.TheVariants.{New}
 use Rattle.mac_arena.specs.Station.{is_same}
 use Rattle.mac_arena.specs.Learning.{Learning, entry_at, is_full, is_pinned, answer_of, learnt_of, after_learn}
-use Rattle.mac_arena.specs.Learning.{after_pin as pinned_on, after_removal as gone}
+use Rattle.mac_arena.specs.Learning.{after_pin as pinned_on}
 use Rattle.mac_arena.specs.ListsName.{ListsName, AreOnce, stands, ages}
 use Rattle.mac_arena.specs.Laws.{is_due}
-use Rattle.mac_arena.proofs.Entries.{same_true, eq_same}
+use Rattle.mac_arena.proofs.Entries.{eq_same}
 use Rattle.mac_arena.proofs.Going.{due_exact}
 use Rattle.mac_arena.proofs.Held.{learn_names, hear_names, pin_names, removal_names}
 use Rattle.mac_arena.proofs.Placing.{IsBased}
 use Rattle.ev_claims.specs.Speaker.{Speaker, KeepsNumbers, own_advert, is_at, is_newest, is_ahead}
 use Rattle.ev_claims.specs.Speaker.{is_spent as has_spent}
 use Rattle.ev_claims.specs.Speaker.{is_returning, after_originating, after_importing, after_importing_own}
-use Rattle.ev_claims.specs.Speaker.{after_announcing}
-use Rattle.ev_claims.specs.LocalRoutes.{LocalRoutes, KeepsRoutes, AreGood, key_of, moving, fixed, vni_at, is_lost}
+use Rattle.ev_claims.specs.LocalRoutes.{LocalRoutes, KeepsRoutes, key_of, moving, fixed, vni_at, is_lost}
 use Rattle.ev_claims.specs.LocalRoutes.{after_advert}
 use Rattle.ev_claims.specs.LocalRoutes.{after_refresh, after_pin, after_shift, after_removal, after_removals}
 use Rattle.ev_claims.specs.LocalRoutes.{after_update}
@@ -44,7 +42,7 @@ use Rattle.ev_claims.proofs.Keeping.{spoken_routes, advert_routes, refresh_route
 use Rattle.ev_claims.proofs.Keeping.{removal_routes, own_routes, known_entry}
 use Rattle.ev_claims.proofs.Learnt.{removal_there}
 use Rattle.ev_claims.proofs.Changed.{on_any, none_on, ports_climb, flushed_stands, flushed_once, due_once}
-use Rattle.ev_edge.specs.Edge.{Edge, IsGoodEdge, KeepsEdge}
+use Rattle.ev_edge.specs.Edge.{Edge, IsGoodEdge}
 use Rattle.ev_edge.proofs.Owning.{Holds, removal_holds, taken_holds}
 use Rattle.ev_edge.proofs.Keeping.{refresh_holds, shift_holds, later_holds}
 use Rattle.ev_edge.proofs.Places.{there_port}

@@ -33,7 +33,6 @@ use Rattle.ev_claims.specs.LocalRoutes.{LocalRoutes, KeepsRoutes, key_of, vni_at
 use Rattle.ev_edge.specs.declared.pinning.PinCase.TheVariants.{Keep, Shift, Deny, Pin}
 use Rattle.ev_edge.specs.Edge.{Edge, OwnsAt, table_of, address_of}
 use Rattle.ev_edge.specs.Learning.{is_spent}
-use Rattle.ev_edge.specs.declared.refusal.EdgeRefusal.{EdgeRefusal}
 use Rattle.ev_edge.specs.declared.refusal.EdgeRefusal.TheVariants.{BadMac, NoSuchVni}
 use Rattle.ev_edge.specs.Pinning.{is_static, unpinned_case, pin_case_at, pin_refusal, refused_pin}
 use Rattle.ev_edge.proofs.Owning.{Holds, changed_individual, some_bucket, other_key, said_other, saying_owns}

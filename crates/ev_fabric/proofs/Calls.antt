@@ -1,6 +1,6 @@
 -- The calls of a fabric: what each part of them says is a step of the fabric, and keeps it sound.
-use Rattle.std.proofs.Common.{◌≡◌, inl, inr, ℕ, zero, suc, ◌-◌, ◌<◌, ◌≤◌, true, Option, Some, None, is_some, Result, Ok}
-use Rattle.std.proofs.Common.{Err, List, [], ◌∷◌, refl, sym, ap, subst, ◌∙◌, arith}
+use Rattle.std.proofs.Common.{◌≡◌, inl, inr, ℕ, zero, suc, ◌<◌, ◌≤◌, true, Option, Some, None, is_some, Result, Ok}
+use Rattle.std.proofs.Common.{Err, List, [], ◌∷◌, refl, sym, ap, subst, ◌∙◌}
 use Rattle.std.specs.Prelude.{IsSome, slice_get}
 use Rattle.std.specs.Option.{MatchOption}
 use Rattle.route_wire.specs.Fields.{Fields}
@@ -15,7 +15,6 @@ use Rattle.ev_edge.specs.Opening.{IsOpening}
 use Rattle.ev_edge.specs.Steps.{Steps, nothing}
 use Rattle.ev_fabric.specs.declared.refusal.FabricRefusal.{FabricRefusal}
 use Rattle.ev_fabric.specs.declared.refusal.FabricRefusal.TheVariants.{NoSuchEdge, NoSuchUpdate, NoHigher, NoMemory}
-use Rattle.ev_fabric.specs.declared.refusal.FabricRefusal.TheVariants.{Edge as OfEdge}
 use Rattle.ev_fabric.specs.declared.step.LocalEvent.{LocalEvent}
 use Rattle.ev_fabric.specs.declared.step.Step.{Step}
 use Rattle.ev_fabric.specs.declared.step.Step.TheVariants.{Local, Announce, Deliver, Restart}

@@ -1,6 +1,6 @@
 -- What each event of an edge does to what the edge says: it says something, or hears or announces it.
-use Rattle.std.proofs.Common.{◌≡◌, ◌≢◌, ◌⊎◌, inl, inr, ℕ, ◌-◌, ◌<◌, ◌^◌, ◌==◌, ◌&&◌, Bool, true, false, cond, nat_le}
-use Rattle.std.proofs.Common.{Option, Some, None, Result, Ok, Err, List, [], ◌∷◌, refl, sym, ap, subst, ◌∙◌, arith}
+use Rattle.std.proofs.Common.{◌≡◌, ◌≢◌, inl, inr, ℕ, ◌-◌, ◌==◌, ◌&&◌, Bool, true, false, cond, nat_le}
+use Rattle.std.proofs.Common.{Option, Some, None, Result, Ok, Err, List, [], ◌∷◌, refl, sym, subst, arith}
 use Rattle.std.specs.Prelude.{not}
 use Rattle.std.proofs.lemmas.Bool.Decides.{nat_tests}
 use Rattle.ether_wire.specs.Addr.{is_group}
@@ -13,7 +13,7 @@ use Rattle.mac_arena.specs.Learning.{entry_at, is_pinned}
 use Rattle.ev_mobility.specs.declared.alert.Alert.{Alert}
 use Rattle.rstp_run.specs.declared.event.Event as tree
 use Rattle.rstp_run.specs.declared.event.Event.TheVariants as tree_events
-use Rattle.ev_claims.specs.Speaker.{Speaker, KeepsNumbers, after_originating, after_importing}
+use Rattle.ev_claims.specs.Speaker.{Speaker, KeepsNumbers, after_importing}
 use Rattle.ev_claims.specs.LocalRoutes.{LocalRoutes, vni_at, key_of, after_removal, after_removals, after_update}
 use Rattle.ev_claims.specs.LocalRoutes.{after_losing}
 use Rattle.ev_claims.specs.LocalRoutes.{after_take, is_lost}
@@ -31,10 +31,9 @@ use Rattle.ev_edge.specs.declared.refusal.EdgeRefusal.{EdgeRefusal}
 use Rattle.ev_edge.specs.declared.event.Event.TheVariants as events
 use Rattle.ev_edge.specs.Edge.{Edge, address_of}
 use Rattle.ev_edge.specs.Arrival.{frame_arrival, tunnel_arrival}
-use Rattle.ev_edge.specs.Learning.{OrNoMemory, Does, case_of, Learning}
+use Rattle.ev_edge.specs.Learning.{OrNoMemory, Does, case_of}
 use Rattle.ev_edge.specs.Pinning.{DoesPin, pin_case, refused_pin, after_unpin}
 use Rattle.ev_edge.specs.Bridging.{aged, next_second}
-use Rattle.ev_edge.specs.Learning as learning
 use Rattle.ev_edge.specs.Steps.{LearnsIf, Bridges, BridgesAt, Seconds, FrameSteps, TunnelSteps, TakesOwn, TakesOther}
 use Rattle.ev_edge.specs.Steps.{Takes, Pins, Steps}
 use Rattle.ev_fabric.specs.declared.step.LocalEvent.{LocalEvent}
@@ -42,7 +41,7 @@ use Rattle.ev_fabric.specs.declared.step.LocalEvent.TheVariants.{Frame, TunnelFr
 use Rattle.ev_fabric.specs.declared.step.LocalEvent.TheVariants.{PortDown, Mcheck}
 use Rattle.ev_fabric.specs.Local.{event_of}
 use Rattle.ev_fabric.specs.Sound.{IsTold}
-use Rattle.ev_fabric.proofs.Voices.{Talks, Quiet, Says, talks_numbers, talks_told, talks_further, talks_one, AreOne}
+use Rattle.ev_fabric.proofs.Voices.{Talks, Quiet, Says, talks_told, talks_further, talks_one, AreOne}
 use Rattle.ev_fabric.proofs.Voices.{heard_one, own_one, one_itself, one_further, heard_told, own_told}
 use Rattle.std.specs.Prelude.{Contains}
 

@@ -1,6 +1,6 @@
 -- What an edge says and the pool still know of each other when the edge says, hears or announces something.
-use Rattle.std.proofs.Common.{◌≡◌, ◌≢◌, ◌⊎◌, inl, inr, ℕ, zero, suc, ◌+◌, ◌<◌, Bool, true, false, cond, Option, Some}
-use Rattle.std.proofs.Common.{None, List, [], ◌∷◌, ◌++◌, refl, sym, ap, subst, ◌∙◌, arith}
+use Rattle.std.proofs.Common.{◌≡◌, ◌≢◌, ◌⊎◌, inl, inr, zero, suc, ◌+◌, ◌<◌, Bool, true, false, cond, Some}
+use Rattle.std.proofs.Common.{List, [], ◌∷◌, ◌++◌, refl, sym, ap, subst, ◌∙◌, arith}
 use Rattle.std.proofs.lemmas.List.Elements.{Contains-append_left, Contains-push, Contains-push_cases}
 use Rattle.std.specs.Prelude.{Contains, ◌||◌}
 use Rattle.std.specs.List.{list_any}
@@ -18,7 +18,7 @@ use Rattle.route_join.proofs.Joins.{update_other}
 use Rattle.route_join.proofs.Merging.{same_listeners}
 use Rattle.ev_claims.specs.Pending.{marked}
 use Rattle.ev_claims.specs.Speaker.{Speaker, KeepsNumbers, own_register, next_value, after_originating, after_importing}
-use Rattle.ev_claims.specs.Speaker.{after_importing_own, after_announcing, is_newest, is_ahead, is_returning}
+use Rattle.ev_claims.specs.Speaker.{after_importing_own, is_newest, is_ahead, is_returning}
 use Rattle.ev_claims.proofs.Numbers.{said_numbers}
 use Rattle.ev_claims.proofs.Hearing.{not_present, past_if_newest, refuted_is}
 use Rattle.ev_fabric.specs.Sound.{update_of, IsBehind, IsTold}

@@ -1,17 +1,15 @@
 -- Each change of a table whose lists name its stations gives such a table.
-use Rattle.std.proofs.Common.{ℕ, ◌-◌, ◌<◌, ◌≡◌, inl, inr, Bool, true, false, cond, eqb, Option, Some, None, length, set}
+use Rattle.std.proofs.Common.{ℕ, ◌-◌, ◌<◌, ◌≡◌, inl, inr, Bool, true, false, cond, eqb, Option, Some, None, length}
 use Rattle.std.proofs.Common.{refl, ap, sym, ◌∙◌, subst, arith}
 use Rattle.std.specs.Prelude.{slice_get, IsSome}
 use Rattle.std.proofs.lemmas.Bool.{cases_eq, false≢true}
 use Rattle.std.proofs.lemmas.Bool.Decides.{nat_tests}
 use Rattle.mac_arena.specs.declared.station.Station.{Station}
 use Rattle.mac_arena.specs.declared.station.Entry.{Entry}
-use Rattle.mac_arena.specs.declared.station.Learned.{Learned}
-use Rattle.mac_arena.specs.declared.table.Learnt.{Learnt}
-use Rattle.mac_arena.specs.declared.table.Learnt.TheVariants.{New, Moved, Refreshed, Pinned, Full}
-use Rattle.mac_arena.specs.Entry.{pinned_at, heard_at}
+use Rattle.mac_arena.specs.declared.table.Learnt.TheVariants.{New, Moved, Refreshed, Pinned}
+use Rattle.mac_arena.specs.Entry.{pinned_at}
 use Rattle.mac_arena.specs.Orders.{Orders}
-use Rattle.mac_arena.specs.Learning.{Learning, entry_at, is_full, is_pinned, IsLatest, learnt_of, answer_of, entered}
+use Rattle.mac_arena.specs.Learning.{Learning, entry_at, is_full, IsLatest, learnt_of, answer_of, entered}
 use Rattle.mac_arena.specs.Learning.{heard, held, shifted, dropped, after_learn, after_pin, after_pin_at, after_removal}
 use Rattle.mac_arena.specs.Learning.{after_removal_at}
 use Rattle.mac_arena.specs.Nodes.{slot_at, learning_of, IsTable}
@@ -20,7 +18,7 @@ use Rattle.mac_arena.proofs.Entries.{Slots, node_of, get_here}
 use Rattle.mac_arena.proofs.Tables.{Found, heard_table, heard_seen, held_table, held_seen, shifted_table, shifted_seen}
 use Rattle.mac_arena.proofs.Tables.{entered_table, entered_seen, dropped_table, dropped_seen, first_free_cases, new_in}
 use Rattle.mac_arena.proofs.Tables.{ports_in, latest_in}
-use Rattle.mac_arena.proofs.Values.{latest_with, latest_pin, new_is, refreshed_is, moved_is, held_is, held_moves}
+use Rattle.mac_arena.proofs.Values.{latest_with, new_is, refreshed_is, moved_is, held_is, held_moves}
 use Rattle.mac_arena.proofs.Values.{held_goes}
 use Rattle.mac_arena.proofs.Naming.{lists_named}
 use Rattle.mac_arena.proofs.Placing.{IsBased, placed}

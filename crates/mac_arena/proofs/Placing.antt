@@ -1,5 +1,5 @@
 -- A table whose lists name its stations is one that nodes hold: each station's node is the place where it stands.
-use Rattle.std.proofs.Common.{ℕ, zero, suc, ◌+◌, ◌<◌, ◌≤◌, ◌≡◌, ◌≢◌, inl, inr, Bool, true, false, cond, eqb, not, ◌||◌}
+use Rattle.std.proofs.Common.{ℕ, zero, suc, ◌+◌, ◌<◌, ◌≡◌, inl, inr, Bool, true, false, cond, eqb, ◌||◌}
 use Rattle.std.proofs.Common.{◌&&◌, Option, Some, None, List, [], ◌∷◌, length, map, refl, ap, sym, ◌∙◌, subst, arith}
 use Rattle.std.specs.Prelude.{nat_lt, is_some, is_none, slice_index_or, count_by}
 use Rattle.std.specs.Option.{option_map}
@@ -7,13 +7,12 @@ use Rattle.std.specs.FinMap.{get, len, len-empty, same_map}
 use Rattle.std.proofs.Math.ListN.{get_or-map as get_or-map_same}
 use Rattle.std.proofs.lemmas.List.{length-map}
 use Rattle.std.proofs.lemmas.List.Sums.{sum_by-cons}
-use Rattle.std.proofs.lemmas.Bool.{cases_eq, eq-eqb, ne_eqb, false≢true, or_right, or_cases}
-use Rattle.std.proofs.lemmas.Bool.Decides.{nat_tests}
+use Rattle.std.proofs.lemmas.Bool.{cases_eq, eq-eqb, ne_eqb, false≢true, or_right}
 use Rattle.idx_links.specs.Links.{has, Apart, list_at}
 use Rattle.mac_arena.specs.declared.station.Station.{Station}
 use Rattle.mac_arena.specs.declared.station.Entry.{Entry}
 use Rattle.mac_arena.specs.declared.station.Learned.{Learned}
-use Rattle.mac_arena.specs.Station.{station_cmp, is_same, bucket_of}
+use Rattle.mac_arena.specs.Station.{station_cmp, is_same}
 use Rattle.mac_arena.specs.Entry.{pinned_at}
 use Rattle.mac_arena.specs.Orders.{Orders}
 use Rattle.mac_arena.specs.Learning.{Learning, entry_at, stations_at, bucket_in, place_of, is_at}

@@ -1,14 +1,11 @@
 -- Groups behind an index are groups in the order of their subjects: a look-up, a change and
 -- a new group there are the same here.
-use Rattle.std.proofs.Common.{◌≡◌, ℕ, ◌<◌, Bool, true, false, cond, is_some, Option, Some, None, IsSome, Result, Ok}
-use Rattle.std.proofs.Common.{Err, OnErr, List, [], ◌∷◌, ◌||◌, ◌&&◌, refl, sym, ap, subst, ◌∙◌, arith}
-use Rattle.std.specs.Prelude.{◌==◌}
-use Rattle.std.proofs.lemmas.Bool.Decides.{nat_tests}
+use Rattle.std.proofs.Common.{◌≡◌, Bool, true, false, cond, is_some, Option, Some, None, IsSome, Result, Ok}
+use Rattle.std.proofs.Common.{Err, OnErr, List, [], ◌∷◌, ◌||◌, refl, sym, ap, subst, ◌∙◌}
 use Rattle.std.specs.declared.cmp.Ordering.{Ordering}
 use Rattle.std.specs.declared.cmp.Ordering.TheVariants.{Less, Equal, Greater}
-use Rattle.std.specs.Ordering.{MatchOrdering, is_eq, nat_cmp, match_ordering, ordering_then, ordering_reverse}
-use Rattle.std.specs.Cmp.{ranked}
-use Rattle.std.specs.Option.{option_eq, option_cmp, unwrap_or}
+use Rattle.std.specs.Ordering.{is_eq, match_ordering, ordering_reverse}
+use Rattle.std.specs.Option.{unwrap_or}
 use Rattle.std.specs.List.{AllByRecursion}
 use Rattle.std.specs.List.Sorted.{IsStrictlySortedBy}
 use Rattle.std.specs.Map.{set_value}

@@ -1,4 +1,4 @@
-use Rattle.std.proofs.Common.{◌≡◌, Ok, Err, refl, arith}
+use Rattle.std.proofs.Common.{Ok, Err, refl, arith}
 use Rattle.ev_fabric.proofs.Places.{at_index}
 use Rattle.ev_fabric.proofs.fabric.step_edge.Goals as goal
 

@@ -1,4 +1,4 @@
-use Rattle.std.proofs.Common.{◌≡◌, ◌++◌, ◌∷◌, [], ◌<◌, cond, Some, None, length, map, sym, ap, subst, ◌∙◌, true, false}
+use Rattle.std.proofs.Common.{◌≡◌, ◌++◌, ◌∷◌, [], ◌<◌, cond, Some, length, map, sym, ap, subst, ◌∙◌, true, false}
 use Rattle.std.specs.Prelude.{Contains, slice_index_or}
 use Rattle.route_wire.specs.contracts.update.RegisterPartialEq.TheImpl as register
 use Rattle.route_join.proofs.Leaders.{on_ok}

@@ -1,10 +1,10 @@
-use Rattle.std.proofs.Common.{◌≡◌, ◌≤◌, ◌<◌, length, Some, Ok, Err, sym, subst, ◌∙◌, arith}
+use Rattle.std.proofs.Common.{◌≡◌, ◌≤◌, length, Some, Ok, Err, sym, subst, arith}
 use Rattle.ev_edge.specs.Config.{IsConfig}
 use Rattle.ev_edge.specs.Opening.{IsOpening}
 use Rattle.ev_edge.specs.Steps.{nothing}
 use Rattle.ev_fabric.specs.declared.refusal.FabricRefusal.TheVariants.{NoHigher, NoMemory}
 use Rattle.ev_fabric.specs.declared.step.Step.TheVariants.{Restart}
-use Rattle.ev_fabric.specs.Fabric.{fabric_of, nth, incarnation_of}
+use Rattle.ev_fabric.specs.Fabric.{fabric_of, nth}
 use Rattle.ev_fabric.specs.Steps.{FabricSteps, in_incarnation, with_opened}
 use Rattle.ev_fabric.proofs.Places.{at_index, there_nth, same_nth}
 use Rattle.ev_fabric.proofs.Calls.{Does, not_higher, not_opened, restart_does, incarnation_is, config_fits}

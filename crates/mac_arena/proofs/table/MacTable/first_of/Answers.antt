@@ -1,4 +1,4 @@
-use Rattle.std.proofs.Common.{rules, sym, ap, ◌∙◌, ◌≡◌, ◌-◌, Some}
+use Rattle.std.proofs.Common.{rules, sym, ap, ◌∙◌, ◌≡◌, Some}
 use Rattle.std.proofs.Common.{true, false, cond, drop, map, ◌+◌}
 use Rattle.idx_links.specs.Links.{list_at}
 use Rattle.mac_arena.specs.declared.station.Learned.{Learned}
