@@ -1,29 +1,39 @@
 -- What a stream gives next, and its end.
-use Rattle.std.proofs.Common.{◌≡◌, ℕ, true, false, List, Some, None, Option, refl, sym, ap}
+use Rattle.std.proofs.Common.{◌≡◌, ℕ, true, false, List, None, Result, Ok, Err, refl, sym, ap, ◌∙◌}
 use Rattle.route_wire.specs.declared.stream.Whole.{Whole}
 use Rattle.route_wire.specs.declared.stream.Whole.TheVariants.{Rest, Fault, Length}
 use Rattle.route_wire.specs.declared.stream.Next.{Next}
 use Rattle.route_wire.specs.declared.stream.Next.TheVariants.{More, Record, Refused, Fault as Faulty}
-use Rattle.route_wire.specs.Record.{is_length}
-use Rattle.route_wire.specs.Feed.{is_rest, next_by}
+use Rattle.route_wire.specs.Fields.{Fields}
+use Rattle.route_wire.specs.Stream.{whole_up_to}
+use Rattle.route_wire.specs.Record.{is_length, reading}
+use Rattle.route_wire.specs.Feed.{Held, is_rest, shown, answer_of, next_by, rest_by, TakesNext}
 use Rattle.ev_report.specs.declared.ending.Ending.{Ending}
 use Rattle.ev_report.specs.declared.ending.Ending.TheVariants.{Ended, Failed, Unended, Faulty as Faults}
 use Rattle.ev_report.specs.Notes.{end_note, is_broken}
 use Rattle.ev_report.specs.Ends.{fault_in, fault_told}
 
--- ---- what comes next where no whole record is held
+-- ---- what is shown behind what was told
 
-abbrev pub fault_next : Next → Option ℕ
-fault_next More = None
-fault_next (Record u) = None
-fault_next (Refused refusal) = None
-fault_next (Faulty fault) = Some fault
+abbrev pub shown_behind : Next → Whole
+shown_behind More = Rest
+shown_behind (Record u) = Rest
+shown_behind (Refused refusal) = Rest
+shown_behind (Faulty fault) = Fault fault
 
-pub none_next : (w : Whole) (rest : List ℕ) (x : Next) → is_length w ≡ false → x ≡ next_by w rest
-    → fault_next x ≡ fault_in w
-none_next Rest rest x e h = ap fault_next h
-none_next (Fault f) rest x e h = ap fault_next h
-none_next (Length n) rest x e h = cc
+pub shows_next : (old new : Held) (piece : List ℕ) (n : ℕ) (told x : Next) → TakesNext old new piece n told → told ≡ x
+    → shown new ≡ shown_behind x
+shows_next old new piece n told x t e = ap shown t.after ∙ go (shown t.mid) refl ∙ ap shown_behind (sym t.next ∙ e)
+  where
+    by_answer : (r : Result Fields ℕ) → Rest ≡ shown_behind (answer_of r)
+    by_answer (Ok u) = refl
+    by_answer (Err refusal) = refl
+
+    go : (w : Whole) → shown t.mid ≡ w → whole_up_to t.mid.newest (rest_by w t.mid.rest)
+        ≡ shown_behind (next_by w t.mid.rest)
+    go Rest e = e
+    go (Fault f) e = e
+    go (Length n) e = by_answer (reading t.mid.rest)
 
 -- ---- the end of a stream
 

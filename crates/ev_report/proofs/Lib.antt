@@ -1,5 +1,6 @@
 pub mod Taking
 pub mod Reading
+pub mod Inputs
 pub mod Feeding
 pub mod Finishing
 pub mod Listing

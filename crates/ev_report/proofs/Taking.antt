@@ -2,13 +2,19 @@
 use Rattle.std.proofs.Common.{◌≡◌, ◌↔◌, ◌⊎◌, inl, inr, ℕ, ◌+◌, Bool, true, false, ◌||◌, ◌==◌, List, [], ◌∷◌, ◌++◌, take}
 use Rattle.std.proofs.Common.{drop, length, length-append, None, Result, Ok, Err, refl, sym, ap, subst, ◌∙◌}
 use Rattle.std.proofs.Common.{append_assoc, arith}
+use Rattle.std.proofs.Math.Seq.{take-length}
 use Rattle.std.proofs.lemmas.List.{append-nil, nil_from_length, take-append-drop}
 use Rattle.std.specs.Prelude.{MatchBool}
 use Rattle.ether_wire.specs.Ends.{End, with_text}
 use Rattle.ether_wire.proofs.Appending.{with_text_twice, with_text_none}
 use Rattle.route_wire.specs.declared.stream.Next.{Next}
+use Rattle.route_wire.specs.declared.stream.Next.TheVariants.{More, Fault as Faulty}
+use Rattle.route_wire.specs.declared.stream.Whole.TheVariants.{Rest, Fault}
 use Rattle.route_wire.specs.Fields.{Fields}
-use Rattle.route_wire.specs.Feed.{Held, HasRead, added}
+use Rattle.route_wire.specs.Record.{is_length}
+use Rattle.route_wire.specs.Feed.{Held, HasRead, TakesNext, added, is_fault, shown}
+use Rattle.route_wire.proofs.Feeding.{read_skipping}
+use Rattle.route_wire.proofs.Steps.{feeds_version}
 use Rattle.route_join.specs.declared.table.Taken.{Taken}
 use Rattle.route_join.specs.declared.table.TakeError.{TakeError}
 use Rattle.route_join.specs.declared.table.TakeError.TheVariants.{UnknownOriginator, NoMemory}
@@ -19,8 +25,8 @@ use Rattle.route_join.proofs.Joins.{all_taken, none_taken}
 use Rattle.ev_report.specs.Notes.{refused_line, refusals_from, ran_out_of_memory}
 use Rattle.ev_report.specs.Ends.{Tells}
 use Rattle.ev_report.specs.Report.{Becomes, BecomeAll, table_after, table_after_all, taken_of, fresh}
-use Rattle.ev_report.specs.Progressing.{State, state, outcome_of, Refuses, Counts, TakesAnswers, TakesOctets}
-use Rattle.ev_report.specs.Progressing.{TakesFront}
+use Rattle.ev_report.specs.Progressing.{State, state, Refuses, Counts, TakesAnswers, TakesOctets}
+use Rattle.ev_report.proofs.Feeding.{shows_next}
 
 -- ---- notes
 
@@ -145,7 +151,7 @@ answers_none s t table count out_of_memory told = record {
 }
 
 -- the feed makes no difference
-pub answers_fed : (answers : List (Result Fields ℕ)) (s t : State) (h : Held)
+answers_fed : (answers : List (Result Fields ℕ)) (s t : State) (h : Held)
     → TakesAnswers answers (state (record s.intake { feed = h }) s.notes) t → TakesAnswers answers s t
 answers_fed answers s t h k = record {
   outcomes = k.outcomes;
@@ -197,7 +203,11 @@ answers_refused answer refusal s m t became r kept notes out_of_memory = record 
   };
 }
 
--- what a table's answer makes of a record
+-- what a table's answer makes of an update's record
+abbrev pub outcome_of : Fields → Result Taken TakeError → Result Fields ℕ
+outcome_of u (Ok taken) = Ok u
+outcome_of u (Err error) = Err (number_of error)
+
 module _ (t : Table) (u : Fields) where
   pub becomes : (r : Result Taken TakeError) → ((r ≡ Err UnknownOriginator)
       ↔ (is_listed t u.register.originator ≡ false)) → (r ≡ Err NoMemory → value_at t u.register ≡ None)
@@ -238,20 +248,55 @@ octets_both xs ys s t u f g = record {
   taken = answers_both f.answers g.answers s t u f.taken g.taken;
 }
 
--- octets that a feed took, and what it has next then
-pub octets_next : (octets : List ℕ) (s t : State) (after : Held) (x : Next)
-    → ((stream : List ℕ) (answers : List (Result Fields ℕ)) → HasRead s.intake.feed stream answers
-    → HasRead after (stream ++ octets) (answers ++ added x))
-    → after.newest ≡ s.intake.feed.newest → t.intake.feed ≡ after → TakesAnswers (added x) s t → TakesOctets octets s t
-octets_next octets s t after x took version same taken = record {
-  answers = added x;
-  read = λ stream earlier r. subst (λ (h : Held). HasRead h (stream ++ octets) (earlier ++ added x)) (sym same)
-      (took stream earlier r);
-  version = ap (λ (h : Held). h.newest) same ∙ version;
-  taken = taken;
+-- octets behind a fault
+octets_skipped : (octets : List ℕ) (s : State) (fault : ℕ) → shown s.intake.feed ≡ Fault fault → TakesOctets octets s s
+octets_skipped octets s fault shows = record {
+  answers = [];
+  read = λ stream earlier r. subst (λ x. HasRead s.intake.feed (stream ++ octets) x) (sym (append-nil earlier))
+      (subst (λ x. HasRead s.intake.feed (stream ++ x) earlier) (take-length octets)
+      (read_skipping s.intake.feed stream octets earlier (ap is_fault shows) r));
+  version = refl;
+  taken = answers_none s s refl refl refl (tells_none s.notes s.intake.is_told);
 }
 
+-- a step of a feed that held no fault: what it took of a piece, and what it told
+module _ (s : State) (piece : List ℕ) (n : ℕ) (after : Held) (told : Next)
+    (takes : TakesNext s.intake.feed after piece n told) (rest : shown s.intake.feed ≡ Rest)
+    (took : (stream : List ℕ) (answers : List (Result Fields ℕ)) → HasRead s.intake.feed stream answers
+    → HasRead after (stream ++ take n piece) (answers ++ added told)) where
+  pub octets_next : (x : Next) → told ≡ x → (t : State) → t.intake.feed ≡ after
+      → TakesAnswers (added x) (state (record s.intake { feed = after }) s.notes) t → TakesOctets (take n piece) s t
+  octets_next x is t same taken = record {
+    answers = added x;
+    read = λ stream earlier r. subst (λ (h : Held). HasRead h (stream ++ take n piece) (earlier ++ added x)) (sym same)
+        (subst (λ (y : Next). HasRead after (stream ++ take n piece) (earlier ++ added y)) is (took stream earlier r));
+    version = ap (λ (h : Held). h.newest) (same ∙ takes.after)
+        ∙ feeds_version s.intake.feed takes.mid piece n takes.feeds (ap is_length rest);
+    taken = answers_fed (added x) s t after taken;
+  }
+
+  -- no record
+  pub octets_more : told ≡ More → TakesOctets (take n piece) s (state (record s.intake { feed = after }) s.notes)
+  octets_more is = let t : State = state (record s.intake { feed = after }) s.notes in
+      octets_next More is t refl (answers_none t t refl refl refl (tells_none s.notes s.intake.is_told))
+
+  -- a fault: what is behind it in the piece is taken with it
+  pub octets_faulty : (fault : ℕ) → told ≡ Faulty fault
+      → TakesOctets piece s (state (record s.intake { feed = after }) s.notes)
+  octets_faulty fault is = let t : State = state (record s.intake { feed = after }) s.notes in
+      subst (λ x. TakesOctets x s t) (take-append-drop n piece)
+      (octets_both (take n piece) (drop n piece) s t t
+      (octets_next (Faulty fault) is t refl (answers_none t t refl refl refl (tells_none s.notes s.intake.is_told)))
+      (octets_skipped (drop n piece) t fault (shows_next s.intake.feed after piece n told (Faulty fault) takes is)))
+
 -- ---- a piece
+
+-- the octets of a piece in front of its rest
+pub record TakesFront (piece rest : List ℕ) (old new : State) : Type 0 where
+  pub front : List ℕ
+  pub split : piece ≡ front ++ rest
+  pub octets : TakesOctets front old new
+
 pub front_none : (piece : List ℕ) (s : State) → TakesFront piece piece s s
 front_none piece s = record { front = []; split = refl; octets = octets_none s }
 
@@ -264,10 +309,15 @@ front_more piece rest n s t u f g = record {
   octets = octets_both f.front (take n rest) s t u f.octets g;
 }
 
+pub front_rest : (piece rest : List ℕ) (s t u : State) → TakesFront piece rest s t → TakesOctets rest t u
+    → TakesOctets piece s u
+front_rest piece rest s t u f g = subst (λ x. TakesOctets x s u) (sym f.split)
+    (octets_both f.front rest s t u f.octets g)
+
 pub front_all : (piece rest : List ℕ) (s t : State) → TakesFront piece rest s t → length rest ≡ 0
     → TakesOctets piece s t
-front_all piece rest s t f none = subst (λ x. TakesOctets x s t)
-    (sym (f.split ∙ ap (λ x. f.front ++ x) (nil_from_length rest none) ∙ append-nil f.front)) f.octets
+front_all piece rest s t f none = front_rest piece rest s t t f
+    (subst (λ x. TakesOctets x t t) (sym (nil_from_length rest none)) (octets_none t))
 
 -- ---- the table of all that were taken
 with_all : (t : Table) (outcomes : List (Result Fields ℕ))

@@ -1,17 +1,15 @@
 -- How far the records of a stream were taken.
-use Rattle.std.specs.Prelude.{◌≡◌, ℕ, ◌+◌, true, false, ◌||◌, List, [], ◌++◌, length, Result, Ok, Err}
-use Rattle.std.specs.List.{concat}
+use Rattle.std.specs.Prelude.{◌≡◌, ℕ, ◌+◌, true, false, ◌||◌, List, [], ◌++◌, length, take, Result, Ok, Err}
 use Rattle.ether_wire.specs.Ends.{End, Source}
+use Rattle.route_wire.specs.declared.stream.Whole.{Whole}
+use Rattle.route_wire.specs.declared.stream.Whole.TheVariants.{Rest, Fault}
 use Rattle.route_wire.specs.Fields.{Fields}
 use Rattle.route_wire.specs.Record.{is_length}
 use Rattle.route_wire.specs.Feed.{shown, HasRead}
-use Rattle.route_join.specs.declared.table.Taken.{Taken}
-use Rattle.route_join.specs.declared.table.TakeError.{TakeError}
-use Rattle.route_join.specs.Taken.{number_of}
 use Rattle.ev_report.specs.declared.ending.Ending.{Ending}
 use Rattle.ev_report.specs.declared.stream.Intake.{Intake}
 use Rattle.ev_report.specs.Notes.{refused_line, refusals_from, ran_out_of_memory}
-use Rattle.ev_report.specs.Ends.{fault_in, fault_told, Gives, Gave, Tells}
+use Rattle.ev_report.specs.Ends.{fault_in, fault_told, Gave, Tells}
 use Rattle.ev_report.specs.Report.{BecomeAll, table_after_all, fresh}
 
 -- the records on their way into a table, and what the notes hold of them
@@ -33,11 +31,6 @@ new_intake newest originators = record {
 }
 
 -- ---- records
-
--- what a table's answer makes of an update's record
-abbrev pub outcome_of : Fields → Result Taken TakeError → Result Fields ℕ
-outcome_of u (Ok taken) = Ok u
-outcome_of u (Err error) = Err (number_of error)
 
 -- a record more that wasn't taken, and its note
 pub record Refuses (refusal : ℕ) (old new : State) : Type 0 where
@@ -69,18 +62,15 @@ pub record TakesOctets (octets : List ℕ) (old new : State) : Type 0 where
   pub version : new.intake.feed.newest ≡ old.intake.feed.newest
   pub taken : TakesAnswers answers old new
 
--- the octets of a piece in front of its rest
-pub record TakesFront (piece rest : List ℕ) (old new : State) : Type 0 where
-  pub front : List ℕ
-  pub split : piece ≡ front ++ rest
-  pub octets : TakesOctets front old new
+-- what a step takes of a piece: so many octets, or all of it where it tells a fault
+abbrev pub taken_by : Result ℕ ℕ → List ℕ → List ℕ
+taken_by (Ok n) piece = take n piece
+taken_by (Err fault) piece = piece
 
--- the octets that so many reads gave
-pub record TakesReads (turn : ℕ) (reader reader' : Source) (old new : State) : Type 0 where
-  pub pieces : List (List ℕ)
-  pub gives : Gives reader reader' pieces
-  pub many : length pieces ≡ turn
-  pub octets : TakesOctets (concat pieces) old new
+-- what the octets that are held show then: this fault, or else a proper beginning of a record
+abbrev pub shown_by : {A : Type 0} → Result A ℕ → Whole
+shown_by (Ok taken) = Rest
+shown_by (Err fault) = Fault fault
 
 -- all octets that a reader gave, up to where the reading ended so
 pub record TakesInput (newest : ℕ) (ending : Ending) (reader reader' : Source) (old new : State) : Type 0 where

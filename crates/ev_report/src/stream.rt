@@ -1,6 +1,7 @@
 //! The records of a stream, taken as its octets come.
-ghost use Rattle.std.specs.Prelude.{◌≡◌, ◌+◌, ◌*◌, ◌<◌, ◌≤◌, ◌^◌, [], ◌∷◌, true, false, length, take, Ok, ℕ};
+ghost use Rattle.std.specs.Prelude.{◌≡◌, ◌+◌, ◌*◌, ◌<◌, ◌≤◌, ◌^◌, [], ◌∷◌, true, false, length, Ok, IfOk, ℕ};
 ghost use Rattle.ether_wire.specs.Ends.{IsOpen, Allows};
+ghost use Rattle.route_wire.specs.declared.stream.Whole.TheVariants.{Rest};
 ghost use Rattle.route_wire.specs.Record.{is_length};
 ghost use Rattle.route_wire.specs.Feed.{shown, added};
 ghost use Rattle.route_join.specs.Table.{AreOriginators};
@@ -34,7 +35,8 @@ pub(crate) struct Intake {
 impl Intake {
     ghost use Rattle.ev_report.specs.Ends.{Tells};
     ghost use Rattle.ev_report.specs.Notes.{end_note, is_broken};
-    ghost use Rattle.ev_report.specs.Progressing.{state, new_intake, Refuses, TakesAnswers, TakesOctets, TakesInput};
+    ghost use Rattle.ev_report.specs.Progressing.{state, new_intake, Refuses, TakesAnswers};
+    ghost use Rattle.ev_report.specs.Progressing.{taken_by, shown_by, TakesOctets, TakesInput};
 
     /// Before anything was read, with a feed that holds nothing.
     pub(crate) fn new(alloc: Global, originators: ArrayVec<Addr, 64>, feed: Feed) -> Intake
@@ -84,73 +86,73 @@ impl Intake {
     }
 
     /// Takes octets at the front of a piece, up to a record's end, and tells how many.
-    fn step<N: Out>(&mut self, piece: &[u8], notes: &mut N) -> usize
-        requires feed { is_length (shown self.old.feed) ≡ false }
+    ///
+    /// # Errors
+    ///
+    /// The fault that the stream shows then. All of the piece is taken with it.
+    fn step<N: Out>(&mut self, piece: &[u8], notes: &mut N) -> Result<usize, u8>
+        requires feed { shown self.old.feed ≡ Rest }
         requires piece { 0 < length piece.now }
         requires count { self.old.count + 1 < 2 ^ 64 }
         requires room { self.old.is_told ≡ true → IsOpen (N.end notes.old) }
-        ensures taken { TakesOctets (take result piece.now) (state self.old (N.end notes.old))
+        ensures taken { TakesOctets (taken_by result piece.now) (state self.old (N.end notes.old))
             (state self.new (N.end notes.new)) }
-        ensures some { 0 < result }
-        ensures fits { result ≤ length piece.now }
-        ensures feed { is_length (shown self.new.feed) ≡ false }
+        ensures some { IfOk result (λ n. 0 < n) }
+        ensures fits { IfOk result (λ n. n ≤ length piece.now) }
+        ensures shows { shown self.new.feed ≡ shown_by result }
         ensures few { self.new.count ≤ self.old.count + 1 }
     {
         // by reference: an update is large, and would be copied at each step on its way
         let taken = self.feed.take(piece);
         match &taken.1 {
             Next::More => {}
-            Next::Fault(_) => {}
             Next::Record(update) => self.take(update, notes),
             Next::Refused(refusal) => self.refuse(*refusal, notes),
+            Next::Fault(fault) => return Err(*fault),
         }
-        taken.0
+        Ok(taken.0)
     }
 
     /// Takes the octets of a piece.
-    fn take_piece<N: Out>(&mut self, piece: &[u8], notes: &mut N)
-        requires feed { is_length (shown self.old.feed) ≡ false }
+    ///
+    /// # Errors
+    ///
+    /// The fault that the stream shows then.
+    fn take_piece<N: Out>(&mut self, piece: &[u8], notes: &mut N) -> Result<(), u8>
+        requires feed { shown self.old.feed ≡ Rest }
         requires count { self.old.count + length piece.now < 2 ^ 64 }
         requires room { self.old.is_told ≡ true → IsOpen (N.end notes.old) }
         ensures taken { TakesOctets piece.now (state self.old (N.end notes.old))
             (state self.new (N.end notes.new)) }
-        ensures feed { is_length (shown self.new.feed) ≡ false }
+        ensures shows { shown self.new.feed ≡ shown_by result }
         ensures few { self.new.count ≤ self.old.count + length piece.now }
     {
         let mut rest = piece;
         while !rest.is_empty() {
-            let n = self.step(rest, notes);
+            let n = self.step(rest, notes)?;
             let (_, behind) = rest.split_at(n);
             rest = behind;
         }
+        Ok(())
     }
 
     /// Takes a piece that was read, and gives out the notes on it.
-    fn piece<N: Out>(&mut self, piece: &[u8], notes: &mut N)
-        requires feed { is_length (shown self.old.feed) ≡ false }
+    ///
+    /// # Errors
+    ///
+    /// The fault that the stream shows then.
+    fn piece<N: Out>(&mut self, piece: &[u8], notes: &mut N) -> Result<(), u8>
+        requires feed { shown self.old.feed ≡ Rest }
         requires count { self.old.count + length piece.now < 2 ^ 64 }
         requires room { self.old.is_told ≡ true → IsOpen (N.end notes.old) }
         ensures taken { TakesOctets piece.now (state self.old (N.end notes.old))
             (state self.new (N.end notes.new)) }
-        ensures feed { is_length (shown self.new.feed) ≡ false }
+        ensures shows { shown self.new.feed ≡ shown_by result }
         ensures few { self.new.count ≤ self.old.count + length piece.now }
     {
-        self.take_piece(piece, notes);
+        let taken = self.take_piece(piece, notes);
         self.is_told = self.is_told && notes.flush().is_ok();
-    }
-
-    /// The fault that the octets show.
-    fn fault(&mut self) -> Option<u8>
-        requires { is_length (shown self.old.feed) ≡ false }
-        ensures value { result ≡ fault_in (shown self.old.feed) }
-        ensures same { self.new ≡ self.old }
-    {
-        match self.feed.next() {
-            Next::Fault(fault) => Some(fault),
-            Next::More => None,
-            Next::Record(_) => None,
-            Next::Refused(_) => None,
-        }
+        taken
     }
 
     /// Takes the records of a reader, piece by piece, up to its end or the first fault: how the
@@ -168,11 +170,12 @@ impl Intake {
         for turn in 0..MOST_READS {
             match reader.read(&mut buffer) {
                 Ok(0) => return Ending::Ended,
-                Ok(n) => self.piece(&buffer[..n], notes),
+                Ok(n) => {
+                    if let Err(fault) = self.piece(&buffer[..n], notes) {
+                        return Ending::Faulty(fault);
+                    }
+                }
                 Err(Device) => return Ending::Failed,
-            }
-            if let Some(fault) = self.fault() {
-                return Ending::Faulty(fault);
             }
         }
         Ending::Unended

@@ -35,10 +35,8 @@ returns g c =
     let fresh_is : c.new-intake.result ≡ new_intake 2 originators = c.new-intake.ensures
     ∙ ap (λ (h : Held). new_intake h.newest originators) c.old-feed.ensures.value in
     let i : TakesInput 2 ending reader reader' (state (new_intake 2 originators) notes) (state intake mid) =
-    subst (λ (n : ℕ). TakesInput n ending reader reader' (state (new_intake 2 originators) notes) (state intake mid))
-    (ap (λ (x : Intake). x.feed.newest) fresh_is)
-    (subst (λ (x : Intake). TakesInput c.new-intake.result.feed.newest ending reader reader' (state x notes)
-    (state intake mid)) fresh_is c.take_input-ending.ensures.taken) in
+    subst (λ (x : Intake). TakesInput x.feed.newest ending reader reader' (state x notes) (state intake mid)) fresh_is
+    c.take_input-ending.ensures.taken in
     let text : List ℕ = cond c.is_withheld-is_withheld.result [] (records_of (migrated_of c.table.result.now)) in
     let withheld : c.is_withheld-is_withheld.result ≡ (has_stopped ending
     || ran_out_of_memory i.octets.taken.outcomes) =

@@ -1,4 +1,4 @@
-use Rattle.std.proofs.Common.{◌≡◌, ℕ, Bool, not, ◌||◌, is_ok, refl, ap, subst, ◌∙◌}
+use Rattle.std.proofs.Common.{◌≡◌, Bool, not, ◌||◌, is_ok, refl, ap, subst, ◌∙◌}
 use Rattle.ether_wire.specs.Ends.{Puts}
 use Rattle.route_wire.specs.Feed.{Held}
 use Rattle.route_join.specs.Table.{Table}
@@ -32,10 +32,8 @@ returns g c =
     ∙ ap (λ (h : Held). new_intake h.newest c.args.originators.items) c.new-feed.ensures.value in
     renders 3 (λ ending outcomes t. report_of t) c.args.originators.items reader reader' out out' notes mid notes'
     intake last ending
-    (subst (λ (n : ℕ). TakesInput n ending reader reader' (state (new_intake 3 c.args.originators.items) notes)
-    (state intake mid)) (ap (λ (x : Intake). x.feed.newest) fresh_is)
-    (subst (λ (x : Intake). TakesInput c.new-intake.result.feed.newest ending reader reader' (state x notes)
-    (state intake mid)) fresh_is c.take_input-ending.ensures.taken))
+    (subst (λ (x : Intake). TakesInput x.feed.newest ending reader reader' (state x notes) (state intake mid)) fresh_is
+    c.take_input-ending.ensures.taken)
     c.note_end-is_broken.ensures.kept c.note_end-is_broken.ensures.told r (report_of last.table)
     (subst (λ (t : Table). Puts out out' (report_of t) r) c.table.ensures c.write_report.ensures) refl
     c.status_of.result

@@ -1,7 +1,7 @@
 use Rattle.std.proofs.Common.{List, ℕ, length, sym, subst, ◌≡◌, arith}
 use Rattle.std.proofs.lemmas.Bool.Decides.{nat_tests}
-use Rattle.ev_report.specs.Progressing.{State, state, TakesFront}
-use Rattle.ev_report.proofs.Taking.{front_none, front_more, front_all}
+use Rattle.ev_report.specs.Progressing.{State, state}
+use Rattle.ev_report.proofs.Taking.{TakesFront, front_none, front_more, front_rest, front_all}
 use Rattle.ev_report.proofs.stream.Intake.take_piece.Goals as goal
 
 pub loop-rest-init : goal.loop-rest-init
@@ -17,20 +17,26 @@ loop-rest-preserved g c =
     let inv = c.loop-rest.invariant in
     let s : State = state c.args.self.now (g.N.Out.end c.args.notes.now) in
     let t : State = state c.loop-rest.self (g.N.Out.end c.loop-rest.notes) in
-    let u : State = state c.step-n.new.self (g.N.Out.end c.step-n.new.notes) in
+    let u : State = state c.step.new.self (g.N.Out.end c.step.new.notes) in
     record {
       taken = subst (λ (rest : List ℕ). TakesFront c.args.piece.now rest s u) (sym c.split_at.ensures.back)
-          (front_more c.args.piece.now c.loop-rest.rest.now c.step-n.result s t u inv.taken c.step-n.ensures.taken);
-      feed = c.step-n.ensures.feed;
+          (front_more c.args.piece.now c.loop-rest.rest.now c.in_ok-n.n s t u inv.taken c.in_ok-n.ensures.taken);
+      feed = c.in_ok-n.ensures.shows;
       few = omega (
         arith,
         inv.few,
-        c.step-n.ensures.few,
-        c.step-n.ensures.some,
-        c.step-n.ensures.fits,
+        c.step.ensures.few,
+        c.in_ok-n.ensures.some,
+        c.in_ok-n.ensures.fits,
         c.split_at.ensures.back_len,
       );
     }
+
+pub returns-in_err-n-clause-taken : goal.returns-in_err-n-clause-taken
+returns-in_err-n-clause-taken g c =
+    front_rest c.args.piece.now c.loop-rest.rest.now (state c.args.self.now (g.N.Out.end c.args.notes.now))
+    (state c.loop-rest.self (g.N.Out.end c.loop-rest.notes))
+    (state c.step.new.self (g.N.Out.end c.step.new.notes)) c.loop-rest.invariant.taken c.in_err-n.ensures.taken
 
 pub returns-clause-taken : goal.returns-clause-taken
 returns-clause-taken g c =

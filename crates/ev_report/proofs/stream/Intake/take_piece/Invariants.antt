@@ -1,14 +1,15 @@
-use Rattle.std.proofs.Common.{◌≡◌, ◌+◌, ◌≤◌, false, length}
-use Rattle.route_wire.specs.Record.{is_length}
+use Rattle.std.proofs.Common.{◌≡◌, ◌+◌, ◌≤◌, length}
+use Rattle.route_wire.specs.declared.stream.Whole.TheVariants.{Rest}
 use Rattle.route_wire.specs.Feed.{shown}
-use Rattle.ev_report.specs.Progressing.{state, TakesFront}
+use Rattle.ev_report.specs.Progressing.{state}
+use Rattle.ev_report.proofs.Taking.{TakesFront}
 use Rattle.ev_report.proofs.stream.Intake.take_piece.Given as goal
 
 abbrev pub invariant-loop-rest : goal.invariant-loop-rest
 invariant-loop-rest g l = record {
   taken : TakesFront l.fn.piece l.rest (state l.initial.self (g.N.Out.end l.initial.notes))
       (state l.self (g.N.Out.end l.notes));
-  feed : is_length (shown l.self.feed) ≡ false;
+  feed : shown l.self.feed ≡ Rest;
   few : l.self.count + length l.rest ≤ l.initial.self.count + length l.fn.piece;
 }
 
