@@ -1,19 +1,10 @@
--- A feed that holds no whole record takes some octets of a piece, and holds none again; what it may refuse.
-use Rattle.std.proofs.Common.{◌≡◌, ℕ, ◌<◌, Bool, true, false, List, [], ◌∷◌, length, Option, Some, None, Result, Ok, Err}
-use Rattle.std.proofs.Common.{refl, sym, ap, subst, ◌∙◌, arith}
-use Rattle.ether_wire.specs.Frame.{first_of}
-use Rattle.route_wire.specs.declared.stream.Whole.{Whole}
-use Rattle.route_wire.specs.declared.stream.Whole.TheVariants.{Rest, Fault, Length}
+-- A feed that holds no whole record takes some octets of a piece, and holds none again.
+use Rattle.std.proofs.Common.{◌≡◌, ℕ, ◌<◌, false, List, length, sym, ap, subst, ◌∙◌}
 use Rattle.route_wire.specs.declared.stream.Next.{Next}
-use Rattle.route_wire.specs.declared.stream.Next.TheVariants.{Refused}
-use Rattle.route_wire.specs.Fields.{Fields}
-use Rattle.route_wire.specs.Refusal.{refusal_of}
-use Rattle.route_wire.specs.Record.{reading, header_in, route_of, update_in, unless_refused, is_length}
-use Rattle.route_wire.specs.Feed.{Held, shown, answer_of, next_by, TakesNext}
+use Rattle.route_wire.specs.Record.{is_length}
+use Rattle.route_wire.specs.Feed.{Held, shown, TakesNext}
 use Rattle.route_wire.proofs.Steps.{feeds_some, feeds_version, next_holds_none}
-use Rattle.ev_exchange.specs.declared.receiver.TheConstants.{KINDS}
 
--- ---- a step of a feed
 module _ (h after : Held) (piece : List ℕ) (n : ℕ) (told : Next) (t : TakesNext h after piece n told)
     (e : is_length (shown h) ≡ false) where
   pub takes_some : 0 < length piece → 0 < n
@@ -24,34 +15,3 @@ module _ (h after : Held) (piece : List ℕ) (n : ℕ) (told : Next) (t : TakesN
     ap (λ (x : Held). x.newest) t.after ∙ feeds_version h t.mid piece n t.feeds e ∙ version,
     subst (λ (x : Held). is_length (shown x) ≡ false) (sym t.after) (next_holds_none t.mid),
   )
-
--- ---- refusals of a whole record are numbered below 15
-below : (a b c d e f g h : Bool) (r : ℕ) → first_of ((a, 5) ∷ (b, 6) ∷ (c, 7) ∷ (d, 8) ∷ (e, 9) ∷ (f, 10) ∷ (g, 11)
-    ∷ (h, 14) ∷ []) ≡ Some r → r < KINDS
-below true b c d e f g h r k = let is : 5 ≡ r = cc in omega arith
-below false true c d e f g h r k = let is : 6 ≡ r = cc in omega arith
-below false false true d e f g h r k = let is : 7 ≡ r = cc in omega arith
-below false false false true e f g h r k = let is : 8 ≡ r = cc in omega arith
-below false false false false true f g h r k = let is : 9 ≡ r = cc in omega arith
-below false false false false false true g h r k = let is : 10 ≡ r = cc in omega arith
-below false false false false false false true h r k = let is : 11 ≡ r = cc in omega arith
-below false false false false false false false true r k = let is : 14 ≡ r = cc in omega arith
-below false false false false false false false false r k = cc
-
-refused : (o : Option ℕ) (u : Fields) (r : ℕ) → unless_refused o u ≡ Err r → o ≡ Some r
-refused None u r k = cc
-refused (Some x) u r k = cc
-
-refusal_below : (bytes : List ℕ) (r : ℕ) → reading bytes ≡ Err r → r < KINDS
-unfolding reading
-refusal_below bytes r k = below _ _ _ _ _ _ _ _ r (refused (refusal_of (header_in bytes) (route_of bytes))
-    (update_in (header_in bytes) (route_of bytes)) r k)
-
-pub refused_below : (w : Whole) (rest : List ℕ) (r : ℕ) → Refused r ≡ next_by w rest → r < KINDS
-refused_below Rest rest r k = cc
-refused_below (Fault f) rest r k = cc
-refused_below (Length n) rest r k = go (reading rest) refl k
-  where
-    go : (x : Result Fields ℕ) → reading rest ≡ x → Refused r ≡ answer_of x → r < KINDS
-    go (Ok u) e k = cc
-    go (Err y) e k = let same : r ≡ y = cc in refusal_below rest r (e ∙ ap Err (sym same))

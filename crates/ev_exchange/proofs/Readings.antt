@@ -1,7 +1,6 @@
 -- A connection that is read, read after read.
-use Rattle.std.proofs.Common.{◌≡◌, ℕ, ◌+◌, ◌<◌, ◌^◌, ◌==◌, Bool, true, false, List, [], ◌∷◌, ◌++◌, take, length, Option}
-use Rattle.std.proofs.Common.{Some, None, Result, Ok, Err, refl, sym, ap, subst, ◌∙◌, arith, append-nil}
-use Rattle.ether_wire.specs.declared.ends.Device.{Device}
+use Rattle.std.proofs.Common.{◌≡◌, ℕ, ◌+◌, ◌<◌, ◌^◌, List, [], ◌∷◌, ◌++◌, take, Some, None, Result, Ok, refl, sym, ap}
+use Rattle.std.proofs.Common.{◌∙◌, arith}
 use Rattle.ether_wire.specs.Ends.{Source, Allows, Gets}
 use Rattle.route_wire.specs.declared.stream.Whole.{Whole}
 use Rattle.route_wire.specs.declared.stream.Whole.TheVariants.{Rest, Fault, Length}
@@ -9,13 +8,11 @@ use Rattle.route_wire.specs.Fields.{Fields}
 use Rattle.route_wire.specs.Stream.{whole_of}
 use Rattle.route_wire.specs.Record.{Answers}
 use Rattle.ev_report.specs.declared.ending.Ending.{Ending}
-use Rattle.ev_report.specs.declared.ending.Ending.TheVariants.{Ended, Failed, Faulty, Unended}
-use Rattle.ev_report.specs.Ends.{IsFaultless, Gives, fault_in}
+use Rattle.ev_report.specs.declared.ending.Ending.TheVariants.{Faulty}
+use Rattle.ev_report.specs.Ends.{IsFaultless, fault_in, fault_told}
 use Rattle.ev_report.specs.Input.{Gathers}
-use Rattle.ev_report.proofs.Reading.{at_end, same_source, prepend_known_none, gives_one}
-use Rattle.ev_report.proofs.Gathering.{gathers_none, gathers_more}
+use Rattle.ev_report.proofs.Gathering.{gathers_none, gathers_more, Stops, gave_by, stops_faulty}
 use Rattle.ev_exchange.specs.declared.stream_end.StreamEnd.{StreamEnd}
-use Rattle.ev_exchange.specs.declared.stream_end.StreamEnd.TheVariants.{Whole as Complete, Cut, Faulty as Broken}
 use Rattle.ev_exchange.specs.Receiving.{Received, Given, HasReceived, Delivers, end_by, fault_by, Receives}
 
 -- the fault that a stream's end tells is the one that its rest shows
@@ -82,74 +79,24 @@ module _ (turn : ℕ) (source mid : Source) (start given : Given) (r : Received)
         → Receives source last start given' r'.counts end' (Faulty fault)
     receives_fault fault turns none shows = record {
       input = c.input ++ take n buffer;
-      gave = record {
-        pieces = c.read.pieces;
-        behind = mid;
-        gives = c.read.gives;
-        faultless = subst (IsFaultless 3) c.read.is (faultless c.input start given r.counts end c.delivers none);
-        ends = (take n buffer, gives_one mid last buffer n got some, ap (λ x. x ++ take n buffer) c.read.is);
-        few = let a = c.read.gives.reads in let b = got.reads in let k = c.read.many in omega arith;
-      };
+      gave = gave_by turn source mid c.input c.read 3 (faultless c.input start given r.counts end c.delivers none)
+          (Faulty fault) last (c.input ++ take n buffer)
+          (stops_faulty turn source mid last c.input buffer c.read n fault turns got some);
       delivers = ends start (c.input ++ take n buffer) (took start c.input c.received);
       shows = shows;
     }
 
-  module _ (none : fault_by end ≡ None) where
-    pub receives_end : (last : Source) (buffer : List ℕ) → turn < 2 ^ 40 → 0 < length buffer
-        → Gets mid last buffer (Ok 0) → Receives source last start given r.counts end Ended
-    receives_end last buffer turns room got = record {
-      input = c.input;
-      gave = record {
-        pieces = c.read.pieces;
-        behind = mid;
-        gives = c.read.gives;
-        faultless = subst (IsFaultless 3) c.read.is (faultless c.input start given r.counts end c.delivers none);
-        ends = (
-          at_end mid.octets (got.takes.ends room refl),
-          same_source last (record mid { reads = mid.reads + 1 })
-              (sym (got.takes.next ∙ prepend_known_none last.octets)) (got.failures ∙ grind arith) got.reads,
-          c.read.is,
-        );
-        few = let a = c.read.gives.reads in let b = got.reads in let k = c.read.many in omega arith;
-      };
-      delivers = c.delivers;
-      shows = sym none;
-    }
-
-    pub receives_failed : (last : Source) (buffer : List ℕ) (device : Device) → turn < 2 ^ 40
-        → Gets mid last buffer (Err device) → Receives source last start given r.counts end Failed
-    receives_failed last buffer device turns got = record {
-      input = c.input;
-      gave = record {
-        pieces = c.read.pieces;
-        behind = mid;
-        gives = c.read.gives;
-        faultless = subst (IsFaultless 3) c.read.is (faultless c.input start given r.counts end c.delivers none);
-        ends = (
-          same_source last (record mid { failures = mid.failures + 1; reads = mid.reads + 1 }) got.keeps got.failures
-              got.reads,
-          c.read.is,
-        );
-        few = let a = c.read.gives.reads in let b = got.reads in let k = c.read.many in omega arith;
-      };
-      delivers = c.delivers;
-      shows = sym none;
-    }
-
-    pub receives_unended : turn ≡ 2 ^ 40 → Receives source mid start given r.counts end Unended
-    receives_unended turns = record {
-      input = c.input;
-      gave = record {
-        pieces = c.read.pieces;
-        behind = mid;
-        gives = c.read.gives;
-        faultless = subst (IsFaultless 3) c.read.is (faultless c.input start given r.counts end c.delivers none);
-        ends = (refl, c.read.many ∙ turns, c.read.is);
-        few = let a = c.read.gives.reads in let k = c.read.many in omega arith;
-      };
-      delivers = c.delivers;
-      shows = sym none;
-    }
+  -- no octet of a last read was received
+  pub receives_by : fault_by end ≡ None → (ending : Ending) (last : Source)
+      → Stops ending source mid last c.read.pieces c.input → fault_told ending ≡ None
+      → Receives source last start given r.counts end ending
+  receives_by none ending last stops told = record {
+    input = c.input;
+    gave = gave_by turn source mid c.input c.read 3 (faultless c.input start given r.counts end c.delivers none) ending
+        last c.input stops;
+    delivers = c.delivers;
+    shows = told ∙ sym none;
+  }
 
 -- the same of a receiver and ends that are known to be these
 pub receives_as : (old new : Source) (start given : Given) (r r' : Received) (end end' : StreamEnd)

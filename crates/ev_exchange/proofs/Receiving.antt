@@ -1,5 +1,5 @@
 -- What a receiver has received, octet after octet, and the end of its stream.
-use Rattle.std.proofs.Common.{◌≡◌, ℕ, true, false, List, [], ◌++◌, take, drop, length, Option, Result}
+use Rattle.std.proofs.Common.{◌≡◌, ℕ, true, false, List, [], ◌++◌, take, drop, length, Result}
 use Rattle.std.proofs.Common.{Ok, Err, refl, sym, ap, subst, ◌∙◌, append_assoc, append-nil}
 use Rattle.std.proofs.lemmas.List.{nil_from_length, take-append-drop}
 use Rattle.route_wire.specs.declared.stream.Whole.{Whole}
@@ -9,7 +9,7 @@ use Rattle.route_wire.specs.declared.stream.Next.TheVariants.{More, Record, Refu
 use Rattle.route_wire.specs.Fields.{Fields}
 use Rattle.route_wire.specs.Record.{is_length, AnswersUpTo}
 use Rattle.route_wire.specs.Stream.{whole_up_to}
-use Rattle.route_wire.specs.Feed.{HasRead, added, is_rest, shown, next_by, next_of}
+use Rattle.route_wire.specs.Feed.{Held, HasRead, added, is_rest, shown, next_by, next_of}
 use Rattle.route_wire.proofs.Cuttings.{read_whole_stream}
 use Rattle.ev_exchange.specs.declared.stream_end.StreamEnd.{StreamEnd}
 use Rattle.ev_links.specs.Coming.{behind}
@@ -50,16 +50,20 @@ received_next r s given given' octets x took counts news start stream h = record
       ∙ ap (behind start) (sym (handed_next h.answers x));
 }
 
--- the same of a receiver that is seen as v
-pub received_step : (v r s : Received) (given given' : Given) (octets : List ℕ) (x : Next) → r ≡ v
+-- the same of a receiver that is seen as v, by what the feed told
+pub received_step : (v r s : Received) (given given' : Given) (octets : List ℕ) (after : Held) (told x : Next) → r ≡ v
+    → s.feed ≡ after → told ≡ x
     → ((stream : List ℕ) (answers : List (Result Fields ℕ)) → HasRead r.feed stream answers
-    → HasRead s.feed (stream ++ octets) (answers ++ added x))
+    → HasRead after (stream ++ octets) (answers ++ added told))
     → ((answers : List (Result Fields ℕ)) → AreCounts r.counts answers → AreCounts s.counts (answers ++ added x))
     → ((answers : List (Result Fields ℕ)) → AreCounts r.counts answers → given' ≡ behind given (news_next answers x))
     → (start : Given) (stream : List ℕ) → HasReceived v start given stream
     → HasReceived s start given' (stream ++ octets)
-received_step v r s given given' octets x same took counts news start stream h =
-    received_next r s given given' octets x took counts news start stream
+received_step v r s given given' octets after told x same fed is took counts news start stream h =
+    received_next r s given given' octets x
+    (λ stream answers read. subst (λ (held : Held). HasRead held (stream ++ octets) (answers ++ added x)) (sym fed)
+    (subst (λ (y : Next). HasRead after (stream ++ octets) (answers ++ added y)) is (took stream answers read)))
+    counts news start stream
     (subst (λ (y : Received). HasReceived y start given stream) (sym same) h)
 
 -- nothing is counted and nothing goes on

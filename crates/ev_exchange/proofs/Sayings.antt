@@ -1,10 +1,9 @@
 -- What edges say on a connection, table after table and update after update.
-use Rattle.std.proofs.Common.{◌≡◌, ◌⊎◌, inl, inr, ℕ, ◌+◌, Bool, true, false, List, [], ◌∷◌, ◌++◌, map, length}
+use Rattle.std.proofs.Common.{◌≡◌, inl, inr, ℕ, ◌+◌, true, false, List, [], ◌∷◌, ◌++◌, map, length}
 use Rattle.std.proofs.Common.{length-append, Option, Some, None, refl, sym, ap, subst, ◌∙◌, append_assoc, append-nil}
 use Rattle.std.proofs.Common.{arith}
 use Rattle.std.proofs.lemmas.List.{map-append}
 use Rattle.std.proofs.lemmas.Grind.{flat_map-append}
-use Rattle.ether_wire.specs.Ends.{End}
 use Rattle.route_wire.specs.Fields.{Fields}
 use Rattle.ev_links.specs.Coming.{behind}
 use Rattle.ev_links.proofs.Behind.{behind_twice, behind_none}

@@ -104,9 +104,10 @@ impl Receiver {
         let taken = self.feed.take(piece);
         match &taken.1 {
             Next::More => {}
-            Next::Fault(_) => {}
             Next::Record(update) => into.enter(update),
             Next::Refused(refusal) => self.refuse(*refusal, into),
+            // the feed keeps it, and `end` asks the feed
+            Next::Fault(_) => {}
         }
         taken.0
     }

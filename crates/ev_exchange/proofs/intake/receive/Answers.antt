@@ -1,10 +1,11 @@
-use Rattle.std.proofs.Common.{ℕ, ◌+◌, ◌<◌, ◌^◌, ◌≡◌, List, [], take, length, Ok, sym, subst, ◌∙◌, arith}
+use Rattle.std.proofs.Common.{ℕ, ◌+◌, ◌<◌, ◌^◌, ◌≡◌, [], length, Ok, refl, sym, subst, ◌∙◌, arith}
 use Rattle.std.proofs.lemmas.Bool.Decides.{nat_tests}
 use Rattle.ether_wire.specs.Ends.{Gets}
 use Rattle.ev_report.specs.declared.ending.Ending.TheVariants.{Ended, Failed, Faulty, Unended}
+use Rattle.ev_report.proofs.Gathering.{stops_ended, stops_failed, stops_unended}
 use Rattle.ev_exchange.specs.Receiving.{Received}
-use Rattle.ev_exchange.proofs.Readings.{Coming, coming_none, coming_more, empty_faultless, receives_end}
-use Rattle.ev_exchange.proofs.Readings.{receives_failed, receives_fault, receives_unended, receives_as}
+use Rattle.ev_exchange.proofs.Readings.{Coming, coming_none, coming_more, empty_faultless, receives_by, receives_fault}
+use Rattle.ev_exchange.proofs.Readings.{receives_as}
 use Rattle.ev_exchange.proofs.intake.receive.Goals as goal
 
 pub loop-turn-init : goal.loop-turn-init
@@ -23,6 +24,7 @@ loop-turn-init g c =
 
 pub returns-in-Ok-eq0 : goal.returns-in-Ok-eq0
 returns-in-Ok-eq0 g c =
+    let coming = c.loop-turn.invariant.coming in
     let source = g.R.In.end c.args.reader.now in
     let mid = g.R.In.end c.loop-turn.reader in
     let last = g.R.In.end c.read.new.self in
@@ -33,12 +35,14 @@ returns-in-Ok-eq0 g c =
     let room : 0 < length c.read.new.buffer = omega (arith, c.read.auto.buffer) in
     receives_as source last start given c.loop-turn.receiver c.came.result.receiver c.loop-turn.end c.came.result.end
     Ended c.came.result.ending
-    (receives_end c.loop-turn.turn source mid start given c.loop-turn.receiver c.loop-turn.end
-    c.loop-turn.invariant.coming c.loop-turn.invariant.faultless last c.read.new.buffer turns room
-    (subst (λ (n : ℕ). Gets mid last c.read.new.buffer (Ok n)) none c.in-Ok-eq0.ensures)) c.came.ensures
+    (receives_by c.loop-turn.turn source mid start given c.loop-turn.receiver c.loop-turn.end coming
+    c.loop-turn.invariant.faultless Ended last
+    (stops_ended c.loop-turn.turn source mid last coming.input c.read.new.buffer coming.read turns room
+    (subst (λ (n : ℕ). Gets mid last c.read.new.buffer (Ok n)) none c.in-Ok-eq0.ensures)) refl) c.came.ensures
 
 pub returns-in-Err : goal.returns-in-Err
 returns-in-Err g c =
+    let coming = c.loop-turn.invariant.coming in
     let source = g.R.In.end c.args.reader.now in
     let mid = g.R.In.end c.loop-turn.reader in
     let last = g.R.In.end c.read.new.self in
@@ -47,9 +51,10 @@ returns-in-Err g c =
     let turns : c.loop-turn.turn < 2 ^ 40 = grind (arith, nat_tests, c.loop-turn-test.true) in
     receives_as source last start given c.loop-turn.receiver c.came-in-Err.result.receiver c.loop-turn.end
     c.came-in-Err.result.end Failed c.came-in-Err.result.ending
-    (receives_failed c.loop-turn.turn source mid start given c.loop-turn.receiver c.loop-turn.end
-    c.loop-turn.invariant.coming c.loop-turn.invariant.faultless last c.read.new.buffer c.in-Err.field-0 turns
-    c.in-Err.ensures) c.came-in-Err.ensures
+    (receives_by c.loop-turn.turn source mid start given c.loop-turn.receiver c.loop-turn.end coming
+    c.loop-turn.invariant.faultless Failed last
+    (stops_failed c.loop-turn.turn source mid last coming.input c.read.new.buffer coming.read c.in-Err.field-0 turns
+    c.in-Err.ensures) refl) c.came-in-Err.ensures
 
 pub returns-in-Some : goal.returns-in-Some
 returns-in-Some g c =
@@ -93,6 +98,7 @@ loop-turn-preserved g c =
 
 pub returns : goal.returns
 returns g c =
+    let coming = c.loop-turn.invariant.coming in
     let source = g.R.In.end c.args.reader.now in
     let mid = g.R.In.end c.loop-turn.reader in
     let start = g.E.Entrance.given c.args.into.now in
@@ -105,5 +111,6 @@ returns g c =
     ) in
     receives_as source mid start given c.loop-turn.receiver c.came-2.result.receiver c.loop-turn.end
     c.came-2.result.end Unended c.came-2.result.ending
-    (receives_unended c.loop-turn.turn source mid start given c.loop-turn.receiver c.loop-turn.end
-    c.loop-turn.invariant.coming c.loop-turn.invariant.faultless turns) c.came-2.ensures
+    (receives_by c.loop-turn.turn source mid start given c.loop-turn.receiver c.loop-turn.end coming
+    c.loop-turn.invariant.faultless Unended mid
+    (stops_unended c.loop-turn.turn source mid coming.input coming.read turns) refl) c.came-2.ensures

@@ -1,4 +1,4 @@
-use Rattle.ev_exchange.proofs.Sayings.{passing_flushed, passing_more, passes_to_end, passes_shut}
+use Rattle.ev_exchange.proofs.Sayings.{passing_flushed, passing_more, passes_to_end}
 use Rattle.ev_exchange.proofs.saying.pass_on.Goals as goal
 
 pub returns-in_default : goal.returns-in_default

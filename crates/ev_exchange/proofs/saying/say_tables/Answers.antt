@@ -1,5 +1,4 @@
-use Rattle.std.proofs.Common.{List, ◌≡◌, false, sym, subst, ◌∙◌, arith}
-use Rattle.std.proofs.lemmas.Bool.Decides.{nat_tests}
+use Rattle.std.proofs.Common.{List, sym, subst, ◌∙◌}
 use Rattle.route_wire.specs.Fields.{Fields}
 use Rattle.ev_exchange.specs.Sending.{HasSaid, own_of}
 use Rattle.ev_exchange.proofs.Sayings.{saying_more, saying_shut, saying_without}

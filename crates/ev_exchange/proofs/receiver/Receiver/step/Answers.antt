@@ -1,11 +1,10 @@
-use Rattle.std.proofs.Common.{ℕ, List, ◌++◌, Result, take, sym, subst, ◌∙◌}
-use Rattle.route_wire.specs.declared.stream.Next.{Next}
+use Rattle.std.proofs.Common.{take, refl, sym, ◌∙◌}
 use Rattle.route_wire.specs.declared.stream.Next.TheVariants.{More, Record, Refused, Fault}
-use Rattle.route_wire.specs.Fields.{Fields}
-use Rattle.route_wire.specs.Feed.{Held, HasRead, added, shown}
+use Rattle.route_wire.specs.Feed.{shown}
 use Rattle.ev_exchange.specs.Receiving.{Received}
 use Rattle.ev_exchange.proofs.Counting.{counts_entered}
-use Rattle.ev_exchange.proofs.Feeding.{takes_some, takes_kept, refused_below}
+use Rattle.ev_report.proofs.Refusals.{refused_below}
+use Rattle.ev_exchange.proofs.Feeding.{takes_some, takes_kept}
 use Rattle.ev_exchange.proofs.Receiving.{received_step, counts_none, none_given}
 use Rattle.ev_exchange.proofs.receiver.Receiver.step.Goals as goal
 
@@ -40,13 +39,8 @@ returns-in-More-clause-took g c =
     let r : Received = record { feed = c.self.inside.feed; counts = c.self.inside.counts } in
     let s : Received = record { feed = c.take-taken.new.self; counts = c.self.inside.counts } in
     let given = g.E.Entrance.given c.args.into.now in
-    let x : Next = More in
-    received_step c.args.self.now r s given given octets x c.self.view_is
-    (subst (λ (x : Next). (stream : List ℕ) (answers : List (Result Fields ℕ))
-    → HasRead r.feed stream answers
-    → HasRead c.take-taken.new.self (stream ++ octets) (answers ++ added x)) c.in-More.is
-    c.take-taken.ensures.read)
-    (counts_none r.counts) (λ answers h. none_given given)
+    received_step c.args.self.now r s given given octets c.take-taken.new.self c.take-taken.result.1 More
+    c.self.view_is refl c.in-More.is c.take-taken.ensures.read (counts_none r.counts) (λ answers h. none_given given)
 
 pub returns-in-Fault-clause-took : goal.returns-in-Fault-clause-took
 returns-in-Fault-clause-took g c =
@@ -54,13 +48,9 @@ returns-in-Fault-clause-took g c =
     let r : Received = record { feed = c.self.inside.feed; counts = c.self.inside.counts } in
     let s : Received = record { feed = c.take-taken.new.self; counts = c.self.inside.counts } in
     let given = g.E.Entrance.given c.args.into.now in
-    let x : Next = Fault c.in-Fault.field-0 in
-    received_step c.args.self.now r s given given octets x c.self.view_is
-    (subst (λ (x : Next). (stream : List ℕ) (answers : List (Result Fields ℕ))
-    → HasRead r.feed stream answers
-    → HasRead c.take-taken.new.self (stream ++ octets) (answers ++ added x)) c.in-Fault.is
-    c.take-taken.ensures.read)
-    (counts_none r.counts) (λ answers h. none_given given)
+    received_step c.args.self.now r s given given octets c.take-taken.new.self c.take-taken.result.1
+    (Fault c.in-Fault.field-0) c.self.view_is refl c.in-Fault.is c.take-taken.ensures.read (counts_none r.counts)
+    (λ answers h. none_given given)
 
 pub returns-in-Record-clause-took : goal.returns-in-Record-clause-took
 returns-in-Record-clause-took g c =
@@ -68,29 +58,18 @@ returns-in-Record-clause-took g c =
     let r : Received = record { feed = c.self.inside.feed; counts = c.self.inside.counts } in
     let s : Received = record { feed = c.take-taken.new.self; counts = c.self.inside.counts } in
     let given = g.E.Entrance.given c.args.into.now in
-    let x : Next = Record c.in-Record.update in
-    received_step c.args.self.now r s given (g.E.Entrance.given c.enter.new.self) octets x c.self.view_is
-    (subst (λ (x : Next). (stream : List ℕ) (answers : List (Result Fields ℕ))
-    → HasRead r.feed stream answers
-    → HasRead c.take-taken.new.self (stream ++ octets) (answers ++ added x)) c.in-Record.is
-    c.take-taken.ensures.read)
+    received_step c.args.self.now r s given (g.E.Entrance.given c.enter.new.self) octets c.take-taken.new.self
+    c.take-taken.result.1 (Record c.in-Record.update) c.self.view_is refl c.in-Record.is c.take-taken.ensures.read
     (λ answers h. counts_entered r.counts answers c.in-Record.update h) (λ answers h. c.enter.ensures)
 
 pub returns-in-Refused-clause-took : goal.returns-in-Refused-clause-took
 returns-in-Refused-clause-took g c =
     let octets = take c.take-taken.result.0 c.args.piece.now in
     let r : Received = record { feed = c.self.inside.feed; counts = c.self.inside.counts } in
-    let s : Received = c.refuse.new.self in
     let given = g.E.Entrance.given c.args.into.now in
-    let x : Next = Refused c.in-Refused.refusal in
-    received_step c.args.self.now r s given (g.E.Entrance.given c.refuse.new.into) octets x c.self.view_is
-    (subst (λ (h : Held). (stream : List ℕ) (answers : List (Result Fields ℕ))
-    → HasRead r.feed stream answers → HasRead h (stream ++ octets) (answers ++ added x)) (sym c.refuse.ensures.feed)
-    (subst (λ (x : Next). (stream : List ℕ) (answers : List (Result Fields ℕ))
-    → HasRead r.feed stream answers
-    → HasRead c.take-taken.new.self (stream ++ octets) (answers ++ added x)) c.in-Refused.is
-    c.take-taken.ensures.read))
-    (c.refuse.ensures.counts) (c.refuse.ensures.told)
+    received_step c.args.self.now r c.refuse.new.self given (g.E.Entrance.given c.refuse.new.into) octets
+    c.take-taken.new.self c.take-taken.result.1 (Refused c.in-Refused.refusal) c.self.view_is c.refuse.ensures.feed
+    c.in-Refused.is c.take-taken.ensures.read c.refuse.ensures.counts c.refuse.ensures.told
 
 pub returns-in-More-clause-some : goal.returns-in-More-clause-some
 returns-in-More-clause-some g c =
