@@ -1,21 +1,10 @@
-use Rattle.std.proofs.Common.{◌≡◌, ℕ, ◌+◌, ◌++◌, arith, take, sym, ap, ◌∙◌}
-use Rattle.ether_wire.specs.Ends.{End, with_text}
-use Rattle.ether_wire.proofs.Appending.{with_text_twice}
-use Rattle.ev_view.specs.EdgeViews.{each_from, network_words}
-use Rattle.ev_view.proofs.Each.{each_more}
+use Rattle.ev_view.specs.EdgeViews.{network_words}
+use Rattle.ev_view.proofs.Each.{each_written}
 use Rattle.ev_view.proofs.edge_line.put_networks.Goals as goal
 
 pub loop-place-preserved : goal.loop-place-preserved
 loop-place-preserved g c =
-    let start : End = g.W.Out.end c.args.out.now in
-    let vnis = c.args.vnis.now in
-    let place = c.loop-place.place in
-    let one : ℕ = c.index-vnis-place.result in
-    let before = each_from network_words 1 (take place vnis) in
-    let next : place + 1 ≡ 1 + place = omega arith in
-    c.in_ok-put_network.ensures
-    ∙ ap (λ (e : End). with_text e (network_words (place + 1) one)) c.loop-place.invariant
-    ∙ with_text_twice start before (network_words (place + 1) one)
-    ∙ ap (λ (n : ℕ). with_text start (before ++ network_words n one)) next
-    ∙ ap (λ (v : ℕ). with_text start (before ++ network_words (1 + place) v)) c.index-vnis-place.is
-    ∙ ap (with_text start) (sym (each_more network_words 1 vnis place one c.loop-place-test.true))
+    let one = c.index-vnis-place.result in
+    each_written network_words c.args.vnis.now c.loop-place.place one one (g.W.Out.end c.args.out.now)
+    (g.W.Out.end c.loop-place.out) (g.W.Out.end c.put_network.new.out) c.loop-place.invariant
+    c.in_ok-put_network.ensures c.index-vnis-place.is c.loop-place-test.true
