@@ -1,7 +1,6 @@
 -- What a receiver has received, octet after octet, and the end of its stream.
-use Rattle.std.proofs.Common.{◌≡◌, ℕ, true, false, List, [], ◌++◌, take, drop, length, Result}
+use Rattle.std.proofs.Common.{◌≡◌, ℕ, true, false, List, [], ◌++◌, Result}
 use Rattle.std.proofs.Common.{Ok, Err, refl, sym, ap, subst, ◌∙◌, append_assoc, append-nil}
-use Rattle.std.proofs.lemmas.List.{nil_from_length, take-append-drop}
 use Rattle.route_wire.specs.declared.stream.Whole.{Whole}
 use Rattle.route_wire.specs.declared.stream.Whole.TheVariants.{Rest, Fault, Length}
 use Rattle.route_wire.specs.declared.stream.Next.{Next}
@@ -19,6 +18,11 @@ use Rattle.ev_exchange.specs.Receiving.{end_of_next}
 use Rattle.ev_links.proofs.Behind.{behind_twice, behind_none}
 use Rattle.ev_exchange.proofs.Counting.{handed_push}
 
+-- octets took a receiver on, which gave what goes on of them
+abbrev pub Took : Received → Received → Given → Given → List ℕ → Type 0
+Took r s given given' octets = (start : Given) (stream : List ℕ) → HasReceived r start given stream
+    → HasReceived s start given' (stream ++ octets)
+
 -- what goes on of what a feed has next, behind earlier answers
 abbrev pub news_next : List (Result Fields ℕ) → Next → List (Result Fields ℕ)
 news_next earlier More = []
@@ -33,38 +37,26 @@ handed_next answers (Record u) = handed_push answers (Ok u)
 handed_next answers (Refused refusal) = handed_push answers (Err refusal)
 handed_next answers (Faulted fault) = ap handed (append-nil answers) ∙ sym (append-nil (handed answers))
 
--- octets that the feed took, with what it has next then
-received_next : (r s : Received) (given given' : Given) (octets : List ℕ) (x : Next)
-    → ((stream : List ℕ) (answers : List (Result Fields ℕ)) → HasRead r.feed stream answers
-    → HasRead s.feed (stream ++ octets) (answers ++ added x))
-    → ((answers : List (Result Fields ℕ)) → AreCounts r.counts answers → AreCounts s.counts (answers ++ added x))
-    → ((answers : List (Result Fields ℕ)) → AreCounts r.counts answers → given' ≡ behind given (news_next answers x))
-    → (start : Given) (stream : List ℕ) → HasReceived r start given stream
-    → HasReceived s start given' (stream ++ octets)
-received_next r s given given' octets x took counts news start stream h = record {
-  answers = h.answers ++ added x;
-  read = took stream h.answers h.read;
-  counts = counts h.answers h.counts;
-  handed_on = news h.answers h.counts ∙ ap (λ k. behind k (news_next h.answers x)) h.handed_on
-      ∙ behind_twice start (handed h.answers) (news_next h.answers x)
-      ∙ ap (behind start) (sym (handed_next h.answers x));
-}
-
--- the same of a receiver that is seen as v, by what the feed told
+-- octets that the feed took, and what it told then, of a receiver that is seen as v
 pub received_step : (v r s : Received) (given given' : Given) (octets : List ℕ) (after : Held) (told x : Next) → r ≡ v
     → s.feed ≡ after → told ≡ x
     → ((stream : List ℕ) (answers : List (Result Fields ℕ)) → HasRead r.feed stream answers
     → HasRead after (stream ++ octets) (answers ++ added told))
     → ((answers : List (Result Fields ℕ)) → AreCounts r.counts answers → AreCounts s.counts (answers ++ added x))
     → ((answers : List (Result Fields ℕ)) → AreCounts r.counts answers → given' ≡ behind given (news_next answers x))
-    → (start : Given) (stream : List ℕ) → HasReceived v start given stream
-    → HasReceived s start given' (stream ++ octets)
+    → Took v s given given' octets
 received_step v r s given given' octets after told x same fed is took counts news start stream h =
-    received_next r s given given' octets x
-    (λ stream answers read. subst (λ (held : Held). HasRead held (stream ++ octets) (answers ++ added x)) (sym fed)
-    (subst (λ (y : Next). HasRead after (stream ++ octets) (answers ++ added y)) is (took stream answers read)))
-    counts news start stream
-    (subst (λ (y : Received). HasReceived y start given stream) (sym same) h)
+    let was = subst (λ (y : Received). HasReceived y start given stream) (sym same) h in
+    record {
+      answers = was.answers ++ added x;
+      read = subst (λ (held : Held). HasRead held (stream ++ octets) (was.answers ++ added x)) (sym fed)
+          (subst (λ (y : Next). HasRead after (stream ++ octets) (was.answers ++ added y)) is
+          (took stream was.answers was.read));
+      counts = counts was.answers was.counts;
+      handed_on = news was.answers was.counts ∙ ap (λ k. behind k (news_next was.answers x)) was.handed_on
+          ∙ behind_twice start (handed was.answers) (news_next was.answers x)
+          ∙ ap (behind start) (sym (handed_next was.answers x));
+    }
 
 -- nothing is counted and nothing goes on
 pub counts_none : (counts : List ℕ) (answers : List (Result Fields ℕ)) → AreCounts counts answers
@@ -74,40 +66,14 @@ counts_none counts answers h = subst (AreCounts counts) (sym (append-nil answers
 pub none_given : (k : Given) → k ≡ behind k []
 none_given k = sym (behind_none k)
 
--- ---- a piece, octets of which were taken so far
-pub record TakesFront (piece rest : List ℕ) (r s : Received) (given given' : Given) :
-    Type 0 where
-  pub front : List ℕ
-  pub split : piece ≡ front ++ rest
-  pub took : (start : Given) (stream : List ℕ) → HasReceived r start given stream
-      → HasReceived s start given' (stream ++ front)
+-- ---- a piece
+pub took_none : (r : Received) (given : Given) → Took r r given given []
+took_none r given start stream h = subst (HasReceived r start given) (sym (append-nil stream)) h
 
-pub front_none : (piece : List ℕ) (r : Received) (given : Given)
-    → TakesFront piece piece r r given given
-front_none piece r given = record {
-  front = [];
-  split = refl;
-  took = λ start stream h. subst (HasReceived r start given) (sym (append-nil stream)) h;
-}
-
-pub front_more : (piece rest : List ℕ) (n : ℕ) (r s t : Received)
-    (given given' given'' : Given) → TakesFront piece rest r s given given'
-    → ((start : Given) (stream : List ℕ) → HasReceived s start given' stream
-    → HasReceived t start given'' (stream ++ take n rest)) → TakesFront piece (drop n rest) r t given given''
-front_more piece rest n r s t given given' given'' f took = record {
-  front = f.front ++ take n rest;
-  split = f.split ∙ ap (λ x. f.front ++ x) (sym (take-append-drop n rest))
-      ∙ sym (append_assoc f.front (take n rest) (drop n rest));
-  took = λ start stream h. subst (HasReceived t start given'') (append_assoc stream f.front (take n rest))
-      (took start (stream ++ f.front) (f.took start stream h));
-}
-
-pub front_all : (piece rest : List ℕ) (r s : Received) (given given' : Given)
-    → TakesFront piece rest r s given given' → length rest ≡ 0 → (start : Given)
-    (stream : List ℕ) → HasReceived r start given stream → HasReceived s start given' (stream ++ piece)
-front_all piece rest r s given given' f none start stream h =
-    subst (λ x. HasReceived s start given' (stream ++ x))
-    (sym (f.split ∙ ap (λ x. f.front ++ x) (nil_from_length rest none) ∙ append-nil f.front)) (f.took start stream h)
+pub took_both : (xs ys : List ℕ) (r s t : Received) (given given' given'' : Given) → Took r s given given' xs
+    → Took s t given' given'' ys → Took r t given given'' (xs ++ ys)
+took_both xs ys r s t given given' given'' f g start stream h =
+    subst (HasReceived t start given'') (append_assoc stream xs ys) (g start (stream ++ xs) (f start stream h))
 
 -- ---- the end
 -- what is held tells the end of the stream's rest

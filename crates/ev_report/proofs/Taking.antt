@@ -3,7 +3,7 @@ use Rattle.std.proofs.Common.{◌≡◌, ◌↔◌, ◌⊎◌, inl, inr, ℕ, �
 use Rattle.std.proofs.Common.{drop, length, length-append, None, Result, Ok, Err, refl, sym, ap, subst, ◌∙◌}
 use Rattle.std.proofs.Common.{append_assoc, arith}
 use Rattle.std.proofs.Math.Seq.{take-length}
-use Rattle.std.proofs.lemmas.List.{append-nil, nil_from_length, take-append-drop}
+use Rattle.std.proofs.lemmas.List.{append-nil, take-append-drop}
 use Rattle.std.specs.Prelude.{MatchBool}
 use Rattle.ether_wire.specs.Ends.{End, with_text}
 use Rattle.ether_wire.proofs.Appending.{with_text_twice, with_text_none}
@@ -288,36 +288,6 @@ module _ (s : State) (piece : List ℕ) (n : ℕ) (after : Held) (told : Next)
       (octets_both (take n piece) (drop n piece) s t t
       (octets_next (Faulty fault) is t refl (answers_none t t refl refl refl (tells_none s.notes s.intake.is_told)))
       (octets_skipped (drop n piece) t fault (shows_next s.intake.feed after piece n told (Faulty fault) takes is)))
-
--- ---- a piece
-
--- the octets of a piece in front of its rest
-pub record TakesFront (piece rest : List ℕ) (old new : State) : Type 0 where
-  pub front : List ℕ
-  pub split : piece ≡ front ++ rest
-  pub octets : TakesOctets front old new
-
-pub front_none : (piece : List ℕ) (s : State) → TakesFront piece piece s s
-front_none piece s = record { front = []; split = refl; octets = octets_none s }
-
-pub front_more : (piece rest : List ℕ) (n : ℕ) (s t u : State) → TakesFront piece rest s t
-    → TakesOctets (take n rest) t u → TakesFront piece (drop n rest) s u
-front_more piece rest n s t u f g = record {
-  front = f.front ++ take n rest;
-  split = f.split ∙ ap (λ x. f.front ++ x) (sym (take-append-drop n rest))
-      ∙ sym (append_assoc f.front (take n rest) (drop n rest));
-  octets = octets_both f.front (take n rest) s t u f.octets g;
-}
-
-pub front_rest : (piece rest : List ℕ) (s t u : State) → TakesFront piece rest s t → TakesOctets rest t u
-    → TakesOctets piece s u
-front_rest piece rest s t u f g = subst (λ x. TakesOctets x s u) (sym f.split)
-    (octets_both f.front rest s t u f.octets g)
-
-pub front_all : (piece rest : List ℕ) (s t : State) → TakesFront piece rest s t → length rest ≡ 0
-    → TakesOctets piece s t
-front_all piece rest s t f none = front_rest piece rest s t t f
-    (subst (λ x. TakesOctets x t t) (sym (nil_from_length rest none)) (octets_none t))
 
 -- ---- the table of all that were taken
 with_all : (t : Table) (outcomes : List (Result Fields ℕ))
