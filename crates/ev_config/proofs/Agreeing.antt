@@ -17,7 +17,7 @@ use Rattle.ev_config.specs.Keys.{count_of, path_in}
 use Rattle.ev_config.specs.ConfigPort as port
 use Rattle.ev_config.specs.ConfigEdge as edge
 use Rattle.ev_config.specs.ConfigPeer.{peer_keys, peer_of, listed_from}
-use Rattle.ev_config.specs.Config.{Edges, no_edges, with_edge, edges_from, Whole, whole_of, described, config_in, told}
+use Rattle.ev_config.specs.Config.{Edges, no_edges, with_edge, edges_from, Whole, described, config_in, told}
 use Rattle.ev_config.specs.Config.{with_peers, ServedWhole, served_in}
 use Rattle.ev_config.specs.Faults as all
 use Rattle.ev_config.specs.Faults.{Spot, File, Edge, Port as PortSpot, Peer, Faulty, fault_at, StartAt, Agree}
@@ -406,7 +406,7 @@ described_agree : (for_run : Bool) (tables : Items)
 described_agree for_run tables = go (edges_from for_run no_edges tables) (edges_agree for_run no_edges 1 tables)
   where
     go : (r : Result Edges Key) → And (Listed [] tables) r (all.edges_faults for_run [] [] 1 tables)
-        → Agree (r >>= (λ edges. Ok (whole_of edges))) (all.edges_faults for_run [] [] 1 tables)
+        → Agree (r >>= (λ edges. Ok (told edges.addresses edges))) (all.edges_faults for_run [] [] 1 tables)
     go (Ok edges) a = a.0
     go (Err k) a = a
 

@@ -14,7 +14,7 @@ use Rattle.ev_edge.specs.Config.{IsConfig, vnis_of}
 use Rattle.ev_fabric.specs.Fabric.{addresses_of}
 use Rattle.ev_fabric.specs.Opening.{AreConfigs}
 use Rattle.ev_config.specs.declared.edge.Described.{Described}
-use Rattle.ev_config.specs.Config.{Edges, Whole, no_edges, with_edge, listening, whole_of, told}
+use Rattle.ev_config.specs.Config.{Edges, Whole, no_edges, with_edge, listening, told}
 use Rattle.ev_config.specs.ConfigPeer.{peer_of, listed_from}
 use Rattle.ev_config.specs.Fitting.{AreAmong, Fits, FitTogether}
 use Rattle.ev_config.proofs.Listing.{same_tests, distinct_more, distinct_none}
@@ -163,11 +163,6 @@ opens e heard some few a h = record {
 pub opens_with : (w : Whole) (e : Edges) (heard : List ℕ) → w ≡ told heard e → 0 < length e.addresses
     → length e.addresses ≤ 64 → AreHeard e.addresses heard → FitTogether e → AreConfigs w.0
 opens_with w e heard is some few a h = subst (λ (x : Whole). AreConfigs x.0) (sym is) (opens e heard some few a h)
-
-pub opens_as : (w : Whole) (e : Edges) → w ≡ whole_of e → 0 < length e.addresses → length e.addresses ≤ 64
-    → FitTogether e → AreConfigs w.0
-opens_as w e is some few h =
-    opens_with w e e.addresses is some few (record { distinct = h.apart; few = few; all = all_listed e.addresses }) h
 
 -- ---- the addresses of peers
 

@@ -60,18 +60,19 @@ edges_from for_run before (item d ds) = do
 abbrev pub listening : List ℕ → EdgeConfig → EdgeConfig
 listening addresses c = record c { originators = record { items = addresses } }
 
--- each edge, told of all edges' addresses, and the links of each one's ports
+-- edges, and the links of each one's ports
 abbrev pub Whole : Type 0
 Whole = List EdgeConfig × List (ArrayVec PortEndpoints)
 
-abbrev pub whole_of : Edges → Whole
-whole_of edges = (map (listening edges.addresses) edges.configs, edges.links)
+-- the edges, each told of these addresses, and the links of each one's ports
+abbrev pub told : List ℕ → Edges → Whole
+told addresses edges = (map (listening addresses) edges.configs, edges.links)
 
 -- the edges of these tables, each of which listens to all
 abbrev pub described : Bool → Items → Result Whole Key
 described for_run tables = do
   edges ← edges_from for_run no_edges tables
-  Ok (whole_of edges)
+  Ok (told edges.addresses edges)
 
 abbrev pub config_in : Bool → Members → Result Whole Key
 config_in for_run t = do
@@ -98,10 +99,6 @@ ConfigOf for_run = TextGives view_of (config_in for_run)
 -- the edges, and the path of the socket where they are asked
 abbrev pub ServedWhole : Type 0
 ServedWhole = Whole × List ℕ
-
--- the edges, each told of these addresses, and the links of each one's ports
-abbrev pub told : List ℕ → Edges → Whole
-told addresses edges = (map (listening addresses) edges.configs, edges.links)
 
 -- each of these edges listens to all, and to the peers of these tables
 abbrev pub with_peers : Items → Edges → Result Whole Key

@@ -7,7 +7,7 @@ ghost use Rattle.toml.specs.View.{table_view, array_view};
 ghost use Rattle.ev_fabric.specs.Opening.{AreConfigs};
 ghost use Rattle.ev_config.specs.Fitting.{Fits, FitTogether};
 ghost use Rattle.ev_config.specs.Keys.{Gives, optional, tables_beside, count_of};
-ghost use Rattle.ev_config.specs.Config.{no_edges, with_edge, edges_view, edges_from, listening, whole_of, described, config_in, view_of, with_peers, served_in, served_view};
+ghost use Rattle.ev_config.specs.Config.{no_edges, with_edge, edges_view, edges_from, listening, described, config_in, view_of, with_peers, served_in, served_view};
 
 use crate::edge::{Described, edge_of};
 use crate::endpoint::PortEndpoints;
@@ -121,21 +121,8 @@ fn told(
     Config { edges, links }
 }
 
-/// The configuration of these edges: each listens to all.
-fn whole_of(edges: Edges) -> Config
-    requires { vec_len edges.links ≡ vec_len edges.configs }
-    ensures { view_of result ≡ whole_of (edges_view edges) }
-{
-    let Edges {
-        addresses,
-        bridges: _,
-        configs,
-        links,
-    } = edges;
-    told(configs, links, &addresses)
-}
-
-/// The configuration of these edges, which listen to the peers in these tables, too.
+/// The configuration of these edges: each listens to all, and to the peers in these tables, if
+/// there are any.
 fn with_peers<'a>(edges: Edges, peers: Option<&'a Array>) -> Result<Config, Fault<'a>>
     requires each { vec_len edges.links ≡ vec_len edges.configs }
     requires some { 0 < length edges.addresses.items }
@@ -165,7 +152,7 @@ fn described<'a>(alloc: Global, for_run: bool, tables: &'a Array) -> Result<Conf
     ensures opens { IfOk result (λ c. AreConfigs c.edges.items) }
 {
     let edges = edges_of(alloc, for_run, tables)?;
-    Ok(whole_of(edges))
+    with_peers(edges, None)
 }
 
 /// The configuration of a document.
