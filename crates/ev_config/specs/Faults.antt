@@ -145,7 +145,7 @@ abbrev pub spelt : Key → (Data → Option ℕ) → Members → Option ℕ
 spelt key read t = option_and_then read (get_member key t)
 
 -- one more behind these, if there is one
-abbrev pub joined : List ℕ → Option ℕ → List ℕ
+abbrev pub joined : {X : Type 0} → List X → Option X → List X
 joined before None = before
 joined before (Some n) = before ++ n ∷ []
 

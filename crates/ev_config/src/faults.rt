@@ -287,24 +287,12 @@ fn spelt_bridge(table: &Table) -> Option<Mac>
     bridge_in(value_at(table, "bridge")?)
 }
 
-/// The address that a table spells, behind these.
-fn add_address<'a>(addresses: &mut Vec<Addr>, table: &Table) -> Result<(), Fault<'a>>
-    ensures { OnOk result (addresses.new.items ≡ joined addresses.old.items
-        (spelt (codes "address") addr_in (table_view table.now))) }
+/// One more behind these, if there is one.
+fn join<'a, T: Drop>(before: &mut Vec<T>, more: Option<T>) -> Result<(), Fault<'a>>
+    ensures { OnOk result (before.new.items ≡ joined before.old.items more) }
 {
-    if let Some(address) = spelt_address(table) {
-        addresses.push(address)?;
-    }
-    Ok(())
-}
-
-/// The bridge that it spells, behind these.
-fn add_bridge<'a>(bridges: &mut Vec<Mac>, table: &Table) -> Result<(), Fault<'a>>
-    ensures { OnOk result (bridges.new.items ≡ joined bridges.old.items
-        (spelt (codes "bridge") bridge_in (table_view table.now))) }
-{
-    if let Some(bridge) = spelt_bridge(table) {
-        bridges.push(bridge)?;
+    if let Some(one) = more {
+        before.push(one)?;
     }
     Ok(())
 }
@@ -331,8 +319,8 @@ pub(crate) fn add_edges<'a>(
             Some(table) => {
                 let before = addresses.as_slice();
                 add_edge(faults, for_run, before, bridges.as_slice(), edge, table)?;
-                add_address(&mut addresses, table)?;
-                add_bridge(&mut bridges, table)?;
+                join(&mut addresses, spelt_address(table))?;
+                join(&mut bridges, spelt_bridge(table))?;
             }
             None => add(faults, Place::File(file), "edge")?,
         }
@@ -373,7 +361,7 @@ pub(crate) fn add_peers<'a>(
         match value.as_table() {
             Some(table) => {
                 add_peer(faults, before.as_slice(), Place::Peer(peer, table), table)?;
-                add_address(&mut before, table)?;
+                join(&mut before, spelt_address(table))?;
             }
             None => add(faults, Place::File(file), "peer")?,
         }
