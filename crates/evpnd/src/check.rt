@@ -176,23 +176,22 @@ fn check_text<W: Out, N: Out>(
     alloc: Global,
     purpose: Purpose,
     text: &str,
-    mut out: W,
-    mut notes: N,
-) -> (u8, W, N)
-    requires out { IsOpen (W.end out) }
-    requires notes { IsOpen (N.end notes) }
-    ensures { ChecksText purpose text.now (W.end out) (N.end notes) (W.end result.1)
-        (N.end result.2) result.0 }
+    out: &mut W,
+    notes: &mut N,
+) -> u8
+    requires out { IsOpen (W.end out.old) }
+    requires notes { IsOpen (N.end notes.old) }
+    ensures { ChecksText purpose text.now (W.end out.old) (N.end notes.old) (W.end out.new)
+        (N.end notes.new) result }
 {
-    let status = match config_for(alloc, text, purpose.wanted) {
-        Ok(config) => sum_up_for(alloc, purpose, &config, &mut out, &mut notes),
+    match config_for(alloc, text, purpose.wanted) {
+        Ok(config) => sum_up_for(alloc, purpose, &config, out, notes),
         Err(ConfigRefusal::NoMemory) => MEMORY,
-        Err(ConfigRefusal::Text) => tell_refusal(alloc, purpose.wanted, text, None, &mut notes),
+        Err(ConfigRefusal::Text) => tell_refusal(alloc, purpose.wanted, text, None, notes),
         Err(ConfigRefusal::Key(key)) => {
-            tell_refusal(alloc, purpose.wanted, text, Some(key.as_str()), &mut notes)
+            tell_refusal(alloc, purpose.wanted, text, Some(key.as_str()), notes)
         }
-    };
-    (status, out, notes)
+    }
 }
 
 /// The status of a file without a text, which is told.
@@ -209,23 +208,23 @@ fn check<F: Files, W: Out, N: Out>(
     alloc: Global,
     files: &mut F,
     wanted: Wanted<'_>,
-    out: W,
-    mut notes: N,
-) -> (u8, W, N)
+    out: &mut W,
+    notes: &mut N,
+) -> u8
     requires files { HasRoom (F.shelf files.old) }
-    requires out { IsOpen (W.end out) }
-    requires notes { IsOpen (N.end notes) }
+    requires out { IsOpen (W.end out.old) }
+    requires notes { IsOpen (N.end notes.old) }
     ensures { (input : Source) → OfFile (ConfigFor wanted.entry.purpose.wanted)
         (Checks wanted.entry.purpose) wanted.entry.path.now
-        (desk (F.shelf files.old) (devices input (W.end out) (N.end notes)))
-        (desk (F.shelf files.new) (devices input (W.end result.1) (N.end result.2))) result.0 }
+        (desk (F.shelf files.old) (devices input (W.end out.old) (N.end notes.old)))
+        (desk (F.shelf files.new) (devices input (W.end out.new) (N.end notes.new))) result }
 {
     match files.text_of(wanted.path) {
         Ok(text) => check_text(alloc, wanted.purpose, text.as_str(), out, notes),
-        Err(FileFault::NoMemory) => (MEMORY, out, notes),
+        Err(FileFault::NoMemory) => MEMORY,
         Err(FileFault::Unread(why)) => {
-            let told = put_unread(&mut notes, Named::Config, wanted.path.as_bytes(), why);
-            (unread_status(told), out, notes)
+            let told = put_unread(notes, Named::Config, wanted.path.as_bytes(), why);
+            unread_status(told)
         }
     }
 }
@@ -236,20 +235,20 @@ pub(crate) fn check_all<F: Files, W: Out, N: Out>(
     alloc: Global,
     files: &mut F,
     wanted: Wanted<'_>,
-    out: W,
-    notes: N,
-) -> (u8, W, N)
+    out: &mut W,
+    notes: &mut N,
+) -> u8
     requires files { HasRoom (F.shelf files.old) }
-    requires out { IsOpen (W.end out) }
-    requires notes { IsOpen (N.end notes) }
+    requires out { IsOpen (W.end out.old) }
+    requires notes { IsOpen (N.end notes.old) }
     ensures { (input : Source) → ChecksAll wanted.entry.purpose wanted.entry.path.now
         (option_map (λ s. s.now) wanted.entry.script)
-        (desk (F.shelf files.old) (devices input (W.end out) (N.end notes)))
-        (desk (F.shelf files.new) (devices input (W.end result.1) (N.end result.2))) result.0 }
+        (desk (F.shelf files.old) (devices input (W.end out.old) (N.end notes.old)))
+        (desk (F.shelf files.new) (devices input (W.end out.new) (N.end notes.new))) result }
 {
-    let (status, out, notes) = check(alloc, files, wanted, out, notes);
+    let status = check(alloc, files, wanted, out, notes);
     match wanted.script {
-        None => (status, out, notes),
+        None => status,
         Some(script) => check_behind(status, files, script, out, notes),
     }
 }

@@ -51,22 +51,22 @@ fn look<W: Out, N: Out>(name: &str, text: &str, out: &mut W, notes: &mut N) -> u
 fn check_script<F: Files, W: Out, N: Out>(
     files: &mut F,
     path: &str,
-    mut out: W,
-    mut notes: N,
-) -> (u8, W, N)
+    out: &mut W,
+    notes: &mut N,
+) -> u8
     requires files { HasRoom (F.shelf files.old) }
-    requires out { IsOpen (W.end out) }
-    requires notes { IsOpen (N.end notes) }
+    requires out { IsOpen (W.end out.old) }
+    requires notes { IsOpen (N.end notes.old) }
     ensures { (input : Source) → OfScript path.now
-        (desk (F.shelf files.old) (devices input (W.end out) (N.end notes)))
-        (desk (F.shelf files.new) (devices input (W.end result.1) (N.end result.2))) result.0 }
+        (desk (F.shelf files.old) (devices input (W.end out.old) (N.end notes.old)))
+        (desk (F.shelf files.new) (devices input (W.end out.new) (N.end notes.new))) result }
 {
     match files.text_of(path) {
-        Ok(text) => (look(path, text.as_str(), &mut out, &mut notes), out, notes),
-        Err(FileFault::NoMemory) => (MEMORY, out, notes),
+        Ok(text) => look(path, text.as_str(), out, notes),
+        Err(FileFault::NoMemory) => MEMORY,
         Err(FileFault::Unread(why)) => {
-            let told = put_unread(&mut notes, Named::Script, path.as_bytes(), why);
-            (unread_status(told), out, notes)
+            let told = put_unread(notes, Named::Script, path.as_bytes(), why);
+            unread_status(told)
         }
     }
 }
@@ -83,18 +83,18 @@ pub(crate) fn check_behind<F: Files, W: Out, N: Out>(
     status: u8,
     files: &mut F,
     path: &str,
-    out: W,
-    notes: N,
-) -> (u8, W, N)
+    out: &mut W,
+    notes: &mut N,
+) -> u8
     requires files { status ≡ 0 → HasRoom (F.shelf files.old) }
-    requires out { status ≡ 0 → IsOpen (W.end out) }
-    requires notes { status ≡ 0 → IsOpen (N.end notes) }
+    requires out { status ≡ 0 → IsOpen (W.end out.old) }
+    requires notes { status ≡ 0 → IsOpen (N.end notes.old) }
     ensures { (input : Source) → Behind status path.now
-        (desk (F.shelf files.old) (devices input (W.end out) (N.end notes)))
-        (desk (F.shelf files.new) (devices input (W.end result.1) (N.end result.2))) result.0 }
+        (desk (F.shelf files.old) (devices input (W.end out.old) (N.end notes.old)))
+        (desk (F.shelf files.new) (devices input (W.end out.new) (N.end notes.new))) result }
 {
     if !is_done(status) {
-        return (status, out, notes);
+        return status;
     }
     check_script(files, path, out, notes)
 }

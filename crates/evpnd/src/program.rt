@@ -71,9 +71,9 @@ fn check_on<F: Files, R: In, W: Out, N: Out>(
         (option_map (λ s. s.now) wanted.entry.script)
         (desk (F.shelf files.old) devices) (desk (F.shelf files.new) result.1) result.0 }
 {
-    let Devices { reader, out, notes } = devices;
-    let (status, out, notes) = check_all(alloc, files, wanted, out, notes);
-    (status, Devices { reader, out, notes })
+    let mut devices = devices;
+    let status = check_all(alloc, files, wanted, &mut devices.out, &mut devices.notes);
+    (status, devices)
 }
 
 /// What a configuration is wanted for, by the aim of a check.

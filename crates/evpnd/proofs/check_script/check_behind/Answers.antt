@@ -8,7 +8,8 @@ pub returns-then-not-is_done : goal.returns-then-not-is_done
 returns-then-not-is_done g c = λ input.
     let e : (c.args.status == 0) ≡ false = search rules in
     behind_failed c.args.status c.args.path.now
-    (desk (g.F.Files.shelf c.args.files.now) (devices input (g.W.Out.end c.args.out) (g.N.Out.end c.args.notes))) e
+    (desk (g.F.Files.shelf c.args.files.now)
+    (devices input (g.W.Out.end c.args.out.now) (g.N.Out.end c.args.notes.now))) e
 
 pub check_script-requires-clause-files : goal.check_script-requires-clause-files
 check_script-requires-clause-files g c =
@@ -29,7 +30,8 @@ pub returns : goal.returns
 returns g c = λ input.
     let e : (c.args.status == 0) ≡ true = search rules in
     behind_done c.args.status c.args.path.now
-    (desk (g.F.Files.shelf c.args.files.now) (devices input (g.W.Out.end c.args.out) (g.N.Out.end c.args.notes)))
+    (desk (g.F.Files.shelf c.args.files.now)
+    (devices input (g.W.Out.end c.args.out.now) (g.N.Out.end c.args.notes.now)))
     (desk (g.F.Files.shelf c.check_script.new.files)
-    (devices input (g.W.Out.end c.check_script.result.1) (g.N.Out.end c.check_script.result.2)))
-    c.check_script.result.0 e (c.check_script.ensures input)
+    (devices input (g.W.Out.end c.check_script.new.out) (g.N.Out.end c.check_script.new.notes)))
+    c.check_script.result e (c.check_script.ensures input)
