@@ -1,31 +1,28 @@
 -- What is done with what a file gives for a configuration.
-use Rattle.std.proofs.Common.{◌≡◌, ℕ, ◌+◌, inl, inr, Result, Ok, Err, refl, ap, subst, ◌∙◌, arith}
+use Rattle.std.proofs.Common.{◌≡◌, ℕ, ◌+◌, inl, inr, Result, Ok, Err, refl, ap, subst, ◌∙◌}
 use Rattle.ether_wire.specs.declared.ends.Device.{Device}
 use Rattle.ether_wire.specs.Ends.{End, Source, Puts}
 use Rattle.ev_config.specs.declared.config.ConfigRefusal.{ConfigRefusal}
 use Rattle.evpnd.specs.declared.files.Unread.{Unread}
-use Rattle.evpnd.specs.declared.files.Named.TheVariants as named
+use Rattle.evpnd.specs.declared.files.Named.{Named}
 use Rattle.evpnd.specs.Files.{Text, Shelf, IsTextOf, unread_text}
-use Rattle.ev_report.specs.Ends.{Devices, devices, Holds}
+use Rattle.ev_report.specs.Ends.{Devices, devices}
+use Rattle.ev_report.proofs.Finishing.{put_holds}
 use Rattle.evpnd.specs.Checks.{Desk, desk, IsTextless, Gives, Uses, OfFile}
 use Rattle.evpnd.specs.Configured.{OfFound, Never, TextGives, FileGives}
 
-pub holds_put : (a b : End) (r : Result (Unit {0}) Device) (text : Text) → Puts a b text r → Holds a b text
-holds_put a b (Ok x) text h = record { written = λ _. h; failures = inl (ap (λ (y : End). y.failures) h) }
-holds_put a b (Err d) text h = record { written = λ same. absurd (omega arith); failures = inr h }
-
 -- there was no memory for the text
-pub no_memory : (path : Text) (s s' : Shelf) (d : Devices) (status : ℕ)
-    → s' ≡ record s { refusals = s.refusals + 1 } → status ≡ 3 → IsTextless path (desk s d) (desk s' d) status
-no_memory path s s' d status more is = inl (record { refused = more; devices_kept = refl; status_is = is })
+pub no_memory : (option : Named) (path : Text) (s s' : Shelf) (d : Devices) (status : ℕ)
+    → s' ≡ record s { refusals = s.refusals + 1 } → status ≡ 3 → IsTextless option path (desk s d) (desk s' d) status
+no_memory option path s s' d status more is = inl (record { refused = more; devices_kept = refl; status_is = is })
 
 -- the file has no text
-pub unreadable : (path : Text) (s s' : Shelf) (input : Source) (out a b : End) (r : Result (Unit {0}) Device)
-    (why : Unread) (status : ℕ)
-    → s' ≡ record s { failures = s.failures + 1 } → Puts a b (unread_text named.Config path why) r → status ≡ 4
-    → IsTextless path (desk s (devices input out a)) (desk s' (devices input out b)) status
-unreadable path s s' input out a b r why status more put is =
-    let noted = holds_put a b r (unread_text named.Config path why) put in
+pub unreadable : (option : Named) (path : Text) (s s' : Shelf) (input : Source) (out a b : End)
+    (r : Result (Unit {0}) Device) (why : Unread) (status : ℕ)
+    → s' ≡ record s { failures = s.failures + 1 } → Puts a b (unread_text option path why) r → status ≡ 4
+    → IsTextless option path (desk s (devices input out a)) (desk s' (devices input out b)) status
+unreadable option path s s' input out a b r why status more put is =
+    let noted = put_holds a b r (unread_text option path why) put in
     inr (record { failed = more; why = why; input = refl; out = refl; noted = noted; status_is = is })
 
 -- the file has this text

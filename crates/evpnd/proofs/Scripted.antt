@@ -7,15 +7,13 @@ use Rattle.ether_wire.specs.Ends.{End, Source, IsOpen, Puts}
 use Rattle.ev_config.specs.declared.whole.Config.{Config}
 use Rattle.ev_config.specs.declared.config.ConfigRefusal.{ConfigRefusal}
 use Rattle.ev_config.specs.declared.config.ConfigRefusal.TheVariants as refusal
-use Rattle.ev_report.specs.Ends.{Devices, devices, has_failed, Holds, Tells}
+use Rattle.ev_report.specs.Ends.{devices, has_failed, Holds, Tells}
 use Rattle.ev_report.specs.Notes.{status_of}
 use Rattle.ev_report.proofs.Finishing.{put_holds, put_failed}
 use Rattle.ev_report.proofs.Silence.{status_as}
 use Rattle.ev_script.specs.declared.checking.Found.{Found}
 use Rattle.ev_script.specs.Faults.{faults_text, ChecksLines}
-use Rattle.evpnd.specs.declared.files.Unread.{Unread}
-use Rattle.evpnd.specs.declared.files.Named.TheVariants.{Script}
-use Rattle.evpnd.specs.Files.{Text, Shelf, HasRoom, IsTextOf, unread_text}
+use Rattle.evpnd.specs.Files.{Text, Shelf, HasRoom, IsTextOf}
 use Rattle.ev_run.specs.declared.obstacles.Obstacle.{Obstacle}
 use Rattle.ev_run.specs.Needs.{needs_of, asked_text}
 use Rattle.ev_run.specs.Obstacles.{obstacles_of}
@@ -23,9 +21,8 @@ use Rattle.evpnd.specs.declared.check.Purpose.{Purpose}
 use Rattle.ev_config.specs.declared.whole.Use.{Use}
 use Rattle.ev_config.specs.declared.whole.Use.TheVariants.{Any, Run, Serve}
 use Rattle.ev_config.specs.Config.{ConfigFor}
-use Rattle.evpnd.specs.Checks.{Desk, desk, OfFile, Sums, TellsObstacles, SumsRun, SumsFor, Checks}
+use Rattle.evpnd.specs.Checks.{Desk, desk, OfFile, TellsObstacles, SumsRun, SumsFor, Checks}
 use Rattle.evpnd.specs.Scripts.{lines_text, Looks, OfScript, Behind}
-use Rattle.evpnd.proofs.Filed.{holds_put}
 
 -- notes that may have failed
 noted : (a b : End) (q : Bool) (t : Text) → Tells a b true q t → Holds a b t × (has_failed a b ≡ not q)
@@ -57,26 +54,13 @@ looks name script out out' notes notes' found r status h put is =
           ∙ ap (λ b. status_of (has_failed out out' || has_failed notes notes') false (not b)) h.good;
     }
 
--- the file of the script has this text, or none, or there was no memory for it
-pub script_refused : (path : Text) (s s' : Shelf) (d : Devices) (status : ℕ)
-    → s' ≡ record s { refusals = s.refusals + 1 } → status ≡ 3
-    → OfScript path (desk s d) (desk s' d) status
-script_refused path s s' d status more is = inl (record { refused = more; devices_kept = refl; status_is = is })
-
-pub script_unread : (path : Text) (s s' : Shelf) (input : Source) (out a b : End) (r : Result (Unit {0}) Device)
-    (why : Unread) (status : ℕ)
-    → s' ≡ record s { failures = s.failures + 1 } → Puts a b (unread_text Script path why) r → status ≡ 4
-    → OfScript path (desk s (devices input out a)) (desk s' (devices input out b)) status
-script_unread path s s' input out a b r why status more put is =
-    let noted = holds_put a b r (unread_text Script path why) put in
-    inr (inl (record { failed = more; why = why; input = refl; out = refl; noted = noted; status_is = is }))
-
+-- the file of the script has this text
 pub script_looked : (path text : Text) (s s' : Shelf) (input : Source) (out out' notes notes' : End) (status : ℕ)
     → (s' ≡ s) × IsTextOf s path text
     → Looks path text out out' notes notes' status
     → OfScript path (desk s (devices input out notes)) (desk s' (devices input out' notes')) status
 script_looked path text s s' input out out' notes notes' status gives h =
-    inr (inr (record { shelf_kept = gives.0; text = text; read = gives.1; input = refl; looks = h }))
+    inr (record { shelf_kept = gives.0; text = text; read = gives.1; input = refl; looks = h })
 
 -- ---- behind a configuration that is right
 

@@ -44,10 +44,10 @@ pub record IsUnread (option : Named) (path : Text) (before after : Desk) (status
   pub noted : Holds before.devices.notes after.devices.notes (unread_text option path why)
   pub status_is : status ≡ 4
 
--- there is no text of the file at a path: memory was refused for it, or it can't be read, which is told
-abbrev pub IsTextless : Text → Desk → Desk → ℕ → Type 0
-IsTextless path before after status = IsRefusedText before after status
-    ⊎ IsUnread named.Config path before after status
+-- there is no text of an option's file: memory was refused for it, or it can't be read, which is told
+abbrev pub IsTextless : Named → Text → Desk → Desk → ℕ → Type 0
+IsTextless option path before after status = IsRefusedText before after status
+    ⊎ IsUnread option path before after status
 
 -- what a text gives for a configuration of a kind
 abbrev pub Gives : Type 0 → Type 1
@@ -69,7 +69,7 @@ pub record IsRead {X : Type 0} (gives : Gives X) (uses : Uses X) (path : Text) (
 
 -- what is done with what a file gives for a configuration
 abbrev pub OfFile : {X : Type 0} → Gives X → Uses X → Text → Desk → Desk → ℕ → Type 0
-OfFile gives uses path before after status = IsTextless path before after status
+OfFile gives uses path before after status = IsTextless named.Config path before after status
     ⊎ IsRead gives uses path before after status
 
 -- ---- a check

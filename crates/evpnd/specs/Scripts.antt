@@ -11,7 +11,7 @@ use Rattle.ev_config.specs.Config.{ConfigFor}
 use Rattle.evpnd.specs.declared.files.Named.TheVariants.{Script}
 use Rattle.evpnd.specs.Files.{Text, IsTextOf}
 use Rattle.evpnd.specs.declared.check.Purpose.{Purpose}
-use Rattle.evpnd.specs.Checks.{Desk, IsRefusedText, IsUnread, OfFile, Checks}
+use Rattle.evpnd.specs.Checks.{Desk, IsTextless, OfFile, Checks}
 
 abbrev pub lines_word : ℕ → Text
 lines_word count = if count == 1 then codes " line\n" else codes " lines\n"
@@ -39,8 +39,7 @@ pub record IsLooked (path : Text) (before after : Desk) (status : ℕ) : Type 0 
   pub looks : Looks path text before.devices.out after.devices.out before.devices.notes after.devices.notes status
 
 abbrev pub OfScript : Text → Desk → Desk → ℕ → Type 0
-OfScript path before after status =
-    IsRefusedText before after status ⊎ (IsUnread Script path before after status ⊎ IsLooked path before after status)
+OfScript path before after status = IsTextless Script path before after status ⊎ IsLooked path before after status
 
 -- the script is looked at where the status so far is 0
 abbrev pub Behind : ℕ → Text → Desk → Desk → ℕ → Type 0

@@ -11,7 +11,7 @@ ghost use Rattle.evpnd.specs.Checks.{desk, OfFile, Sums, TellsSome, SumsWith, Te
 ghost use Rattle.evpnd.specs.Scripts.{ChecksAll};
 
 use crate::check_script::check_behind;
-use crate::files::{FileFault, Files, Named, put_unread};
+use crate::files::{Files, Named, text_at};
 use ether_wire::{Device, Out};
 use ev_config::{Config, ConfigRefusal, Use, config_for, put_refusal, summary_line};
 use ev_report::{DEVICE, DONE, MEMORY, usage_status};
@@ -194,15 +194,6 @@ fn check_text<W: Out, N: Out>(
     }
 }
 
-/// The status of a file without a text, which is told.
-pub(crate) fn unread_status(told: Result<(), Device>) -> u8
-    ensures { result ≡ 4 }
-{
-    match told {
-        Ok(()) | Err(Device) => DEVICE,
-    }
-}
-
 /// Checks the configuration in a file.
 fn check<F: Files, W: Out, N: Out>(
     alloc: Global,
@@ -219,13 +210,9 @@ fn check<F: Files, W: Out, N: Out>(
         (desk (F.shelf files.old) (devices input (W.end out.old) (N.end notes.old)))
         (desk (F.shelf files.new) (devices input (W.end out.new) (N.end notes.new))) result }
 {
-    match files.text_of(wanted.path) {
+    match text_at(files, Named::Config, wanted.path, notes) {
         Ok(text) => check_text(alloc, wanted.purpose, text.as_str(), out, notes),
-        Err(FileFault::NoMemory) => MEMORY,
-        Err(FileFault::Unread(why)) => {
-            let told = put_unread(notes, Named::Config, wanted.path.as_bytes(), why);
-            unread_status(told)
-        }
+        Err(status) => status,
     }
 }
 

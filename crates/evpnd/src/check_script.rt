@@ -6,10 +6,9 @@ ghost use Rattle.evpnd.specs.Files.{HasRoom};
 ghost use Rattle.evpnd.specs.Checks.{desk};
 ghost use Rattle.evpnd.specs.Scripts.{lines_word, lines_text, Looks, OfScript, Behind};
 
-use crate::check::unread_status;
-use crate::files::{FileFault, Files, Named, put_unread};
+use crate::files::{Files, Named, text_at};
 use ether_wire::{Device, Out, put_decimal};
-use ev_report::{DONE, Ending, MEMORY, has_failed, status_of};
+use ev_report::{DONE, Ending, has_failed, status_of};
 use ev_script::check_lines;
 
 /// The word behind the number of lines, and a line feed.
@@ -61,13 +60,9 @@ fn check_script<F: Files, W: Out, N: Out>(
         (desk (F.shelf files.old) (devices input (W.end out.old) (N.end notes.old)))
         (desk (F.shelf files.new) (devices input (W.end out.new) (N.end notes.new))) result }
 {
-    match files.text_of(path) {
+    match text_at(files, Named::Script, path, notes) {
         Ok(text) => look(path, text.as_str(), out, notes),
-        Err(FileFault::NoMemory) => MEMORY,
-        Err(FileFault::Unread(why)) => {
-            let told = put_unread(notes, Named::Script, path.as_bytes(), why);
-            unread_status(told)
-        }
+        Err(status) => status,
     }
 }
 

@@ -1,16 +1,14 @@
 //! The configuration in a file, and what is told where there is none.
-ghost use Rattle.std.specs.Prelude.{◌≡◌, IfOk, IfErr, string_bytes};
+ghost use Rattle.std.specs.Prelude.{IfOk};
 ghost use Rattle.ether_wire.specs.Ends.{End, Source, IsOpen, Puts};
 ghost use Rattle.ev_config.specs.Config.{ConfigOf, ServedOf};
 ghost use Rattle.ev_fabric.specs.Opening.{AreConfigs};
-ghost use Rattle.evpnd.specs.Files.{HasRoom, IsTextOf};
-ghost use Rattle.evpnd.specs.Checks.{desk, IsTextless};
+ghost use Rattle.evpnd.specs.Files.{HasRoom};
 ghost use Rattle.ev_report.specs.Usage.{IsTold};
 ghost use Rattle.ev_report.specs.Ends.{devices};
 ghost use Rattle.evpnd.specs.Configured.{config_text, Refuses, TextGives, FileGives};
 
-use crate::check::unread_status;
-use crate::files::{FileFault, Files, Named, put_unread};
+use crate::files::{Files, Named, text_at};
 use ether_wire::{Device, Out};
 use ev_config::{Config, ConfigRefusal, Served, config_of, served_config_of};
 use ev_report::{MEMORY, usage_status};
@@ -78,31 +76,6 @@ fn served_by<N: Out>(alloc: Global, text: &str, notes: &mut N) -> Result<Served,
     }
 }
 
-/// The text of the file at a path.
-///
-/// # Errors
-///
-/// The status, where memory is refused, or the file can't be read, which is told.
-fn text_at<F: Files, N: Out>(files: &mut F, path: &str, notes: &mut N) -> Result<String, u8>
-    requires files { HasRoom (F.shelf files.old) }
-    requires notes { IsOpen (N.end notes.old) }
-    ensures has { IfOk result (λ text. (F.shelf files.new ≡ F.shelf files.old)
-        × (N.end notes.new ≡ N.end notes.old)
-        × IsTextOf (F.shelf files.old) path.now (string_bytes text)) }
-    ensures none { IfErr result (λ status. (input : Source) → (out : End) → IsTextless path.now
-        (desk (F.shelf files.old) (devices input out (N.end notes.old)))
-        (desk (F.shelf files.new) (devices input out (N.end notes.new))) status) }
-{
-    match files.text_of(path) {
-        Ok(text) => Ok(text),
-        Err(FileFault::NoMemory) => Err(MEMORY),
-        Err(FileFault::Unread(why)) => {
-            let told = put_unread(notes, Named::Config, path.as_bytes(), why);
-            Err(unread_status(told))
-        }
-    }
-}
-
 /// The configuration in the file at a path; for a run each port needs its endpoints.
 ///
 /// # Errors
@@ -122,7 +95,7 @@ pub(crate) fn configured<F: Files, N: Out>(
         (N.end notes.old) (N.end notes.new) result }
     ensures opens { IfOk result (λ c. AreConfigs c.edges.items) }
 {
-    match text_at(files, path, notes) {
+    match text_at(files, Named::Config, path, notes) {
         Ok(text) => configured_by(alloc, text.as_str(), for_run, notes),
         Err(status) => Err(status),
     }
@@ -145,7 +118,7 @@ pub(crate) fn served<F: Files, N: Out>(
         (N.end notes.old) (N.end notes.new) result }
     ensures opens { IfOk result (λ s. AreConfigs s.config.edges.items) }
 {
-    match text_at(files, path, notes) {
+    match text_at(files, Named::Config, path, notes) {
         Ok(text) => served_by(alloc, text.as_str(), notes),
         Err(status) => Err(status),
     }

@@ -1,9 +1,12 @@
 //! Where the texts of files come from.
-ghost use Rattle.std.specs.Prelude.{◌≡◌, ◌≢◌, None};
-ghost use Rattle.ether_wire.specs.Ends.{IsOpen, Puts};
-ghost use Rattle.evpnd.specs.Files.{Shelf, shelf_of, HasRoom, GivesText, reason_of, lead_of, unread_text};
+ghost use Rattle.std.specs.Prelude.{◌≡◌, ◌≢◌, None, IfOk, IfErr, string_bytes};
+ghost use Rattle.ether_wire.specs.Ends.{End, Source, IsOpen, Puts};
+ghost use Rattle.ev_report.specs.Ends.{devices};
+ghost use Rattle.evpnd.specs.Files.{Shelf, shelf_of, HasRoom, IsTextOf, GivesText, reason_of, lead_of, unread_text};
+ghost use Rattle.evpnd.specs.Checks.{desk, IsTextless};
 
 use ether_wire::{Device, Out};
+use ev_report::{DEVICE, MEMORY};
 use std::{fs, io};
 
 /// Why a file can't be read.
@@ -149,4 +152,44 @@ pub(crate) fn put_unread<N: Out>(
     notes.put(named.lead())?;
     notes.put(path)?;
     notes.put(why.reason())
+}
+
+/// The status of a file without a text, which is told.
+fn unread_status(told: Result<(), Device>) -> u8
+    ensures { result ≡ 4 }
+{
+    match told {
+        Ok(()) | Err(Device) => DEVICE,
+    }
+}
+
+/// The text of the file at the path that an option names.
+///
+/// # Errors
+///
+/// The status, where memory is refused, or the file can't be read, which is told.
+pub(crate) fn text_at<F: Files, N: Out>(
+    files: &mut F,
+    named: Named,
+    path: &str,
+    notes: &mut N,
+) -> Result<String, u8>
+    requires files { HasRoom (F.shelf files.old) }
+    requires notes { IsOpen (N.end notes.old) }
+    ensures has { IfOk result (λ text. (F.shelf files.new ≡ F.shelf files.old)
+        × (N.end notes.new ≡ N.end notes.old)
+        × IsTextOf (F.shelf files.old) path.now (string_bytes text)) }
+    ensures none { IfErr result (λ status. (input : Source) → (out : End) →
+        IsTextless named path.now
+        (desk (F.shelf files.old) (devices input out (N.end notes.old)))
+        (desk (F.shelf files.new) (devices input out (N.end notes.new))) status) }
+{
+    match files.text_of(path) {
+        Ok(text) => Ok(text),
+        Err(FileFault::NoMemory) => Err(MEMORY),
+        Err(FileFault::Unread(why)) => {
+            let told = put_unread(notes, named, path.as_bytes(), why);
+            Err(unread_status(told))
+        }
+    }
 }
