@@ -52,14 +52,14 @@ not_text = codes "error: a word isn't UTF-8\n"
 
 -- ---- orders
 
--- the edges of a file are run, where no standard stream was closed
-abbrev pub RunsOpen : Option Stream → Text → Desk → Desk → ℕ → Type 0
-RunsOpen closed path before after status =
-    Unclosed (OfFile (ConfigOf true) RunsFound path) closed before after status
+-- the edges of a file are run, and may be asked meanwhile or not
+abbrev pub RunsFile : Bool → Text → Desk → Desk → ℕ → Type 0
+RunsFile false = OfFile (ConfigOf true) RunsFound
+RunsFile true = OfFile ServedOf ServesFound
 
--- so they are run, and may be asked meanwhile
-abbrev pub ServesOpen : Option Stream → Text → Desk → Desk → ℕ → Type 0
-ServesOpen closed path before after status = Unclosed (OfFile ServedOf ServesFound path) closed before after status
+-- so they are, where no standard stream was closed
+abbrev pub RunsOpen : Bool → Option Stream → Text → Desk → Desk → ℕ → Type 0
+RunsOpen is_asked closed path before after status = Unclosed (RunsFile is_asked path) closed before after status
 
 -- what a configuration is wanted for, by the aim of a check
 abbrev pub use_of : Aim → Use
@@ -83,8 +83,8 @@ FollowsAs given Simulate path more aim before after status = OfFile (ConfigOf fa
     (SimulatesFound mode.Simulate) path before after status
 FollowsAs given Play path more aim before after status = OfFile (ConfigOf false)
     (SimulatesFound mode.Play) path before after status
-FollowsAs given Run path more aim before after status = RunsOpen given.closed path before after status
-FollowsAs given Serve path more aim before after status = ServesOpen given.closed path before after status
+FollowsAs given Run path more aim before after status = RunsOpen false given.closed path before after status
+FollowsAs given Serve path more aim before after status = RunsOpen true given.closed path before after status
 FollowsAs given Version nothing more aim before after status = (after.shelf ≡ before.shelf)
     × TellsVersion before.devices after.devices status
 

@@ -9,7 +9,7 @@ ghost use Rattle.evpnd.specs.Checks.{desk};
 ghost use Rattle.evpnd.specs.Scripts.{ChecksAll};
 ghost use Rattle.evpnd.specs.Streams.{Unclosed, IsClosed};
 ghost use Rattle.ev_report.specs.Failures.{failures_of};
-ghost use Rattle.evpnd.specs.Program.{world, use_of, purpose_of, TellsFault, not_text, RunsOpen, ServesOpen, FollowsAs, Follows, FollowsTelling, RunsWords, RunsProgram};
+ghost use Rattle.evpnd.specs.Program.{world, use_of, purpose_of, TellsFault, not_text, RunsOpen, FollowsAs, Follows, FollowsTelling, RunsWords, RunsProgram};
 
 use crate::check::{Purpose, Wanted, check_all};
 use crate::files::Files;
@@ -103,8 +103,8 @@ fn wanted_of<'a>(descriptors: Descriptors, invocation: &Invocation<'a>) -> Wante
     }
 }
 
-/// Runs the edges that the file at a path configures, where no standard stream was closed: a socket
-/// would have its number.
+/// Runs the edges that the file at a path configures, which may be asked meanwhile or not, where no
+/// standard stream was closed: a socket would have its number.
 fn run_open<
     H: Threads + Wait + Net + SocketFiles + Clock + Sync,
     F: Files,
@@ -113,41 +113,19 @@ fn run_open<
     N: Out + Send,
 >(
     host: &Host<'_, H>,
+    is_asked: bool,
     files: &mut F,
     path: &str,
     devices: Devices<R, W, N>,
 ) -> (u8, Devices<R, W, N>)
     requires files { HasRoom (F.shelf files.old) }
     requires devices { AreOpen devices }
-    ensures { RunsOpen host.now.descriptors.closed path.now (desk (F.shelf files.old) devices)
-        (desk (F.shelf files.new) result.1) result.0 }
+    ensures { RunsOpen is_asked host.now.descriptors.closed path.now
+        (desk (F.shelf files.old) devices) (desk (F.shelf files.new) result.1) result.0 }
 {
     match host.descriptors.closed {
+        None if is_asked => serve_file(host.rt, host.alloc, files, path, devices),
         None => run_file(host.rt, host.alloc, files, path, devices),
-        Some(stream) => tell_closed(stream, devices),
-    }
-}
-
-/// So runs edges that may be asked meanwhile.
-fn serve_open<
-    H: Threads + Wait + Net + SocketFiles + Clock + Sync,
-    F: Files,
-    R: In,
-    W: Out,
-    N: Out + Send,
->(
-    host: &Host<'_, H>,
-    files: &mut F,
-    path: &str,
-    devices: Devices<R, W, N>,
-) -> (u8, Devices<R, W, N>)
-    requires files { HasRoom (F.shelf files.old) }
-    requires devices { AreOpen devices }
-    ensures { ServesOpen host.now.descriptors.closed path.now (desk (F.shelf files.old) devices)
-        (desk (F.shelf files.new) result.1) result.0 }
-{
-    match host.descriptors.closed {
-        None => serve_file(host.rt, host.alloc, files, path, devices),
         Some(stream) => tell_closed(stream, devices),
     }
 }
@@ -185,8 +163,14 @@ fn follow<
         }
         Subcommand::Simulate => simulate(alloc, Mode::Simulate, files, invocation.value, devices),
         Subcommand::Play => simulate(alloc, Mode::Play, files, invocation.value, devices),
-        Subcommand::Run => run_open(host, files, invocation.value, devices),
-        Subcommand::Serve => serve_open(host, files, invocation.value, devices),
+        Subcommand::Run => {
+            let is_asked = false;
+            run_open(host, is_asked, files, invocation.value, devices)
+        }
+        Subcommand::Serve => {
+            let is_asked = true;
+            run_open(host, is_asked, files, invocation.value, devices)
+        }
         Subcommand::Version => version(devices),
     }
 }
