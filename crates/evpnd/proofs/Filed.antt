@@ -52,10 +52,10 @@ found_never uses (Ok config) d d' status h = absurd h
 found_never uses (Err refused) d d' status h = h
 
 -- where none is used, it doesn't matter for what
-pub of_never : {X : Type 0} (uses : UsesConfig X) (gives : Gives X) (path : Text) (b a : Desk) (status : ℕ)
+never_used : {X : Type 0} (uses : UsesConfig X) (gives : Gives X) (path : Text) (b a : Desk) (status : ℕ)
     → OfFile gives (OfFound Never) path b a status → OfFile gives (OfFound uses) path b a status
-of_never uses gives path b a status (inl h) = inl h
-of_never uses gives path b a status (inr r) =
+never_used uses gives path b a status (inl h) = inl h
+never_used uses gives path b a status (inr r) =
     inr (record {
       shelf_kept = r.shelf_kept;
       text = r.text;
@@ -65,16 +65,26 @@ of_never uses gives path b a status (inr r) =
       used = found_never uses r.found b.devices a.devices status r.used;
     })
 
--- the configuration is used
-pub of_used : {X : Type 0} (uses : UsesConfig X) (gives : Gives X) (path : Text) (s s' : Shelf)
-    (before mid after : Devices) (config : X) (status : ℕ)
-    → FileGives gives path s s' before.notes mid.notes (Ok config) → mid ≡ record before { notes = mid.notes }
-    → uses config mid after status
-    → OfFile gives (OfFound uses) path (desk s before) (desk s' after) status
-of_used uses gives path s s' before mid after config status given kept used =
-    let same : mid ≡ before = kept ∙ ap (λ (e : End). record before { notes = e }) given.1 in
-    of_read gives (OfFound uses) path given.2.0 s s' before after status (given.0, given.2.1)
-    (Ok config, given.2.2, subst (λ (d : Devices). uses config d after status) same used)
+-- what a file gives, of devices of which nothing but the notes was called yet
+module _ {X : Type 0} (uses : UsesConfig X) (gives : Gives X) (path : Text) (s s' : Shelf) (before : Devices)
+    (input : Source) (out notes notes' : End) (is : devices input out notes ≡ before) (status : ℕ) where
+  -- none is used
+  pub of_never : FileGives gives path s s' notes notes' (Err status)
+      → OfFile gives (OfFound uses) path (desk s before) (desk s' (devices input out notes')) status
+  of_never given =
+      subst (λ (d : Devices). OfFile gives (OfFound uses) path (desk s d) (desk s' (devices input out notes')) status)
+      is
+      (never_used uses gives path (desk s (devices input out notes)) (desk s' (devices input out notes')) status
+      (given input out))
+
+  -- the configuration is used
+  pub of_used : (config : X) (after : Devices) → FileGives gives path s s' notes notes' (Ok config)
+      → uses config (devices input out notes') after status
+      → OfFile gives (OfFound uses) path (desk s before) (desk s' after) status
+  of_used config after given used =
+      let same : devices input out notes' ≡ before = ap (devices input out) given.1 ∙ is in
+      of_read gives (OfFound uses) path given.2.0 s s' before after status (given.0, given.2.1)
+      (Ok config, given.2.2, subst (λ (d : Devices). uses config d after status) same used)
 
 -- the file has a text, which gives a configuration or none
 pub file_gives : {X : Type 0} (gives : Gives X) (path text : Text) (s s' : Shelf) (notes mid notes' : End)

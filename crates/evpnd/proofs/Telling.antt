@@ -1,6 +1,6 @@
 -- What is told of the words.
-use Rattle.std.proofs.Common.{◌≡◌, ◌≢◌, inl, inr, ℕ, ◌+◌, true, false, cond, List, [], ◌∷◌, ◌++◌, Result, Ok, Err}
-use Rattle.std.proofs.Common.{is_ok, refl, ap, ◌∙◌, arith}
+use Rattle.std.proofs.Common.{◌≡◌, ◌≢◌, inl, inr, ℕ, ◌+◌, cond, List, [], ◌∷◌, ◌++◌, Result, Ok, Err}
+use Rattle.std.proofs.Common.{is_ok, refl, ap, ◌∙◌}
 use Rattle.ether_wire.specs.declared.ends.Device.{Device}
 use Rattle.ether_wire.specs.Ends.{End, Puts, with_text}
 use Rattle.ether_wire.proofs.Appending.{with_text_twice}
@@ -12,6 +12,7 @@ use Rattle.ev_report.specs.Originators.{Text}
 use Rattle.ev_report.specs.Ends.{Devices}
 use Rattle.evpnd.specs.Files.{Shelf}
 use Rattle.evpnd.specs.declared.host.Descriptors.{Descriptors}
+use Rattle.ev_report.proofs.Finishing.{put_holds}
 use Rattle.ev_report.proofs.Told.{failed_put}
 use Rattle.evpnd.specs.Checks.{desk, Sums, SumsWith}
 use Rattle.evpnd.specs.Program.{world, TellsFault, RunsWords}
@@ -19,16 +20,7 @@ use Rattle.evpnd.specs.Program.{world, TellsFault, RunsWords}
 -- a text was put on the output
 pub sums_put : (a b : End) (r : Result (Unit {0}) Device) (text : Text) (status : ℕ) → Puts a b text r
     → ◌≡◌ {A = ℕ} status (cond (is_ok r) 0 4) → Sums a b status
-sums_put a b (Ok x) text status h is = (
-  text,
-  record { written = λ _. h; failures = inl (ap (λ (y : End). y.failures) h) },
-  is ∙ failed_put a b (Ok x) text 0 h true refl,
-)
-sums_put a b (Err d) text status h is = (
-  text,
-  record { written = λ same. absurd (omega arith); failures = inr h },
-  is ∙ failed_put a b (Err d) text 0 h false refl,
-)
+sums_put a b r text status h is = (text, put_holds a b r text h, is ∙ failed_put a b r text 0 h (is_ok r) refl)
 
 -- a text was put, and behind it another one
 pub put_behind : (a b c : End) (text more : Text) (r : Result (Unit {0}) Device) → b ≡ with_text a text
@@ -41,18 +33,9 @@ put_behind a b c text more (Err d) first h = (text, h ∙ ap (λ (e : End). e.fa
 pub sums_with : (more : Text) (a b : End) (r : Result (Unit {0}) Device) (status : ℕ) → (t : Text)
     × Puts a b (t ++ more) r
     → ◌≡◌ {A = ℕ} status (cond (is_ok r) 0 4) → SumsWith more a b status
-sums_with more a b (Ok x) status put is = (
-  put.0,
-  record { written = λ _. put.1; failures = inl (ap (λ (y : End). y.failures) put.1) },
-  is
-      ∙ failed_put a b (Ok x) (put.0 ++ more) 0 put.1 true refl,
-)
-sums_with more a b (Err d) status put is = (
-  put.0,
-  record { written = λ same. absurd (omega arith); failures = inr put.1 },
-  is
-      ∙ failed_put a b (Err d) (put.0 ++ more) 0 put.1 false refl,
-)
+sums_with more a b r status put is =
+    let text = put.0 ++ more in
+    (put.0, put_holds a b r text put.1, is ∙ failed_put a b r text 0 put.1 (is_ok r) refl)
 
 among_some : (k : ErrorKind) (ks : Kinds) → IsAmong k ks → ks ≢ []
 among_some k [] among none = among

@@ -1,38 +1,20 @@
-use Rattle.std.proofs.Common.{false, refl, subst}
-use Rattle.ev_report.specs.Ends.{Devices, devices}
+use Rattle.std.proofs.Common.{false}
 use Rattle.ev_config.specs.Config.{ConfigOf}
-use Rattle.evpnd.specs.Used.{SimulatesEdges, SimulatesFound}
-use Rattle.evpnd.specs.Checks.{desk, OfFile}
+use Rattle.evpnd.specs.Used.{SimulatesEdges}
 use Rattle.evpnd.proofs.Filed.{of_never, of_used}
 use Rattle.evpnd.proofs.simulate.simulate.Goals as goal
 
 pub returns-in-Ok : goal.returns-in-Ok
 returns-in-Ok g c =
-    let before = devices (g.R.In.end c.devices.inside.reader) (g.W.Out.end c.devices.inside.out)
-    (g.N.Out.end c.devices.inside.notes) in
-    let s = g.F.Files.shelf c.args.files.now in
-    let s' = g.F.Files.shelf c.configured.new.files in
-    subst (λ (d : Devices). OfFile (ConfigOf false) (SimulatesFound c.args.mode) c.args.path.now (desk s d)
-    (desk s' c.simulate_buffered.result.1) c.simulate_buffered.result.0)
-    c.devices.view_is
-    (of_used (SimulatesEdges c.args.mode) (ConfigOf false) c.args.path.now s s' before
-    (devices (g.R.In.end c.devices.inside.reader) (g.W.Out.end c.devices.inside.out)
-    (g.N.Out.end c.configured.new.notes))
-    c.simulate_buffered.result.1 c.in-Ok.config c.simulate_buffered.result.0 c.in-Ok.ensures.value refl
-    c.simulate_buffered.ensures)
+    of_used (SimulatesEdges c.args.mode) (ConfigOf false) c.args.path.now (g.F.Files.shelf c.args.files.now)
+    (g.F.Files.shelf c.configured.new.files) c.args.devices (g.R.In.end c.devices.inside.reader)
+    (g.W.Out.end c.devices.inside.out) (g.N.Out.end c.devices.inside.notes) (g.N.Out.end c.configured.new.notes)
+    c.devices.view_is c.simulate_buffered.result.0 c.in-Ok.config c.simulate_buffered.result.1 c.in-Ok.ensures.value
+    c.simulate_buffered.ensures
 
 pub returns-in-Err : goal.returns-in-Err
 returns-in-Err g c =
-    let before = devices (g.R.In.end c.devices.inside.reader) (g.W.Out.end c.devices.inside.out)
-    (g.N.Out.end c.devices.inside.notes) in
-    let s = g.F.Files.shelf c.args.files.now in
-    let s' = g.F.Files.shelf c.configured.new.files in
-    subst (λ (d : Devices). OfFile (ConfigOf false) (SimulatesFound c.args.mode) c.args.path.now (desk s d)
-    (desk s' (devices (g.R.In.end c.devices.inside.reader) (g.W.Out.end c.devices.inside.out)
-    (g.N.Out.end c.configured.new.notes)))
-    c.in-Err.status)
-    c.devices.view_is
-    (of_never (SimulatesEdges c.args.mode) (ConfigOf false) c.args.path.now (desk s before)
-    (desk s' (devices (g.R.In.end c.devices.inside.reader) (g.W.Out.end c.devices.inside.out)
-    (g.N.Out.end c.configured.new.notes)))
-    c.in-Err.status (c.in-Err.ensures.value (g.R.In.end c.devices.inside.reader) (g.W.Out.end c.devices.inside.out)))
+    of_never (SimulatesEdges c.args.mode) (ConfigOf false) c.args.path.now (g.F.Files.shelf c.args.files.now)
+    (g.F.Files.shelf c.configured.new.files) c.args.devices (g.R.In.end c.devices.inside.reader)
+    (g.W.Out.end c.devices.inside.out) (g.N.Out.end c.devices.inside.notes) (g.N.Out.end c.configured.new.notes)
+    c.devices.view_is c.in-Err.status c.in-Err.ensures.value
