@@ -1,6 +1,7 @@
 -- A script that is looked at, behind a configuration that is checked.
 use Rattle.std.proofs.Common.{◌≡◌, ◌⊎◌, inl, inr, ℕ, ◌+◌, Bool, true, false, cond, not, ◌||◌, ◌==◌, List, [], ◌∷◌, ◌++◌}
-use Rattle.std.proofs.Common.{length, Result, Ok, Err, is_ok, refl, sym, ap, subst, ◌∙◌, arith}
+use Rattle.std.proofs.Common.{length, Option, Some, option_map, Bor, Result, Ok, Err, is_ok, refl, sym, ap, subst, ◌∙◌}
+use Rattle.std.proofs.Common.{arith}
 use Rattle.std.proofs.lemmas.Bool.Decides.{nat_tests}
 use Rattle.ether_wire.specs.declared.ends.Device.{Device}
 use Rattle.ether_wire.specs.Ends.{End, Source, IsOpen, Puts}
@@ -22,7 +23,7 @@ use Rattle.ev_config.specs.declared.whole.Use.{Use}
 use Rattle.ev_config.specs.declared.whole.Use.TheVariants.{Any, Run, Serve}
 use Rattle.ev_config.specs.Config.{ConfigFor}
 use Rattle.evpnd.specs.Checks.{Desk, desk, OfFile, TellsObstacles, SumsRun, SumsFor, Checks}
-use Rattle.evpnd.specs.Scripts.{lines_text, Looks, OfScript, Behind}
+use Rattle.evpnd.specs.Scripts.{lines_text, Looks, OfScript, Behind, ChecksAll}
 
 -- notes that may have failed
 noted : (a b : End) (q : Bool) (t : Text) → Tells a b true q t → Holds a b t × (has_failed a b ≡ not q)
@@ -148,3 +149,12 @@ behind_failed first path d e = rw e (refl, refl)
 pub behind_done : (first : ℕ) (path : Text) (before after : Desk) (status : ℕ) → (first == 0) ≡ true
     → OfScript path before after status → Behind first path before after status
 behind_done first path before after status e h = rw e h
+
+-- a configuration that was checked, and behind it a script
+pub with_script : (purpose : Purpose) (path : Text) (given : Option (Bor Text)) (script : Bor Text)
+    (before mid after : Desk) (first status : ℕ) → given ≡ Some script
+    → OfFile (ConfigFor purpose.wanted) (Checks purpose) path before mid first
+    → Behind first script.now mid after status
+    → ChecksAll purpose path (option_map (λ s. s.now) given) before after status
+with_script purpose path given script before mid after first status is checked behind = rw is
+    (mid, first, checked, behind)

@@ -10,7 +10,7 @@ ghost use Rattle.ev_run.specs.Obstacles.{obstacles_of, obstacles_text};
 ghost use Rattle.evpnd.specs.Checks.{desk, OfFile, Sums, TellsSome, SumsWith, TellsObstacles, SumsRun, SumsFor, Checks, ChecksText};
 ghost use Rattle.evpnd.specs.Scripts.{ChecksAll};
 
-use crate::check_script::check_behind;
+use crate::check_script::check_script;
 use crate::files::{Files, Named, text_at};
 use ether_wire::{Device, Out};
 use ev_config::{Config, ConfigRefusal, Use, config_for, put_refusal, summary_line};
@@ -236,6 +236,7 @@ pub(crate) fn check_all<F: Files, W: Out, N: Out>(
     let status = check(alloc, files, wanted, out, notes);
     match wanted.script {
         None => status,
-        Some(script) => check_behind(status, files, script, out, notes),
+        Some(script) if status == DONE => check_script(files, script, out, notes),
+        Some(_) => status,
     }
 }

@@ -4,11 +4,11 @@ ghost use Rattle.ether_wire.specs.Ends.{Source, IsOpen, Puts};
 ghost use Rattle.ev_report.specs.Ends.{devices};
 ghost use Rattle.evpnd.specs.Files.{HasRoom};
 ghost use Rattle.evpnd.specs.Checks.{desk};
-ghost use Rattle.evpnd.specs.Scripts.{lines_word, lines_text, Looks, OfScript, Behind};
+ghost use Rattle.evpnd.specs.Scripts.{lines_word, lines_text, Looks, OfScript};
 
 use crate::files::{Files, Named, text_at};
 use ether_wire::{Device, Out, put_decimal};
-use ev_report::{DONE, Ending, has_failed, status_of};
+use ev_report::{Ending, has_failed, status_of};
 use ev_script::check_lines;
 
 /// The word behind the number of lines, and a line feed.
@@ -47,7 +47,7 @@ fn look<W: Out, N: Out>(name: &str, text: &str, out: &mut W, notes: &mut N) -> u
 
 /// Looks at the script in the file at a path: each line that is no command is told, or how many
 /// lines there are.
-fn check_script<F: Files, W: Out, N: Out>(
+pub(crate) fn check_script<F: Files, W: Out, N: Out>(
     files: &mut F,
     path: &str,
     out: &mut W,
@@ -64,32 +64,4 @@ fn check_script<F: Files, W: Out, N: Out>(
         Ok(text) => look(path, text.as_str(), out, notes),
         Err(status) => status,
     }
-}
-
-/// Whether all was done so far.
-fn is_done(status: u8) -> bool
-    ensures { result ≡ (status == 0) }
-{
-    status == DONE
-}
-
-/// Looks at a script behind a check of this status, where all was done.
-pub(crate) fn check_behind<F: Files, W: Out, N: Out>(
-    status: u8,
-    files: &mut F,
-    path: &str,
-    out: &mut W,
-    notes: &mut N,
-) -> u8
-    requires files { status ≡ 0 → HasRoom (F.shelf files.old) }
-    requires out { status ≡ 0 → IsOpen (W.end out.old) }
-    requires notes { status ≡ 0 → IsOpen (N.end notes.old) }
-    ensures { (input : Source) → Behind status path.now
-        (desk (F.shelf files.old) (devices input (W.end out.old) (N.end notes.old)))
-        (desk (F.shelf files.new) (devices input (W.end out.new) (N.end notes.new))) result }
-{
-    if !is_done(status) {
-        return status;
-    }
-    check_script(files, path, out, notes)
 }

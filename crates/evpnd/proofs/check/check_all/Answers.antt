@@ -1,62 +1,63 @@
-use Rattle.std.proofs.Common.{rules, ◌≡◌, ℕ, List, Option, Some, None, option_map, sym, subst}
-use Rattle.std.specs.Borrow.{Bor}
+use Rattle.std.proofs.Common.{rules, ◌≡◌, ◌==◌, true, false, Some, None}
 use Rattle.ether_wire.specs.Ends.{source_of}
 use Rattle.ev_report.specs.Ends.{devices}
 use Rattle.evpnd.specs.Checks.{desk}
-use Rattle.evpnd.specs.Scripts.{ChecksAll}
-use Rattle.evpnd.proofs.Scripted.{ready}
+use Rattle.evpnd.proofs.Scripted.{is_zero, ready, behind_failed, behind_done, with_script}
 use Rattle.evpnd.proofs.check.check_all.Goals as goal
 
-pub check_behind-requires-clause-files : goal.check_behind-requires-clause-files
-check_behind-requires-clause-files g c = λ done.
+pub check_script-requires-clause-files : goal.check_script-requires-clause-files
+check_script-requires-clause-files g c =
+    let e : (c.check-status.result == 0) ≡ true = search rules in
     (ready c.args.wanted.purpose c.args.wanted.path.now (g.F.Files.shelf c.args.files.now)
     (g.F.Files.shelf c.check-status.new.files)
     (source_of None 0 0) (g.W.Out.end c.args.out.now) (g.W.Out.end c.check-status.new.out)
     (g.N.Out.end c.args.notes.now) (g.N.Out.end c.check-status.new.notes) c.check-status.result
     (c.check-status.ensures (source_of None 0 0))
-    c.requires.files c.requires.out c.requires.notes done).has_room
+    c.requires.files c.requires.out c.requires.notes (is_zero c.check-status.result e)).has_room
 
-pub check_behind-requires-clause-out : goal.check_behind-requires-clause-out
-check_behind-requires-clause-out g c = λ done.
+pub check_script-requires-clause-out : goal.check_script-requires-clause-out
+check_script-requires-clause-out g c =
+    let e : (c.check-status.result == 0) ≡ true = search rules in
     (ready c.args.wanted.purpose c.args.wanted.path.now (g.F.Files.shelf c.args.files.now)
     (g.F.Files.shelf c.check-status.new.files)
     (source_of None 0 0) (g.W.Out.end c.args.out.now) (g.W.Out.end c.check-status.new.out)
     (g.N.Out.end c.args.notes.now) (g.N.Out.end c.check-status.new.notes) c.check-status.result
     (c.check-status.ensures (source_of None 0 0))
-    c.requires.files c.requires.out c.requires.notes done).out_open
+    c.requires.files c.requires.out c.requires.notes (is_zero c.check-status.result e)).out_open
 
-pub check_behind-requires-clause-notes : goal.check_behind-requires-clause-notes
-check_behind-requires-clause-notes g c = λ done.
+pub check_script-requires-clause-notes : goal.check_script-requires-clause-notes
+check_script-requires-clause-notes g c =
+    let e : (c.check-status.result == 0) ≡ true = search rules in
     (ready c.args.wanted.purpose c.args.wanted.path.now (g.F.Files.shelf c.args.files.now)
     (g.F.Files.shelf c.check-status.new.files)
     (source_of None 0 0) (g.W.Out.end c.args.out.now) (g.W.Out.end c.check-status.new.out)
     (g.N.Out.end c.args.notes.now) (g.N.Out.end c.check-status.new.notes) c.check-status.result
     (c.check-status.ensures (source_of None 0 0))
-    c.requires.files c.requires.out c.requires.notes done).notes_open
-
-pub returns-in-None : goal.returns-in-None
-returns-in-None g c = λ input.
-    let is : c.args.wanted.script ≡ None = search rules in
-    subst (λ (o : Option (Bor (List ℕ))). ChecksAll c.args.wanted.purpose c.args.wanted.path.now
-    (option_map (λ s. s.now) o)
-    (desk (g.F.Files.shelf c.args.files.now)
-    (devices input (g.W.Out.end c.args.out.now) (g.N.Out.end c.args.notes.now)))
-    (desk (g.F.Files.shelf c.check-status.new.files)
-    (devices input (g.W.Out.end c.check-status.new.out) (g.N.Out.end c.check-status.new.notes)))
-    c.check-status.result)
-    (sym is) (c.check-status.ensures input)
+    c.requires.files c.requires.out c.requires.notes (is_zero c.check-status.result e)).notes_open
 
 pub returns-in-Some : goal.returns-in-Some
 returns-in-Some g c = λ input.
     let is : c.args.wanted.script ≡ Some c.in-Some.script = search rules in
+    let e : (c.check-status.result == 0) ≡ true = search rules in
+    let before = desk (g.F.Files.shelf c.args.files.now)
+    (devices input (g.W.Out.end c.args.out.now) (g.N.Out.end c.args.notes.now)) in
     let mid = desk (g.F.Files.shelf c.check-status.new.files)
     (devices input (g.W.Out.end c.check-status.new.out) (g.N.Out.end c.check-status.new.notes)) in
-    subst (λ (o : Option (Bor (List ℕ))). ChecksAll c.args.wanted.purpose c.args.wanted.path.now
-    (option_map (λ s. s.now) o)
-    (desk (g.F.Files.shelf c.args.files.now)
-    (devices input (g.W.Out.end c.args.out.now) (g.N.Out.end c.args.notes.now)))
-    (desk (g.F.Files.shelf c.check_behind.new.files)
-    (devices input (g.W.Out.end c.check_behind.new.out) (g.N.Out.end c.check_behind.new.notes)))
-    c.check_behind.result)
-    (sym is)
-    (mid, c.check-status.result, c.check-status.ensures input, c.check_behind.ensures input)
+    let after = desk (g.F.Files.shelf c.check_script.new.files)
+    (devices input (g.W.Out.end c.check_script.new.out) (g.N.Out.end c.check_script.new.notes)) in
+    with_script c.args.wanted.purpose c.args.wanted.path.now c.args.wanted.script c.in-Some.script before mid after
+    c.check-status.result c.check_script.result is (c.check-status.ensures input)
+    (behind_done c.check-status.result c.in-Some.script.now mid after c.check_script.result e
+    (c.check_script.ensures input))
+
+pub returns-in-Some-2 : goal.returns-in-Some-2
+returns-in-Some-2 g c = λ input.
+    let is : c.args.wanted.script ≡ Some c.in-Some-2.field-0 = search rules in
+    let e : (c.check-status.result == 0) ≡ false = search rules in
+    let before = desk (g.F.Files.shelf c.args.files.now)
+    (devices input (g.W.Out.end c.args.out.now) (g.N.Out.end c.args.notes.now)) in
+    let mid = desk (g.F.Files.shelf c.check-status.new.files)
+    (devices input (g.W.Out.end c.check-status.new.out) (g.N.Out.end c.check-status.new.notes)) in
+    with_script c.args.wanted.purpose c.args.wanted.path.now c.args.wanted.script c.in-Some-2.field-0 before mid mid
+    c.check-status.result c.check-status.result is (c.check-status.ensures input)
+    (behind_failed c.check-status.result c.in-Some-2.field-0.now mid e)
