@@ -1,7 +1,7 @@
 -- A run of edges: the input that is read out, and what is told at the end.
 use Rattle.std.proofs.Common.{◌≡◌, inl, inr, ℕ, ◌+◌, ◌-◌, ◌<◌, ◌^◌, min, Bool, false, not, ◌||◌, nat_lt, List, [], ◌∷◌}
 use Rattle.std.proofs.Common.{◌++◌, map, take, length, get_or, append-nil, append_assoc, Result, Ok, Err, is_ok, refl}
-use Rattle.std.proofs.Common.{sym, ap, subst, ◌∙◌, arith}
+use Rattle.std.proofs.Common.{MatchOption, sym, ap, subst, ◌∙◌, arith}
 use Rattle.std.proofs.lemmas.List.{take_more, length-take-le}
 use Rattle.std.proofs.lemmas.List.Sums.{sum_by_push}
 use Rattle.std.specs.List.{sum_by, list_any}
@@ -12,8 +12,12 @@ use Rattle.ether_wire.specs.Ends.{End, Source, Gets, Puts}
 use Rattle.ev_edge.specs.declared.config.EdgeConfig.{EdgeConfig}
 use Rattle.ev_edge.specs.Config.{IsConfig}
 use Rattle.ev_config.specs.declared.endpoint.Endpoint.{Endpoint}
+use Rattle.ev_config.specs.declared.whole.Config.{Config}
 use Rattle.ev_run.specs.declared.sockets.BindError.{BindError}
-use Rattle.ev_report.specs.Ends.{Devices, devices, has_failed, Gives, Passes}
+use Rattle.ev_run.specs.declared.sockets.StartError.{StartError}
+use Rattle.ev_run.specs.declared.sockets.StartError.TheVariants.{Unbindable, Unnamed, NoMemory}
+use Rattle.ev_run.specs.Sockets.{endpoints_of, all_ends, lacks_address, Hinders}
+use Rattle.ev_report.specs.Ends.{Devices, devices, has_failed, Holds, Gives, Passes}
 use Rattle.ev_report.specs.declared.input.ReadError.TheVariants.{Device}
 use Rattle.ev_report.specs.Input.{ReadsWhole, Gathers}
 use Rattle.ev_report.specs.Notes.{status_of}
@@ -23,7 +27,7 @@ use Rattle.ev_run.specs.RunEdges.{link_failed, was_out_of_memory, all_lost, IsRe
 use Rattle.ev_run.specs.RunEdges.{PutsRest, TellsRest}
 use Rattle.ev_notices.specs.Telling.{Told, lines_of}
 use Rattle.ether_wire.proofs.Appending.{puts_behind}
-use Rattle.ev_run.specs.RunEdges.{IsStartError, TellsStartError, RunsEdges}
+use Rattle.ev_run.specs.RunEdges.{start_text, IsStartError, RunsEdges}
 use Rattle.ev_report.proofs.Finishing.{put_holds, put_failed, passed_out, passed_notes, passed_status, failed_out}
 use Rattle.ev_report.proofs.Finishing.{failed_notes}
 use Rattle.ev_report.proofs.Gathering.{gathers_more, whole_ended, whole_failed, whole_unended}
@@ -161,44 +165,69 @@ module _ (ended : List Ended) (system : List ℕ) (is_read : Bool) (out out' not
             (sym (put_failed start notes' s text put));
       }
 
+-- what is told of why no edge began
+abbrev pub TellsCause : StartError → End → End → ℕ → Type 0
+TellsCause cause notes notes' status =
+    MatchOption (start_text cause) ((notes' ≡ notes) × (status ≡ 3)) (λ text. Holds notes notes' text × (status ≡ 4))
+
 -- an address is told
 pub tells_address : (notes notes' : End) (r : Result (Unit {0}) device.Device) (at : Endpoint) (why : BindError)
-    → Puts notes notes' (bind_error_text at why) r → TellsStartError notes notes' 4
-tells_address notes notes' r at why put =
-    inl (record {
-      text = bind_error_text at why;
-      is_text = inr (at, why, refl);
-      noted = put_holds notes notes' r (bind_error_text at why) put;
-      status_is = refl;
-    })
+    → Puts notes notes' (bind_error_text at why) r → TellsCause (Unbindable at why) notes notes' 4
+tells_address notes notes' r at why put = (put_holds notes notes' r (bind_error_text at why) put, refl)
 
 -- no address is told
-pub tells_nothing : (notes : End) → TellsStartError notes notes 4
-tells_nothing notes = inl (record { text = []; is_text = inl refl; noted = holds_none notes; status_is = refl })
+pub tells_nothing : (notes : End) → TellsCause Unnamed notes notes 4
+tells_nothing notes = (holds_none notes, refl)
 
 -- no edge began
-pub runs_none : (many : ℕ) (sockets : List (List Endpoint)) (input : Source) (out notes notes' : End) (status : ℕ)
-    → TellsStartError notes notes' status
-    → RunsEdges many sockets (devices input out notes) (devices input out notes') status
-runs_none many sockets input out notes notes' status (inl u) = inr (inl (refl, holds_none out, u))
-runs_none many sockets input out notes notes' status (inr p) = rw p.0 (inr (inr (refused_memory out notes status p.1)))
+pub runs_none : (config : Config) (cause : StartError) (input : Source) (out notes notes' : End) (status : ℕ)
+    → Hinders (all_ends config) (lacks_address config) cause → TellsCause cause notes notes' status
+    → RunsEdges config (devices input out notes) (devices input out notes') status
+runs_none config (Unbindable at why) input out notes notes' status hinders told = inr (inl (
+  refl,
+  holds_none out,
+  record {
+    why = Unbindable at why;
+    hinders = hinders;
+    text = bind_error_text at why;
+    is_text = refl;
+    noted = told.0;
+    status_is = told.1;
+  },
+))
+runs_none config Unnamed input out notes notes' status hinders told = inr (inl (
+  refl,
+  holds_none out,
+  record {
+    why = Unnamed;
+    hinders = hinders;
+    text = [];
+    is_text = refl;
+    noted = told.0;
+    status_is = told.1;
+  },
+))
+runs_none config NoMemory input out notes notes' status hinders told =
+    rw told.0 (inr (inr (refused_memory out notes status told.1)))
 
 -- they ran with sockets that are where they should be
-pub runs_bound : (many : ℕ) (bound sockets : List (List Endpoint)) (before after : Devices) (status : ℕ)
-    → Ran many bound before after status → bound ≡ sockets → RunsEdges many sockets before after status
-runs_bound many bound sockets before after status ran same =
-    inl (subst (λ (ends : List (List Endpoint)). Ran many ends before after status) same ran)
+pub runs_bound : (config : Config) (bound : List (List Endpoint)) (before after : Devices) (status : ℕ)
+    → Ran (length config.edges.items) bound before after status → bound ≡ endpoints_of config
+    → lacks_address config ≡ false → RunsEdges config before after status
+runs_bound config bound before after status ran same whole = inl (
+  whole,
+  subst (λ (ends : List (List Endpoint)). Ran (length config.edges.items) ends before after status) same ran,
+)
 
 -- memory was refused to what the edges begin with
-pub runs_refused : (many : ℕ) (sockets : List (List Endpoint)) (input input' : Source) (out out' notes notes' : End)
-    → out' ≡ out → notes' ≡ notes
-    → RunsEdges many sockets (devices input out notes) (devices input' out' notes') 3
-runs_refused many sockets input input' out out' notes notes' a b =
+pub runs_refused : (config : Config) (input input' : Source) (out out' notes notes' : End)
+    → out' ≡ out → notes' ≡ notes → RunsEdges config (devices input out notes) (devices input' out' notes') 3
+runs_refused config input input' out out' notes notes' a b =
     rw (a, b) (inr (inr (refused_memory out notes 3 refl)))
 
 -- ---- writers that are given more at once
 
-module _ (many : ℕ) (sockets : List (List Endpoint)) (before held after : Devices) (status last : ℕ)
+module _ (config : Config) (before held after : Devices) (status last : ℕ)
     (p : Passes before.out.failures before.notes.failures held after status last) where
   passed_ended : (alerts : List Told) (ended : List Ended) (system : List ℕ) (is_read : Bool)
       → TellsEnded alerts ended system is_read before.out held.out before.notes held.notes status
@@ -215,16 +244,20 @@ module _ (many : ℕ) (sockets : List (List Endpoint)) (before held after : Devi
             (failed_notes before held after status last p lost t.noted) t.status_is;
       }
 
-  passed_start_error : IsStartError before.notes held.notes status → IsStartError before.notes after.notes last
+  passed_start_error : IsStartError config before.notes held.notes status
+      → IsStartError config before.notes after.notes last
   passed_start_error u = record {
+    why = u.why;
+    hinders = u.hinders;
     text = u.text;
     is_text = u.is_text;
     noted = passed_notes before held after status last p u.text u.noted;
     status_is = passed_four before held after status last p u.status_is;
   }
 
-  pub passed_runs : RunsEdges many sockets before held status → RunsEdges many sockets before after last
-  passed_runs (inl r) = inl (record {
+  passed_ran : (many : ℕ) (sockets : List (List Endpoint)) → Ran many sockets before held status
+      → Ran many sockets before after last
+  passed_ran many sockets r = record {
     is_read = r.is_read;
     read = subst (λ (s : Source). ReadsOut before.input s r.is_read) (sym p.input) r.read;
     ended = r.ended;
@@ -232,7 +265,10 @@ module _ (many : ℕ) (sockets : List (List Endpoint)) (before held after : Devi
     alerts = r.alerts;
     table = r.table;
     told = passed_ended r.alerts r.ended (system_text r.table sockets) r.is_read r.told;
-  })
+  }
+
+  pub passed_runs : RunsEdges config before held status → RunsEdges config before after last
+  passed_runs (inl r) = inl (r.0, passed_ran (length config.edges.items) (endpoints_of config) r.1)
   passed_runs (inr (inl h)) = inr (inl (
     p.input ∙ h.0,
     passed_out before held after status last p [] h.1,

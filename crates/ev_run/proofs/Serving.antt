@@ -1,12 +1,12 @@
 -- A run that answers clients: what is told where nothing can listen, and writers that are given more at once.
-use Rattle.std.proofs.Common.{inl, inr, ℕ, List, [], Result, refl, ◌∙◌}
+use Rattle.std.proofs.Common.{inl, inr, ℕ, [], Result, refl, ◌∙◌}
 use Rattle.ether_wire.specs.declared.ends.Device as device
 use Rattle.ether_wire.specs.Ends.{End, Source, Puts}
 use Rattle.ev_report.specs.Originators.{Text}
 use Rattle.ev_report.specs.Ends.{Devices, devices, Passes}
 use Rattle.ev_report.proofs.Finishing.{put_holds, passed_out, passed_notes}
 use Rattle.ev_report.proofs.Silence.{passed_four, holds_none}
-use Rattle.ev_config.specs.declared.endpoint.Endpoint.{Endpoint}
+use Rattle.ev_config.specs.declared.whole.Config.{Config}
 use Rattle.ev_run.specs.declared.control_socket.ListenError.{ListenError}
 use Rattle.ev_run.specs.Serving.{listen_error_text, TellsListenError, ServesEdges}
 use Rattle.ev_run.proofs.Running.{passed_runs}
@@ -21,12 +21,12 @@ tells_path path notes notes' r why put = record {
 }
 
 -- nothing could listen
-pub serves_none : (path : Text) (many : ℕ) (sockets : List (List Endpoint)) (input : Source) (out notes notes' : End)
-    (status : ℕ) → TellsListenError path notes notes' status
-    → ServesEdges path many sockets (devices input out notes) (devices input out notes') status
-serves_none path many sockets input out notes notes' status told = inr (refl, holds_none out, told)
+pub serves_none : (path : Text) (config : Config) (input : Source) (out notes notes' : End) (status : ℕ)
+    → TellsListenError path notes notes' status
+    → ServesEdges path config (devices input out notes) (devices input out notes') status
+serves_none path config input out notes notes' status told = inr (refl, holds_none out, told)
 
-module _ (path : Text) (many : ℕ) (sockets : List (List Endpoint)) (before held after : Devices) (status last : ℕ)
+module _ (path : Text) (config : Config) (before held after : Devices) (status last : ℕ)
     (p : Passes before.out.failures before.notes.failures held after status last) where
   passed_listen_error : TellsListenError path before.notes held.notes status
       → TellsListenError path before.notes after.notes last
@@ -36,8 +36,8 @@ module _ (path : Text) (many : ℕ) (sockets : List (List Endpoint)) (before hel
     status_is = passed_four before held after status last p u.status_is;
   }
 
-  pub passed_serves : ServesEdges path many sockets before held status → ServesEdges path many sockets before after last
-  passed_serves (inl r) = inl (passed_runs many sockets before held after status last p r)
+  pub passed_serves : ServesEdges path config before held status → ServesEdges path config before after last
+  passed_serves (inl r) = inl (passed_runs config before held after status last p r)
   passed_serves (inr h) = inr (
     p.input ∙ h.0,
     passed_out before held after status last p [] h.1,

@@ -1,6 +1,7 @@
 -- What a run of edges over sockets leaves.
 use Rattle.std.specs.Prelude.{◌≡◌, ℕ, ◌+◌, ◌-◌, ◌^◌, min, ◌⊎◌, ◌||◌, Bool, true, false, not, ◌==◌, nat_lt}
-use Rattle.std.specs.Prelude.{if◌then◌else◌, List, [], ◌∷◌, ◌++◌, length, Contains, codes, Result, Ok, Err}
+use Rattle.std.specs.Prelude.{if◌then◌else◌, List, [], ◌∷◌, ◌++◌, length, Contains, codes, Option, Some, None}
+use Rattle.std.specs.Prelude.{Result, Ok, Err}
 use Rattle.std.specs.Fmt.{decimal}
 use Rattle.std.specs.List.{sum_by, list_any}
 use Rattle.std.specs.declared.alloc.AllocError.{AllocError}
@@ -15,12 +16,14 @@ use Rattle.ev_notices.specs.Telling.{Told, lines_of}
 use Rattle.route_join.specs.Report.{report_of}
 use Rattle.ev_config.specs.declared.whole.Config.{Config}
 use Rattle.ev_config.specs.declared.endpoint.Endpoint.{Endpoint}
-use Rattle.ev_run.specs.Sockets.{endpoints_of}
+use Rattle.ev_run.specs.Sockets.{endpoints_of, all_ends, lacks_address, Hinders}
 use Rattle.ev_run.specs.SystemDrops.{dropped_at}
 use Rattle.ev_run.specs.declared.print.Dropped.{Dropped}
 use Rattle.ev_run.specs.declared.print.Dropped.TheVariants.{NoRoom, BySystem}
 use Rattle.ev_run.specs.declared.sockets.BindError.{BindError}
 use Rattle.ev_run.specs.declared.sockets.BindError.TheVariants as bind_error
+use Rattle.ev_run.specs.declared.sockets.StartError.{StartError}
+use Rattle.ev_run.specs.declared.sockets.StartError.TheVariants.{Unbindable, Unnamed, NoMemory}
 use Rattle.ev_report.specs.declared.input.ReadError.TheVariants.{Device}
 use Rattle.ev_report.specs.Ends.{Devices, has_failed, Holds}
 use Rattle.ev_report.specs.Input.{ReadsWhole}
@@ -185,25 +188,27 @@ pub record Ran (many : ℕ) (sockets : List (List Endpoint)) (before after : Dev
   pub told : TellsEnded alerts ended (system_text table sockets) is_read before.out after.out before.notes after.notes
       status
 
--- An address couldn't be bound, which is told, or a port has none: the status is 4.
-pub record IsStartError (notes notes' : End) (status : ℕ) : Type 0 where
+-- What is told where no edge begins for want of an address: which one can't be bound, and why; nothing of a port that
+-- has none. There is no such text where it is for want of memory.
+abbrev pub start_text : StartError → Option Text
+start_text (Unbindable at why) = Some (bind_error_text at why)
+start_text Unnamed = Some []
+start_text NoMemory = None
+
+-- An address of this configuration couldn't be bound, which is told, or a port of it has none: the status is 4.
+pub record IsStartError (config : Config) (notes notes' : End) (status : ℕ) : Type 0 where
+  pub why : StartError
+  pub hinders : Hinders (all_ends config) (lacks_address config) why
   pub text : Text
-  pub is_text : (text ≡ []) ⊎ ((at : Endpoint) × (why : BindError) × (text ≡ bind_error_text at why))
+  pub is_text : start_text why ≡ Some text
   pub noted : Holds notes notes' text
   pub status_is : status ≡ 4
 
--- No edge began, for want of an address or of memory.
-abbrev pub TellsStartError : End → End → ℕ → Type 0
-TellsStartError notes notes' status = IsStartError notes notes' status ⊎ ((notes' ≡ notes) × (status ≡ 3))
-
--- So many edges were run, with their sockets here; or no edge began and nothing was read, nothing but that written; or
--- memory was refused to what they begin with.
-abbrev pub RunsEdges : ℕ → List (List Endpoint) → Devices → Devices → ℕ → Type 0
-RunsEdges many sockets before after status =
-    Ran many sockets before after status
-    ⊎ (((after.input ≡ before.input) × Holds before.out after.out [] × IsStartError before.notes after.notes status)
+-- The edges of a configuration were run, each port of which has its addresses; or no edge began and nothing was read,
+-- nothing but why written; or memory was refused to what they begin with.
+abbrev pub RunsEdges : Config → Devices → Devices → ℕ → Type 0
+RunsEdges config before after status =
+    ((lacks_address config ≡ false) × Ran (length config.edges.items) (endpoints_of config) before after status)
+    ⊎ (((after.input ≡ before.input) × Holds before.out after.out []
+    × IsStartError config before.notes after.notes status)
     ⊎ IsRefusedMemory before.out after.out before.notes after.notes status)
-
--- the edges of a configuration are run
-abbrev pub RunsConfig : Config → Devices → Devices → ℕ → Type 0
-RunsConfig config = RunsEdges (length config.edges.items) (endpoints_of config)

@@ -1,9 +1,9 @@
 -- What a run of edges leaves that answers clients at a control socket meanwhile.
-use Rattle.std.specs.Prelude.{◌≡◌, ℕ, ◌⊎◌, List, [], ◌++◌, codes}
+use Rattle.std.specs.Prelude.{◌≡◌, ℕ, ◌⊎◌, [], ◌++◌, codes}
 use Rattle.ether_wire.specs.Ends.{End}
 use Rattle.ev_report.specs.Ends.{Devices, Holds}
 use Rattle.ev_report.specs.Originators.{Text}
-use Rattle.ev_config.specs.declared.endpoint.Endpoint.{Endpoint}
+use Rattle.ev_config.specs.declared.whole.Config.{Config}
 use Rattle.ev_run.specs.declared.control_socket.ListenError.{ListenError}
 use Rattle.ev_run.specs.declared.control_socket.ListenError.TheVariants as listen_error
 use Rattle.ev_run.specs.RunEdges.{RunsEdges}
@@ -30,8 +30,8 @@ pub record TellsListenError (path : Text) (notes notes' : End) (status : ℕ) : 
 
 -- The edges are run, whatever clients do; or nothing can listen at this path, and no edge began, nothing was read, and
 -- nothing but that written.
-abbrev pub ServesEdges : Text → ℕ → List (List Endpoint) → Devices → Devices → ℕ → Type 0
-ServesEdges path many sockets before after status =
-    RunsEdges many sockets before after status
+abbrev pub ServesEdges : Text → Config → Devices → Devices → ℕ → Type 0
+ServesEdges path config before after status =
+    RunsEdges config before after status
     ⊎ ((after.input ≡ before.input) × Holds before.out after.out []
     × TellsListenError path before.notes after.notes status)

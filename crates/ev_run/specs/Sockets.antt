@@ -1,12 +1,14 @@
 -- Where the sockets of a run are.
-use Rattle.std.specs.Prelude.{List, [], ◌∷◌, map}
-use Rattle.std.specs.List.{filter_map}
+use Rattle.std.specs.Prelude.{◌≡◌, ◌||◌, Bool, true, is_none, List, [], ◌∷◌, map, Contains}
+use Rattle.std.specs.List.{filter_map, flat_map, list_any}
 use Rattle.arrayvec.specs.ArrayVec.{ArrayVec}
 use Rattle.ev_edge.specs.declared.config.EdgeConfig.{EdgeConfig}
 use Rattle.ev_config.specs.declared.endpoint.Endpoint.{Endpoint}
 use Rattle.ev_config.specs.declared.endpoint.PortEndpoints.{PortEndpoints}
 use Rattle.ev_config.specs.declared.whole.Config.{Config}
 use Rattle.ev_run.specs.declared.bound.Sockets.{Sockets}
+use Rattle.ev_run.specs.declared.sockets.StartError.{StartError}
+use Rattle.ev_run.specs.declared.sockets.StartError.TheVariants.{Unbindable, Unnamed, NoMemory}
 
 -- where an edge's tunnels are (RFC 7348)
 abbrev pub tunnel_of : EdgeConfig → Endpoint
@@ -30,6 +32,28 @@ ends_from (edge ∷ edges) (links ∷ all) = edge_ends edge links ∷ ends_from 
 abbrev pub endpoints_of : Config → List (List Endpoint)
 endpoints_of config = ends_from config.edges.items config.links.items
 
+-- all of these
+abbrev pub all_ends : Config → List Endpoint
+all_ends config = flat_map (λ ends. ends) (endpoints_of config)
+
+-- a port has no address where it takes its frames, or none to which it sends them
+abbrev pub lacks_end : PortEndpoints → Bool
+lacks_end link = is_none link.local || is_none link.remote
+
+-- one of these ports is so
+abbrev pub lacks_ends : List PortEndpoints → Bool
+lacks_ends links = list_any lacks_end links
+
+-- a port of a configuration is so
+abbrev pub lacks_address : Config → Bool
+lacks_address config = list_any (λ links. lacks_ends links.items) config.links.items
+
 -- where the sockets of an edge are bound: that of its tunnels, then those of its ports
 abbrev pub bound_at : Sockets → List Endpoint
 bound_at sockets = sockets.at ∷ map (λ port. port.local) sockets.ports.items
+
+-- what hinders a run over these addresses: one of them can't be bound, a port lacks one, or there is no memory
+abbrev pub Hinders : List Endpoint → Bool → StartError → Type 0
+Hinders ends is_lacking (Unbindable at why) = Contains ends at
+Hinders ends is_lacking Unnamed = is_lacking ≡ true
+Hinders ends is_lacking NoMemory = Unit {0}

@@ -1,13 +1,13 @@
 //! Edges that carry frames: each on its address at UDP port 4789, its access ports at sockets of
 //! their own, until the input ends. What the operator is to know is told meanwhile.
-ghost use Rattle.std.specs.Prelude.{◌≡◌, ◌+◌, ◌-◌, ◌≤◌, ◌^◌, ◌||◌, min, not, nat_lt, length, map, vec_len, vec_capacity, IfOk, OnOk, OnErr};
+ghost use Rattle.std.specs.Prelude.{◌≡◌, ◌+◌, ◌-◌, ◌≤◌, ◌^◌, ◌||◌, min, not, nat_lt, length, map, vec_len, vec_capacity, IfOk, OnOk, OnErr, MatchOption};
 ghost use Rattle.std.specs.List.{list_any};
 ghost use Rattle.ether_wire.specs.Ends.{IsOpen, Allows};
 ghost use Rattle.ev_fabric.specs.Opening.{AreConfigs};
 ghost use Rattle.ev_edge.specs.Config.{IsConfig};
-ghost use Rattle.ev_report.specs.Ends.{AreOpen, devices};
-ghost use Rattle.ev_run.specs.Sockets.{bound_at, endpoints_of};
-ghost use Rattle.ev_run.specs.RunEdges.{EachConfig, ReadsOut, sends_failed, link_failed, was_out_of_memory, all_lost, system_text, noted_text, PutsRest, TellsMeanwhile, TellsRest, Ran, TellsStartError, RunsEdges};
+ghost use Rattle.ev_report.specs.Ends.{AreOpen, Holds, devices};
+ghost use Rattle.ev_run.specs.Sockets.{bound_at};
+ghost use Rattle.ev_run.specs.RunEdges.{EachConfig, ReadsOut, sends_failed, link_failed, was_out_of_memory, all_lost, system_text, noted_text, PutsRest, TellsMeanwhile, TellsRest, Ran, start_text, RunsEdges};
 
 use crate::bound::{PortSocket, Sockets, wake_all};
 use crate::clients::read_out;
@@ -347,7 +347,9 @@ fn run_bound<R: Threads + Wait + Files + Clock + Sync, E: In, W: Out, N: Out + S
 /// Tells why no edge begins, and answers the status.
 fn tell_start_error<N: Out>(start_error: StartError, notes: &mut N) -> u8
     requires { IsOpen (N.end notes.old) }
-    ensures { TellsStartError (N.end notes.old) (N.end notes.new) result }
+    ensures { MatchOption (start_text start_error)
+        ((N.end notes.new ≡ N.end notes.old) × (result ≡ 3))
+        (λ text. Holds (N.end notes.old) (N.end notes.new) text × (result ≡ 4)) }
 {
     match start_error {
         StartError::Unbindable(at, why) => {
@@ -370,7 +372,7 @@ pub(crate) fn run_asked<
     requires reader { Allows (2 ^ 40) (E.end reader.old) }
     requires out { IsOpen (W.end out.old) }
     requires notes { IsOpen (N.end notes.old) }
-    ensures { RunsEdges (length config.edges.items) (endpoints_of config)
+    ensures { RunsEdges config
         (devices (E.end reader.old) (W.end out.old) (N.end notes.old))
         (devices (E.end reader.new) (W.end out.new) (N.end notes.new)) result }
 {
@@ -393,7 +395,8 @@ pub(crate) fn run_asked<
 ///
 /// The status is the greatest that applies: 4 where a device failed, be it a reader, a writer, a
 /// link or a socket that can't be bound; 3 where memory or a thread was refused; else 0. Where a
-/// socket can't be bound no edge begins, and a line on `notes` says which address, and why.
+/// socket can't be bound no edge begins, and a line on `notes` says which address, and why. Where a
+/// port lacks an address no edge begins either, and nothing is said.
 pub fn run_edges<R: Threads + Wait + Net + Files + Clock + Sync, E: In, W: Out, N: Out + Send>(
     rt: &R,
     alloc: Global,
@@ -406,7 +409,7 @@ pub fn run_edges<R: Threads + Wait + Net + Files + Clock + Sync, E: In, W: Out, 
     requires reader { Allows (2 ^ 40) (E.end reader.old) }
     requires out { IsOpen (W.end out.old) }
     requires notes { IsOpen (N.end notes.old) }
-    ensures { RunsEdges (length config.edges.items) (endpoints_of config)
+    ensures { RunsEdges config
         (devices (E.end reader.old) (W.end out.old) (N.end notes.old))
         (devices (E.end reader.new) (W.end out.new) (N.end notes.new)) result }
 {
@@ -423,8 +426,7 @@ pub fn run_buffered<H: Threads + Wait + Net + Files + Clock + Sync, R: In, W: Ou
 ) -> (u8, Devices<R, W, N>)
     requires config { AreConfigs config.edges.items }
     requires devices { AreOpen devices }
-    ensures { RunsEdges (length config.edges.items) (endpoints_of config)
-        devices result.1 result.0 }
+    ensures { RunsEdges config devices result.1 result.0 }
 {
     let mut all = Buffers::new(devices);
     let status = run_edges(

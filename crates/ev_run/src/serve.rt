@@ -1,10 +1,9 @@
 //! Edges that carry frames as in a run, and answer clients at a control socket meanwhile.
-ghost use Rattle.std.specs.Prelude.{◌^◌, length, string_bytes};
+ghost use Rattle.std.specs.Prelude.{◌^◌, string_bytes};
 ghost use Rattle.ether_wire.specs.Ends.{IsOpen, Allows};
 ghost use Rattle.ev_fabric.specs.Opening.{AreConfigs};
 ghost use Rattle.ev_report.specs.Ends.{AreOpen, devices};
 ghost use Rattle.ev_run.specs.Serving.{TellsListenError, ServesEdges};
-ghost use Rattle.ev_run.specs.Sockets.{endpoints_of};
 
 use crate::control_socket::{ControlSocket, ListenError, put_listen_error};
 use crate::run::{Host, run_asked};
@@ -46,8 +45,7 @@ pub fn serve_edges<R: Threads + Wait + Net + Files + Clock + Sync, E: In, W: Out
     requires reader { Allows (2 ^ 40) (E.end reader.old) }
     requires out { IsOpen (W.end out.old) }
     requires notes { IsOpen (N.end notes.old) }
-    ensures { ServesEdges (string_bytes served.control) (length served.config.edges.items)
-        (endpoints_of served.config)
+    ensures { ServesEdges (string_bytes served.control) served.config
         (devices (E.end reader.old) (W.end out.old) (N.end notes.old))
         (devices (E.end reader.new) (W.end out.new) (N.end notes.new)) result }
 {
@@ -72,9 +70,7 @@ pub fn serve_buffered<H: Threads + Wait + Net + Files + Clock + Sync, R: In, W: 
 ) -> (u8, Devices<R, W, N>)
     requires config { AreConfigs served.config.edges.items }
     requires devices { AreOpen devices }
-    ensures { ServesEdges (string_bytes served.control) (length served.config.edges.items)
-        (endpoints_of served.config)
-        devices result.1 result.0 }
+    ensures { ServesEdges (string_bytes served.control) served.config devices result.1 result.0 }
 {
     let mut all = Buffers::new(devices);
     let status = serve_edges(

@@ -1,8 +1,8 @@
 //! Binds the sockets of a run, and tells which one can't be bound.
-ghost use Rattle.std.specs.Prelude.{◌≡◌, ◌≤◌, vec_len, map, Some, IfOk};
+ghost use Rattle.std.specs.Prelude.{◌≡◌, ◌≤◌, ◌∷◌, [], false, vec_len, map, Some, IfOk, IfErr};
 ghost use Rattle.ether_wire.specs.Ends.{IsOpen, Puts};
 ghost use Rattle.ev_run.specs.RunEdges.{why_text, endpoint_text, bind_error_text};
-ghost use Rattle.ev_run.specs.Sockets.{tunnel_of, locals_of, bound_at, endpoints_of};
+ghost use Rattle.ev_run.specs.Sockets.{tunnel_of, locals_of, bound_at, endpoints_of, all_ends, lacks_end, lacks_ends, lacks_address, Hinders};
 
 use crate::bound::{PortSocket, Sockets};
 use arrayvec::ArrayVec;
@@ -37,7 +37,7 @@ pub enum BindError {
 pub(crate) enum StartError {
     /// This address can't be bound.
     Unbindable(Endpoint, BindError),
-    /// A port has no address.
+    /// A port has no address where it takes its frames, or none to which it sends them.
     Unnamed,
     /// There is no memory.
     NoMemory,
@@ -107,7 +107,9 @@ pub(crate) fn tunnel_of(edge: &EdgeConfig) -> Endpoint
 }
 
 /// A socket that is bound there.
-fn bind<R: Net>(rt: &R, at: Endpoint) -> Result<UdpSocket, StartError> {
+fn bind<R: Net>(rt: &R, at: Endpoint) -> Result<UdpSocket, StartError>
+    ensures { IfErr result (λ why. Hinders (at ∷ []) false why) }
+{
     match UdpSocket::bind(rt, socket_address(at.address, at.port)) {
         Ok(socket) => Ok(socket),
         Err(error) => Err(StartError::Unbindable(at, bind_error_of(error.kind()))),
@@ -116,7 +118,9 @@ fn bind<R: Net>(rt: &R, at: Endpoint) -> Result<UdpSocket, StartError> {
 
 /// Both ends of a port's link.
 fn ends_of(link: PortEndpoints) -> Result<(Endpoint, Endpoint), StartError>
-    ensures { IfOk result (λ ends. link.local ≡ Some ends.0) }
+    ensures local { IfOk result (λ ends. link.local ≡ Some ends.0) }
+    ensures whole { IfOk result (λ ends. lacks_end link ≡ false) }
+    ensures hindered { IfErr result (λ why. Hinders [] (lacks_end link) why) }
 {
     match (link.local, link.remote) {
         (Some(local), Some(remote)) => Ok((local, remote)),
@@ -126,7 +130,8 @@ fn ends_of(link: PortEndpoints) -> Result<(Endpoint, Endpoint), StartError>
 
 /// The socket of a port with these ends.
 fn bind_port<R: Net>(rt: &R, local: Endpoint, remote: Endpoint) -> Result<PortSocket, StartError>
-    ensures { IfOk result (λ port. port.local ≡ local) }
+    ensures bound { IfOk result (λ port. port.local ≡ local) }
+    ensures hindered { IfErr result (λ why. Hinders (local ∷ []) false why) }
 {
     Ok(PortSocket {
         socket: bind(rt, local)?,
@@ -144,6 +149,9 @@ fn bind_ports<R: Net>(
     ensures few { IfOk result (λ ports. vec_len ports ≤ 64) }
     ensures bound { IfOk result
         (λ ports. map (λ port. port.local) ports.items ≡ locals_of links.now.items) }
+    ensures whole { IfOk result (λ ports. lacks_ends links.now.items ≡ false) }
+    ensures hindered { IfErr result
+        (λ why. Hinders (locals_of links.now.items) (lacks_ends links.now.items) why) }
 {
     let links = links.as_slice();
     let Ok(mut ports) = Vec::with_capacity(alloc, links.len()) else {
@@ -164,6 +172,9 @@ pub(crate) fn bind_all<R: Net>(
 ) -> Result<Vec<Sockets>, StartError>
     ensures all { IfOk result (λ all. vec_len all ≡ vec_len config.now.edges) }
     ensures bound { IfOk result (λ all. map bound_at all.items ≡ endpoints_of config.now) }
+    ensures whole { IfOk result (λ all. lacks_address config.now ≡ false) }
+    ensures hindered { IfErr result
+        (λ why. Hinders (all_ends config.now) (lacks_address config.now) why) }
 {
     let Ok(mut all) = Vec::with_capacity(alloc, config.edges.len()) else {
         return Err(StartError::NoMemory);

@@ -1,5 +1,5 @@
 -- What a configuration is used for: a script on its edges, or a run of them.
-use Rattle.std.specs.Prelude.{ℕ, length, string_bytes, Result}
+use Rattle.std.specs.Prelude.{ℕ, string_bytes, Result}
 use Rattle.ev_config.specs.declared.whole.Config.{Config}
 use Rattle.ev_config.specs.declared.whole.Served.{Served}
 use Rattle.ev_config.specs.declared.config.ConfigRefusal.{ConfigRefusal}
@@ -7,9 +7,8 @@ use Rattle.ev_report.specs.Ends.{Devices}
 use Rattle.evpnd.specs.Configured.{OfFound}
 use Rattle.ev_script.specs.declared.script.mode.Mode.{Mode}
 use Rattle.ev_script.specs.Simulation.{Simulates}
-use Rattle.ev_run.specs.RunEdges.{RunsConfig}
+use Rattle.ev_run.specs.RunEdges.{RunsEdges}
 use Rattle.ev_run.specs.Serving.{ServesEdges}
-use Rattle.ev_run.specs.Sockets.{endpoints_of}
 
 -- a script is run on the edges of a configuration
 abbrev pub SimulatesEdges : Mode → Config → Devices → Devices → ℕ → Type 0
@@ -20,11 +19,10 @@ SimulatesFound mode = OfFound (SimulatesEdges mode)
 
 -- the edges of one are run, and may be asked at its socket meanwhile
 abbrev pub ServesConfig : Served → Devices → Devices → ℕ → Type 0
-ServesConfig served =
-    ServesEdges (string_bytes served.control) (length served.config.edges.items) (endpoints_of served.config)
+ServesConfig served = ServesEdges (string_bytes served.control) served.config
 
 abbrev pub RunsFound : Result Config ConfigRefusal → Devices → Devices → ℕ → Type 0
-RunsFound = OfFound RunsConfig
+RunsFound = OfFound RunsEdges
 
 abbrev pub ServesFound : Result Served ConfigRefusal → Devices → Devices → ℕ → Type 0
 ServesFound = OfFound ServesConfig

@@ -1,20 +1,17 @@
-use Rattle.std.proofs.Common.{length}
 use Rattle.ether_wire.specs.Buffered.{buffered_end}
 use Rattle.ev_report.specs.Ends.{devices}
 use Rattle.ev_report.proofs.Finishing.{buffered}
 use Rattle.ev_run.specs.RunEdges.{RunsEdges}
-use Rattle.ev_run.specs.Sockets.{endpoints_of}
 use Rattle.ev_run.proofs.Running.{passed_runs}
 use Rattle.ev_run.proofs.run.run_buffered.Goals as goal
 
 pub returns : goal.returns
 returns g c =
     let run = c.run_edges-status in
-    let many = length c.args.config.edges.items in
-    let sockets = endpoints_of c.args.config in
+    let config = c.args.config in
     let held = devices (g.R.In.end run.new.reader) (buffered_end g.W.Out.end run.new.out)
     (buffered_end g.N.Out.end run.new.notes) in
-    buffered (RunsEdges many sockets) (passed_runs many sockets) c.args.devices _ held
+    buffered (RunsEdges config) (passed_runs config) c.args.devices _ held
     c.finish.result.1 run.result c.finish.result.0 c.new-all.result.out_failures c.new-all.result.notes_failures
     c.new-all.ensures.devices
     c.new-all.ensures.out c.new-all.ensures.notes run.ensures c.finish.ensures

@@ -1,5 +1,6 @@
 use Rattle.std.proofs.Common.{◌≡◌, ◌+◌, ◌++◌, map, length, vec_len}
-use Rattle.ev_run.specs.Sockets.{ends_from, bound_at, endpoints_of}
+use Rattle.std.specs.List.{list_any}
+use Rattle.ev_run.specs.Sockets.{ends_from, bound_at, endpoints_of, lacks_ends, lacks_address}
 use Rattle.ev_run.proofs.sockets.bind_all.Given as goal
 
 abbrev pub invariant-loop-edge : goal.invariant-loop-edge
@@ -8,4 +9,5 @@ invariant-loop-edge g l = record {
   all : vec_len l.all + length l.edge-iterator.a.rest.now ≡ vec_len l.config.edges;
   bound : map bound_at l.all.items ++ ends_from l.edge-iterator.a.rest.now l.edge-iterator.b.rest.now
       ≡ endpoints_of l.config;
+  whole : list_any (λ links. lacks_ends links.items) l.edge-iterator.b.rest.now ≡ lacks_address l.config;
 }
