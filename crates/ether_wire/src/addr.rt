@@ -1,7 +1,7 @@
 //! MAC addresses, network identifiers and IPv4 addresses: numbers that are seen as such.
 ghost use Rattle.std.specs.Prelude.{◌≡◌, ℕ, ◌+◌, ◌<◌, ◌^◌, ◌↔◌, IsTrue, Some, ◌≤◌, length};
 ghost use Rattle.byteorder.specs.Endian.{big_number, big_bytes};
-ghost use Rattle.ether_wire.specs.Addr.{mac_text, addr_text, is_group, is_reserved};
+ghost use Rattle.ether_wire.specs.Addr.{mac_text, addr_text, is_group, is_reserved, bridge_group};
 
 use byteorder::{BigEndian, ByteOrder};
 use std::fmt;
@@ -76,8 +76,8 @@ impl Mac {
 
     /// The Bridge Group Address 01-80-C2-00-00-00, which BPDUs are sent to (IEEE 802.1D-2004,
     /// section 7.12).
-    pub(crate) fn bridge_group() -> Self
-        ensures { result ≡ 0x0180_c200_0000 }
+    pub fn bridge_group() -> Self
+        ensures { result ≡ bridge_group }
     {
         Mac {
             number: 0x0180_c200_0000,

@@ -13,6 +13,9 @@ ghost use Rattle.ether_wire.specs.BpduFrame.{bpdu_header, bpdu_frame_of};
 
 use crate::addr::Mac;
 
+/// The LLC header in front of a BPDU (IEEE 802.1D-2004, section 9.2).
+pub const BPDU_LLC: [u8; 3] = [0x42, 0x42, 0x03];
+
 /// What stands in front of a BPDU of this size.
 fn header(source: Mac, size: u8) -> [u8; 17]
     requires { size ≤ 43 }
@@ -20,6 +23,7 @@ fn header(source: Mac, size: u8) -> [u8; 17]
 {
     let [d1, d2, d3, d4, d5, d6] = Mac::bridge_group().octets();
     let [s1, s2, s3, s4, s5, s6] = source.octets();
+    let [l1, l2, l3] = BPDU_LLC;
     [
         d1,
         d2,
@@ -35,9 +39,9 @@ fn header(source: Mac, size: u8) -> [u8; 17]
         s6,
         0,
         3 + size,
-        0x42,
-        0x42,
-        0x03,
+        l1,
+        l2,
+        l3,
     ]
 }
 

@@ -81,8 +81,8 @@ fn read_octet(text: &[u8]) -> Option<u8>
     Some(number as u8)
 }
 
-/// The value of a lower case hexadecimal digit.
-fn hex_value(octet: u8) -> Option<u8>
+/// The value of a lower case hexadecimal digit, none of another octet.
+pub fn hex_value(octet: u8) -> Option<u8>
     ensures value { result ≡ hex_value octet }
     ensures small { IfSome result (λ value. value < 16) }
 {
