@@ -1,9 +1,8 @@
 -- A table's updates, and those of an address: what is in them, and where groups keep them.
-use Rattle.std.proofs.Common.{◌≡◌, ◌≢◌, ℕ, zero, suc, ◌<◌, Bool, true, false, cond, Option, Some, None, List, [], ◌∷◌}
-use Rattle.std.proofs.Common.{◌++◌, map, length, Contains, append-nil, refl, sym, ap, ◌∙◌, arith}
+use Rattle.std.proofs.Common.{◌≡◌, ℕ, zero, suc, ◌<◌, Bool, true, false, cond, Option, Some, None, List, [], ◌∷◌}
+use Rattle.std.proofs.Common.{◌++◌, map, length, Contains, refl, sym, ap, ◌∙◌, arith}
 use Rattle.std.specs.Prelude.{slice_get, slice_index_or}
-use Rattle.std.specs.declared.cmp.Ordering.TheVariants.{Less, Equal, Greater}
-use Rattle.std.specs.Ordering.{eq_by_cmp}
+use Rattle.std.specs.Ordering.{is_eq, eq_by_cmp}
 use Rattle.std.proofs.lemmas.List.Elements.{filter-append}
 use Rattle.std.specs.FinMap.{entries, entries_sorted, get-entries}
 use Rattle.std.specs.FinMap.Entries.{find, is_sorted, is_sorted-where_key, find-where_key}
@@ -12,17 +11,18 @@ use Rattle.route_wire.specs.declared.update.Value.{Value}
 use Rattle.route_wire.specs.Fields.{Fields}
 use Rattle.route_wire.specs.Order.{register_cmp}
 use Rattle.route_wire.specs.Totals.{register_exact}
-use Rattle.route_join.specs.Subject.{Subject, subject_cmp}
+use Rattle.route_join.specs.Subject.{subject_of}
 use Rattle.route_join.specs.Table.{Table, value_at, table_from, entries_of, IsOrdered}
 use Rattle.route_join.specs.Owner.{is_about}
-use Rattle.route_join.specs.Group.{AreAbout, AreGroups, IsBefore, IsGrouped, updates_in}
+use Rattle.route_join.specs.Group.{AreAbout, AreGroups, IsGrouped, updates_in}
 use Rattle.route_join.specs.Updates.{update_from, about, all_updates, updates_of, AreAllUpdates, AreUpdatesOf}
 use Rattle.route_join.proofs.Orders.{from_T}
 use Rattle.route_join.proofs.Tables.{same_register}
 use Rattle.route_join.proofs.Edits.{listed_as}
 use Rattle.route_join.proofs.Merging.{find_at, updates_back}
 use Rattle.route_join.proofs.Groupings.{Groups, Entries, entries_in, entries_in_all, about_there as group_about}
-use Rattle.route_join.proofs.Groupings.{before_rest, same_rest, not_before, first_is, later_is, not_first}
+use Rattle.route_join.proofs.Groupings.{AllAre, entries_if, made_there}
+use Rattle.std.specs.declared.cmp.Ordering.{Ordering}
 use Rattle.route_join.specs.Groups.{group_at}
 use Rattle.route_join.proofs.Holding.{differs}
 use Rattle.route_join.proofs.Subjects.{address, about_address, about_itself}
@@ -112,60 +112,20 @@ module _ (vni mac : ℕ) where
   all_about (e ∷ es) k = ap (λ b. cond b (e ∷ about vni mac es) (about vni mac es)) (about_itself vni mac e.0.key k.0)
       ∙ ap (λ x. e ∷ x) (all_about es k.1)
 
-  none_about : (s : Subject) (es : Entries) → AreAbout s es → s ≢ address vni mac → about vni mac es ≡ []
-  none_about s [] k ne = refl
-  none_about s (e ∷ es) k ne = go (is_about vni mac e.0.key) refl ∙ none_about s es k.1 ne
+  none_about : (o : Ordering) (es : Entries) → is_eq o ≡ false → AllAre (address vni mac) o es → about vni mac es ≡ []
+  none_about o [] n k = refl
+  none_about o (e ∷ es) n k = go (is_about vni mac e.0.key) refl ∙ none_about o es n k.1
     where
       go : (b : Bool) → is_about vni mac e.0.key ≡ b → about vni mac (e ∷ es) ≡ about vni mac es
-      go true t = absurd (ne (sym k.0 ∙ about_address vni mac e.0.key t))
+      go true t = absurd (differs (address vni mac) (subject_of e.0.key) o k.0 n (about_address vni mac e.0.key t))
       go false t = ap (λ b. cond b (e ∷ about vni mac es) (about vni mac es)) t
 
   append_about : (es fs : Entries) → about vni mac (es ++ fs) ≡ about vni mac es ++ about vni mac fs
   append_about es fs = filter-append (λ (e : Register × Value). is_about vni mac e.0.key) es fs
 
-  later_about : (gs : Groups) → AreGroups gs → IsBefore (address vni mac) gs → about vni mac (entries_in gs) ≡ []
-  later_about [] k b = refl
-  later_about (g ∷ gs) k b =
-      append_about (entries_of g.1) (entries_in gs)
-      ∙ ap (λ x. x ++ about vni mac (entries_in gs)) (none_about g.0 (entries_of g.1) k.0
-      (differs (address vni mac) g.0 Less b.0 refl))
-      ∙ later_about gs k.3 b.1
-
-  about_there : (gs : Groups) (us : List Fields) → AreGroups gs → group_at (address vni mac) gs ≡ Some us
-      → about vni mac (entries_in gs) ≡ entries_of us
-  about_there [] us k h = cc
-  about_there (g ∷ gs) us k h =
-      let s : Subject = address vni mac in
-      elim (subject_cmp s g.0) as (λ o. subject_cmp s g.0 ≡ o
-      → about vni mac (entries_of g.1 ++ entries_in gs) ≡ entries_of us) [
-        | Less ↦ λ e. absurd (not_before s g gs k us h e)
-        | Equal ↦ λ e. append_about (entries_of g.1) (entries_in gs)
-            ∙ ap (λ x. about vni mac (entries_of g.1) ++ x) (later_about gs k.3 (same_rest s g gs k e))
-            ∙ append-nil (about vni mac (entries_of g.1))
-            ∙ ap (λ x. about vni mac (entries_of x)) (first_is s g gs k us h e)
-            ∙ all_about (entries_of us) (in_group e)
-        | Greater ↦ λ e. append_about (entries_of g.1) (entries_in gs)
-            ∙ ap (λ x. x ++ about vni mac (entries_in gs))
-            (none_about g.0 (entries_of g.1) k.0 (differs s g.0 Greater e refl))
-            ∙ about_there gs us k.3 (later_is s g gs k (Some us) h e)
-      ] refl
-    where
-      in_group : subject_cmp (address vni mac) g.0 ≡ Equal → AreAbout (address vni mac) (entries_of us)
-      in_group e = group_about (address vni mac) (g ∷ gs) us k h
-
-  about_nowhere : (gs : Groups) → AreGroups gs → group_at (address vni mac) gs ≡ None
-      → about vni mac (entries_in gs) ≡ []
-  about_nowhere [] k h = refl
-  about_nowhere (g ∷ gs) k h =
-      let s : Subject = address vni mac in
-      elim (subject_cmp s g.0) as (λ o. subject_cmp s g.0 ≡ o → about vni mac (entries_of g.1 ++ entries_in gs) ≡ []) [
-        | Less ↦ λ e. later_about (g ∷ gs) k (e, before_rest s g gs k e)
-        | Equal ↦ λ e. absurd (not_first s g gs k h e)
-        | Greater ↦ λ e. append_about (entries_of g.1) (entries_in gs)
-            ∙ ap (λ x. x ++ about vni mac (entries_in gs))
-            (none_about g.0 (entries_of g.1) k.0 (differs s g.0 Greater e refl))
-            ∙ about_nowhere gs k.3 (later_is s g gs k None h e)
-      ] refl
+  about_there : (gs : Groups) (o : Option (List Fields)) → AreGroups gs → group_at (address vni mac) gs ≡ o
+      → about vni mac (entries_in gs) ≡ about vni mac (entries_if o)
+  about_there = made_there (about vni mac) append_about (address vni mac) none_about
 
 module _ (os : List ℕ) (gs : Groups) (k : IsGrouped os gs) where
   entries_are : entries (table_from os (updates_in gs)).registers ≡ entries_in gs
@@ -178,9 +138,10 @@ module _ (os : List ℕ) (gs : Groups) (k : IsGrouped os gs) where
   module _ (vni mac : ℕ) where
     pub updates_there : (us : List Fields) → group_at (address vni mac) gs ≡ Some us
         → us ≡ updates_of (table_from os (updates_in gs)) vni mac
-    updates_there us h = sym (updates_back us) ∙ ap (map update_from) (sym (about_there vni mac gs us k.groups h)
+    updates_there us h = sym (updates_back us) ∙ ap (map update_from) (sym (about_there vni mac gs (Some us) k.groups h
+        ∙ all_about vni mac (entries_of us) (group_about (address vni mac) gs us k.groups h))
         ∙ ap (about vni mac) (sym entries_are))
 
     pub updates_nowhere : group_at (address vni mac) gs ≡ None → [] ≡ updates_of (table_from os (updates_in gs)) vni mac
-    updates_nowhere h = ap (map update_from) (sym (about_nowhere vni mac gs k.groups h)
+    updates_nowhere h = ap (map update_from) (sym (about_there vni mac gs None k.groups h)
         ∙ ap (about vni mac) (sym entries_are))

@@ -1,6 +1,6 @@
 -- What a table makes of an edit of its updates.
 use Rattle.std.proofs.Common.{◌≡◌, Some, inl, inr, ℕ, Bool, true, false, cond, List, [], length, eqb, ◌↔◌, Result, Ok}
-use Rattle.std.proofs.Common.{Err, refl, sym, ap, subst, ◌∙◌}
+use Rattle.std.proofs.Common.{Err, None, get_or, refl, sym, ap, subst, ◌∙◌}
 use Rattle.std.specs.List.{list_any}
 use Rattle.std.specs.FinMap as map
 use Rattle.std.specs.FinMap.Entries.{put, find, is_sorted, is_sorted-put}
@@ -82,6 +82,16 @@ found_at us ds q r at d e h = placed us q at (ap (λ x. place_of x q) (sym d) �
 pub gap_at : (us ds : List Fields) (q r : Register) (at : ℕ) → IsOrdered us → ds ≡ us → r ≡ q → Err at ≡ place_of ds r
     → IsGap us q at
 gap_at us ds q r at s d e h = gapped us q at s (ap (λ x. place_of x q) (sym d) ∙ ap (place_of ds) (sym e) ∙ sym h)
+
+-- the same of a group that is seen as `now`
+module _ (us ds now : List Fields) (view : us ≡ now) (q r : Register) (at : ℕ) (d : ds ≡ us) (e : r ≡ q) where
+  pub told_at : (v : Fields) → Ok at ≡ place_of ds r → v ≡ get_or us at v
+      → find register_cmp q (entries_of now) ≡ Some v.value
+  told_at v h is = ap (λ xs. find register_cmp q (entries_of xs)) (sym view) ∙ (found_at us ds q r at d e h).value v
+      ∙ ap (λ (x : Fields). Some x.value) (sym is)
+
+  pub new_at : IsOrdered us → Err at ≡ place_of ds r → find register_cmp q (entries_of now) ≡ None
+  new_at s h = ap (λ xs. find register_cmp q (entries_of xs)) (sym view) ∙ (gap_at us ds q r at s d e h).value
 
 pub inserted : (new x y : List Fields) (b : Bool) → new ≡ cond b x y → b ≡ true → new ≡ x
 inserted new x y b e t = e ∙ ap (λ z. cond z x y) t

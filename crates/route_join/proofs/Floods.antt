@@ -8,7 +8,7 @@ use Rattle.std.specs.declared.cmp.Ordering.TheVariants.{Less, Equal, Greater}
 use Rattle.std.specs.Ordering.{nat_cmp, ordering_then, eq_by_cmp, is_lt}
 use Rattle.std.specs.List.{AllByRecursion, IsDistinct, list_any}
 use Rattle.std.specs.List.Sorted.{IsStrictlySortedBy}
-use Rattle.std.specs.Cmp.{IsEquivalence, tied_itself, nat_cmp_total}
+use Rattle.std.specs.Cmp.{tied_itself, nat_cmp_total}
 use Rattle.std.specs.Set.{is_member}
 use Rattle.std.proofs.lemmas.Map.Keys.{IsDistinct-from_apart, below_from_sorted, IsStrictlyIncreasing-from_sorted}
 use Rattle.std.proofs.lemmas.Map.Made.{length-le_from_is_member, is_member-Decides}
@@ -16,6 +16,7 @@ use Rattle.std.proofs.lemmas.Bool.{eq-eqb, eqb-true}
 use Rattle.std.proofs.lemmas.Bool.Decides.{Decides-eqb}
 use Rattle.std.specs.FinMap.{entries, entries_sorted}
 use Rattle.std.specs.FinMap.Entries.{find, is_sorted, below_all}
+use Rattle.ether_wire.proofs.DistinctNumbers.{eqb_equiv}
 use Rattle.route_wire.specs.declared.update.Key.{Key}
 use Rattle.route_wire.specs.declared.update.Key.TheVariants.{Flood, Mac}
 use Rattle.route_wire.specs.declared.update.Register.{Register}
@@ -92,13 +93,6 @@ apart x y ne = go (eqb x y) refl
     go true e = absurd (ne (eqb-true x y e))
     go false e = e
 
-eqb_symm : (x y : ℕ) → eqb x y ≡ eqb y x
-eqb_symm x y = go (eqb x y) refl
-  where
-    go : (b : Bool) → eqb x y ≡ b → eqb x y ≡ eqb y x
-    go true e = e ∙ sym (eq-eqb y x (sym (eqb-true x y e)))
-    go false e = e ∙ sym (apart y x (λ same. let t = eq-eqb x y (sym same) in cc))
-
 -- an originator is on the walk's list exactly where it advertises
 member : (vni o : ℕ) (es : List (Register × Value)) → is_sorted register_cmp es ≡ true
     → is_member eqb (flooding vni es) o ≡ is_some (in_list es (register_of o (Flood vni)))
@@ -156,13 +150,6 @@ member vni o (e ∷ es) s = let parts = both (below_all register_cmp e.0 es) (is
         ]
 
 -- ---- at most one a listed originator
-eqb_equiv : IsEquivalence eqb
-eqb_equiv = record {
-  refl = λ x. eq-eqb x x refl;
-  symm = eqb_symm;
-  congr = λ x y z e. ap (λ k. eqb k z) (eqb-true x y e);
-}
-
 distinct : (xs : List ℕ) → IsStrictlySortedBy nat_cmp xs → IsDistinct eqb xs
 distinct xs s = IsDistinct-from_apart eqb xs (λ i j d a b. let l = below_from_sorted xs i j d s a b in
     apart _ _ (λ e. omega (arith, e, l)))
@@ -181,7 +168,8 @@ module _ (t : Table) (vni : ℕ) where
       go : (v : Option Value) → value_at t (register_of o (Flood vni)) ≡ v → is_some (advert_of v) ≡ true
           → is_member eqb t.originators o ≡ true
       go None e n = cc
-      go (Some v) e n = ap (λ p. list_any p t.originators) (λ i x. eqb_symm o x i) ∙ h (register_of o (Flood vni)) v e
+      go (Some v) e n = ap (λ p. list_any p t.originators) (λ i x. eqb_equiv.symm o x i)
+          ∙ h (register_of o (Flood vni)) v e
 
   -- the list is no longer than that of the originators
   pub flood_fits : AreOriginators t.originators → IsListed t → length (flood_of t vni) ≤ 64

@@ -1,6 +1,7 @@
 -- Groups one after another: a look-up in all of them is one in the register's group, and so is an edit.
 use Rattle.std.proofs.Common.{◌≡◌, true, false, cond, Option, Some, None, List, [], ◌∷◌, ◌++◌, refl, sym, ap, subst}
-use Rattle.std.proofs.Common.{◌∙◌}
+use Rattle.std.proofs.Common.{◌∙◌, append_assoc, append-nil}
+use Rattle.std.specs.Prelude.{IfSome}
 use Rattle.std.specs.declared.cmp.Ordering.{Ordering}
 use Rattle.std.specs.declared.cmp.Ordering.TheVariants.{Less, Equal, Greater}
 use Rattle.std.specs.Ordering.{is_eq, ordering_reverse, eq_by_cmp, match_ordering}
@@ -35,36 +36,23 @@ entries_in_all [] = refl
 entries_in_all (g ∷ gs) = map-append (λ (u : Fields). (u.register, u.value)) g.1 (updates_in gs)
     ∙ ap (λ es. entries_of g.1 ++ es) (entries_in_all gs)
 
--- ---- one register against many
-abbrev AllAre : Register → Ordering → Entries → Type 0
-AllAre r o [] = Unit {0}
-AllAre r o (e ∷ es) = (register_cmp r e.0 ≡ o) × AllAre r o es
+-- ---- one subject against many registers
+abbrev pub AllAre : Subject → Ordering → Entries → Type 0
+AllAre s o [] = Unit {0}
+AllAre s o (e ∷ es) = (subject_cmp s (subject_of e.0.key) ≡ o) × AllAre s o es
 
-all_append : (r : Register) (o : Ordering) (es fs : Entries) → AllAre r o es → AllAre r o fs → AllAre r o (es ++ fs)
-all_append r o [] fs h k = k
-all_append r o (e ∷ es) fs h k = (h.0, all_append r o es fs h.1 k)
+all_append : (s : Subject) (o : Ordering) (es fs : Entries) → AllAre s o es → AllAre s o fs → AllAre s o (es ++ fs)
+all_append s o [] fs h k = k
+all_append s o (e ∷ es) fs h k = (h.0, all_append s o es fs h.1 k)
 
-about_less : (s : Subject) (r : Register) (es : Entries) → AreAbout s es → subject_cmp (subject_of r.key) s ≡ Less
-    → AllAre r Less es
-about_less s r [] h l = tt
-about_less s r (e ∷ es) h l = (
-  less_by_subject r e.0 (ap (subject_cmp (subject_of r.key)) h.0 ∙ l),
-  about_less s r es h.1 l,
-)
+about_all : (s t : Subject) (o : Ordering) (es : Entries) → AreAbout t es → subject_cmp s t ≡ o → AllAre s o es
+about_all s t o [] k h = tt
+about_all s t o (e ∷ es) k h = (ap (subject_cmp s) k.0 ∙ h, about_all s t o es k.1 h)
 
-about_greater : (s : Subject) (r : Register) (es : Entries) → AreAbout s es → subject_cmp (subject_of r.key) s ≡ Greater
-    → AllAre r Greater es
-about_greater s r [] h l = tt
-about_greater s r (e ∷ es) h l = (
-  greater_by_subject r e.0 (ap (subject_cmp (subject_of r.key)) h.0 ∙ l),
-  about_greater s r es h.1 l,
-)
-
-before_less : (r : Register) (gs : Groups) → IsBefore (subject_of r.key) gs → AreGroups gs
-    → AllAre r Less (entries_in gs)
-before_less r [] b k = tt
-before_less r (g ∷ gs) b k = all_append r Less (entries_of g.1) (entries_in gs)
-    (about_less g.0 r (entries_of g.1) k.0 b.0) (before_less r gs b.1 k.3)
+before_all : (s : Subject) (gs : Groups) → IsBefore s gs → AreGroups gs → AllAre s Less (entries_in gs)
+before_all s [] b k = tt
+before_all s (g ∷ gs) b k = all_append s Less (entries_of g.1) (entries_in gs)
+    (about_all s g.0 Less (entries_of g.1) k.0 b.0) (before_all s gs b.1 k.3)
 
 before_later : (s t : Subject) (gs : Groups) → subject_cmp s t ≡ Less → IsBefore t gs → IsBefore s gs
 before_later s t [] l b = tt
@@ -72,25 +60,31 @@ before_later s t (g ∷ gs) l b = (subject_total.trans s t g.0 l b.0, before_lat
 
 -- ---- edits and look-ups beside other entries
 module _ (r : Register) where
-  find_none : (es : Entries) → AllAre r Less es → find register_cmp r es ≡ None
+  find_none : (es : Entries) → AllAre (subject_of r.key) Less es → find register_cmp r es ≡ None
   find_none [] h = refl
-  find_none (e ∷ es) h = ap (λ o. cond (is_eq o) (Some e.1) (find register_cmp r es)) h.0 ∙ find_none es h.1
+  find_none (e ∷ es) h = ap (λ o. cond (is_eq o) (Some e.1) (find register_cmp r es)) (less_by_subject r e.0 h.0)
+      ∙ find_none es h.1
 
-  find_before : (es fs : Entries) → AllAre r Less fs → find register_cmp r (es ++ fs) ≡ find register_cmp r es
+  find_before : (es fs : Entries) → AllAre (subject_of r.key) Less fs → find register_cmp r (es ++ fs)
+      ≡ find register_cmp r es
   find_before [] fs h = find_none fs h
   find_before (e ∷ es) fs h = ap (cond (eq_by_cmp register_cmp r e.0) (Some e.1)) (find_before es fs h)
 
-  find_after : (es fs : Entries) → AllAre r Greater es → find register_cmp r (es ++ fs) ≡ find register_cmp r fs
+  find_after : (es fs : Entries) → AllAre (subject_of r.key) Greater es → find register_cmp r (es ++ fs)
+      ≡ find register_cmp r fs
   find_after [] fs h = refl
-  find_after (e ∷ es) fs h = ap (λ o. cond (is_eq o) (Some e.1) (find register_cmp r (es ++ fs))) h.0
+  find_after (e ∷ es) fs h = ap (λ o. cond (is_eq o) (Some e.1) (find register_cmp r (es ++ fs)))
+      (greater_by_subject r e.0 h.0)
       ∙ find_after es fs h.1
 
 module _ (r : Register) (v : Value) where
-  put_first : (es : Entries) → AllAre r Less es → put register_cmp r v es ≡ (r, v) ∷ es
+  put_first : (es : Entries) → AllAre (subject_of r.key) Less es → put register_cmp r v es ≡ (r, v) ∷ es
   put_first [] h = refl
-  put_first (e ∷ es) h = ap (λ o. by_order o ((r, v) ∷ e ∷ es) ((e.0, v) ∷ es) (e ∷ put register_cmp r v es)) h.0
+  put_first (e ∷ es) h = ap (λ o. by_order o ((r, v) ∷ e ∷ es) ((e.0, v) ∷ es) (e ∷ put register_cmp r v es))
+      (less_by_subject r e.0 h.0)
 
-  put_before : (es fs : Entries) → AllAre r Less fs → put register_cmp r v (es ++ fs) ≡ put register_cmp r v es ++ fs
+  put_before : (es fs : Entries) → AllAre (subject_of r.key) Less fs → put register_cmp r v (es ++ fs)
+      ≡ put register_cmp r v es ++ fs
   put_before [] fs h = put_first fs h
   put_before (e ∷ es) fs h =
       elim (register_cmp r e.0) as (λ o. by_order o ((r, v) ∷ e ∷ es ++ fs) ((e.0, v) ∷ es ++ fs)
@@ -101,10 +95,12 @@ module _ (r : Register) (v : Value) where
         | Greater ↦ ap (λ x. e ∷ x) (put_before es fs h)
       ]
 
-  put_after : (es fs : Entries) → AllAre r Greater es → put register_cmp r v (es ++ fs) ≡ es ++ put register_cmp r v fs
+  put_after : (es fs : Entries) → AllAre (subject_of r.key) Greater es → put register_cmp r v (es ++ fs)
+      ≡ es ++ put register_cmp r v fs
   put_after [] fs h = refl
   put_after (e ∷ es) fs h =
-      ap (λ o. by_order o ((r, v) ∷ e ∷ es ++ fs) ((e.0, v) ∷ es ++ fs) (e ∷ put register_cmp r v (es ++ fs))) h.0
+      ap (λ o. by_order o ((r, v) ∷ e ∷ es ++ fs) ((e.0, v) ∷ es ++ fs) (e ∷ put register_cmp r v (es ++ fs)))
+      (greater_by_subject r e.0 h.0)
       ∙ ap (λ x. e ∷ x) (put_after es fs h.1)
 
 -- ---- the group of a subject
@@ -112,129 +108,134 @@ group_none : (s : Subject) (gs : Groups) → IsBefore s gs → group_at s gs ≡
 group_none s [] b = refl
 group_none s (g ∷ gs) b = ap (λ o. cond (is_eq o) (Some g.1) (group_at s gs)) b.0 ∙ group_none s gs b.1
 
--- of the first group and the others, the one that the subject is in
+-- the entries of a group, if there is one
+abbrev pub entries_if : Option (List Fields) → Entries
+entries_if None = []
+entries_if (Some us) = entries_of us
+
+-- groups in which the subject's group, if there is one, is another one now, or else a new one
+abbrev pub edited : Option (List Fields) → Subject → Groups → List Fields → Groups
+edited None s gs new = insert_entry subject_cmp gs s new
+edited (Some us) s gs new = set_value (is_at (subject_cmp s)) gs new
+
+-- the entries of groups are those of a subject between those of lower and of higher ones
+pub record IsAround (s : Subject) (gs : Groups) (o : Option (List Fields)) : Type 0 where
+  pub lower : Entries
+  pub higher : Entries
+  pub below : AllAre s Greater lower
+  pub above : AllAre s Less higher
+  pub all : entries_in gs ≡ lower ++ (entries_if o ++ higher)
+  pub written : (new : List Fields) → entries_in (edited o s gs new) ≡ lower ++ (entries_of new ++ higher)
+  pub kept : IfSome o (λ us. AreAbout s (entries_of us) × IsSome (entries_of us))
+
 module _ (s : Subject) (g : Subject × List Fields) (gs : Groups) (k : AreGroups (g ∷ gs)) where
-  pub before_rest : subject_cmp s g.0 ≡ Less → IsBefore s gs
-  before_rest h = before_later s g.0 gs h k.2
+  around_later : subject_cmp s g.0 ≡ Greater → (o : Option (List Fields)) → IsAround s gs o → IsAround s (g ∷ gs) o
+  around_later e o a = record {
+    lower = entries_of g.1 ++ a.lower;
+    higher = a.higher;
+    below = all_append s Greater (entries_of g.1) a.lower (about_all s g.0 Greater (entries_of g.1) k.0 e) a.below;
+    above = a.above;
+    all = ap (λ es. entries_of g.1 ++ es) a.all
+        ∙ sym (append_assoc (entries_of g.1) a.lower (entries_if o ++ a.higher));
+    written = λ new. passed o new ∙ ap (λ es. entries_of g.1 ++ es) (a.written new)
+        ∙ sym (append_assoc (entries_of g.1) a.lower (entries_of new ++ a.higher));
+    kept = a.kept;
+  }
+    where
+      passed : (o : Option (List Fields)) (new : List Fields) → entries_in (edited o s (g ∷ gs) new)
+          ≡ entries_of g.1 ++ entries_in (edited o s gs new)
+      passed None new = ap (λ x. entries_in (match_ordering x ((s, new) ∷ g ∷ gs) ((g.0, new) ∷ gs)
+          (g ∷ insert_entry subject_cmp gs s new))) e
+      passed (Some us) new = ap (λ x. entries_in (cond (is_eq x) ((g.0, new) ∷ gs)
+          (g ∷ set_value (is_at (subject_cmp s)) gs new))) e
 
-  pub same_rest : subject_cmp s g.0 ≡ Equal → IsBefore s gs
-  same_rest h = subst (λ x. IsBefore x gs) (sym (subject_exact s g.0 h)) k.2
+  around_first : subject_cmp s g.0 ≡ Equal → IsAround s (g ∷ gs) (Some g.1)
+  around_first e = record {
+    lower = [];
+    higher = entries_in gs;
+    below = tt;
+    above = before_all s gs (subst (λ x. IsBefore x gs) (sym (subject_exact s g.0 e)) k.2) k.3;
+    all = refl;
+    written = λ new. ap (λ x. entries_in (cond (is_eq x) ((g.0, new) ∷ gs)
+        (g ∷ set_value (is_at (subject_cmp s)) gs new))) e;
+    kept = (subst (λ x. AreAbout x (entries_of g.1)) (sym (subject_exact s g.0 e)) k.0, k.1);
+  }
 
-  pub not_before : (us : List Fields) → group_at s (g ∷ gs) ≡ Some us → subject_cmp s g.0 ≡ Less → ⊥
-  not_before us h l = let n = sym (ap (λ o. cond (is_eq o) (Some g.1) (group_at s gs)) l
-      ∙ group_none s gs (before_rest l)) ∙ h in cc
+  around_none : subject_cmp s g.0 ≡ Less → IsAround s (g ∷ gs) None
+  around_none e = record {
+    lower = [];
+    higher = entries_in (g ∷ gs);
+    below = tt;
+    above = before_all s (g ∷ gs) (e, before_later s g.0 gs e k.2) k;
+    all = refl;
+    written = λ new. ap (λ x. entries_in (match_ordering x ((s, new) ∷ g ∷ gs) ((g.0, new) ∷ gs)
+        (g ∷ insert_entry subject_cmp gs s new))) e;
+    kept = tt;
+  }
 
-  pub first_is : (us : List Fields) → group_at s (g ∷ gs) ≡ Some us → subject_cmp s g.0 ≡ Equal → g.1 ≡ us
-  first_is us h e = let n = sym (ap (λ o. cond (is_eq o) (Some g.1) (group_at s gs)) e) ∙ h in cc
-
-  pub later_is : (o : Option (List Fields)) → group_at s (g ∷ gs) ≡ o → subject_cmp s g.0 ≡ Greater → group_at s gs ≡ o
-  later_is o h e = sym (ap (λ x. cond (is_eq x) (Some g.1) (group_at s gs)) e) ∙ h
-
-  pub not_first : group_at s (g ∷ gs) ≡ None → subject_cmp s g.0 ≡ Equal → ⊥
-  not_first h e = let n = sym (ap (λ o. cond (is_eq o) (Some g.1) (group_at s gs)) e) ∙ h in cc
+pub around : (s : Subject) (gs : Groups) → AreGroups gs → (o : Option (List Fields)) → group_at s gs ≡ o
+    → IsAround s gs o
+around s [] k None h = record {
+  lower = [];
+  higher = [];
+  below = tt;
+  above = tt;
+  all = refl;
+  written = λ new. refl;
+  kept = tt;
+}
+around s [] k (Some us) h = cc
+around s (g ∷ gs) k o h =
+    elim (subject_cmp s g.0) as (λ x. subject_cmp s g.0 ≡ x → cond (is_eq x) (Some g.1) (group_at s gs) ≡ o
+    → IsAround s (g ∷ gs) o) [
+      | Less ↦ λ e p. subst (IsAround s (g ∷ gs)) (sym (group_none s gs (before_later s g.0 gs e k.2)) ∙ p)
+          (around_none s g gs k e)
+      | Equal ↦ λ e p. subst (IsAround s (g ∷ gs)) p (around_first s g gs k e)
+      | Greater ↦ λ e p. around_later s g gs k e o (around s gs k.3 o p)
+    ] refl h
 
 pub about_there : (s : Subject) (gs : Groups) (us : List Fields) → AreGroups gs → group_at s gs ≡ Some us
     → AreAbout s (entries_of us)
-about_there s [] us k h = cc
-about_there s (g ∷ gs) us k h =
-    elim (subject_cmp s g.0) as (λ o. subject_cmp s g.0 ≡ o → AreAbout s (entries_of us)) [
-      | Less ↦ λ e. absurd (not_before s g gs k us h e)
-      | Equal ↦ λ e. subst (λ x. AreAbout s (entries_of x)) (first_is s g gs k us h e)
-          (subst (λ x. AreAbout x (entries_of g.1)) (sym (subject_exact s g.0 e)) k.0)
-      | Greater ↦ λ e. about_there s gs us k.3 (later_is s g gs k (Some us) h e)
-    ] refl
+about_there s gs us k h = (around s gs k (Some us) h).kept.0
 
 pub some_there : (s : Subject) (gs : Groups) (us : List Fields) → AreGroups gs → group_at s gs ≡ Some us
     → IsSome (entries_of us)
-some_there s [] us k h = cc
-some_there s (g ∷ gs) us k h =
-    elim (subject_cmp s g.0) as (λ o. subject_cmp s g.0 ≡ o → IsSome (entries_of us)) [
-      | Less ↦ λ e. absurd (not_before s g gs k us h e)
-      | Equal ↦ λ e. subst (λ x. IsSome (entries_of x)) (first_is s g gs k us h e) k.1
-      | Greater ↦ λ e. some_there s gs us k.3 (later_is s g gs k (Some us) h e)
-    ] refl
+some_there s gs us k h = (around s gs k (Some us) h).kept.1
+
+-- what is made of entries one after another, and nothing of those of other subjects, is made of the subject's group
+pub made_there : {X : Type 0} (f : Entries → List X) → ((es fs : Entries) → f (es ++ fs) ≡ f es ++ f fs)
+    → (s : Subject) → ((o : Ordering) (es : Entries) → is_eq o ≡ false → AllAre s o es → f es ≡ [])
+    → (gs : Groups) (o : Option (List Fields)) → AreGroups gs → group_at s gs ≡ o → f (entries_in gs) ≡ f (entries_if o)
+made_there f append s none gs o k h =
+    let a = around s gs k o h in
+    ap f a.all ∙ append a.lower (entries_if o ++ a.higher)
+    ∙ ap (λ x. x ++ f (entries_if o ++ a.higher)) (none Greater a.lower refl a.below)
+    ∙ append (entries_if o) a.higher ∙ ap (λ x. f (entries_if o) ++ x) (none Less a.higher refl a.above)
+    ∙ append-nil (f (entries_if o))
 
 -- a look-up in all groups is one in the register's group
-pub find_there : (r : Register) (gs : Groups) (us : List Fields) → AreGroups gs
-    → group_at (subject_of r.key) gs ≡ Some us → find register_cmp r (entries_in gs)
-    ≡ find register_cmp r (entries_of us)
-find_there r [] us k h = cc
-find_there r (g ∷ gs) us k h =
-    let s = subject_of r.key in
-    elim (subject_cmp s g.0) as (λ o. subject_cmp s g.0 ≡ o
-    → find register_cmp r (entries_of g.1 ++ entries_in gs) ≡ find register_cmp r (entries_of us)) [
-      | Less ↦ λ e. absurd (not_before s g gs k us h e)
-      | Equal ↦ λ e. find_before r (entries_of g.1) (entries_in gs) (before_less r gs (same_rest s g gs k e) k.3)
-          ∙ ap (λ x. find register_cmp r (entries_of x)) (first_is s g gs k us h e)
-      | Greater ↦ λ e. find_after r (entries_of g.1) (entries_in gs) (about_greater g.0 r (entries_of g.1) k.0 e)
-          ∙ find_there r gs us k.3 (later_is s g gs k (Some us) h e)
-    ] refl
-
--- and finds nothing where there is no such group
-pub find_nowhere : (r : Register) (gs : Groups) → AreGroups gs → group_at (subject_of r.key) gs ≡ None
-    → find register_cmp r (entries_in gs) ≡ None
-find_nowhere r [] k h = refl
-find_nowhere r (g ∷ gs) k h =
-    let s = subject_of r.key in
-    elim (subject_cmp s g.0) as (λ o. subject_cmp s g.0 ≡ o
-    → find register_cmp r (entries_of g.1 ++ entries_in gs) ≡ None) [
-      | Less ↦ λ e. find_none r (entries_of g.1 ++ entries_in gs)
-          (all_append r Less (entries_of g.1) (entries_in gs) (about_less g.0 r (entries_of g.1) k.0 e)
-          (before_less r gs (before_rest s g gs k e) k.3))
-      | Equal ↦ λ e. absurd (not_first s g gs k h e)
-      | Greater ↦ λ e. find_after r (entries_of g.1) (entries_in gs) (about_greater g.0 r (entries_of g.1) k.0 e)
-          ∙ find_nowhere r gs k.3 (later_is s g gs k None h e)
-    ] refl
+pub find_there : (r : Register) (gs : Groups) (o : Option (List Fields)) → AreGroups gs
+    → group_at (subject_of r.key) gs ≡ o → find register_cmp r (entries_in gs) ≡ find register_cmp r (entries_if o)
+find_there r gs o k h =
+    let a = around (subject_of r.key) gs k o h in
+    ap (find register_cmp r) a.all ∙ find_after r a.lower (entries_if o ++ a.higher) a.below
+    ∙ find_before r (entries_if o) a.higher a.above
 
 -- ---- an edit of the register's group is one of all groups
-pub put_there : (r : Register) (v : Value) (gs : Groups) (us new : List Fields) → AreGroups gs
-    → group_at (subject_of r.key) gs ≡ Some us → entries_of new ≡ put register_cmp r v (entries_of us)
-    → entries_in (set_value (is_at (subject_cmp (subject_of r.key))) gs new) ≡ put register_cmp r v (entries_in gs)
-put_there r v [] us new k h p = cc
-put_there r v (g ∷ gs) us new k h p =
-    let s = subject_of r.key in
-    let rest = set_value (is_at (subject_cmp s)) gs new in
-    elim (subject_cmp s g.0) as (λ o. subject_cmp s g.0 ≡ o
-    → entries_in (cond (is_eq o) ((g.0, new) ∷ gs) (g ∷ rest))
-    ≡ put register_cmp r v (entries_of g.1 ++ entries_in gs)) [
-      | Less ↦ λ e. absurd (not_before s g gs k us h e)
-      | Equal ↦ λ e. ap (λ es. es ++ entries_in gs) (p ∙ ap (λ x. put register_cmp r v (entries_of x))
-          (sym (first_is s g gs k us h e))) ∙ sym (put_before r v (entries_of g.1) (entries_in gs)
-          (before_less r gs (same_rest s g gs k e) k.3))
-      | Greater ↦ λ e. ap (λ es. entries_of g.1 ++ es) (put_there r v gs us new k.3 (later_is s g gs k (Some us) h e) p)
-          ∙ sym (put_after r v (entries_of g.1) (entries_in gs) (about_greater g.0 r (entries_of g.1) k.0 e))
-    ] refl
+pub put_there : (r : Register) (v : Value) (gs : Groups) (o : Option (List Fields)) (new : List Fields) → AreGroups gs
+    → group_at (subject_of r.key) gs ≡ o → entries_of new ≡ put register_cmp r v (entries_if o)
+    → entries_in (edited o (subject_of r.key) gs new) ≡ put register_cmp r v (entries_in gs)
+put_there r v gs o new k h p =
+    let a = around (subject_of r.key) gs k o h in
+    a.written new ∙ ap (λ es. a.lower ++ (es ++ a.higher)) p
+    ∙ sym (ap (put register_cmp r v) a.all ∙ put_after r v a.lower (entries_if o ++ a.higher) a.below
+    ∙ ap (λ es. a.lower ++ es) (put_before r v (entries_if o) a.higher a.above))
 
 -- a group that is written back as it was changes nothing
-pub same_there : (s : Subject) (gs : Groups) (us new : List Fields) → group_at s gs ≡ Some us
+pub same_there : (s : Subject) (gs : Groups) (us new : List Fields) → AreGroups gs → group_at s gs ≡ Some us
     → entries_of new ≡ entries_of us → entries_in (set_value (is_at (subject_cmp s)) gs new) ≡ entries_in gs
-same_there s [] us new h p = cc
-same_there s (g ∷ gs) us new h p =
-    elim (is_at (subject_cmp s) g.0) as (λ b. cond b (Some g.1) (group_at s gs) ≡ Some us
-    → entries_in (cond b ((g.0, new) ∷ gs) (g ∷ set_value (is_at (subject_cmp s)) gs new)) ≡ entries_of g.1
-    ++ entries_in gs) [
-      | true ↦ λ e. let same : g.1 ≡ us = cc in ap (λ es. es ++ entries_in gs) (p ∙ ap entries_of (sym same))
-      | false ↦ λ e. ap (λ es. entries_of g.1 ++ es) (same_there s gs us new e p)
-    ] h
-
--- a new group has its one entry in its place
-pub put_new : (r : Register) (v : Value) (gs : Groups) (new : List Fields) → AreGroups gs
-    → group_at (subject_of r.key) gs ≡ None → entries_of new ≡ (r, v) ∷ []
-    → entries_in (insert_entry subject_cmp gs (subject_of r.key) new) ≡ put register_cmp r v (entries_in gs)
-put_new r v [] new k h p = ap (λ es. es ++ []) p
-put_new r v (g ∷ gs) new k h p =
-    let s = subject_of r.key in
-    elim (subject_cmp s g.0) as (λ o. subject_cmp s g.0 ≡ o
-    → entries_in (match_ordering o ((s, new) ∷ g ∷ gs) ((g.0, new) ∷ gs) (g ∷ insert_entry subject_cmp gs s new))
-    ≡ put register_cmp r v (entries_of g.1 ++ entries_in gs)) [
-      | Less ↦ λ e. ap (λ es. es ++ (entries_of g.1 ++ entries_in gs)) p
-          ∙ sym (put_first r v (entries_of g.1 ++ entries_in gs)
-          (all_append r Less (entries_of g.1) (entries_in gs) (about_less g.0 r (entries_of g.1) k.0 e)
-          (before_less r gs (before_rest s g gs k e) k.3)))
-      | Equal ↦ λ e. absurd (not_first s g gs k h e)
-      | Greater ↦ λ e. ap (λ es. entries_of g.1 ++ es) (put_new r v gs new k.3 (later_is s g gs k None h e) p)
-          ∙ sym (put_after r v (entries_of g.1) (entries_in gs) (about_greater g.0 r (entries_of g.1) k.0 e))
-    ] refl
+same_there s gs us new k h p = let a = around s gs k (Some us) h in
+    a.written new ∙ ap (λ es. a.lower ++ (es ++ a.higher)) p ∙ sym a.all
 
 -- ---- what an edit keeps
 pub about_put : (s : Subject) (r : Register) (v : Value) (es : Entries) → AreAbout s es → subject_of r.key ≡ s

@@ -1,10 +1,10 @@
 -- What a table of groups tells: a register's value, the owner of an address and a flood list are each read in one
 -- group.
 use Rattle.std.proofs.Common.{◌≡◌, ◌≢◌, ℕ, Bool, true, false, cond, ◌&&◌, Option, Some, None, MatchOption, List, []}
-use Rattle.std.proofs.Common.{◌∷◌, ◌++◌, append-nil, refl, sym, ap, subst, ◌∙◌, arith}
+use Rattle.std.proofs.Common.{◌∷◌, ◌++◌, refl, sym, ap, subst, ◌∙◌, arith}
 use Rattle.std.proofs.lemmas.Bool.Decides.{nat_tests}
 use Rattle.std.specs.declared.cmp.Ordering.{Ordering}
-use Rattle.std.specs.declared.cmp.Ordering.TheVariants.{Less, Equal, Greater}
+use Rattle.std.specs.declared.cmp.Ordering.TheVariants.{Equal}
 use Rattle.std.specs.Cmp.{tied_itself}
 use Rattle.std.specs.Option.{option_map, is_some}
 use Rattle.std.specs.Ordering.{is_eq, eq_by_cmp}
@@ -16,7 +16,6 @@ use Rattle.route_join.specs.declared.table.Taken.TheVariants.{Newer, Known}
 use Rattle.route_join.specs.declared.table.TakeError.{TakeError}
 use Rattle.route_join.specs.declared.table.TakeError.TheVariants.{UnknownOriginator}
 use Rattle.std.specs.Prelude.{Result, Ok, Err}
-use Rattle.route_join.proofs.Leaders.{verdict}
 use Rattle.route_wire.specs.declared.update.Ip.{Ip}
 use Rattle.route_wire.specs.declared.update.Key.{Key}
 use Rattle.route_wire.specs.declared.update.Key.TheVariants.{Flood, Mac}
@@ -31,15 +30,15 @@ use Rattle.route_join.specs.Table.{with_value, is_news, is_listed, IsOrdered, Is
 use Rattle.route_join.specs.Laws.{SameOwner}
 use Rattle.route_join.specs.Owner.{advert_in, advert_of, advert_at, owner, owner_among, IsOwner, IsUnowned, IsBetter}
 use Rattle.route_join.specs.Flood.{is_flood, floods, flooding}
-use Rattle.route_join.specs.Group.{AreAbout, AreGroups, IsBefore, IsGrouped, IsLeader, IsSilent, told, updates_in}
-use Rattle.route_join.specs.Group.{update_among, entries_with}
+use Rattle.route_join.specs.Group.{AreAbout, AreGroups, IsGrouped, IsLeader, IsSilent, told, updates_in}
+use Rattle.route_join.specs.Group.{update_among, entries_with, taken_in}
 use Rattle.route_join.proofs.Tables.{same_register}
 use Rattle.route_join.proofs.Edits.{found, listed_as, kept_put, table_put}
 use Rattle.route_join.proofs.Owners.{owner_is, one_owner, owner_along}
 use Rattle.route_join.specs.Ranks.{subject_total}
 use Rattle.route_join.proofs.Subjects.{address, address_key}
 use Rattle.route_join.proofs.Groupings.{Groups, Entries, entries_in, entries_in_all, about_there, find_there}
-use Rattle.route_join.proofs.Groupings.{find_nowhere, before_rest, same_rest, not_before, first_is, later_is, not_first}
+use Rattle.route_join.proofs.Groupings.{AllAre, entries_if, made_there}
 use Rattle.route_join.specs.Groups.{group_at}
 
 -- ---- values
@@ -49,11 +48,11 @@ module _ (os : List ℕ) (gs : Groups) (k : IsGrouped os gs) where
 
   pub value_there : (q : Register) (us : List Fields) → group_at (subject_of q.key) gs ≡ Some us
       → value_at (table_from os (updates_in gs)) q ≡ find register_cmp q (entries_of us)
-  value_there q us h = value_in q ∙ find_there q gs us k.groups h
+  value_there q us h = value_in q ∙ find_there q gs (Some us) k.groups h
 
   pub value_nowhere : (q : Register) → group_at (subject_of q.key) gs ≡ None
       → value_at (table_from os (updates_in gs)) q ≡ None
-  value_nowhere q h = value_in q ∙ find_nowhere q gs k.groups h
+  value_nowhere q h = value_in q ∙ find_there q gs None k.groups h
 
   pub update_there : (q : Register) (us : List Fields) → group_at (subject_of q.key) gs ≡ Some us
       → update_among us q ≡ update_at (table_from os (updates_in gs)) q
@@ -150,61 +149,26 @@ flood_key : (vni : ℕ) (key : Key) → is_flood vni key ≡ true → subject_of
 flood_key vni (Flood v) h = let e : v ≡ vni = grind (arith, nat_tests) in λ i. record { vni = e i; mac = None }
 flood_key vni (Mac v m ip) h = cc
 
-flooding_apart : (vni : ℕ) (s : Subject) (es : Entries) → AreAbout s es → s ≢ record { vni = vni; mac = None }
-    → flooding vni es ≡ []
-flooding_apart vni s [] k ne = refl
-flooding_apart vni s (e ∷ es) k ne =
-    elim (is_flood vni e.0.key) as (λ b. is_flood vni e.0.key ≡ b
-    → cond (b && is_some (advert_in e.1.content)) (e.0.originator ∷ flooding vni es) (flooding vni es) ≡ []) [
-      | true ↦ λ t. absurd (ne (sym k.0 ∙ flood_key vni e.0.key t))
-      | false ↦ λ t. flooding_apart vni s es k.1 ne
-    ] refl
-
 pub differs : (s t : Subject) (o : Ordering) → subject_cmp s t ≡ o → is_eq o ≡ false → t ≢ s
 differs s t o e n same = let eq : subject_cmp s t ≡ Equal = ap (subject_cmp s) same ∙ tied_itself subject_total s in
     let no = n in absurd (let f : is_eq Equal ≡ false = ap is_eq (sym eq ∙ e) ∙ n in cc)
 
-flooding_later : (vni : ℕ) (gs : Groups) → AreGroups gs → IsBefore (record { vni = vni; mac = None }) gs
-    → flooding vni (entries_in gs) ≡ []
-flooding_later vni [] k b = refl
-flooding_later vni (g ∷ gs) k b =
-    flooding_append vni (entries_of g.1) (entries_in gs)
-    ∙ ap (λ x. x ++ flooding vni (entries_in gs)) (flooding_apart vni g.0 (entries_of g.1) k.0
-    (differs (record { vni = vni; mac = None }) g.0 Less b.0 refl))
-    ∙ flooding_later vni gs k.3 b.1
-
-pub flooding_there : (vni : ℕ) (gs : Groups) (us : List Fields) → AreGroups gs
-    → group_at (record { vni = vni; mac = None }) gs ≡ Some us
-    → flooding vni (entries_in gs) ≡ flooding vni (entries_of us)
-flooding_there vni [] us k h = cc
-flooding_there vni (g ∷ gs) us k h =
-    let s : Subject = record { vni = vni; mac = None } in
-    elim (subject_cmp s g.0) as (λ o. subject_cmp s g.0 ≡ o
-    → flooding vni (entries_of g.1 ++ entries_in gs) ≡ flooding vni (entries_of us)) [
-      | Less ↦ λ e. absurd (not_before s g gs k us h e)
-      | Equal ↦ λ e. flooding_append vni (entries_of g.1) (entries_in gs)
-          ∙ ap (λ x. flooding vni (entries_of g.1) ++ x) (flooding_later vni gs k.3 (same_rest s g gs k e))
-          ∙ append-nil (flooding vni (entries_of g.1)) ∙ ap (λ x. flooding vni (entries_of x))
-          (first_is s g gs k us h e)
-      | Greater ↦ λ e. flooding_append vni (entries_of g.1) (entries_in gs)
-          ∙ ap (λ x. x ++ flooding vni (entries_in gs))
-          (flooding_apart vni g.0 (entries_of g.1) k.0 (differs s g.0 Greater e refl))
-          ∙ flooding_there vni gs us k.3 (later_is s g gs k (Some us) h e)
+flooding_apart : (vni : ℕ) (o : Ordering) (es : Entries) → is_eq o ≡ false
+    → AllAre (record { vni = vni; mac = None }) o es → flooding vni es ≡ []
+flooding_apart vni o [] n k = refl
+flooding_apart vni o (e ∷ es) n k =
+    elim (is_flood vni e.0.key) as (λ b. is_flood vni e.0.key ≡ b
+    → cond (b && is_some (advert_in e.1.content)) (e.0.originator ∷ flooding vni es) (flooding vni es) ≡ []) [
+      | true ↦ λ t. absurd (differs (record { vni = vni; mac = None }) (subject_of e.0.key) o k.0 n
+          (flood_key vni e.0.key t))
+      | false ↦ λ t. flooding_apart vni o es n k.1
     ] refl
 
-pub flooding_nowhere : (vni : ℕ) (gs : Groups) → AreGroups gs → group_at (record { vni = vni; mac = None }) gs ≡ None
-    → flooding vni (entries_in gs) ≡ []
-flooding_nowhere vni [] k h = refl
-flooding_nowhere vni (g ∷ gs) k h =
-    let s : Subject = record { vni = vni; mac = None } in
-    elim (subject_cmp s g.0) as (λ o. subject_cmp s g.0 ≡ o → flooding vni (entries_of g.1 ++ entries_in gs) ≡ []) [
-      | Less ↦ λ e. flooding_later vni (g ∷ gs) k (e, before_rest s g gs k e)
-      | Equal ↦ λ e. absurd (not_first s g gs k h e)
-      | Greater ↦ λ e. flooding_append vni (entries_of g.1) (entries_in gs)
-          ∙ ap (λ x. x ++ flooding vni (entries_in gs))
-          (flooding_apart vni g.0 (entries_of g.1) k.0 (differs s g.0 Greater e refl))
-          ∙ flooding_nowhere vni gs k.3 (later_is s g gs k None h e)
-    ] refl
+pub flooding_there : (vni : ℕ) (gs : Groups) (o : Option (List Fields)) → AreGroups gs
+    → group_at (record { vni = vni; mac = None }) gs ≡ o
+    → flooding vni (entries_in gs) ≡ flooding vni (entries_if o)
+flooding_there vni = made_there (flooding vni) (flooding_append vni) (record { vni = vni; mac = None })
+    (flooding_apart vni)
 
 -- ---- an update is taken
 module _ (os : List ℕ) (us new : List Fields) (u : Fields) (k : IsKept os us)
@@ -245,7 +209,7 @@ module _ (os : List ℕ) (us new : List Fields) (u : Fields) (k : IsKept os us)
           ∙ sym (ap (λ b. cond b (with_value (table_from os us) u.register u.value) (table_from os us)) t)
 
 pub taken_is : (os : List ℕ) (us : List Fields) (u : Fields) → IsKept os us
-    → verdict us u ≡ taken_of (table_from os us) u
+    → taken_in (entries_of us) u ≡ taken_of (table_from os us) u
 taken_is os us u k = ap (λ o. cond (is_news o u.value) Newer Known) (sym (found os us u.register k.ordered))
 
 -- what was taken was of a known originator

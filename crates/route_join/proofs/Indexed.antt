@@ -1,18 +1,20 @@
 -- Groups behind an index are groups in the order of their subjects: a look-up, a change and
 -- a new group there are the same here.
-use Rattle.std.proofs.Common.{◌≡◌, Bool, true, false, cond, is_some, Option, Some, None, IsSome, Result, Ok}
-use Rattle.std.proofs.Common.{Err, OnErr, List, [], ◌∷◌, ◌||◌, refl, sym, ap, subst, ◌∙◌}
-use Rattle.std.specs.declared.cmp.Ordering.{Ordering}
+use Rattle.std.proofs.Common.{◌≡◌, Bool, true, false, cond, is_some, Option, Some, None, IsSome}
+use Rattle.std.proofs.Common.{List, [], ◌∷◌, ◌||◌, refl, sym, ap, subst, ◌∙◌}
 use Rattle.std.specs.declared.cmp.Ordering.TheVariants.{Less, Equal, Greater}
-use Rattle.std.specs.Ordering.{is_eq, match_ordering, ordering_reverse}
+use Rattle.std.specs.Ordering.{is_eq, match_ordering}
 use Rattle.std.specs.Option.{unwrap_or}
 use Rattle.std.specs.List.{AllByRecursion}
 use Rattle.std.specs.List.Sorted.{IsStrictlySortedBy}
 use Rattle.std.specs.Map.{set_value}
 use Rattle.std.specs.BTreeMap.{insert_entry, is_at}
 use Rattle.std.specs.BTreeSet.{insert_key}
+use Rattle.std.specs.Cmp.{tied_itself}
 use Rattle.route_wire.specs.Fields.{Fields}
-use Rattle.route_join.specs.Subject.{Subject, subject_cmp, subject_eq}
+use Rattle.route_wire.specs.Ties.{equal_from}
+use Rattle.route_wire.specs.declared.update.Register.{Register}
+use Rattle.route_join.specs.Subject.{Subject, subject_cmp, subject_eq, subject_of}
 use Rattle.route_join.specs.Groups.{group_at, group_in, groups_along, is_among, AreIndexed, AreThere}
 use Rattle.route_join.specs.Ranks.{subject_exact, subject_total, tied_subjects}
 use Rattle.route_join.proofs.Groupings.{Groups}
@@ -21,21 +23,11 @@ use Rattle.route_join.proofs.Groupings.{Groups}
 pub eq_at : (s t : Subject) → subject_eq s t ≡ is_at (subject_cmp s) t
 eq_at s t = tied_subjects s t
 
-equal : (o : Ordering) → is_eq o ≡ true → o ≡ Equal
-equal Less h = cc
-equal Equal h = refl
-equal Greater h = cc
-
 exact_at : (s t : Subject) → is_at (subject_cmp s) t ≡ true → s ≡ t
-exact_at s t h = subject_exact s t (equal (subject_cmp s t) h)
-
-tied : (o : Ordering) → o ≡ ordering_reverse o → is_eq o ≡ true
-tied Less h = cc
-tied Equal h = refl
-tied Greater h = cc
+exact_at s t h = subject_exact s t (equal_from (subject_cmp s t) h)
 
 pub itself : (s : Subject) → is_at (subject_cmp s) s ≡ true
-itself s = tied (subject_cmp s s) (subject_total.antisymm s s)
+itself s = ap is_eq (tied_itself subject_total s)
 
 -- ---- a look-up
 found_along : (s : Subject) (ss : List Subject) (gs : Groups)
@@ -155,6 +147,12 @@ module _ (ss : List Subject) (gs now : Groups) (k : AreIndexed ss gs) (is : grou
   pub found_as : (s t : Subject) (o : Option (List Fields)) → s ≡ t → o ≡ group_in gs s → group_at t now ≡ o
   found_as s t o same at = ap (group_at t) (sym is) ∙ sym (found t ss gs k) ∙ ap (group_in gs) (sym same) ∙ sym at
 
+  -- where the subject is that of a register
+  pub found_of : (s : Subject) (r q : Register) (o : Option (List Fields)) → s ≡ subject_of r.key → r ≡ q
+      → o ≡ group_in gs s → group_at (subject_of q.key) now ≡ o
+  found_of s r q o named same at = found_as s (subject_of q.key) o (named
+      ∙ ap (λ (x : Register). subject_of x.key) same) at
+
   pub not_among : (s : Subject) → group_at s now ≡ None → is_among ss s ≡ false
   not_among s none = k.same s ∙ ap is_some (found s ss gs k ∙ ap (group_at s) is ∙ none)
 
@@ -166,10 +164,6 @@ module _ (ss : List Subject) (gs now : Groups) (k : AreIndexed ss gs) (is : grou
 
 pub some_is : (us : List Fields) (o : Option (List Fields)) → Some us ≡ o → IsSome o
 some_is us o h = subst IsSome h refl
-
-pub any_err : {X E : Type 0} (r : Result X E) (P : Type 0) → P → OnErr r P
-any_err (Ok x) P p = tt
-any_err (Err e) P p = p
 
 -- ---- a walk
 among_first : (t : Subject) (ss : List Subject) → is_among (t ∷ ss) t ≡ true

@@ -5,11 +5,11 @@ use Rattle.std.proofs.Common.{◌∙◌, arith, add-one, length-set}
 use Rattle.std.specs.List.{slice_get, insert}
 use Rattle.std.specs.Option.{option_map}
 use Rattle.std.specs.Cmp.{tied_itself}
-use Rattle.std.specs.declared.cmp.Ordering.TheVariants.{Less, Equal}
-use Rattle.std.specs.Ordering.{is_lt}
-use Rattle.std.specs.FinMap.Entries.{find, put, find-put, below_all, is_sorted}
+use Rattle.std.specs.declared.alloc.AllocError.{AllocError}
+use Rattle.std.specs.declared.cmp.Ordering.TheVariants.{Equal}
+use Rattle.std.specs.FinMap.Entries.{find, put, find-put, is_sorted}
 use Rattle.std.specs.Prelude.{not, is_some, nat_le, IfSome, OnOk, Result, Ok, Err}
-use Rattle.std.specs.Result.{is_err}
+use Rattle.std.specs.Result.{is_err, IsErrAnd}
 use Rattle.std.proofs.lemmas.Bool.Decides.{nat_tests}
 use Rattle.std.proofs.lemmas.List.{map-append, take-append-drop, get_or-set_same, get_or-set_other}
 use Rattle.std.proofs.lemmas.Option.{slice_get-get_or, slice_get_within, get_or_from_slice_get}
@@ -27,13 +27,14 @@ use Rattle.route_wire.specs.Totals.{register_total}
 use Rattle.route_join.specs.Table.{entries_of, IsOrdered, is_news}
 use Rattle.route_join.specs.Owner.{advert_in, advert_of, IsBetter, is_better, is_better_by}
 use Rattle.route_join.specs.Group.{told, Leads, HasWinner, candidate_in, candidate_at, wins, better_place, stays_best}
-use Rattle.route_join.specs.Group.{moved, update_among, entries_with, added}
-use Rattle.route_join.proofs.Orders.{less, both}
+use Rattle.route_join.specs.Group.{moved, update_among, added, Takes}
 use Rattle.route_join.proofs.Tables.{same_or_other, itself_register, other_register}
 use Rattle.route_join.proofs.Places.{IsPlace, IsGap}
 use Rattle.route_join.proofs.Edits.{ordered_put}
 use Rattle.route_join.proofs.Owners.{in_list, at_last, at_before, fresh, better_trans, is_better_is, not_better_is}
 use Rattle.route_join.proofs.Owners.{as_good}
+use Rattle.route_join.proofs.Within.{by_place}
+use Rattle.std.proofs.lemmas.Map.Lookups.{exact_unsigned}
 
 -- ---- one update more may win
 module _ (us : List Fields) (says after : Register → Option Advert) (at : ℕ) (u : Fields)
@@ -167,38 +168,11 @@ module _ (us : List Fields) (at : ℕ) (s : IsOrdered us) (h : at < length us) (
       w k (ap advert_of not_yet)
 
 -- ---- updates in order stand at different places
-pub below_at : (k : Register) (us : List Fields) (i : ℕ) (x : Fields) → below_all register_cmp k (entries_of us) ≡ true
-    → slice_get us i ≡ Some x → register_cmp k x.register ≡ Less
-below_at k [] i x b h = cc
-below_at k (u ∷ us) zero x b h =
-    let same : u ≡ x = cc in
-    subst (λ (y : Fields). register_cmp k y.register ≡ Less) same
-    (less (register_cmp k u.register) (both (is_lt (register_cmp k u.register))
-    (below_all register_cmp k (entries_of us)) b).0)
-below_at k (u ∷ us) (suc i) x b h = below_at k us i x (both (is_lt (register_cmp k u.register))
-    (below_all register_cmp k (entries_of us)) b).1 h
-
-pub not_less_itself : (k q : Register) → register_cmp k q ≡ Less → k ≡ q → ⊥
-not_less_itself k q l same = let e : register_cmp k q ≡ Equal = ap (register_cmp k) (sym same)
-    ∙ tied_itself register_total k in cc
-
 pub one_place : (us : List Fields) (i j : ℕ) (x y : Fields) → IsOrdered us → slice_get us i ≡ Some x
     → slice_get us j ≡ Some y → x.register ≡ y.register → i ≡ j
-one_place [] i j x y s p q same = cc
-one_place (u ∷ us) zero zero x y s p q same = refl
-one_place (u ∷ us) zero (suc j) x y s p q same =
-    let parts = both (below_all register_cmp u.register (entries_of us)) (is_sorted register_cmp (entries_of us)) s in
-    let here : u ≡ x = cc in
-    absurd (not_less_itself u.register y.register (below_at u.register us j y parts.0 q)
-    (ap (λ (z : Fields). z.register) here ∙ same))
-one_place (u ∷ us) (suc i) zero x y s p q same =
-    let parts = both (below_all register_cmp u.register (entries_of us)) (is_sorted register_cmp (entries_of us)) s in
-    let here : u ≡ y = cc in
-    absurd (not_less_itself u.register x.register (below_at u.register us i x parts.0 p)
-    (ap (λ (z : Fields). z.register) here ∙ sym same))
-one_place (u ∷ us) (suc i) (suc j) x y s p q same = ap suc
-    (one_place us i j x y (both (below_all register_cmp u.register (entries_of us))
-    (is_sorted register_cmp (entries_of us)) s).1 p q same)
+one_place us i j x y s p q same = exact_unsigned i j (by_place us i j x y s p q
+    ∙ ap (register_cmp x.register) (sym same)
+    ∙ tied_itself register_total x.register)
 
 -- ---- what is told after a put
 module _ (us new : List Fields) (u : Fields) (e : entries_of new
@@ -369,48 +343,63 @@ some_update = record {
 }
 
 -- ---- what a group makes of an update
-abbrev pub verdict : List Fields → Fields → Taken
-verdict us u = cond (is_news (find register_cmp u.register (entries_of us)) u.value) Newer Known
-
-module _ (us : List Fields) (u : Fields) (at : ℕ) (p : IsPlace us u.register at) (v : Fields) (e : v ≡ get_or us at v)
-    (b : Bool) (n : b ≡ is_newer u.value v.value) where
+module _ (us : List Fields) (u : Fields) (v : Value) (there : find register_cmp u.register (entries_of us) ≡ Some v)
+    (b : Bool) (n : b ≡ is_newer u.value v) (held : ℕ) where
   news_at : is_news (find register_cmp u.register (entries_of us)) u.value ≡ b
-  news_at = ap (λ o. is_news o u.value) (p.value v ∙ ap (λ (x : Fields). Some x.value) (sym e)) ∙ sym n
+  news_at = ap (λ o. is_news o u.value) there ∙ sym n
 
-  pub newer_at : b ≡ true → Newer ≡ verdict us u
-  newer_at t = sym (ap (λ x. cond x Newer Known) (news_at ∙ t))
+  -- no register more
+  held_at : held ≡ held + added (entries_of us) u
+  held_at = let none : held ≡ held + 0 = omega arith in none ∙ ap (λ o. held + cond (is_some o) 0 1) (sym there)
 
-  pub known_at : b ≡ false → Known ≡ verdict us u
-  known_at t = sym (ap (λ x. cond x Newer Known) (news_at ∙ t))
+  pub known_takes : b ≡ false → Takes (entries_of us) u held (Ok Known) (entries_of us) held
+  known_takes t = record {
+    taken = sym (ap (λ x. cond x Newer Known) (news_at ∙ t));
+    entries = sym (ap (λ x. cond x (put register_cmp u.register u.value (entries_of us)) (entries_of us)) (news_at ∙ t));
+    counted = held_at;
+    few = λ h. h;
+    absent = tt;
+    uncounted = tt;
+  }
 
-  pub took_at : (new : List Fields) → entries_of new ≡ put register_cmp u.register u.value (entries_of us) → b ≡ true
-      → entries_of new ≡ entries_with (entries_of us) u
-  took_at new w t = w ∙ sym (ap (λ x. cond x (put register_cmp u.register u.value (entries_of us)) (entries_of us))
-      (news_at ∙ t))
+  pub newer_takes : (new : List Fields) → entries_of new ≡ put register_cmp u.register u.value (entries_of us)
+      → b ≡ true → Takes (entries_of us) u held (Ok Newer) (entries_of new) held
+  newer_takes new w t = record {
+    taken = sym (ap (λ x. cond x Newer Known) (news_at ∙ t));
+    entries = w ∙ sym (ap (λ x. cond x (put register_cmp u.register u.value (entries_of us)) (entries_of us))
+        (news_at ∙ t));
+    counted = held_at;
+    few = λ h. h;
+    absent = tt;
+    uncounted = tt;
+  }
 
-  pub stayed_at : b ≡ false → entries_of us ≡ entries_with (entries_of us) u
-  stayed_at t = sym (ap (λ x. cond x (put register_cmp u.register u.value (entries_of us)) (entries_of us)) (news_at
-      ∙ t))
+module _ (es : List (Register × Value)) (u : Fields) (none : find register_cmp u.register es ≡ None) (held : ℕ) where
+  pub new_takes : (new : List (Register × Value)) → new ≡ put register_cmp u.register u.value es
+      → (more : ℕ) → more ≡ held + 1 → more < 2 ^ 64 → Takes es u held (Ok Newer) new more
+  new_takes new w more one few = record {
+    taken = sym (ap (λ o. cond (is_news o u.value) Newer Known) none);
+    entries = w ∙ sym (ap (λ o. cond (is_news o u.value) (put register_cmp u.register u.value es) es) none);
+    counted = one ∙ ap (λ o. held + cond (is_some o) 0 1) (sym none);
+    few = λ h. few;
+    absent = tt;
+    uncounted = tt;
+  }
 
--- no register more, and one more
-pub held_at : (us : List Fields) (u : Fields) (at : ℕ) → IsPlace us u.register at → (v : Fields) → v ≡ get_or us at v
-    → (h : ℕ) → h ≡ h + added (entries_of us) u
-held_at us u at p v e h =
-    let none : h ≡ h + 0 = omega arith in
-    none ∙ ap (λ o. h + cond (is_some o) 0 1) (sym (p.value v ∙ ap (λ (x : Fields). Some x.value) (sym e)))
+  pub refused_takes : (x : AllocError) (new : List (Register × Value)) → Takes es u held (Err x) new held
+  refused_takes x new = record {
+    taken = tt;
+    entries = tt;
+    counted = tt;
+    few = λ h. h;
+    absent = none;
+    uncounted = refl;
+  }
 
-pub held_new : (us : List Fields) (u : Fields) → find register_cmp u.register (entries_of us) ≡ None → (h : ℕ)
-    → h + 1 ≡ h + added (entries_of us) u
-held_new us u none h = ap (λ o. h + cond (is_some o) 0 1) (sym none)
-
-module _ (us : List Fields) (u : Fields) (none : find register_cmp u.register (entries_of us) ≡ None) where
-  pub newer_new : Newer ≡ verdict us u
-  newer_new = sym (ap (λ o. cond (is_news o u.value) Newer Known) none)
-
-  pub took_new : (new : List Fields) → entries_of new ≡ put register_cmp u.register u.value (entries_of us)
-      → entries_of new ≡ entries_with (entries_of us) u
-  took_new new w = w ∙ sym (ap (λ o. cond (is_news o u.value) (put register_cmp u.register u.value (entries_of us))
-      (entries_of us)) none)
+  pub refused_by : (r : Result Taken AllocError) (x : AllocError) (new : List (Register × Value))
+      → IsErrAnd r (λ y. y ≡ x) → Takes es u held r new held
+  refused_by (Ok t) x new h = absurd h
+  refused_by (Err y) x new h = refused_takes y new
 
 -- what holds where a call succeeded
 pub on_ok : {X E : Type 0} (r : Result X E) (P : Type 0) → OnOk r P → is_err r ≡ false → P

@@ -1,5 +1,6 @@
 pub mod Stations
 pub mod Orders
+pub mod Numbers
 pub mod Tables
 pub mod Places
 pub mod Edits

@@ -1,6 +1,6 @@
 -- Updates taken one after the other, and the join of two tables of groups.
-use Rattle.std.proofs.Common.{◌≡◌, ℕ, suc, zero, ◌+◌, ◌<◌, ◌≤◌, true, false, cond, ◌&&◌, Some, List, [], ◌∷◌, ◌++◌, map}
-use Rattle.std.proofs.Common.{length, get_or, take, refl, sym, ap, subst, ◌∙◌, add-one, zero-add, suc-add, arith}
+use Rattle.std.proofs.Common.{◌≡◌, ℕ, suc, zero, ◌+◌, ◌≤◌, true, false, cond, ◌&&◌, Some, None, List, [], ◌∷◌, ◌++◌}
+use Rattle.std.proofs.Common.{map, length, take, refl, sym, ap, subst, ◌∙◌, zero-add, suc-add, arith}
 use Rattle.std.proofs.Common.{length-append}
 use Rattle.std.specs.List.{slice_get, list_any}
 use Rattle.std.specs.Prelude.{Bool, eqb, OnOk, OnErr, IfErr, Result, Ok, Err}
@@ -10,7 +10,6 @@ use Rattle.std.specs.Ordering.{is_lt, eq_by_cmp}
 use Rattle.std.proofs.lemmas.Option.{slice_get-map, slice_get_within, get_or_from_slice_get}
 use Rattle.std.specs.FinMap.{entries, entries_sorted, get-entries, same_map}
 use Rattle.std.specs.FinMap.Entries.{find, below_all, is_sorted}
-use Rattle.std.proofs.Math.Seq.{take-suc}
 use Rattle.route_wire.specs.declared.update.Register.{Register}
 use Rattle.route_wire.specs.declared.update.Value.{Value}
 use Rattle.route_wire.specs.Fields.{Fields}
@@ -21,7 +20,6 @@ use Rattle.route_join.specs.declared.table.Unmerged.{Unmerged}
 use Rattle.route_join.specs.declared.table.TakeError.{TakeError}
 use Rattle.route_join.specs.declared.table.TakeError.TheVariants.{UnknownOriginator, NoMemory}
 use Rattle.route_join.specs.Group.{IsGrouped, IsCounted, updates_in}
-use Rattle.route_join.specs.Stops.{StopsAt}
 use Rattle.route_join.specs.Laws.{MergeCompletes}
 use Rattle.route_join.specs.Table.{Table, IsOrdered, is_listed, is_news, value_at, with_value, with_update}
 use Rattle.route_join.specs.Table.{with_updates, entries_of, table_from}
@@ -30,9 +28,17 @@ use Rattle.route_join.specs.Joins.{newer_of, with_entries, join, IsPartJoin}
 use Rattle.route_join.proofs.Orders.{both, from_T}
 use Rattle.route_join.proofs.Tables.{itself_register, other_register}
 use Rattle.route_join.proofs.Edits.{found, listed_as}
-use Rattle.route_join.proofs.Leaders.{below_at, not_less_itself}
+use Rattle.route_join.proofs.Within.{below_at}
+use Rattle.route_join.proofs.Owners.{not_less_itself}
 use Rattle.route_join.proofs.Groupings.{Groups}
 use Rattle.route_join.proofs.Joins.{newer_of-same, newer_of-assoc, entries_at, join_is}
+
+-- the first k updates were taken, and the register of the next one is new
+pub record StopsAt (t : Table) (us : List Fields) (k : ℕ) (new : Table) : Type 0 where
+  pub taken : new ≡ with_updates t (take k us)
+  pub refused : Fields
+  pub next : slice_get us k ≡ Some refused
+  pub absent : value_at new refused.register ≡ None
 
 -- one update more at the end
 pub updates_push : (t : Table) (us : List Fields) (u : Fields)
@@ -43,11 +49,6 @@ updates_push t (v ∷ us) u = updates_push (with_update t v) us u
 pub updates_append : (t : Table) (us vs : List Fields) → with_updates t (us ++ vs) ≡ with_updates (with_updates t us) vs
 updates_append t [] vs = refl
 updates_append t (u ∷ us) vs = updates_append (with_update t u) us vs
-
-pub updates_more : (t : Table) (us : List Fields) (k : ℕ) (d : Fields) → k < length us
-    → with_updates t (take (k + 1) us) ≡ with_update (with_updates t (take k us)) (get_or us k d)
-updates_more t us k d h = ap (λ n. with_updates t (take n us)) (add-one k) ∙ ap (with_updates t) (take-suc us k d h)
-    ∙ updates_push t (take k us) (get_or us k d)
 
 -- entries are updates
 pub entries_updates : (t : Table) (us : List Fields) → with_entries t (entries_of us) ≡ with_updates t us

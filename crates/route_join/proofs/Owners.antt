@@ -1,18 +1,21 @@
 -- The walk over a table's registers finds the owner of an address, and there is at most one.
 use Rattle.std.proofs.Common.{◌≡◌, ◌≢◌, inl, inr, ℕ, ◌≤◌, Bool, true, false, cond, ◌&&◌, ◌||◌, Option, Some, None}
 use Rattle.std.proofs.Common.{MatchOption, List, [], ◌∷◌, ◌++◌, refl, sym, ap, subst, ◌∙◌, append_assoc, append-nil}
-use Rattle.std.proofs.Common.{arith}
+use Rattle.std.proofs.Common.{arith, ◌<◌, ◌↔◌}
 use Rattle.std.proofs.lemmas.Bool.Decides.{nat_tests}
 use Rattle.std.specs.Prelude.{nat_lt, ◌==◌}
 use Rattle.std.specs.declared.cmp.Ordering.{Ordering}
 use Rattle.std.specs.declared.cmp.Ordering.TheVariants.{Less, Equal, Greater}
 use Rattle.std.specs.Option.{option_map}
-use Rattle.std.specs.Ordering.{is_lt, ordering_reverse}
+use Rattle.std.specs.Cmp.{IsTotalOrder, IsStrictWeakOrder, ranked, nat_cmp_total, bool_cmp_total, tied_itself}
+use Rattle.std.specs.Ordering.{MatchOrdering, nat_cmp, bool_cmp, ordering_then, is_lt, ordering_reverse}
+use Rattle.std.proofs.lemmas.Cmp.{on_total, then_total, back_total}
+use Rattle.std.proofs.lemmas.List.MinMax.{ranks_by}
 use Rattle.std.specs.FinMap.{entries, entries_sorted, get-entries}
 use Rattle.std.specs.FinMap.Entries.{find, find-append, is_sorted, below_all}
 use Rattle.route_wire.specs.declared.update.Ip.{Ip}
 use Rattle.route_wire.specs.declared.update.Key.{Key}
-use Rattle.route_wire.specs.declared.update.Key.TheVariants.{Flood, Mac}
+use Rattle.route_wire.specs.declared.update.Key.TheVariants.{Mac}
 use Rattle.route_wire.specs.declared.update.Register.{Register}
 use Rattle.route_wire.specs.declared.update.Advert.{Advert}
 use Rattle.route_wire.specs.declared.update.Value.{Value}
@@ -22,97 +25,106 @@ use Rattle.route_join.specs.Table.{Table, register_of, value_at}
 use Rattle.route_join.specs.Owner.{advert_in, advert_of, IsBetterBy, IsBetter, IsOwner, IsUnowned, is_better_by}
 use Rattle.route_join.specs.Owner.{is_better, is_about, said_of, better_of, best_among, owner}
 use Rattle.route_join.specs.Laws.{OneOwner, OwnerAlong}
+use Rattle.route_join.specs.Subject.{subject_of}
 use Rattle.route_join.proofs.Orders.{less, both, from_T}
+use Rattle.route_join.proofs.Subjects.{address_key, about_address, about_itself}
 use Rattle.route_join.proofs.Tables.{itself_register, same_or_other, other_register}
 
--- ---- better is a strict order, and of two registers one is better
-better_trans_by : (f g h : Bool) (m n k : ℕ) (o p q : Ordering) → (o ≡ Less → p ≡ Less → q ≡ Less)
-    → IsBetterBy f g m n o → IsBetterBy g h n k p → IsBetterBy f h m k q
-better_trans_by true true true m n k o p q t a b = (
-  omega (arith, a.0, b.0),
-  λ e. t (a.1 (omega (arith, a.0, b.0, e))) (b.1 (omega (arith, a.0, b.0, e))),
-)
-better_trans_by true true false m n k o p q t a b = tt
-better_trans_by true false true m n k o p q t a b = absurd b
-better_trans_by true false false m n k o p q t a b = tt
-better_trans_by false true h m n k o p q t a b = absurd a
-better_trans_by false false true m n k o p q t a b = absurd b
-better_trans_by false false false m n k o p q t a b = (
-  omega (arith, a.0, b.0),
-  λ e. t (a.1 (omega (arith, a.0, b.0, e))) (b.1 (omega (arith, a.0, b.0, e))),
-)
+-- ---- better is before in a total order, and of two registers one is better
+later_by_number : (m n : ℕ) (o : Ordering) → ((n ≤ m) × (m ≡ n → o ≡ Less)) ↔ (ordering_then (nat_cmp n m) o ≡ Less)
+later_by_number m n o = go (nat_cmp n m) (ranked n m (nat_cmp n m) refl)
+  where
+    go : (k : Ordering) → MatchOrdering k (n < m) (n ≡ m) (m < n)
+        → ((n ≤ m) × (m ≡ n → o ≡ Less)) ↔ (ordering_then k o ≡ Less)
+    go Less l = (λ h. refl, λ h. (omega (arith, l), λ e. absurd (omega (arith, l, e))))
+    go Equal l = (λ h. h.1 (sym l), λ h. (omega (arith, l), λ e. h))
+    go Greater l = (λ h. absurd (omega (arith, l, h.0)), λ h. cc)
 
-better_not_back_by : (f g : Bool) (m n : ℕ) (o p : Ordering) → (o ≡ Less → p ≡ Less → ⊥) → IsBetterBy f g m n o
-    → IsBetterBy g f n m p → ⊥
-better_not_back_by true true m n o p t a b = t (a.1 (omega (arith, a.0, b.0))) (b.1 (omega (arith, a.0, b.0)))
-better_not_back_by true false m n o p t a b = b
-better_not_back_by false true m n o p t a b = a
-better_not_back_by false false m n o p t a b = t (a.1 (omega (arith, a.0, b.0))) (b.1 (omega (arith, a.0, b.0)))
+tested_number : (m n : ℕ) (o : Ordering) → (nat_lt n m || (n == m && is_lt o)) ≡ is_lt (ordering_then (nat_cmp n m) o)
+tested_number m n o = go (nat_cmp n m) (ranked n m (nat_cmp n m) refl) (is_lt o) refl
+  where
+    go : (k : Ordering) → MatchOrdering k (n < m) (n ≡ m) (m < n) → (b : Bool) → is_lt o ≡ b
+        → (nat_lt n m || (n == m && b)) ≡ is_lt (ordering_then k o)
+    go Less l true e = grind (arith, nat_tests)
+    go Less l false e = grind (arith, nat_tests)
+    go Equal l true e = let t : (nat_lt n m || (n == m && true)) ≡ true = grind (arith, nat_tests) in t ∙ sym e
+    go Equal l false e = let t : (nat_lt n m || (n == m && false)) ≡ false = grind (arith, nat_tests) in t ∙ sym e
+    go Greater l true e = grind (arith, nat_tests)
+    go Greater l false e = grind (arith, nat_tests)
 
-tested : (m n : ℕ) (b : Bool) → (nat_lt n m || (n == m && b)) ≡ true → (n ≤ m) × (m ≡ n → b ≡ true)
-tested m n true e = (grind (arith, nat_tests), λ h. refl)
-tested m n false e = (grind (arith, nat_tests), λ h. grind (arith, nat_tests))
+better_by : (f g : Bool) (m n : ℕ) (o : Ordering)
+    → IsBetterBy f g m n o ↔ (ordering_then (bool_cmp g f) (ordering_then (nat_cmp n m) o) ≡ Less)
+better_by true true m n o = later_by_number m n o
+better_by true false m n o = (λ h. refl, λ h. tt)
+better_by false true m n o = (λ h. absurd h, λ h. cc)
+better_by false false m n o = later_by_number m n o
 
-pub untested : (m n : ℕ) (b : Bool) → (nat_lt n m || (n == m && b)) ≡ false → (m ≤ n) × (n ≡ m → b ≡ false)
-untested m n true e = (grind (arith, nat_tests), λ h. grind (arith, nat_tests))
-untested m n false e = (grind (arith, nat_tests), λ h. refl)
+tested_by : (f g : Bool) (m n : ℕ) (o : Ordering)
+    → is_better_by f g m n o ≡ is_lt (ordering_then (bool_cmp g f) (ordering_then (nat_cmp n m) o))
+tested_by true true m n o = tested_number m n o
+tested_by true false m n o = refl
+tested_by false true m n o = refl
+tested_by false false m n o = tested_number m n o
 
-tested_by : (f g : Bool) (m n : ℕ) (o : Ordering) → is_better_by f g m n o ≡ true → IsBetterBy f g m n o
-tested_by true true m n o e = let t = tested m n (is_lt o) e in (t.0, λ h. less o (t.1 h))
-tested_by true false m n o e = tt
-tested_by false true m n o e = cc
-tested_by false false m n o e = let t = tested m n (is_lt o) e in (t.0, λ h. less o (t.1 h))
+-- adverts of registers, the best one first
+abbrev advert_cmp : Register × Advert → Register × Advert → Ordering
+advert_cmp c d = ordering_then (bool_cmp d.1.is_static c.1.is_static)
+    (ordering_then (nat_cmp d.1.sequence c.1.sequence) (register_cmp c.0 d.0))
 
-turned : (o : Ordering) → o ≢ Equal → is_lt o ≡ false → ordering_reverse o ≡ Less
-turned Less ne e = cc
-turned Equal ne e = absurd (ne refl)
-turned Greater ne e = refl
+advert_total : IsTotalOrder advert_cmp
+advert_total = then_total (back_total (on_total (λ (c : Register × Advert). c.1.is_static) bool_cmp_total))
+    (then_total (back_total (on_total (λ (c : Register × Advert). c.1.sequence) nat_cmp_total))
+    (on_total (λ (c : Register × Advert). c.0) register_total))
 
-untested_by : (f g : Bool) (m n : ℕ) (o : Ordering) → o ≢ Equal → is_better_by f g m n o ≡ false
-    → IsBetterBy g f n m (ordering_reverse o)
-untested_by true true m n o ne e = let t = untested m n (is_lt o) e in (t.0, λ h. turned o ne (t.1 h))
-untested_by true false m n o ne e = cc
-untested_by false true m n o ne e = tt
-untested_by false false m n o ne e = let t = untested m n (is_lt o) e in (t.0, λ h. turned o ne (t.1 h))
+tested : (c d : Register × Advert) → is_better c.1 c.0 d.1 d.0 ≡ is_lt (advert_cmp c d)
+tested c d = tested_by c.1.is_static d.1.is_static c.1.sequence d.1.sequence (register_cmp c.0 d.0)
 
-less_not_back : (q r : Register) → register_cmp q r ≡ Less → register_cmp r q ≡ Less → ⊥
-less_not_back q r a b = let e : register_cmp r q ≡ Greater = register_total.antisymm r q ∙ ap ordering_reverse a in cc
+pub better_ranks : IsStrictWeakOrder (λ (c d : Register × Advert). is_better c.1 c.0 d.1 d.0)
+better_ranks = subst IsStrictWeakOrder (λ i c d. sym (tested c d) i) (ranks_by advert_total (λ c. c))
+
+module _ (a : Advert) (r : Register) (b : Advert) (q : Register) where
+  is_first : IsBetter a r b q ↔ (advert_cmp (r, a) (q, b) ≡ Less)
+  is_first = better_by a.is_static b.is_static a.sequence b.sequence (register_cmp r q)
+
+  pub is_better_is : is_better a r b q ≡ true → IsBetter a r b q
+  is_better_is e = is_first.1 (less (advert_cmp (r, a) (q, b)) (sym (tested (r, a) (q, b)) ∙ e))
 
 pub better_not_back : (a : Advert) (r : Register) (b : Advert) (q : Register) → IsBetter a r b q → IsBetter b q a r → ⊥
-better_not_back a r b q = better_not_back_by a.is_static b.is_static a.sequence b.sequence (register_cmp r q)
-    (register_cmp q r) (less_not_back r q)
+better_not_back a r b q h k =
+    let there = (is_first a r b q).0 h in
+    let back = advert_total.antisymm (r, a) (q, b) ∙ ap ordering_reverse ((is_first b q a r).0 k) in
+    cc
 
 pub better_trans : (a : Advert) (r : Register) (b : Advert) (q : Register) (c : Advert) (p : Register)
     → IsBetter a r b q → IsBetter b q c p → IsBetter a r c p
-better_trans a r b q c p = better_trans_by a.is_static b.is_static c.is_static a.sequence b.sequence c.sequence
-    (register_cmp r q) (register_cmp q p) (register_cmp r p) (register_total.trans r q p)
+better_trans a r b q c p h k = (is_first a r c p).1
+    (advert_total.trans (r, a) (q, b) (p, c) ((is_first a r b q).0 h) ((is_first b q c p).0 k))
 
-pub is_better_is : (a : Advert) (r : Register) (b : Advert) (q : Register) → is_better a r b q ≡ true → IsBetter a r b q
-is_better_is a r b q = tested_by a.is_static b.is_static a.sequence b.sequence (register_cmp r q)
+tied_last : (o p : Ordering) → ordering_then o p ≡ Equal → p ≡ Equal
+tied_last Less p h = cc
+tied_last Equal p h = h
+tied_last Greater p h = cc
 
 pub not_better_is : (a : Advert) (r : Register) (b : Advert) (q : Register) → r ≢ q → is_better a r b q ≡ false
     → IsBetter b q a r
-not_better_is a r b q ne e =
-    subst (IsBetterBy b.is_static a.is_static b.sequence a.sequence) (sym (register_total.antisymm q r))
-    (untested_by a.is_static b.is_static a.sequence b.sequence (register_cmp r q) (λ t. ne (register_exact r q t)) e)
+not_better_is a r b q ne e = (is_first b q a r).1 (go (advert_cmp (r, a) (q, b)) refl)
+  where
+    go : (o : Ordering) → advert_cmp (r, a) (q, b) ≡ o → advert_cmp (q, b) (r, a) ≡ Less
+    go Less t = let yes = tested (r, a) (q, b) ∙ ap is_lt t in cc
+    go Equal t = absurd (ne (register_exact r q (tied_last (nat_cmp b.sequence a.sequence) (register_cmp r q)
+        (tied_last (bool_cmp b.is_static a.is_static) _ t))))
+    go Greater t = advert_total.antisymm (q, b) (r, a) ∙ ap ordering_reverse t
 
 -- what is no worse than an advert of the same register is better than all that this is better than
-as_good_by : (f g h : Bool) (m n k : ℕ) (o p : Ordering) → is_better_by f g m n p ≡ false → IsBetterBy f h m k o
-    → IsBetterBy g h n k o
-as_good_by true true true m n k o p e a = let t = untested m n (is_lt p) e in
-    (omega (arith, a.0, t.0), λ s. a.1 (omega (arith, a.0, t.0, s)))
-as_good_by true true false m n k o p e a = tt
-as_good_by true false h m n k o p e a = cc
-as_good_by false true true m n k o p e a = absurd a
-as_good_by false true false m n k o p e a = tt
-as_good_by false false true m n k o p e a = absurd a
-as_good_by false false false m n k o p e a = let t = untested m n (is_lt p) e in
-    (omega (arith, a.0, t.0), λ s. a.1 (omega (arith, a.0, t.0, s)))
-
 pub as_good : (a now : Advert) (r : Register) (b : Advert) (q : Register) → is_better a r now r ≡ false
     → IsBetter a r b q → IsBetter now r b q
-as_good a now r b q e h = as_good_by a.is_static now.is_static b.is_static a.sequence now.sequence b.sequence
-    (register_cmp r q) (register_cmp r r) e h
+as_good a now r b q e h = (is_first now r b q).1 (go (advert_cmp (r, a) (r, now)) refl)
+  where
+    go : (o : Ordering) → advert_cmp (r, a) (r, now) ≡ o → advert_cmp (r, now) (q, b) ≡ Less
+    go Less t = let yes = tested (r, a) (r, now) ∙ ap is_lt t in cc
+    go Equal t = sym (advert_total.congr (r, a) (r, now) (q, b) t) ∙ (is_first a r b q).0 h
+    go Greater t = advert_total.trans (r, now) (r, a) (q, b)
+        (advert_total.antisymm (r, now) (r, a) ∙ ap ordering_reverse t) ((is_first a r b q).0 h)
 
 -- ---- there is at most one owner
 pub one_owner : OneOwner
@@ -128,35 +140,19 @@ one_owner t vni mac o p a b = elim (same_or_other (register_of o (Mac vni mac a.
 abbrev IsAbout : ℕ → ℕ → Key → Type 0
 IsAbout vni mac k = (ip : Option Ip) × (k ≡ Mac vni mac ip)
 
-about_is : (vni mac : ℕ) (k : Key) → is_about vni mac k ≡ true → IsAbout vni mac k
-about_is vni mac (Flood v) e = cc
-about_is vni mac (Mac v m ip) e =
-    let t = both (v == vni) (m == mac) e in
-    let a = t.0 in
-    let b = t.1 in
-    let vs : v ≡ vni = grind (arith, nat_tests) in
-    let ms : m ≡ mac = grind (arith, nat_tests) in
-    (ip, λ i. Mac (vs i) (ms i) ip)
-
-itself : (n : ℕ) → (n == n) ≡ true
-itself n = grind (arith, nat_tests)
-
-about_test : (vni mac : ℕ) (k : Key) → IsAbout vni mac k → is_about vni mac k ≡ true
-about_test vni mac k h = subst (λ x. is_about vni mac x ≡ true) (sym h.1) (ap (λ b. b && (mac == mac)) (itself vni)
-    ∙ itself mac)
-
 said_some : (vni mac : ℕ) (r : Register) (v : Value) (b : Advert) → said_of vni mac r v ≡ Some b
     → IsAbout vni mac r.key × (advert_in v.content ≡ Some b)
 said_some vni mac r v b e = go (is_about vni mac r.key) refl e
   where
     go : (c : Bool) → is_about vni mac r.key ≡ c → cond c (advert_in v.content) None ≡ Some b
         → IsAbout vni mac r.key × (advert_in v.content ≡ Some b)
-    go true t e = (about_is vni mac r.key t, e)
+    go true t e = (address_key vni mac r.key (about_address vni mac r.key t), e)
     go false t e = cc
 
 said_none : (vni mac : ℕ) (r : Register) (v : Value) → said_of vni mac r v ≡ None → IsAbout vni mac r.key
     → advert_in v.content ≡ None
-said_none vni mac r v e h = ap (λ c. cond c (advert_in v.content) None) (sym (about_test vni mac r.key h)) ∙ e
+said_none vni mac r v e h = ap (λ c. cond c (advert_in v.content) None)
+    (sym (about_itself vni mac r.key (ap subject_of h.1))) ∙ e
 
 -- ---- the walk, register by register
 abbrev pub in_list : List (Register × Value) → Register → Option Advert
@@ -266,6 +262,10 @@ module _ (vni mac : ℕ) (es : List (Register × Value)) (e : Register × Value)
       go (Some b) says None h = first b h says
       go (Some b) says (Some best) h = pick b best h says (is_better b e.0 best.1 best.0) refl
 
+pub not_less_itself : (k q : Register) → register_cmp k q ≡ Less → k ≡ q → ⊥
+not_less_itself k q l same = let e : register_cmp k q ≡ Equal = ap (register_cmp k) (sym same)
+    ∙ tied_itself register_total k in cc
+
 -- in a list in order, a later register is not among those before it
 pub fresh : (ps es : List (Register × Value)) (e : Register × Value) → is_sorted register_cmp (ps ++ e ∷ es) ≡ true
     → find register_cmp e.0 ps ≡ None
@@ -273,9 +273,7 @@ fresh [] es e s = refl
 fresh (p ∷ ps) es e s =
     let parts = both (below_all register_cmp p.0 (ps ++ e ∷ es)) (is_sorted register_cmp (ps ++ e ∷ es)) s in
     ap (λ b. cond b (Some p.1) (find register_cmp e.0 ps))
-    (other_register e.0 p.0 (λ same. let l = above ps parts.0 in
-    let e : register_cmp p.0 p.0 ≡ Less = subst (λ x. register_cmp p.0 x ≡ Less) same l in
-    less_not_back p.0 p.0 e e)) ∙ fresh ps es e parts.1
+    (other_register e.0 p.0 (λ same. not_less_itself p.0 e.0 (above ps parts.0) (sym same))) ∙ fresh ps es e parts.1
   where
     above : (qs : List (Register × Value)) → below_all register_cmp p.0 (qs ++ e ∷ es) ≡ true
         → register_cmp p.0 e.0 ≡ Less

@@ -1,8 +1,7 @@
 -- What the place of a register says of updates in the order of their registers, and what an edit there does.
-use Rattle.std.proofs.Common.{◌≡◌, ℕ, zero, suc, ◌+◌, ◌<◌, ◌≤◌, Bool, true, false, cond, ◌&&◌, List, [], ◌∷◌, length}
+use Rattle.std.proofs.Common.{◌≡◌, ℕ, zero, suc, ◌+◌, ◌<◌, ◌≤◌, true, cond, List, [], ◌∷◌, length}
 use Rattle.std.proofs.Common.{get_or, set, Some, None, Result, Ok, Err, refl, sym, ap, subst, ◌∙◌, arith}
 use Rattle.std.specs.List.{insert}
-use Rattle.std.specs.declared.cmp.Ordering.{Ordering}
 use Rattle.std.specs.declared.cmp.Ordering.TheVariants.{Less, Equal, Greater}
 use Rattle.std.specs.Ordering.{is_lt, is_eq}
 use Rattle.std.specs.FinMap.Entries.{by_order, put, find, is_sorted, below_all}
@@ -15,6 +14,7 @@ use Rattle.route_join.specs.Table.{entries_of, IsOrdered}
 use Rattle.route_join.specs.Subject.{Subject, subject_of}
 use Rattle.route_join.specs.Group.{AreAbout}
 use Rattle.route_join.specs.Place.{place_of, later_by}
+use Rattle.route_join.proofs.Orders.{less, both}
 
 -- ---- a register that stands at a place
 
@@ -78,15 +78,6 @@ pub record IsGap (us : List Fields) (q : Register) (at : ℕ) : Type 0 where
   pub within : at ≤ length us
   pub value : find register_cmp q (entries_of us) ≡ None
   pub write : (u : Fields) → u.register ≡ q → entries_of (insert us at u) ≡ put register_cmp q u.value (entries_of us)
-
-pub both : (a b : Bool) → a && b ≡ true → (a ≡ true) × (b ≡ true)
-both true b p = (refl, p)
-both false b p = cc
-
-pub less : (o : Ordering) → is_lt o ≡ true → o ≡ Less
-less Less p = refl
-less Equal p = cc
-less Greater p = cc
 
 -- a register below the first of a list in order is not found in it
 not_found : (q k : Register) (es : List (Register × Value)) → register_cmp q k ≡ Less

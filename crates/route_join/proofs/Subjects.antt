@@ -1,36 +1,28 @@
 -- The order of registers is that of their subjects first.
-use Rattle.std.proofs.Common.{◌≡◌, ℕ, ◌+◌, ◌<◌, true, Option, Some, None, refl, sym, ap, ◌∙◌, arith}
+use Rattle.std.proofs.Common.{◌≡◌, ℕ, ◌+◌, true, Option, Some, None, refl, sym, ap, ◌∙◌, arith}
 use Rattle.std.specs.Prelude.{◌==◌}
 use Rattle.std.proofs.lemmas.Bool.{eq-eqb}
 use Rattle.std.proofs.lemmas.Bool.Decides.{nat_tests}
 use Rattle.std.specs.declared.cmp.Ordering.{Ordering}
 use Rattle.std.specs.declared.cmp.Ordering.TheVariants.{Less, Equal, Greater}
-use Rattle.std.specs.Cmp.{ranked, nat_cmp_is}
+use Rattle.std.specs.Cmp.{nat_cmp_is}
 use Rattle.std.specs.Option.{option_cmp}
-use Rattle.std.specs.Ordering.{MatchOrdering, nat_cmp, ordering_then}
+use Rattle.std.specs.Ordering.{nat_cmp, ordering_then}
 use Rattle.route_wire.specs.declared.update.Ip.{Ip}
 use Rattle.route_wire.specs.declared.update.Key.{Key}
 use Rattle.route_wire.specs.declared.update.Key.TheVariants.{Flood, Mac}
 use Rattle.route_wire.specs.declared.update.Register.{Register}
 use Rattle.route_wire.specs.Order.{vni_of, place_of, ip_of, ip_cmp, register_cmp}
 use Rattle.route_join.specs.Subject.{Subject, subject_cmp, subject_of}
+use Rattle.route_join.proofs.Numbers.{by_one}
 use Rattle.route_join.specs.Owner.{is_about}
 use Rattle.route_join.proofs.Orders.{both}
-
-both_by : (n m : ℕ) (o : Ordering) → nat_cmp n m ≡ o → nat_cmp (n + 1) (m + 1) ≡ o
-both_by n m o h = sym (nat_cmp_is (n + 1) (m + 1) o (go o (ranked n m o (sym h))))
-  where
-    go : (o : Ordering) → MatchOrdering o (n < m) (n ≡ m) (m < n)
-        → MatchOrdering o (n + 1 < m + 1) (n + 1 ≡ m + 1) (m + 1 < n + 1)
-    go Less k = omega arith
-    go Equal k = omega arith
-    go Greater k = omega arith
 
 same_places : (a b : Key) → nat_cmp (place_of a) (place_of b) ≡ option_cmp nat_cmp (subject_of a).mac (subject_of b).mac
 same_places (Flood v) (Flood w) = refl
 same_places (Flood v) (Mac w n j) = sym (nat_cmp_is 0 (n + 1) Less (omega arith))
 same_places (Mac v m i) (Flood w) = sym (nat_cmp_is (m + 1) 0 Greater (omega arith))
-same_places (Mac v m i) (Mac w n j) = both_by m n (nat_cmp m n) refl
+same_places (Mac v m i) (Mac w n j) = by_one m n (nat_cmp m n) refl
 
 same_vni : (a : Key) → vni_of a ≡ (subject_of a).vni
 same_vni (Flood v) = refl

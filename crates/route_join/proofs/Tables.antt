@@ -1,8 +1,6 @@
 -- One register of a table, and the one table of a set.
 use Rattle.std.proofs.Common.{◌≡◌, ◌≢◌, ◌⊎◌, inl, inr, Bool, true, false, cond, Option, Some, None, List, [], ◌∷◌, refl}
 use Rattle.std.proofs.Common.{sym, ap, subst, ◌∙◌}
-use Rattle.std.specs.declared.cmp.Ordering.{Ordering}
-use Rattle.std.specs.declared.cmp.Ordering.TheVariants.{Less, Equal, Greater}
 use Rattle.std.specs.Cmp.{tied_itself}
 use Rattle.std.specs.Ordering.{is_lt, is_eq, eq_by_cmp}
 use Rattle.std.specs.Option.{option_map}
@@ -10,6 +8,7 @@ use Rattle.std.specs.FinMap.{get, get-insert, same_map}
 use Rattle.route_wire.specs.declared.update.Register.{Register}
 use Rattle.route_wire.specs.declared.update.Value.{Value}
 use Rattle.route_wire.specs.Fields.{Fields}
+use Rattle.route_wire.specs.Ties.{equal_from}
 use Rattle.route_wire.specs.Order.{register_cmp, is_newer}
 use Rattle.route_wire.specs.Totals.{register_total, register_exact, value_total, neither_newer}
 use Rattle.route_join.specs.Table.{Table, value_at, update_at, with_value}
@@ -18,11 +17,6 @@ use Rattle.route_join.proofs.Orders.{less, both}
 use Rattle.route_join.specs.Laws.{OneTable}
 
 -- ---- registers
-pub equal_from : (o : Ordering) → is_eq o ≡ true → o ≡ Equal
-equal_from Less e = cc
-equal_from Equal e = refl
-equal_from Greater e = cc
-
 pub same_register : (a b : Register) → eq_by_cmp register_cmp a b ≡ true → a ≡ b
 same_register a b h = register_exact a b (equal_from (register_cmp a b) h)
 

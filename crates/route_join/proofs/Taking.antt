@@ -1,6 +1,7 @@
 -- What all groups make of an update is what the update's group makes of it.
-use Rattle.std.proofs.Common.{◌≡◌, ℕ, ◌+◌, is_some, Bool, true, false, cond, Option, Some, None, length, Result, Ok}
-use Rattle.std.proofs.Common.{Err, List, [], ◌∷◌, IfOk, OnOk, OnErr, refl, sym, ap, subst, ◌∙◌, arith}
+use Rattle.std.proofs.Common.{◌≡◌, ℕ, ◌+◌, ◌<◌, ◌^◌, is_some, Bool, true, false, cond, Option, Some, None}
+use Rattle.std.proofs.Common.{length, Result, Ok}
+use Rattle.std.proofs.Common.{Err, List, [], ◌∷◌, OnErr, refl, sym, ap, subst, ◌∙◌, arith}
 use Rattle.std.specs.declared.alloc.AllocError.{AllocError}
 use Rattle.std.specs.BTreeMap.{insert_entry, is_at}
 use Rattle.std.specs.Map.{set_value}
@@ -15,12 +16,12 @@ use Rattle.route_join.specs.declared.table.Taken.{Taken}
 use Rattle.route_join.specs.declared.table.Taken.TheVariants.{Newer, Known}
 use Rattle.route_join.specs.Subject.{Subject, subject_cmp, subject_of}
 use Rattle.route_join.specs.Table.{entries_of, is_news, IsOrdered}
-use Rattle.route_join.specs.Group.{AreAbout, IsSome, AreGroups, updates_in, entries_with, added}
+use Rattle.route_join.specs.Group.{AreAbout, IsSome, AreGroups, updates_in, entries_with, added, Takes}
 use Rattle.route_join.proofs.Groupings.{Groups, Entries, entries_in, entries_in_all, about_there, some_there}
-use Rattle.route_join.proofs.Groupings.{find_there, find_nowhere, put_there, same_there, put_new, about_put, some_put}
+use Rattle.route_join.proofs.Groupings.{find_there, put_there, same_there, about_put, some_put}
 use Rattle.route_join.proofs.Groupings.{groups_set, groups_insert}
 use Rattle.route_join.specs.Groups.{group_at}
-use Rattle.route_join.proofs.Leaders.{verdict, held_new}
+use Rattle.route_join.proofs.Leaders.{new_takes}
 use Rattle.route_join.proofs.Orders.{to_T}
 
 about_with : (s : Subject) (es : Entries) (u : Fields) → AreAbout s es → subject_of u.register.key ≡ s
@@ -43,15 +44,15 @@ module _ (gs : Groups) (u : Fields) (us new : List Fields) (k : AreGroups gs)
           → entries_of new ≡ cond b (put register_cmp u.register u.value (entries_of us)) (entries_of us)
           → entries_in (set_value (is_at (subject_cmp (subject_of u.register.key))) gs new)
           ≡ entries_with (entries_in gs) u
-      go true t p = put_there u.register u.value gs us new k h p
+      go true t p = put_there u.register u.value gs (Some us) new k h p
           ∙ sym (ap (λ x. cond x (put register_cmp u.register u.value (entries_in gs)) (entries_in gs))
-          (ap (λ o. is_news o u.value) (find_there u.register gs us k h) ∙ t))
-      go false t p = same_there (subject_of u.register.key) gs us new h p
+          (ap (λ o. is_news o u.value) (find_there u.register gs (Some us) k h) ∙ t))
+      go false t p = same_there (subject_of u.register.key) gs us new k h p
           ∙ sym (ap (λ x. cond x (put register_cmp u.register u.value (entries_in gs)) (entries_in gs))
-          (ap (λ o. is_news o u.value) (find_there u.register gs us k h) ∙ t))
+          (ap (λ o. is_news o u.value) (find_there u.register gs (Some us) k h) ∙ t))
 
   found_in : find register_cmp u.register (entries_of (updates_in gs)) ≡ find register_cmp u.register (entries_of us)
-  found_in = ap (find register_cmp u.register) (entries_in_all gs) ∙ find_there u.register gs us k h
+  found_in = ap (find register_cmp u.register) (entries_in_all gs) ∙ find_there u.register gs (Some us) k h
 
   module _ (after : Groups) (w : after ≡ set_value (is_at (subject_cmp (subject_of u.register.key))) gs new) where
     pub took_in : entries_of new ≡ entries_with (entries_of us) u
@@ -64,59 +65,56 @@ module _ (gs : Groups) (u : Fields) (us new : List Fields) (k : AreGroups gs)
     unchanged_in e = w ∙ set_value_same (is_at (subject_cmp (subject_of u.register.key))) gs new (h ∙ ap Some (sym e))
 
     -- what the call of the group's `take` told, of all groups
-    pub groups_after : (r : Result Taken AllocError) → OnOk r (entries_of new ≡ entries_with (entries_of us) u)
-        → OnErr r (new ≡ us) → AreGroups after
-    groups_after (Ok t) e n = subst AreGroups (sym w) (groups_set (subject_of u.register.key) new
-        (subst (AreAbout (subject_of u.register.key)) (sym e)
+    pub groups_after : (r : Result Taken AllocError) (held more : ℕ)
+        → Takes (entries_of us) u held r (entries_of new) more → OnErr r (new ≡ us) → AreGroups after
+    groups_after (Ok t) held more took n = subst AreGroups (sym w) (groups_set (subject_of u.register.key) new
+        (subst (AreAbout (subject_of u.register.key)) (sym took.entries)
         (about_with (subject_of u.register.key) (entries_of us) u
         (about_there (subject_of u.register.key) gs us k h) refl))
-        (subst IsSome (sym e) (some_with (entries_of us) u (some_there (subject_of u.register.key) gs us k h))) gs k)
-    groups_after (Err x) e n = subst AreGroups (sym (unchanged_in n)) k
+        (subst IsSome (sym took.entries) (some_with (entries_of us) u (some_there (subject_of u.register.key) gs us k
+        h))) gs k)
+    groups_after (Err x) held more took n = subst AreGroups (sym (unchanged_in n)) k
 
-    pub entries_after : (r : Result Taken AllocError) → OnOk r (entries_of new ≡ entries_with (entries_of us) u)
-        → OnOk r (entries_of (updates_in after) ≡ entries_with (entries_of (updates_in gs)) u)
-    entries_after (Ok t) e = took_in e
-    entries_after (Err x) e = tt
+    pub takes_after : (r : Result Taken AllocError) (held more : ℕ)
+        → Takes (entries_of us) u held r (entries_of new) more
+        → Takes (entries_of (updates_in gs)) u held r (entries_of (updates_in after)) more
+    takes_after (Ok t) held more took = record {
+      taken = took.taken ∙ sym (ap (λ o. cond (is_news o u.value) Newer Known) found_in);
+      entries = took_in took.entries;
+      counted = took.counted ∙ sym (ap (λ o. held + cond (is_some o) 0 1) found_in);
+      few = took.few;
+      absent = tt;
+      uncounted = tt;
+    }
+    takes_after (Err x) held more took = record {
+      taken = tt;
+      entries = tt;
+      counted = tt;
+      few = took.few;
+      absent = found_in ∙ took.absent;
+      uncounted = took.uncounted;
+    }
 
     pub err_after : (r : Result Taken AllocError) → OnErr r (new ≡ us) → OnErr r (after ≡ gs)
     err_after (Ok t) e = tt
     err_after (Err x) e = unchanged_in e
 
-  pub taken_after : (r : Result Taken AllocError) → IfOk r (λ t. t ≡ verdict us u)
-      → IfOk r (λ t. t ≡ verdict (updates_in gs) u)
-  taken_after (Ok t) e = e ∙ sym (ap (λ o. cond (is_news o u.value) Newer Known) found_in)
-  taken_after (Err x) e = tt
-
-  pub held_after : (r : Result Taken AllocError) (old more : ℕ) → OnOk r (more ≡ old + added (entries_of us) u)
-      → OnOk r (more ≡ old + added (entries_of (updates_in gs)) u)
-  held_after (Ok t) old more e = e ∙ sym (ap (λ o. old + cond (is_some o) 0 1) found_in)
-  held_after (Err x) old more e = tt
-
-  pub new_after : (r : Result Taken AllocError) → OnErr r (find register_cmp u.register (entries_of us) ≡ None)
-      → OnErr r (find register_cmp u.register (entries_of (updates_in gs)) ≡ None)
-  new_after (Ok t) e = tt
-  new_after (Err x) e = found_in ∙ e
-
 -- ---- the update is the first one about its subject
 module _ (gs : Groups) (u : Fields) (k : AreGroups gs) (h : group_at (subject_of u.register.key) gs ≡ None) where
   pub absent_in : find register_cmp u.register (entries_of (updates_in gs)) ≡ None
-  absent_in = ap (find register_cmp u.register) (entries_in_all gs) ∙ find_nowhere u.register gs k h
-
-  pub one_held : (old : ℕ) → old + 1 ≡ old + added (entries_of (updates_in gs)) u
-  one_held old = held_new (updates_in gs) u absent_in old
-
-  pub newer_in : Newer ≡ verdict (updates_in gs) u
-  newer_in = sym (ap (λ o. cond (is_news o u.value) Newer Known) absent_in)
+  absent_in = ap (find register_cmp u.register) (entries_in_all gs) ∙ find_there u.register gs None k h
 
   module _ (new : List Fields) (one : new ≡ u ∷ []) (after : Groups)
       (w : after ≡ insert_entry subject_cmp gs (subject_of u.register.key) new) where
-    pub made_in : entries_of (updates_in after) ≡ entries_with (entries_of (updates_in gs)) u
+    made_in : entries_of (updates_in after) ≡ put register_cmp u.register u.value (entries_of (updates_in gs))
     made_in = ap (λ x. entries_of (updates_in x)) w ∙ entries_in_all
         (insert_entry subject_cmp gs (subject_of u.register.key) new)
-        ∙ put_new u.register u.value gs new k h (ap entries_of one)
+        ∙ put_there u.register u.value gs None new k h (ap entries_of one)
         ∙ ap (put register_cmp u.register u.value) (sym (entries_in_all gs))
-        ∙ sym (ap (λ o. cond (is_news o u.value) (put register_cmp u.register u.value (entries_of (updates_in gs)))
-        (entries_of (updates_in gs))) absent_in)
+
+    pub made_takes : (held more : ℕ) → more ≡ held + 1 → more < 2 ^ 64
+        → Takes (entries_of (updates_in gs)) u held (Ok Newer) (entries_of (updates_in after)) more
+    made_takes held = new_takes (entries_of (updates_in gs)) u absent_in held (entries_of (updates_in after)) made_in
 
     pub groups_made : AreGroups after
     groups_made = subst AreGroups (sym w) (groups_insert (subject_of u.register.key) new

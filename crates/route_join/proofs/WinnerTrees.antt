@@ -1,28 +1,25 @@
 -- A winner tree: who is the best at the first place is the best of all places.
-use Rattle.std.proofs.Common.{◌≡◌, ◌≢◌, ◌⊎◌, inl, inr, ℕ, zero, suc, ◌+◌, ◌*◌, ◌<◌, ◌≤◌, Bool, true, false, cond, ◌||◌}
-use Rattle.std.proofs.Common.{◌&&◌, Option, Some, None, List, [], ◌∷◌, ◌++◌, length, set, refl, sym, ap, subst, ◌∙◌}
+use Rattle.std.proofs.Common.{◌≡◌, ◌≢◌, ◌⊎◌, inl, inr, ℕ, zero, suc, ◌+◌, ◌-◌, ◌*◌, ◌/◌, ◌<◌, ◌≤◌, Bool, true, false}
+use Rattle.std.proofs.Common.{cond}
+use Rattle.std.proofs.Common.{Option, Some, None, List, [], ◌∷◌, ◌++◌, length, set, refl, sym, ap, subst, ◌∙◌}
 use Rattle.std.proofs.Common.{arith}
 use Rattle.std.specs.Prelude.{nat_lt, ◌==◌}
-use Rattle.std.specs.declared.cmp.Ordering.{Ordering}
-use Rattle.std.specs.declared.cmp.Ordering.TheVariants.{Less, Equal, Greater}
-use Rattle.std.specs.Ordering.{is_lt, ordering_reverse}
-use Rattle.std.specs.Cmp.{tied_itself}
 use Rattle.std.specs.List.{slice_get}
 use Rattle.std.specs.Option.{option_map}
 use Rattle.std.proofs.lemmas.Bool.Decides.{nat_tests}
+use Rattle.std.proofs.Math.Logic.{⊎_elim, ⊎_map}
+use Rattle.std.proofs.Math.Seq.{map-set_same}
 use Rattle.std.proofs.lemmas.List.{map-set}
-use Rattle.std.proofs.lemmas.Option.{slice_get-map, slice_get_past, slice_get_within}
+use Rattle.std.proofs.lemmas.Option.{get_or_from_slice_get, slice_get_past, slice_get_within}
 use Rattle.route_wire.specs.declared.update.Register.{Register}
 use Rattle.route_wire.specs.declared.update.Advert.{Advert}
 use Rattle.route_wire.specs.Fields.{Fields}
-use Rattle.route_wire.specs.Order.{register_cmp}
-use Rattle.route_wire.specs.Totals.{register_total, register_exact}
 use Rattle.route_join.specs.declared.winner_tree.WinnerNode.{WinnerNode}
-use Rattle.route_join.specs.Owner.{advert_in, is_better_by, is_better}
+use Rattle.route_join.specs.Owner.{advert_in}
 use Rattle.route_join.specs.Group.{candidate_in, wins}
-use Rattle.route_join.specs.WinnerTree.{better_leader, best_in, best_below, better_of, best_at, IsSettledAt, AreSettled}
-use Rattle.route_join.specs.WinnerTree.{owns, IsBestOf}
-use Rattle.route_join.proofs.Owners.{untested, better_not_back, is_better_is}
+use Rattle.route_join.specs.WinnerTree.{owns, said_at, better_of, best_in, best_below, best_at, IsSettledAt}
+use Rattle.route_join.specs.WinnerTree.{AreSettled, IsSettledBut, IsBestOf}
+use Rattle.route_join.proofs.Owners.{better_ranks}
 
 -- ---- lists
 pub set_here : {X : Type 0} (xs : List X) (i : ℕ) (x : X) → i < length xs → slice_get (set xs i x) i ≡ Some x
@@ -41,19 +38,12 @@ pub last : {X : Type 0} (xs : List X) (x : X) → slice_get (xs ++ x ∷ []) (le
 last [] x = refl
 last (y ∷ ys) x = last ys x
 
-pub before : {X : Type 0} (xs : List X) (x : X) (i : ℕ) (y : X) → slice_get xs i ≡ Some y
-    → slice_get (xs ++ x ∷ []) i ≡ Some y
-before [] x i y h = cc
-before (z ∷ zs) x zero y h = h
-before (z ∷ zs) x (suc i) y h = before zs x i y h
-
 pub either : {X : Type 0} (xs : List X) (x : X) (i : ℕ) (y : X) → slice_get (xs ++ x ∷ []) i ≡ Some y
     → (slice_get xs i ≡ Some y) ⊎ ((length xs ≡ i) × (x ≡ y))
 either [] x zero y h = inr (refl, (let same : x ≡ y = cc in same))
 either [] x (suc i) y h = cc
 either (z ∷ zs) x zero y h = inl h
-either (z ∷ zs) x (suc i) y h = elim (either zs x i y h) as (λ _. (slice_get zs i ≡ Some y)
-    ⊎ ((suc (length zs) ≡ suc i) × (x ≡ y))) [ inl a ↦ inl a | inr b ↦ inr (ap suc b.0, b.1) ]
+either (z ∷ zs) x (suc i) y h = ⊎_map (λ a. a) (λ b. (ap suc b.0, b.1)) (either zs x i y h)
 
 pub nat_same : (i j : ℕ) → (i ≡ j) ⊎ (i ≢ j)
 nat_same i j = go (i == j) refl
@@ -62,364 +52,369 @@ nat_same i j = go (i == j) refl
     go true e = inl (grind (arith, nat_tests))
     go false e = inr (λ h. grind (arith, nat_tests))
 
+-- the same, before or behind
+ranked : (i j : ℕ) → (i ≡ j) ⊎ ((i < j) ⊎ (j < i))
+ranked i j = go (nat_lt i j) refl
+  where
+    go : (b : Bool) → nat_lt i j ≡ b → (i ≡ j) ⊎ ((i < j) ⊎ (j < i))
+    go true e = inr (inl (grind (arith, nat_tests)))
+    go false e = ⊎_map (λ h. h) (λ ne. inr (grind (arith, nat_tests))) (nat_same i j)
+
+pub half : (n : ℕ) → n ≢ 0 → (n ≡ 2 * ((n - 1) / 2) + 1) ⊎ (n ≡ 2 * ((n - 1) / 2) + 2)
+half n h = ⊎_elim inl (λ ne. inr (omega (arith, h, ne))) (nat_same n (2 * ((n - 1) / 2) + 1))
+
 -- ---- what doesn't win against one that doesn't win doesn't win either
 abbrev Candidate : Type 0
 Candidate = Option (Register × Advert)
-
-untested_back : (m n : ℕ) (b : Bool) → m ≤ n → (n ≡ m → b ≡ false) → (nat_lt n m || (n == m && b)) ≡ false
-untested_back m n false l f = grind (arith, nat_tests)
-untested_back m n true l f = go (n == m) refl
-  where
-    go : (c : Bool) → (n == m) ≡ c → (nat_lt n m || (c && true)) ≡ false
-    go true e = let same : n ≡ m = grind (arith, nat_tests) in let no = f same in cc
-    go false e = grind (arith, nat_tests)
-
-not_better_by : (f g h : Bool) (m n k : ℕ) (o p q : Ordering) → (is_lt o ≡ false → is_lt p ≡ false → is_lt q ≡ false)
-    → is_better_by f g m n o ≡ false → is_better_by g h n k p ≡ false → is_better_by f h m k q ≡ false
-not_better_by true true true m n k o p q t e d = let a = untested m n (is_lt o) e in let b = untested n k (is_lt p) d in
-    untested_back m k (is_lt q) (omega (arith, a.0, b.0))
-    (λ s. t (a.1 (omega (arith, a.0, b.0, s))) (b.1 (omega (arith, a.0, b.0, s))))
-not_better_by true true false m n k o p q t e d = cc
-not_better_by true false h m n k o p q t e d = cc
-not_better_by false true true m n k o p q t e d = refl
-not_better_by false true false m n k o p q t e d = cc
-not_better_by false false true m n k o p q t e d = refl
-not_better_by false false false m n k o p q t e d = let a = untested m n (is_lt o) e in
-    let b = untested n k (is_lt p) d in
-    untested_back m k (is_lt q) (omega (arith, a.0, b.0))
-    (λ s. t (a.1 (omega (arith, a.0, b.0, s))) (b.1 (omega (arith, a.0, b.0, s))))
-
-not_first : (r q p : Register) → is_lt (register_cmp r q) ≡ false → is_lt (register_cmp q p) ≡ false
-    → is_lt (register_cmp r p) ≡ false
-not_first r q p a b = go (register_cmp r p) refl
-  where
-    between : (o : Ordering) → register_cmp r q ≡ o → register_cmp r p ≡ Less → ⊥
-    between Less e l = let t = ap is_lt e in cc
-    between Equal e l = let t = ap is_lt (subst (λ x. register_cmp x p ≡ Less) (register_exact r q e) l) in cc
-    between Greater e l = let t = ap is_lt (register_total.trans q r p (register_total.antisymm q r
-        ∙ ap ordering_reverse e) l) in cc
-
-    go : (o : Ordering) → register_cmp r p ≡ o → is_lt (register_cmp r p) ≡ false
-    go Less e = absurd (between (register_cmp r q) refl e)
-    go Equal e = ap is_lt e
-    go Greater e = ap is_lt e
 
 pub not_beaten : (c d e : Candidate) → wins d c ≡ false → wins e d ≡ false → wins e c ≡ false
 not_beaten c d None a b = refl
 not_beaten None (Some d) (Some e) a b = cc
 not_beaten None None (Some e) a b = cc
 not_beaten (Some c) None (Some e) a b = cc
-not_beaten (Some c) (Some d) (Some e) a b =
-    not_better_by e.1.is_static d.1.is_static c.1.is_static e.1.sequence d.1.sequence c.1.sequence
-    (register_cmp e.0 d.0) (register_cmp d.0 c.0) (register_cmp e.0 c.0) (not_first e.0 d.0 c.0) b a
-
-level_itself : (f : Bool) (m : ℕ) (o : Ordering) → is_lt o ≡ false → is_better_by f f m m o ≡ false
-level_itself true m o e = untested_back m m (is_lt o) (omega arith) (λ s. e)
-level_itself false m o e = untested_back m m (is_lt o) (omega arith) (λ s. e)
-
-pub not_itself : (c : Candidate) → wins c c ≡ false
-not_itself None = refl
-not_itself (Some c) = level_itself c.1.is_static c.1.sequence (register_cmp c.0 c.0)
-    (ap is_lt (tied_itself register_total c.0))
+not_beaten (Some c) (Some d) (Some e) a b = better_ranks.chain e d c b a
 
 not_back : (c d : Candidate) → wins c d ≡ true → wins d c ≡ false
 not_back c None e = refl
 not_back None (Some d) e = cc
-not_back (Some c) (Some d) e = go (is_better d.1 d.0 c.1 c.0) refl
+not_back (Some c) (Some d) e = better_ranks.one_way c d e
+
+pub not_itself : (c : Candidate) → wins c c ≡ false
+not_itself c = go (wins c c) refl
   where
-    go : (b : Bool) → is_better d.1 d.0 c.1 c.0 ≡ b → is_better d.1 d.0 c.1 c.0 ≡ false
-    go true t = absurd (better_not_back c.1 c.0 d.1 d.0 (is_better_is c.1 c.0 d.1 d.0 e)
-        (is_better_is d.1 d.0 c.1 c.0 t))
-    go false t = t
+    go : (b : Bool) → wins c c ≡ b → wins c c ≡ false
+    go true e = not_back c c e
+    go false e = e
 
 -- ---- the better one of two
-module _ (w : Option Fields) (u : Fields) where
-  new_loses : wins (candidate_in (Some u)) (candidate_in (better_leader w u)) ≡ false
-  new_loses = go (wins (candidate_in (Some u)) (candidate_in w)) refl
-    where
-      go : (b : Bool) → wins (candidate_in (Some u)) (candidate_in w) ≡ b
-          → wins (candidate_in (Some u)) (candidate_in (cond b (Some u) w)) ≡ false
-      go true e = not_itself (candidate_in (Some u))
-      go false e = e
+module _ (us : List Fields) where
+  abbrev said : Option ℕ → Candidate
+  said w = candidate_in (said_at us w)
 
-  old_loses : wins (candidate_in w) (candidate_in (better_leader w u)) ≡ false
-  old_loses = go (wins (candidate_in (Some u)) (candidate_in w)) refl
-    where
-      go : (b : Bool) → wins (candidate_in (Some u)) (candidate_in w) ≡ b
-          → wins (candidate_in w) (candidate_in (cond b (Some u) w)) ≡ false
-      go true e = not_back (candidate_in (Some u)) (candidate_in w) e
-      go false e = not_itself (candidate_in w)
+  module _ (w o : Option ℕ) where
+    first_loses : wins (said w) (said (better_of us w o)) ≡ false
+    first_loses = go (wins (said o) (said w)) refl
+      where
+        go : (b : Bool) → wins (said o) (said w) ≡ b → wins (said w) (said (cond b o w)) ≡ false
+        go true e = not_back (said o) (said w) e
+        go false e = not_itself (said w)
 
-first_loses : (w o : Option Fields) → wins (candidate_in w) (candidate_in (better_of w o)) ≡ false
-first_loses w None = not_itself (candidate_in w)
-first_loses w (Some u) = old_loses w u
+    other_loses : wins (said o) (said (better_of us w o)) ≡ false
+    other_loses = go (wins (said o) (said w)) refl
+      where
+        go : (b : Bool) → wins (said o) (said w) ≡ b → wins (said o) (said (cond b o w)) ≡ false
+        go true e = not_itself (said o)
+        go false e = e
 
-other_loses : (w o : Option Fields) → wins (candidate_in o) (candidate_in (better_of w o)) ≡ false
-other_loses w None = refl
-other_loses w (Some u) = new_loses w u
+    chosen : (x : ℕ) → better_of us w o ≡ Some x → ((o ≡ Some x) × (wins (said o) (said w) ≡ true)) ⊎ (w ≡ Some x)
+    chosen x = go (wins (said o) (said w)) refl
+      where
+        go : (b : Bool) → wins (said o) (said w) ≡ b → cond b o w ≡ Some x
+            → ((o ≡ Some x) × (wins (said o) (said w) ≡ true)) ⊎ (w ≡ Some x)
+        go true t h = inl (h, t)
+        go false t h = inr h
 
-module _ (bs : List WinnerNode) (p : ℕ) (own : Fields) where
-  abbrev left : Option Fields
+module _ (bs : List WinnerNode) (p : ℕ) where
+  abbrev us : List Fields
+  us = owns bs
+
+  abbrev left : Option ℕ
   left = best_below bs (2 * p + 1)
 
-  abbrev right : Option Fields
+  abbrev right : Option ℕ
   right = best_below bs (2 * p + 2)
 
-  abbrev one : Option Fields
-  one = better_leader None own
+  abbrev one : Option ℕ
+  one = better_of us None (Some p)
 
-  abbrev two : Option Fields
-  two = better_of one left
+  abbrev two : Option ℕ
+  two = better_of us one left
 
-  own_loses : wins (candidate_in (Some own)) (candidate_in (best_at bs p own)) ≡ false
-  own_loses = not_beaten (candidate_in (best_at bs p own)) (candidate_in two) (candidate_in (Some own))
-      (first_loses two right)
-      (not_beaten (candidate_in two) (candidate_in one) (candidate_in (Some own)) (first_loses one left)
-      (new_loses None own))
+  own_loses : wins (said us (Some p)) (said us (best_at bs p)) ≡ false
+  own_loses = not_beaten (said us (best_at bs p)) (said us two) (said us (Some p)) (first_loses us two right)
+      (not_beaten (said us two) (said us one) (said us (Some p)) (first_loses us one left)
+      (other_loses us None (Some p)))
 
-  left_loses : wins (candidate_in left) (candidate_in (best_at bs p own)) ≡ false
-  left_loses = not_beaten (candidate_in (best_at bs p own)) (candidate_in two) (candidate_in left)
-      (first_loses two right) (other_loses one left)
+  left_loses : wins (said us left) (said us (best_at bs p)) ≡ false
+  left_loses = not_beaten (said us (best_at bs p)) (said us two) (said us left) (first_loses us two right)
+      (other_loses us one left)
 
-  right_loses : wins (candidate_in right) (candidate_in (best_at bs p own)) ≡ false
-  right_loses = other_loses two right
+  right_loses : wins (said us right) (said us (best_at bs p)) ≡ false
+  right_loses = other_loses us two right
+
+  -- the best one is that of the place or of one below it, and has won against something
+  record ComesFrom (x : ℕ) : Type 0 where
+    side : (p ≡ x) ⊎ ((left ≡ Some x) ⊎ (right ≡ Some x))
+    beaten : Candidate
+    won : wins (said us (Some x)) beaten ≡ true
+
+  comes_from : (x : ℕ) → best_at bs p ≡ Some x → ComesFrom x
+  comes_from x e =
+      ⊎_elim (λ h. record { side = inr (inr h.0); beaten = said us two; won = win right two h })
+      (λ h. ⊎_elim (λ h. record { side = inr (inl h.0); beaten = said us one; won = win left one h })
+      (λ h. ⊎_elim
+      (λ h. record { side = inl (let same : p ≡ x = cc in same); beaten = None; won = win (Some p) None h })
+      (λ h. cc) (chosen us None (Some p) x h)) (chosen us one left x h)) (chosen us two right x e)
+    where
+      win : (o w : Option ℕ) → (o ≡ Some x) × (wins (said us o) (said us w) ≡ true)
+          → wins (said us (Some x)) (said us w) ≡ true
+      win o w h = subst (λ y. wins (said us y) (said us w) ≡ true) h.0 h.1
 
 -- ---- the first place
 -- each place but the first stands below another one
 above : (m : ℕ) → (q : ℕ) × ((suc m ≡ 2 * q + 1) ⊎ (suc m ≡ 2 * q + 2))
 above zero = (0, inl refl)
-above (suc m) = let h = above m in elim h.1 as (λ _. (q : ℕ)
-    × ((suc (suc m) ≡ 2 * q + 1) ⊎ (suc (suc m) ≡ 2 * q + 2))) [
-      | inl e ↦ (h.0, inr (omega (arith, e)))
-      | inr e ↦ (suc h.0, inl (omega (arith, e)))
-    ]
+above (suc m) = let h = above m in
+    ⊎_elim (λ e. (h.0, inr (omega (arith, e)))) (λ e. (suc h.0, inl (omega (arith, e)))) h.1
 
 module _ (bs : List WinnerNode) (s : AreSettled bs) where
-  below_loses : (q c : ℕ) → ((c ≡ 2 * q + 1) ⊎ (c ≡ 2 * q + 2)) → q < length bs
-      → wins (candidate_in (best_below bs c)) (candidate_in (best_below bs q)) ≡ false
-  below_loses q c side within = go (slice_get bs q) refl
-    where
-      go : (o : Option WinnerNode) → slice_get bs q ≡ o → wins (candidate_in (best_below bs c))
-          (candidate_in (best_in o))
-          ≡ false
-      go None e = let past : length bs ≤ q = none_past bs q e in absurd (omega (arith, past, within))
-        where
-          none_past : (bs : List WinnerNode) (q : ℕ) → slice_get bs q ≡ None → length bs ≤ q
-          none_past [] q e = omega arith
-          none_past (b ∷ bs) zero e = cc
-          none_past (b ∷ bs) (suc q) e = let l = none_past bs q e in omega (arith, l)
-      go (Some b) e = subst (λ (w : Option Fields). wins (candidate_in (best_below bs c)) (candidate_in w) ≡ false)
-          (sym (s q b e))
-          (elim side as (λ _. wins (candidate_in (best_below bs c)) (candidate_in (best_at bs q b.own)) ≡ false) [
-            | inl l ↦ subst (λ n. wins (candidate_in (best_below bs n)) (candidate_in (best_at bs q b.own)) ≡ false)
-                (sym l) (left_loses bs q b.own)
-            | inr r ↦ subst (λ n. wins (candidate_in (best_below bs n)) (candidate_in (best_at bs q b.own)) ≡ false)
-                (sym r) (right_loses bs q b.own)
-          ])
+  abbrev best : ℕ → Candidate
+  best p = said (owns bs) (best_below bs p)
 
-  all_lose : (n p : ℕ) → p < n → wins (candidate_in (best_below bs p)) (candidate_in (best_below bs 0)) ≡ false
+  -- what loses at a place loses against the best of that place
+  at_best : (c : Candidate) (p : ℕ) → wins c (said (owns bs) (best_at bs p)) ≡ false → wins c (best p) ≡ false
+  at_best c p h = subst (λ w. wins c (said (owns bs) w) ≡ false) (sym (s p)) h
+
+  below_loses : (q c : ℕ) → (c ≡ 2 * q + 1) ⊎ (c ≡ 2 * q + 2) → wins (best c) (best q) ≡ false
+  below_loses q c side =
+      ⊎_elim (λ e. subst (λ n. wins (best n) (best q) ≡ false) (sym e) (at_best (best (2 * q + 1)) q (left_loses bs q)))
+      (λ e. subst (λ n. wins (best n) (best q) ≡ false) (sym e) (at_best (best (2 * q + 2)) q (right_loses bs q))) side
+
+  all_lose : (n p : ℕ) → p < n → wins (best p) (best 0) ≡ false
   all_lose zero p l = absurd (omega arith)
-  all_lose (suc n) zero l = not_itself (candidate_in (best_below bs 0))
-  all_lose (suc n) (suc m) l = go (all_lose n) (slice_get bs (suc m)) refl
-    where
-      go : ((q : ℕ) → q < n → wins (candidate_in (best_below bs q)) (candidate_in (best_below bs 0)) ≡ false)
-          → (o : Option WinnerNode) → slice_get bs (suc m) ≡ o
-          → wins (candidate_in (best_in o)) (candidate_in (best_below bs 0)) ≡ false
-      go lower_lose None e = refl
-      go lower_lose (Some b) e =
-          let h = above m in
-          let within = slice_get_within bs (suc m) b e in
-          let lower : h.0 ≤ m = elim h.1 as (λ _. h.0 ≤ m) [ inl x ↦ omega (arith, x) | inr x ↦ omega (arith, x) ] in
-          subst (λ o. wins (candidate_in (best_in o)) (candidate_in (best_below bs 0)) ≡ false) e
-          (not_beaten (candidate_in (best_below bs 0)) (candidate_in (best_below bs h.0))
-          (candidate_in (best_below bs (suc m)))
-          (lower_lose h.0 (omega (arith, lower, l))) (below_loses h.0 (suc m) h.1 (omega (arith, lower, within))))
-
-  -- what a place tells as its best stands at some place, and advertises
-  record StandsSomewhere (w : Fields) : Type 0 where
-    place : ℕ
-    stands : slice_get (owns bs) place ≡ Some w
-    advert : Advert
-    advertises : advert_in w.value.content ≡ Some advert
-
-  advertises_of : (c : Candidate) (u : Fields) → wins (candidate_in (Some u)) c ≡ true
-      → (a : Advert) × (advert_in u.value.content ≡ Some a)
-  advertises_of c u e = go (advert_in u.value.content) refl
-    where
-      go : (o : Option Advert) → advert_in u.value.content ≡ o → (a : Advert) × (advert_in u.value.content ≡ Some a)
-      go None is = let no = ap (λ (x : Option Advert). wins (option_map (λ (a : Advert). (u.register, a)) x) c) is in cc
-      go (Some a) is = (a, is)
-
-  chosen : (w : Option Fields) (u x : Fields) → better_leader w u ≡ Some x
-      → ((u ≡ x) × ((a : Advert) × (advert_in u.value.content ≡ Some a))) ⊎ (w ≡ Some x)
-  chosen w u x e = go (wins (candidate_in (Some u)) (candidate_in w)) refl e
-    where
-      go : (b : Bool) → wins (candidate_in (Some u)) (candidate_in w) ≡ b → cond b (Some u) w ≡ Some x
-          → ((u ≡ x) × ((a : Advert) × (advert_in u.value.content ≡ Some a))) ⊎ (w ≡ Some x)
-      go true t h = inl ((let same : u ≡ x = cc in same), advertises_of (candidate_in w) u t)
-      go false t h = inr h
-
-  better_is : (w o : Option Fields) (x : Fields) → better_of w o ≡ Some x → (o ≡ Some x) ⊎ (w ≡ Some x)
-  better_is w None x e = inr e
-  better_is w (Some u) x e = elim (chosen w u x e) as (λ _. (Some u ≡ Some x)
-      ⊎ (w ≡ Some x)) [ inl h ↦ inl (ap Some h.0) | inr h ↦ inr h ]
-
-  somewhere : (n p : ℕ) (w : Fields) → length bs ≤ p + n → best_below bs p ≡ Some w → StandsSomewhere w
-  somewhere zero p w l e = let none = ap best_in (slice_get_past bs p (omega (arith, l))) in cc
-  somewhere (suc n) p w l e = go (λ q. somewhere n q w) (slice_get bs p) refl e
-    where
-      go : ((q : ℕ) → length bs ≤ q + n → best_below bs q ≡ Some w → StandsSomewhere w) → (o : Option WinnerNode)
-          → slice_get bs p ≡ o → best_in o ≡ Some w → StandsSomewhere w
-      go further None is h = cc
-      go further (Some b) is h =
-          let best : best_at bs p b.own ≡ Some w = sym (s p b is) ∙ h in
-          let one = better_leader None b.own in
-          let two = better_of one (best_below bs (2 * p + 1)) in
-          elim (better_is two (best_below bs (2 * p + 2)) w best) as (λ _. StandsSomewhere w) [
-            | inl r ↦ further (2 * p + 2) (omega (arith, l)) r
-            | inr t ↦ elim (better_is one (best_below bs (2 * p + 1)) w t) as (λ _. StandsSomewhere w) [
-              | inl r ↦ further (2 * p + 1) (omega (arith, l)) r
-              | inr o ↦ elim (chosen None b.own w o) as (λ _. StandsSomewhere w) [
-                | inl x ↦ record {
-                  place = p;
-                  stands = slice_get-map (λ (b : WinnerNode). b.own) bs p
-                      ∙ ap (option_map (λ (b : WinnerNode). b.own)) is
-                      ∙ ap Some x.0;
-                  advert = x.1.0;
-                  advertises = ap (λ (u : Fields). advert_in u.value.content) (sym x.0) ∙ x.1.1;
-                }
-                | inr none ↦ cc
-              ]
-            ]
-          ]
+  all_lose (suc n) zero l = not_itself (best 0)
+  all_lose (suc n) (suc m) l =
+      let h = above m in
+      let lower : h.0 ≤ m = ⊎_elim (λ x. omega (arith, x)) (λ x. omega (arith, x)) h.1 in
+      not_beaten (best 0) (best h.0) (best (suc m)) (all_lose n h.0 (omega (arith, lower, l)))
+      (below_loses h.0 (suc m) h.1)
 
   -- no update at a place wins against the best of the first place
-  own_lost : (p : ℕ) (u : Fields) → slice_get (owns bs) p ≡ Some u
-      → wins (candidate_in (Some u)) (candidate_in (best_below bs 0)) ≡ false
-  own_lost p u is = go (slice_get bs p) refl
-    where
-      go : (o : Option WinnerNode) → slice_get bs p ≡ o → wins (candidate_in (Some u)) (candidate_in (best_below bs 0))
-          ≡ false
-      go None e = let none : slice_get (owns bs) p ≡ None = slice_get-map (λ (b : WinnerNode). b.own) bs p
-          ∙ ap (option_map (λ (b : WinnerNode). b.own)) e in cc
-      go (Some b) e =
-          let there : slice_get (owns bs) p ≡ Some b.own = slice_get-map (λ (b : WinnerNode). b.own) bs p
-          ∙ ap (option_map (λ (b : WinnerNode). b.own)) e in
-          let same : b.own ≡ u = cc in
-          let best : best_below bs p ≡ best_at bs p b.own = ap best_in e ∙ s p b e in
-          not_beaten (candidate_in (best_below bs 0)) (candidate_in (best_below bs p)) (candidate_in (Some u))
-          (all_lose (suc p) p (omega arith))
-          (subst (λ x. wins (candidate_in (Some u)) (candidate_in x) ≡ false) (sym best)
-          (subst (λ (x : Fields). wins (candidate_in (Some x)) (candidate_in (best_at bs p b.own)) ≡ false) same
-          (own_loses bs p b.own)))
+  own_lost : (p : ℕ) (u : Fields) → slice_get (owns bs) p ≡ Some u → wins (candidate_in (Some u)) (best 0) ≡ false
+  own_lost p u is = subst (λ o. wins (candidate_in o) (best 0) ≡ false) is
+      (not_beaten (best 0) (best p) (said (owns bs) (Some p)) (all_lose (suc p) p (omega arith))
+      (at_best (said (owns bs) (Some p)) p (own_loses bs p)))
 
-  pub best_of : IsBestOf (owns bs) (best_below bs 0)
+  -- what wins advertises
+  record Says (o : Option Fields) : Type 0 where
+    update : Fields
+    is : o ≡ Some update
+    advert : Advert
+    advertises : advert_in update.value.content ≡ Some advert
+
+  says : (o : Option Fields) (c : Candidate) → wins (candidate_in o) c ≡ true → Says o
+  says None c e = cc
+  says (Some u) c e = go (advert_in u.value.content) refl
+    where
+      go : (a : Option Advert) → advert_in u.value.content ≡ a → Says (Some u)
+      go None is = let no = ap (λ (x : Option Advert). wins (option_map (λ (a : Advert). (u.register, a)) x) c) is in cc
+      go (Some a) is = record { update = u; is = refl; advert = a; advertises = is }
+
+  silent : (u : Fields) → wins (candidate_in (Some u)) None ≡ false → advert_in u.value.content ≡ None
+  silent u e = go (advert_in u.value.content) refl
+    where
+      go : (o : Option Advert) → advert_in u.value.content ≡ o → advert_in u.value.content ≡ None
+      go None is = is
+      go (Some a) is = let yes = ap (λ (x : Option Advert). wins (option_map (λ (a : Advert). (u.register, a)) x)
+          None) is in cc
+
+  pub best_of : IsBestOf (owns bs) (said_at (owns bs) (best_below bs 0))
   best_of = go (best_below bs 0) refl
     where
-      silent : (u : Fields) → wins (candidate_in (Some u)) None ≡ false → advert_in u.value.content ≡ None
-      silent u e = go (advert_in u.value.content) refl
-        where
-          go : (o : Option Advert) → advert_in u.value.content ≡ o → advert_in u.value.content ≡ None
-          go None is = is
-          go (Some a) is = let yes = ap (λ (x : Option Advert). wins (option_map (λ (a : Advert). (u.register, a)) x)
-              None) is in cc
+      lost : (w : Option ℕ) → best_below bs 0 ≡ w → (p : ℕ) (u : Fields) → slice_get (owns bs) p ≡ Some u
+          → wins (candidate_in (Some u)) (said (owns bs) w) ≡ false
+      lost w e p u is = subst (λ x. wins (candidate_in (Some u)) (said (owns bs) x) ≡ false) e (own_lost p u is)
 
-      go : (o : Option Fields) → best_below bs 0 ≡ o → IsBestOf (owns bs) o
-      go None e = λ p u is. silent u (subst (λ x. wins (candidate_in (Some u)) (candidate_in x) ≡ false) e
-          (own_lost p u is))
-      go (Some w) e = let h = somewhere (length bs) 0 w (omega arith) e in record {
-        place = h.place;
-        stands = h.stands;
-        advert = h.advert;
-        advertises = h.advertises;
-        best = λ p u is. subst (λ x. wins (candidate_in (Some u)) (candidate_in x) ≡ false) e (own_lost p u is);
+      go : (w : Option ℕ) → best_below bs 0 ≡ w → IsBestOf (owns bs) (said_at (owns bs) w)
+      go None e = λ p u is. silent u (lost None e p u is)
+      go (Some x) e =
+          let from = comes_from bs 0 x (sym (s 0) ∙ e) in
+          let h = says (slice_get (owns bs) x) from.beaten from.won in
+          subst (IsBestOf (owns bs)) (sym h.is) (record {
+            place = x;
+            stands = h.is;
+            advert = h.advert;
+            advertises = h.advertises;
+            best = λ p u is. subst (λ o. wins (candidate_in (Some u)) (candidate_in o) ≡ false) h.is
+                (lost (Some x) e p u is);
+          })
+
+-- ---- another update at a place
+module _ (bs cs : List WinnerNode) (x : ℕ) (s : AreSettled bs)
+    (bests : (p : ℕ) → best_below cs p ≡ best_below bs p)
+    (others : (p : ℕ) → p ≢ x → slice_get (owns cs) p ≡ slice_get (owns bs) p) where
+  same_said : (w : Option ℕ) → w ≢ Some x → said_at (owns cs) w ≡ said_at (owns bs) w
+  same_said None ne = refl
+  same_said (Some p) ne = others p (λ e. ne (ap Some e))
+
+  same_better : (w o : Option ℕ) → w ≢ Some x → o ≢ Some x
+      → (better_of (owns cs) w o ≡ better_of (owns bs) w o) × (better_of (owns bs) w o ≢ Some x)
+  same_better w o a b = (
+    (λ i. cond (wins (candidate_in (same_said o b i)) (candidate_in (same_said w a i))) o w),
+    λ e. ⊎_elim (λ h. b h.0) a (chosen (owns bs) w o x e),
+  )
+
+  -- a contest in which the update has no part has the same winner
+  same_at : (p : ℕ) → p ≢ x → best_below bs (2 * p + 1) ≢ Some x → best_below bs (2 * p + 2) ≢ Some x
+      → best_at cs p ≡ best_at bs p
+  same_at p ne l r =
+      let first = same_better None (Some p) (λ e. cc) (λ e. ne (let same : p ≡ x = cc in same)) in
+      let second = same_better (one bs p) (left bs p) first.1 l in
+      let third = same_better (two bs p) (right bs p) second.1 r in
+      (λ i. better_of (owns cs) (better_of (owns cs) (first.0 i) (bests (2 * p + 1) i)) (bests (2 * p + 2) i))
+      ∙ (λ i. better_of (owns cs) (second.0 i) (right bs p)) ∙ third.0
+
+  stays : (p : ℕ) → p ≢ x → best_below bs (2 * p + 1) ≢ Some x → best_below bs (2 * p + 2) ≢ Some x → IsSettledAt cs p
+  stays p ne l r = bests p ∙ s p ∙ sym (same_at p ne l r)
+
+  -- the best of a place stands there or behind it
+  upward : (n p : ℕ) → length bs ≤ p + n → best_below bs p ≡ Some x → p ≤ x
+  upward zero p l e = let none = ap best_in (slice_get_past bs p (omega (arith, l))) in cc
+  upward (suc n) p l e = ⊎_elim (λ same. omega (arith, same))
+      (⊎_elim (λ h. let far = upward n (2 * p + 1) (omega (arith, l)) h in omega (arith, far))
+      (λ h. let far = upward n (2 * p + 2) (omega (arith, l)) h in omega (arith, far)))
+      (comes_from bs p x (sym (s p) ∙ e)).side
+
+  not_behind : (p : ℕ) → x < p → best_below bs p ≢ Some x
+  not_behind p l e = let far = upward (length bs) p (omega arith) e in absurd (omega (arith, far, l))
+
+  pub changed : IsSettledBut cs x x
+  changed = record {
+    behind = λ p l. stays p (λ e. omega (arith, e, l)) (not_behind (2 * p + 1) (omega (arith, l)))
+        (not_behind (2 * p + 2) (omega (arith, l)));
+    before = λ p l a b. stays p (λ e. omega (arith, e, l)) (λ e. a (bests (2 * p + 1) ∙ e))
+        (λ e. b (bests (2 * p + 2) ∙ e));
+    told = λ p l e. ⊎_elim (λ same. absurd (omega (arith, same, l)))
+        (⊎_map (λ h. bests (2 * p + 1) ∙ h) (λ h. bests (2 * p + 2) ∙ h))
+        (comes_from bs p x (sym (s p) ∙ sym (bests p) ∙ e)).side;
+    beside = λ p l m e. not_behind p l (sym (bests p) ∙ e);
+  }
+
+-- ---- a place is found anew
+module _ (bs cs : List WinnerNode) (x at : ℕ) (k : IsSettledBut bs x at) (own : owns cs ≡ owns bs)
+    (others : (p : ℕ) → p ≢ at → best_below cs p ≡ best_below bs p) (found : best_below cs at ≡ best_at bs at) where
+  same_by : (p : ℕ) → best_below cs (2 * p + 1) ≡ best_below bs (2 * p + 1) → best_below cs (2 * p + 2)
+      ≡ best_below bs (2 * p + 2)
+      → best_at cs p ≡ best_at bs p
+  same_by p l r = λ i. better_of (own i) (better_of (own i) (better_of (own i) None (Some p)) (l i)) (r i)
+
+  here : IsSettledAt cs at
+  here = found ∙ sym (same_by at (others (2 * at + 1) (λ e. omega (arith, e))) (others (2 * at + 2)
+      (λ e. omega (arith, e))))
+
+  there : (p : ℕ) → p ≢ at → 2 * p + 1 ≢ at → 2 * p + 2 ≢ at → IsSettledAt bs p → IsSettledAt cs p
+  there p ne l r h = others p ne ∙ h ∙ sym (same_by p (others (2 * p + 1) l) (others (2 * p + 2) r))
+
+  behind : (p : ℕ) → at < p → IsSettledAt cs p
+  behind p l = there p (λ e. omega (arith, e, l)) (λ e. omega (arith, e, l)) (λ e. omega (arith, e, l)) (k.behind p l)
+
+  pub first_settled : at ≡ 0 → AreSettled cs
+  first_settled e p = ⊎_elim (λ same. subst (IsSettledAt cs) (sym same) here) (λ ne. behind p (omega (arith, ne, e)))
+      (nat_same p at)
+
+  pub above_next : (q : ℕ) → (at ≡ 2 * q + 1) ⊎ (at ≡ 2 * q + 2) → IsSettledBut cs x q
+  above_next q side =
+      let low : 2 * q < at = ⊎_elim (λ e. omega (arith, e)) (λ e. omega (arith, e)) side in
+      let high : at ≤ 2 * q + 2 = ⊎_elim (λ e. omega (arith, e)) (λ e. omega (arith, e)) side in
+      let told : (p : ℕ) → p < at → best_below cs p ≡ Some x → (best_below bs (2 * p + 1) ≡ Some x)
+      ⊎ (best_below bs (2 * p + 2) ≡ Some x) = λ p l e. k.told p l (sym (others p (λ e. omega (arith, e, l))) ∙ e) in
+      record {
+        behind = λ p l. ⊎_elim (λ same. subst (IsSettledAt cs) (sym same) here)
+            (⊎_elim (λ m. there p (λ e. omega (arith, e, m)) (λ e. omega (arith, e, l, high))
+            (λ e. omega (arith, e, l, high)) (k.before p m
+            (k.beside (2 * p + 1) (omega (arith, l, high)) (omega (arith, m)))
+            (k.beside (2 * p + 2) (omega (arith, l, high)) (omega (arith, m))))) (behind p)) (ranked p at);
+        before = λ p l a b. there p (λ e. omega (arith, e, l, low)) (λ e. omega (arith, e, l, low))
+            (λ e. omega (arith, e, l, low))
+            (k.before p (omega (arith, l, low))
+            (λ e. a (others (2 * p + 1) (λ e. omega (arith, e, l, low)) ∙ e))
+            (λ e. b (others (2 * p + 2) (λ e. omega (arith, e, l, low)) ∙ e)));
+        told = λ p l e. ⊎_map (λ h. others (2 * p + 1) (λ e. omega (arith, e, l, low)) ∙ h)
+            (λ h. others (2 * p + 2) (λ e. omega (arith, e, l, low)) ∙ h) (told p (omega (arith, l, low)) e);
+        beside = λ p l m e. ⊎_elim (k.beside (2 * p + 1) (omega (arith, l, high)) (omega (arith, m, low)))
+            (k.beside (2 * p + 2) (omega (arith, l, high)) (omega (arith, m, low))) (told p (omega (arith, m, low)) e);
       }
 
--- ---- one place is found anew
+  -- the best that is found is the one that was there, and not the update that changed
+  module _ (same : best_below bs at ≡ best_at bs at) (ne : best_below bs at ≢ Some x) where
+    told_nowhere : (n p : ℕ) → p ≤ 2 * at → 2 * at < p + n → best_below bs p ≢ Some x
+    told_nowhere zero p l m e = absurd (omega (arith, l, m))
+    told_nowhere (suc n) p l m e = ⊎_elim (λ here. ne (subst (λ q. best_below bs q ≡ Some x) here e))
+        (⊎_elim (λ before. ⊎_elim (told_nowhere n (2 * p + 1) (omega (arith, before)) (omega (arith, m)))
+        (told_nowhere n (2 * p + 2) (omega (arith, before)) (omega (arith, m))) (k.told p before e))
+        (λ after. k.beside p after l e)) (ranked p at)
+
+    settled_before : AreSettled bs
+    settled_before p = ⊎_elim (λ here. subst (IsSettledAt bs) (sym here) same)
+        (⊎_elim (λ before. k.before p before
+        (told_nowhere (suc (2 * at)) (2 * p + 1) (omega (arith, before)) (omega arith))
+        (told_nowhere (suc (2 * at)) (2 * p + 2) (omega (arith, before)) (omega arith))) (k.behind p)) (ranked p at)
+
+    all_same : (p : ℕ) → best_below cs p ≡ best_below bs p
+    all_same p = ⊎_elim (λ here. subst (λ q. best_below cs q ≡ best_below bs q) (sym here) (found
+        ∙ sym same)) (others p)
+        (nat_same p at)
+
+    pub all_settled : AreSettled cs
+    all_settled p = all_same p ∙ settled_before p ∙ sym (same_by p (all_same (2 * p + 1)) (all_same (2 * p + 2)))
+
+-- ---- nodes as they are written
 module _ (bs : List WinnerNode) (at : ℕ) (b : WinnerNode) (is : slice_get bs at ≡ Some b) where
-  -- the updates stay
-  pub found_owns : (best : Option Fields) → owns (set bs at (record { own = b.own; best = best })) ≡ owns bs
-  found_owns best = map-set (λ (x : WinnerNode). x.own) bs at (record { own = b.own; best = best })
-      ∙ same_set (owns bs) at b.own (slice_get-map (λ (x : WinnerNode). x.own) bs at
-      ∙ ap (option_map (λ (x : WinnerNode). x.own)) is)
-    where
-      same_set : (us : List Fields) (i : ℕ) (u : Fields) → slice_get us i ≡ Some u → set us i u ≡ us
-      same_set [] i u h = refl
-      same_set (x ∷ us) zero u h = let e : x ≡ u = cc in ap (λ y. y ∷ us) (sym e)
-      same_set (x ∷ us) (suc i) u h = ap (λ y. x ∷ y) (same_set us i u h)
+  -- the best alone
+  pub found_owns : (best : Option ℕ) → owns (set bs at (record { own = b.own; best = best })) ≡ owns bs
+  found_owns best = map-set_same (λ (x : WinnerNode). x.own) bs at (record { own = b.own; best = best }) b
+      (ap (λ (x : WinnerNode). x.own) (sym (get_or_from_slice_get bs at b b is)))
 
-  module _ (others : (p : ℕ) → p ≢ at → IsSettledAt bs p) (best : Option Fields)
-      (found : best ≡ best_at bs at b.own) where
-    abbrev step : List WinnerNode
-    step = set bs at (record { own = b.own; best = best })
+  pub best_here : (c : WinnerNode) → best_below (set bs at c) at ≡ c.best
+  best_here c = ap best_in (set_here bs at c (slice_get_within bs at b is))
 
-    best_there : (c : ℕ) → c ≢ at → best_below step c ≡ best_below bs c
-    best_there c ne = ap best_in (set_there bs at c (record { own = b.own; best = best }) ne)
+  pub best_there : (c : WinnerNode) (p : ℕ) → p ≢ at → best_below (set bs at c) p ≡ best_below bs p
+  best_there c p ne = ap best_in (set_there bs at p c ne)
 
-    best_as_before : (p : ℕ) (u : Fields) → 2 * p + 1 ≢ at → 2 * p + 2 ≢ at → best_at step p u ≡ best_at bs p u
-    best_as_before p u l r = λ i. better_of (better_of (better_leader None u) (best_there (2 * p + 1) l i))
-        (best_there (2 * p + 2) r i)
+  module _ (x : ℕ) (k : IsSettledBut bs x at) (best : Option ℕ) (found : best ≡ best_at bs at) where
+    abbrev renewed : List WinnerNode
+    renewed = set bs at (record { own = b.own; best = best })
 
-    -- all places are right then but the one above
-    pub found_settled : (p : ℕ) → 2 * p + 1 ≢ at → 2 * p + 2 ≢ at
-        → IsSettledAt (set bs at (record { own = b.own; best = best })) p
-    found_settled p l r = λ x there. elim (nat_same p at) as (λ _. x.best ≡ best_at step p x.own) [
-      | inl same ↦
-          let here : slice_get step at ≡ Some (record { own = b.own; best = best }) =
-          set_here bs at (record { own = b.own; best = best }) (slice_get_within bs at b is) in
-          let stands : slice_get step at ≡ Some x = subst (λ n. slice_get step n ≡ Some x) same there in
-          let equal : record { own = b.own; best = best } ≡ x = cc in
-          subst (λ (y : WinnerNode). y.best ≡ best_at step p y.own) equal
-          (found ∙ ap (λ n. best_at bs n b.own) (sym same)
-          ∙ sym (best_as_before p b.own l r))
-      | inr ne ↦ others p ne x (sym (set_there bs at p (record { own = b.own; best = best }) ne) ∙ there)
-          ∙ sym (best_as_before p x.own l r)
-    ]
+    pub renewed_above : (q : ℕ) → (at ≡ 2 * q + 1) ⊎ (at ≡ 2 * q + 2) → IsSettledBut renewed x q
+    renewed_above = above_next bs renewed x at k (found_owns best) (best_there (record { own = b.own; best = best }))
+        (best_here (record { own = b.own; best = best }) ∙ found)
 
--- a place whose best stays is right
-pub stays_settled : (bs : List WinnerNode) (at : ℕ) (b : WinnerNode) → slice_get bs at ≡ Some b
-    → ((p : ℕ) → p ≢ at → IsSettledAt bs p) → best_at bs at b.own ≡ b.best → AreSettled bs
-stays_settled bs at b is others e p x there = elim (nat_same p at) as (λ _. x.best ≡ best_at bs p x.own) [
-  | inl same ↦
-      let found : slice_get bs at ≡ Some x = subst (λ n. slice_get bs n ≡ Some x) same there in
-      let equal : b ≡ x = cc in
-      subst (λ (y : WinnerNode). y.best ≡ best_at bs p y.own) equal (sym e ∙ ap (λ n. best_at bs n b.own) (sym same))
-  | inr ne ↦ others p ne x there
-]
+    pub renewed_first : at ≡ 0 → AreSettled renewed
+    renewed_first = first_settled bs renewed x at k (found_owns best)
+        (best_there (record { own = b.own; best = best })) (best_here (record { own = b.own; best = best }) ∙ found)
 
--- ---- another update at a place, and one more place
-best_at_same : (bs cs : List WinnerNode) (p : ℕ) (u : Fields) → ((c : ℕ) → best_below cs c ≡ best_below bs c)
-    → best_at bs p u ≡ best_at cs p u
-best_at_same bs cs p u same = λ i. better_of (better_of (better_leader None u) (sym (same (2 * p + 1)) i))
-    (sym (same (2 * p + 2)) i)
+    pub renewed_all : best ≡ best_below bs at → best ≢ Some x → AreSettled renewed
+    renewed_all same ne = all_settled bs renewed x at k (found_owns best)
+        (best_there (record { own = b.own; best = best })) (best_here (record { own = b.own; best = best }) ∙ found)
+        (sym same ∙ found) (λ e. ne (same ∙ e))
 
-module _ (bs : List WinnerNode) (s : AreSettled bs) (u : Fields) where
-  best_replaced : (at : ℕ) (b : WinnerNode) → slice_get bs at ≡ Some b → (c : ℕ)
-      → best_below (set bs at (record { own = u; best = b.best })) c ≡ best_below bs c
-  best_replaced at b is c = elim (nat_same c at) as (λ _. best_below (set bs at (record { own = u; best = b.best })) c
-      ≡ best_below bs c) [
-        | inl same ↦ subst (λ n. best_below (set bs at (record { own = u; best = b.best })) n ≡ best_below bs n) (sym same)
-            (ap best_in (set_here bs at (record { own = u; best = b.best }) (slice_get_within bs at b is))
-            ∙ sym (ap best_in is))
-        | inr ne ↦ ap best_in (set_there bs at c (record { own = u; best = b.best }) ne)
-      ]
+  -- the update alone
+  pub replaced : (u : Fields) → AreSettled bs → IsSettledBut (set bs at (record { own = u; best = b.best })) at at
+  replaced u s =
+      let c : WinnerNode = record { own = u; best = b.best } in
+      changed bs (set bs at c) at s
+      (λ p. ⊎_elim (λ same. subst (λ q. best_below (set bs at c) q ≡ best_below bs q) (sym same)
+      (best_here c ∙ sym (ap best_in is))) (best_there c p) (nat_same p at))
+      (λ p ne. ap (λ us. slice_get us p) (map-set (λ (x : WinnerNode). x.own) bs at c)
+      ∙ set_there (owns bs) at p u ne)
 
-  pub replaced_others : (at : ℕ) (b : WinnerNode) → slice_get bs at ≡ Some b → (p : ℕ) → p ≢ at
-      → IsSettledAt (set bs at (record { own = u; best = b.best })) p
-  replaced_others at b is p ne x there =
-      s p x (sym (set_there bs at p (record { own = u; best = b.best }) ne) ∙ there)
-      ∙ best_at_same bs (set bs at (record { own = u; best = b.best })) p x.own (best_replaced at b is)
+-- one node more
+pub pushed : (bs : List WinnerNode) (u : Fields) → AreSettled bs
+    → IsSettledBut (bs ++ record { own = u; best = None } ∷ []) (length bs) (length bs)
+pushed bs u s =
+    let c : WinnerNode = record { own = u; best = None } in
+    changed bs (bs ++ c ∷ []) (length bs) s (best_pushed bs) (own_pushed bs)
+  where
+    best_pushed : (xs : List WinnerNode) (p : ℕ) → best_below (xs ++ record { own = u; best = None } ∷ []) p
+        ≡ best_below xs p
+    best_pushed [] zero = refl
+    best_pushed [] (suc p) = refl
+    best_pushed (x ∷ xs) zero = refl
+    best_pushed (x ∷ xs) (suc p) = best_pushed xs p
 
-  best_pushed : (xs : List WinnerNode) (c : ℕ) → best_below (xs ++ record { own = u; best = None } ∷ []) c
-      ≡ best_below xs c
-  best_pushed [] zero = refl
-  best_pushed [] (suc c) = refl
-  best_pushed (x ∷ xs) zero = refl
-  best_pushed (x ∷ xs) (suc c) = best_pushed xs c
-
-  pub pushed_others : (p : ℕ) → p ≢ length bs → IsSettledAt (bs ++ record { own = u; best = None } ∷ []) p
-  pushed_others p ne x there = elim (either bs (record { own = u; best = None }) p x there) as (λ _. x.best
-      ≡ best_at (bs ++ record { own = u; best = None } ∷ []) p x.own) [
-        | inl old ↦ s p x old ∙ best_at_same bs (bs ++ record { own = u; best = None } ∷ []) p x.own (best_pushed bs)
-        | inr new ↦ absurd (ne (sym new.0))
-      ]
+    own_pushed : (xs : List WinnerNode) (p : ℕ) → p ≢ length xs
+        → slice_get (owns (xs ++ record { own = u; best = None } ∷ [])) p ≡ slice_get (owns xs) p
+    own_pushed [] zero ne = absurd (ne refl)
+    own_pushed [] (suc p) ne = refl
+    own_pushed (x ∷ xs) zero ne = refl
+    own_pushed (x ∷ xs) (suc p) ne = own_pushed xs p (λ e. ne (ap suc e))

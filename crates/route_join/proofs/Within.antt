@@ -1,13 +1,14 @@
 -- The order of registers of one subject: by their originators, then by their IP addresses; and among updates in order,
 -- by their places.
-use Rattle.std.proofs.Common.{◌≡◌, ℕ, zero, suc, ◌<◌, Option, Some, None, List, [], ◌∷◌, refl, sym, ap, subst, ◌∙◌}
+use Rattle.std.proofs.Common.{◌≡◌, ℕ, true, zero, suc, ◌<◌, Option, Some, None, List, [], ◌∷◌, refl, sym, ap, subst}
+use Rattle.std.proofs.Common.{◌∙◌}
 use Rattle.std.proofs.Common.{arith}
 use Rattle.std.specs.List.{slice_get}
 use Rattle.std.specs.Option.{option_map}
 use Rattle.std.specs.Cmp.{ranked, nat_cmp_is, tied_itself}
 use Rattle.std.specs.declared.cmp.Ordering.{Ordering}
 use Rattle.std.specs.declared.cmp.Ordering.TheVariants.{Less, Equal, Greater}
-use Rattle.std.specs.Ordering.{MatchOrdering, nat_cmp, ordering_then, ordering_reverse}
+use Rattle.std.specs.Ordering.{is_lt, MatchOrdering, nat_cmp, ordering_then, ordering_reverse}
 use Rattle.std.specs.FinMap.Entries.{below_all, is_sorted}
 use Rattle.route_wire.specs.declared.update.Ip.{Ip}
 use Rattle.route_wire.specs.declared.update.Ip.TheVariants.{V4, V6}
@@ -20,8 +21,7 @@ use Rattle.route_join.specs.Subject.{subject_cmp, subject_of}
 use Rattle.route_join.specs.Table.{entries_of, IsOrdered}
 use Rattle.route_join.specs.Owner.{is_better_by}
 use Rattle.route_join.specs.Group.{candidate_in, candidate_at, said_in, said_at, wins, wins_by}
-use Rattle.route_join.proofs.Orders.{both}
-use Rattle.route_join.proofs.Leaders.{below_at}
+use Rattle.route_join.proofs.Orders.{less, both}
 use Rattle.route_join.specs.Ranks.{subject_total}
 use Rattle.route_join.proofs.Subjects.{by_subject}
 
@@ -50,6 +50,17 @@ behind_lower r q same lower =
     (sym (nat_cmp_is r.originator q.originator Greater lower))
 
 -- ---- updates in the order of their registers
+pub below_at : (k : Register) (us : List Fields) (i : ℕ) (x : Fields) → below_all register_cmp k (entries_of us) ≡ true
+    → slice_get us i ≡ Some x → register_cmp k x.register ≡ Less
+below_at k [] i x b h = cc
+below_at k (u ∷ us) zero x b h =
+    let same : u ≡ x = cc in
+    subst (λ (y : Fields). register_cmp k y.register ≡ Less) same
+    (less (register_cmp k u.register) (both (is_lt (register_cmp k u.register))
+    (below_all register_cmp k (entries_of us)) b).0)
+below_at k (u ∷ us) (suc i) x b h = below_at k us i x (both (is_lt (register_cmp k u.register))
+    (below_all register_cmp k (entries_of us)) b).1 h
+
 next_by : (n m : ℕ) → nat_cmp n m ≡ nat_cmp (suc n) (suc m)
 next_by n m = nat_cmp_is (suc n) (suc m) (nat_cmp n m) (go (nat_cmp n m) (ranked n m (nat_cmp n m) refl))
   where

@@ -1,6 +1,7 @@
 -- Groups: the updates of one subject, with the place of the best advert among them.
 use Rattle.std.specs.Prelude.{◌≡◌, ◌≢◌, ℕ, ◌+◌, ◌<◌, ◌^◌, Bool, true, false, not, Option, Some, None, is_some, List, []}
-use Rattle.std.specs.Prelude.{◌∷◌, ◌++◌, length, nat_le, if◌then◌else◌}
+use Rattle.std.specs.Prelude.{◌∷◌, ◌++◌, length, nat_le, if◌then◌else◌, Result, IfOk, OnOk, OnErr}
+use Rattle.std.specs.declared.alloc.AllocError.{AllocError}
 use Rattle.std.specs.declared.cmp.Ordering.{Ordering}
 use Rattle.std.specs.declared.cmp.Ordering.TheVariants.{Less, Equal}
 use Rattle.std.specs.List.{slice_get}
@@ -11,6 +12,8 @@ use Rattle.route_wire.specs.declared.update.Advert.{Advert}
 use Rattle.route_wire.specs.declared.update.Value.{Value}
 use Rattle.route_wire.specs.Fields.{Fields}
 use Rattle.route_wire.specs.Order.{register_cmp}
+use Rattle.route_join.specs.declared.table.Taken.{Taken}
+use Rattle.route_join.specs.declared.table.Taken.TheVariants.{Newer, Known}
 use Rattle.route_join.specs.Subject.{Subject, subject_cmp, subject_of}
 use Rattle.route_join.specs.Table.{entries_of, IsOrdered, IsKept, is_news}
 use Rattle.route_join.specs.Owner.{advert_in, advert_of, IsBetter, is_better, is_better_by}
@@ -29,6 +32,21 @@ entries_with es u = if is_news (find register_cmp u.register es) u.value then pu
 -- how many registers the update adds to the entries
 abbrev pub added : List (Register × Value) → Fields → ℕ
 added es u = if is_some (find register_cmp u.register es) then 0 else 1
+
+-- what is answered where entries take an update
+abbrev pub taken_in : List (Register × Value) → Fields → Taken
+taken_in es u = if is_news (find register_cmp u.register es) u.value then Newer else Known
+
+-- Entries es take an update, and are then new ones; of held registers there are then more. Memory may be refused where
+-- the update's register is a new one.
+pub record Takes (es : List (Register × Value)) (u : Fields) (held : ℕ) (r : Result Taken AllocError)
+    (new : List (Register × Value)) (more : ℕ) : Type 0 where
+  pub taken : IfOk r (λ taken. taken ≡ taken_in es u)
+  pub entries : OnOk r (new ≡ entries_with es u)
+  pub counted : OnOk r (more ≡ held + added es u)
+  pub few : held < 2 ^ 64 → more < 2 ^ 64
+  pub absent : OnErr r (find register_cmp u.register es ≡ None)
+  pub uncounted : OnErr r (more ≡ held)
 
 -- the register's update, if there is one
 abbrev pub update_among : List Fields → Register → Option Fields

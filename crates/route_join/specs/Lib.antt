@@ -15,5 +15,4 @@ pub mod WinnerTree
 pub mod LargeGroup
 pub mod Storage
 pub mod Lines
-pub mod Stops
 pub mod Updates

@@ -1,6 +1,8 @@
--- Updates at places, and the best advert among them: each place knows the best one of its own update and of those below
--- it. Below place n stand the places 2 n + 1 and 2 n + 2, as in a heap.
-use Rattle.std.specs.Prelude.{◌≡◌, ◌==◌, ℕ, ◌+◌, ◌*◌, Bool, true, false, Option, Some, None, List, map, if◌then◌else◌}
+-- Updates at places, and the place of the best advert among them: each place knows the best one of its own update and
+-- of those below it. Below place n stand the places 2 n + 1 and 2 n + 2, as in a heap.
+use Rattle.std.specs.Prelude.{◌≡◌, ◌≢◌, ◌⊎◌, ◌==◌, ℕ, ◌+◌, ◌*◌, ◌<◌, ◌≤◌, Bool, true, false, Option, Some}
+use Rattle.std.specs.Prelude.{None, List, map}
+use Rattle.std.specs.Prelude.{if◌then◌else◌}
 use Rattle.std.specs.List.{slice_get}
 use Rattle.route_wire.specs.declared.update.Advert.{Advert}
 use Rattle.route_wire.specs.Fields.{Fields}
@@ -20,38 +22,51 @@ are_level None d = false
 are_level (Some c) None = false
 are_level (Some c) (Some d) = is_level_by c.is_static d.is_static c.sequence d.sequence
 
--- the best so far, once another update may be it too
-abbrev pub better_leader : Option Fields → Fields → Option Fields
-better_leader winner u = if wins (candidate_in (Some u)) (candidate_in winner) then Some u else winner
+-- the updates at the places
+abbrev pub owns : List WinnerNode → List Fields
+owns bs = map (λ (b : WinnerNode). b.own) bs
 
--- the best advert of a place and below it, if there is such a place
-abbrev pub best_in : Option WinnerNode → Option Fields
+-- the update that a best one stands for
+abbrev pub said_at : List Fields → Option ℕ → Option Fields
+said_at us None = None
+said_at us (Some p) = slice_get us p
+
+-- the place of the better one of the best so far and another best
+abbrev pub better_of : List Fields → Option ℕ → Option ℕ → Option ℕ
+better_of us best other =
+    if wins (candidate_in (said_at us other)) (candidate_in (said_at us best)) then other else best
+
+-- the best of a place and of those below it, if there is such a place
+abbrev pub best_in : Option WinnerNode → Option ℕ
 best_in None = None
 best_in (Some b) = b.best
 
-abbrev pub best_below : List WinnerNode → ℕ → Option Fields
+abbrev pub best_below : List WinnerNode → ℕ → Option ℕ
 best_below bs p = best_in (slice_get bs p)
 
--- the same, where there is another one
-abbrev pub better_of : Option Fields → Option Fields → Option Fields
-better_of best None = best
-better_of best (Some u) = better_leader best u
-
 -- the best one of a place's own update and of the bests of the two places below
-abbrev pub best_at : List WinnerNode → ℕ → Fields → Option Fields
-best_at bs p own = better_of (better_of (better_leader None own) (best_below bs (2 * p + 1)))
+abbrev pub best_at : List WinnerNode → ℕ → Option ℕ
+best_at bs p = better_of (owns bs) (better_of (owns bs) (better_of (owns bs) None (Some p)) (best_below bs (2 * p + 1)))
     (best_below bs (2 * p + 2))
 
--- what the place knows of those below it is right
+-- what the place knows is right
 abbrev pub IsSettledAt : List WinnerNode → ℕ → Type 0
-IsSettledAt bs p = (b : WinnerNode) → slice_get bs p ≡ Some b → b.best ≡ best_at bs p b.own
+IsSettledAt bs p = best_below bs p ≡ best_at bs p
 
 abbrev pub AreSettled : List WinnerNode → Type 0
 AreSettled bs = (p : ℕ) → IsSettledAt bs p
 
--- the updates at the places
-abbrev pub owns : List WinnerNode → List Fields
-owns bs = map (λ (b : WinnerNode). b.own) bs
+-- On the way up from the place x, whose update is another one, at place q. What the places behind q know is right, and
+-- so is what one before it knows, unless x is the best of a place right below it.
+pub record IsSettledBut (bs : List WinnerNode) (x q : ℕ) : Type 0 where
+  pub behind : (p : ℕ) → q < p → IsSettledAt bs p
+  pub before : (p : ℕ) → p < q → best_below bs (2 * p + 1) ≢ Some x → best_below bs (2 * p + 2) ≢ Some x
+      → IsSettledAt bs p
+  -- where x is the best of a place before q, it is that of one right below it
+  pub told : (p : ℕ) → p < q → best_below bs p ≡ Some x
+      → (best_below bs (2 * p + 1) ≡ Some x) ⊎ (best_below bs (2 * p + 2) ≡ Some x)
+  -- of the places behind q that stand below one before it, x is the best of none
+  pub beside : (p : ℕ) → q < p → p ≤ 2 * q → best_below bs p ≢ Some x
 
 -- w stands among the updates and advertises, and none of them wins against it
 pub record Wins (us : List Fields) (w : Fields) : Type 0 where

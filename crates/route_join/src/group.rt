@@ -1,10 +1,10 @@
 //! The updates of one subject: a few are walked through, and more of them are kept in a tree.
-ghost use Rattle.std.specs.Prelude.{◌≡◌, ◌∷◌, [], ◌+◌, ◌<◌, ◌^◌, None, IfOk, OnOk, OnErr, IfSome, OnSome, IfNone, MatchOption, if◌then◌else◌};
+ghost use Rattle.std.specs.Prelude.{◌≡◌, ℕ, Ok, ◌∷◌, [], ◌<◌, None, IfOk, OnErr, IfSome, IfNone, MatchOption};
 ghost use Rattle.std.specs.FinMap.Entries.{find};
 ghost use Rattle.route_wire.specs.Order.{register_cmp};
-ghost use Rattle.route_join.specs.Table.{entries_of, IsOrdered, is_news};
+ghost use Rattle.route_join.specs.Table.{entries_of, IsOrdered};
 ghost use Rattle.route_join.specs.Subject.{subject_of};
-ghost use Rattle.route_join.specs.Group.{AreAbout, entries_with, added, update_among, IsLeader, IsSilent};
+ghost use Rattle.route_join.specs.Group.{AreAbout, Takes, update_among, IsLeader, IsSilent};
 
 use crate::large_group::LargeGroup;
 use crate::place::place;
@@ -43,12 +43,8 @@ fn spread(alloc: Global, few: &SmallGroup) -> Result<Box<LargeGroup>, AllocError
 /// is of another register.
 fn take_one(own: &mut Update, update: &Update) -> Option<Taken>
     requires { AreAbout (subject_of update.now.register.key) (entries_of (own.old ∷ [])) }
-    ensures taken { IfSome result
-        (λ t. t ≡ (if is_news (find register_cmp update.now.register (entries_of (own.old ∷ [])))
-        update.now.value then Taken.Newer else Taken.Known)) }
-    ensures entries { OnSome result
-        (entries_of (own.new ∷ []) ≡ entries_with (entries_of (own.old ∷ [])) update.now) }
-    ensures added { OnSome result (added (entries_of (own.old ∷ [])) update.now ≡ 0) }
+    ensures some { (held : ℕ) → IfSome result (λ taken. Takes (entries_of (own.old ∷ []))
+        update.now held (Ok taken) (entries_of (own.new ∷ [])) held) }
     ensures none { IfNone result (find register_cmp update.now.register
         (entries_of (own.old ∷ [])) ≡ None) }
     ensures same { IfNone result (own.new ≡ own.old) }
@@ -153,17 +149,9 @@ impl Group {
         update: &Update,
     ) -> Result<Taken, AllocError>
         requires { AreAbout (subject_of update.now.register.key) (entries_of self.old) }
-        ensures taken { IfOk result
-            (λ t. t ≡ (if is_news (find register_cmp update.now.register (entries_of self.old))
-            update.now.value then Taken.Newer else Taken.Known)) }
-        ensures entries { OnOk result
-            (entries_of self.new ≡ entries_with (entries_of self.old) update.now) }
-        ensures held { OnOk result (held.new ≡ held.old + added (entries_of self.old) update.now) }
-        ensures few { held.old < 2 ^ 64 → held.new < 2 ^ 64 }
-        ensures new { OnErr result (find register_cmp update.now.register (entries_of self.old)
-            ≡ None) }
+        ensures takes { Takes (entries_of self.old) update.now held.old result
+            (entries_of self.new) held.new }
         ensures err { OnErr result (self.new ≡ self.old) }
-        ensures err_held { OnErr result (held.new ≡ held.old) }
     {
         match &mut self.kept {
             Storage::One(own) => match take_one(own, update) {
@@ -189,17 +177,9 @@ impl Group {
         update: &Update,
     ) -> Result<Taken, AllocError>
         requires { AreAbout (subject_of update.now.register.key) (entries_of self.old) }
-        ensures taken { IfOk result
-            (λ t. t ≡ (if is_news (find register_cmp update.now.register (entries_of self.old))
-            update.now.value then Taken.Newer else Taken.Known)) }
-        ensures entries { OnOk result
-            (entries_of self.new ≡ entries_with (entries_of self.old) update.now) }
-        ensures held { OnOk result (held.new ≡ held.old + added (entries_of self.old) update.now) }
-        ensures few { held.old < 2 ^ 64 → held.new < 2 ^ 64 }
-        ensures new { OnErr result (find register_cmp update.now.register (entries_of self.old)
-            ≡ None) }
+        ensures takes { Takes (entries_of self.old) update.now held.old result
+            (entries_of self.new) held.new }
         ensures err { OnErr result (self.new ≡ self.old) }
-        ensures err_held { OnErr result (held.new ≡ held.old) }
     {
         let before = *held;
         let taken = self.take_stored(alloc, held, update);

@@ -1,15 +1,13 @@
 //! A table's groups behind an index: an update comes into the group of its subject, and groups are
 //! reported one after the other in the order of their subjects.
-ghost use Rattle.std.specs.Prelude.{◌≡◌, ◌+◌, ◌<◌, ◌^◌, ◌∷◌, [], IfOk, OnOk, OnErr, None, if◌then◌else◌};
+ghost use Rattle.std.specs.Prelude.{◌≡◌, ◌<◌, ◌∷◌, [], OnOk, OnErr, None};
 ghost use Rattle.std.specs.Option.{option_copied};
 ghost use Rattle.std.specs.Iterator.{YieldsFirstBy, item_count};
 ghost use Rattle.std.specs.BTreeMap.{insert_entry};
 ghost use Rattle.ether_wire.specs.Ends.{IsOpen, Puts};
-ghost use Rattle.std.specs.FinMap.Entries.{find};
-ghost use Rattle.route_wire.specs.Order.{register_cmp};
 ghost use Rattle.route_join.specs.Subject.{subject_cmp};
-ghost use Rattle.route_join.specs.Table.{entries_of, is_news};
-ghost use Rattle.route_join.specs.Group.{entries_with, added, AreAbout, IsSome, AreGroups, updates_in};
+ghost use Rattle.route_join.specs.Table.{entries_of};
+ghost use Rattle.route_join.specs.Group.{Takes, AreAbout, IsSome, AreGroups, updates_in};
 ghost use Rattle.route_join.specs.Groups.{group_at};
 ghost use Rattle.route_join.specs.Report.{report_lines};
 ghost use Rattle.route_join.specs.Lines.{group_lines};
@@ -101,21 +99,10 @@ impl Groups {
     /// register is one more of those held. Where memory is refused, all stays as it was.
     pub(crate) fn take(&mut self, held: &mut usize, update: &Update) -> Result<Taken, AllocError>
         requires { AreGroups self.old }
-        ensures taken { IfOk result
-            (λ t. t ≡ (if is_news
-            (find register_cmp update.now.register (entries_of (updates_in self.old)))
-            update.now.value then Taken.Newer else Taken.Known)) }
-        ensures entries { OnOk result
-            (entries_of (updates_in self.new)
-            ≡ entries_with (entries_of (updates_in self.old)) update.now) }
-        ensures held { OnOk result
-            (held.new ≡ held.old + added (entries_of (updates_in self.old)) update.now) }
-        ensures few { held.old < 2 ^ 64 → held.new < 2 ^ 64 }
+        ensures takes { Takes (entries_of (updates_in self.old)) update.now held.old result
+            (entries_of (updates_in self.new)) held.new }
         ensures groups { AreGroups self.new }
-        ensures new { OnErr result
-            (find register_cmp update.now.register (entries_of (updates_in self.old)) ≡ None) }
         ensures err { OnErr result (self.new ≡ self.old) }
-        ensures err_held { OnErr result (held.new ≡ held.old) }
     {
         let alloc = self.alloc;
         let subject = subject_of(&update.register().key);

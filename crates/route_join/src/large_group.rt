@@ -1,112 +1,90 @@
-//! The updates of one subject, however many, in a tree by their registers, and the
-//! best advert among them.
-ghost use Rattle.std.specs.Prelude.{◌≡◌, ◌+◌, ◌<◌, ◌^◌, Some, None, IfOk, OnOk, OnErr, MatchOption, if◌then◌else◌, length, map};
-ghost use Rattle.std.specs.FinMap.Entries.{find, put};
-ghost use Rattle.std.specs.BTreeMap.{insert_entry};
-ghost use Rattle.route_wire.specs.Order.{register_cmp};
-ghost use Rattle.route_join.specs.Table.{entries_of, IsOrdered, is_news};
-ghost use Rattle.route_join.specs.Group.{entries_with, added, update_among, IsLeader, IsSilent};
-ghost use Rattle.route_join.specs.LargeGroup.{IsLargeGroup, index_entry_at};
+//! The updates of one subject, however many: in the order in which they came, found by a tree of
+//! their registers, and the best advert among them.
+ghost use Rattle.std.specs.Prelude.{◌≡◌, ◌<◌, Some, None, IfOk, IfSome, OnOk, OnErr, MatchOption, if◌then◌else◌};
+ghost use Rattle.std.specs.FinMap.Entries.{put};
+ghost use Rattle.std.specs.List.{slice_get};
+ghost use Rattle.std.specs.Iterator.{YieldsFirstBy, item_count};
+ghost use Rattle.route_wire.specs.Order.{is_newer, register_cmp};
+ghost use Rattle.route_join.specs.Table.{entries_of, IsOrdered};
+ghost use Rattle.route_join.specs.Group.{Takes, update_among, IsLeader, IsSilent};
+ghost use Rattle.route_join.specs.WinnerTree.{owns};
+ghost use Rattle.route_join.specs.LargeGroup.{IsLargeGroup, place_at, large_updates};
 
 use crate::register_key::RegisterKey;
 use crate::table::Taken;
-use crate::winner_tree::{WinnerNode, best, push, replace, reserve};
+use crate::winner_tree::{WinnerNode, best, own_at, push, replace, reserve, said_at};
 use ether_wire::Addr;
 use route_wire::{Register, Update};
 use std::alloc::{AllocError, Global};
 use std::collections::{BTreeMap, btree_map};
 use std::marker::Model;
 
-/// An update at its register, and its place in the winner tree for the best advert.
-#[derive(Clone, Copy)]
-pub(crate) struct IndexEntry {
-    pub(crate) update: Update,
-    place: usize,
-}
-
-/// The index entry of a register, if there is one.
-fn index_entry_at(
-    tree: &BTreeMap<RegisterKey, IndexEntry>,
-    register: &Register,
-) -> Option<IndexEntry>
-    ensures { result ≡ index_entry_at tree.now.entries register.now }
+/// The place of a register, if it has one.
+fn place_at(tree: &BTreeMap<RegisterKey, u32>, register: &Register) -> Option<u32>
+    ensures { result ≡ place_at tree.now.entries register.now }
 {
     match tree.get(&RegisterKey::new(*register)) {
         None => None,
-        Some(index_entry) => Some(*index_entry),
+        Some(place) => Some(*place),
     }
 }
 
-/// Enters the first update of a register.
+/// Enters the first update of a register. Each growth is asked for before anything changes.
 fn enter(
-    tree: &mut BTreeMap<RegisterKey, IndexEntry>,
+    tree: &mut BTreeMap<RegisterKey, u32>,
     nodes: &mut Vec<WinnerNode>,
     update: &Update,
 ) -> Result<(), AllocError>
     requires kept { IsLargeGroup tree.old.entries nodes.old.items }
-    requires new { index_entry_at tree.old.entries update.now.register ≡ None }
+    requires new { place_at tree.old.entries update.now.register ≡ None }
     ensures kept { IsLargeGroup tree.new.entries nodes.new.items }
-    ensures ok { OnOk result (tree.new.entries ≡ insert_entry register_cmp tree.old.entries
-        update.now.register (record { update = update.now; place = length nodes.old.items })) }
-    ensures err { OnErr result (tree.new.entries ≡ tree.old.entries) }
+    ensures ok { OnOk result (entries_of (large_updates tree.new.entries nodes.new.items)
+        ≡ put register_cmp update.now.register update.now.value
+        (entries_of (large_updates tree.old.entries nodes.old.items))) }
+    ensures err { OnErr result (large_updates tree.new.entries nodes.new.items
+        ≡ large_updates tree.old.entries nodes.old.items) }
 {
-    reserve(nodes)?;
-    let index_entry = IndexEntry {
-        update: *update,
-        place: nodes.len(),
-    };
+    let place = reserve(nodes)?;
     if tree
-        .insert(RegisterKey::new(update.register()), index_entry)
+        .insert(RegisterKey::new(update.register()), place)
         .is_err()
     {
         return Err(AllocError);
     }
-    push(nodes, update);
+    push(nodes, place, update);
     Ok(())
 }
 
-/// Puts another update in the place of an index entry of its register.
-fn change(
-    tree: &mut BTreeMap<RegisterKey, IndexEntry>,
-    nodes: &mut Vec<WinnerNode>,
-    was: &IndexEntry,
-    update: &Update,
-)
-    requires kept { IsLargeGroup tree.old.entries nodes.old.items }
-    requires there { index_entry_at tree.old.entries update.now.register ≡ Some was.now }
-    ensures kept { IsLargeGroup tree.new.entries nodes.new.items }
-    ensures ok { tree.new.entries ≡ insert_entry register_cmp tree.old.entries
-        update.now.register (record { update = update.now; place = was.now.place }) }
+/// Whether an update is newer than the one at the place of its register.
+fn is_newer_there(nodes: &[WinnerNode], place: u32, update: &Update) -> bool
+    ensures { IfSome (slice_get (owns nodes.now) place)
+        (λ was. result ≡ is_newer update.now.value was.value) }
 {
-    let index_entry = IndexEntry {
-        update: *update,
-        place: was.place,
-    };
-    // the register is there, so that no memory is needed
-    let _ = tree.insert(RegisterKey::new(update.register()), index_entry);
-    replace(nodes, was.place, update);
+    match own_at(nodes, place) {
+        None => false,
+        Some(was) => update.is_newer(was),
+    }
 }
 
-/// The updates of one subject in a tree by their registers, each of them in a winner tree
-/// for the best advert.
+/// The updates of one subject, each once: in a winner tree for the best advert, at places
+/// that a tree tells by their registers.
 #[derive(Drop)]
 pub(crate) struct LargeGroup {
-    tree: BTreeMap<RegisterKey, IndexEntry>,
+    tree: BTreeMap<RegisterKey, u32>,
     nodes: Vec<WinnerNode>,
 }
 
 impl Model for LargeGroup {
     ghost use Rattle.std.specs.Prelude.{List};
     ghost use Rattle.std.specs.Coded.{codes};
-    ghost use Rattle.std.specs.Map.{values_of};
     ghost use Rattle.route_wire.specs.Fields.{Fields};
-    ghost use Rattle.route_join.specs.LargeGroup.{IsLargeGroup, entered};
+    ghost use Rattle.route_join.specs.LargeGroup.{IsLargeGroup, large_updates};
 
     ghost Value = { List Fields };
 
     ghost coded = { Prim.hlevel codes };
 
-    ghost view = { λ m. values_of (entered m.tree.entries) };
+    ghost view = { λ m. large_updates m.tree.entries m.nodes.items };
 
     ghost invariant = { λ m. IsLargeGroup m.tree.entries m.nodes.items };
 }
@@ -126,20 +104,23 @@ impl LargeGroup {
     }
 
     /// The updates, in the order of their registers.
-    pub(crate) fn updates(&self) -> btree_map::Values<'_, RegisterKey, IndexEntry>
-        ensures value { map (λ (e : IndexEntry). e.update) result ≡ self.now }
+    pub(crate) fn updates(&self) -> LargeUpdates<'_>
+        ensures value { result ≡ self.now }
         ensures ordered { IsOrdered self.now }
     {
-        self.tree.values()
+        LargeUpdates {
+            places: self.tree.iter(),
+            nodes: &self.nodes,
+        }
     }
 
     /// The update of a register, if there is one.
     pub(crate) fn register(&self, register: &Register) -> Option<Update>
         ensures { result ≡ update_among self.now register.now }
     {
-        match index_entry_at(&self.tree, register) {
+        match said_at(&self.nodes, place_at(&self.tree, register)) {
             None => None,
-            Some(index_entry) => Some(index_entry.update),
+            Some(update) => Some(*update),
         }
     }
 
@@ -153,59 +134,65 @@ impl LargeGroup {
         }
     }
 
-    /// Puts an update to its register, which has then this one.
-    fn put(&mut self, update: &Update) -> Result<(), AllocError>
-        ensures ok { OnOk result
-            (entries_of self.new ≡ put register_cmp update.now.register update.now.value
-            (entries_of self.old)) }
-        ensures absent { OnErr result (find register_cmp update.now.register (entries_of self.old)
-            ≡ None) }
-        ensures err { OnErr result (self.new ≡ self.old) }
-    {
-        match index_entry_at(&self.tree, &update.register()) {
-            None => enter(&mut self.tree, &mut self.nodes, update),
-            Some(was) => {
-                change(&mut self.tree, &mut self.nodes, &was, update);
-                Ok(())
-            }
-        }
-    }
-
     /// Takes an update: its register has then the newer of the update and its value so far. A
     /// register that is there already takes no memory, and a new one is one more of those held.
     pub(crate) fn take(&mut self, held: &mut usize, update: &Update) -> Result<Taken, AllocError>
-        ensures taken { IfOk result
-            (λ t. t ≡ (if is_news (find register_cmp update.now.register (entries_of self.old))
-            update.now.value then Taken.Newer else Taken.Known)) }
-        ensures entries { OnOk result
-            (entries_of self.new ≡ entries_with (entries_of self.old) update.now) }
-        ensures held { OnOk result (held.new ≡ held.old + added (entries_of self.old) update.now) }
-        ensures few { held.old < 2 ^ 64 → held.new < 2 ^ 64 }
-        ensures new { OnErr result (find register_cmp update.now.register (entries_of self.old)
-            ≡ None) }
+        ensures takes { Takes (entries_of self.old) update.now held.old result
+            (entries_of self.new) held.new }
         ensures err { OnErr result (self.new ≡ self.old) }
-        ensures err_held { OnErr result (held.new ≡ held.old) }
     {
-        match self.register(&update.register()) {
-            Some(was) => {
-                if !update.is_newer(&was) {
+        match place_at(&self.tree, &update.register()) {
+            Some(place) => {
+                if !is_newer_there(&self.nodes, place, update) {
                     return Ok(Taken::Known);
                 }
-                if self.put(update).is_err() {
-                    return Err(AllocError);
-                }
+                replace(&mut self.nodes, place, update);
                 Ok(Taken::Newer)
             }
             None => {
                 let Some(more) = held.checked_add(1) else {
                     return Err(AllocError);
                 };
-                if self.put(update).is_err() {
+                if enter(&mut self.tree, &mut self.nodes, update).is_err() {
                     return Err(AllocError);
                 }
                 *held = more;
                 Ok(Taken::Newer)
             }
         }
+    }
+}
+
+/// The updates in the order of their registers, seen as the list of those that are left.
+#[derive(Drop)]
+pub(crate) struct LargeUpdates<'a> {
+    places: btree_map::Iter<'a, RegisterKey, u32>,
+    nodes: &'a [WinnerNode],
+}
+
+impl<'a> Model for LargeUpdates<'a> {
+    ghost use Rattle.std.specs.Prelude.{List};
+    ghost use Rattle.route_wire.specs.Fields.{Fields};
+    ghost use Rattle.route_join.specs.WinnerTree.{owns};
+    ghost use Rattle.route_join.specs.LargeGroup.{ArePlaced, updates_along};
+
+    ghost Value = { List Fields };
+
+    ghost view = { λ it. updates_along (owns it.nodes.now) it.places };
+
+    ghost invariant = { λ it. ArePlaced (owns it.nodes.now) it.places };
+}
+
+impl<'a> Iterator for LargeUpdates<'a> {
+    type Item = &'a Update;
+
+    ghost next_gives = { YieldsFirstBy (λ item. item.now) (λ left. left) };
+
+    ghost remaining = { item_count (λ left. left) };
+
+    #[inline(always)]
+    fn next(&mut self) -> Option<&'a Update> {
+        let (_, place) = self.places.next()?;
+        own_at(self.nodes, *place)
     }
 }

@@ -1,5 +1,5 @@
 //! The text of a report, piece by piece. It takes no memory.
-ghost use Rattle.std.specs.Prelude.{◌≡◌, ◌++◌, codes, decimal};
+ghost use Rattle.std.specs.Prelude.{◌≡◌, ◌++◌, codes};
 ghost use Rattle.ether_wire.specs.Ends.{IsOpen, Puts};
 ghost use Rattle.route_wire.specs.Order.{label2_of};
 ghost use Rattle.route_wire.specs.Text.{groups_text, addr6_text, ip_text, ip_words};

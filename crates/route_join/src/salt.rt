@@ -1,6 +1,5 @@
 //! How subjects are hashed. Whoever may send updates chooses subjects: under a hash that is the
 //! same in each table, he could choose many of one place.
-ghost use Rattle.std.specs.Prelude.{◌≡◌};
 
 use std::hash::{BuildHasher, FoldHasher, Hasher};
 

@@ -1,12 +1,12 @@
 //! A few updates of one subject in the order of their registers, and the best advert among them.
 ghost use Rattle.std.specs.Prelude.{◌≡◌, ◌≢◌, true, Some, ◌∷◌, [], ◌+◌, ◌<◌, ◌≤◌, ◌^◌, vec_len, is_ok, Ok, Err, None, IfOk, IfSome, OnOk, OnErr, MatchOption, if◌then◌else◌};
 ghost use Rattle.std.specs.List.{insert};
-ghost use Rattle.std.specs.FinMap.Entries.{find, put};
+ghost use Rattle.std.specs.FinMap.Entries.{put};
 ghost use Rattle.route_wire.specs.Order.{register_cmp};
-ghost use Rattle.route_join.specs.Table.{entries_of, IsOrdered, is_news};
+ghost use Rattle.route_join.specs.Table.{entries_of, IsOrdered};
 ghost use Rattle.route_join.specs.Place.{place_of};
 ghost use Rattle.route_join.specs.Subject.{subject_of};
-ghost use Rattle.route_join.specs.Group.{AreAbout, told, entries_with, added, update_among, said_at, wins_by, better_place, stays_best, moved, HasWinner, IsLeader, IsSilent};
+ghost use Rattle.route_join.specs.Group.{AreAbout, told, Takes, update_among, said_at, wins_by, better_place, stays_best, moved, HasWinner, IsLeader, IsSilent};
 
 use crate::owner::{advert_in, is_better};
 use crate::place::place;
@@ -237,17 +237,9 @@ impl SmallGroup {
     /// register that is there already takes no memory, and a new one is one more of those held.
     pub(crate) fn take(&mut self, held: &mut usize, update: &Update) -> Result<Taken, AllocError>
         requires { AreAbout (subject_of update.now.register.key) (entries_of self.old) }
-        ensures taken { IfOk result
-            (λ t. t ≡ (if is_news (find register_cmp update.now.register (entries_of self.old))
-            update.now.value then Taken.Newer else Taken.Known)) }
-        ensures entries { OnOk result
-            (entries_of self.new ≡ entries_with (entries_of self.old) update.now) }
-        ensures held { OnOk result (held.new ≡ held.old + added (entries_of self.old) update.now) }
-        ensures few { held.old < 2 ^ 64 → held.new < 2 ^ 64 }
-        ensures new { OnErr result (find register_cmp update.now.register (entries_of self.old)
-            ≡ None) }
+        ensures takes { Takes (entries_of self.old) update.now held.old result
+            (entries_of self.new) held.new }
         ensures err { OnErr result (self.new ≡ self.old) }
-        ensures err_held { OnErr result (held.new ≡ held.old) }
     {
         match place(&self.updates, &update.register()) {
             Ok(at) => {

@@ -44,7 +44,7 @@ impl Subject {
     }
 
     /// A MAC address in a network.
-    #[tactic(auto, using(crate::specs::Ranks::at_next))]
+    #[tactic(auto, using(crate::proofs::Numbers::at_next))]
     pub(crate) fn address(vni: Vni, mac: Mac) -> Self
         ensures { result ≡ record { vni = vni; mac = Some mac } }
     {
@@ -62,7 +62,7 @@ impl Subject {
     }
 
     /// The address, none for a flood list.
-    #[tactic(auto, using(crate::specs::Ranks::none_at, crate::specs::Ranks::some_at))]
+    #[tactic(auto, using(crate::proofs::Numbers::none_at, crate::proofs::Numbers::some_at))]
     pub(crate) fn mac(&self) -> Option<Mac>
         ensures { result ≡ self.now.mac }
     {
@@ -74,7 +74,7 @@ impl Subject {
     }
 
     /// The whole subject as one number.
-    #[tactic(auto, using(crate::specs::Ranks::place_back, crate::specs::Ranks::small_place))]
+    #[tactic(auto, using(crate::specs::Ranks::place_back, crate::proofs::Numbers::small_place))]
     fn number(&self) -> u128
         ensures value { result ≡ subject_number self.now }
         ensures small { mac_place self.now.mac < 2 ^ 64 }
@@ -110,7 +110,7 @@ impl Ord for Subject {
     ghost matches_eq = { tied_subjects };
 
     // A search in the ordered set passes lower ones mostly: so these are told first.
-    #[tactic(auto, using(crate::specs::Ranks::by_number, crate::specs::Ranks::behind_lower))]
+    #[tactic(auto, using(crate::proofs::Numbers::by_number, crate::proofs::Numbers::behind_lower))]
     fn cmp(&self, other: &Subject) -> Ordering {
         let (one, two) = (self.number(), other.number());
         if two < one {

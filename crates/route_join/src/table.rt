@@ -1,19 +1,16 @@
 //! The table of route updates: the newest value of each register, of the
 //! originators that it listens to.
 ghost use Rattle.std.specs.Prelude.{◌≡◌, ◌+◌, ◌↔◌, false, Some, None, Ok, Err, IfOk, OnOk, OnErr, IfErr, MatchOption, ℕ, true};
-ghost use Rattle.std.specs.List.{slice_get};
 ghost use Rattle.std.specs.FinMap.{empty};
 ghost use Rattle.ether_wire.specs.Ends.{IsOpen, Puts};
 ghost use Rattle.route_join.specs.Report.{report_of};
-ghost use Rattle.route_join.specs.Table.{AreOriginators, AreWellFormed, IsListed, register_of, value_at, update_at, is_listed, with_update, with_updates};
+ghost use Rattle.route_join.specs.Table.{AreOriginators, AreWellFormed, IsListed, register_of, value_at, update_at, is_listed, with_update};
 ghost use Rattle.route_join.specs.Owner.{owner, IsOwner, IsUnowned};
 ghost use Rattle.route_join.specs.Joins.{join, IsJoin, IsPartJoin};
 ghost use Rattle.route_join.specs.Flood.{flood_of, IsFloodList};
 ghost use Rattle.route_join.specs.Taken.{taken_of, number_of};
-ghost use Rattle.route_join.specs.Stops.{StopsAt};
 ghost use Rattle.route_join.specs.Updates.{all_updates, updates_of, AreAllUpdates, AreUpdatesOf};
 ghost use Rattle.route_wire.specs.declared.update.Value.{Value};
-ghost use Rattle.route_wire.specs.Fields.{Fields};
 
 use crate::flood::put_flood;
 use crate::groups::{Groups, put_groups};

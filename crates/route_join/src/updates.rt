@@ -5,17 +5,15 @@ ghost use Rattle.route_join.specs.Group.{AreGroups, updates_in};
 ghost use Rattle.route_join.specs.LargeGroup.{left_in_tree};
 
 use crate::groups::{Groups, GroupsIter};
-use crate::large_group::IndexEntry;
-use crate::register_key::RegisterKey;
+use crate::large_group::LargeUpdates;
 use route_wire::Update;
-use std::collections::btree_map;
 use std::marker::Model;
 
 /// The updates of a MAC address, seen as the list of those that are left.
 #[derive(Drop)]
 pub struct UpdatesOf<'a> {
     few: &'a [Update],
-    many: Option<btree_map::Values<'a, RegisterKey, IndexEntry>>,
+    many: Option<LargeUpdates<'a>>,
 }
 
 impl<'a> Model for UpdatesOf<'a> {
@@ -47,8 +45,8 @@ impl<'a> UpdatesOf<'a> {
     }
 
     /// Those of a tree.
-    pub(crate) fn many(updates: btree_map::Values<'a, RegisterKey, IndexEntry>) -> Self
-        ensures { result ≡ left_in_tree (Some updates.entry) }
+    pub(crate) fn many(updates: LargeUpdates<'a>) -> Self
+        ensures { result ≡ updates.entry }
     {
         UpdatesOf {
             few: &[],
@@ -75,7 +73,7 @@ impl<'a> Iterator for UpdatesOf<'a> {
             None => None,
             Some(updates) => match updates.next() {
                 None => None,
-                Some(first) => Some(first.update),
+                Some(first) => Some(*first),
             },
         }
     }

@@ -1,8 +1,11 @@
-//! Updates at places, and the best advert among them: each place knows the best one of its own
-//! update and of those below it. Below place n stand the places 2 n + 1 and 2 n + 2, as in a heap.
-ghost use Rattle.std.specs.Prelude.{◌≡◌, ◌≢◌, ◌+◌, ◌*◌, ◌<◌, ◌^◌, ◌++◌, ◌∷◌, [], ℕ, None, Some, set, false, vec_len, vec_capacity, OnOk};
+//! Updates at places, and the place of the best advert among them: each place knows the best one
+//! of its own update and of those below it. Below place n stand the places 2 n + 1 and 2 n + 2, as
+//! in a heap.
+ghost use Rattle.std.specs.Prelude.{◌≡◌, ◌≢◌, ◌+◌, ◌*◌, ◌<◌, ◌^◌, ◌++◌, ◌∷◌, ◌⊎◌, [], ℕ, None, Some, true, set, vec_len, vec_capacity, IfOk, OnOk};
+ghost use Rattle.std.specs.List.{slice_get};
+ghost use Rattle.std.specs.Option.{option_copied};
 ghost use Rattle.route_join.specs.Group.{candidate_in, wins as against};
-ghost use Rattle.route_join.specs.WinnerTree.{are_level, better_leader, best_below, better_of, best_at, owns, IsSettledAt, AreSettled, IsBestOf};
+ghost use Rattle.route_join.specs.WinnerTree.{are_level, said_at, best_below, better_of, best_at, owns, IsSettledBut, AreSettled, IsBestOf};
 
 use crate::owner::advert_in;
 use crate::small_group::wins;
@@ -10,12 +13,13 @@ use route_wire::{Advert, Update};
 use std::alloc::AllocError;
 use std::cmp::Ordering;
 
-/// An update at its place, with the best advert among it and those of the places below, if anything
-/// is advertised there.
+/// An update at its place, with the place of the best advert among it and those of the places
+/// below, if anything is advertised there.
+// Places of 32 bits: a node takes 8 octets more than its update.
 #[derive(Clone, Copy)]
 pub(crate) struct WinnerNode {
     own: Update,
-    best: Option<Update>,
+    best: Option<u32>,
 }
 
 /// Whether two adverts are equally good, so that the order of their registers tells the better one.
@@ -44,29 +48,55 @@ fn wins_against(one: &Update, other: &Update) -> bool
     }
 }
 
-/// Whether an update wins against the best one so far.
-fn beats(winner: &Option<Update>, update: &Update) -> bool
-    ensures { result ≡ against (candidate_in (Some update.now)) (candidate_in winner.now) }
+/// The update at a place, none where there is no such place.
+pub(crate) fn own_at(nodes: &[WinnerNode], place: u32) -> Option<&Update>
+    ensures { option_copied result ≡ slice_get (owns nodes.now) place }
 {
-    match winner {
+    match nodes.get(place as usize) {
+        None => None,
+        Some(node) => Some(&node.own),
+    }
+}
+
+/// The update at the place of a best one, if there is one.
+pub(crate) fn said_at(nodes: &[WinnerNode], best: Option<u32>) -> Option<&Update>
+    ensures { option_copied result ≡ said_at (owns nodes.now) best }
+{
+    match best {
+        None => None,
+        Some(place) => own_at(nodes, place),
+    }
+}
+
+/// Whether an update wins against another one, if there is one.
+fn beats(update: &Update, other: Option<&Update>) -> bool
+    ensures { result
+        ≡ against (candidate_in (Some update.now)) (candidate_in (option_copied other.entry)) }
+{
+    match other {
         None => advert_in(&update.value().content).is_some(),
-        Some(best) => wins_against(update, best),
+        Some(other) => wins_against(update, other),
     }
 }
 
-/// The best advert, once another update may be it too.
-fn better_leader(winner: &Option<Update>, update: &Update) -> Option<Update>
-    ensures { result ≡ better_leader winner.now update.now }
+/// The place of the better one of the best so far and another best.
+fn better_of(nodes: &[WinnerNode], best: Option<u32>, other: Option<u32>) -> Option<u32>
+    ensures { result ≡ better_of (owns nodes.now) best other }
 {
-    if beats(winner, update) {
-        Some(*update)
-    } else {
-        *winner
+    match said_at(nodes, other) {
+        None => best,
+        Some(update) => {
+            if beats(update, said_at(nodes, best)) {
+                other
+            } else {
+                best
+            }
+        }
     }
 }
 
-/// The best advert of a place and of those below it, none where there is no such place.
-fn best_below(nodes: &[WinnerNode], place: usize) -> Option<Update>
+/// The best of a place and of those below it, none where there is no such place.
+fn best_below(nodes: &[WinnerNode], place: usize) -> Option<u32>
     ensures { result ≡ best_below nodes.now place }
 {
     match nodes.get(place) {
@@ -75,55 +105,56 @@ fn best_below(nodes: &[WinnerNode], place: usize) -> Option<Update>
     }
 }
 
-/// The better one of the best so far and another best.
-fn better_of(best: Option<Update>, other: Option<Update>) -> Option<Update>
-    ensures { result ≡ better_of best other }
-{
-    match other {
-        None => best,
-        Some(update) => better_leader(&best, &update),
-    }
-}
-
 /// The best one of a place's own update and of the bests of the two places below.
-fn best_at(nodes: &[WinnerNode], place: usize, own: &Update) -> Option<Update>
-    requires { 2 * place + 2 < 2 ^ 64 }
-    ensures { result ≡ best_at nodes.now place own.now }
+fn best_at(nodes: &[WinnerNode], place: u32) -> Option<u32>
+    ensures { result ≡ best_at nodes.now place }
 {
-    let best = better_leader(&None, own);
-    let best = better_of(best, best_below(nodes, 2 * place + 1));
-    better_of(best, best_below(nodes, 2 * place + 2))
+    let below = 2 * place as usize;
+    let best = better_of(nodes, None, Some(place));
+    let best = better_of(nodes, best, best_below(nodes, below + 1));
+    better_of(nodes, best, best_below(nodes, below + 2))
 }
 
-/// Finds the best of a place anew, once all others are right. Answers whether it is another one,
-/// which the place above doesn't know of yet.
-fn renew(nodes: &mut Vec<WinnerNode>, at: usize) -> bool
+/// Whether a best one is as it was, and not the update that changed: then those above are right.
+fn is_as_before(best: Option<u32>, was: Option<u32>, changed: u32) -> bool
+    ensures same { result ≡ true → best ≡ was }
+    ensures other { result ≡ true → best ≢ Some changed }
+{
+    best == was && best != Some(changed)
+}
+
+/// Finds the best of a place anew, on the way up from the place whose update is another one.
+/// Answers whether all are right then.
+fn renew(nodes: &mut Vec<WinnerNode>, at: u32, changed: u32) -> bool
     requires within { at < vec_len nodes.old }
-    requires others { (p : ℕ) → p ≢ at → IsSettledAt nodes.old.items p }
+    requires others { IsSettledBut nodes.old.items changed at }
     ensures len { vec_len nodes.new ≡ vec_len nodes.old }
     ensures owns { owns nodes.new.items ≡ owns nodes.old.items }
-    ensures others { (p : ℕ) → 2 * p + 1 ≢ at → 2 * p + 2 ≢ at → IsSettledAt nodes.new.items p }
-    ensures all { result ≡ false → AreSettled nodes.new.items }
+    ensures above { (p : ℕ) → (at ≡ 2 * p + 1) ⊎ (at ≡ 2 * p + 2)
+        → IsSettledBut nodes.new.items changed p }
+    ensures first { at ≡ 0 → AreSettled nodes.new.items }
+    ensures all { result ≡ true → AreSettled nodes.new.items }
 {
-    let node = nodes[at];
-    let best = best_at(nodes, at, &node.own);
-    if best == node.best {
-        return false;
-    }
-    nodes[at].best = best;
-    true
+    let best = best_at(nodes, at);
+    let was = best_below(nodes, at as usize);
+    nodes[at as usize].best = best;
+    is_as_before(best, was, changed)
 }
 
-/// Finds the bests anew from a place up, as far as they change.
-fn settle(nodes: &mut Vec<WinnerNode>, place: usize)
-    requires within { place < vec_len nodes.old }
-    requires others { (p : ℕ) → p ≢ place → IsSettledAt nodes.old.items p }
+/// Finds the bests anew from the place up whose update is another one, as far as they change
+/// or are that update.
+fn settle(nodes: &mut Vec<WinnerNode>, changed: u32)
+    requires within { changed < vec_len nodes.old }
+    requires others { IsSettledBut nodes.old.items changed changed }
     ensures owns { owns nodes.new.items ≡ owns nodes.old.items }
     ensures settled { AreSettled nodes.new.items }
 {
-    let mut at = place;
+    let mut at = changed;
     'up: loop {
-        if !renew(nodes, at) || at == 0 {
+        if renew(nodes, at, changed) {
+            return;
+        }
+        if at == 0 {
             return;
         }
         at = (at - 1) / 2;
@@ -131,36 +162,40 @@ fn settle(nodes: &mut Vec<WinnerNode>, place: usize)
 }
 
 /// Puts another update to a place.
-pub(crate) fn replace(nodes: &mut Vec<WinnerNode>, place: usize, update: &Update)
+pub(crate) fn replace(nodes: &mut Vec<WinnerNode>, place: u32, update: &Update)
     requires within { place < vec_len nodes.old }
     requires settled { AreSettled nodes.old.items }
     ensures owns { owns nodes.new.items ≡ set (owns nodes.old.items) place update.now }
     ensures settled { AreSettled nodes.new.items }
 {
-    nodes[place].own = *update;
+    nodes[place as usize].own = *update;
     settle(nodes, place);
 }
 
-/// Makes room for one more update.
-pub(crate) fn reserve(nodes: &mut Vec<WinnerNode>) -> Result<(), AllocError>
+/// Makes room for one more update, and answers its place. There are 2^32 of them.
+pub(crate) fn reserve(nodes: &mut Vec<WinnerNode>) -> Result<u32, AllocError>
     ensures items { nodes.new.items ≡ nodes.old.items }
+    ensures place { IfOk result (λ place. place ≡ vec_len nodes.new) }
     ensures room { OnOk result (vec_len nodes.new < vec_capacity nodes.new) }
 {
     let len = nodes.len();
+    let Ok(place) = u32::try_from(len) else {
+        return Err(AllocError);
+    };
     if len == nodes.capacity() {
         nodes.reserve_exact(len / 16 + 1)?;
     }
-    Ok(())
+    Ok(place)
 }
 
 /// Puts an update to the next place, for which there is room.
-pub(crate) fn push(nodes: &mut Vec<WinnerNode>, update: &Update)
+pub(crate) fn push(nodes: &mut Vec<WinnerNode>, place: u32, update: &Update)
+    requires next { place ≡ vec_len nodes.old }
     requires room { vec_len nodes.old < vec_capacity nodes.old }
     requires settled { AreSettled nodes.old.items }
     ensures owns { owns nodes.new.items ≡ owns nodes.old.items ++ update.now ∷ [] }
     ensures settled { AreSettled nodes.new.items }
 {
-    let place = nodes.len();
     nodes.push_reserved(WinnerNode {
         own: *update,
         best: None,
@@ -168,10 +203,10 @@ pub(crate) fn push(nodes: &mut Vec<WinnerNode>, update: &Update)
     settle(nodes, place);
 }
 
-/// The best advert of all places, none where nothing is advertised.
-pub(crate) fn best(nodes: &[WinnerNode]) -> Option<Update>
+/// The update with the best advert of all places, none where nothing is advertised.
+pub(crate) fn best(nodes: &[WinnerNode]) -> Option<&Update>
     requires { AreSettled nodes.now }
-    ensures { IsBestOf (owns nodes.now) result }
+    ensures { IsBestOf (owns nodes.now) (option_copied result) }
 {
-    best_below(nodes, 0)
+    said_at(nodes, best_below(nodes, 0))
 }

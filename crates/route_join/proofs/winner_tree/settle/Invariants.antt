@@ -1,12 +1,12 @@
-use Rattle.std.proofs.Common.{◌≡◌, ◌≢◌, ◌<◌, ℕ, length}
-use Rattle.route_join.specs.WinnerTree.{owns, IsSettledAt}
+use Rattle.std.proofs.Common.{◌≡◌, ◌<◌, length}
+use Rattle.route_join.specs.WinnerTree.{owns, IsSettledBut}
 use Rattle.route_join.proofs.winner_tree.settle.Given as goal
 
--- all places but this one are right
+-- all places but this one and those above it are right
 abbrev pub invariant-up : goal.invariant-up
 invariant-up l = record {
   within : l.at < length l.nodes.items;
-  others : (p : ℕ) → p ≢ l.at → IsSettledAt l.nodes.items p;
+  others : IsSettledBut l.nodes.items l.changed l.at;
   owns : owns l.nodes.items ≡ owns l.fn.nodes.items;
 }
 

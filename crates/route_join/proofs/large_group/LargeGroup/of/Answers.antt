@@ -1,13 +1,12 @@
 use Rattle.std.proofs.Common.{◌≤◌, length, take, ap, ◌∙◌, arith}
-use Rattle.std.specs.Map.{values_of}
 use Rattle.std.specs.FinMap.Entries.{find, put}
 use Rattle.std.proofs.lemmas.List.{take_all}
 use Rattle.route_wire.specs.Fields.{Fields}
 use Rattle.route_wire.specs.Order.{register_cmp}
 use Rattle.route_join.specs.Table.{entries_of}
-use Rattle.route_join.specs.LargeGroup.{entered}
+use Rattle.route_join.specs.LargeGroup.{large_updates}
 use Rattle.route_join.proofs.Leaders.{not_yet}
-use Rattle.route_join.proofs.Trees.{same_updates, absent_index_entry, put_entered, filled_more}
+use Rattle.route_join.proofs.Trees.{same_updates, absent_place, filled_more}
 use Rattle.route_join.proofs.large_group.LargeGroup.of.Goals as goal
 
 pub enter-requires-clause-kept : goal.enter-requires-clause-kept
@@ -19,7 +18,7 @@ enter-requires-clause-new c =
     let us = c.args.updates.now in
     let at = c.loop-update.update-index in
     let u = c.update-item.result in
-    absent_index_entry c.loop-update.tree.entries u.register inv.kept.keyed
+    absent_place c.loop-update.tree.entries c.loop-update.nodes.items u.register
     (ap (find register_cmp u.register) inv.filled ∙ ap (λ (v : Fields). find register_cmp v.register
     (entries_of (take at us))) c.update-item.is ∙ not_yet us at c.requires c.loop-update-test.true u)
 
@@ -31,8 +30,7 @@ loop-update-preserved c =
     let u = c.update-item.result in
     record {
       kept = c.in_ok-enter.ensures.kept;
-      filled = put_entered c.loop-update.tree.entries c.enter.new.tree.entries u (length c.loop-update.nodes.items)
-          inv.kept.keyed c.in_ok-enter.ensures.ok
+      filled = c.in_ok-enter.ensures.ok
           ∙ ap (put register_cmp u.register u.value) inv.filled
           ∙ ap (λ (v : Fields). put register_cmp v.register v.value (entries_of (take at us))) c.update-item.is
           ∙ filled_more us at c.requires c.loop-update-test.true u;
@@ -43,5 +41,5 @@ returns c =
     let inv = c.loop-update.invariant in
     let us = c.args.updates.now in
     let all : length us ≤ c.loop-update.update-index = omega (arith, c.loop-update-test.false) in
-    same_updates (values_of (entered c.loop-update.tree.entries)) us (inv.filled
+    same_updates (large_updates c.loop-update.tree.entries c.loop-update.nodes.items) us (inv.filled
     ∙ ap entries_of (take_all c.loop-update.update-index us all))

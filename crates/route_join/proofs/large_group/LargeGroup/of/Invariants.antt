@@ -1,12 +1,11 @@
 use Rattle.std.proofs.Common.{◌≡◌, take}
-use Rattle.std.specs.Map.{values_of}
 use Rattle.route_join.specs.Table.{entries_of}
-use Rattle.route_join.specs.LargeGroup.{IsLargeGroup, entered}
+use Rattle.route_join.specs.LargeGroup.{IsLargeGroup, large_updates}
 use Rattle.route_join.proofs.large_group.LargeGroup.of.Given as goal
 
 -- the first updates are entered
 abbrev pub invariant-loop-update : goal.invariant-loop-update
 invariant-loop-update l = record {
   kept : IsLargeGroup l.tree.entries l.nodes.items;
-  filled : entries_of (values_of (entered l.tree.entries)) ≡ entries_of (take l.update-index l.updates);
+  filled : entries_of (large_updates l.tree.entries l.nodes.items) ≡ entries_of (take l.update-index l.updates);
 }

@@ -1,18 +1,15 @@
-use Rattle.std.proofs.Common.{ap, ◌∙◌}
-use Rattle.std.specs.Option.{option_map}
-use Rattle.route_join.specs.declared.large_group.IndexEntry.{IndexEntry}
+use Rattle.std.proofs.Common.{ap, sym, ◌∙◌}
 use Rattle.route_join.specs.Group.{update_among}
-use Rattle.route_join.proofs.Trees.{find_entered}
+use Rattle.route_join.specs.WinnerTree.{owns, said_at}
+use Rattle.route_join.proofs.Trees.{among}
 use Rattle.route_join.proofs.large_group.LargeGroup.register.Goals as goal
 
 pub returns-in-None : goal.returns-in-None
-returns-in-None c =
-    ap (option_map (λ (e : IndexEntry). e.update)) c.in-None.ensures
-    ∙ find_entered c.self.inside.tree.entries c.args.register.now c.self.invariant.keyed
-    ∙ ap (λ us. update_among us c.args.register.now) c.self.view_is
+returns-in-None c = c.in-None.ensures ∙ ap (λ xs. said_at (owns xs) c.place_at.result) c.deref.ensures.value
+    ∙ among (owns c.self.inside.nodes.items) c.self.inside.tree.entries c.self.invariant.placed c.args.register.now
+    c.place_at.result (sym c.place_at.ensures) ∙ ap (λ us. update_among us c.args.register.now) c.self.view_is
 
 pub returns-in-Some : goal.returns-in-Some
-returns-in-Some c =
-    ap (option_map (λ (e : IndexEntry). e.update)) c.in-Some.ensures
-    ∙ find_entered c.self.inside.tree.entries c.args.register.now c.self.invariant.keyed
-    ∙ ap (λ us. update_among us c.args.register.now) c.self.view_is
+returns-in-Some c = c.in-Some.ensures ∙ ap (λ xs. said_at (owns xs) c.place_at.result) c.deref.ensures.value
+    ∙ among (owns c.self.inside.nodes.items) c.self.inside.tree.entries c.self.invariant.placed c.args.register.now
+    c.place_at.result (sym c.place_at.ensures) ∙ ap (λ us. update_among us c.args.register.now) c.self.view_is

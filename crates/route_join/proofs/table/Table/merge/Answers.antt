@@ -4,11 +4,11 @@ use Rattle.route_wire.specs.Fields.{Fields}
 use Rattle.std.specs.FinMap.{entries}
 use Rattle.route_join.specs.Table.{Table, is_listed, value_at, with_update}
 use Rattle.route_join.specs.Joins.{IsJoin, IsPartJoin}
-use Rattle.route_join.specs.Stops.{StopsAt}
 use Rattle.route_join.specs.Group.{updates_in}
 use Rattle.route_join.proofs.Joins.{join_is}
 use Rattle.route_join.proofs.Leaders.{on_ok}
-use Rattle.route_join.proofs.Merging.{all_is, on_err, refused_memory, entries_listeners, same_listeners_all, listed_in}
+use Rattle.route_join.proofs.Merging.{StopsAt, all_is, on_err, refused_memory, entries_listeners}
+use Rattle.route_join.proofs.Merging.{same_listeners_all, listed_in}
 use Rattle.route_join.proofs.Merging.{listed_still, all_counted, joins_first, join_all, updates_push}
 use Rattle.route_join.proofs.table.Table.merge.Goals as goal
 

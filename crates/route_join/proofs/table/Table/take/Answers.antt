@@ -20,32 +20,32 @@ pub returns-in_default-clause-no_memory : goal.returns-in_default-clause-no_memo
 returns-in_default-clause-no_memory c = λ h.
     ap (λ (t : Table). value_at t c.args.update.now.register) (sym c.self.view_is)
     ∙ found c.self.inside.originators.items (updates_in c.self.inside.groups) c.args.update.now.register
-    c.self.invariant.grouped.kept.ordered ∙ c.in_default.ensures.new
+    c.self.invariant.grouped.kept.ordered ∙ c.in_default.ensures.takes.absent
 
 pub invariant_of-self-2 : goal.invariant_of-self-2
 invariant_of-self-2 c = record {
   grouped = record {
     kept = kept_with c.self.inside.originators.items (updates_in c.self.inside.groups) (updates_in c.take.new.self)
-        c.args.update.now c.self.invariant.grouped.kept c.in-Ok.ensures.entries c.always_well_formed.ensures
+        c.args.update.now c.self.invariant.grouped.kept c.in-Ok.ensures.takes.entries c.always_well_formed.ensures
         (listed_by c.self.inside.originators.items _ c.args.update.now.register _ c.deref.ensures.0 c.register.ensures
         c.if-not-contains.ensures.value);
     groups = c.in-Ok.ensures.groups;
   };
   counted = counted_with (updates_in c.self.inside.groups) (updates_in c.take.new.self) c.args.update.now
-      c.self.inside.held c.take.new.held c.self.invariant.grouped.kept.ordered c.in-Ok.ensures.entries
-      c.self.invariant.counted c.in-Ok.ensures.held;
-  few = c.in-Ok.ensures.few c.self.invariant.few;
+      c.self.inside.held c.take.new.held c.self.invariant.grouped.kept.ordered c.in-Ok.ensures.takes.entries
+      c.self.invariant.counted c.in-Ok.ensures.takes.counted;
+  few = c.in-Ok.ensures.takes.few c.self.invariant.few;
 }
 
 pub returns-clause-taken : goal.returns-clause-taken
-returns-clause-taken c = c.in-Ok.ensures.taken ∙ taken_is c.self.inside.originators.items
+returns-clause-taken c = c.in-Ok.ensures.takes.taken ∙ taken_is c.self.inside.originators.items
     (updates_in c.self.inside.groups) c.args.update.now c.self.invariant.grouped.kept
     ∙ ap (λ t. taken_of t c.args.update.now) c.self.view_is
 
 pub returns-clause-table : goal.returns-clause-table
 returns-clause-table c =
     table_with c.self.inside.originators.items (updates_in c.self.inside.groups) (updates_in c.take.new.self)
-    c.args.update.now c.self.invariant.grouped.kept c.in-Ok.ensures.entries
+    c.args.update.now c.self.invariant.grouped.kept c.in-Ok.ensures.takes.entries
     ∙ ap (λ t. with_update t c.args.update.now) c.self.view_is
 
 pub returns-clause-unknown : goal.returns-clause-unknown
