@@ -90,26 +90,24 @@ unheard e u known = λ i. record e { table = cond (known i) (with_value e.table 
 withdrawn_said : (e : Speaker) (u : Fields) → KeepsNumbers e → u.register.originator ≡ e.address → is_newest e u ≡ true
     → u.value.incarnation < e.incarnation → advert_in u.value.content ≡ None → (k : Key)
     → own_advert (after_importing e u) k ≡ own_advert e k
-withdrawn_said e u h mine newest past none k = elim (key_or_other k u.register.key) as (λ _. own_advert
-    (after_importing e u) k ≡ own_advert e k) [
-      | inl same ↦ subst (λ j. own_advert (after_importing e u) j ≡ own_advert e j) (sym same)
-          (ap advert_of (there_now e u mine newest) ∙ none ∙ sym (not_said e u h mine newest past))
-      | inr ne ↦ ap advert_of (elsewhere e u k ne)
-    ]
+withdrawn_said e u h mine newest past none k = elim (key_or_other k u.register.key) [
+  | inl same ↦ subst (λ j. own_advert (after_importing e u) j ≡ own_advert e j) (sym same)
+      (ap advert_of (there_now e u mine newest) ∙ none ∙ sym (not_said e u h mine newest past))
+  | inr ne ↦ ap advert_of (elsewhere e u k ne)
+]
 
 refuted_said : (e : Speaker) (u : Fields) → KeepsNumbers e → u.register.originator ≡ e.address → is_newest e u ≡ true
     → u.value.incarnation < e.incarnation → (k : Key) → own_advert
     (after_originating (after_importing e u) u.register.key Withdrawn) k ≡ own_advert e k
-refuted_said e u h mine newest past k = elim (key_or_other k u.register.key) as (λ _. own_advert
-    (after_originating (after_importing e u) u.register.key Withdrawn) k ≡ own_advert e k) [
-      | inl same ↦ subst (λ j. own_advert (after_originating (after_importing e u) u.register.key Withdrawn) j
-          ≡ own_advert e j)
-          (sym same)
-          (ap advert_of (own_same (after_importing e u) u.register.key Withdrawn)
-          ∙ sym (not_said e u h mine newest past))
-      | inr ne ↦ key_stays (after_importing e u) u.register.key Withdrawn k e.address ne
-          ∙ ap advert_of (elsewhere e u k ne)
-    ]
+refuted_said e u h mine newest past k = elim (key_or_other k u.register.key) [
+  | inl same ↦ subst (λ j. own_advert (after_originating (after_importing e u) u.register.key Withdrawn) j
+      ≡ own_advert e j)
+      (sym same)
+      (ap advert_of (own_same (after_importing e u) u.register.key Withdrawn)
+      ∙ sym (not_said e u h mine newest past))
+  | inr ne ↦ key_stays (after_importing e u) u.register.key Withdrawn k e.address ne
+      ∙ ap advert_of (elsewhere e u k ne)
+]
 
 -- not ahead: of an earlier incarnation, or no news
 pub past_if_newest : (e : Speaker) (u : Fields) → is_ahead e u ≡ false → is_newest e u ≡ true
@@ -167,22 +165,22 @@ pub earlier_numbers : (e : Speaker) (u : Fields) → KeepsNumbers e → u.regist
     → is_newest e u ≡ true → u.value.incarnation < e.incarnation → advert_in u.value.content ≡ None
     → KeepsNumbers (after_importing e u)
 earlier_numbers e u h mine newest past none = record {
-  counted = λ k v at present. elim (key_or_other k u.register.key) as (λ _. v.counter ≤ e.counter) [
+  counted = λ k v at present. elim (key_or_other k u.register.key) [
     | inl same ↦ absurd (late k v same at present)
     | inr ne ↦ h.counted k v (before k v ne at) present
   ];
-  distinct = λ k j v w at_k at_j here there same. elim (key_or_other k u.register.key) as (λ _. k ≡ j) [
+  distinct = λ k j v w at_k at_j here there same. elim (key_or_other k u.register.key) [
     | inl is ↦ absurd (late k v is at_k here)
-    | inr ne ↦ elim (key_or_other j u.register.key) as (λ _. k ≡ j) [
+    | inr ne ↦ elim (key_or_other j u.register.key) [
       | inl is ↦ absurd (late j w is at_j there)
       | inr other ↦ h.distinct k j v w (before k v ne at_k) (before j w other at_j) here there same
     ]
   ];
-  past = λ k v at. elim (key_or_other k u.register.key) as (λ _. v.incarnation ≤ e.incarnation) [
+  past = λ k v at. elim (key_or_other k u.register.key) [
     | inl same ↦ let is = ap (λ (w : Value). w.incarnation) (now k v same at) in omega (arith, is, past)
     | inr ne ↦ h.past k v (before k v ne at)
   ];
-  alive = λ k v at some. elim (key_or_other k u.register.key) as (λ _. v.incarnation ≡ e.incarnation) [
+  alive = λ k v at some. elim (key_or_other k u.register.key) [
     | inl same ↦ absurd (let gone : is_some (advert_in v.content) ≡ false =
         ap (λ (w : Value). is_some (advert_in w.content)) (sym (now k v same at))
         ∙ ap (λ (o : Option Advert). is_some o) none in let bad : false ≡ true = sym gone ∙ some in cc)
@@ -215,7 +213,7 @@ pub earlier_rooms : (e : Speaker) (u : Fields) (known : List Register) → HasRo
     → u.register.originator ≡ e.address → is_newest e u ≡ true → u.value.incarnation < e.incarnation
     → HasRooms (after_importing e u) known
 earlier_rooms e u known h mine newest past k v at present =
-    elim (key_or_other k u.register.key) as (λ _. Contains known (own_register e k)) [
+    elim (key_or_other k u.register.key) [
       | inl same ↦
           let both : Some u.value ≡ Some v = sym (there_now e u mine newest)
           ∙ subst (λ j. own (after_importing e u) j ≡ Some v) same at in
@@ -243,8 +241,7 @@ value_twice t r v w = λ i. record { originators = t.originators; registers = tw
   where
     twice : insert (insert t.registers r v) r w ≡ insert t.registers r w
     twice = same_map register_total register_exact (insert (insert t.registers r v) r w) (insert t.registers r w)
-        (λ q. elim (same_or_other q r) as (λ _. value_at (with_value (with_value t r v) r w) q
-        ≡ value_at (with_value t r w) q) [
+        (λ q. elim (same_or_other q r) [
           | inl e ↦ subst (λ z. value_at (with_value (with_value t r v) r w) z ≡ value_at (with_value t r w) z) (sym e)
               (at_same (with_value t r v) r w ∙ sym (at_same t r w))
           | inr ne ↦ at_other (with_value t r v) r w q ne ∙ at_other t r v q ne ∙ sym (at_other t r w q ne)

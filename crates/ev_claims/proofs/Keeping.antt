@@ -2,6 +2,7 @@
 use Rattle.std.proofs.Common.{◌≡◌, ◌≢◌, inl, inr, ℕ, ◌+◌, ◌-◌, ◌≤◌, ◌<◌, ◌^◌, Bool, true, false, Option, Some, None}
 use Rattle.std.proofs.Common.{Result, Ok, Err, length, refl, sym, ap, subst, ◌∙◌, arith}
 use Rattle.std.specs.Prelude.{IsSome, OnOk, OnErr, ◌↔◌, ◌&&◌, nat_le}
+use Rattle.std.proofs.lemmas.Bool.{false_from_ne_true}
 use Rattle.std.proofs.lemmas.Bool.Decides.{nat_tests}
 use Rattle.route_wire.specs.Fields.{Fields}
 use Rattle.route_join.specs.declared.table.Taken.{Taken}
@@ -33,7 +34,7 @@ use Rattle.ev_claims.specs.LocalRoutes.{after_removal}
 use Rattle.ev_claims.proofs.Numbers.{own_same, key_stays, own_stays}
 use Rattle.ev_claims.proofs.Hearing.{own_said, own_counter}
 use Rattle.ev_claims.proofs.Learnt.{Sets, sets_new, sets_refresh, sets_pin, size_new, size_known, room_left, size_gone}
-use Rattle.ev_claims.proofs.Learnt.{removal_here, removal_there, removal_places}
+use Rattle.ev_claims.proofs.Learnt.{same_station, removal_here, removal_there, removal_places}
 
 abbrev pins : Option Entry → Option Bool
 pins o = option_map (λ (x : Entry). x.pinned) o
@@ -64,11 +65,7 @@ spoken_routes e v h same left = record {
 -- ---- a station is set, and said
 
 key_apart : (r s : Station) → r ≢ s → key_of r ≢ key_of s
-key_apart r s ne e =
-    let both : Mac r.vni r.mac None ≡ Mac s.vni s.mac None = e in
-    let vnis : r.vni ≡ s.vni = cc in
-    let macs : r.mac ≡ s.mac = cc in
-    ne (λ i. record { vni = vnis i; mac = macs i })
+key_apart r s ne e = ne (same_station r s e)
 
 -- the station has this entry, and is advertised as the entry says; nothing else is advertised anew
 pub record Enters (e : LocalRoutes) (t : Learning) (v : Speaker) (s : Station) (x : Entry) : Type 0 where
@@ -91,14 +88,14 @@ entry_there e t v s x h r ne = ap (λ m. get m r) h.sets.entries ∙ get_there e
 pub entered_routes : (e : LocalRoutes) (t : Learning) (v : Speaker) (s : Station) (x : Entry) → KeepsRoutes e
     → Enters e t v s x → KeepsRoutes (record e { learned = t; speaker = v })
 entered_routes e t v s x h n = record {
-  kinds = λ r. elim (same_or_other r s) as (λ _. pins (entry_at t r) ≡ fixes (own_advert v (key_of r))) [
+  kinds = λ r. elim (same_or_other r s) [
     | inl is ↦ subst (λ q. pins (entry_at t q) ≡ fixes (own_advert v (key_of q))) (sym is)
         (ap pins (entry_here e t v s x n) ∙ n.kind)
     | inr ne ↦ ap pins (entry_there e t v s x n r ne) ∙ h.kinds r
         ∙ ap fixes (sym (n.others (key_of r) (key_apart r s ne)))
   ];
   bare = λ r ip. n.others (Mac r.vni r.mac (Some ip)) (λ q. cc) ∙ h.bare r ip;
-  ports = λ r y at. elim (same_or_other r s) as (λ _. vni_at e.ports y.port ≡ Some r.vni) [
+  ports = λ r y at. elim (same_or_other r s) [
     | inl same ↦
         let mine : Some x ≡ Some y = sym (entry_here e t v s x n) ∙ subst (λ q. entry_at t q ≡ Some y) same at in
         let is : x ≡ y = cc in
@@ -120,16 +117,15 @@ entered_routes e t v s x h n = record {
 pub removal_routes : (e : LocalRoutes) (s : Station) (x : Entry) → entry_at e.learned s ≡ Some x → KeepsRoutes e
     → KeepsRoutes (after_removal e s)
 removal_routes e s x known h = record {
-  kinds = λ r. elim (same_or_other r s) as (λ _. pins (entry_at (gone e.learned s) r)
-      ≡ fixes (own_advert v (key_of r))) [
-        | inl is ↦ subst (λ r. pins (entry_at (gone e.learned s) r) ≡ fixes (own_advert v (key_of r))) (sym is)
-            (ap pins (removal_here e.learned s) ∙ ap (λ o. fixes (advert_of o))
-            (sym (own_same e.speaker (key_of s) Withdrawn)))
-        | inr ne ↦ ap pins (removal_there e.learned s r ne) ∙ h.kinds r
-            ∙ ap fixes (sym (stays (key_of r) (key_apart r s ne)))
-      ];
+  kinds = λ r. elim (same_or_other r s) [
+    | inl is ↦ subst (λ r. pins (entry_at (gone e.learned s) r) ≡ fixes (own_advert v (key_of r))) (sym is)
+        (ap pins (removal_here e.learned s) ∙ ap (λ o. fixes (advert_of o))
+        (sym (own_same e.speaker (key_of s) Withdrawn)))
+    | inr ne ↦ ap pins (removal_there e.learned s r ne) ∙ h.kinds r
+        ∙ ap fixes (sym (stays (key_of r) (key_apart r s ne)))
+  ];
   bare = λ r ip. stays (Mac r.vni r.mac (Some ip)) (λ q. cc) ∙ h.bare r ip;
-  ports = λ r y at. elim (same_or_other r s) as (λ _. vni_at e.ports y.port ≡ Some r.vni) [
+  ports = λ r y at. elim (same_or_other r s) [
     | inl same ↦ absurd (let none = removal_here e.learned s in
         let some : entry_at (gone e.learned s) s ≡ Some y =
         subst (λ q. entry_at (gone e.learned s) q ≡ Some y) same at in cc)
@@ -306,10 +302,6 @@ heard_routes e v u (Ok x) other h ok err = subst (λ w. KeepsRoutes (record e { 
     (spoken_routes e (after_importing e.speaker u) h (λ k. ap advert_of (own_stays e.speaker u other k)) h.left)
 heard_routes e v u (Err x) other h ok err = subst (λ w. KeepsRoutes (record e { speaker = w })) (sym err) h
 
-not_true : (b : Bool) → (b ≡ true → ⊥) → b ≡ false
-not_true true never = absurd (never refl)
-not_true false never = refl
-
 pub own_routes : (e : LocalRoutes) (v : Speaker) (u : Fields) (r : Result Taken OwnError)
     → u.register.originator ≡ e.speaker.address → KeepsNumbers e.speaker → KeepsRoutes e
     → OnOk r (v ≡ after_importing_own e.speaker u) → OnErr r (v ≡ e.speaker) → (r ≡ Err Ahead)
@@ -318,12 +310,12 @@ pub own_routes : (e : LocalRoutes) (v : Speaker) (u : Fields) (r : Result Taken 
 own_routes e v u (Err x) mine n h ok err ahead spent = subst (λ w. KeepsRoutes (record e { speaker = w })) (sym err) h
 own_routes e v u (Ok x) mine n h ok err ahead spent = subst (λ w. KeepsRoutes (record e { speaker = w })) (sym ok)
     (spoken_routes e (after_importing_own e.speaker u) h (own_said e.speaker u n mine
-    (not_true (is_ahead e.speaker u) (λ t. let no = ahead.1 t in cc))) bound)
+    (false_from_ne_true (is_ahead e.speaker u) (λ t. let no = ahead.1 t in cc))) bound)
   where
     few : is_returning e.speaker u ≡ true → e.speaker.counter + 1 ≤ 2 ^ 63
     few back =
         let full : (is_returning e.speaker u && nat_le (2 ^ 63) e.speaker.counter) ≡ false =
-        not_true (is_spent e.speaker u) (λ t. let no = spent.1 t in cc) in
+        false_from_ne_true (is_spent e.speaker u) (λ t. let no = spent.1 t in cc) in
         let room : nat_le (2 ^ 63) e.speaker.counter ≡ false = sym
         (ap (λ b. b && nat_le (2 ^ 63) e.speaker.counter) back)
         ∙ full in

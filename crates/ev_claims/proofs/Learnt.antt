@@ -5,6 +5,7 @@ use Rattle.std.specs.Option.{is_some}
 use Rattle.std.specs.FinMap.{get, get-empty, empty_of_len, insert, remove, len, len-insert, len-remove}
 use Rattle.std.proofs.lemmas.List.{length-set, length-map}
 use Rattle.std.proofs.lemmas.Bool.Decides.{nat_tests}
+use Rattle.route_wire.specs.declared.update.Key.TheVariants.{Mac}
 use Rattle.mac_arena.specs.declared.station.Station.{Station}
 use Rattle.mac_arena.specs.declared.station.Entry.{Entry}
 use Rattle.mac_arena.specs.declared.table.Learnt.TheVariants.{New, Moved, Refreshed, Pinned}
@@ -13,6 +14,15 @@ use Rattle.mac_arena.specs.Entry.{pinned_at, heard_at}
 use Rattle.mac_arena.specs.Learning.{Learning, entry_at, is_full, left, joined_by, entered, after_learn, answer_of}
 use Rattle.mac_arena.specs.Learning.{learnt_of, after_pin, after_pin_at, after_removal, after_removal_at}
 use Rattle.mac_arena.proofs.Entries.{station_total, gone_here, gone_there}
+use Rattle.ev_claims.specs.LocalRoutes.{key_of}
+
+-- ---- stations by their keys
+pub same_station : (r s : Station) → key_of r ≡ key_of s → r ≡ s
+same_station r s e =
+    let both : Mac r.vni r.mac None ≡ Mac s.vni s.mac None = e in
+    let vnis : r.vni ≡ s.vni = cc in
+    let macs : r.mac ≡ s.mac = cc in
+    λ i. record { vni = vnis i; mac = macs i }
 
 -- ---- one entry is set
 pub record Sets (t t' : Learning) (s : Station) (x : Entry) : Type 0 where

@@ -12,7 +12,7 @@ abbrev pub Counted : List ℕ → ℕ → ℕ → ℕ → Bool
 Counted ports vni place p = nat_le p place && is_member ports vni p
 
 le_step : (p place : ℕ) → place + 1 ≢ p → nat_le p (place + 1) ≡ nat_le p place
-le_step p place ne = elim (cases_lt (place + 1) p) as (λ _. nat_le p (place + 1) ≡ nat_le p place) [
+le_step p place ne = elim (cases_lt (place + 1) p) [
   | inl more ↦ (let a : nat_le p (place + 1) ≡ false = grind (arith, nat_tests) in
       let b : nat_le p place ≡ false = grind (arith, nat_tests) in a ∙ sym b)
   | inr low ↦ (let a : nat_le p (place + 1) ≡ true = grind (arith, nat_tests) in
@@ -20,7 +20,7 @@ le_step p place ne = elim (cases_lt (place + 1) p) as (λ _. nat_le p (place + 1
 ]
   where
     at_most : (p place : ℕ) → place + 1 ≢ p → p ≤ place + 1 → nat_le p place ≡ true
-    at_most p place ne low = elim (cases_lt place p) as (λ _. nat_le p place ≡ true) [
+    at_most p place ne low = elim (cases_lt place p) [
       | inl more ↦ absurd (ne (omega (arith, low, more)))
       | inr less ↦ grind (arith, nat_tests)
     ]
@@ -32,27 +32,25 @@ member_at ports vni place item at = let one : place + 1 ≡ suc place = omega ar
 
 pub with_member : (ports : List ℕ) (vni place item : ℕ) → slice_get ports place ≡ Some item → eqb item vni ≡ true
     → (p : ℕ) (b : Bool) → b ≡ Counted ports vni place p → (eqb (place + 1) p || b) ≡ Counted ports vni (place + 1) p
-with_member ports vni place item at here p b is = elim (cases_eq (place + 1) p) as (λ _. (eqb (place + 1) p || b)
-    ≡ Counted ports vni (place + 1) p) [
-      | inl same ↦
-          let le : nat_le p (place + 1) ≡ true = grind (arith, nat_tests) in
-          ap (λ d. d || b) (eq-eqb (place + 1) p same) ∙ sym (ap (λ d. d && is_member ports vni p) le
-          ∙ ap (is_member ports vni) (sym same) ∙ member_at ports vni place item at ∙ here)
-      | inr ne ↦ ap (λ d. d || b) (ne_eqb (place + 1) p ne) ∙ is
-          ∙ ap (λ d. d && is_member ports vni p) (sym (le_step p place ne))
-    ]
+with_member ports vni place item at here p b is = elim (cases_eq (place + 1) p) [
+  | inl same ↦
+      let le : nat_le p (place + 1) ≡ true = grind (arith, nat_tests) in
+      ap (λ d. d || b) (eq-eqb (place + 1) p same) ∙ sym (ap (λ d. d && is_member ports vni p) le
+      ∙ ap (is_member ports vni) (sym same) ∙ member_at ports vni place item at ∙ here)
+  | inr ne ↦ ap (λ d. d || b) (ne_eqb (place + 1) p ne) ∙ is
+      ∙ ap (λ d. d && is_member ports vni p) (sym (le_step p place ne))
+]
 
 pub without_member : (ports : List ℕ) (vni place item : ℕ) → slice_get ports place ≡ Some item → eqb item vni ≡ false
     → (p : ℕ) (b : Bool) → b ≡ Counted ports vni place p → b ≡ Counted ports vni (place + 1) p
-without_member ports vni place item at here p b is = elim (cases_eq (place + 1) p) as (λ _. b
-    ≡ Counted ports vni (place + 1) p) [
-      | inl same ↦
-          let le : nat_le p place ≡ false = grind (arith, nat_tests) in
-          let le_next : nat_le p (place + 1) ≡ true = grind (arith, nat_tests) in
-          is ∙ ap (λ d. d && is_member ports vni p) le ∙ sym (ap (λ d. d && is_member ports vni p) le_next
-          ∙ ap (is_member ports vni) (sym same) ∙ member_at ports vni place item at ∙ here)
-      | inr ne ↦ is ∙ ap (λ d. d && is_member ports vni p) (sym (le_step p place ne))
-    ]
+without_member ports vni place item at here p b is = elim (cases_eq (place + 1) p) [
+  | inl same ↦
+      let le : nat_le p place ≡ false = grind (arith, nat_tests) in
+      let le_next : nat_le p (place + 1) ≡ true = grind (arith, nat_tests) in
+      is ∙ ap (λ d. d && is_member ports vni p) le ∙ sym (ap (λ d. d && is_member ports vni p) le_next
+      ∙ ap (is_member ports vni) (sym same) ∙ member_at ports vni place item at ∙ here)
+  | inr ne ↦ is ∙ ap (λ d. d && is_member ports vni p) (sym (le_step p place ne))
+]
 
 pub none_counted : (ports : List ℕ) (vni p : ℕ) → Counted ports vni 0 p ≡ false
 none_counted ports vni zero = refl
@@ -63,12 +61,11 @@ pub all_counted : (ports : List ℕ) (vni place p : ℕ) → length ports ≤ pl
     → Counted ports vni place p ≡ is_member ports vni p
 all_counted ports vni place zero all = let le : nat_le 0 place ≡ true = grind (arith, nat_tests) in
     ap (λ d. d && is_member ports vni 0) le
-all_counted ports vni place (suc p) all = elim (cases_lt place (suc p)) as (λ _. Counted ports vni place (suc p)
-    ≡ is_member ports vni (suc p)) [
-      | inl more ↦
-          let le : nat_le (suc p) place ≡ false = grind (arith, nat_tests) in
-          ap (λ d. d && is_member ports vni (suc p)) le ∙ sym
-          (ap (λ o. is_at o vni) (slice_get_past ports p (omega (arith, all, more))))
-      | inr less ↦ let le : nat_le (suc p) place ≡ true = grind (arith, nat_tests) in
-          ap (λ d. d && is_member ports vni (suc p)) le
-    ]
+all_counted ports vni place (suc p) all = elim (cases_lt place (suc p)) [
+  | inl more ↦
+      let le : nat_le (suc p) place ≡ false = grind (arith, nat_tests) in
+      ap (λ d. d && is_member ports vni (suc p)) le ∙ sym
+      (ap (λ o. is_at o vni) (slice_get_past ports p (omega (arith, all, more))))
+  | inr less ↦ let le : nat_le (suc p) place ≡ true = grind (arith, nat_tests) in
+      ap (λ d. d && is_member ports vni (suc p)) le
+]

@@ -1,5 +1,5 @@
 -- what the own registers keep when the edge says or hears something
-use Rattle.std.proofs.Common.{◌≡◌, ◌≢◌, ◌⊎◌, inl, inr, ℕ, ◌+◌, ◌≤◌, Bool, true, false, cond, Option, Some, None, List}
+use Rattle.std.proofs.Common.{◌≡◌, ◌≢◌, ◌⊎◌, inl, inr, ℕ, ◌≤◌, Bool, true, false, cond, Option, Some, None, List}
 use Rattle.std.proofs.Common.{[], ◌∷◌, ◌++◌, refl, sym, ap, subst, ◌∙◌, arith}
 use Rattle.std.proofs.lemmas.List.Elements.{Contains-push_cases}
 use Rattle.std.specs.Prelude.{Contains, ◌==◌}
@@ -22,8 +22,10 @@ use Rattle.ev_claims.specs.Speaker.{after_importing}
 use Rattle.route_wire.proofs.Newer.{next_newer}
 
 pub key_or_other : (k j : Key) → (k ≡ j) ⊎ (k ≢ j)
-key_or_other k j = elim (same_or_other (register_of 0 k) (register_of 0 j)) as (λ _. (k ≡ j)
-    ⊎ (k ≢ j)) [ inl e ↦ inl (ap (λ (r : Register). r.key) e) | inr ne ↦ inr (λ e. ne (ap (register_of 0) e)) ]
+key_or_other k j = elim (same_or_other (register_of 0 k) (register_of 0 j)) [
+  | inl e ↦ inl (ap (λ (r : Register). r.key) e)
+  | inr ne ↦ inr (λ e. ne (ap (register_of 0) e))
+]
 
 pub own_same : (e : Speaker) (k : Key) (c : Content) → own (after_originating e k c) k ≡ Some (next_value e c)
 own_same e k c = at_same e.table (own_register e k) (next_value e c)
@@ -47,7 +49,7 @@ marked_only rs r q = go (list_any (eq_by_cmp register_cmp r) rs)
     go false h = Contains-push_cases rs r q h
 
 -- ---- saying something
-now_said : (e : Speaker) (k j : Key) (c : Content) (v : Value) → j ≡ k → own (after_originating e k c) j ≡ Some v
+pub now_said : (e : Speaker) (k j : Key) (c : Content) (v : Value) → j ≡ k → own (after_originating e k c) j ≡ Some v
     → next_value e c ≡ v
 now_said e k j c v same is =
     let is' : Some (next_value e c) ≡ Some v = sym (own_same e k c)
@@ -56,19 +58,19 @@ now_said e k j c v same is =
 
 pub said_numbers : (e : Speaker) (k : Key) (c : Content) → KeepsNumbers e → KeepsNumbers (after_originating e k c)
 said_numbers e k c h = record {
-  counted = λ j v is present. elim (key_or_other j k) as (λ _. v.counter ≤ e.counter + 1) [
+  counted = λ j v is present. elim (key_or_other j k) [
     | inl same ↦ let number = ap (λ (q : Value). q.counter) (now_said e k j c v same is) in omega (arith, number)
     | inr ne ↦ let bound : v.counter ≤ e.counter = h.counted j v (before j v ne is) present in omega arith
   ];
-  distinct = λ i j v w at_i at_j here there same. elim (key_or_other i k) as (λ _. i ≡ j) [
-    | inl i_is ↦ elim (key_or_other j k) as (λ _. i ≡ j) [
+  distinct = λ i j v w at_i at_j here there same. elim (key_or_other i k) [
+    | inl i_is ↦ elim (key_or_other j k) [
       | inl j_is ↦ i_is ∙ sym j_is
       | inr ne ↦
           let number = ap (λ (q : Value). q.counter) (now_said e k i c v i_is at_i) in
           let bound : w.counter ≤ e.counter = h.counted j w (before j w ne at_j) there in
           absurd (omega (arith, number))
     ]
-    | inr ne ↦ elim (key_or_other j k) as (λ _. i ≡ j) [
+    | inr ne ↦ elim (key_or_other j k) [
       | inl j_is ↦
           let number = ap (λ (q : Value). q.counter) (now_said e k j c w j_is at_j) in
           let bound : v.counter ≤ e.counter = h.counted i v (before i v ne at_i) here in
@@ -76,36 +78,32 @@ said_numbers e k c h = record {
       | inr other ↦ h.distinct i j v w (before i v ne at_i) (before j w other at_j) here there same
     ]
   ];
-  past = λ j v is. elim (key_or_other j k) as (λ _. v.incarnation ≤ e.incarnation) [
+  past = λ j v is. elim (key_or_other j k) [
     | inl same ↦ let life = ap (λ (q : Value). q.incarnation) (now_said e k j c v same is) in omega (arith, life)
     | inr ne ↦ h.past j v (before j v ne is)
   ];
-  alive = λ j v is some. elim (key_or_other j k) as (λ _. v.incarnation ≡ e.incarnation) [
+  alive = λ j v is some. elim (key_or_other j k) [
     | inl same ↦ sym (ap (λ (q : Value). q.incarnation) (now_said e k j c v same is))
     | inr ne ↦ h.alive j v (before j v ne is) some
   ];
   known = h.known;
-  pending = λ r in'. elim (same_or_other r (own_register e k)) as (λ _. (v : Value)
-      × (value_at (after_originating e k c).table r ≡ Some v) × (v.incarnation ≡ e.incarnation)
-      × (r.originator ≡ e.address)) [
-        | inl same ↦ (
-          next_value e c,
-          ap (value_at (after_originating e k c).table) same ∙ own_same e k c,
-          refl,
-          ap (λ (q : Register). q.originator) same,
-        )
-        | inr ne ↦ elim (marked_only e.pending (own_register e k) r in') as (λ _. (v : Value)
-            × (value_at (after_originating e k c).table r ≡ Some v) × (v.incarnation ≡ e.incarnation)
-            × (r.originator ≡ e.address)) [
-              | inl earlier ↦ let p = h.pending r earlier in (
-                p.0,
-                at_other e.table (own_register e k) (next_value e c) r ne ∙ p.1,
-                p.2,
-                p.3,
-              )
-              | inr same ↦ absurd (ne (sym same))
-            ]
-      ];
+  pending = λ r in'. elim (same_or_other r (own_register e k)) [
+    | inl same ↦ (
+      next_value e c,
+      ap (value_at (after_originating e k c).table) same ∙ own_same e k c,
+      refl,
+      ap (λ (q : Register). q.originator) same,
+    )
+    | inr ne ↦ elim (marked_only e.pending (own_register e k) r in') [
+      | inl earlier ↦ let p = h.pending r earlier in (
+        p.0,
+        at_other e.table (own_register e k) (next_value e c) r ne ∙ p.1,
+        p.2,
+        p.3,
+      )
+      | inr same ↦ absurd (ne (sym same))
+    ]
+  ];
 }
   where
     before : (j : Key) (v : Value) → j ≢ k → own (after_originating e k c) j ≡ Some v → own e j ≡ Some v
@@ -127,7 +125,7 @@ said_joins e k c h = ap (λ b. cond b (after_originating e k c).table e.table) (
 
 pub said_rooms : (e : Speaker) (k : Key) (c : Content) (known : List Register) → Contains known (own_register e k)
     → HasRooms e known → HasRooms (after_originating e k c) known
-said_rooms e k c known here h j v is present = elim (key_or_other j k) as (λ _. Contains known (own_register e j)) [
+said_rooms e k c known here h j v is present = elim (key_or_other j k) [
   | inl same ↦ subst (λ q. Contains known (own_register e q)) (sym same) here
   | inr ne ↦ h j v (sym (own_other e k c j ne) ∙ is) present
 ]

@@ -40,26 +40,23 @@ floods_more : (e : Speaker) (w : ℕ) (ws : List ℕ) (v : ℕ)
     ↔ (IsSome (own_advert (after_originating e (Flood w) (Advertised flood_advert)) (Flood v)) ⊎ Contains ws v)
     → IsSome (own_advert (after_floods e (w ∷ ws)) (Flood v)) ↔ (IsSome (own_advert e (Flood v)) ⊎ Contains (w ∷ ws) v)
 floods_more e w ws v rest = (
-  λ p. elim (rest.0 p) as (λ _. IsSome (own_advert e (Flood v)) ⊎ Contains (w ∷ ws) v) [
-    | inl there ↦ elim (key_or_other (Flood v) (Flood w)) as (λ _. IsSome (own_advert e (Flood v))
-        ⊎ Contains (w ∷ ws) v) [
-          | inl same ↦ inr (0, omega arith, let is : v ≡ w = cc in sym is)
-          | inr ne ↦ inl (subst IsSome (key_stays e (Flood w) (Advertised flood_advert) (Flood v) e.address ne) there)
-        ]
+  λ p. elim (rest.0 p) [
+    | inl there ↦ elim (key_or_other (Flood v) (Flood w)) [
+      | inl same ↦ inr (0, omega arith, let is : v ≡ w = cc in sym is)
+      | inr ne ↦ inl (subst IsSome (key_stays e (Flood w) (Advertised flood_advert) (Flood v) e.address ne) there)
+    ]
     | inr later ↦ inr (suc later.0, (let less = later.1 in omega (arith, less)), later.2)
   ],
-  λ q. elim q as (λ _. IsSome (own_advert (after_floods (after_originating e (Flood w) (Advertised flood_advert)) ws)
-      (Flood v))) [
-        | inl there ↦ elim (key_or_other (Flood v) (Flood w)) as (λ _. IsSome
-            (own_advert (after_floods (after_originating e (Flood w) (Advertised flood_advert)) ws) (Flood v))) [
-              | inl same ↦ rest.1 (inl (subst (λ k. IsSome (own_advert
-                  (after_originating e (Flood w) (Advertised flood_advert)) k))
-                  (sym same) (said_there e w)))
-              | inr ne ↦ rest.1 (inl (subst IsSome (sym (key_stays e (Flood w) (Advertised flood_advert) (Flood v) e.address
-                  ne)) there))
-            ]
-        | inr c ↦ among c.0 c.1 c.2
-      ],
+  λ q. elim q [
+    | inl there ↦ elim (key_or_other (Flood v) (Flood w)) [
+      | inl same ↦ rest.1 (inl (subst (λ k. IsSome (own_advert
+          (after_originating e (Flood w) (Advertised flood_advert)) k))
+          (sym same) (said_there e w)))
+      | inr ne ↦ rest.1 (inl (subst IsSome (sym (key_stays e (Flood w) (Advertised flood_advert) (Flood v) e.address
+          ne)) there))
+    ]
+    | inr c ↦ among c.0 c.1 c.2
+  ],
 )
   where
     among : (k : ℕ) → k < length (w ∷ ws) → get_or (w ∷ ws) k v ≡ v
@@ -73,7 +70,7 @@ pub floods_are : (e : Speaker) (vs : List ℕ) (v : ℕ) → IsSome (own_advert 
     ↔ (IsSome (own_advert e (Flood v)) ⊎ Contains vs v)
 floods_are e [] v = (
   λ p. inl p,
-  λ q. elim q as (λ _. IsSome (own_advert e (Flood v))) [
+  λ q. elim q [
     | inl p ↦ p
     | inr c ↦ absurd (let less = c.1 in omega (arith, less))
   ],
@@ -106,7 +103,7 @@ opened_routes address incarnation originators vs ports capacity buckets salt sma
   ports = λ s x at. absurd (let no = nobody capacity (length ports) buckets salt s in
       let bad : None ≡ Some x = sym no ∙ at in cc);
   floods = λ v. (
-    λ p. elim ((floods_are start vs v).0 p) as (λ _. Contains vs v) [
+    λ p. elim ((floods_are start vs v).0 p) [
       | inl there ↦ absurd (let no = nothing_said address incarnation originators (Flood v) in
           let bad : IsSome {T = Advert} None = subst IsSome no there in cc)
       | inr c ↦ c

@@ -1,15 +1,15 @@
 -- What is said, one thing after the other, and no key twice.
-use Rattle.std.proofs.Common.{◌≡◌, ◌≢◌, inl, inr, ℕ, zero, suc, ◌+◌, ◌≤◌, Bool, true, false, cond, Option, Some, None}
+use Rattle.std.proofs.Common.{◌≡◌, ◌≢◌, inl, inr, ℕ, zero, suc, ◌+◌, ◌≤◌, true, false, cond, Option, Some, None}
 use Rattle.std.proofs.Common.{List, [], ◌∷◌, length, refl, sym, ap, subst, ◌∙◌, arith}
-use Rattle.std.specs.Prelude.{Contains, IsSome, slice_get, eqb, ◌||◌}
+use Rattle.std.specs.Prelude.{Contains, IsSome, slice_get, eqb}
 use Rattle.std.specs.List.{AllByRecursion, IsDistinct}
+use Rattle.std.specs.Cmp.{nat_eq_equiv}
 use Rattle.std.specs.FinMap.{get-empty}
-use Rattle.std.proofs.lemmas.Bool.{eq-eqb}
-use Rattle.std.proofs.lemmas.Bool.Decides.{nat_tests}
+use Rattle.std.proofs.lemmas.Bool.{eq-eqb, false≢true, or_left, or_right, or_parts}
 use Rattle.std.proofs.lemmas.Map.Keys.{IsDistinct-IsPermutation}
 use Rattle.std.proofs.lemmas.List.Sorted.{length_permutation}
 use Rattle.route_wire.specs.declared.update.Key.{Key}
-use Rattle.route_wire.specs.declared.update.Key.TheVariants.{Flood, Mac}
+use Rattle.route_wire.specs.declared.update.Key.TheVariants.{Flood}
 use Rattle.route_wire.specs.declared.update.Register.{Register}
 use Rattle.route_wire.specs.declared.update.Content.{Content}
 use Rattle.route_wire.specs.declared.update.Content.TheVariants.{Withdrawn, Advert as Advertised}
@@ -22,7 +22,7 @@ use Rattle.mac_arena.specs.declared.station.Station.{Station}
 use Rattle.mac_arena.specs.Station.{is_same}
 use Rattle.mac_arena.specs.Learning.{entry_at}
 use Rattle.mac_arena.specs.ListsName.{stands, AreOnce}
-use Rattle.mac_arena.proofs.Entries.{same_self}
+use Rattle.mac_arena.proofs.Entries.{same_self, eq_same}
 use Rattle.ev_claims.specs.Speaker.{Speaker, own_register, own, IsPresent, IsOwnAt, KeepsNumbers, next_value}
 use Rattle.ev_claims.specs.Speaker.{after_originating}
 use Rattle.ev_claims.specs.Speaker.{after_importing, silent}
@@ -30,9 +30,9 @@ use Rattle.ev_claims.specs.declared.opening.Start.{Start}
 use Rattle.ev_claims.specs.Opening.{IsOpening, Opens, after_floods, floods_of}
 use Rattle.ev_claims.specs.LocalRoutes.{LocalRoutes, entries, key_of, after_removal, after_removals}
 use Rattle.ev_claims.specs.Changes.{OwnChanges, Says, registers_in, after_originations, said_updates}
-use Rattle.ev_claims.proofs.Numbers.{key_or_other, own_same, own_other, own_stays}
+use Rattle.ev_claims.proofs.Numbers.{key_or_other, now_said, own_other, own_stays}
 use Rattle.route_wire.proofs.Newer.{next_newer}
-use Rattle.ev_claims.proofs.Learnt.{size_gone, removal_there}
+use Rattle.ev_claims.proofs.Learnt.{same_station, size_gone, removal_there}
 use Rattle.ev_claims.proofs.Keeping.{known_entry}
 use Rattle.ev_claims.proofs.Changed.{nothing_changes, more_changes}
 
@@ -48,22 +48,16 @@ kept_behind e h = record { past = h.past; counted = h.counted }
 
 said_behind : (e : Speaker) (k : Key) (c : Content) → IsBehind e → IsBehind (after_originating e k c)
 said_behind e k c h = record {
-  past = λ j v is. elim (key_or_other j k) as (λ _. v.incarnation ≤ e.incarnation) [
-    | inl same ↦ let life = ap (λ (q : Value). q.incarnation) (now j v same is) in omega (arith, life)
+  past = λ j v is. elim (key_or_other j k) [
+    | inl same ↦ let life = ap (λ (q : Value). q.incarnation) (now_said e k j c v same is) in omega (arith, life)
     | inr ne ↦ h.past j v (before j v ne is)
   ];
-  counted = λ j v is present. elim (key_or_other j k) as (λ _. v.counter ≤ e.counter + 1) [
-    | inl same ↦ let number = ap (λ (q : Value). q.counter) (now j v same is) in omega (arith, number)
+  counted = λ j v is present. elim (key_or_other j k) [
+    | inl same ↦ let number = ap (λ (q : Value). q.counter) (now_said e k j c v same is) in omega (arith, number)
     | inr ne ↦ let bound : v.counter ≤ e.counter = h.counted j v (before j v ne is) present in omega (arith, bound)
   ];
 }
   where
-    now : (j : Key) (v : Value) → j ≡ k → own (after_originating e k c) j ≡ Some v → next_value e c ≡ v
-    now j v same is =
-        let both : Some (next_value e c) ≡ Some v = sym (own_same e k c)
-        ∙ subst (λ q. own (after_originating e k c) q ≡ Some v) same is in
-        cc
-
     before : (j : Key) (v : Value) → j ≢ k → own (after_originating e k c) j ≡ Some v → own e j ≡ Some v
     before j v ne is = sym (own_other e k c j ne) ∙ is
 
@@ -190,21 +184,10 @@ not_withdrawn s [] not i t at same = cc
 not_withdrawn s (x ∷ ss) not zero t at same =
     let head : Key × Content = (key_of x, Withdrawn) in
     let first : head ≡ t = cc in
-    let keys : key_of x ≡ key_of s = ap (λ (q : Key × Content). q.0) first ∙ same in
-    let both : Mac x.vni x.mac None ≡ Mac s.vni s.mac None = keys in
-    let vnis : x.vni ≡ s.vni = cc in
-    let macs : x.mac ≡ s.mac = cc in
-    let is : x ≡ s = (λ i. record { vni = vnis i; mac = macs i }) in
-    let yes : stands (x ∷ ss) s ≡ true = ap (λ q. is_same x q || stands ss q) (sym is)
-    ∙ ap (λ b. b || stands ss x) (same_self x) in
-    let bad : false ≡ true = sym not ∙ yes in
-    cc
-not_withdrawn s (x ∷ ss) not (suc i) t at same = not_withdrawn s ss (or_later (is_same x s) (stands ss s) not) i t at
+    absurd (false≢true (sym not ∙ or_left (is_same x s) (stands ss s)
+    (eq_same x s (same_station x s (ap (λ (q : Key × Content). q.0) first ∙ same)))))
+not_withdrawn s (x ∷ ss) not (suc i) t at same = not_withdrawn s ss (or_parts (is_same x s) (stands ss s) not).1 i t at
     same
-  where
-    or_later : (b c : Bool) → (b || c) ≡ false → c ≡ false
-    or_later true c h = cc
-    or_later false c h = h
 
 pub withdrawals_apart : (ss : List Station) → AreOnce ss → AreApart (withdrawals ss)
 withdrawals_apart [] once = tt
@@ -216,20 +199,15 @@ pub removals_size : (e : LocalRoutes) (ss : List Station) → AreOnce ss
     → entries (after_removals e ss) + length ss ≡ entries e
 removals_size e [] once known = omega arith
 removals_size e (s ∷ ss) once known =
-    let entry = known_entry e s (known s (ap (λ b. b || stands ss s) (same_self s))) in
+    let entry = known_entry e s (known s (or_left (is_same s s) (stands ss s) (same_self s))) in
     let one : entries (after_removal e s) + 1 ≡ entries e = size_gone e.learned s entry.0 entry.1 in
     let rest = removals_size (after_removal e s) ss once.1
     (λ q in'. subst IsSome (sym (removal_there e.learned s q (apart q in')))
-    (known q (or_true (is_same s q) (stands ss q) in'))) in
+    (known q (or_right (is_same s q) (stands ss q) in'))) in
     omega (arith, one, rest)
   where
-    or_true : (b c : Bool) → c ≡ true → (b || c) ≡ true
-    or_true true c h = refl
-    or_true false c h = h
-
     apart : (q : Station) → stands ss q ≡ true → q ≢ s
-    apart q in' same = let there : stands ss s ≡ true = subst (λ x. stands ss x ≡ true) same in' in let not = once.0 in
-        let bad : false ≡ true = sym not ∙ there in cc
+    apart q in' same = false≢true (sym once.0 ∙ ap (stands ss) (sym same) ∙ in')
 
 -- ---- the opening
 
@@ -254,17 +232,6 @@ unfolding IsDistinct
 floods_apart [] distinct = tt
 floods_apart (v ∷ vs) distinct = (not_flooded v vs distinct.0, floods_apart vs distinct.1)
 
-flips : (x y : ℕ) → eqb x y ≡ eqb y x
-flips x y = go (eqb x y) refl (eqb y x) refl
-  where
-    go : (b : Bool) → eqb x y ≡ b → (d : Bool) → eqb y x ≡ d → b ≡ d
-    go true e true f = refl
-    go true e false f = let is : x ≡ y = grind (arith, nat_tests) in let yes = eq-eqb y x (sym is) in
-        let bad : false ≡ true = sym f ∙ yes in cc
-    go false e true f = let is : y ≡ x = grind (arith, nat_tests) in let yes = eq-eqb x y (sym is) in
-        let bad : false ≡ true = sym e ∙ yes in cc
-    go false e false f = refl
-
 silent_behind : (address incarnation : ℕ) (originators : List ℕ) → IsBehind (silent address incarnation originators)
 silent_behind address incarnation originators = record {
   past = λ k v is. absurd (nothing k v is);
@@ -279,7 +246,7 @@ pub opens : (s : Start) (e : LocalRoutes) → IsOpening s e → IsDistinct eqb s
 opens s e h distinct = record {
   says = says (silent s.address s.incarnation s.originators.items) e.speaker (floods_of e.vnis) (h.speaker
       ∙ floods_say (silent s.address s.incarnation s.originators.items) e.vnis)
-      (floods_apart e.vnis (IsDistinct-IsPermutation eqb flips s.vnis.items e.vnis h.vnis distinct))
+      (floods_apart e.vnis (IsDistinct-IsPermutation eqb nat_eq_equiv.symm s.vnis.items e.vnis h.vnis distinct))
       (silent_behind s.address s.incarnation s.originators.items);
   count = length_permutation s.vnis.items e.vnis h.vnis;
 }

@@ -1,6 +1,5 @@
 //! The registers that an edge says something of, and those of them that wait to be announced.
 ghost use Rattle.std.specs.Prelude.{◌≡◌, ◌++◌, ◌∷◌, [], ℕ, ◌≤◌, ◌<◌, ◌^◌, IfOk, IfSome, IsOk, OnOk, OnErr, Contains, drop, slice_get, length};
-ghost use Rattle.idx_links.specs.Families.{lists_of};
 ghost use Rattle.ev_claims.specs.Pending.{marked};
 
 use idx_links::Family;
@@ -156,7 +155,6 @@ impl Pending {
 
 /// Sees to it that there are more nodes than so many.
 fn spare_node(links: &mut Family<1>, room: &mut usize, used: usize) -> Result<(), AllocError>
-    requires list { length (lists_of links.old 0) ≡ 1 }
     requires counted { links.old.nodes ≡ room.old }
     requires small { room.old < 2 ^ 32 }
     requires fits { used ≤ room.old }

@@ -7,7 +7,7 @@ use Rattle.ev_claims.proofs.local_routes.LocalRoutes.flush_port.Goals as goal
 
 pub remove-requires : goal.remove-requires
 remove-requires c = (first_is c.loop-station.self.learned c.in-Some.station c.in-Some.ensures.lists c.args.port
-    c.requires (sym c.in-Some.ensures.first)).known
+    c.requires (sym c.in-Some.ensures.first)).goes.known
 
 pub loop-station-smaller : goal.loop-station-smaller
 loop-station-smaller c =
@@ -15,7 +15,7 @@ loop-station-smaller c =
     let f = first_is e.learned c.in-Some.station c.in-Some.ensures.lists c.args.port c.requires
     (sym c.in-Some.ensures.first) in
     let old : length (unpinned_on e.learned c.args.port)
-    ≡ length (c.in-Some.station ∷ unpinned_on (gone e.learned c.in-Some.station) c.args.port) = ap length f.rest in
+    ≡ length (c.in-Some.station ∷ unpinned_on (gone e.learned c.in-Some.station) c.args.port) = ap length f.goes.rest in
     let new : length (unpinned_on c.remove.new.self.learned c.args.port)
     ≡ length (unpinned_on (gone e.learned c.in-Some.station) c.args.port) =
     ap (λ (b : LocalRoutes). length (unpinned_on b.learned c.args.port)) c.remove.ensures in
@@ -28,7 +28,7 @@ loop-station-preserved c =
     (sym c.in-Some.ensures.first) in
     record {
       same = ap (λ (b : LocalRoutes). after_removals b (unpinned_on b.learned c.args.port)) c.remove.ensures
-          ∙ sym (ap (after_removals e) f.rest) ∙ c.loop-station.invariant.same;
+          ∙ sym (ap (after_removals e) f.goes.rest) ∙ c.loop-station.invariant.same;
       others = λ q some ne. ap (λ (b : LocalRoutes). unpinned_on b.learned q) c.remove.ensures ∙ f.others q some ne
           ∙ c.loop-station.invariant.others q some ne;
     }

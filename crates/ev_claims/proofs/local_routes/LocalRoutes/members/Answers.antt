@@ -1,9 +1,9 @@
-use Rattle.std.proofs.Common.{◌≡◌, ◌+◌, ◌≤◌, Some, List, ℕ, length, sym, ap, subst, ◌∙◌}
-use Rattle.std.specs.Prelude.{slice_get, nat_le, ◌&&◌}
+use Rattle.std.proofs.Common.{◌≡◌, ◌≤◌, Some, List, ℕ, length, sym, ap, subst, ◌∙◌}
+use Rattle.std.specs.Prelude.{slice_get}
 use Rattle.std.proofs.lemmas.Option.{slice_get-get_or}
 use Rattle.ether_wire.specs.Ports.{has_port}
 use Rattle.ether_wire.proofs.PortLemmas.{has_port-none}
-use Rattle.ev_claims.specs.LocalRoutes.{LocalRoutes, is_member}
+use Rattle.ev_claims.specs.LocalRoutes.{LocalRoutes}
 use Rattle.ev_claims.proofs.Members.{none_counted, with_member, without_member, all_counted}
 use Rattle.ev_claims.proofs.local_routes.LocalRoutes.members.Goals as goal
 use Rattle.ev_claims.proofs.local_routes.LocalRoutes.members.Goals.{then-eq, else-eq}
@@ -20,7 +20,7 @@ loop-place-preserved c p =
     let at : slice_get ports place ≡ Some item = subst (λ (xs : List ℕ). slice_get xs place ≡ Some item) same
     (slice_get-get_or c.deref-port_vni-items.result.now place item c.loop-place-test.true
     ∙ ap Some (sym c.port_vni-item.is)) in
-    elim c.if-eq.branch as (λ _. has_port c.if-eq.set p ≡ (nat_le p (place + 1) && is_member ports c.args.vni p)) [
+    elim c.if-eq.branch [
       | then-eq w ↦ ap (λ x. has_port x p) w.set-is ∙ w.with_port-set.ensures.ports p
           ∙ with_member ports c.args.vni place item at (sym w.if-eq.ensures) p (has_port c.loop-place.set p)
           (c.loop-place.invariant p)

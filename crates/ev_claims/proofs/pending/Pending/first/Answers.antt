@@ -2,13 +2,14 @@ use Rattle.std.proofs.Common.{◌≡◌, Some, List, length, sym, ap, ◌∙◌,
 use Rattle.std.specs.Prelude.{slice_get}
 use Rattle.route_wire.specs.declared.update.Register.{Register}
 use Rattle.ev_claims.specs.Pending.{Pending, no_register, queue, register_at}
-use Rattle.ev_claims.proofs.Queue.{has_front, front_map}
+use Rattle.idx_links.proofs.Paths.{has-at}
+use Rattle.ev_claims.proofs.Queue.{front_map}
 use Rattle.ev_claims.proofs.pending.Pending.first.Goals as goal
 
 pub returns-in_default-get : goal.returns-in_default-get
 returns-in_default-get c =
     let q = queue c.self.inside.links in
-    let low = c.self.invariant.within c.in-Some.node (has_front q c.in-Some.node (sym c.in-Some.ensures)) in
+    let low = c.self.invariant.within c.in-Some.node (has-at q 0 c.in-Some.node (sym c.in-Some.ensures)) in
     let past = c.in_default-get.ensures.lookup.3 in
     let is : length c.deref.result.now ≡ length c.self.inside.registers.items = ap length c.deref.ensures.value in
     absurd (omega (arith, low, past, is))

@@ -1,8 +1,10 @@
-use Rattle.std.proofs.Common.{◌≡◌, not, sym, ap, subst, ◌∙◌, map, true, false, arith, lit<}
-use Rattle.std.specs.Prelude.{Contains}
+use Rattle.std.proofs.Common.{◌≡◌, not, sym, ap, subst, ◌∙◌, map, true, false, [], length, arith, lit<}
+use Rattle.std.specs.Prelude.{Contains, slice_index_or}
+use Rattle.std.proofs.lemmas.Bool.{cond-true}
+use Rattle.std.proofs.lemmas.Option.{slice_get_within}
+use Rattle.idx_links.specs.Families.{lists_of}
 use Rattle.ev_claims.specs.Pending.{Pending, queue, register_at, node_of, marked}
-use Rattle.ev_claims.proofs.Queue.{queue_pushed, waits, unmarked_waiting, off_queue, on_queue, marked_is}
-use Rattle.ev_claims.proofs.Queue.{marked_pending, not_known, off_lists, at_get}
+use Rattle.ev_claims.proofs.Queue.{pushed, now_queue, waits, on_queue, off_lists, marked_is, marked_pending, not_known}
 use Rattle.ev_claims.proofs.pending.Pending.mark.Goals as goal
 
 pub invariant_of-self : goal.invariant_of-self
@@ -10,7 +12,8 @@ invariant_of-self c =
     let f = c.self.inside in
     let at = ap (node_of f.nodes.entries) (sym c.new.ensures) ∙ sym c.in-Some.ensures.value in
     marked_pending f.links c.push_back.new.self f.registers.items f.nodes.entries f.room c.args.register
-    c.in-Some.node.now c.self.invariant at c.push_back.ensures.nodes c.push_back.ensures.families
+    c.in-Some.node.now c.self.invariant at c.push_back.ensures.nodes
+    (pushed f.links c.push_back.new.self c.in-Some.node.now c.self.invariant.one c.push_back.ensures.families)
 
 pub returns-then-is_none : goal.returns-then-is_none
 returns-then-is_none c =
@@ -18,10 +21,10 @@ returns-then-is_none c =
     let rs = f.registers.items in
     let node = c.in-Some.node.now in
     let at = ap (node_of f.nodes.entries) (sym c.new.ensures) ∙ sym c.in-Some.ensures.value in
-    let free = off_queue f.links node c.list_of.result (c.is_none.ensures ∙ ap not c.if-is_none.true)
-    c.list_of.ensures.off in
-    let pushed = queue_pushed f.links c.push_back.new.self node c.self.invariant.one c.self.invariant.list
-    c.push_back.ensures.families in
+    let free = off_lists f.links node c.list_of.result (c.is_none.ensures ∙ ap not c.if-is_none.true)
+    c.list_of.ensures.off 0 in
+    let pushed = now_queue c.push_back.new.self _ (pushed f.links c.push_back.new.self node c.self.invariant.one
+    c.push_back.ensures.families) in
     let waiting = marked_is f.links c.push_back.new.self rs f.nodes.entries f.room c.args.register node c.self.invariant
     at free pushed in
     (λ i. let p : Pending = record { known = rs; waiting = waiting i } in p)
@@ -36,10 +39,11 @@ returns-else-is_none c =
     let rs = f.registers.items in
     let node = c.in-Some.node.now in
     let at = ap (node_of f.nodes.entries) (sym c.new.ensures) ∙ sym c.in-Some.ensures.value in
-    let on = on_queue f.links node c.list_of.result c.self.invariant.list (c.is_none.ensures
+    let on = on_queue f.links node c.list_of.result
+    (ap (λ fs. length (slice_index_or fs 0 [])) c.self.invariant.one) (c.is_none.ensures
     ∙ ap not c.if-is_none.false) c.list_of.ensures.on c.list_of.ensures.within in
-    let waiting = unmarked_waiting (map (register_at rs) (queue f.links)) c.args.register
-    (waits f.links rs f.nodes.entries f.room c.args.register node c.self.invariant at ∙ on) in
+    let waiting = sym (cond-true _ (map (register_at rs) (queue f.links)) _
+    (waits f.links rs f.nodes.entries f.room c.args.register node c.self.invariant at ∙ on)) in
     (λ i. let p : Pending = record { known = rs; waiting = waiting i } in p)
     ∙ ap (λ (p : Pending). let q : Pending = record {
       known = p.known;
@@ -59,7 +63,7 @@ list_of-requires c =
     let f = c.self.inside in
     let p = c.self.invariant in
     let at = ap (node_of f.nodes.entries) (sym c.new.ensures) ∙ sym c.in-Some.ensures.value in
-    let low = (at_get f.registers.items c.in-Some.node.now c.args.register (p.back c.args.register _ at)).0 in
+    let low = slice_get_within f.registers.items c.in-Some.node.now c.args.register (p.back c.args.register _ at) in
     let fits = p.fits in
     let counted = p.counted in
     (lit< tt, (lit< tt, omega (arith, low, fits, counted)))
@@ -69,10 +73,10 @@ push_back-requires c =
     let f = c.self.inside in
     let p = c.self.invariant in
     let at = ap (node_of f.nodes.entries) (sym c.new.ensures) ∙ sym c.in-Some.ensures.value in
-    let low = (at_get f.registers.items c.in-Some.node.now c.args.register (p.back c.args.register _ at)).0 in
+    let low = slice_get_within f.registers.items c.in-Some.node.now c.args.register (p.back c.args.register _ at) in
     let fits = p.fits in
     let counted = p.counted in
-    let list = p.list in (
+    let list : length (lists_of f.links 0) ≡ 1 = ap (λ fs. length (slice_index_or fs 0 [])) p.one in (
       lit< tt,
       (
         lit< tt,

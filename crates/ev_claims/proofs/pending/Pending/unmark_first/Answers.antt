@@ -1,21 +1,23 @@
 use Rattle.std.proofs.Common.{sym, ap, ◌∙◌, map, arith, lit<}
 use Rattle.std.specs.Prelude.{drop}
 use Rattle.ev_claims.specs.Pending.{Pending, queue, register_at}
-use Rattle.ev_claims.proofs.Queue.{has_front, queue_left, front_out, drop_map, left_pending}
+use Rattle.idx_links.proofs.Paths.{has-at}
+use Rattle.ev_claims.proofs.Queue.{now_queue, unlinked, front_out, drop_map, left_pending}
 use Rattle.ev_claims.proofs.pending.Pending.unmark_first.Goals as goal
 
 pub invariant_of-self : goal.invariant_of-self
 invariant_of-self c =
     let f = c.self.inside in
     left_pending f.links c.unlink.new.self f.registers.items f.nodes.entries f.room c.in-Some.node c.self.invariant
-    c.unlink.ensures.nodes c.unlink.ensures.families
+    c.unlink.ensures.nodes (unlinked f.links c.unlink.new.self c.in-Some.node c.self.invariant.one
+    c.unlink.ensures.families)
 
 pub returns : goal.returns
 returns c =
     let f = c.self.inside in
     let rs = f.registers.items in
-    let waiting = ap (map (register_at rs)) (queue_left f.links c.unlink.new.self c.in-Some.node c.self.invariant.one
-    c.self.invariant.list c.unlink.ensures.families
+    let waiting = ap (map (register_at rs)) (now_queue c.unlink.new.self _ (unlinked f.links c.unlink.new.self
+    c.in-Some.node c.self.invariant.one c.unlink.ensures.families)
     ∙ front_out (queue f.links) c.in-Some.node (sym c.in-Some.ensures)) ∙ drop_map rs (queue f.links) in
     (λ i. let p : Pending = record { known = rs; waiting = waiting i } in p)
     ∙ ap (λ (p : Pending). let q : Pending = record { known = p.known; waiting = drop 1 p.waiting } in
@@ -25,7 +27,7 @@ pub unlink-requires : goal.unlink-requires
 unlink-requires c =
     let f = c.self.inside in
     let p = c.self.invariant in
-    let on = has_front (queue f.links) c.in-Some.node (sym c.in-Some.ensures) in
+    let on = has-at (queue f.links) 0 c.in-Some.node (sym c.in-Some.ensures) in
     let low = p.within c.in-Some.node on in
     let fits = p.fits in
     let counted = p.counted in
