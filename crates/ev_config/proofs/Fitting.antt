@@ -17,7 +17,7 @@ use Rattle.ev_config.specs.declared.edge.Described.{Described}
 use Rattle.ev_config.specs.Config.{Edges, Whole, no_edges, with_edge, listening, told}
 use Rattle.ev_config.specs.ConfigPeer.{peer_of, listed_from}
 use Rattle.ev_config.specs.Fitting.{AreAmong, Fits, FitTogether}
-use Rattle.ev_config.proofs.Listing.{same_tests, distinct_more, distinct_none}
+use Rattle.ether_wire.proofs.DistinctNumbers.{same_tests, distinct_more, distinct_none}
 
 -- a number that the test finds is there
 pub there : (v : ℕ) (vs : List ℕ) → list_any (λ x. eqb x v) vs ≡ true → Contains vs v

@@ -1,4 +1,3 @@
-pub mod Listing
 pub mod Walking
 pub mod Fitting
 pub mod Lines

@@ -349,7 +349,7 @@ fn new_vni(before: &[Vni], value: &Value) -> Option<Vni>
 }
 
 /// The distinct networks of an array.
-#[tactic(auto, using(crate::proofs::Walking::items_more, crate::proofs::Listing::distinct_none, crate::proofs::Listing::distinct_more))]
+#[tactic(auto, using(crate::proofs::Walking::items_more, ether_wire::proofs::DistinctNumbers::distinct_none, ether_wire::proofs::DistinctNumbers::distinct_more))]
 fn distinct_vnis(array: &Array) -> Option<ArrayVec<Vni, 64>>
     requires { length array.now.items ≤ 64 }
     ensures value { option_map (λ v. v.items) result

@@ -2,13 +2,9 @@
 use Rattle.std.proofs.Common.{◌≡◌, ℕ, ◌+◌, ◌<◌, Bool, true, false, cond, not, ◌||◌, ◌==◌, nat_lt, List, [], ◌∷◌, ◌++◌}
 use Rattle.std.proofs.Common.{take, drop, length, length-drop, Some, None, option_map, Result, Ok, Err, refl, sym, ap}
 use Rattle.std.proofs.Common.{subst, ◌∙◌, arith}
-use Rattle.std.specs.Prelude.{eqb}
-use Rattle.std.specs.List.{onto_first, position_or_len, after_first, list_any, IsDistinct}
-use Rattle.std.proofs.lemmas.Bool.{eqb-true, eq-eqb}
+use Rattle.std.specs.List.{onto_first, position_or_len, after_first, list_any}
 use Rattle.std.proofs.lemmas.Bool.Decides.{nat_tests}
 use Rattle.std.proofs.lemmas.List.Splits.{slice_split_first}
-use Rattle.std.proofs.lemmas.Map.Keys.{IsDistinct-push}
-use Rattle.std.specs.Cmp.{IsEquivalence}
 use Rattle.ether_wire.specs.Parse.{parted}
 use Rattle.std.specs.Result.{IsErrAnd}
 use Rattle.arrayvec.specs.ArrayVec.{ArrayVec}
@@ -100,34 +96,6 @@ module _ (text rest : Text) (so_far : list_any is_zero_led (parts 46 rest) ≡ h
       go true = refl
       go false = refl
 
--- ---- originators
-
-either : (x y : ℕ) → eqb x y ≡ eqb y x
-either x y = go (eqb x y) (eqb y x) refl refl
-  where
-    go : (a b : Bool) → eqb x y ≡ a → eqb y x ≡ b → a ≡ b
-    go true true p q = refl
-    go true false p q = let e = eq-eqb y x (sym (eqb-true x y p)) in cc
-    go false true p q = let e = eq-eqb x y (sym (eqb-true y x q)) in cc
-    go false false p q = refl
-
-eqb_equiv : IsEquivalence eqb
-eqb_equiv = record {
-  refl = λ x. eq-eqb x x refl;
-  symm = either;
-  congr = λ x y z e. ap (λ n. eqb n z) (eqb-true x y e);
-}
-
-pub same_tests : (y : ℕ) (xs : List ℕ) → list_any (λ x. eqb x y) xs ≡ list_any (eqb y) xs
-same_tests y [] = refl
-same_tests y (x ∷ xs) = ap (λ b. b || list_any (λ z. eqb z y) xs) (eqb_equiv.symm x y)
-    ∙ ap (λ b. eqb y x || b) (same_tests y xs)
-
--- one more that stands in none before it
-pub distinct_more : (xs : List ℕ) (y : ℕ) → IsDistinct eqb xs → list_any (λ x. eqb x y) xs ≡ false
-    → IsDistinct eqb (xs ++ y ∷ [])
-distinct_more xs y d n = IsDistinct-push eqb_equiv xs y d (sym (same_tests y xs) ∙ n)
-
 -- ---- one part of the list more
 
 pub part_taken : (before next : List ℕ) (text : Text) (texts : List Text) → Ok next ≡ with_part before text
@@ -144,10 +112,6 @@ part_last before text = go (with_part before text)
     go : (r : Result (List ℕ) (Text × ListFault)) → and_then r (λ os. Ok os) ≡ r
     go (Ok os) = refl
     go (Err wrong) = refl
-
-pub distinct_none : IsDistinct eqb []
-unfolding IsDistinct
-distinct_none = tt
 
 pub listed_wrong : (r : Result (ArrayVec Addr) WrongPart) (w : WrongPart) → IsErrAnd r (λ x. x ≡ w)
     → listed r ≡ Err (w.part.now, w.fault)

@@ -65,7 +65,7 @@ fn spelling_fault(text: &[u8]) -> ListFault
 }
 
 /// One originator more, of at most 64 that all differ.
-#[tactic(auto, using(crate::proofs::Listing::distinct_more))]
+#[tactic(auto, using(ether_wire::proofs::DistinctNumbers::distinct_more))]
 fn with_originator(
     mut originators: ArrayVec<Addr, 64>,
     originator: Addr,

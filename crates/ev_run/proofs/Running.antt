@@ -21,7 +21,8 @@ use Rattle.ev_report.specs.Ends.{Devices, devices, has_failed, Holds, Gives, Pas
 use Rattle.ev_report.specs.declared.input.ReadError.TheVariants.{Device}
 use Rattle.ev_report.specs.Input.{ReadsWhole, Gathers}
 use Rattle.ev_report.specs.Notes.{status_of}
-use Rattle.ev_run.specs.RunEdges.{EachConfig, bind_error_text, Ended, each_from, reports_from, noted_text, sends_failed}
+use Rattle.ev_run.specs.RunEdges.{EachConfig, bind_error_text, Ended, reports_from, noted_text, sends_failed}
+use Rattle.ev_view.specs.EdgeViews.{each_from}
 use Rattle.ev_run.specs.RunEdges.{system_text, Ran}
 use Rattle.ev_run.specs.RunEdges.{link_failed, was_out_of_memory, all_lost, IsReadOut, ReadsOut, TellsEnded}
 use Rattle.ev_run.specs.RunEdges.{PutsRest, TellsRest}
@@ -81,46 +82,6 @@ module _ (all left : List EdgeConfig) (config : EdgeConfig) (same : all ≡ left
       (Contains-append_left left (config ∷ []) c k))
 
 -- ---- what is told
-
-each_both : {A B : Type 0} (text : ℕ → A → List B) (number : ℕ) (xs ys : List A) → each_from text number (xs ++ ys)
-    ≡ each_from text number xs ++ each_from text (number + length xs) ys
-each_both text number [] ys = ap (λ n. each_from text n ys) (grind arith)
-each_both text number (x ∷ xs) ys =
-    ap (λ more. text number x ++ more) (each_both text (number + 1) xs ys
-    ∙ ap (λ n. each_from text (number + 1) xs ++ each_from text n ys) (grind arith))
-    ∙ sym (append_assoc (text number x) (each_from text (number + 1) xs) (each_from text (number + length (x ∷ xs)) ys))
-
--- one more
-pub each_more : {A B : Type 0} (text : ℕ → A → List B) (number : ℕ) (all : List A) (place : ℕ) (d : A)
-    → place < length all
-    → each_from text number (take (place + 1) all) ≡ each_from text number (take place all)
-    ++ text (number + place) (get_or all place d)
-each_more text number all place d within =
-    let before = take place all in
-    let one = get_or all place d in
-    let count : number + length before ≡ number + place =
-    ap (λ n. number + n) (length-take-le place all (omega arith)) in
-    ap (each_from text number) (take_more all place d within) ∙ each_both text number before (one ∷ [])
-    ∙ ap (λ n. each_from text number before ++ each_from text n (one ∷ [])) count
-    ∙ ap (λ t. each_from text number before ++ t) (append-nil (text (number + place) one))
-
--- each of these by what a function makes of it
-pub each_of_map : {A B C : Type 0} (text : ℕ → B → List C) (f : A → B) (number : ℕ) (xs : List A)
-    → each_from (λ n x. text n (f x)) number xs ≡ each_from text number (map f xs)
-each_of_map text f number [] = refl
-each_of_map text f number (x ∷ xs) = ap (λ more. text number (f x) ++ more) (each_of_map text f (number + 1) xs)
-
--- a list that has what each of these gives, and gets what one more does
-pub gives_more : {A B : Type 0} (gives : ℕ → A → List B) (number : ℕ) (all : List A) (place : ℕ) (d : A)
-    (start old new : List B)
-    → place < length all → old ≡ start ++ each_from gives number (take place all)
-    → new ≡ old ++ gives (number + place) (get_or all place d)
-    → new ≡ start ++ each_from gives number (take (place + 1) all)
-gives_more {B = B} gives number all place d start old new within was one =
-    let more = gives (number + place) (get_or all place d) in
-    one ∙ ap (λ (xs : List B). xs ++ more) was
-    ∙ append_assoc start (each_from gives number (take place all)) more
-    ∙ ap (λ (xs : List B). start ++ xs) (sym (each_more gives number all place d within))
 
 min_twice : (a b m : ℕ) → min (min a m + b) m ≡ min (a + b) m
 min_twice a b m = grind arith

@@ -16,7 +16,8 @@ use Rattle.ev_run.specs.declared.obstacles.Cause.TheVariants.{NoPort, NoHost, Tu
 use Rattle.ev_run.specs.declared.obstacles.Seat.{Seat}
 use Rattle.ev_run.specs.declared.obstacles.Obstacle.{Obstacle}
 use Rattle.ev_run.specs.declared.obstacles.Obstacle.TheVariants.{Unheard, Useless, TooMany}
-use Rattle.ev_run.specs.RunEdges.{each_from, endpoint_text}
+use Rattle.ev_run.specs.RunEdges.{endpoint_text}
+use Rattle.ev_view.specs.EdgeViews.{each_from}
 use Rattle.ev_run.specs.Needs.{sockets_of}
 use Rattle.ev_run.specs.Sockets.{tunnel_of}
 

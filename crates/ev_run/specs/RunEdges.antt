@@ -30,6 +30,7 @@ use Rattle.ev_report.specs.Input.{ReadsWhole}
 use Rattle.ev_report.specs.Notes.{status_of}
 use Rattle.ev_report.specs.Silence.{IsRefusedMemory}
 use Rattle.ev_report.specs.Originators.{Text}
+use Rattle.ev_view.specs.EdgeViews.{each_from}
 
 -- each of them may be opened
 abbrev pub EachConfig : List EdgeConfig → Type 0
@@ -78,11 +79,6 @@ edge_text number edge = (codes "edge " ++ decimal number ++ codes "\n") ++ repor
 abbrev pub ended_text : ℕ → Ended → Text
 ended_text number (Ok outcome) = edge_text number outcome.edge
 ended_text number (Err refused) = []
-
--- what each of these gives, with its number, the first of which is this one
-abbrev pub each_from : {A B : Type 0} → (ℕ → A → List B) → ℕ → List A → List B
-each_from text number [] = []
-each_from text number (one ∷ more) = text number one ++ each_from text (number + 1) more
 
 -- the texts of all edges, the first of which has this number
 abbrev pub reports_from : ℕ → List Ended → Text

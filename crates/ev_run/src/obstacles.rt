@@ -3,7 +3,7 @@
 ghost use Rattle.std.specs.Prelude.{◌≡◌, ◌==◌, ◌||◌, ◌++◌, OnOk, IfOk};
 ghost use Rattle.std.specs.List.{list_any};
 ghost use Rattle.ev_run.specs.Obstacles.{clashes, is_tunnel, is_local, local_cause, remote_cause, useless, local_obstacles, remote_obstacles, port_obstacles, ports_obstacles, all_ports_obstacles, edge_obstacles, count_obstacles, obstacles_of};
-ghost use Rattle.ev_run.specs.RunEdges.{each_from};
+ghost use Rattle.ev_view.specs.EdgeViews.{each_from};
 
 use crate::needs::sockets_of;
 use crate::sockets::tunnel_of;

@@ -8,8 +8,8 @@ use Rattle.ev_view.specs.Owners.{owner_text}
 use Rattle.ev_view.specs.Counts.{counts_text}
 use Rattle.ev_view.specs.Stations.{stations_text}
 
--- the text of each, the first of which has this number
-abbrev pub each_from : {X : Type 0} → (ℕ → X → List ℕ) → ℕ → List X → List ℕ
+-- what each of these gives, with its number, the first of which is this one
+abbrev pub each_from : {A B : Type 0} → (ℕ → A → List B) → ℕ → List A → List B
 each_from text number [] = []
 each_from text number (one ∷ more) = text number one ++ each_from text (number + 1) more
 

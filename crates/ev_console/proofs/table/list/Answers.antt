@@ -1,7 +1,7 @@
 use Rattle.std.proofs.Common.{◌≡◌, List, ℕ, false, sym, subst, ◌∙◌}
 use Rattle.std.specs.Prelude.{eqb}
 use Rattle.std.specs.List.{IsDistinct, list_any}
-use Rattle.ev_report.proofs.Listing.{distinct_more}
+use Rattle.ether_wire.proofs.DistinctNumbers.{distinct_more}
 use Rattle.ev_console.proofs.table.list.Goals as goal
 
 pub returns-clause-distinct : goal.returns-clause-distinct

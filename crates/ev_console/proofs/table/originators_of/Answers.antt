@@ -1,7 +1,7 @@
 use Rattle.std.proofs.Common.{◌≤◌, List, ℕ, length, sym, subst, arith}
 use Rattle.std.specs.Prelude.{eqb}
 use Rattle.std.specs.List.{IsDistinct}
-use Rattle.ev_report.proofs.Listing.{distinct_none}
+use Rattle.ether_wire.proofs.DistinctNumbers.{distinct_none}
 use Rattle.ev_console.proofs.table.originators_of.Goals as goal
 
 pub loop-update-init : goal.loop-update-init

@@ -3,7 +3,8 @@ use Rattle.std.specs.Prelude.{eqb}
 use Rattle.std.specs.List.{IsDistinct}
 use Rattle.ev_report.specs.Originators.{parts, originators_from}
 use Rattle.ev_report.proofs.Listing.{split_some, split_none, shorter_after, part_taken, part_wrong, part_last}
-use Rattle.ev_report.proofs.Listing.{listed_wrong, distinct_none}
+use Rattle.ev_report.proofs.Listing.{listed_wrong}
+use Rattle.ether_wire.proofs.DistinctNumbers.{distinct_none}
 use Rattle.ev_report.proofs.originators.read_originators.Goals as goal
 
 pub loop-part-init : goal.loop-part-init

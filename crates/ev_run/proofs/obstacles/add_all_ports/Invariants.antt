@@ -1,5 +1,5 @@
 use Rattle.std.proofs.Common.{◌≡◌, ◌++◌, take}
-use Rattle.ev_run.specs.RunEdges.{each_from}
+use Rattle.ev_view.specs.EdgeViews.{each_from}
 use Rattle.ev_run.specs.Obstacles.{ports_at}
 use Rattle.ev_run.proofs.obstacles.add_all_ports.Given as goal
 

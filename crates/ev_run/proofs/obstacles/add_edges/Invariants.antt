@@ -1,5 +1,5 @@
 use Rattle.std.proofs.Common.{◌≡◌, ◌++◌, take}
-use Rattle.ev_run.specs.RunEdges.{each_from}
+use Rattle.ev_view.specs.EdgeViews.{each_from}
 use Rattle.ev_run.specs.Obstacles.{edge_obstacles}
 use Rattle.ev_run.proofs.obstacles.add_edges.Given as goal
 

@@ -1,7 +1,7 @@
 use Rattle.std.proofs.Common.{◌≡◌, ℕ, ◌+◌, ◌++◌, arith, ap, ◌∙◌}
 use Rattle.ev_config.specs.declared.endpoint.PortEndpoints.{PortEndpoints}
 use Rattle.ev_run.specs.Obstacles.{obstacles_at}
-use Rattle.ev_run.proofs.Running.{gives_more}
+use Rattle.ev_view.proofs.Each.{gives_more}
 use Rattle.ev_run.proofs.obstacles.add_ports.Goals as goal
 
 pub loop-place-preserved : goal.loop-place-preserved

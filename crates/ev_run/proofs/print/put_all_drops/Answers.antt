@@ -1,21 +1,10 @@
-use Rattle.std.proofs.Common.{◌≡◌, ℕ, ◌+◌, ◌++◌, arith, take, sym, ap, ◌∙◌}
-use Rattle.ether_wire.specs.Ends.{End, with_text}
-use Rattle.ether_wire.proofs.Appending.{with_text_twice}
-use Rattle.ev_run.specs.RunEdges.{Ended, each_from, drops_text}
-use Rattle.ev_run.proofs.Running.{each_more}
+use Rattle.ev_run.specs.RunEdges.{drops_text}
+use Rattle.ev_view.proofs.Each.{each_written}
 use Rattle.ev_run.proofs.print.put_all_drops.Goals as goal
 
 pub loop-place-preserved : goal.loop-place-preserved
 loop-place-preserved g c =
-    let start : End = g.N.Out.end c.args.notes.now in
-    let ended = c.args.ended.now in
-    let place = c.loop-place.place in
-    let one : Ended = c.index-ended-place.result in
-    let before = each_from drops_text 1 (take place ended) in
-    let next : place + 1 ≡ 1 + place = omega arith in
-    c.in_ok-put_drops.ensures
-    ∙ ap (λ (e : End). with_text e (drops_text (place + 1) one)) c.loop-place.invariant
-    ∙ with_text_twice start before (drops_text (place + 1) one)
-    ∙ ap (λ (n : ℕ). with_text start (before ++ drops_text n one)) next
-    ∙ ap (λ (d : Ended). with_text start (before ++ drops_text (1 + place) d)) c.index-ended-place.is
-    ∙ ap (with_text start) (sym (each_more drops_text 1 ended place one c.loop-place-test.true))
+    let one = c.index-ended-place.result in
+    each_written drops_text c.args.ended.now c.loop-place.place one one (g.N.Out.end c.args.notes.now)
+    (g.N.Out.end c.loop-place.notes) (g.N.Out.end c.put_drops.new.notes) c.loop-place.invariant
+    c.in_ok-put_drops.ensures c.index-ended-place.is c.loop-place-test.true

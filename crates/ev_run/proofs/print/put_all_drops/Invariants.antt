@@ -1,6 +1,7 @@
 use Rattle.std.proofs.Common.{◌≡◌, take}
 use Rattle.ether_wire.specs.Ends.{with_text}
-use Rattle.ev_run.specs.RunEdges.{each_from, drops_text}
+use Rattle.ev_run.specs.RunEdges.{drops_text}
+use Rattle.ev_view.specs.EdgeViews.{each_from}
 use Rattle.ev_run.proofs.print.put_all_drops.Given as goal
 
 abbrev pub invariant-loop-place : goal.invariant-loop-place

@@ -1,24 +1,14 @@
-use Rattle.std.proofs.Common.{◌≡◌, ℕ, ◌+◌, ◌++◌, List, arith, take, sym, ap, ◌∙◌}
-use Rattle.ether_wire.specs.Ends.{End, with_text}
-use Rattle.ether_wire.proofs.Appending.{with_text_twice}
+use Rattle.std.proofs.Common.{ℕ, List}
 use Rattle.ev_run.specs.declared.bound.Sockets.{Sockets}
 use Rattle.ev_run.specs.Sockets.{bound_at}
-use Rattle.ev_run.specs.RunEdges.{each_from, sockets_text}
-use Rattle.ev_run.proofs.Running.{each_more}
+use Rattle.ev_run.specs.RunEdges.{sockets_text}
+use Rattle.ev_view.proofs.Each.{each_written}
 use Rattle.ev_run.proofs.print.put_all_sockets.Goals as goal
 
 pub loop-place-preserved : goal.loop-place-preserved
 loop-place-preserved g c =
-    let start : End = g.N.Out.end c.args.notes.now in
     let text : ℕ → Sockets → List ℕ = λ number one. sockets_text c.args.table.now number (bound_at one) in
-    let sockets = c.args.sockets.now in
-    let place = c.loop-place.place in
-    let one : Sockets = c.index-sockets-place.result in
-    let before = each_from text 1 (take place sockets) in
-    let next : place + 1 ≡ 1 + place = omega arith in
-    c.in_ok-put_sockets.ensures
-    ∙ ap (λ (e : End). with_text e (text (place + 1) one)) c.loop-place.invariant
-    ∙ with_text_twice start before (text (place + 1) one)
-    ∙ ap (λ (n : ℕ). with_text start (before ++ text n one)) next
-    ∙ ap (λ (d : Sockets). with_text start (before ++ text (1 + place) d)) c.index-sockets-place.is
-    ∙ ap (with_text start) (sym (each_more text 1 sockets place one c.loop-place-test.true))
+    let one = c.index-sockets-place.result in
+    each_written text c.args.sockets.now c.loop-place.place one one (g.N.Out.end c.args.notes.now)
+    (g.N.Out.end c.loop-place.notes) (g.N.Out.end c.put_sockets.new.notes) c.loop-place.invariant
+    c.in_ok-put_sockets.ensures c.index-sockets-place.is c.loop-place-test.true

@@ -2,8 +2,9 @@ use Rattle.std.proofs.Common.{◌≡◌, ◌++◌, map, ap, ◌∙◌}
 use Rattle.ether_wire.specs.Ends.{End, with_text}
 use Rattle.ether_wire.proofs.Appending.{puts_behind, with_text_twice}
 use Rattle.ev_run.specs.Sockets.{bound_at}
-use Rattle.ev_run.specs.RunEdges.{each_from, drops_text, sockets_text, system_text, lost_text}
-use Rattle.ev_run.proofs.Running.{each_of_map}
+use Rattle.ev_run.specs.RunEdges.{drops_text, sockets_text, system_text, lost_text}
+use Rattle.ev_view.specs.EdgeViews.{each_from}
+use Rattle.ev_view.proofs.Each.{each_of_map}
 use Rattle.ev_run.proofs.print.put_notes.Goals as goal
 
 pub returns : goal.returns

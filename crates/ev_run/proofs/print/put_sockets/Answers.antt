@@ -3,8 +3,9 @@ use Rattle.ether_wire.specs.Ends.{Puts}
 use Rattle.ether_wire.proofs.Appending.{puts_behind}
 use Rattle.ev_config.specs.declared.endpoint.Endpoint.{Endpoint}
 use Rattle.ev_run.specs.declared.bound.PortSocket.{PortSocket}
-use Rattle.ev_run.specs.RunEdges.{each_from, socket_text}
-use Rattle.ev_run.proofs.Running.{each_of_map}
+use Rattle.ev_run.specs.RunEdges.{socket_text}
+use Rattle.ev_view.specs.EdgeViews.{each_from}
+use Rattle.ev_view.proofs.Each.{each_of_map}
 use Rattle.ev_run.proofs.print.put_sockets.Goals as goal
 
 pub returns : goal.returns
