@@ -34,8 +34,6 @@ use Rattle.ev_edge.specs.declared.arrival.Arrival.TheVariants.{Dropped, Message,
 use Rattle.ev_edge.specs.declared.config.EdgeConfig.{EdgeConfig}
 use Rattle.ev_edge.specs.declared.event.Event.{Event}
 use Rattle.ev_edge.specs.declared.event.Event.TheVariants as events
-use Rattle.ev_edge.specs.declared.learning.Case.{Case}
-use Rattle.ev_edge.specs.declared.learning.Case.TheVariants.{Leave, Refresh, Refuse, Freeze, Learn}
 use Rattle.ev_edge.specs.declared.pinning.PinCase.{PinCase}
 use Rattle.ev_edge.specs.declared.pinning.PinCase.TheVariants.{Keep, Shift, Deny, Pin}
 use Rattle.ev_edge.specs.declared.refusal.EdgeRefusal.{EdgeRefusal}
@@ -44,13 +42,13 @@ use Rattle.ev_edge.specs.declared.reply.Reply.{Reply}
 use Rattle.ev_edge.specs.Config.{IsConfig}
 use Rattle.ev_edge.specs.Edge.{Edge, IsGoodEdge, address_of}
 use Rattle.ev_edge.specs.Opening.{IsOpening, start_of}
-use Rattle.ev_edge.specs.Learning.{Does, case_of}
 use Rattle.ev_edge.specs.Pinning.{DoesPin, pin_case, refused_pin, after_unpin}
 use Rattle.ev_edge.specs.Bridging.{aged, next_second}
 use Rattle.ev_edge.specs.Arrival.{frame_arrival, tunnel_arrival}
 use Rattle.ev_edge.specs.Steps.{Steps, LearnsIf, FrameSteps, TunnelSteps, Bridges, BridgesAt, Seconds, Takes}
 use Rattle.ev_edge.specs.Steps.{TakesOther, TakesOwn, Pins}
 use Rattle.ev_edge.specs.Changes.{Changes, accepted, heard, heard_in}
+use Rattle.ev_edge.proofs.Cases.{learnt_by, or_refused}
 
 -- what is said from a base on
 record Saying (base : Speaker) (e e' : Edge) : Type 0 where
@@ -79,22 +77,13 @@ left_behind e e' d is h = record {
 
 -- ---- frames
 
-learn_says : (e : Edge) (s : Station) (port : ℕ) (told : Option Alert) (e' : Edge) (c : Case) → Does c e s port told e'
-    → Saying e.routes.speaker e e'
-learn_says e s port told e' Leave h = same e e' h.1
-learn_says e s port told e' Refresh h = nothing_said e.routes.speaker e e' (ap (λ (x : Edge). x.routes.speaker) h.1)
-learn_says e s port told e' (Refuse alert) h = same e e' h.1
-learn_says e s port told e' Freeze h =
-    nothing_said e.routes.speaker e e' (ap (λ (x : Edge). x.routes.speaker) h.1)
-learn_says e s port told e' (Learn n) h = elim h as (λ _. Saying e.routes.speaker e e') [
-  | inl done ↦ one_said e.routes.speaker e e' (key_of s) (moving n) (ap (λ (x : Edge). x.routes.speaker) done.1)
-  | inr refused ↦ same e e' refused.1
-]
-
 learnt_if : (e : Edge) (s : Station) (port : ℕ) (told : Option Alert) (e' : Edge) (b : Bool)
     → LearnsIf b e s port told e' → Saying e.routes.speaker e e'
-learnt_if e s port told e' true h = learn_says e s port told e' (case_of e s) h
-learnt_if e s port told e' false h = same e e' h.1
+learnt_if e s port told e' b h =
+    learnt_by (Saying e.routes.speaker e) e s port told e' (same e e refl)
+    (λ heard. nothing_said e.routes.speaker e _ refl) (nothing_said e.routes.speaker e _ refl)
+    (λ new. one_said e.routes.speaker e _ (key_of s) (moving 0) refl)
+    (λ n new. one_said e.routes.speaker e _ (key_of s) (moving n) refl) b h
 
 bridge_says : (event : tree.Event) (e : Edge) (result : Result Reply Refusal) (e' : Edge) → IsGoodEdge e
     → Bridges event e result e' → Saying e.routes.speaker e e'
@@ -143,10 +132,8 @@ pin_says : (e : Edge) (s : Station) (port : ℕ) (told : Option Alert) (e' : Edg
 pin_says e s port told e' Keep h = same e e' h.1
 pin_says e s port told e' Shift h = nothing_said e.routes.speaker e e' (ap (λ (x : Edge). x.routes.speaker) h.1)
 pin_says e s port told e' (Deny alert) h = same e e' h.1
-pin_says e s port told e' Pin h = elim h as (λ _. Saying e.routes.speaker e e') [
-  | inl done ↦ one_said e.routes.speaker e e' (key_of s) fixed (ap (λ (x : Edge). x.routes.speaker) done.1)
-  | inr refused ↦ same e e' refused.1
-]
+pin_says e s port told e' Pin h = or_refused (Saying e.routes.speaker e) (same e e refl)
+    (one_said e.routes.speaker e _ (key_of s) fixed refl) h
 
 pins_say : (refused : Option EdgeRefusal) (e : Edge) (s : Station) (port : ℕ) (result : Result Reply Refusal)
     (e' : Edge) → Pins refused e s port result e' → Saying e.routes.speaker e e'

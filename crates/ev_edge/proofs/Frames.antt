@@ -1,5 +1,5 @@
 -- Where frames go, by what they are.
-use Rattle.std.proofs.Common.{◌≡◌, inl, inr, ℕ, Bool, true, false, cond, eqb, Option, Some, None, Result, Ok, Err, List}
+use Rattle.std.proofs.Common.{◌≡◌, ℕ, Bool, true, false, cond, Option, Some, None, Result, Ok, Err, List}
 use Rattle.std.proofs.Common.{drop, refl, sym, ap, subst, ◌∙◌, arith}
 use Rattle.std.specs.Option.{ForSome, option_map}
 use Rattle.std.proofs.lemmas.Bool.{eq-eqb}
@@ -30,8 +30,6 @@ use Rattle.ev_claims.specs.LocalRoutes.{KeepsRoutes, vni_at, is_member}
 use Rattle.ev_edge.specs.declared.arrival.Arrival.TheVariants.{Dropped}
 use Rattle.ev_edge.specs.declared.refusal.EdgeRefusal.TheVariants.{UnknownOriginator, NoSuchVni}
 use Rattle.ev_edge.specs.declared.refusal.Refusal.TheVariants.{Edge as OfEdge}
-use Rattle.ev_edge.specs.declared.learning.Case.{Case}
-use Rattle.ev_edge.specs.declared.learning.Case.TheVariants.{Leave, Refresh, Refuse, Freeze, Learn}
 use Rattle.ev_edge.specs.declared.refusal.Refusal.{Refusal}
 use Rattle.ev_edge.specs.declared.reply.Reply.{Reply}
 use Rattle.ev_edge.specs.Edge.{Edge, table_of, address_of}
@@ -39,10 +37,10 @@ use Rattle.ether_wire.specs.Addr.{is_reserved}
 use Rattle.ev_edge.specs.Arrival.{holds_bpdu, message_in, reserved_arrival, data_in, arrival_at}
 use Rattle.ev_edge.specs.Arrival.{arrival_on, frame_arrival, is_up, serves, inner_arrival, datagram_arrival, is_other}
 use Rattle.ev_edge.specs.Arrival.{tunnel_arrival}
-use Rattle.ev_edge.specs.Learning.{Does, case_of, moved}
 use Rattle.ev_edge.specs.Sending.{IsDecision, port_of}
 use Rattle.ev_edge.specs.Steps.{LearnsIf, SendsIf, DataSteps, FrameSteps, TunnelSteps, Bridges}
 use Rattle.ev_edge.specs.Laws.{decision_in, LeavesBy, LeavesTunnel, IsReserved, HoldsReserved}
+use Rattle.ev_edge.proofs.Cases.{learnt_by}
 use Rattle.ev_edge.proofs.Places.{set_port}
 
 -- ---- nowhere
@@ -111,39 +109,14 @@ not_back e vni destination port d is i =
 -- ---- from an access port
 
 -- what stays while a source is learnt
-record Stays (e e' : Edge) : Type 0 where
-  pub ports : e'.routes.ports ≡ e.routes.ports
-  pub tree : e'.tree ≡ e.tree
-
-same_stays : (e e' : Edge) → e' ≡ e → Stays e e'
-same_stays e e' is = record { ports = ap (λ (x : Edge). x.routes.ports) is; tree = ap (λ (x : Edge). x.tree) is }
-
-learn_stays : (e : Edge) (s : Station) (port : ℕ) (told : Option Alert) (e' : Edge) (c : Case) → Does c e s port told e'
-    → Stays e e'
-learn_stays e s port told e' Leave h = same_stays e e' h.1
-learn_stays e s port told e' Refresh h = record {
-  ports = ap (λ (x : Edge). x.routes.ports) h.1;
-  tree = ap (λ (x : Edge). x.tree) h.1;
-}
-learn_stays e s port told e' (Refuse alert) h = same_stays e e' h.1
-learn_stays e s port told e' Freeze h =
-    record { ports = ap (λ (x : Edge). x.routes.ports) h.1; tree = ap (λ (x : Edge). x.tree) h.1 }
-learn_stays e s port told e' (Learn n) h = elim h as (λ _. Stays e e') [
-  | inl done ↦ record {
-    ports = ap (λ (x : Edge). x.routes.ports) done.1;
-    tree = ap (λ (x : Edge). x.tree) done.1 ∙ go (eqb n 0);
-  }
-  | inr refused ↦ same_stays e e' refused.1
-]
-  where
-    go : (b : Bool) → (cond b e (moved e s)).tree ≡ e.tree
-    go true = refl
-    go false = refl
+abbrev Stays : Edge → Edge → Type 0
+Stays e e' = (e'.routes.ports ≡ e.routes.ports) × (e'.tree ≡ e.tree)
 
 learnt_stays : (e : Edge) (s : Station) (port : ℕ) (told : Option Alert) (e' : Edge) (b : Bool)
     → LearnsIf b e s port told e' → Stays e e'
-learnt_stays e s port told e' true h = learn_stays e s port told e' (case_of e s) h
-learnt_stays e s port told e' false h = same_stays e e' h.1
+learnt_stays e s port told e' b h =
+    learnt_by (Stays e) e s port told e' (refl, refl) (λ heard. (refl, refl)) (refl, refl) (λ new. (refl, refl))
+    (λ n new. (refl, refl)) b h
 
 module _ (e : Edge) (port : ℕ) (result : Result Reply Refusal) (e' : Edge) (keeps : KeepsRoutes e'.routes) where
   sent : (vni destination : ℕ) (d : Decision) → vni_at e.routes.ports port ≡ Some vni → Stays e e' → (b : Bool)
@@ -152,10 +125,10 @@ module _ (e : Edge) (port : ℕ) (result : Result Reply Refusal) (e' : Edge) (ke
       ∙ ap (λ n. has_port n p) (sym h.0) ∙ there in cc)
   sent vni destination d at stays true h p is there =
       let both = decided e' vni destination (Port port) d keeps h p is there in
-      let own : vni_at e'.routes.ports port ≡ Some vni = ap (λ ps. vni_at ps port) stays.ports ∙ at in
+      let own : vni_at e'.routes.ports port ≡ Some vni = ap (λ ps. vni_at ps port) stays.0 ∙ at in
       let back = not_back e' vni destination port d (set_port e'.routes.ports port vni keeps.few own) h in (
-        ap (λ ps. vni_at ps p) (sym stays.ports) ∙ both.0 ∙ sym at,
-        subst (λ t. Passes t p) stays.tree both.1,
+        ap (λ ps. vni_at ps p) (sym stays.0) ∙ both.0 ∙ sym at,
+        subst (λ t. Passes t p) stays.1 both.1,
         λ same. (let no : false ≡ true = sym back ∙ ap (has_port d.local) (sym same) ∙ there in cc),
       )
 

@@ -1,3 +1,4 @@
+pub mod Cases
 pub mod Owning
 pub mod Passing
 pub mod Keeping

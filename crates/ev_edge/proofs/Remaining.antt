@@ -1,9 +1,9 @@
 -- An edge stays good at each event: of the relation of edge, event, answer and edge alone.
-use Rattle.std.proofs.Common.{◌≡◌, inl, inr, ℕ, ◌<◌, ◌^◌, Bool, true, false, cond, eqb, not, ◌&&◌}
+use Rattle.std.proofs.Common.{◌≡◌, ℕ, ◌<◌, ◌^◌, Bool, true, false, cond, eqb, not, ◌&&◌}
 use Rattle.std.proofs.Common.{Option, Some, None, Result, Ok, Err, List, [], ◌∷◌, drop, length, refl, sym, ap}
 use Rattle.std.proofs.Common.{subst, ◌∙◌, arith}
 use Rattle.std.specs.Prelude.{IsSome}
-use Rattle.std.specs.FinMap.{FinMap, get}
+use Rattle.std.specs.FinMap.{FinMap}
 use Rattle.std.proofs.lemmas.List.{length-map}
 use Rattle.std.proofs.lemmas.Bool.{false≢true}
 use Rattle.std.proofs.lemmas.Bool.Decides.{nat_tests}
@@ -28,10 +28,7 @@ use Rattle.rstp_run.specs.Runs.{Firing, Run}
 use Rattle.rstp_run.proofs.Steps.{length-change_at, length-ports_after}
 use Rattle.ev_mobility.specs.declared.alert.Alert.{Alert}
 use Rattle.ev_mobility.specs.declared.alert.Alert.TheVariants.{StaticElsewhere, CounterSpent, TableFull}
-use Rattle.ev_mobility.specs.declared.seq.Seq.{Seq}
-use Rattle.ev_mobility.specs.declared.seq.Seq.TheVariants.{Next, Static, Spent}
 use Rattle.ev_mobility.specs.declared.window.Window.{Window}
-use Rattle.ev_mobility.specs.Window.{is_frozen, is_fifth}
 use Rattle.ev_mobility.specs.Seq.{seq_for}
 use Rattle.ev_claims.specs.LocalRoutes.{LocalRoutes, vni_at, after_advert, after_refresh, after_pin, after_shift}
 use Rattle.ev_claims.specs.LocalRoutes.{after_removal}
@@ -41,8 +38,6 @@ use Rattle.ev_edge.specs.declared.arrival.Arrival.{Arrival}
 use Rattle.ev_edge.specs.declared.arrival.Arrival.TheVariants.{Dropped, Message, Data}
 use Rattle.ev_edge.specs.declared.event.Event.{Event}
 use Rattle.ev_edge.specs.declared.event.Event.TheVariants as events
-use Rattle.ev_edge.specs.declared.learning.Case.{Case}
-use Rattle.ev_edge.specs.declared.learning.Case.TheVariants.{Leave, Refresh, Refuse, Freeze, Learn}
 use Rattle.ev_edge.specs.declared.pinning.PinCase.{PinCase}
 use Rattle.ev_edge.specs.declared.pinning.PinCase.TheVariants.{Keep, Shift, Deny, Pin}
 use Rattle.ev_edge.specs.declared.refusal.EdgeRefusal.{EdgeRefusal}
@@ -53,11 +48,11 @@ use Rattle.ether_wire.specs.Addr.{is_reserved}
 use Rattle.ev_edge.specs.Arrival.{data_in, holds_bpdu, is_up}
 use Rattle.ev_edge.specs.Bridging.{next_second}
 use Rattle.ev_edge.specs.Edge.{Edge, IsGoodEdge, table_of, address_of}
-use Rattle.ev_edge.specs.Learning.{is_spent, move_case, numbered_case, case_at, case_of, moved}
-use Rattle.ev_edge.specs.Learning.{needs_register, needs_memory, OrNoMemory, Does}
+use Rattle.ev_edge.specs.Learning.{is_spent}
 use Rattle.ev_edge.specs.Pinning.{is_static, unpinned_case, pin_case_at, pin_case, refused_pin, DoesPin, after_unpin}
 use Rattle.ev_edge.specs.Steps.{Steps, LearnsIf, FrameSteps, TunnelSteps, Bridges, BridgesAt, Seconds, Takes}
 use Rattle.ev_edge.specs.Steps.{Pins}
+use Rattle.ev_edge.proofs.Cases.{IsNew, learnt_by, or_refused}
 use Rattle.ev_edge.proofs.Keeping.{removals_ports, taken_ports, second_early, aged_ports}
 use Rattle.ev_edge.proofs.Winning.{pin_fits, pinned_alone}
 use Rattle.ev_edge.proofs.Staying.{Keeps, keeps_of, good_by, advert_keeps, refresh_keeps, pin_keeps, shift_keeps}
@@ -82,136 +77,21 @@ number_left c few = grind (arith, nat_tests)
 
 -- ---- learning
 
--- what holds where a station is learnt with this number
-record IsNew (e : Edge) (s : Station) (n : ℕ) : Type 0 where
-  none : entry_at e.routes.learned s ≡ None
-  room : is_full e.routes.learned ≡ false
-  few : is_spent e.routes ≡ false
-  next : seq_for (table_of e) (address_of e) s.vni s.mac ≡ Next n
-
-moved_number : (window : Option Window) (second m n : ℕ) → move_case window second m ≡ Learn n → m ≡ n
-moved_number window second m n is = go (eqb m 0) refl is
-  where
-    fifth : (b : Bool) → cond b Freeze (Learn m) ≡ Learn n → m ≡ n
-    fifth true q = cc
-    fifth false q = cc
-
-    go : (b : Bool) → eqb m 0 ≡ b → cond b (Learn 0) (cond (is_fifth window second) Freeze (Learn m)) ≡ Learn n → m ≡ n
-    go true t q = let zero' : 0 ≡ n = cc in let is' : m ≡ 0 = grind (arith, nat_tests) in is' ∙ zero'
-    go false t q = fifth (is_fifth window second) q
-
-case_new : (e : Edge) (s : Station) (n : ℕ) → case_of e s ≡ Learn n → IsNew e s n
-case_new e s n is = go (entry_at e.routes.learned s) refl is
-  where
-    window : Option Window
-    window = get e.windows s
-
-    loose : (b : Bool) → cond b Leave Refresh ≡ Learn n → ⊥
-    loose true q = cc
-    loose false q = cc
-
-    room : (m : ℕ) → entry_at e.routes.learned s ≡ None → seq_for (table_of e) (address_of e) s.vni s.mac ≡ Next m
-        → is_spent e.routes ≡ false
-        → (b : Bool) → is_full e.routes.learned ≡ b → cond b (Refuse TableFull) (move_case (get e.windows s) e.clock m)
-        ≡ Learn n → IsNew e s n
-    room m at next few true t q = cc
-    room m at next few false t q = record {
-      none = at;
-      room = t;
-      few = few;
-      next = next ∙ ap Next (moved_number (get e.windows s) e.clock m n q);
-    }
-
-    spent : (m : ℕ) → entry_at e.routes.learned s ≡ None → seq_for (table_of e) (address_of e) s.vni s.mac ≡ Next m
-        → (b : Bool) → is_spent e.routes ≡ b
-        → cond b (Refuse CounterSpent) (cond (is_full e.routes.learned) (Refuse TableFull)
-        (move_case (get e.windows s) e.clock m)) ≡ Learn n → IsNew e s n
-    spent m at next true t q = cc
-    spent m at next false t q = room m at next t (is_full e.routes.learned) refl q
-
-    numbered : entry_at e.routes.learned s ≡ None → (q : Seq) → seq_for (table_of e) (address_of e) s.vni s.mac ≡ q
-        → numbered_case e (get e.windows s) q ≡ Learn n → IsNew e s n
-    numbered at Static next q = cc
-    numbered at Spent next q = cc
-    numbered at (Next m) next q = spent m at next (is_spent e.routes) refl q
-
-    frozen : entry_at e.routes.learned s ≡ None → (b : Bool)
-        → cond b Leave (numbered_case e (get e.windows s) (seq_for (table_of e) (address_of e) s.vni s.mac)) ≡ Learn n
-        → IsNew e s n
-    frozen at true q = cc
-    frozen at false q = numbered at (seq_for (table_of e) (address_of e) s.vni s.mac) refl q
-
-    go : (o : Option Entry) → entry_at e.routes.learned s ≡ o → case_at e s o ≡ Learn n → IsNew e s n
-    go (Some x) at q = absurd (loose x.pinned q)
-    go None at q = frozen at (is_frozen (get e.windows s)) q
-
--- what is heard again is learnt, and not pinned
-case_known : (e : Edge) (s : Station) → case_of e s ≡ Refresh
-    → IsSome (entry_at e.routes.learned s) × (is_pinned (entry_at e.routes.learned s) ≡ false)
-case_known e s is = go (entry_at e.routes.learned s) refl is
-  where
-    move : (m : ℕ) (b d : Bool) → cond b (Learn 0) (cond d Freeze (Learn m)) ≡ Refresh → ⊥
-    move m true d q = cc
-    move m false true q = cc
-    move m false false q = cc
-
-    spent : (m : ℕ) (b d : Bool) → cond b (Refuse CounterSpent)
-        (cond d (Refuse TableFull) (move_case (get e.windows s) e.clock m)) ≡ Refresh → ⊥
-    spent m true d q = cc
-    spent m false true q = cc
-    spent m false false q = move m (eqb m 0) (is_fifth (get e.windows s) e.clock) q
-
-    numbered : (q : Seq) → numbered_case e (get e.windows s) q ≡ Refresh → ⊥
-    numbered Static q = cc
-    numbered Spent q = cc
-    numbered (Next m) q = spent m (is_spent e.routes) (is_full e.routes.learned) q
-
-    frozen : (b : Bool) → cond b Leave (numbered_case e (get e.windows s)
-        (seq_for (table_of e) (address_of e) s.vni s.mac)) ≡ Refresh → ⊥
-    frozen true q = cc
-    frozen false q = numbered (seq_for (table_of e) (address_of e) s.vni s.mac) q
-
-    loose : (b : Bool) → cond b Leave Refresh ≡ Refresh → b ≡ false
-    loose true q = cc
-    loose false q = refl
-
-    go : (o : Option Entry) → entry_at e.routes.learned s ≡ o → case_at e s o ≡ Refresh
-        → IsSome (entry_at e.routes.learned s) × (is_pinned (entry_at e.routes.learned s) ≡ false)
-    go (Some x) at q = (subst IsSome (sym at) refl, ap is_pinned at ∙ loose x.pinned q)
-    go None at q = absurd (frozen (is_frozen (get e.windows s)) q)
-
-either_good : (needs : Bool) (e after e' : Edge) (alert told : Option Alert) → IsGoodEdge e → IsGoodEdge after
-    → OrNoMemory needs e alert after told e' → IsGoodEdge e'
-either_good needs e after e' alert told h g (inl d) = same_good after e' d.1 g
-either_good needs e after e' alert told h g (inr d) = same_good e e' d.1 h
-
-learnt_good : (e : Edge) (s : Station) (port n : ℕ) → IsGoodEdge e
-    → Keeps (after_advert e.routes s port e.clock n) e.clock → (b : Bool)
-    → IsGoodEdge (record (cond b e (moved e s)) { routes = after_advert e.routes s port e.clock n })
-learnt_good e s port n h k true = good_by _ k h.keeps.ports h.keeps.early
-learnt_good e s port n h k false = good_by _ k h.keeps.ports h.keeps.early
-
-does_good : (e : Edge) (s : Station) (port : ℕ) (told : Option Alert) (e' : Edge) → IsGoodEdge e
-    → vni_at e.routes.ports port ≡ Some s.vni → is_group s.mac ≡ false → (c : Case) → case_of e s ≡ c
-    → Does c e s port told e' → IsGoodEdge e'
-does_good e s port told e' h behind single Leave is d = same_good e e' d.1 h
-does_good e s port told e' h behind single Refresh is d =
-    let known = case_known e s is in
-    routes_good e e' (after_refresh e.routes s port e.clock) h
-    (refresh_keeps e.routes s port e.clock (keeps_of e h) known.0 known.1 behind single) refl d.1
-does_good e s port told e' h behind single (Refuse alert) is d = same_good e e' d.1 h
-does_good e s port told e' h behind single Freeze is d = same_good (moved e s) e' d.1 (windows_good e _ h)
-does_good e s port told e' h behind single (Learn n) is d =
-    let new = case_new e s n is in
-    either_good (needs_memory e s n) e _ e' _ told h
-    (learnt_good e s port n h (advert_keeps e.routes s port e.clock n (keeps_of e h) new.none new.room
-    (number_left e.routes new.few) behind single new.next) (eqb n 0)) d
+advert_good : (e : Edge) (s : Station) (port n : ℕ) (windows : FinMap station_cmp Window) → IsGoodEdge e
+    → vni_at e.routes.ports port ≡ Some s.vni → is_group s.mac ≡ false → IsNew e s n
+    → IsGoodEdge (record e { routes = after_advert e.routes s port e.clock n; windows = windows })
+advert_good e s port n windows h behind single new = good_by _
+    (advert_keeps e.routes s port e.clock n (keeps_of e h) new.none new.room (number_left e.routes new.few) behind
+    single new.next) h.keeps.ports h.keeps.early
 
 learns_good : (e : Edge) (s : Station) (port : ℕ) (told : Option Alert) (e' : Edge) → IsGoodEdge e
     → vni_at e.routes.ports port ≡ Some s.vni → (learns group : Bool) → is_group s.mac ≡ group
     → LearnsIf (learns && not group) e s port told e' → IsGoodEdge e'
-learns_good e s port told e' h behind true false single d =
-    does_good e s port told e' h behind single (case_of e s) refl d
+learns_good e s port told e' h behind true false single d = learnt_by IsGoodEdge e s port told e' h
+    (λ heard. routes_good e _ (after_refresh e.routes s port e.clock) h
+    (refresh_keeps e.routes s port e.clock (keeps_of e h) heard.known heard.loose behind single) refl refl)
+    (windows_good e _ h) (advert_good e s port 0 e.windows h behind single)
+    (λ n. advert_good e s port n _ h behind single) true d
 learns_good e s port told e' h behind true true single d = same_good e e' d.1 h
 learns_good e s port told e' h behind false group single d = same_good e e' d.1 h
 
@@ -399,7 +279,7 @@ does_pin_good e s port told e' h free Pin is d =
     let fits = pin_fits e s port free in
     let f = pinnable e s port (entry_at e.routes.learned s) refl is in
     let alone = pinned_alone e s port (entry_at e.routes.learned s) is in
-    either_good (needs_register e s) e (record e { routes = after_pin e.routes s port }) e' _ told h
+    or_refused IsGoodEdge h
     (routes_good e _ (after_pin e.routes s port) h (pin_keeps e.routes s port e.clock (keeps_of e h) f.room
     (number_left e.routes f.few) fits.0 fits.1 alone) refl refl) d
 

@@ -1,6 +1,6 @@
 -- Which stations go at an event.
 use Rattle.std.proofs.Common.{◌≡◌, inl, inr, ℕ, ◌+◌, ◌-◌, ◌≤◌, Bool, true, false, cond, eqb}
-use Rattle.std.proofs.Common.{Option, Some, None, Result, Ok, Err, List, [], ◌∷◌, refl, sym, ap, subst}
+use Rattle.std.proofs.Common.{Option, Some, None, Result, Ok, Err, [], ◌∷◌, refl, sym, ap, subst}
 use Rattle.std.proofs.Common.{◌∙◌, arith}
 use Rattle.std.specs.Prelude.{◌↔◌, ◌&&◌, ◌||◌, not, nat_le, is_some, IsSome}
 use Rattle.std.proofs.lemmas.Bool.Decides.{nat_tests}
@@ -23,17 +23,15 @@ use Rattle.mac_arena.proofs.Looking.{learn_entry, pin_entry}
 use Rattle.rstp_run.specs.declared.event.Event as tree
 use Rattle.rstp_run.specs.declared.event.Event.TheVariants as tree_events
 use Rattle.ev_mobility.specs.declared.alert.Alert.{Alert}
-use Rattle.ev_claims.specs.LocalRoutes.{LocalRoutes, vni_at, after_removal, after_removals}
+use Rattle.ev_claims.specs.LocalRoutes.{LocalRoutes, vni_at, after_removal, after_pin}
 use Rattle.ev_claims.specs.LocalRoutes.{after_update, after_losing, is_lost, station_of}
 use Rattle.ev_claims.specs.Leaving.{after_ageing, after_flush, due_in, flushed_in, goes_by_age}
 use Rattle.ev_claims.proofs.Changed.{flushes_out, removals_entries}
-use Rattle.ev_claims.proofs.Lists.{removal_lists}
+use Rattle.ev_claims.proofs.Lists.{named, removals_named}
 use Rattle.ev_edge.specs.declared.arrival.Arrival.{Arrival}
 use Rattle.ev_edge.specs.declared.arrival.Arrival.TheVariants.{Dropped, Message, Data}
 use Rattle.ev_edge.specs.declared.event.Event.{Event}
 use Rattle.ev_edge.specs.declared.event.Event.TheVariants as events
-use Rattle.ev_edge.specs.declared.learning.Case.{Case}
-use Rattle.ev_edge.specs.declared.learning.Case.TheVariants.{Leave, Refresh, Refuse, Freeze, Learn}
 use Rattle.ev_edge.specs.declared.pinning.PinCase.{PinCase}
 use Rattle.ev_edge.specs.declared.pinning.PinCase.TheVariants as pins
 use Rattle.ev_edge.specs.declared.refusal.EdgeRefusal.{EdgeRefusal}
@@ -42,13 +40,14 @@ use Rattle.ev_edge.specs.declared.reply.Reply.{Reply}
 use Rattle.ev_edge.specs.Edge.{Edge, IsGoodEdge, address_of}
 use Rattle.ev_edge.specs.Arrival.{frame_arrival, tunnel_arrival}
 use Rattle.ev_edge.specs.Bridging.{aged, next_second}
-use Rattle.ev_edge.specs.Learning.{Does, case_of}
+use Rattle.ev_edge.specs.Learning.{refreshed, learnt as after_learning}
 use Rattle.ev_edge.specs.Pinning.{DoesPin, pin_case, refused_pin, after_unpin}
 use Rattle.ev_edge.specs.Removed.{GoExactly, nobody, is_flushed, is_old, goes_in_second, is_of}
 use Rattle.ev_edge.specs.Removed.{goes_by_unpin, FlushRemoves, SecondRemoves}
 use Rattle.ev_edge.specs.Removed.{FrameRemoves, RemovesBy, Removed}
 use Rattle.ev_edge.specs.Steps.{Steps, FrameSteps, TunnelSteps, Bridges, BridgesAt, Seconds}
 use Rattle.ev_edge.specs.Steps.{Takes, Pins, LearnsIf}
+use Rattle.ev_edge.proofs.Cases.{learnt_by, or_refused}
 
 -- ---- one entry
 
@@ -116,32 +115,22 @@ pinned e e' q port is =
     (pin_entry e.routes.learned q port))
     (pinned_there (entry_at e.routes.learned q) (is_full e.routes.learned) port)
 
-does : (c : Case) (e : Edge) (q : Station) (port : ℕ) (told : Option Alert) (e' : Edge) → Does c e q port told e'
-    → GoExactly e e' nobody
-does Leave e q port told e' h = same e e' h.1
-does Refresh e q port told e' h = learnt e e' q port e.clock (learnt_of e.routes.learned q port)
-    (ap (λ (x : Edge). x.routes.learned) h.1)
-does (Refuse alert) e q port told e' h = same e e' h.1
-does Freeze e q port told e' h = same_table e e' (ap (λ (x : Edge). x.routes.learned) h.1)
-does (Learn n) e q port told e' h = elim h as (λ _. GoExactly e e' nobody) [
-  | inl done ↦ learnt e e' q port e.clock New (ap (λ (x : Edge). x.routes.learned) done.1)
-  | inr refused ↦ same e e' refused.1
-]
-
 does_pin : (c : PinCase) (e : Edge) (q : Station) (port : ℕ) (told : Option Alert) (e' : Edge)
     → DoesPin c e q port told e' → GoExactly e e' nobody
 does_pin pins.Keep e q port told e' h = same e e' h.1
 does_pin pins.Shift e q port told e' h = pinned e e' q port (ap (λ (x : Edge). x.routes.learned) h.1)
 does_pin (pins.Deny alert) e q port told e' h = same e e' h.1
-does_pin pins.Pin e q port told e' h = elim h as (λ _. GoExactly e e' nobody) [
-  | inl done ↦ pinned e e' q port (ap (λ (x : Edge). x.routes.learned) done.1)
-  | inr refused ↦ same e e' refused.1
-]
+does_pin pins.Pin e q port told e' h = or_refused (λ x. GoExactly e x nobody) (same e e refl)
+    (pinned e (record e { routes = after_pin e.routes q port }) q port refl) h
 
 learns : (b : Bool) (e : Edge) (q : Station) (port : ℕ) (told : Option Alert) (e' : Edge) → LearnsIf b e q port told e'
     → GoExactly e e' nobody
-learns true e q port told e' h = does (case_of e q) e q port told e' h
-learns false e q port told e' h = same e e' h.1
+learns b e q port told e' h = learnt_by (λ x. GoExactly e x nobody) e q port told e' (same e e refl)
+    (λ heard. learnt e (refreshed e q port) q port e.clock (learnt_of e.routes.learned q port) refl) (same e e refl)
+    (λ new. anew) (λ n new. anew) b h
+  where
+    anew : GoExactly e (after_learning e q port 0) nobody
+    anew = learnt e (after_learning e q port 0) q port e.clock New refl
 
 -- ---- what goes by one test
 
@@ -214,10 +203,6 @@ bridged event e reply e' good h = record {
 
 -- ---- a second
 
-removals_lists : (c : LocalRoutes) (ss : List Station) → ListsName c.learned → ListsName (after_removals c ss).learned
-removals_lists c [] h = h
-removals_lists c (s ∷ ss) h = removals_lists (after_removal c s) ss (removal_lists c.learned s h)
-
 due_goes : (c : LocalRoutes) (limit : ℕ) (s : Station) → ListsName c.learned
     → entry_at (after_ageing c limit).learned s ≡ cond (goes_by_age limit (entry_at c.learned s)) None
     (entry_at c.learned s)
@@ -273,7 +258,8 @@ second e reply e' good h = record {
       let c = after_flush e.routes h.flush in
       let out = (flushes_out e.routes h.flush good.routes).exactly s in
       ap (λ (x : Edge). entry_at x.routes.learned s) h.after
-      ∙ aged_goes c e.ageing now s (removals_lists e.routes (flushed_in e.routes.learned h.flush) good.routes.lists)
+      ∙ aged_goes c e.ageing now s (removals_named e.routes (flushed_in e.routes.learned h.flush)
+      (named e.routes good.routes.routes good.routes.lists)).lists
       ∙ (λ i. cond (is_old e.ageing now (out i)) None (out i))
       ∙ twice e.ageing now (is_flushed e h.flush s) (entry_at e.routes.learned s));
 }

@@ -1,5 +1,5 @@
 -- An edge stays good, whatever event comes: of the relation of edge, event, answer and edge alone.
-use Rattle.std.proofs.Common.{◌≡◌, ◌≢◌, ℕ, zero, suc, ◌-◌, ◌<◌, ◌≤◌, ◌^◌, Bool, true, false, cond}
+use Rattle.std.proofs.Common.{◌≡◌, ◌≢◌, ℕ, ◌-◌, ◌<◌, ◌≤◌, ◌^◌, Bool, true, false, cond}
 use Rattle.std.proofs.Common.{not, ◌&&◌, ◌||◌, Option, Some, None, Ok, List, [], ◌∷◌, length}
 use Rattle.std.proofs.Common.{refl, sym, ap, subst, ◌∙◌, arith}
 use Rattle.std.specs.Prelude.{IsSome, is_some, nat_le, nat_lt}
@@ -21,12 +21,9 @@ use Rattle.mac_arena.specs.declared.table.Learnt.TheVariants.{New}
 use Rattle.mac_arena.specs.Station.{is_same}
 use Rattle.mac_arena.specs.Learning.{Learning, entry_at, is_full, is_pinned, answer_of, learnt_of, after_learn}
 use Rattle.mac_arena.specs.Learning.{after_pin as pinned_on}
-use Rattle.mac_arena.specs.ListsName.{ListsName, AreOnce, stands, ages}
-use Rattle.mac_arena.specs.Laws.{is_due}
+use Rattle.mac_arena.specs.ListsName.{ListsName, AreOnce, stands}
 use Rattle.mac_arena.proofs.Entries.{eq_same}
-use Rattle.mac_arena.proofs.Going.{due_exact}
 use Rattle.mac_arena.proofs.Held.{learn_names, hear_names, pin_names, removal_names}
-use Rattle.mac_arena.proofs.Placing.{IsBased}
 use Rattle.ev_claims.specs.Speaker.{Speaker, KeepsNumbers, own_advert, is_at, is_newest, is_ahead}
 use Rattle.ev_claims.specs.Speaker.{is_spent as has_spent}
 use Rattle.ev_claims.specs.Speaker.{is_returning, after_originating, after_importing, after_importing_own}
@@ -41,7 +38,9 @@ use Rattle.ev_claims.proofs.Hearing.{dropped_contains, past_if_newest, earlier_n
 use Rattle.ev_claims.proofs.Keeping.{spoken_routes, advert_routes, refresh_routes, pin_routes, shift_routes}
 use Rattle.ev_claims.proofs.Keeping.{removal_routes, own_routes, known_entry}
 use Rattle.ev_claims.proofs.Learnt.{removal_there}
-use Rattle.ev_claims.proofs.Changed.{on_any, none_on, ports_climb, flushed_stands, flushed_once, due_once}
+use Rattle.ev_claims.proofs.Lists.{based}
+use Rattle.ev_claims.proofs.Changed.{ports_climb, flushed_once, due_once}
+use Rattle.ev_claims.proofs.Leaving.{flush_known, age_known}
 use Rattle.ev_edge.specs.Edge.{Edge, IsGoodEdge}
 use Rattle.ev_edge.proofs.Owning.{Holds, removal_holds, taken_holds}
 use Rattle.ev_edge.proofs.Keeping.{refresh_holds, shift_holds, later_holds}
@@ -90,14 +89,6 @@ good_by e k ports early = record {
 }
 
 -- ---- ports
-
--- each station is behind a port that is there
-pub based : (c : LocalRoutes) → KeepsRoutes c → IsBased c.learned
-based c h s x at = go x.port (h.ports s x at)
-  where
-    go : (p : ℕ) → vni_at c.ports p ≡ Some s.vni → 0 < p
-    go zero is = cc
-    go (suc p) is = omega arith
 
 port_there : (c : LocalRoutes) (s : Station) (port : ℕ) → KeepsRoutes c → vni_at c.ports port ≡ Some s.vni
     → (0 < port) × (port - 1 < length c.learned.ports)
@@ -199,33 +190,13 @@ removals_keep c (s ∷ ss) second h once known = removals_keep (after_removal c 
 
 -- ---- by a flush, and by age
 
-flush_known : (c : LocalRoutes) (set : ℕ) → ListsName c.learned → (s : Station) → stands (flushed_in c.learned set) s
-    ≡ true
-    → IsSome (entry_at c.learned s)
-flush_known c set lists s on = go (entry_at c.learned s)
-    (sym (flushed_stands c.learned lists 0 (ports_of set) s (ports_climb set)) ∙ on)
-  where
-    go : (o : Option Entry) → (on_any (ports_of set) o && not (is_pinned o)) ≡ true → IsSome o
-    go None on = let none = none_on (ports_of set) in absurd (let bad : false ≡ true = sym (ap (λ b. b && true) none)
-        ∙ on in cc)
-    go (Some x) on = refl
-
 pub flush_keeps : (c : LocalRoutes) (set second : ℕ) → Keeps c second → Keeps (after_flush c set) second
 flush_keeps c set second h = removals_keep c (flushed_in c.learned set) second h
-    (flushed_once c.learned h.lists 0 (ports_of set) (ports_climb set)) (flush_known c set h.lists)
-
-age_known : (c : LocalRoutes) (limit : ℕ) → ListsName c.learned → (s : Station) → stands (due_in c.learned limit) s
-    ≡ true
-    → IsSome (entry_at c.learned s)
-age_known c limit lists s on = go (entry_at c.learned s) (sym (due_exact c.learned limit lists s) ∙ on)
-  where
-    go : (o : Option Entry) → (ages o && is_due limit o) ≡ true → IsSome o
-    go None on = absurd (false≢true on)
-    go (Some x) on = refl
+    (flushed_once c.learned h.lists 0 (ports_of set) (ports_climb set)) (flush_known c set h.routes h.lists)
 
 age_keeps : (c : LocalRoutes) (limit second : ℕ) → Keeps c second → Keeps (after_ageing c limit) second
 age_keeps c limit second h = removals_keep c (due_in c.learned limit) second h
-    (due_once c.learned limit c.learned.ageing h.lists.ageing_once) (age_known c limit h.lists)
+    (due_once c.learned limit c.learned.ageing h.lists.ageing_once) (age_known c.learned limit h.lists)
 
 pub aged_keeps : (c : LocalRoutes) (ageing second : ℕ) → Keeps c second → Keeps (aged c ageing second) second
 aged_keeps c ageing second h = go (nat_le ageing second)

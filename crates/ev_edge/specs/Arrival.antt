@@ -1,8 +1,10 @@
 -- What a frame that comes is, or why it is refused.
-use Rattle.std.specs.Prelude.{ℕ, ◌==◌, ◌&&◌, Bool, not, nat_le, if◌then◌else◌, Option, Some, None, Result, Ok, Err}
-use Rattle.std.specs.Prelude.{List, length, drop, slice_index}
+use Rattle.std.specs.Prelude.{ℕ, ◌==◌, ◌&&◌, Bool, not, if◌then◌else◌, Option, Some, None, Result, Ok, Err}
+use Rattle.std.specs.Prelude.{List, length, take, drop, nat_eq}
 use Rattle.std.specs.List.{list_any}
-use Rattle.ether_wire.specs.Addr.{is_reserved}
+use Rattle.std.specs.Cmp.Lexicographic.{pointwise}
+use Rattle.ether_wire.specs.Addr.{is_reserved, bridge_group}
+use Rattle.ether_wire.specs.BpduFrame.{bpdu_llc}
 use Rattle.ether_wire.specs.Frame.{frame_of, destination_of, source_of, has_length, payload_of}
 use Rattle.ether_wire.specs.Ports.{place_of_port}
 use Rattle.ether_wire.specs.declared.frame.FrameRefusal.{FrameRefusal}
@@ -22,18 +24,17 @@ use Rattle.ev_edge.specs.declared.refusal.Refusal.TheVariants.{Ether, Bpdu as Of
 use Rattle.ev_edge.specs.declared.refusal.EdgeRefusal.TheVariants.{UnknownOriginator, NoSuchPort, NoSuchVni}
 use Rattle.ev_edge.specs.Edge.{Edge, table_of, address_of}
 
--- the bridge group address (IEEE 802.1D-2004, 7.12.6)
-abbrev pub is_bridge_group : ℕ → Bool
-is_bridge_group mac = mac == 0x0180C2000000
-
--- the LLC header of the spanning tree in front of the payload (9.2)
+-- the LLC header of the spanning tree in front of the payload (IEEE 802.1D-2004, section 9.2)
 abbrev pub has_llc : List ℕ → Bool
-has_llc payload = nat_le 3 (length payload) && (slice_index payload 0 == 0x42
-    && (slice_index payload 1 == 0x42 && slice_index payload 2 == 0x03))
+has_llc payload = pointwise nat_eq (take (length bpdu_llc) payload) bpdu_llc
 
--- the frame holds a BPDU
+-- the frame holds a BPDU: it goes to the bridge group (7.12.6)
 abbrev pub holds_bpdu : List ℕ → Bool
-holds_bpdu frame = is_bridge_group (destination_of frame) && (has_length frame && has_llc (payload_of frame))
+holds_bpdu frame = destination_of frame == bridge_group && (has_length frame && has_llc (payload_of frame))
+
+-- which stands behind the header
+abbrev pub bpdu_in : List ℕ → List ℕ
+bpdu_in frame = drop (length bpdu_llc) (payload_of frame)
 
 abbrev pub message_in : Result Bpdu bpdu.BpduRefusal → Result Arrival Refusal
 message_in (Ok b) = Ok (Message b)
@@ -41,7 +42,7 @@ message_in (Err r) = Err (OfBpdu r)
 
 -- at a reserved destination anything but a BPDU is dropped
 abbrev pub reserved_arrival : List ℕ → Result Arrival Refusal
-reserved_arrival frame = if holds_bpdu frame then message_in (reading (drop 3 (payload_of frame))) else Ok Dropped
+reserved_arrival frame = if holds_bpdu frame then message_in (reading (bpdu_in frame)) else Ok Dropped
 
 abbrev pub data_in : ℕ → List ℕ → Arrival
 data_in vni frame = Data vni (destination_of frame) (source_of frame)

@@ -1,6 +1,6 @@
 -- Learning the source of a frame (IEEE 802.1D-2004, 7.8, and RFC 7432, section 15): the first of the ten cases that
 -- applies, with what it does.
-use Rattle.std.specs.Prelude.{◌≡◌, ◌⊎◌, ℕ, ◌^◌, ◌==◌, ◌&&◌, ◌||◌, not, nat_le, Bool, true, Option, Some, None, is_none}
+use Rattle.std.specs.Prelude.{◌≡◌, ◌⊎◌, ℕ, ◌^◌, ◌==◌, ◌||◌, not, nat_le, Bool, true, Option, Some, None, is_none}
 use Rattle.std.specs.Prelude.{if◌then◌else◌}
 use Rattle.std.specs.FinMap.{get, insert}
 use Rattle.mac_arena.specs.declared.station.Station.{Station}
@@ -17,7 +17,7 @@ use Rattle.ev_mobility.specs.Window.{is_fifth, is_frozen, after_move}
 use Rattle.ev_claims.specs.Speaker.{is_originated}
 use Rattle.ev_claims.specs.LocalRoutes.{LocalRoutes, key_of, after_advert, after_refresh}
 use Rattle.ev_edge.specs.declared.learning.Case.{Case}
-use Rattle.ev_edge.specs.declared.learning.Case.TheVariants.{Leave, Refresh, Refuse, Freeze, Learn}
+use Rattle.ev_edge.specs.declared.learning.Case.TheVariants.{Leave, Refresh, Refuse, Freeze, Learn, Move}
 use Rattle.ev_edge.specs.Edge.{Edge, table_of, address_of}
 
 -- ---- the cases
@@ -29,7 +29,7 @@ is_spent c = nat_le (2 ^ 63) c.speaker.counter
 -- Another edge advertises the station where its next number isn't 0: then it moves here, and the fifth move of one
 -- window freezes it. A number of 0: nobody else advertises it.
 abbrev pub move_case : Option Window → ℕ → ℕ → Case
-move_case window second n = if n == 0 then Learn 0 else if is_fifth window second then Freeze else Learn n
+move_case window second n = if n == 0 then Learn else if is_fifth window second then Freeze else Move n
 
 abbrev pub numbered_case : Edge → Option Window → Seq → Case
 numbered_case e window Static = Refuse StaticElsewhere
@@ -61,9 +61,9 @@ refreshed e s port = record e { routes = after_refresh e.routes s port e.clock }
 abbrev pub moved : Edge → Station → Edge
 moved e s = record e { windows = insert e.windows s (after_move (get e.windows s) e.clock) }
 
--- learnt and advertised; a number above 0 is a move
+-- learnt, and advertised with this sequence number
 abbrev pub learnt : Edge → Station → ℕ → ℕ → Edge
-learnt e s port n = record (if n == 0 then e else moved e s) { routes = after_advert e.routes s port e.clock n }
+learnt e s port n = record e { routes = after_advert e.routes s port e.clock n }
 
 -- ---- memory
 
@@ -74,10 +74,6 @@ needs_register e s = not (is_originated e.routes.speaker (key_of s))
 -- a window has to be made for its move: none is kept of it
 abbrev pub needs_window : Edge → Station → Bool
 needs_window e s = is_none (get e.windows s)
-
--- what learning it with this sequence number has to make; a number above 0 is a move
-abbrev pub needs_memory : Edge → Station → ℕ → Bool
-needs_memory e s n = needs_register e s || (not (n == 0) && needs_window e s)
 
 -- It happened; or it needs memory, which was refused: then nothing changed.
 abbrev pub OrNoMemory : Bool → Edge → Option Alert → Edge → Option Alert → Edge → Type 0
@@ -91,8 +87,9 @@ Does Leave e s port told e' = (told ≡ None) × (e' ≡ e)
 Does Refresh e s port told e' = (told ≡ None) × (e' ≡ refreshed e s port)
 Does (Refuse alert) e s port told e' = (told ≡ Some alert) × (e' ≡ e)
 Does Freeze e s port told e' = (told ≡ Some Duplicate) × (e' ≡ moved e s)
-Does (Learn n) e s port told e' =
-    OrNoMemory (needs_memory e s n) e None (learnt e s port n) told e'
+Does Learn e s port told e' = OrNoMemory (needs_register e s) e None (learnt e s port 0) told e'
+Does (Move n) e s port told e' =
+    OrNoMemory (needs_register e s || needs_window e s) e None (learnt (moved e s) s port n) told e'
 
 -- learning the station on the port
 abbrev pub Learning : Edge → Station → ℕ → Option Alert → Edge → Type 0

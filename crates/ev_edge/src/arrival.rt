@@ -1,11 +1,12 @@
 //! What a frame is that comes at a port or from a tunnel.
-ghost use Rattle.std.specs.Prelude.{◌≡◌};
+ghost use Rattle.std.specs.Prelude.{◌≡◌, true, false};
+ghost use Rattle.std.specs.Option.{MatchOption};
 ghost use Rattle.ether_wire.specs.Frame.{frame_of};
-ghost use Rattle.ev_edge.specs.Arrival.{has_llc, holds_bpdu, reserved_arrival, data_in, arrival_at, inner_arrival};
+ghost use Rattle.ev_edge.specs.Arrival.{holds_bpdu, bpdu_in, reserved_arrival, data_in, arrival_at, inner_arrival};
 
 use crate::refusal::Refusal;
 use bpdu_wire::Bpdu;
-use ether_wire::{Frame, Kind, Mac, Vni};
+use ether_wire::{BPDU_LLC, Frame, Kind, Mac, Vni};
 
 /// What a frame is.
 #[derive(Clone, Copy, Debug, PartialEq, Eq)]
@@ -18,39 +19,34 @@ pub enum Arrival {
     Data(Vni, Mac, Mac),
 }
 
-/// The bridge group address.
-const BRIDGE_GROUP: u64 = 0x0180_C200_0000;
-
-// Whether a payload begins with the LLC header of the spanning tree.
-fn has_llc(payload: &[u8]) -> bool
-    ensures { result ≡ has_llc payload.now }
+/// The octets of the BPDU that a frame holds.
+fn bpdu_in<'a>(frame: &Frame<'a>) -> Option<&'a [u8]>
+    ensures { MatchOption result (holds_bpdu frame.now ≡ false) (λ octets.
+        (holds_bpdu frame.now ≡ true) × (octets.now ≡ bpdu_in frame.now)) }
 {
-    payload.len() >= 3 && payload[0] == 0x42 && payload[1] == 0x42 && payload[2] == 0x03
+    if frame.destination() != Mac::bridge_group() {
+        return None;
+    }
+    match frame.kind() {
+        Kind::Length(_) => frame.payload().strip_prefix(&BPDU_LLC),
+        Kind::EtherType(_) => None,
+    }
 }
 
-// Whether a frame holds a BPDU.
-fn holds_bpdu(frame: &Frame<'_>) -> bool
-    ensures { result ≡ holds_bpdu frame.now }
-{
-    let has_length = matches!(frame.kind(), Kind::Length(_));
-    frame.destination().number() == BRIDGE_GROUP && has_length && has_llc(frame.payload())
-}
-
-// What a frame is whose destination is reserved.
+/// What a frame is whose destination is reserved.
 fn reserved_arrival(frame: &Frame<'_>) -> Result<Arrival, Refusal>
     ensures { result ≡ reserved_arrival frame.now }
 {
-    if !holds_bpdu(frame) {
+    let Some(octets) = bpdu_in(frame) else {
         return Ok(Arrival::Dropped);
-    }
-    let (_, octets) = frame.payload().split_at(3);
+    };
     match bpdu_wire::read(octets) {
         Ok(bpdu) => Ok(Arrival::Message(bpdu)),
         Err(refusal) => Err(Refusal::Bpdu(refusal)),
     }
 }
 
-// A frame of a network.
+/// A frame of a network.
 fn data_in(vni: Vni, frame: &Frame<'_>) -> Arrival
     ensures { result ≡ data_in vni frame.now }
 {

@@ -19,7 +19,7 @@ use rstp_run::event::Event;
 /// The last second: the clock stays there.
 const LAST_SECOND: u64 = 0x8000_0000_0000_0000;
 
-// The set and this port, if it passes.
+/// The set and this port, if it passes.
 fn with_passing(set: u64, bridge: &Bridge, port: u8) -> u64
     requires there { IsPort port (length bridge.now.ports) }
     requires few { length bridge.now.ports ≤ 64 }
@@ -31,7 +31,7 @@ fn with_passing(set: u64, bridge: &Bridge, port: u8) -> u64
     set
 }
 
-// The ports that pass.
+/// The ports that pass.
 fn passing_ports(bridge: &Bridge) -> u64
     ensures { ArePassing bridge.now result }
 {
@@ -42,8 +42,8 @@ fn passing_ports(bridge: &Bridge) -> u64
     set
 }
 
-// The bridge goes on by the event until it is settled, or has fired as often as it may. What it
-// sends takes the place of what is listed, and it tells the ports that it flushes.
+/// The bridge goes on by the event until it is settled, or has fired as often as it may. What it
+/// sends takes the place of what is listed, and it tells the ports that it flushes.
 #[tactic(auto, using(crate::proofs::Going::goes_by))]
 fn go_on(bridge: &mut Bridge, event: Event, sent: &mut ArrayVec<(u8, Bpdu), 64>) -> u64
     requires { IsAt event (length bridge.old.ports) }
@@ -53,7 +53,7 @@ fn go_on(bridge: &mut Bridge, event: Event, sent: &mut ArrayVec<(u8, Bpdu), 64>)
     bridge.event_into(event, sent).flush
 }
 
-// The second after this one: at 2^63 the clock stays.
+/// The second after this one: at 2^63 the clock stays.
 fn next_second(clock: u64) -> u64
     requires { clock ≤ 2 ^ 63 }
     ensures { result ≡ next_second clock }
@@ -65,7 +65,7 @@ fn next_second(clock: u64) -> u64
     }
 }
 
-// The stations that weren't heard for so many seconds go.
+/// The stations that weren't heard for so many seconds go.
 fn age(routes: &mut LocalRoutes, ageing: u64, clock: u64)
     ensures { routes.new ≡ aged routes.old ageing clock }
 {
@@ -100,7 +100,7 @@ impl Edge {
         age(&mut self.routes, self.ageing, self.clock);
     }
 
-    // Whether there is such a port.
+    /// Whether there is such a port.
     fn is_there(&self, port: u8) -> bool
         ensures value { result ≡ is_some (vni_at self.now.routes.ports port) }
         ensures port { result ≡ true → IsPort port (length self.now.tree.ports) }

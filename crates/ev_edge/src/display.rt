@@ -8,7 +8,7 @@ use ev_tunnel::Decision;
 use route_join::Taken;
 use std::fmt::{Display, Error, Formatter, Write};
 
-// Why octets are no frame.
+/// Why octets are no frame.
 fn frame_words(refusal: FrameRefusal) -> &'static str {
     match refusal {
         FrameRefusal::Short => "frame below 14 octets",
@@ -17,7 +17,7 @@ fn frame_words(refusal: FrameRefusal) -> &'static str {
     }
 }
 
-// Why a frame holds no BPDU.
+/// Why a frame holds no BPDU.
 fn bpdu_words(refusal: bpdu_wire::BpduRefusal) -> &'static str {
     match refusal {
         bpdu_wire::BpduRefusal::Short => "BPDU cut short",
@@ -28,7 +28,7 @@ fn bpdu_words(refusal: bpdu_wire::BpduRefusal) -> &'static str {
     }
 }
 
-// Why a datagram has no VXLAN header.
+/// Why a datagram has no VXLAN header.
 fn vxlan_words(refusal: vxlan_wire::VxlanRefusal) -> &'static str {
     match refusal {
         vxlan_wire::VxlanRefusal::Short => "VXLAN header below 8 octets",
@@ -47,7 +47,7 @@ impl Display for Refusal {
     }
 }
 
-// What stands between two parts of a reply.
+/// What stands between two parts of a reply.
 fn separate<W: Write>(f: &mut Formatter<W>, is_first: bool) -> Result<(), Error> {
     if is_first {
         return Ok(());
@@ -55,7 +55,7 @@ fn separate<W: Write>(f: &mut Formatter<W>, is_first: bool) -> Result<(), Error>
     f.write_str("; ")
 }
 
-// The access ports of a set.
+/// The access ports of a set.
 fn write_ports<W: Write>(f: &mut Formatter<W>, ports: u64) -> Result<(), Error> {
     for port in 1..65u8 {
         if has_port(ports, port) {
@@ -65,7 +65,7 @@ fn write_ports<W: Write>(f: &mut Formatter<W>, ports: u64) -> Result<(), Error> 
     Ok(())
 }
 
-// Edges, by their addresses.
+/// Edges, by their addresses.
 fn write_edges<W: Write>(f: &mut Formatter<W>, edges: &[Addr]) -> Result<(), Error> {
     for edge in edges.iter() {
         write!(f, " edge {edge}")?;
@@ -73,7 +73,7 @@ fn write_edges<W: Write>(f: &mut Formatter<W>, edges: &[Addr]) -> Result<(), Err
     Ok(())
 }
 
-// Where a frame goes.
+/// Where a frame goes.
 fn write_decision<W: Write>(f: &mut Formatter<W>, decision: &Decision) -> Result<(), Error> {
     if decision.local == NO_PORTS && decision.remote.is_empty() {
         return f.write_str("to nobody");
@@ -83,7 +83,7 @@ fn write_decision<W: Write>(f: &mut Formatter<W>, decision: &Decision) -> Result
     write_edges(f, decision.remote.as_slice())
 }
 
-// What the table made of an update.
+/// What the table made of an update.
 fn taken_words(taken: Taken) -> &'static str {
     match taken {
         Taken::Newer => "taken",
@@ -92,8 +92,8 @@ fn taken_words(taken: Taken) -> &'static str {
 }
 
 impl Reply {
-    // The first parts: where a frame goes, and out of which ports BPDUs go.
-    // Whether there were none.
+    /// The first parts: where a frame goes, and out of which ports BPDUs go.
+    /// Whether there were none.
     fn write_sent<W: Write>(&self, f: &mut Formatter<W>) -> Result<bool, Error> {
         let mut is_first = true;
         if let Some(decision) = &self.decision {
@@ -108,7 +108,7 @@ impl Reply {
         Ok(is_first)
     }
 
-    // The parts about updates. Whether there was nothing yet.
+    /// The parts about updates. Whether there was nothing yet.
     fn write_updates<W: Write>(&self, f: &mut Formatter<W>, is_first: bool) -> Result<bool, Error> {
         let mut is_first = is_first;
         if let Some(taken) = self.taken {

@@ -1,3 +1,4 @@
+//! A provider edge: what it is opened with, its step, and what can be asked of it.
 ghost use Rattle.std.specs.Prelude.{◌≡◌, IfOk, IfSome, IfNone, is_some, slice_get};
 ghost use Rattle.ether_wire.specs.Ends.{IsOpen, Puts};
 ghost use Rattle.route_join.specs.Report.{report_of};

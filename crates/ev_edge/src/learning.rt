@@ -1,5 +1,5 @@
 //! Learning the source of a frame: which of the ten cases it is, and what that does.
-ghost use Rattle.std.specs.Prelude.{◌≡◌, ◌<◌, ◌^◌, ◌==◌, true, false, None, Some};
+ghost use Rattle.std.specs.Prelude.{◌≡◌, ◌<◌, ◌^◌, ◌||◌, true, false, None, Some};
 ghost use Rattle.std.specs.FinMap.{get};
 ghost use Rattle.ether_wire.specs.Addr.{is_group};
 ghost use Rattle.mac_arena.specs.Learning.{entry_at, is_full};
@@ -7,7 +7,8 @@ ghost use Rattle.ev_mobility.specs.Seq.{seq_for};
 ghost use Rattle.ev_claims.specs.LocalRoutes.{vni_at};
 ghost use Rattle.ev_edge.specs.Edge.{table_of, address_of};
 ghost use Rattle.ev_mobility.specs.Window.{is_fifth};
-ghost use Rattle.ev_edge.specs.Learning.{case_of, new_case, numbered_case, moved, learnt, needs_memory, OrNoMemory, Learning};
+ghost use Rattle.ev_edge.specs.Learning.{case_of, new_case, numbered_case, moved, learnt};
+ghost use Rattle.ev_edge.specs.Learning.{needs_register, needs_window, OrNoMemory, Learning};
 
 use crate::edge::Edge;
 use ev_claims::SPENT;
@@ -25,8 +26,10 @@ pub enum Case {
     Refuse(Alert),
     /// It has moved for the fifth time in one window: it is frozen, and not learnt.
     Freeze,
-    /// It is learnt and advertised with this sequence number; a number above 0 is a move.
-    Learn(u32),
+    /// No other edge advertises it: it is learnt, and advertised with sequence number 0.
+    Learn,
+    /// It moves here from another edge: it is learnt, and advertised with this sequence number.
+    Move(u32),
 }
 
 impl Edge {
@@ -44,11 +47,12 @@ impl Edge {
             }
             Case::Refuse(alert) => Some(alert),
             Case::Freeze => self.freeze(station),
-            Case::Learn(0) => self.learn_first(station, port),
-            Case::Learn(number) => self.learn_moved(station, port, number),
+            Case::Learn => self.learn_first(station, port),
+            Case::Move(number) => self.learn_moved(station, port, number),
         }
     }
 
+    /// The case of a station.
     fn case_of(&self, station: &Station) -> Case
         ensures { result ≡ case_of self.now station.now }
     {
@@ -62,7 +66,7 @@ impl Edge {
         }
     }
 
-    // The case of a station that isn't learnt.
+    /// The case of a station that isn't learnt.
     fn new_case(&self, station: &Station) -> Case
         ensures { result ≡ new_case self.now station.now (get self.now.windows station.now) }
     {
@@ -76,7 +80,7 @@ impl Edge {
         }
     }
 
-    // The case of a station that isn't learnt, with its next sequence number.
+    /// The case of a station that isn't learnt, with its next sequence number.
     fn numbered_case(&self, station: &Station, number: u32) -> Case
         ensures { result
             ≡ numbered_case self.now (get self.now.windows station.now) (Seq.Next number) }
@@ -87,10 +91,13 @@ impl Edge {
         if self.routes.is_full() {
             return Case::Refuse(Alert::TableFull);
         }
-        if number != 0 && self.moves.fifth(station, self.clock) {
+        if number == 0 {
+            return Case::Learn;
+        }
+        if self.moves.fifth(station, self.clock) {
             return Case::Freeze;
         }
-        Case::Learn(number)
+        Case::Move(number)
     }
 
     /// The sequence number of the next own advert of a station.
@@ -106,8 +113,8 @@ impl Edge {
         )
     }
 
-    // Notes the fifth move of a station's window, which freezes it. It takes no memory: who has a
-    // window has its place.
+    /// Notes the fifth move of a station's window, which freezes it. It takes no memory: who has a
+    /// window has its place.
     fn freeze(&mut self, station: &Station) -> Option<Alert>
         requires { is_fifth (get self.old.windows station.now) self.old.clock ≡ true }
         ensures told { result ≡ Some Alert.Duplicate }
@@ -118,8 +125,8 @@ impl Edge {
         Some(Alert::Duplicate)
     }
 
-    // Learns a station that no other edge advertises. Only a register that has to be made can
-    // want memory.
+    /// Learns a station that no other edge advertises. Only a register that has to be made can
+    /// want memory.
     fn learn_first(&mut self, station: &Station, port: u8) -> Option<Alert>
         requires individual { is_group station.now.mac ≡ false }
         requires port { vni_at self.old.routes.ports port ≡ Some station.now.vni }
@@ -128,7 +135,7 @@ impl Edge {
         requires counter { self.old.routes.speaker.counter < 2 ^ 63 }
         requires next { seq_for (table_of self.old)
             (address_of self.old) station.now.vni station.now.mac ≡ Seq.Next 0 }
-        ensures { OrNoMemory (needs_memory self.old station.now 0) self.old None
+        ensures { OrNoMemory (needs_register self.old station.now) self.old None
             (learnt self.old station.now port 0) result self.new }
     {
         self.routes.always_good();
@@ -138,8 +145,8 @@ impl Edge {
         None
     }
 
-    // Learns a station that another edge advertises: it moves here. Only a register or a window
-    // that has to be made can want memory.
+    /// Learns a station that another edge advertises: it moves here. Only a register or a window
+    /// that has to be made can want memory.
     fn learn_moved(&mut self, station: &Station, port: u8, number: u32) -> Option<Alert>
         requires individual { is_group station.now.mac ≡ false }
         requires port { vni_at self.old.routes.ports port ≡ Some station.now.vni }
@@ -148,9 +155,9 @@ impl Edge {
         requires counter { self.old.routes.speaker.counter < 2 ^ 63 }
         requires next { seq_for (table_of self.old)
             (address_of self.old) station.now.vni station.now.mac ≡ Seq.Next number }
-        requires moves { (number == 0) ≡ false }
-        ensures { OrNoMemory (needs_memory self.old station.now number) self.old None
-            (learnt self.old station.now port number) result self.new }
+        ensures { OrNoMemory
+            (needs_register self.old station.now || needs_window self.old station.now) self.old None
+            (learnt (moved self.old station.now) station.now port number) result self.new }
     {
         self.routes.always_good();
         self.moves.always_placed();

@@ -42,7 +42,7 @@ impl Edge {
         Ok(())
     }
 
-    // Why a pin is refused.
+    /// Why a pin is refused.
     fn refused_pin(&self, station: &Station, port: u8) -> Option<EdgeRefusal>
         ensures { result ≡ refused_pin self.now station.now port }
     {
@@ -58,7 +58,7 @@ impl Edge {
         None
     }
 
-    // What is to be done with a station that is to be pinned on a port.
+    /// What is to be done with a station that is to be pinned on a port.
     fn pin_case(&self, station: &Station, port: u8) -> PinCase
         ensures { result ≡ pin_case self.now station.now port }
     {
@@ -73,7 +73,7 @@ impl Edge {
         }
     }
 
-    // The same for one that isn't pinned.
+    /// The same for one that isn't pinned.
     fn unpinned_case(&self, station: &Station, known: bool) -> PinCase
         ensures { result ≡ unpinned_case self.now station.now known }
     {
@@ -89,7 +89,7 @@ impl Edge {
         PinCase::Pin
     }
 
-    // Pins a station on a port of its network, and tells what the operator is to know.
+    /// Pins a station on a port of its network, and tells what the operator is to know.
     fn pin_there(&mut self, station: &Station, port: u8) -> Option<Alert>
         requires { refused_pin self.old station.now port ≡ None }
         ensures { Pinning self.old station.now port result self.new }

@@ -19,7 +19,7 @@ use ev_tunnel::{Decision, Source, decide_into, unwrap_datagram};
 use mac_arena::Station;
 use rstp_run::event::Event;
 
-// A place for a decision, where there is none.
+/// A place for a decision, where there is none.
 fn make_room(decision: &mut Option<Decision>)
     ensures { IsSome decision.new }
 {
@@ -31,7 +31,7 @@ fn make_room(decision: &mut Option<Decision>)
     }
 }
 
-// No port and no edge.
+/// No port and no edge.
 fn put_nowhere(decision: &mut Decision)
     ensures local { decision.new.local ≡ 0 }
     ensures remote { decision.new.remote.items ≡ [] }
@@ -61,7 +61,7 @@ impl Edge {
         Ok(())
     }
 
-    // What comes at a port, or why it is refused.
+    /// What comes at a port, or why it is refused.
     fn frame_arrival(&self, port: u8, octets: &[u8]) -> Result<Arrival, Refusal>
         ensures { result ≡ frame_arrival self.now port octets.now }
     {
@@ -71,7 +71,7 @@ impl Edge {
         arrival_at(self.bridge.port(port).enabled, vni, octets)
     }
 
-    // A frame of a network comes at a port.
+    /// A frame of a network comes at a port.
     fn data(&mut self, port: u8, vni: Vni, destination: Mac, source: Mac, reply: &mut Reply)
         requires { vni_at self.old.routes.ports port ≡ Some vni }
         ensures { DataSteps self.old port vni destination source reply.new self.new }
@@ -89,7 +89,7 @@ impl Edge {
         );
     }
 
-    // Learns the source of a frame, if the port learns and it is no group address.
+    /// Learns the source of a frame, if the port learns and it is no group address.
     fn learn_source(&mut self, port: u8, vni: Vni, source: Mac) -> Option<Alert>
         requires { vni_at self.old.routes.ports port ≡ Some vni }
         ensures { LearnsAt self.old port vni source result self.new }
@@ -100,7 +100,7 @@ impl Edge {
         None
     }
 
-    // Decides where a frame of a network goes, in the place of another decision or of none.
+    /// Decides where a frame of a network goes, in the place of another decision or of none.
     fn send_if(
         &self,
         passes: bool,
@@ -122,7 +122,7 @@ impl Edge {
         }
     }
 
-    // The port where a destination is learnt.
+    /// The port where a destination is learnt.
     fn port_of(&self, vni: Vni, mac: Mac) -> Option<u8>
         ensures value { result ≡ port_of self.now vni mac }
         ensures port { ForSome result IsPort }
@@ -134,7 +134,7 @@ impl Edge {
         }
     }
 
-    // Decides where a frame of a network goes.
+    /// Decides where a frame of a network goes.
     fn decide(&self, vni: Vni, destination: Mac, from: Source, decision: &mut Decision)
         requires { IsFrom from }
         ensures { IsDecision self.now vni destination from decision.new }
@@ -172,14 +172,14 @@ impl Edge {
         Ok(())
     }
 
-    // Whether a network is one of the edge's.
+    /// Whether a network is one of the edge's.
     fn serves(&self, vni: Vni) -> bool
         ensures { result ≡ serves self.now vni }
     {
         self.routes.has_vni(vni)
     }
 
-    // What comes from a tunnel, or why it is refused.
+    /// What comes from a tunnel, or why it is refused.
     fn tunnel_arrival(&self, from: Addr, octets: &[u8]) -> Result<Arrival, Refusal>
         ensures { result ≡ tunnel_arrival self.now from octets.now }
     {

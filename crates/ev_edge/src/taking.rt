@@ -13,7 +13,7 @@ use ev_mobility::Alert;
 use route_join::{TakeError, Taken};
 use route_wire::Update;
 
-// Tells of an update that was taken.
+/// Tells of an update that was taken.
 fn tell_taken(taken: Taken, lost_pinned: bool, reply: &mut Reply)
     ensures { reply.new ≡ record nothing { taken = Some taken; alert = lost_alert lost_pinned } }
 {
@@ -24,7 +24,7 @@ fn tell_taken(taken: Taken, lost_pinned: bool, reply: &mut Reply)
     }
 }
 
-// Tells what became of an update under the edge's own name.
+/// Tells what became of an update under the edge's own name.
 fn tell_own(outcome: Result<Taken, OwnError>, reply: &mut Reply) -> Result<(), Refusal>
     ensures { answered result reply.new ≡ own_result outcome }
 {
@@ -52,6 +52,7 @@ impl Edge {
         }
     }
 
+    /// Takes another edge's update, and tells what it changed here.
     fn take_other(&mut self, update: &Update, reply: &mut Reply) -> Result<(), Refusal>
         requires { update.now.register.originator ≢ address_of self.old }
         ensures { TakesOther self.old update.now (answered result reply.new) self.new }
@@ -66,6 +67,7 @@ impl Edge {
         }
     }
 
+    /// Takes an update of the edge's own address, perhaps of an earlier incarnation.
     fn take_own(&mut self, update: &Update, reply: &mut Reply) -> Result<(), Refusal>
         requires { update.now.register.originator ≡ address_of self.old }
         ensures { TakesOwn self.old update.now (answered result reply.new) self.new }

@@ -1,35 +1,32 @@
 -- What comes to an edge from outside, where the edge has learnt a station afterwards and hadn't before: it says so.
-use Rattle.std.proofs.Common.{◌≡◌, inl, inr, ℕ, ◌-◌, ◌==◌, ◌&&◌, Bool, true, false, cond, nat_le, Option, Some, None}
+use Rattle.std.proofs.Common.{◌≡◌, inl, inr, ℕ, ◌-◌, ◌&&◌, Bool, true, false, cond, nat_le, Option, Some, None}
 use Rattle.std.proofs.Common.{Result, Ok, Err, List, [], ◌∷◌, refl, sym, ap, subst, ◌∙◌}
 use Rattle.std.specs.Prelude.{IsSome, not}
-use Rattle.std.specs.FinMap.{get}
+use Rattle.std.specs.FinMap.{FinMap}
 use Rattle.ether_wire.specs.Addr.{is_group}
 use Rattle.route_wire.specs.declared.update.Content.{Content}
 use Rattle.route_join.specs.Owner.{advert_in}
 use Rattle.mac_arena.specs.declared.station.Station.{Station}
 use Rattle.mac_arena.specs.declared.station.Entry.{Entry}
 use Rattle.mac_arena.specs.declared.table.Learnt.TheVariants.{New}
+use Rattle.mac_arena.specs.Station.{station_cmp}
 use Rattle.mac_arena.specs.Learning.{entry_at, learnt_of, is_full, is_pinned}
 use Rattle.mac_arena.specs.ListsName.{stands}
 use Rattle.mac_arena.proofs.Entries.{same_or_other}
 use Rattle.mac_arena.proofs.Looking.{learn_entry, pin_entry}
 use Rattle.ev_mobility.specs.declared.alert.Alert.{Alert}
 use Rattle.ev_mobility.specs.declared.alert.Alert.TheVariants.{CounterSpent, TableFull, StaticElsewhere}
-use Rattle.ev_mobility.specs.declared.seq.Seq.{Seq}
-use Rattle.ev_mobility.specs.declared.seq.Seq.TheVariants.{Next, Static, Spent}
 use Rattle.ev_mobility.specs.declared.window.Window.{Window}
 use Rattle.ev_mobility.specs.Seq.{seq_for}
-use Rattle.ev_mobility.specs.Window.{is_fifth, is_frozen}
 use Rattle.rstp_run.specs.declared.event.Event as tree
 use Rattle.rstp_run.specs.declared.event.Event.TheVariants as tree_events
 use Rattle.ev_claims.specs.Speaker.{after_originating}
-use Rattle.ev_claims.specs.LocalRoutes.{LocalRoutes, vni_at, key_of, moving, fixed, after_removal, after_removals}
+use Rattle.ev_claims.specs.LocalRoutes.{LocalRoutes, vni_at, key_of, moving, fixed, after_advert, after_removal}
+use Rattle.ev_claims.specs.LocalRoutes.{after_removals}
 use Rattle.ev_claims.specs.Leaving.{after_ageing, after_flush, due_in, flushed_in}
 use Rattle.ev_claims.proofs.Changed.{removals_entries}
 use Rattle.ev_edge.specs.declared.arrival.Arrival.{Arrival}
 use Rattle.ev_edge.specs.declared.arrival.Arrival.TheVariants.{Dropped, Message, Data}
-use Rattle.ev_edge.specs.declared.learning.Case.{Case}
-use Rattle.ev_edge.specs.declared.learning.Case.TheVariants.{Leave, Refresh, Refuse, Freeze, Learn}
 use Rattle.ev_edge.specs.declared.pinning.PinCase.{PinCase}
 use Rattle.ev_edge.specs.declared.pinning.PinCase.TheVariants as pins
 use Rattle.ev_edge.specs.declared.reply.Reply.{Reply}
@@ -38,9 +35,10 @@ use Rattle.ev_edge.specs.declared.refusal.EdgeRefusal.{EdgeRefusal}
 use Rattle.ev_edge.specs.Edge.{Edge, table_of, address_of}
 use Rattle.ev_edge.specs.Arrival.{frame_arrival, tunnel_arrival}
 use Rattle.ev_edge.specs.Bridging.{aged, next_second}
-use Rattle.ev_edge.specs.Learning.{Does, case_of, case_at, new_case, numbered_case, move_case, is_spent}
+use Rattle.ev_edge.specs.Learning.{is_spent, refreshed}
 use Rattle.ev_edge.specs.Pinning.{DoesPin, pin_case, pin_case_at, unpinned_case, is_static, refused_pin, after_unpin}
 use Rattle.ev_edge.specs.Steps.{Steps, FrameSteps, TunnelSteps, Bridges, BridgesAt, Seconds, LearnsIf, Pins}
+use Rattle.ev_edge.proofs.Cases.{IsHeard, learnt_by}
 use Rattle.ev_fabric.specs.declared.step.LocalEvent.{LocalEvent}
 use Rattle.ev_fabric.specs.declared.step.LocalEvent.TheVariants.{Frame, TunnelFrame, Pin, Unpin, Thaw, Second, PortUp}
 use Rattle.ev_fabric.specs.declared.step.LocalEvent.TheVariants.{PortDown, Mcheck}
@@ -52,34 +50,7 @@ pub record LearnsIt (b : Edge) (s : Station) (c : Edge) : Type 0 where
   pub advert : IsSome (advert_in content)
   pub speaker : c.routes.speaker ≡ after_originating b.routes.speaker (key_of s) content
 
--- ---- what isn't learnt isn't heard again, nor pinned elsewhere
-abbrev is_refresh : Case → Bool
-is_refresh Leave = false
-is_refresh Refresh = true
-is_refresh (Refuse alert) = false
-is_refresh Freeze = false
-is_refresh (Learn n) = false
-
-new_refresh : (e : Edge) (s : Station) (w : Option Window) → is_refresh (new_case e s w) ≡ false
-new_refresh e s w = go (is_frozen w) (seq_for (table_of e) (address_of e) s.vni s.mac)
-  where
-    moves : (n : ℕ) (x y : Bool) → is_refresh (cond x (Learn 0) (cond y Freeze (Learn n))) ≡ false
-    moves n true y = refl
-    moves n false true = refl
-    moves n false false = refl
-
-    numbered : (n : ℕ) (x y : Bool) → is_refresh (cond x (Refuse CounterSpent)
-        (cond y (Refuse TableFull) (move_case w e.clock n))) ≡ false
-    numbered n true y = refl
-    numbered n false true = refl
-    numbered n false false = moves n (n == 0) (is_fifth w e.clock)
-
-    go : (b : Bool) (q : Seq) → is_refresh (cond b Leave (numbered_case e w q)) ≡ false
-    go true q = refl
-    go false Static = refl
-    go false Spent = refl
-    go false (Next n) = numbered n (is_spent e.routes) (is_full e.routes.learned)
-
+-- ---- what isn't learnt isn't pinned elsewhere
 abbrev is_shift : PinCase → Bool
 is_shift pins.Keep = false
 is_shift pins.Shift = true
@@ -153,40 +124,29 @@ module _ (b : Edge) (s : Station) (c : Edge) (unknown : entry_at b.routes.learne
       (removed_still b.routes (flushed_in b.routes.learned h.flush) s unknown))
   by_second (Err r) h = absurd h
 
-  no_refresh : (q : Station) → q ≡ s → case_of b q ≡ Refresh → ⊥
-  no_refresh q is e =
-      let new : case_of b q ≡ new_case b q (get b.windows q) =
-      ap (case_at b q) (subst (λ r. entry_at b.routes.learned r ≡ None) (sym is) unknown) in
-      let bad : true ≡ false = ap is_refresh (sym e ∙ new) ∙ new_refresh b q (get b.windows q) in
-      cc
-
-  learns : (q : Station) (port : ℕ) (k : Case) → case_of b q ≡ k → (told : Option Alert) → Does k b q port told c
-      → LearnsIt b s c
-  learns q port Leave e told h = same h.1
-  learns q port Refresh e told h = elim (same_or_other q s) as (λ _. LearnsIt b s c) [
-    | inl is ↦ absurd (no_refresh q is e)
-    | inr ne ↦ without _ h.1 ((learn_entry b.routes.learned q port b.clock (learnt_of b.routes.learned q port)).others s
-        (λ is. ne (sym is)) ∙ unknown)
-  ]
-  learns q port (Refuse alert) e told h = same h.1
-  learns q port Freeze e told h = without _ h.1 unknown
-  learns q port (Learn n) e told h = elim h as (λ _. LearnsIt b s c) [
-    | inl is ↦ elim (same_or_other q s) as (λ _. LearnsIt b s c) [
-      | inl this ↦ record {
-        content = moving n;
-        advert = refl;
-        speaker = ap (λ (e : Edge). e.routes.speaker) is.1
-            ∙ ap (λ r. after_originating b.routes.speaker (key_of r) (moving n)) this;
-      }
-      | inr ne ↦ without _ is.1 ((learn_entry b.routes.learned q port b.clock New).others s (λ is. ne (sym is))
-          ∙ unknown)
-    ]
-    | inr refused ↦ same refused.1
-  ]
-
   data_frame : (x : Bool) (q : Station) (port : ℕ) (told : Option Alert) → LearnsIf x b q port told c → LearnsIt b s c
-  data_frame true q port told h = learns q port (case_of b q) refl told h
-  data_frame false q port told h = same h.1
+  data_frame x q port told h = learnt_by (λ d. c ≡ d → LearnsIt b s c) b q port told c same heard
+      (λ is. without _ is unknown) (λ new. learns 0 b.windows) (λ n new. learns n _) x h refl
+    where
+      heard : IsHeard b q → c ≡ refreshed b q port → LearnsIt b s c
+      heard h is = elim (same_or_other s q) as (λ _. LearnsIt b s c) [
+        | inl this ↦ absurd (let no : IsSome {T = Entry} None = subst IsSome
+            (ap (entry_at b.routes.learned) (sym this) ∙ unknown) h.known in cc)
+        | inr ne ↦ without _ is ((learn_entry b.routes.learned q port b.clock
+            (learnt_of b.routes.learned q port)).others s ne ∙ unknown)
+      ]
+
+      learns : (n : ℕ) (windows : FinMap station_cmp Window)
+          → c ≡ record b { routes = after_advert b.routes q port b.clock n; windows = windows } → LearnsIt b s c
+      learns n windows is = elim (same_or_other s q) as (λ _. LearnsIt b s c) [
+        | inl this ↦ record {
+          content = moving n;
+          advert = refl;
+          speaker = ap (λ (e : Edge). e.routes.speaker) is
+              ∙ ap (λ r. after_originating b.routes.speaker (key_of r) (moving n)) (sym this);
+        }
+        | inr ne ↦ without _ is ((learn_entry b.routes.learned q port b.clock New).others s ne ∙ unknown)
+      ]
 
   by_frame : (x : Result Arrival edge.Refusal) (port : ℕ) (answer : Result Reply edge.Refusal)
       → FrameSteps x b port answer c → LearnsIt b s c

@@ -36,7 +36,8 @@ use Rattle.ev_fabric.proofs.ConvergingNewest.{any_front}
 use Rattle.ev_fabric.proofs.ConvergingEdge.{later_itself, later_trans, Accepts, heard, heard_later, may_return}
 use Rattle.ev_fabric.proofs.ConvergingEdge.{KnowsOwn}
 use Rattle.ev_fabric.proofs.ConvergingEdge.{heard_pays, others_stay_away, known_stays_away}
-use Rattle.ev_fabric.proofs.ConvergingGood.{Keeps, IsSteady, good_kept, heard_keeps, heard_steady, quieter}
+use Rattle.ev_edge.proofs.Staying.{Keeps}
+use Rattle.ev_fabric.proofs.ConvergingGood.{IsSteady, good_kept, heard_keeps, heard_steady, quieter}
 use Rattle.ev_fabric.proofs.ConvergingGood.{quieter_keeps}
 
 -- ---- what is used of a sound fabric

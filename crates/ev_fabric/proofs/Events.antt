@@ -1,5 +1,5 @@
 -- What each event of an edge does to what the edge says: it says something, or hears or announces it.
-use Rattle.std.proofs.Common.{◌≡◌, ◌≢◌, inl, inr, ℕ, ◌-◌, ◌==◌, ◌&&◌, Bool, true, false, cond, nat_le}
+use Rattle.std.proofs.Common.{◌≡◌, ◌≢◌, ℕ, ◌-◌, ◌==◌, ◌&&◌, Bool, true, false, cond, nat_le}
 use Rattle.std.proofs.Common.{Option, Some, None, Result, Ok, Err, List, [], ◌∷◌, refl, sym, subst, arith}
 use Rattle.std.specs.Prelude.{not}
 use Rattle.std.proofs.lemmas.Bool.Decides.{nat_tests}
@@ -21,8 +21,6 @@ use Rattle.ev_claims.specs.Leaving.{after_ageing, after_flush, due_in, flushed_i
 use Rattle.ev_claims.proofs.Numbers.{heard_numbers}
 use Rattle.ev_edge.specs.declared.arrival.Arrival.{Arrival}
 use Rattle.ev_edge.specs.declared.arrival.Arrival.TheVariants.{Dropped, Message, Data}
-use Rattle.ev_edge.specs.declared.learning.Case.{Case}
-use Rattle.ev_edge.specs.declared.learning.Case.TheVariants.{Leave, Refresh, Refuse, Freeze, Learn}
 use Rattle.ev_edge.specs.declared.pinning.PinCase.{PinCase}
 use Rattle.ev_edge.specs.declared.pinning.PinCase.TheVariants as pins
 use Rattle.ev_edge.specs.declared.reply.Reply.{Reply}
@@ -31,7 +29,6 @@ use Rattle.ev_edge.specs.declared.refusal.EdgeRefusal.{EdgeRefusal}
 use Rattle.ev_edge.specs.declared.event.Event.TheVariants as events
 use Rattle.ev_edge.specs.Edge.{Edge, address_of}
 use Rattle.ev_edge.specs.Arrival.{frame_arrival, tunnel_arrival}
-use Rattle.ev_edge.specs.Learning.{OrNoMemory, Does, case_of}
 use Rattle.ev_edge.specs.Pinning.{DoesPin, pin_case, refused_pin, after_unpin}
 use Rattle.ev_edge.specs.Bridging.{aged, next_second}
 use Rattle.ev_edge.specs.Steps.{LearnsIf, Bridges, BridgesAt, Seconds, FrameSteps, TunnelSteps, TakesOwn, TakesOther}
@@ -40,6 +37,7 @@ use Rattle.ev_fabric.specs.declared.step.LocalEvent.{LocalEvent}
 use Rattle.ev_fabric.specs.declared.step.LocalEvent.TheVariants.{Frame, TunnelFrame, Pin, Unpin, Thaw, Second, PortUp}
 use Rattle.ev_fabric.specs.declared.step.LocalEvent.TheVariants.{PortDown, Mcheck}
 use Rattle.ev_fabric.specs.Local.{event_of}
+use Rattle.ev_edge.proofs.Cases.{learnt_by, or_refused}
 use Rattle.ev_fabric.specs.Sound.{IsTold}
 use Rattle.ev_fabric.proofs.Voices.{Talks, Quiet, Says, talks_told, talks_further, talks_one, AreOne}
 use Rattle.ev_fabric.proofs.Voices.{heard_one, own_one, one_itself, one_further, heard_told, own_told}
@@ -66,23 +64,10 @@ aged_talks c ageing clock = go (nat_le ageing clock)
     go false = Quiet
 
 -- ---- learning
-either : (needs : Bool) (e after e' : Edge) (alert told : Option Alert) → Goes e after
-    → OrNoMemory needs e alert after told e' → Goes e e'
-either needs e after e' alert told t (inl h) = subst (Goes e) (sym h.1) t
-either needs e after e' alert told t (inr h) = stays e e' h.1
-
-does_talk : (c : Case) (e : Edge) (s : Station) (port : ℕ) (told : Option Alert) (e' : Edge) → Does c e s port told e'
-    → Goes e e'
-does_talk Leave e s port told e' h = stays e e' h.1
-does_talk Refresh e s port told e' h = subst (Goes e) (sym h.1) Quiet
-does_talk (Refuse alert) e s port told e' h = stays e e' h.1
-does_talk Freeze e s port told e' h = subst (Goes e) (sym h.1) Quiet
-does_talk (Learn n) e s port told e' h = either _ e _ e' _ told (Says e.routes.speaker (key_of s) _ Quiet) h
-
 learns_talk : (b : Bool) (e : Edge) (s : Station) (port : ℕ) (told : Option Alert) (e' : Edge)
     → LearnsIf b e s port told e' → Goes e e'
-learns_talk true e s port told e' h = does_talk (case_of e s) e s port told e' h
-learns_talk false e s port told e' h = stays e e' h.1
+learns_talk b e s port told e' h = learnt_by (Goes e) e s port told e' Quiet (λ heard. Quiet) Quiet
+    (λ new. Says e.routes.speaker (key_of s) _ Quiet) (λ n new. Says e.routes.speaker (key_of s) _ Quiet) b h
 
 -- ---- the bridge
 bridges_talk : (event : tree.Event) (e : Edge) (result : Result Reply Refusal) (e' : Edge)
@@ -130,7 +115,7 @@ does_pin_talk : (c : PinCase) (e : Edge) (s : Station) (port : ℕ) (told : Opti
 does_pin_talk pins.Keep e s port told e' h = stays e e' h.1
 does_pin_talk pins.Shift e s port told e' h = subst (Goes e) (sym h.1) Quiet
 does_pin_talk (pins.Deny alert) e s port told e' h = stays e e' h.1
-does_pin_talk pins.Pin e s port told e' h = either _ e _ e' _ told (Says e.routes.speaker (key_of s) _ Quiet) h
+does_pin_talk pins.Pin e s port told e' h = or_refused (Goes e) Quiet (Says e.routes.speaker (key_of s) _ Quiet) h
 
 pins_talk : (o : Option EdgeRefusal) (e : Edge) (s : Station) (port : ℕ) (result : Result Reply Refusal)
     (e' : Edge)

@@ -193,10 +193,10 @@ steps_at old new i a event result at s leaves h = pool_stays old new i a s.after
       originators = leaves.one.originators;
     }
 
-numbers_of : (f : Fabric) (i : ℕ) (a : Edge) → IsSound f → IsEdge f i a → KeepsNumbers a.routes.speaker
+pub numbers_of : (f : Fabric) (i : ℕ) (a : Edge) → IsSound f → IsEdge f i a → KeepsNumbers a.routes.speaker
 numbers_of f i a h at = (h.good i a at).routes.numbers
 
-local_leaves : (old : Fabric) (i : ℕ) (a b : Edge) (event : LocalEvent) (answer : Result Reply edge.Refusal)
+pub local_leaves : (old : Fabric) (i : ℕ) (a b : Edge) (event : LocalEvent) (answer : Result Reply edge.Refusal)
     → IsSound old → IsEdge old i a → Steps a (event_of event) answer b
     → Leaves old.pool a.routes.speaker b.routes.speaker
 local_leaves old i a b event answer h at steps =

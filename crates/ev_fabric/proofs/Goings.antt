@@ -6,7 +6,6 @@ use Rattle.std.proofs.lemmas.List.{append-nil, append_assoc}
 use Rattle.std.specs.Prelude.{Contains, slice_get, slice_set}
 use Rattle.std.specs.Option.{MatchOption}
 use Rattle.route_wire.specs.Fields.{Fields}
-use Rattle.ev_claims.specs.Speaker.{KeepsNumbers}
 use Rattle.ev_edge.specs.declared.reply.Reply.{Reply}
 use Rattle.ev_edge.specs.declared.refusal.Refusal as edge
 use Rattle.ev_edge.specs.declared.event.Event.{Event}
@@ -15,7 +14,6 @@ use Rattle.ev_edge.specs.Edge.{Edge, address_of}
 use Rattle.ev_edge.specs.Steps.{Steps}
 use Rattle.ev_fabric.specs.declared.refusal.FabricRefusal.{FabricRefusal}
 use Rattle.ev_fabric.specs.declared.refusal.FabricRefusal.TheVariants.{NoSuchEdge, NoSuchUpdate}
-use Rattle.ev_fabric.specs.declared.step.LocalEvent.{LocalEvent}
 use Rattle.ev_fabric.specs.declared.step.Step.{Step}
 use Rattle.ev_fabric.specs.declared.step.Step.TheVariants.{Local, Announce, Deliver, Restart}
 use Rattle.ev_fabric.specs.Fabric.{Fabric, IsEdge, nth, incarnation_of}
@@ -26,10 +24,10 @@ use Rattle.ev_fabric.specs.Steps.{RestartsAt}
 use Rattle.ev_fabric.specs.Steps.{FabricSteps}
 use Rattle.ev_fabric.specs.Later.{IsLaterEdge, IsLaterFabric, RunsLead, RestsRun, AdvertsAreAnew}
 use Rattle.ev_fabric.proofs.Places.{set_same, set_other, set_length, contains_at}
-use Rattle.ev_fabric.proofs.Voices.{AreOne, talks_told, talks_one}
-use Rattle.ev_fabric.proofs.Events.{Leaves, local_talks, takes_told}
+use Rattle.ev_fabric.proofs.Voices.{AreOne}
+use Rattle.ev_fabric.proofs.Events.{Leaves, takes_told}
 use Rattle.ev_fabric.proofs.Opened.{opened_of, fit_in_life}
-use Rattle.ev_fabric.proofs.Fabrics.{step_sound, runs_sound}
+use Rattle.ev_fabric.proofs.Fabrics.{step_sound, runs_sound, numbers_of, local_leaves}
 use Rattle.ev_fabric.proofs.Agreements.{none_back}
 
 -- ---- one edge
@@ -139,19 +137,6 @@ restarts_later : (old new : Fabric) (i : ℕ) (a : Edge) (n : ℕ) (result : Res
     → IsEdge old i a → RestartsAt old (suc i) a n result new → IsLaterFabric old new
 restarts_later old new i a n (Ok reply) h at s = restart_later old new i a n reply h at s
 restarts_later old new i a n (Err why) h at s = unchanged old new s.1
-
-numbers_of : (f : Fabric) (i : ℕ) (a : Edge) → IsSound f → IsEdge f i a → KeepsNumbers a.routes.speaker
-numbers_of f i a h at = (h.good i a at).routes.numbers
-
-local_leaves : (old : Fabric) (i : ℕ) (a b : Edge) (event : LocalEvent) (answer : Result Reply edge.Refusal)
-    → IsSound old → IsEdge old i a → Steps a (event_of event) answer b
-    → Leaves old.pool a.routes.speaker b.routes.speaker
-local_leaves old i a b event answer h at steps =
-    let talks = local_talks a event answer b steps in
-    record {
-      told = talks_told old.pool a.routes.speaker b.routes.speaker talks (numbers_of old i a h at);
-      one = talks_one a.routes.speaker b.routes.speaker talks;
-    }
 
 nth_there : (us : List Fields) (k : ℕ) (u : Fields) → nth us k ≡ Some u → Contains us u
 nth_there us zero u is = absurd (none is)

@@ -1,7 +1,8 @@
 -- Where an edge sends a frame for a station that some edge advertises.
-use Rattle.std.proofs.Common.{◌≡◌, ◌≢◌, inl, inr, ℕ, zero, suc, ◌≤◌, ◌==◌, ◌&&◌, Bool, true, false, cond, not, Option}
+use Rattle.std.proofs.Common.{◌≡◌, ◌≢◌, ℕ, zero, suc, ◌≤◌, ◌==◌, ◌&&◌, Bool, true, false, cond, not, Option}
 use Rattle.std.proofs.Common.{Some, None, Result, Ok, List, [], ◌∷◌, length, refl, sym, ap, subst, ◌∙◌, arith}
 use Rattle.std.specs.Prelude.{IsTrue, ◌↔◌, ◌||◌}
+use Rattle.std.specs.FinMap.{FinMap}
 use Rattle.std.specs.Option.{MatchOption, option_map}
 use Rattle.std.proofs.lemmas.Bool.{eq-eqb}
 use Rattle.std.proofs.lemmas.Bool.Decides.{nat_tests}
@@ -17,18 +18,18 @@ use Rattle.route_join.proofs.Owners.{one_owner, owner_is, owner_along}
 use Rattle.mac_arena.specs.declared.station.Station.{Station}
 use Rattle.mac_arena.specs.declared.station.Entry.{Entry}
 use Rattle.mac_arena.specs.declared.table.Learnt.TheVariants.{New}
+use Rattle.mac_arena.specs.Station.{station_cmp}
 use Rattle.mac_arena.specs.Learning.{entry_at, learnt_of}
 use Rattle.mac_arena.proofs.Looking.{learn_entry}
 use Rattle.ev_mobility.specs.declared.alert.Alert.{Alert}
+use Rattle.ev_mobility.specs.declared.window.Window.{Window}
 use Rattle.ev_tunnel.specs.declared.decision.Decision.{Decision}
 use Rattle.ev_tunnel.specs.declared.decision.Source.{Source}
 use Rattle.ev_tunnel.specs.declared.decision.Source.TheVariants.{Port, Tunnel}
 use Rattle.ev_tunnel.specs.Decision.{local_for, remote_for}
 use Rattle.ev_claims.specs.Speaker.{own_advert}
-use Rattle.ev_claims.specs.LocalRoutes.{key_of, vni_at, moving}
+use Rattle.ev_claims.specs.LocalRoutes.{key_of, vni_at, moving, after_advert}
 use Rattle.ev_edge.specs.declared.arrival.Arrival.TheVariants.{Data}
-use Rattle.ev_edge.specs.declared.learning.Case.{Case}
-use Rattle.ev_edge.specs.declared.learning.Case.TheVariants.{Leave, Refresh, Refuse, Freeze, Learn}
 use Rattle.ev_edge.specs.declared.event.Event.{Event}
 use Rattle.ev_edge.specs.declared.event.Event.TheVariants as events
 use Rattle.ev_edge.specs.declared.reply.Reply.{Reply}
@@ -36,9 +37,10 @@ use Rattle.ev_edge.specs.declared.refusal.Refusal.{Refusal}
 use Rattle.rstp_run.specs.Events.{Passes}
 use Rattle.ev_edge.specs.Edge.{Edge, IsGoodEdge, table_of, address_of}
 use Rattle.ev_edge.specs.Arrival.{frame_arrival, tunnel_arrival}
-use Rattle.ev_edge.specs.Learning.{OrNoMemory, Does, case_of, learnt as after_learning, moved}
+use Rattle.ev_edge.specs.Learning.{refreshed}
 use Rattle.ev_edge.specs.Sending.{port_of, IsDecision}
 use Rattle.ev_edge.specs.Steps.{LearnsIf, SendsIf, DataSteps, FrameSteps, TunnelSteps, Steps}
+use Rattle.ev_edge.proofs.Cases.{learnt_by}
 use Rattle.ev_edge.proofs.Owning.{other_key, said_other}
 use Rattle.ev_fabric.specs.Agreed.{Advertises}
 use Rattle.ev_fabric.specs.Laws.{IsBehindPort, frame_in, tunnel_frame_in, IsFrameFor, IsTunnelFrameFor, FramesGo}
@@ -63,41 +65,28 @@ leaves_itself a s = record { address = refl; tree = refl; entry = refl; adverts 
 same_leaves : (a b : Edge) (s : Station) → b ≡ a → LeavesBe a b s
 same_leaves a b s is = subst (λ x. LeavesBe a x s) (sym is) (leaves_itself a s)
 
-learning_leaves : (e : Edge) (q : Station) (port n : ℕ) (s : Station) → s ≢ q → LeavesBe e (after_learning e q port n) s
-learning_leaves e q port n s ne = record {
+entry_leaves : (e : Edge) (q : Station) (port : ℕ) (s : Station) → s ≢ q → LeavesBe e (refreshed e q port) s
+entry_leaves e q port s ne = record {
   address = refl;
-  tree = elim (n == 0) as (λ b. (cond b e (moved e q)).tree ≡ e.tree) [ true ↦ refl | false ↦ refl ];
+  tree = refl;
+  entry = (learn_entry e.routes.learned q port e.clock (learnt_of e.routes.learned q port)).others s ne;
+  adverts = λ o ip. refl;
+}
+
+advert_leaves : (e : Edge) (q : Station) (port n : ℕ) (windows : FinMap station_cmp Window) (s : Station) → s ≢ q
+    → LeavesBe e (record e { routes = after_advert e.routes q port e.clock n; windows = windows }) s
+advert_leaves e q port n windows s ne = record {
+  address = refl;
+  tree = refl;
   entry = (learn_entry e.routes.learned q port e.clock New).others s ne;
   adverts = λ o ip. said_other e.routes.speaker (key_of q) (moving n) (Mac s.vni s.mac ip) o (other_key s q ip None ne);
 }
 
-either_leaves : (needs : Bool) (e after e' : Edge) (alert told : Option Alert) (s : Station)
-    → LeavesBe e after s → OrNoMemory needs e alert after told e' → LeavesBe e e' s
-either_leaves needs e after e' alert told s l (inl h) = subst (λ x. LeavesBe e x s) (sym h.1) l
-either_leaves needs e after e' alert told s l (inr h) = same_leaves e e' s h.1
-
-does_leave : (c : Case) (e : Edge) (q : Station) (port : ℕ) (told : Option Alert) (e' : Edge) (s : Station) → s ≢ q
-    → Does c e q port told e' → LeavesBe e e' s
-does_leave Leave e q port told e' s ne h = same_leaves e e' s h.1
-does_leave Refresh e q port told e' s ne h = subst (λ x. LeavesBe e x s) (sym h.1)
-    (record {
-      address = refl;
-      tree = refl;
-      entry = (learn_entry e.routes.learned q port e.clock
-          (learnt_of e.routes.learned q port)).others s ne;
-      adverts = λ o ip. refl;
-    })
-does_leave (Refuse alert) e q port told e' s ne h = same_leaves e e' s h.1
-does_leave Freeze e q port told e' s ne h =
-    subst (λ x. LeavesBe e x s) (sym h.1)
-    (record { address = refl; tree = refl; entry = refl; adverts = λ o ip. refl })
-does_leave (Learn n) e q port told e' s ne h = either_leaves _ e (after_learning e q port n) e' _ told s
-    (learning_leaves e q port n s ne) h
-
 learns_leave : (b : Bool) (e : Edge) (q : Station) (port : ℕ) (told : Option Alert) (e' : Edge) (s : Station) → s ≢ q
     → LearnsIf b e q port told e' → LeavesBe e e' s
-learns_leave true e q port told e' s ne h = does_leave (case_of e q) e q port told e' s ne h
-learns_leave false e q port told e' s ne h = same_leaves e e' s h.1
+learns_leave b e q port told e' s ne h = learnt_by (λ x. LeavesBe e x s) e q port told e' (leaves_itself e s)
+    (λ heard. entry_leaves e q port s ne) (record { address = refl; tree = refl; entry = refl; adverts = λ o ip. refl })
+    (λ new. advert_leaves e q port 0 e.windows s ne) (λ n new. advert_leaves e q port n _ s ne) b h
 
 -- ---- what a frame does
 

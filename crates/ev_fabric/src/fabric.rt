@@ -1,3 +1,4 @@
+//! Edges and the pool of the updates that they have announced, and each step of them.
 ghost use Rattle.std.specs.Prelude.{◌≡◌, ◌<◌, ◌≤◌, true, IfOk, IsSome, OnOk, OnErr, length, vec_len, vec_capacity};
 ghost use Rattle.ev_edge.specs.Steps.{nothing};
 ghost use Rattle.ev_fabric.specs.declared.step.Step.TheVariants.{Local, Announce, Deliver, Restart};
@@ -42,7 +43,7 @@ impl Model for Fabric {
     ghost invariant = { λ f. IsSound (fabric_of f.edges.items f.configs.items f.pool.items) };
 }
 
-// The list as it is.
+/// The list as it is.
 fn copy_of<T: Copy + Default>(list: &ArrayVec<T, 64>) -> ArrayVec<T, 64>
     ensures { result.items ≡ list.now.items }
 {
@@ -51,7 +52,7 @@ fn copy_of<T: Copy + Default>(list: &ArrayVec<T, 64>) -> ArrayVec<T, 64>
     copy
 }
 
-// What an edge is opened with, in an incarnation.
+/// What an edge is opened with, in an incarnation.
 fn in_incarnation(config: &EdgeConfig, incarnation: u32) -> EdgeConfig
     ensures { result ≡ in_incarnation config.now incarnation }
 {
@@ -69,7 +70,7 @@ fn in_incarnation(config: &EdgeConfig, incarnation: u32) -> EdgeConfig
     }
 }
 
-// Opens an edge for each of these, in their order.
+/// Opens an edge for each of these, in their order.
 fn open_all(alloc: Global, configs: &[EdgeConfig]) -> Result<Vec<Edge>, AllocError>
     requires { AreConfigs configs.now }
     ensures { IfOk result (λ edges. AreOpened configs.now edges.items) }
@@ -83,7 +84,7 @@ fn open_all(alloc: Global, configs: &[EdgeConfig]) -> Result<Vec<Edge>, AllocErr
     Ok(edges)
 }
 
-// Lets the edge at a place step, counted from 1.
+/// Lets the edge at a place step, counted from 1.
 fn step_edge(edges: &mut Vec<Edge>, e: usize, event: &Event<'_>) -> Result<Reply, FabricRefusal>
     requires some { 0 < e }
     requires there { e ≤ length edges.old.items }
@@ -97,7 +98,7 @@ fn step_edge(edges: &mut Vec<Edge>, e: usize, event: &Event<'_>) -> Result<Reply
     }
 }
 
-// Sees to it that the pool has room for one more, where that is wanted.
+/// Sees to it that the pool has room for one more, where that is wanted.
 fn make_room(pool: &mut Vec<Update>, is_wanted: bool) -> Result<(), AllocError>
     ensures items { pool.new.items ≡ pool.old.items }
     ensures room { OnOk result
@@ -110,7 +111,7 @@ fn make_room(pool: &mut Vec<Update>, is_wanted: bool) -> Result<(), AllocError>
     Ok(())
 }
 
-// Puts an announced update at the pool's end, if there is one.
+/// Puts an announced update at the pool's end, if there is one.
 fn put(pool: &mut Vec<Update>, announced: &Option<Update>)
     requires { IsSome announced.now → vec_len pool.old < vec_capacity pool.old }
     ensures { pool.new.items ≡ with_announced pool.old.items announced.now }
@@ -188,7 +189,7 @@ impl Fabric {
         self.pool.as_slice()
     }
 
-    // Something comes to an edge from outside.
+    /// Something comes to an edge from outside.
     fn local(&mut self, e: usize, event: &LocalEvent<'_>) -> Result<Reply, FabricRefusal>
         ensures { FabricSteps self.old (Local e event.now) result self.new }
     {
@@ -198,7 +199,7 @@ impl Fabric {
         step_edge(&mut self.edges, e, &event_of(event))
     }
 
-    // An edge announces. Where it has something to announce, the pool has room first.
+    /// An edge announces. Where it has something to announce, the pool has room first.
     fn announce(&mut self, e: usize) -> Result<Reply, FabricRefusal>
         ensures { FabricSteps self.old (Announce e) result self.new }
     {
@@ -214,7 +215,7 @@ impl Fabric {
         Ok(reply)
     }
 
-    // An edge takes an update of the pool.
+    /// An edge takes an update of the pool.
     fn deliver(&mut self, e: usize, k: usize) -> Result<Reply, FabricRefusal>
         ensures { FabricSteps self.old (Deliver e k) result self.new }
     {
@@ -228,7 +229,7 @@ impl Fabric {
         step_edge(&mut self.edges, e, &Event::Take(update))
     }
 
-    // An edge is opened anew in a higher incarnation.
+    /// An edge is opened anew in a higher incarnation.
     fn restart(&mut self, e: usize, n: u32) -> Result<Reply, FabricRefusal>
         ensures { FabricSteps self.old (Restart e n) result self.new }
     {
@@ -245,19 +246,6 @@ impl Fabric {
         edge.always_good();
         self.edges[e - 1] = edge;
         self.configs[e - 1].incarnation = n;
-        Ok(nothing())
-    }
-}
-
-// Nothing to tell.
-fn nothing() -> Reply
-    ensures { result ≡ nothing }
-{
-    Reply {
-        decision: None,
-        bpdus: ArrayVec::new(),
-        taken: None,
-        announced: None,
-        alert: None,
+        Ok(Reply::nothing())
     }
 }
