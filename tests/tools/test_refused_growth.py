@@ -127,7 +127,7 @@ class RefusedGrowth(Preloaded):
             rest = self.play(SCRIPT[:n] + SCRIPT[n + 1 :])[len(before[n]) :]
             ends[Done(3, before[n] + edge + b" refused edge 15\n" + rest, b"")] = "a step refused"
             if " frame " in line or " pin " in line:
-                ends[Done(0, before[n + 1] + edge + b" alert 15\n" + rest, b"")] = "a station not learnt"
+                ends[Done(3, before[n + 1] + edge + b" alert 15\n" + rest, b"")] = "a station not learnt"
         found = self.each(["simulate", "--config", self.config], text_of(SCRIPT), ends)
         self.finds("a step refused", found)
         self.finds("a station not learnt", found)

@@ -1,5 +1,7 @@
 -- What a simulation does: the steps that its lines ask for, from an opened fabric on.
 use Rattle.std.specs.Prelude.{◌≡◌, ℕ, ◌⊎◌, ◌+◌, ◌||◌, ◌==◌, Bool, false, nat_le, if◌then◌else◌, List, [], ◌∷◌, ◌++◌}
+use Rattle.ev_mobility.specs.Alert.{number_of}
+use Rattle.ev_mobility.specs.declared.alert.Alert.{Alert}
 use Rattle.std.specs.Prelude.{length, codes, decimal, Result, Ok, Err, Option, Some, None}
 use Rattle.std.specs.Borrow.{Bor}
 use Rattle.std.specs.List.{All}
@@ -78,9 +80,14 @@ abbrev pub Goes : Fabric → List Made → Fabric → Type 0
 Goes old [] new = new ≡ old
 Goes old (m ∷ made) new = (mid : Fabric) × FabricSteps old m.0 m.1 mid × Goes mid made new
 
--- a step that was refused for memory
+-- the alert that tells of refused memory
+abbrev pub is_memory_alert : Option Alert → Bool
+is_memory_alert None = false
+is_memory_alert (Some alert) = number_of alert == 15
+
+-- a step that was refused memory, or did something less for want of it, which its alert says
 abbrev pub is_out_of_memory : Result Reply FabricRefusal → Bool
-is_out_of_memory (Ok reply) = false
+is_out_of_memory (Ok reply) = is_memory_alert reply.alert
 is_out_of_memory (Err refusal) = refusal_number refusal == 15
 
 abbrev pub ran_out_of_memory : List Made → Bool

@@ -1,20 +1,10 @@
 //! Hexadecimal digits.
-ghost use Rattle.std.specs.Prelude.{◌≡◌, ◌<◌, is_some, IfSome};
+ghost use Rattle.std.specs.Prelude.{◌≡◌, ◌<◌, is_some};
 ghost use Rattle.std.specs.List.{list_all};
 ghost use Rattle.ether_wire.specs.Parse.{hex_value};
 ghost use Rattle.ev_script.specs.Script.{is_hex_digit, value_or_zero, octet_of};
 
-/// The value of a lower case digit.
-fn hex_value(octet: u8) -> Option<u8>
-    ensures value { result ≡ hex_value octet }
-    ensures small { IfSome result (λ value. value < 16) }
-{
-    match octet {
-        b'0'..=b'9' => Some(octet - b'0'),
-        b'a'..=b'f' => Some(octet - b'a' + 10),
-        _ => None,
-    }
-}
+use ether_wire::hex_value;
 
 /// Whether an octet is a lower case digit.
 fn is_hex_digit(octet: u8) -> bool

@@ -17,7 +17,7 @@ use ether_wire::{Addr, Device, Out};
 use ev_edge::{Edge, EdgeRefusal, Reply};
 use ev_fabric::{Fabric, FabricRefusal, LocalEvent, Step};
 
-/// The number of the refusal that says that memory was refused.
+/// The number of the refusal, and of the alert, that says that memory was refused.
 const NO_MEMORY: u8 = 15;
 
 /// A fabric that is played.
@@ -37,12 +37,15 @@ pub fn port_number(port: u64) -> u8
     if port <= 255 { port as u8 } else { 255 }
 }
 
-/// Whether a step was refused memory.
+/// Whether a step was refused memory, or did something less for want of it.
 fn is_out_of_memory(answer: &Result<Reply, FabricRefusal>) -> bool
     ensures { result ≡ is_out_of_memory answer.now }
 {
     match answer {
-        Ok(_) => false,
+        Ok(reply) => match reply.alert {
+            Some(alert) => alert.number() == NO_MEMORY,
+            None => false,
+        },
         Err(refusal) => refusal.number() == NO_MEMORY,
     }
 }
