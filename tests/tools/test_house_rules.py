@@ -12,19 +12,16 @@ from typing import Dict, Iterator, List, Tuple
 
 TOP = os.path.dirname(os.path.dirname(os.path.dirname(os.path.abspath(__file__))))
 PUBLIC = re.compile(r"\s*pub (?:const fn|fn|struct|enum|trait|type|const|static)\b")
+FUNCTION = re.compile(r"\s*(?:pub\(crate\) )?(?:const )?fn \w")
 RT_WIDTH, ANTT_WIDTH, SUBJECT_WIDTH = 100, 120, 72
 SUBJECTS_SINCE = "42c388f"  # subjects are looked at behind this commit, of 24 November 2026
 
-WITHOUT_HEAD = {
-    "crates/ev_edge/src/edge.rt", "crates/ev_fabric/src/fabric.rt", "crates/ev_mobility/src/tests.rt",
-    "crates/ev_mobility/src/tests/alert.rt", "crates/ev_mobility/src/tests/moves.rt", "crates/ev_mobility/src/tests/seq.rt",
-}
 LONG_RT = {  # bpdu_wire's is the row of a table, ether_wire's are tables of digits, ev_words' texts of the program
     "crates/bpdu_wire/src/reading.rt": 1, "crates/ether_wire/src/text.rt": 4, "crates/ev_report/src/usage.rt": 2, "crates/ev_words/src/subcommand.rt": 5,
     "crates/evpnd_report/src/main.rt": 1, "crates/evpnd_report/src/program.rt": 1,
     "crates/rstp_net/src/laws.rt": 1,
 }
-LONG_ANTT = 10
+LONG_ANTT = 6
 MOST_LINES, MOST_PARAMETERS = 450, 6
 MANY_PARAMETERS = {  # `self` isn't counted; ev_tunnel's are the arguments that a decision is of
     "crates/ev_tunnel/src/decision.rt": {"decide": 8, "decide_into": 9},
@@ -46,11 +43,16 @@ def lines_of(name: str) -> List[str]:
 
 
 def bare_items(lines: List[str]) -> Iterator[Tuple[int, str]]:
-    """The public items that no `///` stands above; attributes and plain comments may stand between."""
-    is_told = False
+    """The public items and the functions that no `///` stands above; attributes and plain comments may stand between. What an
+    implementation of a trait has is told at the trait."""
+    is_told = is_of_trait = False
     for number, line in enumerate(lines, 1):
         text = line.strip()
-        if PUBLIC.match(line) and not is_told:
+        if line.startswith(("impl", "unsafe impl")):
+            is_of_trait = " for " in " ".join(lines[number - 1 :]).partition("{")[0]
+        elif line.startswith("}"):
+            is_of_trait = False
+        if not is_told and (PUBLIC.match(line) or FUNCTION.match(line) and not is_of_trait):
             yield number, text
         is_told = text.startswith("///") or is_told and text.startswith(("#[", "//", ")]", '"'))
 
@@ -93,17 +95,19 @@ class Rules(unittest.TestCase):
     """Each rule."""
 
     def test_heads_of_files(self):
-        without = {name for name in files(".rt", "/src/") if not lines_of(name)[0].startswith("//!")}
-        self.assertEqual(without - WITHOUT_HEAD, set())
+        self.assertEqual([name for name in files(".rt", "/src/") if not lines_of(name)[0].startswith("//!")], [])
 
-    def test_public_items_are_told(self):
-        bare = [f"{name}:{number}: {item}" for name in files(".rt", "/src/") for number, item in bare_items(lines_of(name))]
+    def test_items_are_told(self):
+        sources = [name for name in files(".rt", "/src/") if not re.search(r"/tests(/|\.rt$)", name)]
+        bare = [f"{name}:{number}: {item}" for name in sources for number, item in bare_items(lines_of(name))]
         self.assertEqual(bare, [])
 
     def test_what_is_bare(self):
         """The rule's own reading."""
         lines = ["/// Told.", "#[inline]", "// why", "pub fn one()", "", "pub struct Two;", "    /// Told.", "    pub const THREE: u8 = 3;", "pub use four;"]
         self.assertEqual(list(bare_items(lines)), [(6, "pub struct Two;")])
+        lines = ["impl Five {", "    fn six(&self) {", "}", "impl Drop", "    for Five {", "    fn drop(&mut self) {", "}", "pub(crate) fn seven() {"]
+        self.assertEqual(list(bare_items(lines)), [(2, "fn six(&self) {"), (8, "pub(crate) fn seven() {")])
 
     def test_lines_of_rt(self):
         long: Dict[str, int] = {}

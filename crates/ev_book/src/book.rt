@@ -61,7 +61,7 @@ impl<L: Ledger> Model for Book<L> {
         × (b.journal.least ≤ register_count (table_of b.edge)) };
 }
 
-// The own updates of an edge that has just opened.
+/// The own updates of an edge that has just opened.
 fn first_journal(alloc: Global, edge: &Edge) -> Result<Journal, AllocError>
     requires { HasOwnSince edge.now.routes.speaker 0 }
     ensures own { IfOk result
@@ -73,7 +73,7 @@ fn first_journal(alloc: Global, edge: &Edge) -> Result<Journal, AllocError>
     Ok(Journal { updates, least: 0 })
 }
 
-// So many passes, each with a part of the share.
+/// So many passes, each with a part of the share.
 fn new_passes<L: Ledger>(
     alloc: Global,
     share: Share<L>,
@@ -145,7 +145,7 @@ impl<L: Ledger> Book<L> {
         &self.edge
     }
 
-    // Whether what is kept of the pass is what the pass has.
+    /// Whether what is kept of the pass is what the pass has.
     fn fits(&self, pass: &Pass<L>) -> bool
         ensures { result ≡ fits self.now pass.now }
     {
@@ -155,7 +155,7 @@ impl<L: Ledger> Book<L> {
         }
     }
 
-    // Counts a call, enters it, and keeps its mark.
+    /// Counts a call, enters it, and keeps its mark.
     fn enter_counted(
         &mut self,
         pass: &mut Pass<L>,
@@ -305,7 +305,7 @@ impl<L: Ledger> Book<L> {
     }
 }
 
-// The mark of a pass after a call.
+/// The mark of a pass after a call.
 fn mark_after(
     mark: Option<Mark>,
     event: &Event<'_>,

@@ -52,7 +52,7 @@ pub(crate) fn append_own(journal: &mut Vec<Update>, edge: &Edge, before: u64)
     }
 }
 
-// Appends the update that an event took, for which there is room.
+/// Appends the update that an event took, for which there is room.
 fn append_taken(journal: &mut Vec<Update>, event: &Event<'_>, answer: &Result<(), Refusal>)
     requires { vec_len journal.old + length (brought event.now) ≤ vec_capacity journal.old }
     ensures items { (reply : Replied) → journal.new.items
@@ -68,8 +68,8 @@ fn append_taken(journal: &mut Vec<Update>, event: &Event<'_>, answer: &Result<()
     }
 }
 
-// One event of the edge, whose reply is written where another one stood, with what it took and said
-// behind the journal, for which there is room.
+/// One event of the edge, whose reply is written where another one stood. What it took and said
+/// goes behind the journal, for which there is room.
 fn step_within(
     edge: &mut Edge,
     journal: &mut Vec<Update>,
@@ -169,7 +169,7 @@ impl Journal {
         self.least = self.updates.len();
     }
 
-    // Whether as many updates as there were when it was compacted last came since, and some more.
+    /// Whether as many updates as there were when it was compacted last came since, and some more.
     fn is_due(&self) -> bool
         requires { self.now.least ≤ vec_len self.now.updates }
         ensures { OnFalse result (vec_len self.now.updates ≤ 2 * self.now.least + 64) }
@@ -178,7 +178,7 @@ impl Journal {
         came > SPARE && came - SPARE > self.least
     }
 
-    // Compacts it where it is due. What it lets go of then is more than half of it.
+    /// Compacts it where it is due. What it lets go of then is more than half of it.
     fn keep_short(&mut self, table: &Table)
         requires table { IsTableOf self.old.updates.items table.now }
         requires least { self.old.least ≤ register_count table.now }
@@ -191,7 +191,7 @@ impl Journal {
         }
     }
 
-    // Compacts it where any update came since it was compacted last.
+    /// Compacts it where any update came since it was compacted last.
     fn empty_out(&mut self, table: &Table)
         requires table { IsTableOf self.old.updates.items table.now }
         requires least { self.old.least ≤ register_count table.now }
@@ -205,8 +205,8 @@ impl Journal {
         }
     }
 
-    // Makes room for what an event of the edge can append; one that appends nothing asks for none.
-    // Where memory for it is refused, the journal is compacted first, which may make room.
+    /// Makes room for what an event of the edge can append; one that appends nothing asks for none.
+    /// Where memory for it is refused, the journal is compacted first, which may make room.
     fn make_room(&mut self, edge: &Edge, event: &Event<'_>) -> Result<(), AllocError>
         requires table { IsTableOf self.old.updates.items (table_of edge.now) }
         requires least { self.old.least ≤ register_count (table_of edge.now) }

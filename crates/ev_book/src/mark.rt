@@ -23,7 +23,7 @@ pub(crate) fn mark_of(update: &Update) -> Mark
     }
 }
 
-// Of two different values of a register one is newer.
+/// Of two different values of a register one is newer.
 fn is_same(a: &Mark, b: &Mark) -> bool
     ensures { result ≡ is_same a.now b.now }
 {

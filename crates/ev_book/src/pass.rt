@@ -80,7 +80,7 @@ impl<L: Ledger> Pass<L> {
     }
 }
 
-// So many equal values.
+/// So many equal values.
 fn repeated<T: Copy>(alloc: Global, value: T, count: usize) -> Result<Vec<T>, AllocError>
     ensures { IfOk result (λ values. values.items ≡ replicate count value) }
 {

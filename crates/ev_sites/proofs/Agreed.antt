@@ -1,7 +1,7 @@
 -- The two edges agree, the first one advertises the guest, and a frame for the guest that comes at the second one comes
 -- out at the first.
 use Rattle.std.proofs.Common.{◌≡◌, ℕ, zero, suc, false, Some, None, List, [], ◌∷◌, ◌++◌, refl, sym, ap, subst, ◌∙◌}
-use Rattle.std.proofs.Common.{arith, lit<, lit≤}
+use Rattle.std.proofs.Common.{inl, arith, lit<, lit≤}
 use Rattle.std.specs.Prelude.{Ok, Contains, slice_get}
 use Rattle.std.specs.FinMap.{empty, get-insert}
 use Rattle.ether_wire.specs.Frame.{frame_of}
@@ -234,7 +234,8 @@ module _ (lists : SettledByLists) (happens : RunsHappen) where
           (sym (hello_arrives (speaker_with here ((flood_register here, said_first) ∷ []) 1 (flood_register here ∷ []))
           nobody_learnt empty))
           (sends lists happens _ _ _ _ _ _ everyone guest.mac
-          (learns here ((flood_register here, said_first) ∷ []) (flood_register here ∷ []) 0 refl refl)))
+          (learns here ((flood_register here, said_first) ∷ []) (flood_register here ∷ []) 0 _ refl
+          (inl (refl, refl)))))
 
   pub agreed_run : HasRun agreed
   agreed_run = record {

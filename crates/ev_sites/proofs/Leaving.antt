@@ -1,5 +1,5 @@
 -- By which ports a frame leaves an edge's bridge, by the edge's step alone.
-use Rattle.std.proofs.Common.{◌≡◌, ◌≢◌, inl, inr, ℕ, ◌-◌, ◌<◌, ◌≤◌, ◌^◌, Bool, true, false, not, cond, eqb, ◌&&◌}
+use Rattle.std.proofs.Common.{◌≡◌, ◌≢◌, ℕ, ◌-◌, ◌<◌, ◌≤◌, ◌^◌, Bool, true, false, not, cond, eqb, ◌&&◌}
 use Rattle.std.proofs.Common.{Option, Some, None, Result, Ok, Err, List, length, slice_get, refl, sym, ap, subst, ◌∙◌}
 use Rattle.std.proofs.Common.{arith}
 use Rattle.std.specs.Option.{option_map_or}
@@ -23,8 +23,6 @@ use Rattle.ether_wire.specs.Addr.{is_group}
 use Rattle.ev_mobility.specs.declared.alert.Alert.{Alert}
 use Rattle.ev_edge.specs.declared.arrival.Arrival.{Arrival}
 use Rattle.ev_edge.specs.declared.arrival.Arrival.TheVariants.{Dropped, Message, Data}
-use Rattle.ev_edge.specs.declared.learning.Case.{Case}
-use Rattle.ev_edge.specs.declared.learning.Case.TheVariants.{Leave, Refresh, Refuse, Freeze, Learn}
 use Rattle.vxlan_wire.specs.Vxlan.{instance_of}
 use Rattle.ev_edge.specs.declared.refusal.Refusal.{Refusal}
 use Rattle.ev_edge.specs.declared.refusal.Refusal.TheVariants.{Edge as OfEdge}
@@ -32,9 +30,9 @@ use Rattle.ev_edge.specs.declared.refusal.EdgeRefusal.TheVariants.{UnknownOrigin
 use Rattle.ev_edge.specs.declared.reply.Reply.{Reply}
 use Rattle.ev_edge.specs.Edge.{Edge, table_of, address_of}
 use Rattle.ev_edge.specs.Arrival.{is_other, datagram_arrival, tunnel_arrival}
-use Rattle.ev_edge.specs.Learning.{Does, case_of, moved}
 use Rattle.ev_edge.specs.Sending.{IsDecision, port_of}
 use Rattle.ev_edge.specs.Steps.{LearnsIf, SendsIf, DataSteps, FrameSteps, TunnelSteps, Bridges}
+use Rattle.ev_edge.proofs.Cases.{learnt_by}
 use Rattle.ev_edge.specs.Laws.{decision_in}
 
 none_there : {P : Type 0} (p : ℕ) → has_port 0 p ≡ true → P
@@ -110,25 +108,10 @@ not_own e vni destination port d some passes i =
 
 -- ---- frames from an access port
 
-learn_stays : (e : Edge) (s : Station) (port : ℕ) (told : Option Alert) (e' : Edge) (c : Case) → Does c e s port told e'
-    → e'.tree ≡ e.tree
-learn_stays e s port told e' Leave h = ap (λ (x : Edge). x.tree) h.1
-learn_stays e s port told e' Refresh h = ap (λ (x : Edge). x.tree) h.1
-learn_stays e s port told e' (Refuse alert) h = ap (λ (x : Edge). x.tree) h.1
-learn_stays e s port told e' Freeze h = ap (λ (x : Edge). x.tree) h.1
-learn_stays e s port told e' (Learn n) h = elim h as (λ _. e'.tree ≡ e.tree) [
-  | inl done ↦ ap (λ (x : Edge). x.tree) done.1 ∙ go (eqb n 0)
-  | inr refused ↦ ap (λ (x : Edge). x.tree) refused.1
-]
-  where
-    go : (b : Bool) → (cond b e (moved e s)).tree ≡ e.tree
-    go true = refl
-    go false = refl
-
 learnt_stays : (e : Edge) (s : Station) (port : ℕ) (told : Option Alert) (e' : Edge) (b : Bool)
     → LearnsIf b e s port told e' → e'.tree ≡ e.tree
-learnt_stays e s port told e' true h = learn_stays e s port told e' (case_of e s) h
-learnt_stays e s port told e' false h = ap (λ (x : Edge). x.tree) h.1
+learnt_stays e s port told e' b h =
+    learnt_by (λ x. x.tree ≡ e.tree) e s port told e' refl (λ heard. refl) refl (λ new. refl) (λ n new. refl) b h
 
 -- the frame's own port passes, and so does the one by which it leaves, which is another
 pub record Sent (e : Edge) (port q : ℕ) : Type 0 where

@@ -1,6 +1,6 @@
 -- The guest moves: it is heard at the second edge, which announces it, the first one withdraws it, and the two agree
 -- again.
-use Rattle.std.proofs.Common.{false, None, List, [], ◌∷◌, ◌++◌, refl, sym, ap, subst}
+use Rattle.std.proofs.Common.{inl, false, None, List, [], ◌∷◌, ◌++◌, refl, sym, ap, subst}
 use Rattle.std.specs.Prelude.{Ok, IsSome}
 use Rattle.std.specs.FinMap.{empty, get, insert, get-empty}
 use Rattle.route_wire.specs.declared.update.Register.{Register}
@@ -180,7 +180,8 @@ module _ (lists : SettledByLists) (happens : RunsHappen) where
       (Frame 1 (lent hello)) sent
       (subst (λ r. FrameSteps r second_edge 1 (Ok sent) (second_with second_said (guest_register there ∷ [])))
       (sym (hello_arrives (speaker_with there second_agreed 1 []) nobody_learnt empty))
-      (sends lists happens _ _ _ _ _ _ everyone guest.mac (learns there second_agreed [] 1 refl refl)))
+      (sends lists happens _ _ _ _ _ _ everyone guest.mac (learns there second_agreed [] 1 _ refl
+      (inl (refl, refl)))))
 
   pub comes : AgreesOn agreed guest → StationComes agreed 0 1 guest come
   comes agree = record {

@@ -24,8 +24,6 @@ use Rattle.ev_edge.specs.declared.arrival.Arrival.TheVariants.{Dropped, Message,
 use Rattle.ev_edge.specs.declared.config.EdgeConfig.{EdgeConfig}
 use Rattle.ev_edge.specs.declared.event.Event.{Event}
 use Rattle.ev_edge.specs.declared.event.Event.TheVariants as events
-use Rattle.ev_edge.specs.declared.learning.Case.{Case}
-use Rattle.ev_edge.specs.declared.learning.Case.TheVariants.{Leave, Refresh, Refuse, Freeze, Learn}
 use Rattle.ev_edge.specs.declared.pinning.PinCase.{PinCase}
 use Rattle.ev_edge.specs.declared.pinning.PinCase.TheVariants as pins
 use Rattle.ev_edge.specs.declared.refusal.EdgeRefusal.{EdgeRefusal}
@@ -35,10 +33,10 @@ use Rattle.ev_edge.specs.Arrival.{frame_arrival, tunnel_arrival}
 use Rattle.ev_edge.specs.Bridging.{BridgeGoes}
 use Rattle.ev_edge.specs.Config.{settings_of}
 use Rattle.ev_edge.specs.Edge.{Edge, address_of}
-use Rattle.ev_edge.specs.Learning.{Does, OrNoMemory, case_of, moved, needs_register, needs_memory}
 use Rattle.ev_edge.specs.Opening.{IsOpening}
 use Rattle.ev_edge.specs.Pinning.{DoesPin, pin_case, refused_pin, after_unpin}
 use Rattle.ev_edge.specs.Steps.{Steps, LearnsIf, FrameSteps, TunnelSteps, Bridges, BridgesAt, Seconds, Takes, Pins}
+use Rattle.ev_edge.proofs.Cases.{learnt_by, or_refused}
 use Rattle.ev_fabric.specs.declared.refusal.FabricRefusal.{FabricRefusal}
 use Rattle.ev_fabric.specs.declared.refusal.FabricRefusal.TheVariants.{NoSuchEdge, NoSuchUpdate}
 use Rattle.ev_fabric.specs.declared.step.Step.{Step}
@@ -71,25 +69,10 @@ bridge_goes : (a b : Edge) (event : tree.Event) (flush : ℕ) (sent : _) → Bri
     → Goes a b
 bridge_goes a b event flush sent goes settings ports h = (event ∷ h.0, (a.tree, _, _, flush, h.1, goes.happens))
 
-either_goes : (needs : Bool) (a after b : Edge) (alert told : Option Alert) → after.tree ≡ a.tree
-    → OrNoMemory needs a alert after told b → Goes a b
-either_goes needs a after b alert told is (inl h) = same_tree a b (ap (λ (x : Edge). x.tree) h.1 ∙ is)
-either_goes needs a after b alert told is (inr h) = stays a b h.1
-
-does_go : (c : Case) (a : Edge) (s : Station) (port : ℕ) (told : Option Alert) (b : Edge) → Does c a s port told b
-    → Goes a b
-does_go Leave a s port told b h = stays a b h.1
-does_go Refresh a s port told b h = same_tree a b (ap (λ (x : Edge). x.tree) h.1)
-does_go (Refuse alert) a s port told b h = stays a b h.1
-does_go Freeze a s port told b h = same_tree a b (ap (λ (x : Edge). x.tree) h.1)
-does_go (Learn n) a s port told b h =
-    either_goes (needs_memory a s n) a _ b _ told
-    (elim (n == 0) as (λ x. (cond x a (moved a s)).tree ≡ a.tree) [ true ↦ refl | false ↦ refl ]) h
-
 learns_go : (x : Bool) (a : Edge) (s : Station) (port : ℕ) (told : Option Alert) (b : Edge) → LearnsIf x a s port told b
     → Goes a b
-learns_go true a s port told b h = does_go (case_of a s) a s port told b h
-learns_go false a s port told b h = stays a b h.1
+learns_go x a s port told b h = learnt_by (Goes a) a s port told b (stays a a refl)
+    (λ heard. stays a a refl) (stays a a refl) (λ new. stays a a refl) (λ n new. stays a a refl) x h
 
 bridges_go : (event : tree.Event) (a : Edge) (result : Result Reply edge.Refusal) (b : Edge)
     → Bridges event a result b
@@ -139,7 +122,7 @@ does_pin_go : (c : PinCase) (a : Edge) (s : Station) (port : ℕ) (told : Option
 does_pin_go pins.Keep a s port told b h = stays a b h.1
 does_pin_go pins.Shift a s port told b h = same_tree a b (ap (λ (x : Edge). x.tree) h.1)
 does_pin_go (pins.Deny alert) a s port told b h = stays a b h.1
-does_pin_go pins.Pin a s port told b h = either_goes (needs_register a s) a _ b _ told refl h
+does_pin_go pins.Pin a s port told b h = or_refused (Goes a) (stays a a refl) (stays a a refl) h
 
 pins_go : (refused : Option EdgeRefusal) (a : Edge) (s : Station) (port : ℕ) (result : Result Reply edge.Refusal)
     (b : Edge) → Pins refused a s port result b → Goes a b

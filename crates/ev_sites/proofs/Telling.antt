@@ -1,5 +1,5 @@
 -- Steps of the two edges' fabric: what one of them announces, what the other takes, and the guest that is learnt.
-use Rattle.std.proofs.Common.{◌≡◌, ◌==◌, ℕ, true, false, cond, Some, None, List, [], ◌∷◌, ◌++◌, inl, refl, sym, ap}
+use Rattle.std.proofs.Common.{◌≡◌, ◌==◌, ℕ, true, false, cond, Some, None, List, [], ◌∷◌, ◌++◌, refl, sym, ap}
 use Rattle.std.proofs.Common.{subst, ◌∙◌}
 use Rattle.std.specs.Prelude.{Ok}
 use Rattle.std.specs.Borrow.{Bor}
@@ -18,11 +18,10 @@ use Rattle.ev_mobility.specs.declared.seq.Seq.TheVariants.{Next}
 use Rattle.ev_mobility.specs.declared.window.Window.{Window}
 use Rattle.ev_claims.specs.LocalRoutes.{LocalRoutes, after_take, loses_pinned}
 use Rattle.ev_edge.specs.declared.event.Event.TheVariants as events
-use Rattle.ev_edge.specs.declared.learning.Case.TheVariants.{Refuse, Learn}
+use Rattle.ev_edge.specs.declared.learning.Case.TheVariants.{Refuse}
 use Rattle.ev_edge.specs.declared.reply.Reply.{Reply}
 use Rattle.ev_edge.specs.Edge.{Edge, table_of, address_of}
 use Rattle.ev_edge.specs.Learning.{Does, Learning as Learns, case_of, case_at, new_case, numbered_case, move_case}
-use Rattle.ev_edge.specs.Learning.{learnt}
 use Rattle.ev_edge.specs.Steps.{Steps, Takes, lost_alert, nothing}
 use Rattle.ev_fabric.specs.declared.refusal.FabricRefusal.TheVariants.{NoSuchUpdate}
 use Rattle.ev_fabric.specs.declared.step.LocalEvent.{LocalEvent}
@@ -145,18 +144,17 @@ abbrev pub newcomer : ℕ → List Said → List Register → Edge
 newcomer address said pending = risen_edge (speaker_with address said 1 pending) nobody_learnt empty
 
 -- it learns the guest with the number that is above all others'
-pub learns : (address : ℕ) (said : List Said) (pending : List Register) (n : ℕ)
-    → next_among address 5001 guest.mac (in_order said) ≡ Next n → move_case None 0 n ≡ Learn n
-    → Learns (newcomer address said pending) guest 1 None (learnt (newcomer address said pending) guest 1 n)
-learns address said pending n next case =
-    subst (λ c. Does c (newcomer address said pending) guest 1 None (learnt (newcomer address said pending) guest 1 n))
-    (sym is) (inl (refl, refl))
+pub learns : (address : ℕ) (said : List Said) (pending : List Register) (n : ℕ) (e' : Edge)
+    → next_among address 5001 guest.mac (in_order said) ≡ Next n
+    → Does (move_case None 0 n) (newcomer address said pending) guest 1 None e'
+    → Learns (newcomer address said pending) guest 1 None e'
+learns address said pending n e' next does =
+    subst (λ c. Does c (newcomer address said pending) guest 1 None e') (sym is) does
   where
-    is : case_of (newcomer address said pending) guest ≡ Learn n
+    is : case_of (newcomer address said pending) guest ≡ move_case None 0 n
     is =
         ap (λ o. case_at (newcomer address said pending) guest o) (get-empty {X = Entry} station_cmp guest)
         ∙ ap (λ o. new_case (newcomer address said pending) guest o) (get-empty {X = Window} station_cmp guest)
         ∙ ap (λ q. numbered_case (newcomer address said pending) None q)
         (next_number said address 5001 guest.mac ∙ next)
         ∙ ap (λ b. cond b (Refuse TableFull) (move_case None 0 n)) room
-        ∙ case

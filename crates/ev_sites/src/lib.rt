@@ -1,5 +1,5 @@
-//! Sites of bridges, each attached to one edge: where they are at rest, no frame runs in a circle,
-//! not even through tunnels.
+//! Theory, no part of a program: among sites of bridges that are at rest, each attached to one
+//! edge, no frame runs in a circle, not even through tunnels.
 #![tactic(auto)]
 
 mod fabrics;

@@ -24,6 +24,7 @@ use std::os::fd::AsFd;
 use std::process::ExitCode;
 use std::{fs, io};
 
+/// Gathers what the system gives, and runs the subcommand that the words name.
 fn main(rt: HostRuntime) -> ExitCode {
     let descriptors = Descriptors {
         closed: first_closed(&rt),

@@ -12,6 +12,7 @@ use ev_report::Devices;
 use std::io;
 use std::process::ExitCode;
 
+/// Gathers what the system gives, and reports.
 fn main(rt: HostRuntime) -> ExitCode {
     let line = line_of(&rt);
     let (stdout, stderr) = (rt.stdout(), rt.stderr());

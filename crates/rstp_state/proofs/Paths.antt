@@ -5,43 +5,21 @@ use Rattle.std.specs.Cmp.Lexicographic.{options_total}
 use Rattle.std.specs.FinMap.{nat_cmp-IsAntisymmetric}
 use Rattle.std.specs.List.{filter_map, enumerate_from}
 use Rattle.std.specs.Option.{option_cmp}
-use Rattle.std.specs.Ordering.{nat_cmp, ordering_then}
-use Rattle.std.specs.declared.cmp.Ordering.{Ordering}
-use Rattle.std.specs.declared.cmp.Ordering.TheVariants.{Less, Equal, Greater}
+use Rattle.std.specs.Ordering.{nat_cmp}
+use Rattle.std.specs.declared.cmp.Ordering.TheVariants.{Equal}
 use Rattle.std.proofs.lemmas.Cmp.{nat_cmp_total, on_total, then_total}
 use Rattle.rstp_state.specs.declared.port.PortState.{PortState}
 use Rattle.rstp_state.specs.declared.selection.Path.{Path}
 use Rattle.rstp_state.specs.declared.start.Settings.{Settings}
-use Rattle.rstp_state.specs.declared.vector.Vector.{Vector}
 use Rattle.rstp_state.specs.Vector.{vector_cmp}
 use Rattle.rstp_state.specs.Selection.{path_cmp, own_path, path_at, candidates, is_least, IsLeastOf, best_path}
+use Rattle.rstp_state.proofs.Vectors.{vector_total, both_equal, same_vector}
 use Rattle.rstp_state.proofs.Least.{least, least_all, least_among, tie, find_only}
-
-vector_total : IsTotalOrder vector_cmp
-vector_total =
-    then_total (on_total (λ v. v.root) nat_cmp_total) (then_total (on_total (λ v. v.cost) nat_cmp_total)
-    (then_total (on_total (λ v. v.bridge) nat_cmp_total) (on_total (λ v. v.port) nat_cmp_total)))
 
 path_total : IsTotalOrder path_cmp
 path_total =
     then_total (on_total (λ p. p.vector) vector_total) (then_total (on_total (λ p. p.port) nat_cmp_total)
     (on_total (λ p. p.place) (options_total nat_cmp_total)))
-
-both_equal : (o p : Ordering) → ordering_then o p ≡ Equal → (o ≡ Equal) × (p ≡ Equal)
-both_equal Less p h = cc
-both_equal Equal p h = (refl, h)
-both_equal Greater p h = cc
-
-same_vector : (a b : Vector) → vector_cmp a b ≡ Equal → a ≡ b
-same_vector a b h =
-    let h1 = both_equal (nat_cmp a.root b.root) _ h in
-    let h2 = both_equal (nat_cmp a.cost b.cost) _ h1.1 in
-    let h3 = both_equal (nat_cmp a.bridge b.bridge) (nat_cmp a.port b.port) h2.1 in
-    let root = nat_cmp-IsAntisymmetric _ _ h1.0 in
-    let cost = nat_cmp-IsAntisymmetric _ _ h2.0 in
-    let bridge = nat_cmp-IsAntisymmetric _ _ h3.0 in
-    let port = nat_cmp-IsAntisymmetric _ _ h3.1 in
-    λ i. record { root = root i; cost = cost i; bridge = bridge i; port = port i }
 
 same_place : (a b : Option ℕ) → option_cmp nat_cmp a b ≡ Equal → a ≡ b
 same_place None None h = refl

@@ -9,17 +9,17 @@ use Rattle.std.proofs.lemmas.Cmp.{nat_cmp_total, on_total, then_total}
 use Rattle.rstp_state.specs.declared.vector.Vector.{Vector}
 use Rattle.rstp_state.specs.Vector.{is_less, vector_cmp}
 
-vector_total : IsTotalOrder vector_cmp
+pub vector_total : IsTotalOrder vector_cmp
 vector_total =
     then_total (on_total (λ v. v.root) nat_cmp_total) (then_total (on_total (λ v. v.cost) nat_cmp_total)
     (then_total (on_total (λ v. v.bridge) nat_cmp_total) (on_total (λ v. v.port) nat_cmp_total)))
 
-both_equal : (o p : Ordering) → ordering_then o p ≡ Equal → (o ≡ Equal) × (p ≡ Equal)
+pub both_equal : (o p : Ordering) → ordering_then o p ≡ Equal → (o ≡ Equal) × (p ≡ Equal)
 both_equal Less p h = cc
 both_equal Equal p h = (refl, h)
 both_equal Greater p h = cc
 
-same_vector : (a b : Vector) → vector_cmp a b ≡ Equal → a ≡ b
+pub same_vector : (a b : Vector) → vector_cmp a b ≡ Equal → a ≡ b
 same_vector a b h =
     let h1 = both_equal (nat_cmp a.root b.root) _ h in
     let h2 = both_equal (nat_cmp a.cost b.cost) _ h1.1 in

@@ -1,3 +1,5 @@
+//! How alerts are printed.
+
 use crate::Alert;
 use std::test::Fail;
 

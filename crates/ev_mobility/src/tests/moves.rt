@@ -1,3 +1,4 @@
+//! Windows of moves.
 ghost use Rattle.std.specs.Prelude.{◌≡◌, true, IfOk};
 ghost use Rattle.ev_mobility.specs.Moves.{has_place};
 

@@ -1,3 +1,4 @@
+//! Sequence numbers.
 ghost use Rattle.std.specs.Prelude.{◌<◌};
 
 use crate::{Seq, next_seq};
