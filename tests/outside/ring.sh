@@ -11,9 +11,23 @@
 # - of three bridges, one edge and two of Open vSwitch, with RSTP. A host stands at each, and the fourth one at a second edge,
 #   behind the tunnel.
 #
-# No frame may come twice, at any time. None may be lost while nothing is cut or healed. When a cable is cut or healed, none may
-# come for as long as the spanning tree needs, at most: with 802.1D until the root's last message is too old, 6 seconds, and twice
-# the forward delay, 8 seconds; with RSTP three hellos of 2 seconds. A busy machine has 2 seconds more. After that all come again.
+# No frame may come twice, at any time, but for what stands below. None may be lost while nothing is cut or healed. When a cable is
+# cut or healed, none may come for as long as the spanning tree needs, at most: with 802.1D until the root's last message is too old,
+# 6 seconds, and twice the forward delay, 8 seconds; with RSTP three hellos of 2 seconds. A busy machine has 2 seconds more. After
+# that all come again.
+#
+# While a cable to a bridge of Open vSwitch is healed, frames may come twice to the hosts of these bridges, within 2 seconds. They are
+# counted and told. The bridge has to close its old root port before it opens the new one, and by its log Open vSwitch (3.1.0) does so.
+# But its datapath passes frames by flows that it keeps. Six that came twice it had taken in and passed by the old root port 1 to 20
+# milliseconds after that was closed, before it wrote the flow anew, to drop. Rings of three bridges of Open vSwitch did so too, with no
+# edge of ours and the same cables: 0.3 to 24 milliseconds after, and 170 on a busier machine. There the root's end of the cable was
+# cut, too, and nine frames came twice since one of the two ways was slow: they came by the new root port once it was open.
+#
+# So this looks, in the second ring, at each frame at each device. At no time may edge 1 send one by a cable more often than it was
+# given it. Nor may one come twice to a host of an edge, unless the bridges gave it to edge 1 twice while a cable was healed.
+#
+# Between a cut and the next healing lie 13 seconds or more. In rings that changed every 2 to 4 seconds, Open vSwitch's datapath
+# sometimes went on dropping what came by a port that its RSTP had opened, until the next change; in its own ring, too.
 set -u
 . "$(dirname "$0")/lab.sh"
 needs ip ping python3 sysctl
@@ -21,6 +35,7 @@ needs ip ping python3 sysctl
 # the hosts' names and namespaces; the host with number N has the address 192.168.80.N and the MAC 02:00:00:00:00:0N
 names=()
 hosts=()
+watched=
 
 # edge NUMBER NETWORK PRIORITY PORTS: an edge with so many ports, of which the last one is a host's, and quick timers
 edge() {
@@ -72,15 +87,22 @@ settled() {
   tell "pings are answered by all after $((SECONDS - begun)) seconds" [ $((SECONDS - begun)) -lt 40 ]
 }
 
-# talk SECONDS [ACTION..]: all hosts speak for so long; two seconds after they have begun something is done
+# talk SECONDS [ACTION..]: all hosts speak for so long; two seconds after they have begun something is done. What passes in
+# `watched`, the namespace of bridges with cables to an edge, is looked at
 talk() {
-  local seconds=$1 number other others talking=()
+  local number other others talking=()
+  spoken=$1
   shift
-  rm -f "$work/begin" "$work"/heard-*
+  rm -f "$work/begin" "$work"/heard-* "$work/watched"
+  if [ -n "$watched" ]; then
+    ip netns exec "$watched" python3 "$outside/bridge_probe.py" watch "$work/begin" "$spoken" > "$work/watched" 7>&- &
+    talking+=($!)
+    until grep -q ready "$work/watched"; do sleep 0.1; done
+  fi
   for number in "${!hosts[@]}"; do
     others=()
     for other in "${!hosts[@]}"; do [ "$other" = "$number" ] || others+=("02:00:00:00:00:0$other"); done
-    ip netns exec "${hosts[number]}" python3 "$outside/bridge_probe.py" talk eth "$work/begin" "$seconds" "${others[@]}" \
+    ip netns exec "${hosts[number]}" python3 "$outside/bridge_probe.py" talk eth "$work/begin" "$spoken" "${others[@]}" \
       > "$work/heard-$number" 7>&- &
     talking+=($!)
   done
@@ -97,19 +119,37 @@ talk() {
   done > "$work/heard"
 }
 
-# looks WHAT SILENCE [none]: no frame was doubled, none came for so many seconds at most, and the end of what was sent came, from each
-# host to each other; and where none may be lost, none was
+# looks WHAT SILENCE [none|healed]: no frame was doubled, none came for so many seconds at most, and the end of what was sent came,
+# from each host to each other; and where none may be lost, none was. Where a cable was healed in the ring with Open vSwitch, some
+# may have been doubled by its bridges
 looks() {
-  local before=$differs lost doubled silence pair
-  read -r lost doubled silence pair < <(awk '
-    { lost += $1; doubled += $2; if ($3 >= silence) { silence = $3; pair = substr($0, index($0, "the host")) } }
-    END { print lost + 0, doubled + 0, silence + 0, pair }' "$work/heard")
-  echo "-- $1: $lost lost, $doubled doubled; none came for $silence seconds at most, $pair"
-  tell "$1: no frame comes twice" [ "$doubled" = 0 ]
-  [ $# = 2 ] || tell "$1: no frame is lost" [ "$lost" = 0 ]
+  local before=$differs lost edges bridges silence pair
+  read -r lost edges bridges silence pair < <(awk '
+    { lost += $1; if (/to the host at edge/) edges += $2; else bridges += $2
+      if ($3 >= silence) { silence = $3; pair = substr($0, index($0, "the host")) } }
+    END { print lost + 0, edges + 0, bridges + 0, silence + 0, pair }' "$work/heard")
+  echo "-- $1: $lost lost, $((edges + bridges)) doubled; none came for $silence seconds at most, $pair"
+  if [ -n "$watched" ]; then sees "$@"; else tell "$1: no frame comes twice" [ $((edges + bridges)) = 0 ]; fi
+  [ "${3-}" != none ] || tell "$1: no frame is lost" [ "$lost" = 0 ]
   tell "$1: they pass again within $2 seconds, from each host to each other" \
     [ "$(awk -v most="$2" '$3 <= most && $4 <= 1' "$work/heard" | wc -l)" = 12 ]
   [ "$differs" = "$before" ] || sed 's/^/lost, doubled, silence, end: /' "$work/heard"
+}
+
+# sees WHAT SILENCE [none|healed]: what `looks` says of doubled frames, where all devices were watched
+sees() {
+  local frames more again twice within
+  read -r frames more again twice within < <(tail -n 1 "$work/watched")
+  echo "   of $frames frames edge 1 sent $more once too often, and the bridges gave it $again twice; to their hosts $twice came twice"
+  tell "$1: of all frames 9 in 10 were seen" [ "$frames" -ge $((spoken * 180)) ]
+  tell "$1: edge 1 sends no frame more often than it was given it" [ "$more" = 0 ]
+  tell "$1: what came twice to the bridges' hosts was seen" [ "$bridges" -le "$twice" ]
+  if [ "${3-}" = healed ]; then
+    tell "$1: none comes twice to an edge's host that edge 1 was given once" [ "$edges" -le $((again * 2)) ]
+    tell "$1: what comes twice to the bridges' hosts was sent within 2 seconds ($within)" awk -v it="$within" 'BEGIN { exit it > 2 }'
+  else
+    tell "$1: no frame comes twice" [ $((edges + bridges)) = 0 ]
+  fi
 }
 
 # cuts NAME SECONDS EDGE PORT NETNS DEVICE: a cable is pulled and put back
@@ -120,7 +160,7 @@ cuts() {
   looks "$name is cut" "$seconds"
   tell "it was cut: its device has no carrier" [ -z "$(ip -n "$3" link show dev "$4" | grep LOWER_UP)" ]
   talk $((seconds + 4)) cable "$@"
-  looks "$name is healed" "$seconds"
+  looks "$name is healed" "$seconds" healed
   talk 5
   looks "after that" 1 none
 }
@@ -192,6 +232,7 @@ if command -v ovs-vswitchd > "$work/found"; then
   settled
   sleep 5
   for number in 1 2; do ovs_shows ovs$number; done
+  watched=$switch
   talk 8
   looks "at rest" 1 none
   cuts "the cable from edge 1 to bridge 1" 6 1 1 "$switch" up1

@@ -40,7 +40,8 @@ for number in $(seq "$rounds"); do
   echo "round $number: ${after[-1]} KiB"
 done
 stop > "$work/stopped"
-tell "its status is 0, and nothing was lost" [ "$status $(cat "$work/notes")" = "0 " ]
+# (a busy machine's system drops datagrams at a socket that is full, and the run tells how many)
+tell "its status is 0, and it lost nothing itself" [ "$status $(grep -v 'datagrams dropped by the system$' "$work/notes")" = "0 " ]
 
 # an edge counts what it says: each advert, each withdrawal and its flood line
 said=$(awk '$1 == "mac" && $5 > most { most = $5 } END { print most + 0 }' "$work/report")
