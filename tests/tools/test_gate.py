@@ -198,6 +198,29 @@ class Edits(unittest.TestCase):
         self.assertIsNone(edits.refusal(Crate, edit("src/orders.rt", "Orders::hold"), TEXTS, SAID))
 
 
+class Ends(unittest.TestCase):
+    """How a crate's check ended that failed."""
+
+    UNENDED = "fn low::f: proved\nnote: the search for empty contracts did not end\n\nlogic=proved functions=1 sum=1\n"
+
+    def test_check_that_refused_nothing_is_asked_again(self):
+        self.assertTrue(gate.could_not_tell(3, "fn low::f: could not tell\nrattle: no verdict: out of memory\n"))
+        self.assertTrue(gate.could_not_tell(3, self.UNENDED))
+        self.assertTrue(gate.could_not_tell(-6, "memory allocation of 100 bytes failed\n"))
+
+    def test_check_that_refused_is_not(self):
+        self.assertFalse(gate.could_not_tell(1, "fn low::f: not proved: ./proofs/A.antt:1:1: error: `a`\nlogic=not-proved\n"))
+        self.assertFalse(gate.could_not_tell(1, "src/lib.rt:1:1: error[unresolved]: no `g` here\n"))
+
+    def test_neither_is_one_that_is_well_or_was_killed(self):
+        self.assertFalse(gate.could_not_tell(0, "logic=proved functions=1 sum=1\n"))
+        self.assertFalse(gate.could_not_tell(-9, ""))
+
+    def test_its_last_lines_are_told(self):
+        told = ["low: its check ended with status 3", "low: note: the search for empty contracts did not end", "low: logic=proved functions=1 sum=1"]
+        self.assertEqual(gate.ends_of("low", 3, self.UNENDED), told)
+
+
 class Lanes(unittest.TestCase):
     """What is started of ready tasks, each with its jobs: (name, what), what it waits for, work, octets of memory, call."""
 

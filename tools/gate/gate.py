@@ -19,6 +19,7 @@ import collections
 import os
 import re
 import shutil
+import signal
 import sys
 import tempfile
 import threading
@@ -33,6 +34,10 @@ from tried import tried_tests
 # What a check of the largest crate was seen to need. (The kit reckons more, and lets processors idle.)
 MOST_MEMORY = 5_500_000_000
 NOTHING = "other\tproof"
+# What a check says where it refuses: the crate's proofs, or its text.
+REFUSED = re.compile(r"^logic=not-proved|\berror\[[\w-]+\]", re.M)
+# What it says whether it refuses or not.
+PLAIN = re.compile(r"fn \S+: proved|so far: |statements |logic /|crate \w+: modules |$")
 
 
 class Run:
@@ -43,6 +48,8 @@ class Run:
     proved = {}
     tests = {}
     lost = []
+    # how the checks of crates ended that failed, line by line
+    ends = []
     # the least memory, in MiB, and disk, in MB, that was left where a crate's check ended
     least = None
     # the kit's own count: crates and edits
@@ -78,12 +85,22 @@ class Crate(rt.Crate):
         if tests:
             status, Run.tests[self.name] = tried_tests(self)
             return status
+        status, said = self.proof_and_words(flags)
+        if could_not_tell(status, said):
+            Run.ends += ends_of(self.name, status, said)
+            status, said = self.proof_and_words(["--jobs", "1"])
+            Run.ends += [f"{self.name}: asked once more with one job, the check ended with status {status}"]
+        Run.proved[self.name] = {*re.findall(r"^fn (\S+): proved\b", said, re.M)}
+        Run.ends += ends_of(self.name, status, said) if status else []
+        return status
+
+    def proof_and_words(self, flags):
+        """Returns how the crate's check from nothing ended, and what it said."""
         started = self.out.tell()
         status = self.proof(flags)
         look()
         self.out.seek(started)
-        Run.proved[self.name] = {*re.findall(r"^fn (\S+): proved\b", self.out.read(), re.M)}
-        return status
+        return status, self.out.read()
 
     def proof(self, flags):
         words = [*self.words(flags, keeps=False), "--incremental", f"{Run.folder}/{self.name}"]
@@ -154,6 +171,18 @@ def unproved(crates):
     return lacking
 
 
+def could_not_tell(status, said):
+    """Whether a check failed though it refused nothing: the checker can run out of memory, steps or stack. It is asked once more then, and
+    what it proves then is proved. (A check that was killed is asked again by the kit.)"""
+    return status not in (0, -signal.SIGKILL) and not REFUSED.search(said)
+
+
+def ends_of(name, status, said):
+    """Returns the last lines of a check that failed."""
+    lines = [it for it in said.splitlines() if not PLAIN.match(it)]
+    return [f"{name}: its check ended with status {status}", *[f"{name}: {it}" for it in lines[-8:]]]
+
+
 def look():
     """Looks how much memory and disk is left: a check that lacks them may fail without saying so."""
     now = rt.free() >> 20, rt.left_on_disk()
@@ -214,6 +243,8 @@ def main():
         print(f"gate: no check has proved {it}")
     for it in Run.lost:
         print(f"gate: an edit that shows little: {it}")
+    for it in Run.ends:
+        print(f"gate: {it}")
     functions, tests = sum(map(len, Run.proved.values())), sum(Run.tests.values())
     print(f"gate: {functions} functions proved, {len(lacking)} of the sources not among them; {tests} tests run unproved")
     passed, failed = Run.counted[0] + tests, Run.counted[1] + len(lacking)
