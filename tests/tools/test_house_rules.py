@@ -24,7 +24,7 @@ LONG_RT = {  # bpdu_wire's is the row of a table, ether_wire's are tables of dig
 LONG_ANTT = 6
 MOST_LINES, MOST_PARAMETERS = 450, 6
 MANY_PARAMETERS = {  # `self` isn't counted; ev_tunnel's are the arguments that a decision is of
-    "crates/ev_tunnel/src/decision.rt": {"decide": 8, "decide_into": 9},
+    "crates/ev_tunnel/src/decision.rt": {"decide": 8},
     "crates/ev_tunnel/src/laws.rt": {"known_goes_to_one_place": 8, "members_that_pass": 8, "never_back": 8},
 }
 

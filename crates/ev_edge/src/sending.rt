@@ -15,7 +15,7 @@ use crate::reply::Reply;
 use arrayvec::ArrayVec;
 use ether_wire::{Addr, Mac, NO_PORTS, Vni};
 use ev_mobility::Alert;
-use ev_tunnel::{Decision, Source, decide_into, unwrap_datagram};
+use ev_tunnel::{Decision, Forwarding, Source, decide_into, unwrap_datagram};
 use mac_arena::Station;
 use rstp_run::event::Event;
 
@@ -139,17 +139,15 @@ impl Edge {
         requires { IsFrom from }
         ensures { IsDecision self.now vni destination from decision.new }
     {
-        decide_into(
+        let forwarding = Forwarding {
             destination,
             vni,
             from,
-            self.port_of(vni, destination),
-            self.routes.table(),
-            self.routes.address(),
-            self.routes.members(vni),
-            self.passing,
-            decision,
-        );
+            learnt: self.port_of(vni, destination),
+            table: self.routes.table(),
+            own: self.routes.address(),
+        };
+        decide_into(forwarding, self.routes.members(vni), self.passing, decision);
     }
 
     /// A datagram comes from another edge.

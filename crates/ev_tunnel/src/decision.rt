@@ -39,6 +39,23 @@ pub(crate) struct Ports {
     pub(crate) passing: u64,
 }
 
+/// What a frame's way is decided by, beside its network's ports and those that pass.
+#[derive(Clone, Copy)]
+pub struct Forwarding<'a> {
+    /// Where the frame is to go.
+    pub destination: Mac,
+    /// Its network.
+    pub vni: Vni,
+    /// Where it came from.
+    pub from: Source,
+    /// The port where its destination was learnt.
+    pub learnt: Option<u8>,
+    /// The routes.
+    pub table: &'a Table,
+    /// This edge.
+    pub own: Addr,
+}
+
 /// Whether the frame came from this port.
 fn is_from(from: Source, port: u8) -> bool
     ensures { result ≡ is_from from port }
@@ -151,42 +168,45 @@ pub fn decide(
         local: NO_PORTS,
         remote: ArrayVec::new(),
     };
-    decide_into(
+    let forwarding = Forwarding {
         destination,
         vni,
         from,
-        entry,
+        learnt: entry,
         table,
         own,
-        members,
-        passing,
-        &mut decision,
-    );
+    };
+    decide_into(forwarding, members, passing, &mut decision);
     decision
 }
 
 /// Decides the same, and writes it where another decision stood: a caller that keeps one place for
 /// them spares the copies of a whole list of edges.
-pub fn decide_into(
-    destination: Mac,
-    vni: Vni,
-    from: Source,
-    entry: Option<u8>,
-    table: &Table,
-    own: Addr,
-    members: u64,
-    passing: u64,
-    decision: &mut Decision,
-)
-    requires from { IsFrom from }
-    requires entry { ForSome entry IsPort }
+pub fn decide_into(frame: Forwarding<'_>, members: u64, passing: u64, decision: &mut Decision)
+    requires from { IsFrom frame.from }
+    requires entry { ForSome frame.learnt IsPort }
     ensures local { decision.new.local
-        ≡ local_for table.now vni destination entry own from members passing }
+        ≡ local_for frame.entry.table.now frame.entry.vni frame.entry.destination
+        frame.entry.learnt frame.entry.own frame.entry.from members
+        passing }
     ensures remote { decision.new.remote.items
-        ≡ remote_for table.now vni destination entry own from }
+        ≡ remote_for frame.entry.table.now frame.entry.vni frame.entry.destination
+        frame.entry.learnt frame.entry.own frame.entry.from }
 {
-    let place = place_of(destination, vni, entry, table, own);
-    let ports = Ports { members, passing };
-    decision.local = local_of(&place, from, ports);
-    put_remote(&place, from, vni, table, own, &mut decision.remote);
+    let place = place_of(
+        frame.destination,
+        frame.vni,
+        frame.learnt,
+        frame.table,
+        frame.own,
+    );
+    decision.local = local_of(&place, frame.from, Ports { members, passing });
+    put_remote(
+        &place,
+        frame.from,
+        frame.vni,
+        frame.table,
+        frame.own,
+        &mut decision.remote,
+    );
 }

@@ -7,7 +7,7 @@ mod laws;
 mod place;
 
 pub use datagram::{unwrap_datagram, wrap, wrapped_frame_is_unwrapped};
-pub use decision::{Decision, Source, decide, decide_into};
+pub use decision::{Decision, Forwarding, Source, decide, decide_into};
 pub use laws::{
     known_goes_to_one_place, members_that_pass, never_back, never_from_tunnel_to_tunnel,
     others_that_advertise,
