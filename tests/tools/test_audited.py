@@ -333,13 +333,26 @@ class Names(unittest.TestCase):
 
 
 class Rules(unittest.TestCase):
-    """A rule of the house on the crates."""
+    """Rules of the house on the crates."""
+
+    @classmethod
+    def setUpClass(cls):
+        cls.reading = reading_of(project_at(Path(TOP)))
+
+    def files(self, *parts: str) -> Dict[str, str]:
+        """The definitions of these parts by name, with the file of each."""
+        found = [it for crate in self.reading.project.crates for part in parts for it in self.reading.definitions(crate, part)]
+        return {".".join(it.path): it.file for it in found}
 
     def test_unreached_lines(self):
         """What an auditor needn't read grows no more in specs/; where it has shrunk, enter the new count."""
-        reading = reading_of(project_at(Path(TOP)))
-        counts = {crate: reading.lines(crate, "inner", "proofs") for crate in reading.project.crates}
+        counts = {crate: self.reading.lines(crate, "inner", "proofs") for crate in self.reading.project.crates}
         self.assertEqual({crate: count for crate, count in counts.items() if count > UNREACHED.get(crate, 0)}, {})
+
+    def test_what_is_to_be_read_stands_apart(self):
+        """What an auditor needn't read stands in specs/Inner/; what is to be read doesn't."""
+        self.assertEqual({name: file for name, file in self.files("inner", "proofs").items() if "/specs/Inner/" not in file}, {})
+        self.assertEqual({name: file for name, file in self.files("read").items() if "/specs/Inner/" in file}, {})
 
 
 if __name__ == "__main__":

@@ -21,7 +21,7 @@ LONG_RT = {  # bpdu_wire's is the row of a table, ether_wire's are tables of dig
     "crates/evpnd_report/src/main.rt": 1, "crates/evpnd_report/src/program.rt": 1,
     "crates/rstp_net/src/laws.rt": 1,
 }
-LONG_ANTT = 6
+LONG_ANTT = 1
 MOST_LINES, MOST_PARAMETERS = 450, 6
 MANY_PARAMETERS = {  # `self` isn't counted; ev_tunnel's are the arguments that a decision is of
     "crates/ev_tunnel/src/decision.rt": {"decide": 8},

@@ -10,7 +10,8 @@ use Rattle.bpdu_wire.specs.declared.bpdu.Bpdu.TheVariants.{Config, Rst, Tcn}
 use Rattle.bpdu_wire.specs.declared.refusal.BpduRefusal.TheVariants.{Short, Aged}
 use Rattle.bpdu_wire.specs.Bpdu.{is_aged}
 use Rattle.bpdu_wire.specs.Reading.{message_of, unless_refused, reading}
-use Rattle.bpdu_wire.specs.Writing.{HasVector, HasTimes, message_octets, octets_of, read_again}
+use Rattle.bpdu_wire.specs.Writing.{message_octets, octets_of, read_again}
+use Rattle.bpdu_wire.specs.Inner.Writing.{HasVector, HasTimes}
 
 message_again : (version type : ℕ) (m : Message) (after rest : List ℕ) → HasVector m → HasTimes m
     → message_of (message_octets version type m after ++ rest) ≡ m

@@ -3,3 +3,4 @@ pub mod Id
 pub mod Reading
 pub mod Refusal
 pub mod Writing
+pub mod Inner

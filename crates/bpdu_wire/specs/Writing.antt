@@ -1,5 +1,5 @@
 -- The octets that are written for a BPDU (IEEE 802.1D-2004, 9.3).
-use Rattle.std.specs.Prelude.{ℕ, ◌<◌, ◌^◌, List, [], ◌∷◌, ◌++◌, Result, Ok, Err, if◌then◌else◌}
+use Rattle.std.specs.Prelude.{ℕ, List, [], ◌∷◌, ◌++◌, Result, Ok, Err, if◌then◌else◌}
 use Rattle.byteorder.specs.Endian.{big_bytes}
 use Rattle.bpdu_wire.specs.declared.reading.TheConstants.{CONFIG_TYPE, OLD_VERSION, RAPID_VERSION, RST_TYPE, TCN_TYPE}
 use Rattle.bpdu_wire.specs.declared.bpdu.Message.{Message}
@@ -27,19 +27,6 @@ abbrev pub octets_of : Bpdu → List ℕ
 octets_of (Config m) = message_octets OLD_VERSION CONFIG_TYPE m []
 octets_of (Rst m) = message_octets RAPID_VERSION RST_TYPE m (0 ∷ [])
 octets_of Tcn = 0 ∷ 0 ∷ OLD_VERSION ∷ TCN_TYPE ∷ []
-
--- each of these fields fits its octets
-pub record HasVector (m : Message) : Type 0 where
-  pub root : m.root < 2 ^ 64
-  pub cost : m.cost < 2 ^ 32
-  pub bridge : m.bridge < 2 ^ 64
-  pub port : m.port < 2 ^ 16
-
-pub record HasTimes (m : Message) : Type 0 where
-  pub message_age : m.message_age < 2 ^ 16
-  pub max_age : m.max_age < 2 ^ 16
-  pub hello : m.hello < 2 ^ 16
-  pub forward_delay : m.forward_delay < 2 ^ 16
 
 -- the answer of a reader to a BPDU's own octets
 abbrev pub read_again : Bpdu → Result Bpdu BpduRefusal

@@ -4,7 +4,8 @@ ghost use Rattle.std.specs.Prelude.{◌≡◌, ◌+◌, ◌≤◌, ◌++◌, ℕ
 ghost use Rattle.arrayvec.specs.ArrayVec.{array_vec_len};
 ghost use Rattle.byteorder.specs.Endian.{big_bytes};
 ghost use Rattle.bpdu_wire.specs.Reading.{reading};
-ghost use Rattle.bpdu_wire.specs.Writing.{HasVector, HasTimes, vector_octets, times_octets, message_octets, octets_of, read_again};
+ghost use Rattle.bpdu_wire.specs.Writing.{vector_octets, times_octets, message_octets, octets_of, read_again};
+ghost use Rattle.bpdu_wire.specs.Inner.Writing.{HasVector, HasTimes};
 
 use crate::bpdu::{Bpdu, Message};
 use crate::reading::{CONFIG_TYPE, OLD_VERSION, RAPID_VERSION, RST_TYPE, TCN_TYPE};

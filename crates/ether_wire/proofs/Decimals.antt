@@ -3,7 +3,7 @@ use Rattle.std.proofs.Common.{◌≡◌, ℕ, ◌+◌, ◌/◌, ◌%◌, ◌<◌
 use Rattle.std.specs.Fmt.{decimal}
 use Rattle.std.proofs.lemmas.Fmt.{decimal_digit, decimal_step}
 use Rattle.itoa.proofs.Decimal.{decimal_four}
-use Rattle.ether_wire.specs.Decimals.{four_digits}
+use Rattle.ether_wire.specs.Inner.Decimals.{four_digits}
 
 -- digits of parts are those of the whole
 same_digits : (m n : ℕ) → m ≡ n → (48 + m) ∷ [] ≡ (48 + n) ∷ []

@@ -19,7 +19,7 @@ use Rattle.route_wire.specs.declared.update.Register.{Register}
 use Rattle.route_wire.specs.declared.update.Value.{Value}
 use Rattle.route_wire.specs.Fields.{Fields}
 use Rattle.route_wire.specs.Order.{register_cmp}
-use Rattle.route_wire.specs.Totals.{register_total}
+use Rattle.route_wire.specs.Inner.Totals.{register_total}
 use Rattle.route_join.specs.Table.{Table, value_at, IsTableOf}
 use Rattle.route_join.specs.Updates.{all_updates, update_from}
 use Rattle.route_join.proofs.Orders.{less, both, from_T}

@@ -7,7 +7,8 @@ use Rattle.route_wire.specs.declared.update.Key.{Key}
 use Rattle.route_wire.specs.Fields.{Fields}
 use Rattle.route_join.specs.Table.{value_at, register_of}
 use Rattle.ev_claims.specs.Speaker.{Speaker, KeepsNumbers, IsOwnAt, IsNoOwnAt, own}
-use Rattle.ev_book.specs.Journal.{AreOwnSince, HasOwnSince}
+use Rattle.ev_book.specs.Journal.{AreOwnSince}
+use Rattle.ev_book.specs.Inner.Journal.{HasOwnSince}
 
 -- an own update's register, by its key
 by_key : (e : Speaker) (u : Fields) → u.register.originator ≡ e.address

@@ -5,7 +5,7 @@ use Rattle.std.proofs.lemmas.List.Elements.{Contains-append_left}
 use Rattle.std.specs.Ordering.{eq_by_cmp}
 use Rattle.route_wire.specs.Fields.{Fields}
 use Rattle.route_wire.specs.Order.{register_cmp, is_newer}
-use Rattle.route_wire.specs.Totals.{neither_newer}
+use Rattle.route_wire.specs.Inner.Totals.{neither_newer}
 use Rattle.route_join.specs.Table.{Table, value_at, IsTableOf}
 use Rattle.route_join.proofs.Joins.{not_newer_trans}
 use Rattle.route_join.proofs.Orders.{both}

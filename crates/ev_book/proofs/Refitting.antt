@@ -1,11 +1,11 @@
 -- A pass fits again after its call, and the others still.
-use Rattle.std.proofs.Common.{◌≡◌, ◌≢◌, ℕ, zero, suc, ◌+◌, ◌<◌, Bool, true, false, ◌&&◌, ◌||◌, not, Option, Some, None}
-use Rattle.std.proofs.Common.{Result, List, [], ◌∷◌, length, refl, sym, ap, subst, ◌∙◌, arith}
-use Rattle.std.specs.Prelude.{slice_get, slice_set, ◌==◌}
+use Rattle.std.proofs.Common.{◌≡◌, ◌≢◌, ℕ, zero, suc, ◌<◌, Bool, true, false, ◌&&◌, ◌||◌, not, Option, Some, None}
+use Rattle.std.proofs.Common.{Result, List, [], ◌∷◌, length, refl, ap, subst, ◌∙◌, arith}
+use Rattle.std.specs.Prelude.{slice_get, slice_set}
 use Rattle.std.specs.Cmp.{tied_itself}
 use Rattle.std.specs.Ordering.{is_eq}
 use Rattle.std.proofs.lemmas.Bool.{eq-eqb}
-use Rattle.route_wire.specs.Totals.{register_total}
+use Rattle.route_wire.specs.Inner.Totals.{register_total}
 use Rattle.route_join.proofs.Tables.{not_newer_itself}
 use Rattle.ev_edge.specs.declared.event.Event.{Event}
 use Rattle.ev_edge.specs.declared.reply.Reply.{Reply}

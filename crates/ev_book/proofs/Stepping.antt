@@ -29,7 +29,8 @@ use Rattle.ev_edge.specs.Changes.{Changes, accepted, brought, heard}
 use Rattle.ev_edge.proofs.Changing.{heard_counter}
 use Rattle.ev_book.specs.Mark.{Holds, mark_of}
 use Rattle.ev_book.specs.Journal.{AreOwnSince}
-use Rattle.ev_book.specs.Entering.{may_write, most_written, touched, touched_by}
+use Rattle.ev_book.specs.Entering.{may_write, touched, touched_by}
+use Rattle.ev_book.specs.Inner.Entering.{most_written}
 use Rattle.ev_book.proofs.Reaching.{holds_update, holds_there}
 
 -- what an event makes the edge say

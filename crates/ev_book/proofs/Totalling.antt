@@ -5,7 +5,8 @@ use Rattle.std.specs.List.{AllByRecursion, IsDistinct, fold}
 use Rattle.std.proofs.lemmas.Bool.{eq-eqb}
 use Rattle.ev_book.specs.declared.pass.Counted.{Counted}
 use Rattle.ev_book.specs.Book.{PassState}
-use Rattle.ev_book.specs.Closing.{counts_of, sum_of, calls_of, count_in, AreNumbered, TellsEach}
+use Rattle.ev_book.specs.Closing.{counts_of, sum_of, count_in, AreNumbered, TellsEach}
+use Rattle.ev_book.specs.Inner.Closing.{calls_of}
 
 abbrev numbers : List PassState → List ℕ
 numbers passes = map (λ (p : PassState). p.number) passes

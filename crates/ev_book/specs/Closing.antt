@@ -14,10 +14,6 @@ counts_of passes = map counted_of passes
 abbrev pub sum_of : List Counted → ℕ
 sum_of counts = sum_by (λ (c : Counted). c.count) counts
 
--- how many calls the passes have together
-abbrev pub calls_of : List PassState → ℕ
-calls_of passes = sum_by (λ (p : PassState). p.count) passes
-
 -- the count beside a number, the first where there are several
 abbrev pub count_in : List Counted → ℕ → Option ℕ
 count_in [] number = None

@@ -1,8 +1,7 @@
 -- What a call of a book does to it and to the pass.
 use Rattle.std.specs.Prelude.{◌≡◌, ℕ, ◌+◌, ◌^◌, ◌++◌, nat_le, Bool, true, false, Option, Some, None, Result, Ok, Err}
-use Rattle.std.specs.Prelude.{List, slice_set, if◌then◌else◌}
+use Rattle.std.specs.Prelude.{List, slice_set}
 use Rattle.route_wire.specs.Fields.{Fields}
-use Rattle.ev_claims.specs.LocalRoutes.{LocalRoutes, entries}
 use Rattle.ev_edge.specs.declared.event.Event.{Event}
 use Rattle.ev_edge.specs.declared.event.Event.TheVariants as events
 use Rattle.ev_edge.specs.declared.reply.Reply.{Reply}
@@ -70,10 +69,6 @@ may_write (events.PortUp port) = true
 may_write (events.PortDown port) = true
 may_write (events.Mcheck port) = true
 may_write events.Announce = false
-
--- how many updates at the most: the one that it brings, and one more than the edge had stations
-abbrev pub most_written : Event → LocalRoutes → ℕ
-most_written event routes = if may_write event then entries routes + 2 else 0
 
 -- ---- one call
 

@@ -1,5 +1,5 @@
 -- The journal of an edge: what is added to it, and its octets.
-use Rattle.std.specs.Prelude.{◌≡◌, ◌⊎◌, ℕ, ◌+◌, ◌*◌, ◌≤◌, ◌++◌, Some, List, slice_get, length, map, Contains, false}
+use Rattle.std.specs.Prelude.{◌≡◌, ◌⊎◌, ℕ, ◌+◌, ◌*◌, ◌≤◌, Some, List, slice_get, length, map, Contains, false}
 use Rattle.std.specs.Prelude.{Result, Ok}
 use Rattle.std.specs.List.{concat}
 use Rattle.route_wire.specs.Order.{is_newer}
@@ -13,14 +13,6 @@ use Rattle.ev_claims.specs.Speaker.{Speaker, IsOwnAt}
 pub record AreOwnSince (e : Speaker) (before : ℕ) (own : List Fields) : Type 0 where
   pub numbered : (i : ℕ) (u : Fields) → slice_get own i ≡ Some u → IsOwnAt e (before + (i + 1)) u
   pub all : before + length own ≡ e.counter
-
--- there are such updates
-abbrev pub HasOwnSince : Speaker → ℕ → Type 0
-HasOwnSince e before = (own : List Fields) × AreOwnSince e before own
-
--- these updates stand behind the others
-abbrev pub AppendsOwn : Speaker → ℕ → List Fields → List Fields → Type 0
-AppendsOwn e before old new = (own : List Fields) → AreOwnSince e before own → new ≡ old ++ own
 
 -- the records of updates, one after the other
 abbrev pub records_of : List Fields → List ℕ

@@ -7,3 +7,4 @@ pub mod Closing
 pub mod Refusal
 pub mod Laws
 pub mod Fitting
+pub mod Inner

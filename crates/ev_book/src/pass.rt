@@ -2,7 +2,8 @@
 ghost use Rattle.std.specs.Prelude.{◌≡◌, ◌+◌, ◌<◌, ◌≤◌, length, replicate, vec_len, IfOk};
 ghost use Rattle.ev_book.specs.Book.{unused};
 ghost use Rattle.ev_book.specs.Opening.{opened_pass};
-ghost use Rattle.ev_book.specs.Closing.{counts_of, calls_of, count_in};
+ghost use Rattle.ev_book.specs.Closing.{counts_of, count_in};
+ghost use Rattle.ev_book.specs.Inner.Closing.{calls_of};
 
 use crate::mark::Mark;
 use arrayvec::ArrayVec;

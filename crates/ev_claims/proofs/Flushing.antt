@@ -18,7 +18,8 @@ use Rattle.mac_arena.specs.Laws.{unpinned_among, unpinned_on, GoesFirst}
 use Rattle.mac_arena.proofs.Entries.{same_self, eq_same}
 use Rattle.mac_arena.proofs.Going.{unpinned_exact, unpinned_first}
 use Rattle.ev_claims.specs.LocalRoutes.{LocalRoutes, after_removal, after_removals}
-use Rattle.ev_claims.specs.Leaving.{flushed_at, AreKept}
+use Rattle.ev_claims.specs.Leaving.{flushed_at}
+use Rattle.ev_claims.specs.Inner.Leaving.{AreKept}
 use Rattle.ev_claims.proofs.Learnt.{removal_there}
 
 -- ---- a station that doesn't stand on a list has no part in it

@@ -9,7 +9,7 @@ use Rattle.std.specs.Option.{IfNone, option_map}
 use Rattle.std.specs.FinMap.{get, insert, empty, get-empty, same_map}
 use Rattle.std.proofs.lemmas.Bool.{eq-eqb}
 use Rattle.route_wire.specs.Order.{register_cmp}
-use Rattle.route_wire.specs.Totals.{register_total, register_exact}
+use Rattle.route_wire.specs.Inner.Totals.{register_total, register_exact}
 use Rattle.route_wire.specs.declared.update.Key.{Key}
 use Rattle.route_wire.specs.declared.update.Register.{Register}
 use Rattle.route_wire.specs.declared.update.Content.{Content}
@@ -25,8 +25,9 @@ use Rattle.route_join.specs.Owner.{advert_of, advert_in}
 use Rattle.route_join.proofs.Tables.{same_or_other, at_same, at_other}
 use Rattle.route_join.proofs.Joins.{update_other}
 use Rattle.route_join.proofs.Merging.{same_listeners}
-use Rattle.ev_claims.specs.Speaker.{Speaker, own_register, own, own_advert, IsPresent, IsSpeaker, KeepsNumbers}
-use Rattle.ev_claims.specs.Speaker.{HasRooms}
+use Rattle.ev_claims.specs.Speaker.{Speaker, own_register, own, own_advert, IsPresent, KeepsNumbers}
+use Rattle.ev_claims.specs.Inner.Speaker.{IsSpeaker}
+use Rattle.ev_claims.specs.Inner.Speaker.{HasRooms}
 use Rattle.ev_claims.specs.Speaker.{is_newest, is_ahead, is_returning, after_originating, after_importing}
 use Rattle.ev_claims.specs.Speaker.{after_importing_own}
 use Rattle.ev_claims.specs.Speaker.{after_announcing, silent}

@@ -17,7 +17,8 @@ use Rattle.route_join.proofs.Tables.{same_or_other, at_same, at_other}
 use Rattle.route_join.proofs.Joins.{update_other}
 use Rattle.route_join.proofs.Merging.{same_listeners}
 use Rattle.ev_claims.specs.Pending.{marked}
-use Rattle.ev_claims.specs.Speaker.{Speaker, own_register, own, KeepsNumbers, HasRooms, next_value, after_originating}
+use Rattle.ev_claims.specs.Speaker.{Speaker, own_register, own, KeepsNumbers, next_value, after_originating}
+use Rattle.ev_claims.specs.Inner.Speaker.{HasRooms}
 use Rattle.ev_claims.specs.Speaker.{after_importing}
 use Rattle.route_wire.proofs.Newer.{next_newer}
 

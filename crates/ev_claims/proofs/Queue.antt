@@ -14,9 +14,10 @@ use Rattle.idx_links.proofs.Paths.{has-append, has-left}
 use Rattle.route_wire.specs.declared.update.Register.{Register}
 use Rattle.route_wire.specs.Order.{register_cmp}
 use Rattle.route_wire.specs.contracts.update.RegisterPartialEq.TheImpl as register
-use Rattle.route_wire.specs.Ties.{tied_registers}
+use Rattle.route_wire.specs.Inner.Ties.{tied_registers}
 use Rattle.route_join.proofs.Tables.{same_register, itself_register}
-use Rattle.ev_claims.specs.Pending.{marked, no_register, register_at, queue, node_of, IsPending}
+use Rattle.ev_claims.specs.Pending.{marked}
+use Rattle.ev_claims.specs.Inner.Pending.{no_register, register_at, queue, node_of, IsPending}
 
 -- ---- one family of one list
 pub now_queue : (f : Families) (q : List ℕ) → f.families ≡ (q ∷ []) ∷ [] → queue f ≡ q

@@ -13,7 +13,8 @@ use Rattle.route_join.specs.declared.table.TakeError.{TakeError}
 use Rattle.route_join.specs.declared.table.TakeError.TheVariants.{UnknownOriginator, NoMemory}
 use Rattle.route_join.specs.Table.{Table, value_at, update_at, is_listed, with_update}
 use Rattle.route_join.specs.Owner.{advert_of}
-use Rattle.ev_claims.specs.Speaker.{Speaker, own_register, own_advert, IsSpeaker, next_value, after_originating}
+use Rattle.ev_claims.specs.Speaker.{Speaker, own_register, own_advert, next_value, after_originating}
+use Rattle.ev_claims.specs.Inner.Speaker.{IsSpeaker}
 use Rattle.ev_claims.proofs.Numbers.{said_numbers, said_rooms, said_joins, heard_numbers, heard_rooms}
 
 -- what a look-up of a register gave

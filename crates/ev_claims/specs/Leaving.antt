@@ -1,5 +1,5 @@
 -- Which stations go by age (IEEE 802.1D-2004, 7.9.2), and which when ports are flushed (17.11), and in what order.
-use Rattle.std.specs.Prelude.{◌≡◌, ◌≢◌, ◌<◌, ◌&&◌, ◌++◌, ℕ, Bool, false, Option, Some, None, List, [], ◌∷◌}
+use Rattle.std.specs.Prelude.{◌&&◌, ◌++◌, ℕ, Bool, false, Option, Some, None, List, [], ◌∷◌}
 use Rattle.mac_arena.specs.declared.station.Station.{Station}
 use Rattle.mac_arena.specs.declared.station.Entry.{Entry}
 use Rattle.mac_arena.specs.Learning.{Learning}
@@ -18,10 +18,6 @@ abbrev pub after_ageing : LocalRoutes → ℕ → LocalRoutes
 after_ageing e limit = after_removals e (due_in e.learned limit)
 
 -- ---- by port
-
--- all unpinned stations behind other ports are behind these still, in their order
-abbrev pub AreKept : Learning → Learning → ℕ → Type 0
-AreKept t u port = (q : ℕ) → 0 < q → q ≢ port → unpinned_on u q ≡ unpinned_on t q
 
 -- those behind these ports, one port after the other
 abbrev pub flushed_at : Learning → List ℕ → List Station

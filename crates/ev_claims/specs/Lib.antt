@@ -5,3 +5,4 @@ pub mod Leaving
 pub mod Opening
 pub mod Changes
 pub mod Laws
+pub mod Inner

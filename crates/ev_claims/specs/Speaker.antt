@@ -12,7 +12,7 @@ use Rattle.route_wire.specs.declared.update.Value.{Value}
 use Rattle.route_wire.specs.Fields.{Fields}
 use Rattle.route_join.specs.Table.{Table, value_at, update_at, register_of, is_listed, is_news, with_value, with_update}
 use Rattle.route_join.specs.Owner.{advert_in, advert_at, owner}
-use Rattle.ev_claims.specs.Pending.{Pending, marked}
+use Rattle.ev_claims.specs.Pending.{marked}
 
 -- Which incarnation of its originator the edge leads, and how many numbers it has given in it; its registers stand in
 -- the table among those of others. The pending registers are those that are still to be announced, the first one first.
@@ -56,23 +56,6 @@ pub record KeepsNumbers (e : Speaker) : Type 0 where
   pub known : is_listed e.table e.address ≡ true
   pub pending : (r : Register) → Contains e.pending r → (v : Value) × (value_at e.table r ≡ Some v) × IsPresent e v
       × (r.originator ≡ e.address)
-
--- each own register of this incarnation has a node of the list of what is pending
-abbrev pub HasRooms : Speaker → List Register → Type 0
-HasRooms e known = (k : Key) (v : Value) → own e k ≡ Some v → IsPresent e v → Contains known (own_register e k)
-
-abbrev pub speaker_of : ℕ → ℕ → Table → ℕ → Pending → Speaker
-speaker_of address incarnation table counter p = record {
-  address = address;
-  incarnation = incarnation;
-  table = table;
-  counter = counter;
-  pending = p.waiting;
-}
-
-pub record IsSpeaker (e : Speaker) (known : List Register) : Type 0 where
-  pub numbers : KeepsNumbers e
-  pub rooms : HasRooms e known
 
 abbrev pub is_at : Option ℕ → ℕ → Bool
 is_at None o = false

@@ -23,7 +23,7 @@ pub struct Pending {
 
 impl Model for Pending {
     ghost use Rattle.std.specs.Coded.{codes};
-    ghost use Rattle.ev_claims.specs.Pending.{Pending as Waiting, pending_of, IsPending};
+    ghost use Rattle.ev_claims.specs.Inner.Pending.{Pending as Waiting, pending_of, IsPending};
 
     ghost Value = { Waiting };
 

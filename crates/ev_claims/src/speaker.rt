@@ -44,7 +44,8 @@ pub struct Speaker {
 impl Model for Speaker {
     ghost use Rattle.std.specs.Coded.{codes};
     ghost use Rattle.std.specs.FinMap.{code};
-    ghost use Rattle.ev_claims.specs.Speaker.{Speaker as State, speaker_of, IsSpeaker};
+    ghost use Rattle.ev_claims.specs.Speaker.{Speaker as State};
+    ghost use Rattle.ev_claims.specs.Inner.Speaker.{speaker_of, IsSpeaker};
 
     ghost Value = { State };
 

@@ -4,8 +4,10 @@ use Rattle.std.specs.Prelude.{Result}
 use Rattle.ev_config.specs.declared.keys.Fault.{Fault}
 use Rattle.ev_config.specs.declared.keys.Fault.TheVariants as fault
 use Rattle.ev_config.specs.declared.faults.FaultyKey.{FaultyKey}
-use Rattle.ev_config.specs.Keys.{Key, Gives}
-use Rattle.ev_config.specs.Faults.{Spot, Faulty, faults_view, fault_at, HasFault, Adds}
+use Rattle.ev_config.specs.Keys.{Key}
+use Rattle.ev_config.specs.Inner.Keys.{Gives}
+use Rattle.ev_config.specs.Faults.{Spot, Faulty, fault_at}
+use Rattle.ev_config.specs.Inner.Faults.{faults_view, HasFault, Adds}
 
 -- what was read has the fault that reading it has
 pub gives_fault : {X V : Type 0} (spot : Spot) (view : X → V) (wanted : Result V Key) (r : Result X Fault)

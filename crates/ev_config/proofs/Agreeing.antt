@@ -1,11 +1,10 @@
 -- No fault exactly where reading gives something, and otherwise the first is the one that it tells.
 use Rattle.std.proofs.Common.{◌≡◌, ℕ, ◌+◌, Bool, true, false, List, [], ◌∷◌, ◌++◌, Option, Some, None, Ok, Err}
-use Rattle.std.proofs.Common.{refl, sym, ap, subst}
+use Rattle.std.proofs.Common.{refl, sym, subst}
 use Rattle.std.specs.Prelude.{◌*◌, ◌^◌, ◌==◌, Result, if◌then◌else◌, option_and_then, codes}
 use Rattle.std.specs.List.{list_any}
 use Rattle.toml.specs.Data.{Data, Items, no_items, item, Members, get_member, as_table}
 use Rattle.rstp_state.specs.declared.start.Settings.{Settings}
-use Rattle.ev_config.specs.declared.endpoint.Endpoint.{Endpoint}
 use Rattle.ev_config.specs.declared.port.Port.{Port}
 use Rattle.ev_config.specs.declared.port.Ports.{Ports}
 use Rattle.ev_config.specs.declared.edge.Names.{Names}

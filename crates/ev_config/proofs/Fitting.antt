@@ -16,7 +16,7 @@ use Rattle.ev_fabric.specs.Opening.{AreConfigs}
 use Rattle.ev_config.specs.declared.edge.Described.{Described}
 use Rattle.ev_config.specs.Config.{Edges, Whole, no_edges, with_edge, listening, told}
 use Rattle.ev_config.specs.ConfigPeer.{peer_of, listed_from}
-use Rattle.ev_config.specs.Fitting.{AreAmong, Fits, FitTogether}
+use Rattle.ev_config.specs.Inner.Fitting.{AreAmong, Fits, FitTogether}
 use Rattle.ether_wire.proofs.DistinctNumbers.{same_tests, distinct_more, distinct_none}
 
 -- a number that the test finds is there

@@ -1,5 +1,5 @@
 -- Lines that are told one after the other.
-use Rattle.std.proofs.Common.{◌≡◌, ℕ, ◌+◌, ◌⊎◌, inl, inr, List, [], ◌∷◌, ◌++◌, length, Some, Ok, Err, refl, sym, ap}
+use Rattle.std.proofs.Common.{◌≡◌, ℕ, ◌+◌, inl, inr, List, [], ◌∷◌, ◌++◌, length, Some, Ok, Err, refl, sym, ap}
 use Rattle.std.proofs.Common.{◌∙◌}
 use Rattle.std.proofs.Common.{append_assoc, arith}
 use Rattle.std.specs.Prelude.{Result}
@@ -10,8 +10,10 @@ use Rattle.ether_wire.specs.declared.ends.Device.{Device}
 use Rattle.ether_wire.specs.Ends.{End, Puts}
 use Rattle.ev_config.specs.declared.faults.FaultyKey.{FaultyKey}
 use Rattle.ev_config.specs.declared.whole.Use.{Use}
-use Rattle.ev_config.specs.Faults.{Faulty, faulty_of, faults_view, faults_in}
-use Rattle.ev_config.specs.Told.{line_text, lines_text, TellsEach, TellsOne, TellsFaults, TellsRefusal}
+use Rattle.ev_config.specs.Faults.{Faulty, faults_in}
+use Rattle.ev_config.specs.Inner.Faults.{faulty_of, faults_view}
+use Rattle.ev_config.specs.Told.{line_text, lines_text, TellsEach, TellsRefusal}
+use Rattle.ev_config.specs.Inner.Told.{TellsFaults}
 
 -- one line more
 pub lines_push : (ws : List (List ℕ)) (w : List ℕ) → lines_text (ws ++ w ∷ []) ≡ lines_text ws ++ line_text w

@@ -1,5 +1,5 @@
 -- The configuration that a document gives, or its first fault.
-use Rattle.std.specs.Prelude.{◌≡◌, ℕ, ◌+◌, Bool, true, false, List, [], ◌∷◌, ◌++◌, map, codes, string_bytes, String}
+use Rattle.std.specs.Prelude.{◌≡◌, ℕ, Bool, true, false, List, [], ◌∷◌, ◌++◌, map, codes, string_bytes, String}
 use Rattle.std.specs.Prelude.{Some, None, Result, Ok, Err}
 use Rattle.std.specs.declared.alloc.Global.{Global}
 use Rattle.toml.specs.Data.{Items, no_items, item, Members, as_table}
@@ -8,9 +8,6 @@ use Rattle.arrayvec.specs.ArrayVec.{ArrayVec}
 use Rattle.ev_edge.specs.declared.config.EdgeConfig.{EdgeConfig}
 use Rattle.ev_config.specs.declared.endpoint.PortEndpoints.{PortEndpoints}
 use Rattle.ev_config.specs.declared.edge.Described.{Described}
-use Rattle.ev_config.specs.declared.edges.Edges as code
-use Rattle.ev_config.specs.declared.keys.Fault.{Fault}
-use Rattle.ev_config.specs.declared.keys.Fault.TheVariants as fault
 use Rattle.ev_config.specs.declared.whole.Config.{Config}
 use Rattle.ev_config.specs.declared.whole.Served.{Served}
 use Rattle.ev_config.specs.declared.whole.Use.{Use}
@@ -38,14 +35,6 @@ with_edge before edge = record {
   bridges = before.bridges ++ edge.bridge ∷ [];
   configs = before.configs ++ edge.config ∷ [];
   links = before.links ++ edge.links ∷ [];
-}
-
-abbrev pub edges_view : code.Edges → Edges
-edges_view e = record {
-  addresses = e.addresses.items;
-  bridges = e.bridges.items;
-  configs = e.configs.items;
-  links = e.links.items;
 }
 
 -- the edges of the tables, after those before
@@ -134,19 +123,3 @@ abbrev pub ConfigFor : Use → List ℕ → Result Config ConfigRefusal → Type
 ConfigFor Any = ConfigOf false
 ConfigFor Run = ConfigOf true
 ConfigFor Serve = ServedEdgesOf
-
--- ---- a document, and a fault of one
-
--- the document that the text spells, or that it spells none
-abbrev pub Reads : {T : Type 0} → (T → Members) → List ℕ → Result T ConfigRefusal → Type 0
-Reads view text (Ok t) = parse_document text ≡ Some (view t)
-Reads view text (Err (refusal.Key k)) = ⊥
-Reads view text (Err refusal.Text) = parse_document text ≡ None
-Reads view text (Err refusal.NoMemory) = Unit {0}
-
--- the fault is told by its key, unless there is no memory for that
-abbrev pub Tells : Fault → ConfigRefusal → Type 0
-Tells (fault.Key k) (refusal.Key told) = string_bytes told ≡ k.now
-Tells fault.NoMemory (refusal.Key told) = ⊥
-Tells any refusal.Text = ⊥
-Tells any refusal.NoMemory = Unit {0}

@@ -1,5 +1,5 @@
 -- A peer, an edge that runs elsewhere: for each key, in the order of the faults, what it holds.
-use Rattle.std.specs.Prelude.{ℕ, List, [], ◌∷◌, ◌++◌, codes, Result, Ok, Err}
+use Rattle.std.specs.Prelude.{ℕ, List, [], ◌∷◌, ◌++◌, codes, Result, Ok}
 use Rattle.toml.specs.Data.{Items, no_items, item, Members, as_table}
 use Rattle.ev_config.specs.Keys.{Key, ◌>>=◌, read_or, required, addr_in, new_among, only}
 

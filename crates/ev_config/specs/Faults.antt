@@ -1,16 +1,10 @@
 -- All faults of a document: its faulty keys, each with its table, in the order in which they are told.
-use Rattle.std.specs.Prelude.{◌≡◌, ℕ, ◌+◌, Bool, true, false, if◌then◌else◌, List, [], ◌∷◌, ◌++◌, map, codes}
+use Rattle.std.specs.Prelude.{◌≡◌, ℕ, ◌+◌, Bool, true, false, if◌then◌else◌, List, [], ◌∷◌, ◌++◌, codes}
 use Rattle.std.specs.Prelude.{Option, Some, None, option_and_then, Result, Ok, Err}
 use Rattle.toml.specs.Data.{Data, Items, no_items, item, Members, get_member, as_table}
 use Rattle.ev_config.specs.declared.whole.Use.{Use}
 use Rattle.ev_config.specs.declared.whole.Use.TheVariants.{Any, Run, Serve}
-use Rattle.ev_config.specs.declared.keys.Fault.{Fault}
-use Rattle.ev_config.specs.declared.keys.Fault.TheVariants as fault
-use Rattle.ev_config.specs.declared.place.Place.{Place}
-use Rattle.ev_config.specs.declared.place.Place.TheVariants as place
-use Rattle.ev_config.specs.declared.faults.FaultyKey.{FaultyKey}
 use Rattle.ev_config.specs.Keys.{Key, ◌>>=◌, required, optional, addr_in, bridge_in, vni_in, path_in, tables_in}
-use Rattle.ev_config.specs.Keys.{new_among}
 use Rattle.ev_config.specs.Keys.{count_of, tables_beside, is_among, keys_of}
 use Rattle.ev_config.specs.ConfigPort as port
 use Rattle.ev_config.specs.ConfigEdge as edge
@@ -27,18 +21,6 @@ pub data Spot : Type 0 where
 -- a faulty key
 abbrev pub Faulty : Type 0
 Faulty = Spot × Key
-
-abbrev pub spot_of : Place → Spot
-spot_of (place.File t) = File
-spot_of (place.Edge n t) = Edge n
-spot_of (place.Port n m t) = Port n m
-spot_of (place.Peer n t) = Peer n
-
-abbrev pub faulty_of : FaultyKey → Faulty
-faulty_of f = (spot_of f.place, f.key.now)
-
-abbrev pub faults_view : List FaultyKey → List Faulty
-faults_view faults = map faulty_of faults
 
 -- the key is faulty where reading it gives no value
 abbrev pub fault_at : {X : Type 0} → Spot → Result X Key → List Faulty
@@ -226,19 +208,6 @@ abbrev pub faults_in : Use → Members → List Faulty
 faults_in Any = config_faults false
 faults_in Run = config_faults true
 faults_in Serve = served_faults
-
--- ---- what the reader answers
-
--- what was read has these faults, none or one; only memory excuses it
-abbrev pub HasFault : {X : Type 0} → Spot → Result X Fault → List Faulty → Type 0
-HasFault spot (Ok x) faults = faults ≡ []
-HasFault spot (Err (fault.Key k)) faults = faults ≡ (spot, k.now) ∷ []
-HasFault spot (Err fault.NoMemory) faults = Unit {0}
-
--- these faults more, unless memory is refused
-abbrev pub Adds : {X : Type 0} → List Faulty → List FaultyKey → List FaultyKey → Result X Fault → Type 0
-Adds more old new (Ok x) = faults_view new ≡ faults_view old ++ more
-Adds more old new (Err any) = Unit {0}
 
 -- ---- faults and what a reading gives
 

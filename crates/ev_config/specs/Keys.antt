@@ -1,5 +1,5 @@
 -- What the keys of a table hold: a value, or the key as the fault.
-use Rattle.std.specs.Prelude.{◌≡◌, ℕ, ℤ, pos, negsuc, ◌+◌, ◌%◌, Bool, true, not, ◌&&◌, ◌==◌, nat_lt, nat_le}
+use Rattle.std.specs.Prelude.{ℕ, ℤ, pos, negsuc, ◌+◌, ◌%◌, Bool, true, not, ◌&&◌, ◌==◌, nat_lt, nat_le}
 use Rattle.std.specs.Prelude.{if◌then◌else◌, List, [], ◌∷◌, ◌++◌, length, is_some, Option, Some, None}
 use Rattle.std.specs.Prelude.{option_and_then, Result, Ok, Err}
 use Rattle.std.specs.Str.{bytes_eq}
@@ -10,8 +10,6 @@ use Rattle.ether_wire.specs.Addr.{is_group}
 use Rattle.ether_wire.specs.Parse.{addr_of_text, mac_of_text}
 use Rattle.ev_config.specs.declared.endpoint.Endpoint.{Endpoint}
 use Rattle.ev_config.specs.Endpoint.{endpoint_of_text}
-use Rattle.ev_config.specs.declared.keys.Fault.{Fault}
-use Rattle.ev_config.specs.declared.keys.Fault.TheVariants as fault
 
 -- a key's octets
 abbrev pub Key : Type 0
@@ -156,11 +154,3 @@ all_known known (k ∷ ks) = if is_among known k then all_known known ks else Er
 
 abbrev pub only : List Key → Members → Result Bool Key
 only known t = all_known known (keys_of t)
-
--- ---- what a reader answers
-
--- What the reader answers is the wanted value, or the wanted fault; only memory excuses it.
-abbrev pub Gives : {X V : Type 0} → (X → V) → Result V Key → Result X Fault → Type 0
-Gives view wanted (Ok x) = wanted ≡ Ok (view x)
-Gives view wanted (Err (fault.Key k)) = wanted ≡ Err k.now
-Gives view wanted (Err fault.NoMemory) = Unit {0}

@@ -6,4 +6,4 @@ pub mod ConfigPeer
 pub mod Config
 pub mod Faults
 pub mod Told
-pub mod Fitting
+pub mod Inner

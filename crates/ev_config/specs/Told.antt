@@ -25,10 +25,6 @@ TellsEach xs old new (Err device) = new.failures ≡ old.failures + 1
 abbrev pub TellsOne : End → End → Result (Unit {0}) Device → Type 0
 TellsOne old new result = (words : List ℕ) × Puts old new (line_text words) result
 
--- Each fault of a document is told; or one line, where there was no memory to find them.
-abbrev pub TellsFaults : Use → Members → End → End → Result (Unit {0}) Device → Type 0
-TellsFaults wanted t old new result = TellsEach (faults_in wanted t) old new result ⊎ TellsOne old new result
-
 -- a line for each fault of a text's document
 abbrev pub TellsAll : Use → List ℕ → End → End → Result (Unit {0}) Device → Type 0
 TellsAll wanted text old new result =

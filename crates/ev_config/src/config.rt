@@ -2,7 +2,8 @@
 ghost use Rattle.std.specs.Prelude.{IfOk};
 ghost use Rattle.toml.specs.View.{table_view};
 ghost use Rattle.ev_fabric.specs.Opening.{AreConfigs};
-ghost use Rattle.ev_config.specs.Config.{ConfigOf, ServedOf, ServedEdgesOf, ConfigFor, Reads, Tells};
+ghost use Rattle.ev_config.specs.Config.{ConfigOf, ServedOf, ServedEdgesOf, ConfigFor};
+ghost use Rattle.ev_config.specs.Inner.Config.{Reads, Tells};
 
 use crate::edges::{config_in, served_in};
 use crate::keys::Fault;

@@ -4,7 +4,8 @@ ghost use Rattle.std.specs.Option.{option_map_or};
 ghost use Rattle.toml.specs.Data.{no_items};
 ghost use Rattle.toml.specs.View.{table_view, array_view};
 ghost use Rattle.ev_config.specs.Keys.{optional, count_of, tables_beside};
-ghost use Rattle.ev_config.specs.Faults.{faults_view, Adds, all_addresses, edges_faults, peers_faults, edge_items, config_faults, served_faults, tables_or_none, faults_in};
+ghost use Rattle.ev_config.specs.Faults.{all_addresses, edges_faults, peers_faults, edge_items, config_faults, served_faults, tables_or_none, faults_in};
+ghost use Rattle.ev_config.specs.Inner.Faults.{faults_view, Adds};
 
 use crate::edges::{FILE_KEYS, SERVED_KEYS};
 use crate::faults::{FaultyKey, add_edges, add_others, add_peers, note};

@@ -2,8 +2,9 @@
 ghost use Rattle.std.specs.Prelude.{◌≡◌, ◌≤◌, ◌<◌, ◌^◌, codes, eqb, false, IfOk};
 ghost use Rattle.std.specs.List.{list_any, IsDistinct};
 ghost use Rattle.toml.specs.View.{table_view};
-ghost use Rattle.ev_config.specs.Keys.{Gives, required, bridge_in, new_among};
-ghost use Rattle.ev_config.specs.Fitting.{Fits};
+ghost use Rattle.ev_config.specs.Keys.{required, bridge_in, new_among};
+ghost use Rattle.ev_config.specs.Inner.Keys.{Gives};
+ghost use Rattle.ev_config.specs.Inner.Fitting.{Fits};
 ghost use Rattle.ev_config.specs.ConfigEdge.{priority_of, hello_of, max_age_of, forward_delay_of, hold_of, ageing_of, capacity_of, buckets_of, salt_of, incarnation_of, names_of, tree_of, limits_of, times_fit, related, edge_from, edge_of};
 
 use crate::endpoint::PortEndpoints;

@@ -5,9 +5,11 @@ ghost use Rattle.std.specs.Option.{option_map_or};
 ghost use Rattle.toml.specs.Data.{no_items};
 ghost use Rattle.toml.specs.View.{table_view, array_view};
 ghost use Rattle.ev_fabric.specs.Opening.{AreConfigs};
-ghost use Rattle.ev_config.specs.Fitting.{Fits, FitTogether};
-ghost use Rattle.ev_config.specs.Keys.{Gives, optional, tables_beside, count_of};
-ghost use Rattle.ev_config.specs.Config.{no_edges, with_edge, edges_view, edges_from, listening, described, config_in, view_of, with_peers, served_in, served_view};
+ghost use Rattle.ev_config.specs.Inner.Fitting.{Fits, FitTogether};
+ghost use Rattle.ev_config.specs.Keys.{optional, tables_beside, count_of};
+ghost use Rattle.ev_config.specs.Inner.Keys.{Gives};
+ghost use Rattle.ev_config.specs.Config.{no_edges, with_edge, edges_from, listening, described, config_in, view_of, with_peers, served_in, served_view};
+ghost use Rattle.ev_config.specs.Inner.Config.{edges_view};
 
 use crate::edge::{Described, edge_of};
 use crate::endpoint::PortEndpoints;

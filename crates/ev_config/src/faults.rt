@@ -2,9 +2,11 @@
 //! refusal is noted.
 ghost use Rattle.std.specs.Prelude.{◌≡◌, ◌+◌, ◌<◌, ◌≤◌, ◌++◌, ◌∷◌, [], List, length, map, codes, option_map, IfOk, OnOk};
 ghost use Rattle.toml.specs.View.{view, table_view, array_view};
-ghost use Rattle.ev_config.specs.Keys.{Gives, required, addr_in, bridge_in, vni_in, tables_in};
+ghost use Rattle.ev_config.specs.Keys.{required, addr_in, bridge_in, vni_in, tables_in};
+ghost use Rattle.ev_config.specs.Inner.Keys.{Gives};
 ghost use Rattle.ev_config.specs.ConfigEdge.{networks_of};
-ghost use Rattle.ev_config.specs.Faults.{Faulty, spot_of, faults_view, HasFault, Adds, others, found, network_of, port_faults, ports_faults, names_faults, tree_faults, limits_faults, times_of, odd_times, ports_at, edge_faults, spelt, joined, all_addresses, edges_faults, peer_faults, peers_faults};
+ghost use Rattle.ev_config.specs.Faults.{Faulty, others, found, network_of, port_faults, ports_faults, names_faults, tree_faults, limits_faults, times_of, odd_times, ports_at, edge_faults, spelt, joined, all_addresses, edges_faults, peer_faults, peers_faults};
+ghost use Rattle.ev_config.specs.Inner.Faults.{spot_of, faults_view, HasFault, Adds};
 
 use crate::edge::{
     EDGE_KEYS, ageing_of, bridge_of, buckets_of, capacity_of, forward_delay_of, hello_of, hold_of,

@@ -4,7 +4,8 @@ ghost use Rattle.std.specs.List.{list_any, IsDistinct};
 ghost use Rattle.std.specs.Option.{option_map_or};
 ghost use Rattle.toml.specs.Data.{get_member, no_items};
 ghost use Rattle.toml.specs.View.{view, table_view, array_view};
-ghost use Rattle.ev_config.specs.Keys.{Gives, optional, required, number_in, steps_in, flag_in, addr_in, bridge_in, endpoint_in, is_path, path_in, vni_in, vnis_in, new_among, numbers_from, is_among, only, read_or, is_few, are_tables, tables_in, tables_beside};
+ghost use Rattle.ev_config.specs.Keys.{optional, required, number_in, steps_in, flag_in, addr_in, bridge_in, endpoint_in, is_path, path_in, vni_in, vnis_in, new_among, numbers_from, is_among, only, read_or, is_few, are_tables, tables_in, tables_beside};
+ghost use Rattle.ev_config.specs.Inner.Keys.{Gives};
 ghost use Rattle.ev_config.specs.declared.keys.Fault.TheVariants.{NoMemory};
 
 use crate::endpoint::{Endpoint, read_endpoint};

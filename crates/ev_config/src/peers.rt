@@ -4,8 +4,8 @@ ghost use Rattle.std.specs.List.{list_any, IsDistinct};
 ghost use Rattle.std.specs.Option.{option_map_or};
 ghost use Rattle.toml.specs.Data.{no_items};
 ghost use Rattle.toml.specs.View.{table_view, array_view};
-ghost use Rattle.ev_config.specs.Fitting.{AreAmong};
-ghost use Rattle.ev_config.specs.Keys.{Gives};
+ghost use Rattle.ev_config.specs.Inner.Fitting.{AreAmong};
+ghost use Rattle.ev_config.specs.Inner.Keys.{Gives};
 ghost use Rattle.ev_config.specs.ConfigPeer.{peer_of, listed_from};
 
 use crate::keys::{Fault, new_address_at, only};

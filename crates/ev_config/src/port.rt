@@ -1,9 +1,10 @@
 //! The ports of an edge, key by key.
 ghost use Rattle.std.specs.Prelude.{◌≡◌, ◌+◌, ◌≤◌, ◌<◌, ℕ, List, length, codes, IfOk, Contains};
 ghost use Rattle.toml.specs.View.{table_view, array_view};
-ghost use Rattle.ev_config.specs.Keys.{Gives, required, vni_in, one_of};
+ghost use Rattle.ev_config.specs.Keys.{required, vni_in, one_of};
+ghost use Rattle.ev_config.specs.Inner.Keys.{Gives};
 ghost use Rattle.ev_edge.specs.Config.{vnis_of};
-ghost use Rattle.ev_config.specs.Fitting.{AreAmong};
+ghost use Rattle.ev_config.specs.Inner.Fitting.{AreAmong};
 ghost use Rattle.ev_config.specs.ConfigPort.{cost_of, priority_of, admin_edge_of, auto_edge_of, point_to_point_of, endpoint_of, port_of, no_ports, with_port, ports_from};
 
 use crate::endpoint::{Endpoint, PortEndpoints};

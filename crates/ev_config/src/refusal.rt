@@ -3,7 +3,8 @@ ghost use Rattle.std.specs.Prelude.{◌≡◌, OnOk};
 ghost use Rattle.toml.specs.View.{table_view};
 ghost use Rattle.ether_wire.specs.Ends.{IsOpen, Puts};
 ghost use Rattle.ether_wire.specs.Memory.{page_end, page_octets};
-ghost use Rattle.ev_config.specs.Told.{line_text, TellsEach, TellsFaults, TellsRefusal};
+ghost use Rattle.ev_config.specs.Told.{line_text, TellsEach, TellsRefusal};
+ghost use Rattle.ev_config.specs.Inner.Told.{TellsFaults};
 
 use crate::advice::{Line, fault_line, put_shown};
 use crate::document::faults_of;

@@ -12,11 +12,13 @@ use Rattle.ether_wire.proofs.Appending.{with_text_twice, with_text_none}
 use Rattle.ev_links.specs.Coming.{behind}
 use Rattle.ev_links.proofs.Behind.{behind_none, behind_twice}
 use Rattle.ev_console.specs.Asking.{Asked}
-use Rattle.ev_console.specs.Answers.{AnswersLine, Replies}
+use Rattle.ev_console.specs.Answers.{AnswersLine}
+use Rattle.ev_console.specs.Inner.Answers.{Replies}
 use Rattle.ev_console.specs.Conversation.{feed, is_feed, IsLine, kept, Exchange, IsExchange, lines_of, asked_of}
-use Rattle.ev_console.specs.Conversation.{said_of, AreExchanges, is_cut, missing_feed, BreaksOff, SoFar}
-use Rattle.ev_console.specs.Conversation.{ToOctets, TakesOctets}
-use Rattle.ev_console.specs.Conversation.{TakesEnd}
+use Rattle.ev_console.specs.Conversation.{said_of, AreExchanges, is_cut, missing_feed, BreaksOff}
+use Rattle.ev_console.specs.Inner.Conversation.{SoFar}
+use Rattle.ev_console.specs.Inner.Conversation.{ToOctets, TakesOctets}
+use Rattle.ev_console.specs.Inner.Conversation.{TakesEnd}
 
 -- ---- what is kept of a line
 

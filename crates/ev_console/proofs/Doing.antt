@@ -21,8 +21,9 @@ use Rattle.ev_view.proofs.Each.{each_both}
 use Rattle.ev_console.specs.Asking.{Asked, ServedSeen, served_seen, served_from}
 use Rattle.ev_console.specs.Table.{IsReportOf}
 use Rattle.ev_console.specs.declared.operated.Unreached.{Unreached}
-use Rattle.ev_console.specs.Answers.{Does, Says, ShowsEdges, served_seen_text, no_memory_text, unreached_text}
-use Rattle.ev_console.specs.Answers.{PutsShown, PutsTable}
+use Rattle.ev_console.specs.Answers.{Says, ShowsEdges, served_seen_text, no_memory_text, unreached_text}
+use Rattle.ev_console.specs.Inner.Answers.{Does}
+use Rattle.ev_console.specs.Inner.Answers.{PutsShown, PutsTable}
 
 pub says_put : (words : List ℕ) (before : Option (List Asked)) (old new : End) (r : Result (Unit {0}) Device)
     → Puts old new words r → Does (Says words) before before old new r

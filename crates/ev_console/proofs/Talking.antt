@@ -7,7 +7,8 @@ use Rattle.ev_report.specs.Input.{Gathers}
 use Rattle.ev_report.proofs.Gathering.{gathers_none, gathers_more, whole_ended}
 use Rattle.ev_report.proofs.Reading.{same_source, prepend_known_none}
 use Rattle.ev_console.specs.Asking.{Asked}
-use Rattle.ev_console.specs.Conversation.{SoFar, TakesOctets, TakesEnd, Converses, missing_feed}
+use Rattle.ev_console.specs.Conversation.{Converses, missing_feed}
+use Rattle.ev_console.specs.Inner.Conversation.{SoFar, TakesOctets, TakesEnd}
 use Rattle.ev_console.proofs.Conversing.{sofar_none, sofar_whole}
 
 -- so many reads gave octets, and these were looked at

@@ -3,8 +3,6 @@ use Rattle.std.specs.Prelude.{◌<◌}
 use Rattle.std.specs.Prelude.{◌≡◌, ◌⊎◌, ℕ, List, [], ◌∷◌, ◌++◌, length, codes, Option, Some, None, Result, Ok, Err}
 use Rattle.std.specs.Global.{Vec}
 use Rattle.std.specs.declared.alloc.AllocError.{AllocError}
-use Rattle.ether_wire.specs.Ends.{End, Puts}
-use Rattle.ether_wire.specs.declared.ends.Device.{Device}
 use Rattle.route_wire.specs.Fields.{Fields}
 use Rattle.ev_edge.specs.declared.refusal.EdgeRefusal.TheVariants as own
 use Rattle.ev_edge.specs.declared.refusal.Refusal.TheVariants as edges
@@ -14,7 +12,6 @@ use Rattle.ev_book.specs.declared.refusal.BookRefusal.TheVariants.{PassStrange, 
 use Rattle.ev_book.specs.Refusal.{refusal_number}
 use Rattle.ev_mailboxes.specs.declared.request.Command.{Command as Step}
 use Rattle.ev_mailboxes.specs.declared.request.Command.TheVariants as steps
-use Rattle.ev_links.specs.Coming.{behind}
 use Rattle.ev_script.specs.declared.script.question.Question.{Question}
 use Rattle.ev_script.specs.declared.script.question.Question.TheVariants.{Help, Edges, OfEdge}
 use Rattle.ev_script.specs.Script.{Command, up, down, mcheck, second, frame, tunnel, pin, unpin, thaw, announce}
@@ -80,21 +77,6 @@ TellsShown e (Err refused) = λ text. text ≡ no_memory_text e
 abbrev pub TellsTable : ℕ → TableSeen → List ℕ → Type 0
 TellsTable e (Ok shown) = TellsShown e shown
 TellsTable e (Err unreached) = λ text. text ≡ unreached_text e unreached
-
--- Such a text was written, or a call of the writer failed.
-pub record PutsOne (tells : List ℕ → Type 0) (old new : End) (result : Result (Unit {0}) Device) : Type 0 where
-  pub text : List ℕ
-  pub told : tells text
-  pub written : Puts old new text result
-
-abbrev pub PutsUpdates : ℕ → List Fields → End → End → Result (Unit {0}) Device → Type 0
-PutsUpdates e updates old new result = PutsOne (TellsUpdates e updates) old new result
-
-abbrev pub PutsShown : ℕ → Result (Vec Fields) AllocError → End → End → Result (Unit {0}) Device → Type 0
-PutsShown e shown old new result = PutsOne (TellsShown e shown) old new result
-
-abbrev pub PutsTable : ℕ → TableSeen → End → End → Result (Unit {0}) Device → Type 0
-PutsTable e answer old new result = PutsOne (TellsTable e answer) old new result
 
 -- ---- a line
 
@@ -174,23 +156,3 @@ AnswersAsked count line (Some question) = AnswersQuestion count question
 -- a line, where there are this many edges
 abbrev pub AnswersLine : ℕ → List ℕ → List Asked → List ℕ → Type 0
 AnswersLine count line = AnswersAsked count line (question_of line)
-
--- ---- what was done with it
-
--- This was asked and answered: nothing else was asked, and this text was written, or a call of the writer failed.
-pub record Does (says : List Asked → List ℕ → Type 0) (before after : Option (List Asked)) (old new : End)
-    (result : Result (Unit {0}) Device) : Type 0 where
-  pub asked : List Asked
-  pub text : List ℕ
-  pub said : says asked text
-  pub told : after ≡ behind before asked
-  pub written : Puts old new text result
-
--- a line was answered, and behind it stands an empty one
-pub record Replies (count : ℕ) (line : List ℕ) (before after : Option (List Asked)) (old new : End)
-    (result : Result (Unit {0}) Device) : Type 0 where
-  pub asked : List Asked
-  pub text : List ℕ
-  pub said : AnswersLine count line asked text
-  pub told : after ≡ behind before asked
-  pub written : Puts old new (text ++ codes "\n") result

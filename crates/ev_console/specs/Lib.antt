@@ -2,3 +2,4 @@ pub mod Asking
 pub mod Answers
 pub mod Table
 pub mod Conversation
+pub mod Inner

@@ -3,7 +3,8 @@ ghost use Rattle.std.specs.Prelude.{◌≡◌, true, OnOk};
 ghost use Rattle.ether_wire.specs.Ends.{IsOpen};
 ghost use Rattle.ev_report.specs.Ends.{Tells};
 ghost use Rattle.ev_script.specs.Script.{command_of, line_of};
-ghost use Rattle.ev_console.specs.Answers.{Steps, ShowsTable, ShowsPort, ShowsView, ShowsEdges, Says, simulated_text, served_seen_text, AnswersCommand, AnswersWords, AnswersQuestion, AnswersLine, Does, Replies};
+ghost use Rattle.ev_console.specs.Answers.{Steps, ShowsTable, ShowsPort, ShowsView, ShowsEdges, Says, simulated_text, served_seen_text, AnswersCommand, AnswersWords, AnswersQuestion, AnswersLine};
+ghost use Rattle.ev_console.specs.Inner.Answers.{Does, Replies};
 
 use crate::operated::{Operated, Unreached};
 use crate::printing::{

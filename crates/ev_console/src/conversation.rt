@@ -1,7 +1,8 @@
 //! A conversation: line after line, each answered before the next one is looked at.
 ghost use Rattle.std.specs.Prelude.{◌≡◌, ◌^◌, ◌∷◌, ◌++◌, [], take, OnOk};
 ghost use Rattle.ether_wire.specs.Ends.{IsOpen, Allows};
-ghost use Rattle.ev_console.specs.Conversation.{TakesOctets, TakesEnd, Converses, Talks};
+ghost use Rattle.ev_console.specs.Conversation.{Converses, Talks};
+ghost use Rattle.ev_console.specs.Inner.Conversation.{TakesOctets, TakesEnd};
 
 use crate::answering::reply;
 use crate::edges::Edges;

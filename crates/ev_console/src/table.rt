@@ -3,7 +3,7 @@ ghost use Rattle.std.specs.Prelude.{◌≡◌, ◌≤◌, eqb, length, true, IfS
 ghost use Rattle.std.specs.List.{IsDistinct};
 ghost use Rattle.ether_wire.specs.Ends.{IsOpen};
 ghost use Rattle.route_join.specs.Table.{AreOriginators, IsTableOf};
-ghost use Rattle.ev_console.specs.Answers.{PutsTable, PutsShown, PutsUpdates};
+ghost use Rattle.ev_console.specs.Inner.Answers.{PutsTable, PutsShown, PutsUpdates};
 
 use crate::operated::Unreached;
 use crate::printing::{put_no_memory, put_unreached};

@@ -9,7 +9,7 @@ use Rattle.ether_wire.proofs.PortLemmas.{has_port-none}
 use Rattle.rstp_run.specs.Rules.{Tree}
 use Rattle.rstp_run.specs.Events.{Passes}
 use Rattle.ev_edge.specs.Edge.{ArePassing}
-use Rattle.ev_edge.specs.Bridging.{AddsPassing}
+use Rattle.ev_edge.specs.Inner.Bridging.{AddsPassing}
 
 -- the set has the ports up to this one that pass
 pub record Upto (s : Tree) (n set : ℕ) : Type 0 where

@@ -10,7 +10,8 @@ use Rattle.ev_claims.specs.declared.speaker.OwnError.TheVariants.{Ahead, Spent, 
 use Rattle.ev_claims.specs.Speaker.{KeepsNumbers, is_ahead, is_spent, is_returning}
 use Rattle.ev_claims.specs.LocalRoutes.{LocalRoutes, after_own}
 use Rattle.ev_edge.specs.Edge.{Edge, IsEdge, table_of}
-use Rattle.ev_edge.specs.Steps.{TakesOwn, own_result, nothing}
+use Rattle.ev_edge.specs.Steps.{TakesOwn, nothing}
+use Rattle.ev_edge.specs.Inner.Steps.{own_result}
 use Rattle.ev_edge.proofs.Keeping.{kept, holds_of}
 use Rattle.ev_edge.proofs.Returning.{own_holds}
 

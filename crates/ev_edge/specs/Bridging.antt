@@ -1,9 +1,8 @@
 -- What an event of the bridge does to an edge (IEEE 802.1D-2004, 17.11, for what is flushed, and 7.9.2 for ageing).
-use Rattle.std.specs.Prelude.{◌≡◌, ◌⊎◌, ◌↔◌, ℕ, ◌+◌, ◌-◌, ◌^◌, ◌==◌, nat_le, Bool, true, List, if◌then◌else◌}
-use Rattle.ether_wire.specs.Ports.{has_port}
+use Rattle.std.specs.Prelude.{◌≡◌, ℕ, ◌+◌, ◌-◌, ◌^◌, ◌==◌, nat_le, Bool, List, if◌then◌else◌}
 use Rattle.bpdu_wire.specs.declared.bpdu.Bpdu.{Bpdu}
 use Rattle.rstp_run.specs.declared.event.Event.{Event}
-use Rattle.rstp_run.specs.Events.{Happens, Passes, firings_at, sent_from}
+use Rattle.rstp_run.specs.Events.{Happens, firings_at, sent_from}
 use Rattle.rstp_run.specs.Rules.{Tree}
 use Rattle.ev_claims.specs.LocalRoutes.{LocalRoutes}
 use Rattle.ev_claims.specs.Leaving.{after_ageing, after_flush}
@@ -36,8 +35,3 @@ after_second e tree flush = record e {
   tree = tree;
   routes = aged (after_flush e.routes flush) e.ageing (next_second e.clock);
 }
-
--- one port more of those that pass
-abbrev pub AddsPassing : Tree → ℕ → ℕ → ℕ → Type 0
-AddsPassing tree set port more = (p : ℕ) → (has_port more p ≡ true)
-    ↔ ((has_port set p ≡ true) ⊎ ((port ≡ p) × Passes tree p))

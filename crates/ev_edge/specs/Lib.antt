@@ -11,3 +11,4 @@ pub mod Laws
 pub mod Opening
 pub mod Refusal
 pub mod Removed
+pub mod Inner

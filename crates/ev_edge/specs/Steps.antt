@@ -14,9 +14,6 @@ use Rattle.ev_mobility.specs.declared.alert.Alert.TheVariants.{LostStatic}
 use Rattle.rstp_run.specs.declared.event.Event as tree
 use Rattle.rstp_run.specs.declared.event.Event.TheVariants as tree_events
 use Rattle.rstp_run.specs.Events.{Learns, Passes}
-use Rattle.route_join.specs.declared.table.Taken.{Taken}
-use Rattle.ev_claims.specs.declared.speaker.OwnError.{OwnError}
-use Rattle.ev_claims.specs.declared.speaker.OwnError.TheVariants.{Ahead, Spent, NoMemory as Unroomed}
 use Rattle.ev_claims.specs.Speaker.{announced, is_ahead, is_spent, is_returning}
 use Rattle.ev_claims.specs.LocalRoutes.{vni_at, after_take, after_own, after_announcement, loses_pinned}
 use Rattle.ev_edge.specs.declared.arrival.Arrival.{Arrival}
@@ -155,12 +152,6 @@ OwnRefused e u r =
     ⊎ ((r ≡ OfEdge OwnSpent) × (is_spent e.routes.speaker u ≡ true))
     ⊎ ((r ≡ OfEdge NoMemory) × (is_ahead e.routes.speaker u ≡ false) × (is_spent e.routes.speaker u ≡ false)
     × ((value_at (table_of e) u.register ≡ None) ⊎ (is_returning e.routes.speaker u ≡ true)))
-
-abbrev pub own_result : Result Taken OwnError → Result Reply Refusal
-own_result (Ok taken) = Ok (record nothing { taken = Some taken })
-own_result (Err Ahead) = Err (OfEdge OwnNameAhead)
-own_result (Err Spent) = Err (OfEdge OwnSpent)
-own_result (Err Unroomed) = Err (OfEdge NoMemory)
 
 abbrev pub TakesOwn : Edge → Fields → Result Reply Refusal → Edge → Type 0
 TakesOwn e u (Ok reply) e' =

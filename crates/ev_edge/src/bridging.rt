@@ -3,7 +3,8 @@ ghost use Rattle.std.specs.Prelude.{◌≡◌, ◌≤◌, ◌^◌, true, is_some
 ghost use Rattle.rstp_run.specs.Events.{IsAt, IsPort};
 ghost use Rattle.ev_claims.specs.LocalRoutes.{vni_at};
 ghost use Rattle.ev_edge.specs.Edge.{ArePassing};
-ghost use Rattle.ev_edge.specs.Bridging.{AddsPassing, BridgeGoes, next_second, aged};
+ghost use Rattle.ev_edge.specs.Bridging.{BridgeGoes, next_second, aged};
+ghost use Rattle.ev_edge.specs.Inner.Bridging.{AddsPassing};
 ghost use Rattle.ev_edge.specs.Steps.{BridgeSteps, BridgesAt, SecondSteps, answered};
 
 use crate::edge::Edge;

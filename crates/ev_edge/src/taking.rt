@@ -3,7 +3,8 @@ ghost use Rattle.std.specs.Prelude.{◌≡◌, ◌≢◌, ◌==◌, Some};
 ghost use Rattle.ev_claims.specs.Speaker.{announced};
 ghost use Rattle.ev_claims.specs.LocalRoutes.{after_announcement};
 ghost use Rattle.ev_edge.specs.Edge.{address_of};
-ghost use Rattle.ev_edge.specs.Steps.{Takes, TakesOwn, TakesOther, answered, nothing, lost_alert, own_result};
+ghost use Rattle.ev_edge.specs.Steps.{Takes, TakesOwn, TakesOther, answered, nothing, lost_alert};
+ghost use Rattle.ev_edge.specs.Inner.Steps.{own_result};
 
 use crate::edge::Edge;
 use crate::refusal::{EdgeRefusal, Refusal};

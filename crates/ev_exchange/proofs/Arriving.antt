@@ -11,7 +11,7 @@ use Rattle.route_wire.specs.declared.update.Register.{Register}
 use Rattle.route_wire.specs.declared.update.Value.{Value}
 use Rattle.route_wire.specs.Fields.{Fields}
 use Rattle.route_wire.specs.Order.{register_cmp, is_newer}
-use Rattle.route_wire.specs.Totals.{register_total, register_exact, neither_newer}
+use Rattle.route_wire.specs.Inner.Totals.{register_total, register_exact, neither_newer}
 use Rattle.route_join.specs.Table.{Table, value_at, with_updates, table_from, entries_of, IsTableOf}
 use Rattle.route_join.specs.Updates.{all_updates}
 use Rattle.route_join.specs.Joins.{newer_of, join}

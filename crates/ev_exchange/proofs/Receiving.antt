@@ -14,7 +14,7 @@ use Rattle.ev_exchange.specs.declared.stream_end.StreamEnd.{StreamEnd}
 use Rattle.ev_links.specs.Coming.{behind}
 use Rattle.ev_exchange.specs.Receiving.{Received, Given, AreCounts, news_of, handed, HasReceived}
 use Rattle.ev_exchange.specs.Receiving.{Delivers, end_by}
-use Rattle.ev_exchange.specs.Receiving.{end_of_next}
+use Rattle.ev_exchange.specs.Inner.Receiving.{end_of_next}
 use Rattle.ev_links.proofs.Behind.{behind_twice, behind_none}
 use Rattle.ev_exchange.proofs.Counting.{handed_push}
 

@@ -2,3 +2,4 @@ pub mod Receiving
 pub mod Sending
 pub mod Saying
 pub mod Laws
+pub mod Inner

@@ -3,8 +3,6 @@ use Rattle.std.specs.Prelude.{◌≡◌, ℕ, ◌+◌, ◌<◌, ◌^◌, ◌-◌
 use Rattle.std.specs.Prelude.{length, slice_index, Option, Some, None, Result, Ok, Err}
 use Rattle.route_wire.specs.declared.stream.Whole.{Whole}
 use Rattle.route_wire.specs.declared.stream.Whole.TheVariants.{Rest, Fault, Length}
-use Rattle.route_wire.specs.declared.stream.Next.{Next}
-use Rattle.route_wire.specs.declared.stream.Next.TheVariants.{More, Record, Refused, Fault as Faulted}
 use Rattle.route_wire.specs.Fields.{Fields}
 use Rattle.route_wire.specs.Stream.{whole_of}
 use Rattle.route_wire.specs.Record.{Answers}
@@ -74,13 +72,6 @@ abbrev pub end_by : Whole → List ℕ → StreamEnd
 end_by Rest rest = if length rest == 0 then Ended else Cut (length rest)
 end_by (Fault fault) rest = Faulty fault
 end_by (Length n) rest = Ended
-
--- the same by what a feed has next that holds this rest
-abbrev pub end_of_next : Next → List ℕ → StreamEnd
-end_of_next More rest = end_by Rest rest
-end_of_next (Record u) rest = Ended
-end_of_next (Refused refusal) rest = Ended
-end_of_next (Faulted fault) rest = Faulty fault
 
 -- The answers of the stream, by its definition, up to the rest: an entrance that told `start` was given what goes on of
 -- them, each refusal of them is counted, and the stream's end is told.

@@ -4,7 +4,8 @@ ghost use Rattle.route_wire.specs.Fields.{Fields};
 ghost use Rattle.route_wire.specs.Feed.{is_rest, shown};
 ghost use Rattle.route_wire.specs.declared.stream.Next.TheVariants.{More};
 ghost use Rattle.ev_links.specs.Coming.{behind};
-ghost use Rattle.ev_exchange.specs.Receiving.{Given, times, news_of, AreCounts, HasReceived, Delivers, end_of_next};
+ghost use Rattle.ev_exchange.specs.Receiving.{Given, times, news_of, AreCounts, HasReceived, Delivers};
+ghost use Rattle.ev_exchange.specs.Inner.Receiving.{end_of_next};
 
 use crate::entrance::Entrance;
 use crate::stream_end::StreamEnd;

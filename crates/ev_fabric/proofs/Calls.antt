@@ -21,7 +21,8 @@ use Rattle.ev_fabric.specs.declared.step.Step.TheVariants.{Local, Announce, Deli
 use Rattle.ev_fabric.specs.Fabric.{Fabric, fabric_of, nth, incarnation_of}
 use Rattle.ev_fabric.specs.Local.{event_of}
 use Rattle.ev_fabric.specs.Sound.{IsSound}
-use Rattle.ev_fabric.specs.Steps.{of_edge, with_announced, IsRefused, OneSteps, StepsAt, AnnouncesAt, in_incarnation}
+use Rattle.ev_fabric.specs.Steps.{of_edge, with_announced, IsRefused, StepsAt, AnnouncesAt, in_incarnation}
+use Rattle.ev_fabric.specs.Inner.Steps.{OneSteps}
 use Rattle.ev_fabric.specs.Steps.{with_opened, RestartsAt, FabricSteps}
 use Rattle.ev_fabric.proofs.Places.{at_some, at_none}
 use Rattle.ev_edge.specs.Config.{IsConfig}

@@ -373,7 +373,8 @@ tunnel_frames_come_out o b s good says event reply frame steps =
         let is = x.is.local ∙ tunnel_local (table_of b) s.vni s.mac (address_of b) x.is.members x.is.passing e.0.port
         (port_of b s.vni s.mac) (individual o s good says) some in
         let passes = x.is.are_passing e.0.port in
-        let a = alone (has_port x.is.passing e.0.port && true) e.0.port p (record { least = t.least; most = t.few }) in (
+        let a = alone (has_port x.is.passing e.0.port && true) e.0.port p
+        (record { least = t.least; most = t.few }) in (
           λ there.
               let h = a.0 (ap (λ set. has_port set p) (sym is) ∙ there) in
               let two = both (has_port x.is.passing e.0.port) true h.1 in

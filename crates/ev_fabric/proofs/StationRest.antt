@@ -148,7 +148,8 @@ local_same : (s : Station) (old new : Fabric) (x : ℕ) (a : Edge) (event : Loca
 local_same s old new x a event result sound at h same =
     let whole : new ≡ record old { edges = slice_set old.edges x h.after } = h.new_is
     ∙ (λ n. record old { edges = slice_set old.edges (minus x n) h.after }) in
-    let here : IsEdge new x h.after = subst (λ f. IsEdge f x h.after) (sym whole) (set_same old.edges x a h.after at) in (
+    let here : IsEdge new x h.after = subst (λ f. IsEdge f x h.after) (sym whole)
+    (set_same old.edges x a h.after at) in (
       whole,
       left_same s a.routes.speaker h.after.routes.speaker (local_talks a event h.answer h.after h.steps)
           (sound.good x a at).routes.numbers (same h.after here),

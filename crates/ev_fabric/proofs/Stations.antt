@@ -10,7 +10,7 @@ use Rattle.route_wire.specs.declared.update.Register.{Register}
 use Rattle.route_wire.specs.declared.update.Value.{Value}
 use Rattle.route_wire.specs.Fields.{Fields}
 use Rattle.route_wire.specs.Order.{is_newer}
-use Rattle.route_wire.specs.Totals.{neither_newer}
+use Rattle.route_wire.specs.Inner.Totals.{neither_newer}
 use Rattle.route_join.specs.Table.{value_at, register_of}
 use Rattle.route_join.specs.Owner.{is_about, advert_in, advert_of, advert_at, IsOwner}
 use Rattle.route_join.proofs.Owners.{one_owner, owner_along}

@@ -13,3 +13,4 @@ pub mod ConvergenceMove
 pub mod Station
 pub mod Later
 pub mod Witnesses
+pub mod Inner

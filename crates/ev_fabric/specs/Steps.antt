@@ -37,17 +37,6 @@ with_announced pool (Some u) = pool ++ u ∷ []
 abbrev pub IsRefused : FabricRefusal → Fabric → Result Reply FabricRefusal → Fabric → Type 0
 IsRefused why old result new = (result ≡ Err why) × (new ≡ old)
 
--- the edge at place e of a list steps by the event; the others stay
-pub record OneSteps (old : List Edge) (e : ℕ) (event : Event) (result : Result Reply FabricRefusal) (new : List Edge) :
-    Type 0 where
-  pub before : Edge
-  pub there : nth old e ≡ Some before
-  pub after : Edge
-  pub answer : Result Reply edge.Refusal
-  pub steps : Steps before event answer after
-  pub result_is : result ≡ of_edge answer
-  pub new_is : new ≡ slice_set old (e - 1) after
-
 -- the edge a at place e steps by the event, and answers; all else stays
 pub record StepsAt (old : Fabric) (e : ℕ) (a : Edge) (event : Event) (result : Result Reply FabricRefusal)
     (new : Fabric) :

@@ -5,7 +5,8 @@ ghost use Rattle.ev_fabric.specs.declared.step.Step.TheVariants.{Local, Announce
 ghost use Rattle.ev_fabric.specs.Fabric.{nth};
 ghost use Rattle.ev_fabric.specs.Opening.{AreConfigs, IsStart, AreOpened};
 ghost use Rattle.ev_fabric.specs.Sound.{IsSound};
-ghost use Rattle.ev_fabric.specs.Steps.{FabricSteps, OneSteps, of_edge, in_incarnation, with_announced};
+ghost use Rattle.ev_fabric.specs.Steps.{FabricSteps, of_edge, in_incarnation, with_announced};
+ghost use Rattle.ev_fabric.specs.Inner.Steps.{OneSteps};
 
 use crate::refusal::FabricRefusal;
 use crate::step::{LocalEvent, Step, event_of};

@@ -1,7 +1,8 @@
 -- What was done with things that came, one by one.
 use Rattle.std.proofs.Common.{◌≡◌, List, [], ◌∷◌, Option, Some, map, ap, sym, ◌∙◌, reverse}
 use Rattle.std.proofs.lemmas.List.{reverse-append}
-use Rattle.ev_links.specs.Coming.{behind, after_these, DoesOne, DoesAll}
+use Rattle.ev_links.specs.Coming.{behind, after_these, DoesAll}
+use Rattle.ev_links.specs.Inner.Coming.{DoesOne}
 use Rattle.ev_links.proofs.Behind.{behind_twice}
 
 pub one_more : {A : Type 0} (came came1 came2 : Option (List (Option A))) (before : List A) (a : A)

@@ -15,13 +15,6 @@ abbrev pub Each : {A S : Type 0} → (S → A → S → Type 0) → S → List A
 Each Does s [] s' = s' ≡ s
 Each {A} {S} Does s (a ∷ rest) s' = (middle : S) × Each Does s rest middle × Does middle a s'
 
--- One thing more came, and this was done with it.
-pub record DoesOne {A S : Type 0} (Does : S → A → S → Type 0) (came : Option (List (Option A))) (s : S)
-    (came' : Option (List (Option A))) (s' : S) : Type 0 where
-  pub thing : A
-  pub told : came' ≡ behind came (Some thing ∷ [])
-  pub done : Does s thing s'
-
 -- This was done with each thing that came meanwhile, in their order, and nothing else.
 pub record DoesAll {A S : Type 0} (Does : S → A → S → Type 0) (came : Option (List (Option A))) (s : S)
     (came' : Option (List (Option A))) (s' : S) : Type 0 where

@@ -2,3 +2,4 @@ pub mod Coming
 pub mod Links
 pub mod Line
 pub mod FailAt
+pub mod Inner

@@ -1,6 +1,6 @@
 -- What waits for an edge from the other ones.
 use Rattle.std.specs.Prelude.{ℕ, ◌+◌, ◌-◌, ◌^◌, min, ◌&&◌, ◌||◌, Bool, false, true, nat_lt, nat_le, if◌then◌else◌, List}
-use Rattle.std.specs.Prelude.{[], ◌∷◌, ◌++◌, length, drop, Option, Some, None}
+use Rattle.std.specs.Prelude.{[], ◌∷◌, ◌++◌, length, Option, Some, None}
 use Rattle.route_wire.specs.Fields.{Fields}
 use Rattle.ev_mailboxes.specs.declared.mailbox.Message.{Message}
 use Rattle.ev_mailboxes.specs.declared.mailbox.Message.TheVariants.{Record, Room}

@@ -4,3 +4,4 @@ pub mod Passing
 pub mod Control
 pub mod Working
 pub mod Sending
+pub mod Inner

@@ -20,7 +20,7 @@ use Rattle.ev_peers.specs.Giving.{Parcel}
 use Rattle.ev_links.specs.Links.{Arrival, Call, brings, fails}
 use Rattle.ev_peers.specs.Passing.{Word, hears, Announces, PassesOn}
 use Rattle.ev_peers.specs.Control.{Answers as AnswersRequest}
-use Rattle.ev_links.specs.Coming.{behind, DoesOne, DoesAll, DoesAllToTheEnd}
+use Rattle.ev_links.specs.Coming.{behind, DoesAll, DoesAllToTheEnd}
 
 -- ---- what a datagram is
 
@@ -153,12 +153,6 @@ pub record Answers (bridge : ℕ) (source : Source) (h : Hearing) (call : Call) 
 -- how a worker ends whose link had failed so often before, and has so often now
 abbrev pub ended_of : ℕ → ℕ → Ended
 ended_of before after = if nat_lt before after then Failed else End
-
--- one turn of a worker: a call of its link was answered; or it was at its end
-abbrev pub TurnsOnce : Bool → ℕ → Source → Option (List (Option Call)) → Hearing → Option (List (Option Call)) → Hearing
-    → Type 0
-TurnsOnce true bridge source came h came' h' = DoesOne (Answers bridge source) came h came' h'
-TurnsOnce false bridge source came h came' h' = (came' ≡ behind came (None ∷ [])) × (h' ≡ h)
 
 -- how often a link can fail
 abbrev pub most_failures : ℕ

@@ -1,7 +1,7 @@
 //! An edge with all its workers, each on a thread of its own.
 ghost use Rattle.std.specs.Prelude.{◌≡◌, ◌+◌, ◌≤◌, length, vec_len, vec_capacity, IfOk};
 ghost use Rattle.ev_edge.specs.Config.{IsConfig};
-ghost use Rattle.ev_peers.specs.EdgeThreads.{IsReady};
+ghost use Rattle.ev_peers.specs.Inner.EdgeThreads.{IsReady};
 
 use crate::edge_links::EdgeLinks;
 use crate::entering::{Workplace, join_entering, start_entering, start_peer};
@@ -43,7 +43,7 @@ struct ReadyThreads<'x, L: Ledger, I: Drop, O: Drop, G, R> {
 
 impl<'x, L: Ledger, I: Drop, O: Drop, G, R> Model for ReadyThreads<'x, L, I, O, G, R> {
     ghost use Rattle.std.specs.Prelude.{ℕ, vec_len, vec_capacity};
-    ghost use Rattle.ev_peers.specs.EdgeThreads.{IsReady};
+    ghost use Rattle.ev_peers.specs.Inner.EdgeThreads.{IsReady};
 
     ghost Value = { ℕ };
 

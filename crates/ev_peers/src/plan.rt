@@ -1,7 +1,7 @@
 //! What the threads of an edge need: what each of them enters or sends over, what they share, and
 //! room for them and for what they give back. All of it is made before the first thread starts.
 ghost use Rattle.std.specs.Prelude.{◌≡◌, ◌+◌, ◌≤◌, vec_len, vec_capacity, IfOk};
-ghost use Rattle.ev_peers.specs.EdgeThreads.{HasRoom};
+ghost use Rattle.ev_peers.specs.Inner.EdgeThreads.{HasRoom};
 
 use crate::edge_links::{EdgeLinks, Link};
 use crate::outcome::Sent;

@@ -1,7 +1,8 @@
 //! Edges that run beside each other, each on a thread, with a mailbox for each.
 ghost use Rattle.std.specs.Prelude.{◌≡◌, ◌+◌, ◌≤◌, vec_len, vec_capacity, IfOk};
 ghost use Rattle.ev_edge.specs.Config.{IsConfig};
-ghost use Rattle.ev_peers.specs.EdgeThreads.{HasEdges, setup_of};
+ghost use Rattle.ev_peers.specs.EdgeThreads.{setup_of};
+ghost use Rattle.ev_peers.specs.Inner.EdgeThreads.{HasEdges};
 
 use crate::edge_links::EdgeLinks;
 use crate::edge_threads::{Host, edge_worker};
@@ -176,7 +177,7 @@ struct Ready<I: Drop, O: Drop> {
 
 impl<I: Drop, O: Drop> Model for Ready<I, O> {
     ghost use Rattle.std.specs.Prelude.{ℕ, vec_len, vec_capacity};
-    ghost use Rattle.ev_peers.specs.EdgeThreads.{HasEdges};
+    ghost use Rattle.ev_peers.specs.Inner.EdgeThreads.{HasEdges};
 
     ghost Value = { ℕ };
 

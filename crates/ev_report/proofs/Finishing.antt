@@ -15,7 +15,7 @@ use Rattle.ev_report.specs.Notes.{refusals_from, end_note, notes_of, has_stopped
 use Rattle.ev_report.specs.Notes.{status_of}
 use Rattle.ev_report.specs.Ends.{Devices, devices, has_failed, fault_in, Gave, Holds, Tells, Finishes, Passes}
 use Rattle.ev_report.specs.Report.{taken_of, Output, Renders}
-use Rattle.ev_report.specs.Progressing.{state, new_intake, TakesInput}
+use Rattle.ev_report.specs.Inner.Progressing.{state, new_intake, TakesInput}
 use Rattle.ev_report.proofs.Taking.{tells_more, table_of_all}
 use Rattle.ev_report.proofs.Feeding.{same_note, same_broken}
 

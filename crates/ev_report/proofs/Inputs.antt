@@ -10,7 +10,7 @@ use Rattle.ev_report.specs.declared.ending.Ending.{Ending}
 use Rattle.ev_report.specs.declared.ending.Ending.TheVariants.{Faulty}
 use Rattle.ev_report.specs.Ends.{fault_in, fault_told, IsFaultless, Gave}
 use Rattle.ev_report.specs.Input.{Gathers}
-use Rattle.ev_report.specs.Progressing.{State, TakesOctets, TakesInput}
+use Rattle.ev_report.specs.Inner.Progressing.{State, TakesOctets, TakesInput}
 use Rattle.ev_report.proofs.Gathering.{gathers_none, gathers_more, Stops, gave_by}
 use Rattle.ev_report.proofs.Taking.{octets_none, octets_both}
 

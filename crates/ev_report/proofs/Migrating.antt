@@ -17,7 +17,7 @@ use Rattle.route_wire.specs.declared.update.Value.{Value}
 use Rattle.route_wire.specs.Fields.{Fields}
 use Rattle.route_wire.specs.Order.{ip_cmp, ip_of, vni_of, place_of, rank_of, sequence_of, label2_of, is_newer}
 use Rattle.route_wire.specs.Order.{register_cmp}
-use Rattle.route_wire.specs.Totals.{ip_total}
+use Rattle.route_wire.specs.Inner.Totals.{ip_total}
 use Rattle.route_join.specs.Table.{Table, IsOrdered, IsTableOf, entries_of}
 use Rattle.route_join.specs.Updates.{all_updates, AreAllUpdates}
 use Rattle.route_join.proofs.Orders.{less, both}
@@ -28,7 +28,8 @@ use Rattle.ev_report.specs.Report.{taken_of}
 use Rattle.ev_report.specs.Migrations.{migration, Migrates}
 use Rattle.ev_report.proofs.Finishing.{passed_renders}
 use Rattle.ev_report.specs.Migrated.{is_same_subject, is_same_old, old_cmp, is_newer_old, IsNewest, withdrawn_for}
-use Rattle.ev_report.specs.Migrated.{migrated_at, AreMigrated, newer_old, newest_along, behind, entering}
+use Rattle.ev_report.specs.Migrated.{migrated_at, AreMigrated, newer_old, newest_along, entering}
+use Rattle.ev_report.specs.Inner.Migrated.{behind}
 use Rattle.ev_report.specs.Migrated.{migrated_along, migrated_all, migrated_of}
 
 -- ---- old registers

@@ -21,7 +21,7 @@ use Rattle.route_wire.specs.declared.update.Value.{Value}
 use Rattle.route_wire.specs.Fields.{Fields}
 use Rattle.route_wire.specs.Order.{ip_cmp, ip_of, vni_of, place_of, rank_of, sequence_of, label2_of, register_cmp}
 use Rattle.route_wire.specs.Order.{is_newer}
-use Rattle.route_wire.specs.Totals.{ip_exact, same_key, content_exact}
+use Rattle.route_wire.specs.Inner.Totals.{ip_exact, same_key, content_exact}
 use Rattle.route_wire.proofs.Newer.{next_newer}
 use Rattle.route_join.specs.Table.{Table, register_of, value_at, IsTableOf}
 use Rattle.route_join.specs.Owner.{advert_in, advert_of, advert_at, IsBetterBy, IsOwner, IsUnowned, owner}

@@ -24,8 +24,9 @@ use Rattle.route_join.proofs.Edits.{new_table}
 use Rattle.route_join.proofs.Joins.{all_taken, none_taken}
 use Rattle.ev_report.specs.Notes.{refused_line, refusals_from, ran_out_of_memory}
 use Rattle.ev_report.specs.Ends.{Tells}
-use Rattle.ev_report.specs.Report.{Becomes, BecomeAll, table_after, table_after_all, taken_of, fresh}
-use Rattle.ev_report.specs.Progressing.{State, state, Refuses, Counts, TakesAnswers, TakesOctets}
+use Rattle.ev_report.specs.Report.{Becomes, BecomeAll, table_after, taken_of, fresh}
+use Rattle.ev_report.specs.Inner.Report.{table_after_all}
+use Rattle.ev_report.specs.Inner.Progressing.{State, state, Refuses, Counts, TakesAnswers, TakesOctets}
 use Rattle.ev_report.proofs.Feeding.{shows_next}
 
 -- ---- notes

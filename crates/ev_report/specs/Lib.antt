@@ -2,7 +2,6 @@ pub mod Notes
 pub mod Ends
 pub mod Failures
 pub mod Report
-pub mod Progressing
 pub mod Originators
 pub mod Migrated
 pub mod Migrations
@@ -10,3 +9,4 @@ pub mod MigrationLaws
 pub mod Input
 pub mod Silence
 pub mod Usage
+pub mod Inner

@@ -87,11 +87,6 @@ abbrev pub newest_along : Fields → List Fields → Fields
 newest_along best [] = best
 newest_along best (u ∷ us) = if is_same_old best.register u.register then newest_along (newer_old best u) us else best
 
--- the updates behind those of the old register
-abbrev pub behind : Fields → List Fields → List Fields
-behind best [] = []
-behind best (u ∷ us) = if is_same_old best.register u.register then behind (newer_old best u) us else u ∷ us
-
 -- the newest of u's old register, where `best` is that of the update before
 abbrev pub entering : Fields → Fields → List Fields → Fields
 entering best u us = if is_same_old best.register u.register then best else newest_along u us

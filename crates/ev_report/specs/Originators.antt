@@ -63,11 +63,6 @@ originators_from before (text ∷ texts) = and_then (with_part before text)
 abbrev pub originators_of_text : Text → Result (List ℕ) (Text × ListFault)
 originators_of_text text = originators_from [] (parts 44 text)
 
--- what is listed, or the fault
-abbrev pub items_of : Result (ArrayVec Addr) ListFault → Result (List ℕ) ListFault
-items_of (Ok originators) = Ok originators.items
-items_of (Err fault) = Err fault
-
 -- what is listed, or the part that is wrong
 abbrev pub listed : Result (ArrayVec Addr) WrongPart → Result (List ℕ) (Text × ListFault)
 listed (Ok originators) = Ok originators.items

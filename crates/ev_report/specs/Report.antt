@@ -27,10 +27,6 @@ abbrev pub table_after : Table → Result Fields ℕ → Table
 table_after t (Ok u) = with_update t u
 table_after t (Err refusal) = t
 
-abbrev pub table_after_all : Table → List (Result Fields ℕ) → Table
-table_after_all t [] = t
-table_after_all t (outcome ∷ outcomes) = table_after_all (table_after t outcome) outcomes
-
 -- what became of the answers, one after the other
 abbrev pub BecomeAll : Table → List (Result Fields ℕ) → List (Result Fields ℕ) → Type 0
 BecomeAll t [] [] = Unit {0}

@@ -4,7 +4,8 @@ ghost use Rattle.std.specs.Prelude.{◌≡◌, ◌+◌, ◌<◌, ◌^◌, ◌||�
 ghost use Rattle.ether_wire.specs.Ends.{IsOpen, Allows, Puts};
 ghost use Rattle.route_wire.specs.Order.{ip_version, ip_number, ip_cmp, ip_of, rank_of, sequence_of, label2_of};
 ghost use Rattle.route_join.specs.Table.{AreOriginators};
-ghost use Rattle.ev_report.specs.Migrated.{is_same_subject, is_same_old, old_cmp, newer_old, migrated_at, newest_along, behind, migrated_of, records_of};
+ghost use Rattle.ev_report.specs.Migrated.{is_same_subject, is_same_old, old_cmp, newer_old, migrated_at, newest_along, migrated_of, records_of};
+ghost use Rattle.ev_report.specs.Inner.Migrated.{behind};
 ghost use Rattle.ev_report.specs.Ends.{AreOpen, devices};
 ghost use Rattle.ev_report.specs.Notes.{has_stopped};
 ghost use Rattle.ev_report.specs.Migrations.{Migrates};

@@ -4,7 +4,8 @@ ghost use Rattle.std.specs.List.{IsDistinct};
 ghost use Rattle.ether_wire.specs.Ends.{IsOpen, Puts};
 ghost use Rattle.ether_wire.specs.Parse.{addr_of_text};
 ghost use Rattle.route_join.specs.Table.{AreOriginators};
-ghost use Rattle.ev_report.specs.Originators.{is_zero_led, has_leading_zero, spelling_fault, with_originator, with_address, with_part, originators_of_text, items_of, listed, reason_of, list_text};
+ghost use Rattle.ev_report.specs.Originators.{is_zero_led, has_leading_zero, spelling_fault, with_originator, with_address, with_part, originators_of_text, listed, reason_of, list_text};
+ghost use Rattle.ev_report.specs.Inner.Originators.{items_of};
 
 use arrayvec::ArrayVec;
 use ether_wire::{Addr, Device, Out, parted};

@@ -35,8 +35,8 @@ pub(crate) struct Intake {
 impl Intake {
     ghost use Rattle.ev_report.specs.Ends.{Tells};
     ghost use Rattle.ev_report.specs.Notes.{end_note, is_broken};
-    ghost use Rattle.ev_report.specs.Progressing.{state, new_intake, Refuses, TakesAnswers};
-    ghost use Rattle.ev_report.specs.Progressing.{taken_by, shown_by, TakesOctets, TakesInput};
+    ghost use Rattle.ev_report.specs.Inner.Progressing.{state, new_intake, Refuses, TakesAnswers};
+    ghost use Rattle.ev_report.specs.Inner.Progressing.{taken_by, shown_by, TakesOctets, TakesInput};
 
     /// Before anything was read, with a feed that holds nothing.
     pub(crate) fn new(alloc: Global, originators: ArrayVec<Addr, 64>, feed: Feed) -> Intake

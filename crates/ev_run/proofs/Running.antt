@@ -1,8 +1,8 @@
 -- A run of edges: the input that is read out, and what is told at the end.
 use Rattle.std.proofs.Common.{◌≡◌, inl, inr, ℕ, ◌+◌, ◌-◌, ◌<◌, ◌^◌, min, Bool, false, not, ◌||◌, nat_lt, List, [], ◌∷◌}
-use Rattle.std.proofs.Common.{◌++◌, map, take, length, get_or, append-nil, append_assoc, Result, Ok, Err, is_ok, refl}
+use Rattle.std.proofs.Common.{◌++◌, take, length, get_or, Result, Ok, Err, is_ok, refl}
 use Rattle.std.proofs.Common.{MatchOption, sym, ap, subst, ◌∙◌, arith}
-use Rattle.std.proofs.lemmas.List.{take_more, length-take-le}
+use Rattle.std.proofs.lemmas.List.{take_more}
 use Rattle.std.proofs.lemmas.List.Sums.{sum_by_push}
 use Rattle.std.specs.List.{sum_by, list_any}
 use Rattle.std.proofs.lemmas.List.Elements.{Contains-append_left, Contains-append_right}
@@ -21,11 +21,11 @@ use Rattle.ev_report.specs.Ends.{Devices, devices, has_failed, Holds, Gives, Pas
 use Rattle.ev_report.specs.declared.input.ReadError.TheVariants.{Device}
 use Rattle.ev_report.specs.Input.{ReadsWhole, Gathers}
 use Rattle.ev_report.specs.Notes.{status_of}
-use Rattle.ev_run.specs.RunEdges.{EachConfig, bind_error_text, Ended, reports_from, noted_text, sends_failed}
-use Rattle.ev_view.specs.EdgeViews.{each_from}
+use Rattle.ev_run.specs.RunEdges.{bind_error_text, Ended, reports_from, noted_text, sends_failed}
+use Rattle.ev_run.specs.Inner.RunEdges.{EachConfig}
 use Rattle.ev_run.specs.RunEdges.{system_text, Ran}
 use Rattle.ev_run.specs.RunEdges.{link_failed, was_out_of_memory, all_lost, IsReadOut, ReadsOut, TellsEnded}
-use Rattle.ev_run.specs.RunEdges.{PutsRest, TellsRest}
+use Rattle.ev_run.specs.Inner.RunEdges.{PutsRest, TellsRest}
 use Rattle.ev_notices.specs.Telling.{Told, lines_of}
 use Rattle.ether_wire.proofs.Appending.{puts_behind}
 use Rattle.ev_run.specs.RunEdges.{start_text, IsStartError, RunsEdges}

@@ -4,3 +4,4 @@ pub mod RunEdges
 pub mod Serving
 pub mod Needs
 pub mod Obstacles
+pub mod Inner

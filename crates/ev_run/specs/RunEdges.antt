@@ -1,15 +1,12 @@
 -- What a run of edges over sockets leaves.
-use Rattle.std.specs.Prelude.{◌≡◌, ℕ, ◌+◌, ◌-◌, ◌^◌, min, ◌⊎◌, ◌||◌, Bool, true, false, not, ◌==◌, nat_lt}
-use Rattle.std.specs.Prelude.{if◌then◌else◌, List, [], ◌∷◌, ◌++◌, length, Contains, codes, Option, Some, None}
+use Rattle.std.specs.Prelude.{◌≡◌, ℕ, ◌-◌, ◌^◌, min, ◌⊎◌, ◌||◌, Bool, true, false, not, ◌==◌, nat_lt}
+use Rattle.std.specs.Prelude.{if◌then◌else◌, List, [], ◌++◌, length, codes, Option, Some, None}
 use Rattle.std.specs.Prelude.{Result, Ok, Err}
 use Rattle.std.specs.Fmt.{decimal}
 use Rattle.std.specs.List.{sum_by, list_any}
 use Rattle.std.specs.declared.alloc.AllocError.{AllocError}
-use Rattle.ether_wire.specs.declared.ends.Device as device
-use Rattle.ether_wire.specs.Ends.{End, Source, Puts}
+use Rattle.ether_wire.specs.Ends.{End, Source}
 use Rattle.ether_wire.specs.Addr.{addr_text}
-use Rattle.ev_edge.specs.declared.config.EdgeConfig.{EdgeConfig}
-use Rattle.ev_edge.specs.Config.{IsConfig}
 use Rattle.ev_edge.specs.Edge.{Edge, table_of}
 use Rattle.ev_peers.specs.declared.outcome.Outcome.{Outcome}
 use Rattle.ev_notices.specs.Telling.{Told, lines_of}
@@ -31,10 +28,6 @@ use Rattle.ev_report.specs.Notes.{status_of}
 use Rattle.ev_report.specs.Silence.{IsRefusedMemory}
 use Rattle.ev_report.specs.Originators.{Text}
 use Rattle.ev_view.specs.EdgeViews.{each_from}
-
--- each of them may be opened
-abbrev pub EachConfig : List EdgeConfig → Type 0
-EachConfig configs = (c : EdgeConfig) → Contains configs c → IsConfig c
 
 -- ---- sockets
 
@@ -144,11 +137,6 @@ all_lost ended = min (sum_by sends_failed ended) (2 ^ 64 - 1)
 abbrev pub noted_text : List Ended → Text → ℕ → Text
 noted_text ended system lost = each_from drops_text 1 ended ++ system ++ lost_text lost
 
--- alerts were told while the edges ran, a line each, the last one first here; or a call of the writer failed
-pub record TellsMeanwhile (notes notes' : End) (told : Result (Unit {0}) device.Device) : Type 0 where
-  pub alerts : List Told
-  pub lines : Puts notes notes' (lines_of alerts) told
-
 -- The reports of the edges that ran are written. The alerts of meanwhile are noted, and behind them what their lines
 -- had no room for, what the system says of their sockets, and `lost N` where sends failed. The status is 4 where a
 -- device failed, 3 where memory or a thread was refused, else 0.
@@ -158,17 +146,6 @@ pub record TellsEnded (alerts : List Told) (ended : List Ended) (system : Text) 
   pub noted : Holds notes notes' (lines_of alerts ++ noted_text ended system (all_lost ended))
   pub status_is : status ≡ status_of (((not is_read || list_any link_failed ended) || nat_lt 0 (all_lost ended)) ||
       (has_failed out out' || has_failed notes notes')) (list_any was_out_of_memory ended) false
-
--- so it is for whatever alerts were told before
-abbrev pub TellsRest : Result (Unit {0}) device.Device → List Ended → Text → Bool → End → End → End → End → ℕ → Type 0
-TellsRest told ended system is_read out out' notes notes' status =
-    (start : End) (alerts : List Told) → Puts start notes (lines_of alerts) told
-    → TellsEnded alerts ended system is_read out out' start notes' status
-
--- what is noted behind the alerts, unless a call has failed
-abbrev pub PutsRest : Result (Unit {0}) device.Device → End → End → Text → Result (Unit {0}) device.Device → Type 0
-PutsRest (Ok done) notes notes' text result = Puts notes notes' text result
-PutsRest (Err device) notes notes' text result = (notes' ≡ notes) × (result ≡ Err device)
 
 -- ---- a run
 

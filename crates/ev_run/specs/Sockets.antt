@@ -1,12 +1,11 @@
 -- Where the sockets of a run are.
-use Rattle.std.specs.Prelude.{◌≡◌, ◌||◌, Bool, true, is_none, List, [], ◌∷◌, map, Contains}
+use Rattle.std.specs.Prelude.{◌≡◌, ◌||◌, Bool, true, is_none, List, [], ◌∷◌, Contains}
 use Rattle.std.specs.List.{filter_map, flat_map, list_any}
 use Rattle.arrayvec.specs.ArrayVec.{ArrayVec}
 use Rattle.ev_edge.specs.declared.config.EdgeConfig.{EdgeConfig}
 use Rattle.ev_config.specs.declared.endpoint.Endpoint.{Endpoint}
 use Rattle.ev_config.specs.declared.endpoint.PortEndpoints.{PortEndpoints}
 use Rattle.ev_config.specs.declared.whole.Config.{Config}
-use Rattle.ev_run.specs.declared.bound.Sockets.{Sockets}
 use Rattle.ev_run.specs.declared.sockets.StartError.{StartError}
 use Rattle.ev_run.specs.declared.sockets.StartError.TheVariants.{Unbindable, Unnamed, NoMemory}
 
@@ -47,10 +46,6 @@ lacks_ends links = list_any lacks_end links
 -- a port of a configuration is so
 abbrev pub lacks_address : Config → Bool
 lacks_address config = list_any (λ links. lacks_ends links.items) config.links.items
-
--- where the sockets of an edge are bound: that of its tunnels, then those of its ports
-abbrev pub bound_at : Sockets → List Endpoint
-bound_at sockets = sockets.at ∷ map (λ port. port.local) sockets.ports.items
 
 -- what hinders a run over these addresses: one of them can't be bound, a port lacks one, or there is no memory
 abbrev pub Hinders : List Endpoint → Bool → StartError → Type 0

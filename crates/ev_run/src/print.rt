@@ -3,7 +3,7 @@ ghost use Rattle.std.specs.Prelude.{◌≡◌, ◌++◌, codes, map};
 ghost use Rattle.std.specs.Fmt.{decimal};
 ghost use Rattle.ether_wire.specs.Ends.{IsOpen, Puts};
 ghost use Rattle.ev_run.specs.declared.print.Dropped.TheVariants.{NoRoom};
-ghost use Rattle.ev_run.specs.Sockets.{bound_at};
+ghost use Rattle.ev_run.specs.Inner.Sockets.{bound_at};
 ghost use Rattle.ev_run.specs.RunEdges.{edge_text, ended_text, reports_from, link_text, dropped_words, dropped_text, drops_text, socket_text, sockets_text, system_text, lost_text, noted_text};
 ghost use Rattle.ev_view.specs.EdgeViews.{each_from};
 

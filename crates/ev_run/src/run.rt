@@ -6,8 +6,9 @@ ghost use Rattle.ether_wire.specs.Ends.{IsOpen, Allows};
 ghost use Rattle.ev_fabric.specs.Opening.{AreConfigs};
 ghost use Rattle.ev_edge.specs.Config.{IsConfig};
 ghost use Rattle.ev_report.specs.Ends.{AreOpen, Holds, devices};
-ghost use Rattle.ev_run.specs.Sockets.{bound_at};
-ghost use Rattle.ev_run.specs.RunEdges.{EachConfig, ReadsOut, sends_failed, link_failed, was_out_of_memory, all_lost, system_text, noted_text, PutsRest, TellsMeanwhile, TellsRest, Ran, start_text, RunsEdges};
+ghost use Rattle.ev_run.specs.Inner.Sockets.{bound_at};
+ghost use Rattle.ev_run.specs.RunEdges.{ReadsOut, sends_failed, link_failed, was_out_of_memory, all_lost, system_text, noted_text, Ran, start_text, RunsEdges};
+ghost use Rattle.ev_run.specs.Inner.RunEdges.{EachConfig, PutsRest, TellsMeanwhile, TellsRest};
 
 use crate::bound::{PortSocket, Sockets, wake_all};
 use crate::clients::read_out;

@@ -2,7 +2,8 @@
 ghost use Rattle.std.specs.Prelude.{◌≡◌, ◌≤◌, ◌∷◌, [], false, vec_len, map, Some, IfOk, IfErr};
 ghost use Rattle.ether_wire.specs.Ends.{IsOpen, Puts};
 ghost use Rattle.ev_run.specs.RunEdges.{why_text, endpoint_text, bind_error_text};
-ghost use Rattle.ev_run.specs.Sockets.{tunnel_of, locals_of, bound_at, endpoints_of, all_ends, lacks_end, lacks_ends, lacks_address, Hinders};
+ghost use Rattle.ev_run.specs.Sockets.{tunnel_of, locals_of, endpoints_of, all_ends, lacks_end, lacks_ends, lacks_address, Hinders};
+ghost use Rattle.ev_run.specs.Inner.Sockets.{bound_at};
 
 use crate::bound::{PortSocket, Sockets};
 use arrayvec::ArrayVec;

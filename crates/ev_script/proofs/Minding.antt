@@ -4,7 +4,7 @@ use Rattle.std.proofs.lemmas.Bool.Decides.{nat_tests}
 use Rattle.ether_wire.specs.Ends.{End, IsOpen}
 use Rattle.ev_report.specs.Ends.{has_failed, Tells}
 use Rattle.ev_script.specs.Simulation.{CountsFailure}
-use Rattle.ev_script.specs.Printing.{Minds}
+use Rattle.ev_script.specs.Inner.Printing.{Minds}
 
 pub minds_none : (e : End) (b : Bool) → Minds e e b b
 minds_none e true = record { kept = λ f. absurd (cc); written = λ t. refl; failed = λ t f. absurd (cc) }

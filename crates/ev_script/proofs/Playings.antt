@@ -13,15 +13,15 @@ use Rattle.ev_fabric.specs.Steps.{FabricSteps}
 use Rattle.ether_wire.specs.Ends.{End}
 use Rattle.ev_report.specs.Ends.{Tells}
 use Rattle.ev_script.specs.declared.script.question.Question.{Question}
-use Rattle.ev_script.specs.Shown.{shown_text}
-use Rattle.ev_script.specs.Views.{view_text}
+use Rattle.ev_script.specs.Inner.Shown.{shown_text}
+use Rattle.ev_script.specs.Inner.Views.{view_text}
 use Rattle.ev_script.specs.declared.simulate.simulator.Simulator.{Simulator}
 use Rattle.ev_script.specs.declared.script.mode.Mode.{Mode}
 use Rattle.ev_script.specs.Script.{Command, Item, second, skips, asked_in, asks_no_step, line_of, item_of, cut_line}
 use Rattle.ev_script.specs.Script.{Follows}
 use Rattle.ev_script.specs.Simulation.{Made, IsOne, AskedItem, AskedAll, joined, Goes, is_out_of_memory}
 use Rattle.ev_script.specs.Simulation.{ran_out_of_memory}
-use Rattle.ev_script.specs.Playing.{Makes, MakesOne, Performs, PlaysLine, Played, PlaysTo, Answers}
+use Rattle.ev_script.specs.Inner.Playing.{Makes, MakesOne, Performs, PlaysLine, Played, PlaysTo, Answers}
 use Rattle.ev_report.proofs.Taking.{or_assoc, or_false}
 
 -- ---- steps

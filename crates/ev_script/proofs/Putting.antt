@@ -2,7 +2,7 @@
 use Rattle.std.proofs.Common.{ℕ, List, true, Result, Ok, Err, is_ok, ap, ◌∙◌, arith}
 use Rattle.ether_wire.specs.declared.ends.Device.{Device}
 use Rattle.ether_wire.specs.Ends.{End, Puts}
-use Rattle.ev_script.specs.Printing.{PutsSome, Minds}
+use Rattle.ev_script.specs.Inner.Printing.{PutsSome, Minds}
 
 pub some_put : (a b : End) (text : List ℕ) (r : Result (Unit {0}) Device) → Puts a b text r → PutsSome a b r
 some_put a b text (Ok x) h = ap (λ (e : End). e.failures) h ∙ grind arith

@@ -14,10 +14,12 @@ use Rattle.ev_report.specs.Ends.{Devices, has_failed, Holds, Finishes, Passes}
 use Rattle.ev_report.specs.Input.{ReadsWhole}
 use Rattle.ev_report.specs.Notes.{status_of}
 use Rattle.ev_report.proofs.Silence.{status_as, is_silent, refused_memory, passed_silent, passed_refused, passed_four}
-use Rattle.ev_script.specs.Simulation.{Goes, joined, ran_out_of_memory, bad_line, note_of, note_of_line, CountsFailure}
-use Rattle.ev_script.specs.Simulation.{PlaysOn, PlaysRead, read_error_status, Simulates}
-use Rattle.ev_script.specs.Printing.{Minds}
-use Rattle.ev_script.specs.Playing.{PlaysTo}
+use Rattle.ev_script.specs.Simulation.{Goes, joined, ran_out_of_memory, bad_line, note_of, CountsFailure}
+use Rattle.ev_script.specs.Inner.Simulation.{note_of_line}
+use Rattle.ev_script.specs.Simulation.{PlaysOn, PlaysRead, Simulates}
+use Rattle.ev_script.specs.Inner.Simulation.{read_error_status}
+use Rattle.ev_script.specs.Inner.Printing.{Minds}
+use Rattle.ev_script.specs.Inner.Playing.{PlaysTo}
 use Rattle.ev_report.proofs.Finishing.{put_holds, put_failed, passed_notes, passed_status, failed_notes}
 use Rattle.ev_script.proofs.Minding.{minds_failed, minds_counts}
 

@@ -1,12 +1,10 @@
 -- What is printed of a step, of a refusal and of a port; and what is said of text whose octets aren't: whether a call
 -- failed, and no more.
-use Rattle.std.specs.Prelude.{◌≡◌, ℕ, ◌+◌, ◌/◌, ◌%◌, Bool, true, false, if◌then◌else◌, List, [], ◌∷◌, ◌++◌, codes}
-use Rattle.std.specs.Prelude.{decimal, get_or, Option, Some, None, Result, is_err}
+use Rattle.std.specs.Prelude.{ℕ, ◌/◌, ◌%◌, Bool, true, false, if◌then◌else◌, List, [], ◌∷◌, ◌++◌, codes}
+use Rattle.std.specs.Prelude.{decimal, get_or, Option, Some, None}
 use Rattle.std.specs.List.{flat_map}
 use Rattle.ether_wire.specs.Addr.{addr_text}
-use Rattle.ether_wire.specs.Ends.{End}
 use Rattle.ether_wire.specs.Ports.{ports_text}
-use Rattle.ether_wire.specs.declared.ends.Device.{Device}
 use Rattle.bpdu_wire.specs.declared.bpdu.Bpdu.{Bpdu}
 use Rattle.bpdu_wire.specs.Writing.{octets_of}
 use Rattle.rstp_state.specs.declared.port.PortState.{PortState}
@@ -131,16 +129,3 @@ passing_words false = codes " blocks\n"
 abbrev pub port_text : ℕ → ℕ → PortState → Bool → List ℕ
 port_text edge number p passes =
     words_text edge (codes " port ") ++ decimal number ++ role_words p.role ++ state_words p ++ passing_words passes
-
--- ---- some text
-
--- Some text was written, or a call failed.
-abbrev pub PutsSome : End → End → Result (Unit {0}) Device → Type 0
-PutsSome old new result = new.failures ≡ old.failures + (if is_err result then 1 else 0)
-
--- Some text was written, or a call failed and `after` is false. Where `before` is false a call has failed already, and
--- none was made.
-pub record Minds (old new : End) (before after : Bool) : Type 0 where
-  pub kept : before ≡ false → (after ≡ false) × (new ≡ old)
-  pub written : after ≡ true → new.failures ≡ old.failures
-  pub failed : before ≡ true → after ≡ false → new.failures ≡ old.failures + 1

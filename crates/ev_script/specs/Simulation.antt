@@ -103,11 +103,6 @@ bad_line number = codes "line " ++ decimal number ++ codes " bad\n"
 abbrev pub note_of : Bool → ℕ → List ℕ
 note_of is_bad number = if is_bad then bad_line number else []
 
--- for the line of this number, if there is one
-abbrev pub note_of_line : Option ℕ → List ℕ
-note_of_line None = []
-note_of_line (Some number) = bad_line number
-
 -- some text was written, or one call failed
 abbrev pub CountsFailure : End → End → Type 0
 CountsFailure old new = (new.failures ≡ old.failures) ⊎ (new.failures ≡ old.failures + 1)
@@ -142,11 +137,6 @@ PlaysRead mode configs (Ok script) out out' notes notes' status =
     Plays mode configs script out out' notes notes' status ⊎ IsRefusedMemory out out' notes notes' status
 PlaysRead mode configs (Err Device) out out' notes notes' status = IsSilent out out' notes notes' × (status ≡ 4)
 PlaysRead mode configs (Err NoMemory) out out' notes notes' status = IsRefusedMemory out out' notes notes' status
-
--- the status of a script that wasn't read to its end
-abbrev pub read_error_status : ReadError → ℕ
-read_error_status Device = 4
-read_error_status NoMemory = 3
 
 -- The script was read whole, and then run.
 pub record Simulates (mode : Mode) (configs : List EdgeConfig) (before after : Devices) (status : ℕ) : Type 0 where

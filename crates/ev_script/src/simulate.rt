@@ -3,7 +3,8 @@ ghost use Rattle.std.specs.Prelude.{◌≡◌, ◌^◌, Ok};
 ghost use Rattle.ether_wire.specs.Ends.{IsOpen, Allows, Puts};
 ghost use Rattle.ev_fabric.specs.Opening.{AreConfigs};
 ghost use Rattle.ev_report.specs.Ends.{AreOpen, devices};
-ghost use Rattle.ev_script.specs.Simulation.{note_of_line, PlaysOn, PlaysRead, read_error_status, Simulates};
+ghost use Rattle.ev_script.specs.Simulation.{PlaysOn, PlaysRead, Simulates};
+ghost use Rattle.ev_script.specs.Inner.Simulation.{note_of_line, read_error_status};
 
 mod echo;
 mod print;

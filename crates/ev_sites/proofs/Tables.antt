@@ -8,7 +8,7 @@ use Rattle.route_wire.specs.declared.update.Register.{Register}
 use Rattle.route_wire.specs.declared.update.Value.{Value}
 use Rattle.route_wire.specs.Fields.{Fields}
 use Rattle.route_wire.specs.Order.{register_cmp, is_newer}
-use Rattle.route_wire.specs.Totals.{register_total}
+use Rattle.route_wire.specs.Inner.Totals.{register_total}
 use Rattle.route_join.specs.Table.{Registers, Table, value_at, with_value, with_update, is_news}
 use Rattle.route_join.specs.Owner.{owner, owner_among}
 use Rattle.route_join.specs.Flood.{flood_of, flooding}

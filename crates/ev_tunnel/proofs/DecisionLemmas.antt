@@ -18,7 +18,8 @@ use Rattle.ether_wire.proofs.PortLemmas.{has_port-common, has_port-with, has_por
 use Rattle.ether_wire.proofs.PortLemmas.{is_port, Contains-filter, in_filter}
 use Rattle.ev_tunnel.specs.declared.decision.Ports.{Ports}
 use Rattle.ev_tunnel.specs.Place.{place_of, learnt_place, owned_place}
-use Rattle.ev_tunnel.specs.Decision.{IsPlace, is_from, open_ports, port_alone, local_of, others_of, remote_of}
+use Rattle.ev_tunnel.specs.Decision.{is_from, open_ports, port_alone, local_of, others_of, remote_of}
+use Rattle.ev_tunnel.specs.Inner.Decision.{IsPlace}
 use Rattle.ev_tunnel.specs.Laws.{IsOneCopy, ArePassing, AreOthers}
 
 -- no port is in the set of none

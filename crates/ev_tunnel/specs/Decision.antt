@@ -17,12 +17,6 @@ abbrev pub IsFrom : Source → Type 0
 IsFrom (Port p) = IsPort p
 IsFrom Tunnel = Unit {0}
 
--- the port where a destination is is one
-abbrev pub IsPlace : Place → Type 0
-IsPlace Everywhere = Unit {0}
-IsPlace (AtPort port) = IsPort port
-IsPlace (AtEdge edge) = Unit {0}
-
 -- did the frame come from this port
 abbrev pub is_from : Source → ℕ → Bool
 is_from (Port p) port = p == port

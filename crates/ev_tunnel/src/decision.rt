@@ -5,7 +5,8 @@ ghost use Rattle.route_join.specs.Owner.{owner};
 ghost use Rattle.route_join.specs.Flood.{flood_of};
 ghost use Rattle.ether_wire.specs.Ports.{IsPort};
 ghost use Rattle.ev_tunnel.specs.Place.{place_of};
-ghost use Rattle.ev_tunnel.specs.Decision.{IsFrom, IsPlace, is_from, open_ports, port_alone, local_of, others_of, remote_of, local_for, remote_for};
+ghost use Rattle.ev_tunnel.specs.Decision.{IsFrom, is_from, open_ports, port_alone, local_of, others_of, remote_of, local_for, remote_for};
+ghost use Rattle.ev_tunnel.specs.Inner.Decision.{IsPlace};
 
 use crate::place::{Place, place_of};
 use arrayvec::ArrayVec;

@@ -29,7 +29,8 @@ network_words number vni = comma number ++ decimal vni
 -- ` ports P:VNI,.. networks VNI,..`, the end of a line
 abbrev pub served_text : List ℕ → List ℕ → List ℕ
 served_text ports vnis =
-    codes " ports " ++ each_from port_words 1 ports ++ codes " networks " ++ each_from network_words 1 vnis ++ codes "\n"
+    codes " ports " ++ each_from port_words 1 ports
+    ++ codes " networks " ++ each_from network_words 1 vnis ++ codes "\n"
 
 -- `E edge ADDR ports P:VNI,.. networks VNI,..`
 abbrev pub edge_words : ℕ → ℕ → List ℕ → List ℕ → List ℕ

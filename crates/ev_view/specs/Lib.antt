@@ -2,4 +2,4 @@ pub mod Owners
 pub mod Stations
 pub mod Counts
 pub mod EdgeViews
-pub mod Sheet
+pub mod Inner

@@ -1,7 +1,7 @@
 //! A writer over memory that grows, which tells its octets.
 ghost use Rattle.std.specs.Prelude.{◌≡◌, [], Some};
 ghost use Rattle.ether_wire.specs.Ends.{end_of};
-ghost use Rattle.ev_view.specs.Sheet.{sheet_end};
+ghost use Rattle.ev_view.specs.Inner.Sheet.{sheet_end};
 
 use ether_wire::{Device, Out};
 use std::alloc::Global;
@@ -33,7 +33,7 @@ impl Sheet {
 }
 
 impl Out for Sheet {
-    ghost use Rattle.ev_view.specs.Sheet.{sheet_end};
+    ghost use Rattle.ev_view.specs.Inner.Sheet.{sheet_end};
 
     ghost end = { sheet_end };
 

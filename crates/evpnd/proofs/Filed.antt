@@ -9,7 +9,8 @@ use Rattle.evpnd.specs.Files.{Text, Shelf, IsTextOf, unread_text}
 use Rattle.ev_report.specs.Ends.{Devices, devices}
 use Rattle.ev_report.proofs.Finishing.{put_holds}
 use Rattle.evpnd.specs.Checks.{Desk, desk, IsTextless, Gives, Uses, OfFile}
-use Rattle.evpnd.specs.Configured.{OfFound, Never, TextGives, FileGives}
+use Rattle.evpnd.specs.Configured.{OfFound}
+use Rattle.evpnd.specs.Inner.Configured.{Never, TextGives, FileGives}
 
 -- there was no memory for the text
 pub no_memory : (option : Named) (path : Text) (s s' : Shelf) (d : Devices) (status : ℕ)

@@ -15,7 +15,8 @@ use Rattle.evpnd.specs.declared.host.Descriptors.{Descriptors}
 use Rattle.ev_report.proofs.Finishing.{put_holds}
 use Rattle.ev_report.proofs.Told.{failed_put}
 use Rattle.evpnd.specs.Checks.{desk, Sums, SumsWith}
-use Rattle.evpnd.specs.Program.{world, TellsFault, RunsWords}
+use Rattle.evpnd.specs.Program.{world, RunsWords}
+use Rattle.evpnd.specs.Inner.Program.{TellsFault}
 
 -- a text was put on the output
 pub sums_put : (a b : End) (r : Result (Unit {0}) Device) (text : Text) (status : ℕ) → Puts a b text r

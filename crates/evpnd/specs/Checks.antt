@@ -1,7 +1,7 @@
 -- What becomes of a configuration's file.
 use Rattle.std.specs.Prelude.{◌≡◌, ℕ, ◌+◌, ◌⊎◌, Bool, true, false, List, [], ◌∷◌, ◌++◌, Option, Result, Ok, Err}
 use Rattle.std.specs.Prelude.{if◌then◌else◌}
-use Rattle.ether_wire.specs.Ends.{End, Source}
+use Rattle.ether_wire.specs.Ends.{End}
 use Rattle.ev_config.specs.declared.whole.Config.{Config}
 use Rattle.ev_config.specs.declared.config.ConfigRefusal.{ConfigRefusal}
 use Rattle.ev_config.specs.declared.config.ConfigRefusal.TheVariants as refusal
@@ -13,7 +13,6 @@ use Rattle.ev_report.specs.Ends.{Devices, devices, has_failed, Holds}
 use Rattle.ev_report.specs.Usage.{IsTold}
 use Rattle.ev_config.specs.declared.whole.Use.{Use}
 use Rattle.ev_config.specs.declared.whole.Use.TheVariants.{Any, Run, Serve}
-use Rattle.ev_config.specs.Config.{ConfigFor}
 use Rattle.ev_run.specs.declared.obstacles.Obstacle.{Obstacle}
 use Rattle.ev_run.specs.Needs.{needs_of, asked_text}
 use Rattle.ev_run.specs.Obstacles.{obstacles_of, obstacles_text}
@@ -118,9 +117,3 @@ Checks purpose (Err (refusal.Key key)) before after status = (after.input ≡ be
 Checks purpose (Err refusal.Text) before after status = (after.input ≡ before.input) × (after.out ≡ before.out)
     × TellsSome before.notes after.notes status
 Checks purpose (Err refusal.NoMemory) before after status = (after ≡ before) × (status ≡ 3)
-
--- what a text gives for a configuration is so checked, whatever the reader has
-abbrev pub ChecksText : Purpose → Text → End → End → End → End → ℕ → Type 0
-ChecksText purpose text out notes out' notes' status =
-    (found : Result Config ConfigRefusal) × ConfigFor purpose.wanted text found
-    × ((input : Source) → Checks purpose found (devices input out notes) (devices input out' notes') status)

@@ -1,11 +1,10 @@
 -- What becomes of a configuration that is wanted, to be used.
-use Rattle.std.specs.Prelude.{◌≡◌, ℕ, ◌++◌, codes, string_bytes, Result, Ok, Err}
-use Rattle.ether_wire.specs.Ends.{End, Source}
+use Rattle.std.specs.Prelude.{◌≡◌, ℕ, ◌++◌, codes, string_bytes, Ok, Err}
 use Rattle.ev_config.specs.declared.config.ConfigRefusal.{ConfigRefusal}
 use Rattle.ev_config.specs.declared.config.ConfigRefusal.TheVariants as refusal
-use Rattle.ev_report.specs.Ends.{Devices, devices}
-use Rattle.evpnd.specs.Files.{Text, Shelf, IsTextOf}
-use Rattle.evpnd.specs.Checks.{desk, Gives, Uses, OfFile}
+use Rattle.ev_report.specs.Ends.{Devices}
+use Rattle.evpnd.specs.Files.{Text}
+use Rattle.evpnd.specs.Checks.{Uses}
 use Rattle.ev_report.specs.Usage.{TellsUsage}
 
 -- `config KEY`
@@ -23,23 +22,3 @@ Refuses refusal.NoMemory before after status = (after ≡ before) × (status ≡
 abbrev pub OfFound : {X : Type 0} → (X → Devices → Devices → ℕ → Type 0) → Uses X
 OfFound uses (Ok config) before after status = uses config before after status
 OfFound uses (Err refused) before after status = Refuses refused before after status
-
--- none is used
-abbrev pub Never : {X : Type 0} → X → Devices → Devices → ℕ → Type 0
-Never config before after status = ⊥
-
--- A text gives this configuration; or this status, and what is found is told, whatever the input and the output have.
-abbrev pub TextGives : {X : Type 0} → Gives X → Text → End → End → Result X ℕ → Type 0
-TextGives gives text notes notes' (Ok config) = (notes' ≡ notes) × gives text (Ok config)
-TextGives {X = X} gives text notes notes' (Err status) =
-    (found : Result X ConfigRefusal) × gives text found
-    × ((input : Source) → (out : End) → OfFound Never found (devices input out notes) (devices input out notes')
-    status)
-
--- The file at a path has a text that gives this configuration; or this status, and what is found is told.
-abbrev pub FileGives : {X : Type 0} → Gives X → Text → Shelf → Shelf → End → End → Result X ℕ → Type 0
-FileGives gives path shelf shelf' notes notes' (Ok config) = (shelf' ≡ shelf) × (notes' ≡ notes)
-    × ((text : Text) × IsTextOf shelf path text × gives text (Ok config))
-FileGives {X = X} gives path shelf shelf' notes notes' (Err status) =
-    (input : Source) → (out : End) → OfFile gives (OfFound {X = X} Never) path (desk shelf (devices input out notes))
-    (desk shelf' (devices input out notes')) status

@@ -18,9 +18,6 @@ pub record Shelf : Type 0 where
   pub refusals : ℕ
   pub failures : ℕ
 
-abbrev pub shelf_of : Option (Text → Option Text) → ℕ → ℕ → Shelf
-shelf_of texts refusals failures = record { texts = texts; refusals = refusals; failures = failures }
-
 -- one more may be counted
 pub record HasRoom (s : Shelf) : Type 0 where
   pub refusals : s.refusals + 1 < 2 ^ 64

@@ -6,3 +6,4 @@ pub mod Streams
 pub mod Used
 pub mod Version
 pub mod Scripts
+pub mod Inner

@@ -1,6 +1,5 @@
 -- A run of the program, from its words to its status.
 use Rattle.std.specs.Prelude.{◌≡◌, ◌≢◌, ℕ, ◌+◌, ◌⊎◌, Bool, true, false, List, [], codes, map, string_bytes, Option}
-use Rattle.ether_wire.specs.Ends.{End}
 use Rattle.clap.specs.Words.{fault_of}
 use Rattle.evpnd.specs.declared.program.Argv.{Argv}
 use Rattle.evpnd.specs.declared.program.Argv.TheVariants.{Words, NotText, NoMemory}
@@ -14,7 +13,7 @@ use Rattle.ev_config.specs.declared.whole.Use.TheVariants as used
 use Rattle.ev_words.specs.Args.{Parts, program, Spells}
 use Rattle.ev_script.specs.declared.script.mode.Mode.TheVariants as mode
 use Rattle.ev_report.specs.Originators.{Text}
-use Rattle.ev_report.specs.Usage.{IsTold, TellsUsage, OfList}
+use Rattle.ev_report.specs.Usage.{TellsUsage, OfList}
 use Rattle.ev_report.specs.Ends.{Devices}
 use Rattle.evpnd.specs.Files.{Shelf}
 use Rattle.evpnd.specs.Checks.{Desk, desk, OfFile}
@@ -39,12 +38,6 @@ abbrev pub world : ℕ → Shelf → Devices → World
 world refusals shelf devices = record { refusals = refusals; desk = desk shelf devices }
 
 -- ---- usage
-
--- what became of telling a fault of the words: memory was refused once more for the text, or it was told
-abbrev pub TellsFault : ℕ → ℕ → End → End → ℕ → Type 0
-TellsFault refusals refusals' notes notes' status =
-    ((refusals' ≡ refusals + 1) × (notes' ≡ notes) × (status ≡ 3))
-    ⊎ ((refusals' ≡ refusals) × ((text : Text) × IsTold text notes notes' status))
 
 -- what is told where a word isn't UTF-8
 abbrev pub not_text : Text

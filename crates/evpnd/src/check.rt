@@ -7,7 +7,8 @@ ghost use Rattle.evpnd.specs.Files.{Text, HasRoom};
 ghost use Rattle.ev_report.specs.Usage.{IsTold};
 ghost use Rattle.ev_run.specs.Needs.{needs_of, asked_text};
 ghost use Rattle.ev_run.specs.Obstacles.{obstacles_of, obstacles_text};
-ghost use Rattle.evpnd.specs.Checks.{desk, OfFile, Sums, TellsSome, SumsWith, TellsObstacles, SumsRun, SumsFor, Checks, ChecksText};
+ghost use Rattle.evpnd.specs.Checks.{desk, OfFile, Sums, TellsSome, SumsWith, TellsObstacles, SumsRun, SumsFor, Checks};
+ghost use Rattle.evpnd.specs.Inner.Checks.{ChecksText};
 ghost use Rattle.evpnd.specs.Scripts.{ChecksAll};
 
 use crate::check_script::check_script;

@@ -6,7 +6,8 @@ ghost use Rattle.ev_fabric.specs.Opening.{AreConfigs};
 ghost use Rattle.evpnd.specs.Files.{HasRoom};
 ghost use Rattle.ev_report.specs.Usage.{IsTold};
 ghost use Rattle.ev_report.specs.Ends.{devices};
-ghost use Rattle.evpnd.specs.Configured.{config_text, Refuses, TextGives, FileGives};
+ghost use Rattle.evpnd.specs.Configured.{config_text, Refuses};
+ghost use Rattle.evpnd.specs.Inner.Configured.{TextGives, FileGives};
 
 use crate::files::{Files, Named, text_at};
 use ether_wire::{Device, Out};

@@ -2,7 +2,8 @@
 ghost use Rattle.std.specs.Prelude.{◌≡◌, ◌≢◌, None, IfOk, IfErr, string_bytes};
 ghost use Rattle.ether_wire.specs.Ends.{End, Source, IsOpen, Puts};
 ghost use Rattle.ev_report.specs.Ends.{devices};
-ghost use Rattle.evpnd.specs.Files.{Shelf, shelf_of, HasRoom, IsTextOf, GivesText, reason_of, lead_of, unread_text};
+ghost use Rattle.evpnd.specs.Files.{Shelf, HasRoom, IsTextOf, GivesText, reason_of, lead_of, unread_text};
+ghost use Rattle.evpnd.specs.Inner.Files.{shelf_of};
 ghost use Rattle.evpnd.specs.Checks.{desk, IsTextless};
 
 use ether_wire::{Device, Out};

@@ -9,7 +9,8 @@ ghost use Rattle.evpnd.specs.Checks.{desk};
 ghost use Rattle.evpnd.specs.Scripts.{ChecksAll};
 ghost use Rattle.evpnd.specs.Streams.{Unclosed, IsClosed};
 ghost use Rattle.ev_report.specs.Failures.{failures_of};
-ghost use Rattle.evpnd.specs.Program.{world, use_of, purpose_of, TellsFault, not_text, RunsOpen, FollowsAs, Follows, FollowsTelling, RunsWords, RunsProgram};
+ghost use Rattle.evpnd.specs.Program.{world, use_of, purpose_of, not_text, RunsOpen, FollowsAs, Follows, FollowsTelling, RunsWords, RunsProgram};
+ghost use Rattle.evpnd.specs.Inner.Program.{TellsFault};
 
 use crate::check::{Purpose, Wanted, check_all};
 use crate::files::Files;

@@ -12,7 +12,7 @@ use Rattle.std.proofs.lemmas.List.{append-nil}
 use Rattle.std.proofs.lemmas.Bool.{eqb-true, eq-eqb, ne_eqb, cases_lt, or_right}
 use Rattle.idx_links.proofs.Paths.{after, after-at, has-at, link_on, first-path, first-minus, after-path, after-minus}
 use Rattle.idx_links.specs.Links.{Links, has, without, Apart, list_at, IsFree, IsLinked}
-use Rattle.idx_links.specs.Ring.{follow, ring_of, links_of, is_at, Path, IsGood}
+use Rattle.idx_links.specs.Inner.Ring.{follow, ring_of, links_of, is_at, Path, IsGood}
 use Rattle.idx_links.proofs.Rings.{IsNew, IsBetween, has-list, length-list, pushed_good, pushed_lists, unlinked_good}
 use Rattle.idx_links.proofs.Rings.{unlinked_lists, free_place, linked_place, len_below, owned_len, list_below}
 use Rattle.idx_links.proofs.Rings.{node_below, is_at-self, is_at-true, length-lists, list_at-links, apart-list}

@@ -9,7 +9,7 @@ use Rattle.std.proofs.lemmas.List.{get_or-set_other, set-append_right, take-set-
 use Rattle.std.proofs.lemmas.List.{drop-set-add, drop-replicate, replicate-append-replicate}
 use Rattle.std.proofs.lemmas.Bool.{ne_eqb}
 use Rattle.std.proofs.Math.Seq.{map-set_same, take-set-lt}
-use Rattle.idx_links.specs.Columns.{list_named, owners, Fits}
+use Rattle.idx_links.specs.Inner.Columns.{list_named, owners, Fits}
 
 pub marked_named : (mark : ℕ) → mark ≢ 0 → list_named mark ≡ Some (mark - 1)
 marked_named mark some = rw (ne_eqb mark 0 some) refl

@@ -14,7 +14,7 @@ use Rattle.std.proofs.Math.Nat.{mod-lt, mul_comm, mul-le-mul_left}
 use Rattle.std.proofs.Math.ListN.{get_or-map as get_or-map_same}
 use Rattle.idx_links.specs.Links.{Links, has, without, Apart, list_at, IsFree, IsLinked}
 use Rattle.idx_links.specs.Families.{Families, lists_of, AreNodes, start, nodes_in, family_in, families_of, IsFamily}
-use Rattle.idx_links.specs.Families.{AreStarts}
+use Rattle.idx_links.specs.Inner.Families.{AreStarts}
 use Rattle.idx_links.proofs.Paths.{has-at, has-append, has-left, has-map, without-map, without-absent, apart-map}
 use Rattle.idx_links.proofs.Paths.{at-map}
 

@@ -6,7 +6,7 @@ use Rattle.std.proofs.lemmas.Bool.{cases_eq, eq-eqb, ne_eqb, false≢true, or_ca
 use Rattle.std.proofs.lemmas.Bool.Decides.{nat_tests}
 use Rattle.idx_links.specs.Links.{has, without, Apart}
 use Rattle.std.specs.Option.{option_map}
-use Rattle.idx_links.specs.Ring.{walk, Path}
+use Rattle.idx_links.specs.Inner.Ring.{walk, Path}
 
 -- the node after the node
 abbrev pub after : List ℕ → ℕ → Option ℕ

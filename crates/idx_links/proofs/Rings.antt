@@ -14,7 +14,8 @@ use Rattle.std.proofs.lemmas.List.FromFn.{length-range_with_len, get_or-range_wi
 use Rattle.std.proofs.lemmas.List.FromFn.{get_or-map-range_with_len}
 use Rattle.std.proofs.lemmas.List.Sums.{sum_by-append, sum_by-set, get_or-le-sum_by}
 use Rattle.idx_links.specs.Links.{Links, has, without, Apart, list_at, IsFree, IsLinked}
-use Rattle.idx_links.specs.Ring.{walk, Path, follow, ring_of, nodes_of, links_of, is_at, IsRing, AreInverse, IsGood}
+use Rattle.idx_links.specs.Inner.Ring.{walk, Path, follow, ring_of, nodes_of, links_of, is_at, IsRing, AreInverse}
+use Rattle.idx_links.specs.Inner.Ring.{IsGood}
 use Rattle.idx_links.proofs.Paths.{has-minus, apart-minus, walk-path, has-append, has-without, length-without}
 use Rattle.idx_links.proofs.Paths.{apart-without, apart-push, before_on, before_end, path_same, path_push, path_without}
 use Rattle.idx_links.proofs.Paths.{moves_on, without-absent, without-minus}

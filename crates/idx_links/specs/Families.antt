@@ -48,9 +48,3 @@ pub record IsFamily (families nodes : ℕ) (starts : List ℕ) (links : Links) :
   pub own : (l m : ℕ) → has (list_at links.lists l) m ≡ true
       → (start starts (m % families) ≤ l) × (l < start starts (m % families + 1))
   pub below : (l m : ℕ) → has (list_at links.lists l) m ≡ true → m < nodes * families
-
--- each family starts where the lists of the one before end
-pub record AreStarts (counts starts : List ℕ) : Type 0 where
-  pub counted : length starts ≡ length counts + 1
-  pub ends : (k : ℕ) → k < length counts → start starts (k + 1) ≡ start starts k + slice_index_or counts k 0
-  pub few : start starts (length counts) < 2 ^ 64

@@ -1,7 +1,8 @@
 //! Families of lists over the same nodes: a place for each node in each family.
 ghost use Rattle.std.specs.Prelude.{◌≡◌, ℕ, ◌+◌, ◌<◌, ◌∷◌, ◌++◌, [], length, map, replicate, slice_get, slice_set, slice_index_or, IfOk, IfSome, IfNone, IsOk, Some, true, OnOk, OnErr};
 ghost use Rattle.idx_links.specs.Links.{has, without, Apart, list_at, IsFree, IsLinked};
-ghost use Rattle.idx_links.specs.Families.{Families, lists_of, families_of, AreNodes, IsFamily, AreStarts};
+ghost use Rattle.idx_links.specs.Families.{Families, lists_of, families_of, AreNodes, IsFamily};
+ghost use Rattle.idx_links.specs.Inner.Families.{AreStarts};
 
 use crate::linked_lists::LinkedLists;
 use std::alloc::{AllocError, Global};

@@ -1,7 +1,7 @@
 //! Doubly linked lists over one arena of nodes: a node is on one list at most.
 ghost use Rattle.std.specs.Prelude.{◌≡◌, ℕ, ◌+◌, ◌<◌, ◌≤◌, ◌++◌, ◌∷◌, [], true, length, map, replicate, slice_get, slice_set, IfOk, OnOk, IfSome, IfNone, Some};
 ghost use Rattle.idx_links.specs.Links.{Links, has, without, list_at, Apart, IsFree, IsLinked};
-ghost use Rattle.idx_links.specs.Ring.{links_of, IsGood};
+ghost use Rattle.idx_links.specs.Inner.Ring.{links_of, IsGood};
 
 use crate::places::Places;
 use std::alloc::{AllocError, Global};

@@ -1,7 +1,7 @@
 //! Rings of places: who comes behind whom, who before, and the mark of the list.
 ghost use Rattle.std.specs.Prelude.{◌≡◌, ℕ, ◌+◌, ◌-◌, ◌^◌, ◌<◌, ◌≤◌, ◌++◌, List, length, map, take, replicate, slice_set, slice_index_or, vec_len, vec_capacity, IfOk, OnOk, OnErr, None, Some};
 ghost use Rattle.std.specs.List.{range_with_len};
-ghost use Rattle.idx_links.specs.Columns.{Columns, Fits, owners};
+ghost use Rattle.idx_links.specs.Inner.Columns.{Columns, Fits, owners};
 
 use std::alloc::{AllocError, Global};
 use std::marker::Model;

@@ -10,7 +10,8 @@ use Rattle.mac_arena.specs.declared.table.Learnt.TheVariants.{New, Moved, Refres
 use Rattle.mac_arena.specs.Entry.{pinned_at}
 use Rattle.mac_arena.specs.Orders.{Orders}
 use Rattle.mac_arena.specs.Learning.{Learning, entry_at, is_full, IsLatest, learnt_of, answer_of, entered}
-use Rattle.mac_arena.specs.Learning.{heard, held, shifted, dropped, after_learn, after_pin, after_pin_at, after_removal}
+use Rattle.mac_arena.specs.Learning.{after_learn, after_pin, after_pin_at, after_removal}
+use Rattle.mac_arena.specs.Inner.Learning.{heard, held, shifted, dropped}
 use Rattle.mac_arena.specs.Learning.{after_removal_at}
 use Rattle.mac_arena.specs.Nodes.{slot_at, learning_of, IsTable}
 use Rattle.mac_arena.specs.ListsName.{ListsName}

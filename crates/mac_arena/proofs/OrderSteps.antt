@@ -7,7 +7,8 @@ use Rattle.idx_links.proofs.Paths.{without-absent}
 use Rattle.idx_links.proofs.Columns.{range-more}
 use Rattle.idx_links.specs.Links.{has, without, list_at, IsFree}
 use Rattle.idx_links.specs.Families.{Families, lists_of}
-use Rattle.mac_arena.specs.Orders.{Orders, orders_of, IsOrders, joined}
+use Rattle.mac_arena.specs.Orders.{Orders}
+use Rattle.mac_arena.specs.Inner.Orders.{orders_of, IsOrders, joined}
 
 -- the families of chains, ports, ageing list and free list
 abbrev pub four : List (List ℕ) → List (List ℕ) → List ℕ → List ℕ → List (List (List ℕ))

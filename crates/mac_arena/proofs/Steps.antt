@@ -11,7 +11,7 @@ use Rattle.idx_links.specs.Links.{has, without, Apart, list_at}
 use Rattle.idx_links.proofs.Paths.{has-append, has-without, apart-push, apart-without}
 use Rattle.mac_arena.specs.declared.station.Station.{Station}
 use Rattle.mac_arena.specs.declared.station.Learned.{Learned}
-use Rattle.mac_arena.specs.Orders.{joined}
+use Rattle.mac_arena.specs.Inner.Orders.{joined}
 use Rattle.mac_arena.specs.Learning.{left, joined_by, stations_at, place_of}
 use Rattle.mac_arena.specs.Nodes.{slot_at, station_of, station_in, last_of, NeverFalls}
 use Rattle.mac_arena.proofs.Entries.{Slots, AreAlone, IsOff, eq_same, ne_same, slot_here, slot_there, slot_below}

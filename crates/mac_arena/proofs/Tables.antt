@@ -19,10 +19,12 @@ use Rattle.mac_arena.specs.declared.station.Station.{Station}
 use Rattle.mac_arena.specs.declared.station.Entry.{Entry}
 use Rattle.mac_arena.specs.declared.station.Learned.{Learned}
 use Rattle.mac_arena.specs.Station.{station_cmp, bucket_of}
-use Rattle.mac_arena.specs.Orders.{Orders, joined}
+use Rattle.mac_arena.specs.Orders.{Orders}
+use Rattle.mac_arena.specs.Inner.Orders.{joined}
 use Rattle.mac_arena.specs.Learning.{Learning, nothing_learnt, bucket_in, left, joined_by, stations_at, place_of}
 use Rattle.mac_arena.specs.Learning.{entry_at, is_full, is_pinned, first_unpinned, learned_of, learned_at, IsLatest}
-use Rattle.mac_arena.specs.Learning.{entered, heard, held, shifted, dropped}
+use Rattle.mac_arena.specs.Learning.{entered}
+use Rattle.mac_arena.specs.Inner.Learning.{heard, held, shifted, dropped}
 use Rattle.mac_arena.specs.Entry.{pinned_at, heard_at}
 use Rattle.mac_arena.specs.Nodes.{slot_at, station_of, station_in, last_of, entries_of, learning_of, in_chain, in_port}
 use Rattle.mac_arena.specs.Nodes.{in_ageing, IsTable}

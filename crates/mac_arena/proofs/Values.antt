@@ -14,8 +14,10 @@ use Rattle.mac_arena.specs.declared.table.Learnt.TheVariants.{New, Moved, Refres
 use Rattle.mac_arena.specs.Station.{station_cmp}
 use Rattle.mac_arena.specs.Entry.{pinned_at, heard_at}
 use Rattle.mac_arena.specs.Learning.{Learning, nothing_learnt, left, joined_by, place_of, entry_at, learned_of}
-use Rattle.mac_arena.specs.Learning.{learned_at, someone, standing, bucket_in, is_full, IsLatest, entered, heard, held}
-use Rattle.mac_arena.specs.Learning.{shifted, dropped, after_learn, after_pin, after_pin_at, after_removal}
+use Rattle.mac_arena.specs.Learning.{learned_at, bucket_in, is_full, IsLatest, entered}
+use Rattle.mac_arena.specs.Inner.Learning.{someone, standing, heard, held}
+use Rattle.mac_arena.specs.Learning.{after_learn, after_pin, after_pin_at, after_removal}
+use Rattle.mac_arena.specs.Inner.Learning.{shifted, dropped}
 use Rattle.mac_arena.specs.Learning.{after_removal_at}
 use Rattle.mac_arena.proofs.Entries.{same_or_other, get_here, get_there, gone_here, gone_there, insert_twice}
 use Rattle.mac_arena.proofs.Entries.{insert_same, remove_inserted}

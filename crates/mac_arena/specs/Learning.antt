@@ -47,14 +47,6 @@ learned_of t (Some s) = option_map (λ e. record { station = s; entry = e }) (en
 abbrev pub learned_at : Learning → ℕ → Option Learned
 learned_at t n = learned_of t (slice_index_or t.places n None)
 
-abbrev pub someone : Option Learned → Learned
-someone None = record { station = record { vni = 0; mac = 0 }; entry = pinned_at 0 }
-someone (Some x) = x
-
--- the same at a place where somebody stands
-abbrev pub standing : Learning → ℕ → Learned
-standing t n = someone (learned_at t n)
-
 abbrev pub is_pinned : Option Entry → Bool
 is_pinned None = false
 is_pinned (Some e) = e.pinned
@@ -111,31 +103,6 @@ entered t s port = record t {
   chains = joined_by (bucket_in t s) s t.chains;
   places = slice_set t.places (slice_index t.free 0) (Some s);
   free = drop 1 t.free;
-}
-
--- a pinned one on the port is heard, and ages from then on
-abbrev pub heard : Learning → Station → ℕ → ℕ → Learning
-heard t s port second = record t { entries = insert t.entries s (heard_at port second); ageing = t.ageing ++ s ∷ [] }
-
--- it is pinned on the port where it is
-abbrev pub held : Learning → Station → ℕ → Learning
-held t s port = record t { entries = insert t.entries s (pinned_at port); ageing = left s t.ageing }
-
--- it goes to another port
-abbrev pub shifted : Learning → Station → Entry → ℕ → Learning
-shifted t s e port = record t {
-  entries = insert t.entries s (record e { port = port });
-  ports = joined_by (place_of_port port) s (map (left s) t.ports);
-}
-
--- a pinned one leaves the table
-abbrev pub dropped : Learning → Station → Learning
-dropped t s = record t {
-  entries = remove t.entries s;
-  ports = map (left s) t.ports;
-  chains = map (left s) t.chains;
-  places = slice_set t.places (place_of t.places s) None;
-  free = t.free ++ place_of t.places s ∷ [];
 }
 
 -- ---- learning a station on a port

@@ -5,4 +5,4 @@ pub mod Learning
 pub mod ListsName
 pub mod Laws
 pub mod Nodes
-pub mod Slot
+pub mod Inner

@@ -2,7 +2,8 @@
 ghost use Rattle.std.specs.Prelude.{◌≡◌, ℕ, ◌+◌, ◌^◌, ◌<◌, ◌∷◌, ◌++◌, [], length, map, replicate, slice_get, true, false, Some, IfOk};
 ghost use Rattle.std.specs.List.{range_with_len};
 ghost use Rattle.idx_links.specs.Links.{has, without, list_at, IsFree, IsLinked};
-ghost use Rattle.mac_arena.specs.Orders.{Orders, orders_of, IsOrders, joined};
+ghost use Rattle.mac_arena.specs.Orders.{Orders};
+ghost use Rattle.mac_arena.specs.Inner.Orders.{orders_of, IsOrders, joined};
 
 use idx_links::Family;
 use std::alloc::{AllocError, Global};
@@ -33,7 +34,8 @@ pub(crate) struct NodeOrders {
 }
 
 impl Model for NodeOrders {
-    ghost use Rattle.mac_arena.specs.Orders.{Orders, orders_of, IsOrders};
+    ghost use Rattle.mac_arena.specs.Orders.{Orders};
+    ghost use Rattle.mac_arena.specs.Inner.Orders.{orders_of, IsOrders};
 
     ghost Value = { Orders };
 

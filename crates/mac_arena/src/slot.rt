@@ -2,7 +2,7 @@
 ghost use Rattle.std.specs.Prelude.{◌≡◌, None, Some};
 ghost use Rattle.std.specs.Option.{option_map};
 ghost use Rattle.mac_arena.specs.Entry.{pinned_at};
-ghost use Rattle.mac_arena.specs.Slot.{heard_on, held_on, shifted_to};
+ghost use Rattle.mac_arena.specs.Inner.Slot.{heard_on, held_on, shifted_to};
 
 use crate::station::{Entry, Learned, Station};
 use ether_wire::{Mac, Vni};
@@ -23,7 +23,7 @@ pub(crate) struct Slot {
 
 impl Model for Slot {
     ghost use Rattle.std.specs.Prelude.{Option};
-    ghost use Rattle.mac_arena.specs.Slot.{learned_in};
+    ghost use Rattle.mac_arena.specs.Inner.Slot.{learned_in};
     ghost use Rattle.mac_arena.specs.declared.station.Learned.{Learned};
 
     ghost Value = { Option Learned };

@@ -3,10 +3,11 @@
 ghost use Rattle.std.specs.Prelude.{◌≡◌, ℕ, ◌+◌, ◌<◌, ◌≤◌, ◌^◌, true, false, Some, None, length, slice_get, IfOk, IfSome, IfNone, MatchOption};
 ghost use Rattle.std.specs.FinMap.{len};
 ghost use Rattle.ether_wire.specs.Ports.{place_of_port};
-ghost use Rattle.mac_arena.specs.Learning.{Learning, nothing_learnt, entry_at, is_full, bucket_in, stations_at, learned_at, left, first_unpinned, IsLatest, standing, entered, heard, held, shifted, dropped, learnt_of, after_learn, can_pin, after_pin, after_removal};
+ghost use Rattle.mac_arena.specs.Learning.{Learning, nothing_learnt, entry_at, is_full, bucket_in, stations_at, learned_at, left, first_unpinned, IsLatest, entered, learnt_of, after_learn, can_pin, after_pin, after_removal};
+ghost use Rattle.mac_arena.specs.Inner.Learning.{standing, heard, held, shifted, dropped};
 ghost use Rattle.std.specs.Prelude.{is_some, replicate};
 ghost use Rattle.mac_arena.specs.Entry.{pinned_at};
-ghost use Rattle.mac_arena.specs.Slot.{held_on, shifted_to};
+ghost use Rattle.mac_arena.specs.Inner.Slot.{held_on, shifted_to};
 ghost use Rattle.mac_arena.specs.ListsName.{ListsName};
 
 use crate::orders::NodeOrders;

@@ -10,7 +10,7 @@ use Rattle.route_wire.specs.declared.update.Register.{Register}
 use Rattle.route_wire.specs.declared.update.Value.{Value}
 use Rattle.route_wire.specs.Fields.{Fields}
 use Rattle.route_wire.specs.Order.{register_cmp}
-use Rattle.route_wire.specs.Totals.{register_exact}
+use Rattle.route_wire.specs.Inner.Totals.{register_exact}
 use Rattle.route_join.specs.Subject.{subject_of}
 use Rattle.route_join.specs.Table.{Table, value_at, table_from, entries_of, IsOrdered}
 use Rattle.route_join.specs.Owner.{is_about}
@@ -23,7 +23,7 @@ use Rattle.route_join.proofs.Merging.{find_at, updates_back}
 use Rattle.route_join.proofs.Groupings.{Groups, Entries, entries_in, entries_in_all, about_there as group_about}
 use Rattle.route_join.proofs.Groupings.{AllAre, entries_if, made_there}
 use Rattle.std.specs.declared.cmp.Ordering.{Ordering}
-use Rattle.route_join.specs.Groups.{group_at}
+use Rattle.route_join.specs.Inner.Groups.{group_at}
 use Rattle.route_join.proofs.Holding.{differs}
 use Rattle.route_join.proofs.Subjects.{address, about_address, about_itself}
 

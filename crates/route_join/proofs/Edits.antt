@@ -8,12 +8,12 @@ use Rattle.route_wire.specs.declared.update.Register.{Register}
 use Rattle.route_wire.specs.declared.update.Value.{Value}
 use Rattle.route_wire.specs.Fields.{Fields, IsUpdate}
 use Rattle.route_wire.specs.Order.{register_cmp}
-use Rattle.route_wire.specs.Totals.{register_total}
+use Rattle.route_wire.specs.Inner.Totals.{register_total}
 use Rattle.route_join.specs.Table.{Table, value_at, is_listed, IsListed, AreWellFormed, with_value, entries_of}
 use Rattle.route_join.specs.Table.{IsOrdered, table_from, AreOriginators, IsKept}
 use Rattle.route_join.specs.declared.table.TakeError.{TakeError}
 use Rattle.route_join.specs.declared.table.TakeError.TheVariants.{UnknownOriginator}
-use Rattle.route_join.specs.Place.{place_of}
+use Rattle.route_join.specs.Inner.Place.{place_of}
 use Rattle.route_join.proofs.Orders.{to_T, from_T}
 use Rattle.route_join.proofs.Tables.{same_or_other, at_same, at_other}
 use Rattle.route_join.proofs.Places.{IsPlace, IsGap, placed, gapped}

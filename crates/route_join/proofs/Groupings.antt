@@ -16,8 +16,8 @@ use Rattle.route_wire.specs.Order.{register_cmp}
 use Rattle.route_join.specs.Subject.{Subject, subject_cmp, subject_of}
 use Rattle.route_join.specs.Table.{entries_of}
 use Rattle.route_join.specs.Group.{AreAbout, IsSome, IsBefore, AreGroups, updates_in}
-use Rattle.route_join.specs.Groups.{group_at}
-use Rattle.route_join.specs.Ranks.{subject_total, subject_exact}
+use Rattle.route_join.specs.Inner.Groups.{group_at}
+use Rattle.route_join.specs.Inner.Ranks.{subject_total, subject_exact}
 use Rattle.route_join.proofs.Subjects.{less_by_subject, greater_by_subject}
 
 abbrev pub Groups : Type 0

@@ -30,16 +30,17 @@ use Rattle.route_join.specs.Table.{with_value, is_news, is_listed, IsOrdered, Is
 use Rattle.route_join.specs.Laws.{SameOwner}
 use Rattle.route_join.specs.Owner.{advert_in, advert_of, advert_at, owner, owner_among, IsOwner, IsUnowned, IsBetter}
 use Rattle.route_join.specs.Flood.{is_flood, floods, flooding}
-use Rattle.route_join.specs.Group.{AreAbout, AreGroups, IsGrouped, IsLeader, IsSilent, told, updates_in}
-use Rattle.route_join.specs.Group.{update_among, entries_with, taken_in}
+use Rattle.route_join.specs.Group.{AreAbout, AreGroups, IsGrouped, updates_in}
+use Rattle.route_join.specs.Inner.Group.{IsLeader, IsSilent, told}
+use Rattle.route_join.specs.Inner.Group.{update_among, entries_with, taken_in}
 use Rattle.route_join.proofs.Tables.{same_register}
 use Rattle.route_join.proofs.Edits.{found, listed_as, kept_put, table_put}
 use Rattle.route_join.proofs.Owners.{owner_is, one_owner, owner_along}
-use Rattle.route_join.specs.Ranks.{subject_total}
+use Rattle.route_join.specs.Inner.Ranks.{subject_total}
 use Rattle.route_join.proofs.Subjects.{address, address_key}
 use Rattle.route_join.proofs.Groupings.{Groups, Entries, entries_in, entries_in_all, about_there, find_there}
 use Rattle.route_join.proofs.Groupings.{AllAre, entries_if, made_there}
-use Rattle.route_join.specs.Groups.{group_at}
+use Rattle.route_join.specs.Inner.Groups.{group_at}
 
 -- ---- values
 module _ (os : List ℕ) (gs : Groups) (k : IsGrouped os gs) where

@@ -12,11 +12,12 @@ use Rattle.std.specs.BTreeMap.{insert_entry, is_at}
 use Rattle.std.specs.BTreeSet.{insert_key}
 use Rattle.std.specs.Cmp.{tied_itself}
 use Rattle.route_wire.specs.Fields.{Fields}
-use Rattle.route_wire.specs.Ties.{equal_from}
+use Rattle.route_wire.specs.Inner.Ties.{equal_from}
 use Rattle.route_wire.specs.declared.update.Register.{Register}
-use Rattle.route_join.specs.Subject.{Subject, subject_cmp, subject_eq, subject_of}
-use Rattle.route_join.specs.Groups.{group_at, group_in, groups_along, is_among, AreIndexed, AreThere}
-use Rattle.route_join.specs.Ranks.{subject_exact, subject_total, tied_subjects}
+use Rattle.route_join.specs.Subject.{Subject, subject_cmp, subject_of}
+use Rattle.route_join.specs.Inner.Subject.{subject_eq}
+use Rattle.route_join.specs.Inner.Groups.{group_at, group_in, groups_along, is_among, AreIndexed, AreThere}
+use Rattle.route_join.specs.Inner.Ranks.{subject_exact, subject_total, tied_subjects}
 use Rattle.route_join.proofs.Groupings.{Groups}
 
 -- ---- equal subjects

@@ -13,7 +13,7 @@ use Rattle.route_wire.specs.declared.update.Register.{Register}
 use Rattle.route_wire.specs.declared.update.Value.{Value}
 use Rattle.route_wire.specs.Fields.{Fields}
 use Rattle.route_wire.specs.Order.{register_cmp, value_cmp, is_newer}
-use Rattle.route_wire.specs.Totals.{register_total, register_exact, value_total, neither_newer}
+use Rattle.route_wire.specs.Inner.Totals.{register_total, register_exact, value_total, neither_newer}
 use Rattle.route_join.specs.Table.{Table, value_at, is_news, with_value, with_update, with_updates, table_from}
 use Rattle.route_join.specs.Table.{IsTableOf}
 use Rattle.route_join.specs.Joins.{newer_of, IsJoin, with_entries, join}
@@ -249,7 +249,8 @@ single_table u = record {
 update_joins : (t : Table) (u : Fields) → IsJoin t (table_from [] (u ∷ [])) (with_update t u)
 update_joins t u r = elim (same_or_other r u.register) as (λ _. value_at (with_update t u) r
     ≡ newer_of (value_at t r) (value_at (table_from [] (u ∷ [])) r)) [
-      | inl same ↦ subst (λ q. value_at (with_update t u) q ≡ newer_of (value_at t q) (value_at (table_from [] (u ∷ [])) q))
+      | inl same ↦ subst
+          (λ q. value_at (with_update t u) q ≡ newer_of (value_at t q) (value_at (table_from [] (u ∷ [])) q))
           (sym same) (update_same t u.register u.value ∙ ap (newer_of (value_at t u.register)) (sym (single_same u)))
       | inr ne ↦ update_other t u.register u.value r ne ∙ sym (newer_of-none (value_at t r))
           ∙ ap (newer_of (value_at t r)) (sym (single_other u r ne))

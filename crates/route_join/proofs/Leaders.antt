@@ -23,11 +23,12 @@ use Rattle.route_wire.specs.declared.update.Key.TheVariants.{Flood}
 use Rattle.route_wire.specs.declared.update.Content.TheVariants.{Withdrawn}
 use Rattle.route_join.specs.declared.table.Taken.{Taken}
 use Rattle.route_join.specs.declared.table.Taken.TheVariants.{Newer, Known}
-use Rattle.route_wire.specs.Totals.{register_total}
+use Rattle.route_wire.specs.Inner.Totals.{register_total}
 use Rattle.route_join.specs.Table.{entries_of, IsOrdered, is_news}
 use Rattle.route_join.specs.Owner.{advert_in, advert_of, IsBetter, is_better, is_better_by}
-use Rattle.route_join.specs.Group.{told, Leads, HasWinner, candidate_in, candidate_at, wins, better_place, stays_best}
-use Rattle.route_join.specs.Group.{moved, update_among, added, Takes}
+use Rattle.route_join.specs.Inner.Group.{told, Leads, HasWinner, candidate_in, candidate_at, wins, better_place}
+use Rattle.route_join.specs.Inner.Group.{stays_best}
+use Rattle.route_join.specs.Inner.Group.{moved, update_among, added, Takes}
 use Rattle.route_join.proofs.Tables.{same_or_other, itself_register, other_register}
 use Rattle.route_join.proofs.Places.{IsPlace, IsGap}
 use Rattle.route_join.proofs.Edits.{ordered_put}
@@ -355,7 +356,8 @@ module _ (us : List Fields) (u : Fields) (v : Value) (there : find register_cmp 
   pub known_takes : b ≡ false → Takes (entries_of us) u held (Ok Known) (entries_of us) held
   known_takes t = record {
     taken = sym (ap (λ x. cond x Newer Known) (news_at ∙ t));
-    entries = sym (ap (λ x. cond x (put register_cmp u.register u.value (entries_of us)) (entries_of us)) (news_at ∙ t));
+    entries = sym (ap (λ x. cond x (put register_cmp u.register u.value (entries_of us)) (entries_of us))
+        (news_at ∙ t));
     counted = held_at;
     few = λ h. h;
     absent = tt;

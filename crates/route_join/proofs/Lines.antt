@@ -11,10 +11,13 @@ use Rattle.route_wire.specs.declared.update.Value.{Value}
 use Rattle.route_wire.specs.Fields.{Fields}
 use Rattle.route_join.specs.Subject.{Subject, subject_of}
 use Rattle.route_join.specs.Table.{IsOrdered, entries_of, table_from}
-use Rattle.route_join.specs.Report.{register_line, owner_line, goes_on, after_register, lines_of, owner_among}
-use Rattle.route_join.specs.Report.{report_lines, report_of}
-use Rattle.route_join.specs.Lines.{subject_text, HaveText, register_lines, group_lines}
-use Rattle.route_join.specs.Group.{AreAbout, IsSome, IsSilent, IsLeader, IsBefore, AreGroups, IsGrouped, updates_in}
+use Rattle.route_join.specs.Report.{register_line, owner_line, goes_on, after_register, lines_of}
+use Rattle.route_join.specs.Inner.Report.{owner_among}
+use Rattle.route_join.specs.Report.{report_of}
+use Rattle.route_join.specs.Inner.Report.{report_lines}
+use Rattle.route_join.specs.Inner.Lines.{subject_text, HaveText, register_lines, group_lines}
+use Rattle.route_join.specs.Group.{AreAbout, IsSome, IsBefore, AreGroups, IsGrouped, updates_in}
+use Rattle.route_join.specs.Inner.Group.{IsSilent, IsLeader}
 use Rattle.route_join.proofs.Edits.{listed_as}
 use Rattle.route_join.proofs.Groupings.{Groups, Entries, entries_in, entries_in_all}
 use Rattle.route_join.proofs.Subjects.{address, address_key, about_itself, flood_only}

@@ -14,7 +14,7 @@ use Rattle.route_wire.specs.declared.update.Register.{Register}
 use Rattle.route_wire.specs.declared.update.Value.{Value}
 use Rattle.route_wire.specs.Fields.{Fields}
 use Rattle.route_wire.specs.Order.{register_cmp}
-use Rattle.route_wire.specs.Totals.{register_total, register_exact}
+use Rattle.route_wire.specs.Inner.Totals.{register_total, register_exact}
 use Rattle.route_join.specs.declared.table.Taken.{Taken}
 use Rattle.route_join.specs.declared.table.Unmerged.{Unmerged}
 use Rattle.route_join.specs.declared.table.TakeError.{TakeError}

@@ -7,8 +7,9 @@ use Rattle.std.specs.declared.cmp.Ordering.TheVariants.{Less, Equal, Greater}
 use Rattle.std.specs.Option.{option_cmp}
 use Rattle.std.specs.Ordering.{MatchOrdering, nat_cmp, ordering_then}
 use Rattle.std.proofs.lemmas.Map.Views.{exact_unsigned_eq}
-use Rattle.route_join.specs.Subject.{Subject, subject_cmp, subject_number, mac_place, mac_at}
-use Rattle.route_join.specs.Ranks.{place_back}
+use Rattle.route_join.specs.Subject.{Subject, subject_cmp}
+use Rattle.route_join.specs.Inner.Subject.{subject_number, mac_place, mac_at}
+use Rattle.route_join.specs.Inner.Ranks.{place_back}
 
 -- ---- places in a network
 pub at_next : (m : ℕ) → mac_at (m + 1) ≡ Some m

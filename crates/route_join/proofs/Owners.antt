@@ -20,7 +20,7 @@ use Rattle.route_wire.specs.declared.update.Register.{Register}
 use Rattle.route_wire.specs.declared.update.Advert.{Advert}
 use Rattle.route_wire.specs.declared.update.Value.{Value}
 use Rattle.route_wire.specs.Order.{register_cmp}
-use Rattle.route_wire.specs.Totals.{register_total, register_exact}
+use Rattle.route_wire.specs.Inner.Totals.{register_total, register_exact}
 use Rattle.route_join.specs.Table.{Table, register_of, value_at}
 use Rattle.route_join.specs.Owner.{advert_in, advert_of, IsBetterBy, IsBetter, IsOwner, IsUnowned, is_better_by}
 use Rattle.route_join.specs.Owner.{is_better, is_about, said_of, better_of, best_among, owner}

@@ -9,11 +9,11 @@ use Rattle.route_wire.specs.declared.update.Register.{Register}
 use Rattle.route_wire.specs.declared.update.Value.{Value}
 use Rattle.route_wire.specs.Fields.{Fields}
 use Rattle.route_wire.specs.Order.{register_cmp}
-use Rattle.route_wire.specs.Totals.{register_total, register_exact}
+use Rattle.route_wire.specs.Inner.Totals.{register_total, register_exact}
 use Rattle.route_join.specs.Table.{entries_of, IsOrdered}
 use Rattle.route_join.specs.Subject.{Subject, subject_of}
 use Rattle.route_join.specs.Group.{AreAbout}
-use Rattle.route_join.specs.Place.{place_of, later_by}
+use Rattle.route_join.specs.Inner.Place.{place_of, later_by}
 use Rattle.route_join.proofs.Orders.{less, both}
 
 -- ---- a register that stands at a place

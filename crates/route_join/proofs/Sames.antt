@@ -13,8 +13,8 @@ use Rattle.route_wire.specs.contracts.update.ValuePartialEq.TheImpl as value
 use Rattle.route_wire.specs.contracts.update.UpdatePartialEq.TheImpl as update
 use Rattle.route_wire.specs.Fields.{Fields}
 use Rattle.route_wire.specs.Order.{register_cmp}
-use Rattle.route_wire.specs.Ties.{tied_registers, equal_from}
-use Rattle.route_wire.specs.Totals.{register_exact}
+use Rattle.route_wire.specs.Inner.Ties.{tied_registers, equal_from}
+use Rattle.route_wire.specs.Inner.Totals.{register_exact}
 use Rattle.route_join.proofs.Orders.{both}
 
 same_labels : (k l : Option ℕ) → option_eq ◌==◌ k l ≡ true → k ≡ l

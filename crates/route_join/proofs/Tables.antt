@@ -8,9 +8,9 @@ use Rattle.std.specs.FinMap.{get, get-insert, same_map}
 use Rattle.route_wire.specs.declared.update.Register.{Register}
 use Rattle.route_wire.specs.declared.update.Value.{Value}
 use Rattle.route_wire.specs.Fields.{Fields}
-use Rattle.route_wire.specs.Ties.{equal_from}
+use Rattle.route_wire.specs.Inner.Ties.{equal_from}
 use Rattle.route_wire.specs.Order.{register_cmp, is_newer}
-use Rattle.route_wire.specs.Totals.{register_total, register_exact, value_total, neither_newer}
+use Rattle.route_wire.specs.Inner.Totals.{register_total, register_exact, value_total, neither_newer}
 use Rattle.route_join.specs.Table.{Table, value_at, update_at, with_value}
 use Rattle.std.specs.FinMap.Entries.{find, below_all}
 use Rattle.route_join.proofs.Orders.{less, both}

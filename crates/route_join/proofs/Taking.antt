@@ -11,16 +11,17 @@ use Rattle.std.proofs.lemmas.Map.Steps.{set_value_same}
 use Rattle.route_wire.specs.Fields.{Fields}
 use Rattle.route_wire.specs.declared.update.Value.{Value}
 use Rattle.route_wire.specs.Order.{register_cmp, is_newer}
-use Rattle.route_wire.specs.Totals.{register_total}
+use Rattle.route_wire.specs.Inner.Totals.{register_total}
 use Rattle.route_join.specs.declared.table.Taken.{Taken}
 use Rattle.route_join.specs.declared.table.Taken.TheVariants.{Newer, Known}
 use Rattle.route_join.specs.Subject.{Subject, subject_cmp, subject_of}
 use Rattle.route_join.specs.Table.{entries_of, is_news, IsOrdered}
-use Rattle.route_join.specs.Group.{AreAbout, IsSome, AreGroups, updates_in, entries_with, added, Takes}
+use Rattle.route_join.specs.Group.{AreAbout, IsSome, AreGroups, updates_in}
+use Rattle.route_join.specs.Inner.Group.{entries_with, added, Takes}
 use Rattle.route_join.proofs.Groupings.{Groups, Entries, entries_in, entries_in_all, about_there, some_there}
 use Rattle.route_join.proofs.Groupings.{find_there, put_there, same_there, about_put, some_put}
 use Rattle.route_join.proofs.Groupings.{groups_set, groups_insert}
-use Rattle.route_join.specs.Groups.{group_at}
+use Rattle.route_join.specs.Inner.Groups.{group_at}
 use Rattle.route_join.proofs.Leaders.{new_takes}
 use Rattle.route_join.proofs.Orders.{to_T}
 

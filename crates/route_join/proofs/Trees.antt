@@ -18,16 +18,16 @@ use Rattle.route_wire.specs.declared.update.Advert.{Advert}
 use Rattle.route_wire.specs.declared.update.Value.{Value}
 use Rattle.route_wire.specs.Fields.{Fields}
 use Rattle.route_wire.specs.Order.{register_cmp, is_newer}
-use Rattle.route_wire.specs.Totals.{register_total, register_exact}
+use Rattle.route_wire.specs.Inner.Totals.{register_total, register_exact}
 use Rattle.route_join.specs.declared.winner_tree.WinnerNode.{WinnerNode}
 use Rattle.route_join.specs.Table.{entries_of, IsOrdered}
 use Rattle.route_join.specs.Updates.{update_from}
 use Rattle.route_join.specs.Owner.{advert_in, advert_of}
-use Rattle.route_join.specs.Group.{told, update_among, candidate_in, wins, IsLeader, IsSilent}
-use Rattle.route_join.specs.WinnerTree.{owns, AreSettled, said_at, Wins, IsBestOf}
-use Rattle.route_join.specs.LargeGroup.{place_at, value_in, update_at, updates_along, large_updates}
-use Rattle.route_join.specs.LargeGroup.{register_at, ArePlaced}
-use Rattle.route_join.specs.LargeGroup.{IsLargeGroup}
+use Rattle.route_join.specs.Inner.Group.{told, update_among, candidate_in, wins, IsLeader, IsSilent}
+use Rattle.route_join.specs.Inner.WinnerTree.{owns, AreSettled, said_at, Wins, IsBestOf}
+use Rattle.route_join.specs.Inner.LargeGroup.{place_at, value_in, update_at, updates_along, large_updates}
+use Rattle.route_join.specs.Inner.LargeGroup.{register_at, ArePlaced}
+use Rattle.route_join.specs.Inner.LargeGroup.{IsLargeGroup}
 use Rattle.route_join.proofs.Orders.{less, both, to_T}
 use Rattle.route_join.proofs.Tables.{itself_register, other_register, same_or_other}
 use Rattle.route_join.proofs.Owners.{not_better_is}

@@ -16,9 +16,9 @@ use Rattle.route_wire.specs.declared.update.Advert.{Advert}
 use Rattle.route_wire.specs.Fields.{Fields}
 use Rattle.route_join.specs.declared.winner_tree.WinnerNode.{WinnerNode}
 use Rattle.route_join.specs.Owner.{advert_in}
-use Rattle.route_join.specs.Group.{candidate_in, wins}
-use Rattle.route_join.specs.WinnerTree.{owns, said_at, better_of, best_in, best_below, best_at, IsSettledAt}
-use Rattle.route_join.specs.WinnerTree.{AreSettled, IsSettledBut, IsBestOf}
+use Rattle.route_join.specs.Inner.Group.{candidate_in, wins}
+use Rattle.route_join.specs.Inner.WinnerTree.{owns, said_at, better_of, best_in, best_below, best_at, IsSettledAt}
+use Rattle.route_join.specs.Inner.WinnerTree.{AreSettled, IsSettledBut, IsBestOf}
 use Rattle.route_join.proofs.Owners.{better_ranks}
 
 -- ---- lists

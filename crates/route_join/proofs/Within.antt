@@ -16,13 +16,13 @@ use Rattle.route_wire.specs.declared.update.Advert.{Advert}
 use Rattle.route_wire.specs.declared.update.Register.{Register}
 use Rattle.route_wire.specs.Fields.{Fields}
 use Rattle.route_wire.specs.Order.{ip_of, ip_cmp, register_cmp}
-use Rattle.route_wire.specs.Totals.{register_total}
+use Rattle.route_wire.specs.Inner.Totals.{register_total}
 use Rattle.route_join.specs.Subject.{subject_cmp, subject_of}
 use Rattle.route_join.specs.Table.{entries_of, IsOrdered}
 use Rattle.route_join.specs.Owner.{is_better_by}
-use Rattle.route_join.specs.Group.{candidate_in, candidate_at, said_in, said_at, wins, wins_by}
+use Rattle.route_join.specs.Inner.Group.{candidate_in, candidate_at, said_in, said_at, wins, wins_by}
 use Rattle.route_join.proofs.Orders.{less, both}
-use Rattle.route_join.specs.Ranks.{subject_total}
+use Rattle.route_join.specs.Inner.Ranks.{subject_total}
 use Rattle.route_join.proofs.Subjects.{by_subject}
 
 -- ---- IP addresses

@@ -1,21 +1,19 @@
 -- The octets of a report: a line for each register, and one for the owner of each station.
 use Rattle.std.specs.Prelude.{ℕ, Bool, false, ◌==◌, if◌then◌else◌, List, [], ◌∷◌, ◌++◌, codes, decimal, Option, Some}
 use Rattle.std.specs.Prelude.{None}
-use Rattle.std.specs.Option.{option_map}
 use Rattle.std.specs.FinMap.{entries}
 use Rattle.ether_wire.specs.Addr.{mac_text, addr_text}
 use Rattle.route_wire.specs.declared.update.Ip.{Ip}
 use Rattle.route_wire.specs.declared.update.Key.{Key}
 use Rattle.route_wire.specs.declared.update.Key.TheVariants.{Flood, Mac}
 use Rattle.route_wire.specs.declared.update.Register.{Register}
-use Rattle.route_wire.specs.declared.update.Advert.{Advert}
 use Rattle.route_wire.specs.declared.update.Content.{Content}
 use Rattle.route_wire.specs.declared.update.Content.TheVariants.{Withdrawn, Advert as Advertised}
 use Rattle.route_wire.specs.declared.update.Value.{Value}
 use Rattle.route_wire.specs.Order.{label2_of}
 use Rattle.route_wire.specs.Text.{ip_words}
 use Rattle.route_join.specs.Table.{Table}
-use Rattle.route_join.specs.Owner.{is_about, owner, best_among}
+use Rattle.route_join.specs.Owner.{is_about, owner}
 
 -- ---- words
 
@@ -96,14 +94,6 @@ after_register owner_of (Mac vni mac ip) rest = if goes_on vni mac rest then [] 
 abbrev pub lines_of : (ℕ → ℕ → Option ℕ) → List (Register × Value) → List ℕ
 lines_of owner_of [] = []
 lines_of owner_of (e ∷ rest) = register_line e.0 e.1 ++ after_register owner_of e.0.key rest ++ lines_of owner_of rest
-
--- the owner of a station among these registers
-abbrev pub owner_among : List (Register × Value) → ℕ → ℕ → Option ℕ
-owner_among all vni mac = option_map (λ (best : Register × Advert). best.0.originator) (best_among vni mac all None)
-
--- the report of these registers
-abbrev pub report_lines : List (Register × Value) → List ℕ
-report_lines all = lines_of (owner_among all) all
 
 -- the report of a table
 abbrev pub report_of : Table → List ℕ

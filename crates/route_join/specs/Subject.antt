@@ -1,5 +1,5 @@
 -- What routes are about, and its order.
-use Rattle.std.specs.Prelude.{ℕ, zero, suc, ◌+◌, ◌*◌, ◌^◌, Bool, Option, Some, None, ◌==◌, ◌&&◌}
+use Rattle.std.specs.Prelude.{ℕ, Option, Some, None}
 use Rattle.std.specs.declared.cmp.Ordering.{Ordering}
 use Rattle.std.specs.Option.{option_cmp}
 use Rattle.std.specs.Ordering.{nat_cmp, ordering_then}
@@ -18,20 +18,3 @@ subject_cmp a b = ordering_then (nat_cmp a.vni b.vni) (option_cmp nat_cmp a.mac 
 abbrev pub subject_of : Key → Subject
 subject_of (Flood vni) = record { vni = vni; mac = None }
 subject_of (Mac vni mac ip) = record { vni = vni; mac = Some mac }
-
--- where a subject stands among those of its network: the flood list first, then the addresses
-abbrev pub mac_place : Option ℕ → ℕ
-mac_place None = 0
-mac_place (Some m) = m + 1
-
--- what stands there
-abbrev pub mac_at : ℕ → Option ℕ
-mac_at zero = None
-mac_at (suc m) = Some m
-
-abbrev pub subject_eq : Subject → Subject → Bool
-subject_eq a b = (a.vni == b.vni) && (mac_place a.mac == mac_place b.mac)
-
--- a subject as one number
-abbrev pub subject_number : Subject → ℕ
-subject_number s = s.vni * 2 ^ 64 + mac_place s.mac

@@ -4,7 +4,8 @@ ghost use Rattle.std.specs.FinMap.Entries.{find};
 ghost use Rattle.route_wire.specs.Order.{register_cmp};
 ghost use Rattle.route_join.specs.Table.{entries_of, IsOrdered};
 ghost use Rattle.route_join.specs.Subject.{subject_of};
-ghost use Rattle.route_join.specs.Group.{AreAbout, Takes, update_among, IsLeader, IsSilent};
+ghost use Rattle.route_join.specs.Group.{AreAbout};
+ghost use Rattle.route_join.specs.Inner.Group.{Takes, update_among, IsLeader, IsSilent};
 
 use crate::large_group::LargeGroup;
 use crate::place::place;
@@ -70,7 +71,7 @@ impl Model for Group {
     ghost use Rattle.std.specs.Prelude.{List};
     ghost use Rattle.std.specs.Coded.{codes};
     ghost use Rattle.route_wire.specs.Fields.{Fields};
-    ghost use Rattle.route_join.specs.Storage.{stored_updates};
+    ghost use Rattle.route_join.specs.Inner.Storage.{stored_updates};
 
     ghost Value = { List Fields };
 

@@ -7,10 +7,11 @@ ghost use Rattle.std.specs.BTreeMap.{insert_entry};
 ghost use Rattle.ether_wire.specs.Ends.{IsOpen, Puts};
 ghost use Rattle.route_join.specs.Subject.{subject_cmp};
 ghost use Rattle.route_join.specs.Table.{entries_of};
-ghost use Rattle.route_join.specs.Group.{Takes, AreAbout, IsSome, AreGroups, updates_in};
-ghost use Rattle.route_join.specs.Groups.{group_at};
-ghost use Rattle.route_join.specs.Report.{report_lines};
-ghost use Rattle.route_join.specs.Lines.{group_lines};
+ghost use Rattle.route_join.specs.Group.{AreAbout, IsSome, AreGroups, updates_in};
+ghost use Rattle.route_join.specs.Inner.Group.{Takes};
+ghost use Rattle.route_join.specs.Inner.Groups.{group_at};
+ghost use Rattle.route_join.specs.Inner.Report.{report_lines};
+ghost use Rattle.route_join.specs.Inner.Lines.{group_lines};
 
 use crate::group::Group;
 use crate::report::{put_owner, put_updates, subject_text};
@@ -37,7 +38,7 @@ impl Model for Groups {
     ghost use Rattle.std.specs.Coded.{codes};
     ghost use Rattle.route_wire.specs.Fields.{Fields};
     ghost use Rattle.route_join.specs.Subject.{Subject};
-    ghost use Rattle.route_join.specs.Groups.{groups_along, AreIndexed};
+    ghost use Rattle.route_join.specs.Inner.Groups.{groups_along, AreIndexed};
 
     ghost Value = { List (Subject × List Fields) };
 
@@ -131,7 +132,7 @@ impl<'a> Model for GroupsIter<'a> {
     ghost use Rattle.std.specs.Prelude.{List};
     ghost use Rattle.route_wire.specs.Fields.{Fields};
     ghost use Rattle.route_join.specs.Subject.{Subject};
-    ghost use Rattle.route_join.specs.Groups.{groups_along, AreThere};
+    ghost use Rattle.route_join.specs.Inner.Groups.{groups_along, AreThere};
 
     ghost Value = { List (Subject × List Fields) };
 

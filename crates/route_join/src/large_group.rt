@@ -6,9 +6,9 @@ ghost use Rattle.std.specs.List.{slice_get};
 ghost use Rattle.std.specs.Iterator.{YieldsFirstBy, item_count};
 ghost use Rattle.route_wire.specs.Order.{is_newer, register_cmp};
 ghost use Rattle.route_join.specs.Table.{entries_of, IsOrdered};
-ghost use Rattle.route_join.specs.Group.{Takes, update_among, IsLeader, IsSilent};
-ghost use Rattle.route_join.specs.WinnerTree.{owns};
-ghost use Rattle.route_join.specs.LargeGroup.{IsLargeGroup, place_at, large_updates};
+ghost use Rattle.route_join.specs.Inner.Group.{Takes, update_among, IsLeader, IsSilent};
+ghost use Rattle.route_join.specs.Inner.WinnerTree.{owns};
+ghost use Rattle.route_join.specs.Inner.LargeGroup.{IsLargeGroup, place_at, large_updates};
 
 use crate::register_key::RegisterKey;
 use crate::table::Taken;
@@ -78,7 +78,7 @@ impl Model for LargeGroup {
     ghost use Rattle.std.specs.Prelude.{List};
     ghost use Rattle.std.specs.Coded.{codes};
     ghost use Rattle.route_wire.specs.Fields.{Fields};
-    ghost use Rattle.route_join.specs.LargeGroup.{IsLargeGroup, large_updates};
+    ghost use Rattle.route_join.specs.Inner.LargeGroup.{IsLargeGroup, large_updates};
 
     ghost Value = { List Fields };
 
@@ -173,8 +173,8 @@ pub(crate) struct LargeUpdates<'a> {
 impl<'a> Model for LargeUpdates<'a> {
     ghost use Rattle.std.specs.Prelude.{List};
     ghost use Rattle.route_wire.specs.Fields.{Fields};
-    ghost use Rattle.route_join.specs.WinnerTree.{owns};
-    ghost use Rattle.route_join.specs.LargeGroup.{ArePlaced, updates_along};
+    ghost use Rattle.route_join.specs.Inner.WinnerTree.{owns};
+    ghost use Rattle.route_join.specs.Inner.LargeGroup.{ArePlaced, updates_along};
 
     ghost Value = { List Fields };
 

@@ -2,7 +2,7 @@
 ghost use Rattle.std.specs.Prelude.{◌≡◌};
 ghost use Rattle.route_wire.specs.Order.{ip_cmp, register_cmp};
 ghost use Rattle.route_join.specs.Group.{AreAbout};
-ghost use Rattle.route_join.specs.Place.{place_of};
+ghost use Rattle.route_join.specs.Inner.Place.{place_of};
 ghost use Rattle.route_join.specs.Subject.{subject_of};
 ghost use Rattle.route_join.specs.Table.{entries_of};
 

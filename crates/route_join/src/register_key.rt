@@ -39,8 +39,8 @@ impl RegisterKey {
 
 impl Ord for RegisterKey {
     ghost use Rattle.route_wire.specs.Order.{register_cmp};
-    ghost use Rattle.route_wire.specs.Totals.{register_total};
-    ghost use Rattle.route_wire.specs.Ties.{tied_registers};
+    ghost use Rattle.route_wire.specs.Inner.Totals.{register_total};
+    ghost use Rattle.route_wire.specs.Inner.Ties.{tied_registers};
 
     ghost cmp = { register_cmp };
 
@@ -58,8 +58,8 @@ impl Ord for RegisterKey {
 impl PartialOrd for RegisterKey {
     ghost use Rattle.std.specs.Cmp.{po};
     ghost use Rattle.route_wire.specs.Order.{register_cmp};
-    ghost use Rattle.route_wire.specs.Totals.{register_total};
-    ghost use Rattle.route_wire.specs.Ties.{tied_registers};
+    ghost use Rattle.route_wire.specs.Inner.Totals.{register_total};
+    ghost use Rattle.route_wire.specs.Inner.Ties.{tied_registers};
 
     ghost partial_cmp = { λ x y. Some (register_cmp x y) };
 

@@ -5,7 +5,7 @@ ghost use Rattle.route_wire.specs.Order.{label2_of};
 ghost use Rattle.route_wire.specs.Text.{groups_text, addr6_text, ip_text, ip_words};
 ghost use Rattle.route_join.specs.Table.{entries_of};
 ghost use Rattle.route_join.specs.Subject.{subject_of};
-ghost use Rattle.route_join.specs.Lines.{subject_text, register_lines, HaveText};
+ghost use Rattle.route_join.specs.Inner.Lines.{subject_text, register_lines, HaveText};
 ghost use Rattle.route_join.specs.Report.{spaced, counter_text, flood_state, mac_state, label2_words, origin_text, mac_words, register_line, owner_name};
 
 use crate::subject::Subject;

@@ -4,9 +4,10 @@ ghost use Rattle.std.specs.List.{insert};
 ghost use Rattle.std.specs.FinMap.Entries.{put};
 ghost use Rattle.route_wire.specs.Order.{register_cmp};
 ghost use Rattle.route_join.specs.Table.{entries_of, IsOrdered};
-ghost use Rattle.route_join.specs.Place.{place_of};
+ghost use Rattle.route_join.specs.Inner.Place.{place_of};
 ghost use Rattle.route_join.specs.Subject.{subject_of};
-ghost use Rattle.route_join.specs.Group.{AreAbout, told, Takes, update_among, said_at, wins_by, better_place, stays_best, moved, HasWinner, IsLeader, IsSilent};
+ghost use Rattle.route_join.specs.Group.{AreAbout};
+ghost use Rattle.route_join.specs.Inner.Group.{told, Takes, update_among, said_at, wins_by, better_place, stays_best, moved, HasWinner, IsLeader, IsSilent};
 
 use crate::owner::{advert_in, is_better};
 use crate::place::place;
@@ -151,7 +152,7 @@ impl Model for SmallGroup {
     ghost use Rattle.std.specs.Prelude.{List};
     ghost use Rattle.std.specs.Coded.{codes};
     ghost use Rattle.route_wire.specs.Fields.{Fields};
-    ghost use Rattle.route_join.specs.Group.{IsGroup};
+    ghost use Rattle.route_join.specs.Inner.Group.{IsGroup};
 
     ghost Value = { List Fields };
 

@@ -1,6 +1,7 @@
 //! What routes are about: a network's flood list, or a MAC address in it.
 ghost use Rattle.std.specs.Prelude.{◌≡◌, ◌<◌, ◌^◌, None, Some, refl};
-ghost use Rattle.route_join.specs.Subject.{subject_of, subject_number, mac_place};
+ghost use Rattle.route_join.specs.Subject.{subject_of};
+ghost use Rattle.route_join.specs.Inner.Subject.{subject_number, mac_place};
 
 use ether_wire::{Mac, Vni};
 use route_wire::Key;
@@ -21,8 +22,9 @@ pub(crate) struct Subject {
 
 impl Model for Subject {
     ghost use Rattle.std.specs.Prelude.{◌≤◌, ◌^◌};
-    ghost use Rattle.route_join.specs.Subject.{Subject as About, mac_at, mac_place};
-    ghost use Rattle.route_join.specs.Ranks.{place_back};
+    ghost use Rattle.route_join.specs.Subject.{Subject as About};
+    ghost use Rattle.route_join.specs.Inner.Subject.{mac_at, mac_place};
+    ghost use Rattle.route_join.specs.Inner.Ranks.{place_back};
 
     ghost Value = { About };
 
@@ -74,7 +76,7 @@ impl Subject {
     }
 
     /// The whole subject as one number.
-    #[tactic(auto, using(crate::specs::Ranks::place_back, crate::proofs::Numbers::small_place))]
+    #[tactic(auto, using(crate::specs::Inner::Ranks::place_back, crate::proofs::Numbers::small_place))]
     fn number(&self) -> u128
         ensures value { result ≡ subject_number self.now }
         ensures small { mac_place self.now.mac < 2 ^ 64 }
@@ -86,7 +88,7 @@ impl Subject {
 // One write, where a derived one would make two.
 impl Hash for Subject {
     ghost use Rattle.std.specs.Hash as fed;
-    ghost use Rattle.route_join.specs.Hashes.{same_hashes};
+    ghost use Rattle.route_join.specs.Inner.Hashes.{same_hashes};
 
     ghost hash_input = { λ s. fed.u128 (subject_number s) };
 
@@ -99,7 +101,7 @@ impl Hash for Subject {
 
 impl Ord for Subject {
     ghost use Rattle.route_join.specs.Subject.{subject_cmp};
-    ghost use Rattle.route_join.specs.Ranks.{subject_total, tied_subjects};
+    ghost use Rattle.route_join.specs.Inner.Ranks.{subject_total, tied_subjects};
 
     ghost cmp = { subject_cmp };
 
@@ -123,7 +125,7 @@ impl Ord for Subject {
 impl PartialOrd for Subject {
     ghost use Rattle.std.specs.Cmp.{po};
     ghost use Rattle.route_join.specs.Subject.{subject_cmp};
-    ghost use Rattle.route_join.specs.Ranks.{subject_total, tied_subjects};
+    ghost use Rattle.route_join.specs.Inner.Ranks.{subject_total, tied_subjects};
 
     ghost partial_cmp = { λ x y. Some (subject_cmp x y) };
 

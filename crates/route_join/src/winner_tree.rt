@@ -4,8 +4,8 @@
 ghost use Rattle.std.specs.Prelude.{◌≡◌, ◌≢◌, ◌+◌, ◌*◌, ◌<◌, ◌^◌, ◌++◌, ◌∷◌, ◌⊎◌, [], ℕ, None, Some, true, set, vec_len, vec_capacity, IfOk, OnOk};
 ghost use Rattle.std.specs.List.{slice_get};
 ghost use Rattle.std.specs.Option.{option_copied};
-ghost use Rattle.route_join.specs.Group.{candidate_in, wins as against};
-ghost use Rattle.route_join.specs.WinnerTree.{are_level, said_at, best_below, better_of, best_at, owns, IsSettledBut, AreSettled, IsBestOf};
+ghost use Rattle.route_join.specs.Inner.Group.{candidate_in, wins as against};
+ghost use Rattle.route_join.specs.Inner.WinnerTree.{are_level, said_at, best_below, better_of, best_at, owns, IsSettledBut, AreSettled, IsBestOf};
 
 use crate::owner::advert_in;
 use crate::small_group::wins;

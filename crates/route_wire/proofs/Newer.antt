@@ -8,8 +8,8 @@ use Rattle.std.specs.declared.cmp.Ordering.{Ordering}
 use Rattle.std.specs.declared.cmp.Ordering.TheVariants.{Less, Equal, Greater}
 use Rattle.std.specs.Ordering.{ordering_then, is_lt, is_eq}
 use Rattle.route_wire.specs.Order.{vni_of, place_of, ip_of, ip_cmp, key_cmp, content_cmp}
-use Rattle.route_wire.specs.Totals.{key_total, key_exact, value_total}
-use Rattle.route_wire.specs.Ties.{equal_from}
+use Rattle.route_wire.specs.Inner.Totals.{key_total, key_exact, value_total}
+use Rattle.route_wire.specs.Inner.Ties.{equal_from}
 use Rattle.route_wire.specs.Laws.{NextNewer, NotNewerLower, NotNewerEarlier, NewerNotEarlier, NotNewerItself}
 use Rattle.route_wire.specs.Laws.{KeyOrOther, KeysInOrder}
 

@@ -22,8 +22,9 @@ use Rattle.ether_wire.specs.Frame.{first_of}
 use Rattle.route_wire.specs.Stream.{IsWhole}
 use Rattle.route_wire.specs.Refusal.{refusal_tests}
 use Rattle.route_wire.specs.Record.{header_in, update_in, reading, Spells, Reads}
-use Rattle.route_wire.specs.Encode.{mac_route, flood_route, route_octets, kind_of, record_octets, IpFits, Label2Fits}
-use Rattle.route_wire.specs.Encode.{RouteFits}
+use Rattle.route_wire.specs.Encode.{mac_route, flood_route, route_octets, kind_of, record_octets}
+use Rattle.route_wire.specs.Inner.Encode.{IpFits, Label2Fits}
+use Rattle.route_wire.specs.Inner.Encode.{RouteFits}
 use Rattle.route_wire.proofs.Wholes.{AllUnmet, found_long}
 use Rattle.route_wire.proofs.Prefixes.{whole_again}
 use Rattle.route_wire.proofs.Readings.{spelt}

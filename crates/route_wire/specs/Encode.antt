@@ -1,5 +1,5 @@
 -- The octets that are written for an update: a record of version 3.
-use Rattle.std.specs.Prelude.{ℕ, ◌+◌, ◌*◌, ◌^◌, ◌<◌, Bool, not, ◌||◌, ◌==◌, if◌then◌else◌, List, [], ◌∷◌, ◌++◌, length}
+use Rattle.std.specs.Prelude.{ℕ, ◌+◌, ◌*◌, Bool, not, ◌||◌, ◌==◌, if◌then◌else◌, List, [], ◌∷◌, ◌++◌, length}
 use Rattle.std.specs.Prelude.{Option, Some, None}
 use Rattle.byteorder.specs.Endian.{big_bytes}
 use Rattle.route_wire.specs.declared.route.TheConstants.{MAC_ROUTE, FLOOD_ROUTE, FLOOD_LEN, MAC_LEN, BITS_OF_MAC}
@@ -13,7 +13,7 @@ use Rattle.route_wire.specs.declared.update.Key.TheVariants.{Flood, Mac}
 use Rattle.route_wire.specs.declared.update.Content.{Content}
 use Rattle.route_wire.specs.declared.update.Content.TheVariants.{Withdrawn, Advert as Advertised}
 use Rattle.route_wire.specs.Fields.{Fields}
-use Rattle.route_wire.specs.Order.{vni_of, label2_of, sequence_of}
+use Rattle.route_wire.specs.Order.{vni_of, label2_of}
 
 -- a route distinguisher of type 1, with the originator's address and the number 1
 abbrev pub distinguisher : ℕ → List ℕ
@@ -74,19 +74,3 @@ spelling_of u =
     record_octets (kind_of u.value.content) u.register.originator u.value.incarnation u.value.counter
     (vni_of u.register.key)
     (route_octets u.register.originator u.register.key u.value.content)
-
--- ---- numbers that fit their octets
-abbrev pub IpFits : Option Ip → Type 0
-IpFits None = Unit {0}
-IpFits (Some (V4 n)) = n < 2 ^ 32
-IpFits (Some (V6 n)) = n < 2 ^ 128
-
-abbrev pub Label2Fits : Option ℕ → Type 0
-Label2Fits None = Unit {0}
-Label2Fits (Some n) = n < 2 ^ 24
-
--- of a flood list nothing but its network is written
-abbrev pub RouteFits : Key → Content → Type 0
-RouteFits (Flood vni) content = Unit {0}
-RouteFits (Mac vni mac ip) content = (mac < 2 ^ 48) × IpFits ip × Label2Fits (label2_of content)
-    × (sequence_of content < 2 ^ 32)

@@ -1,8 +1,6 @@
 pub mod Octets
 pub mod Fields
 pub mod Order
-pub mod Totals
-pub mod Ties
 pub mod Laws
 pub mod Stream
 pub mod Route
@@ -11,3 +9,4 @@ pub mod Record
 pub mod Encode
 pub mod Text
 pub mod Feed
+pub mod Inner

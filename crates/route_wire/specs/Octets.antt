@@ -1,15 +1,7 @@
 -- The sixteen octets of an IPv6 address, and that they are as good as its number.
-use Rattle.std.proofs.Common.{◌≡◌, ℕ, ◌+◌, ◌*◌, ◌/◌, ◌^◌, List, [], ◌∷◌, ap, ◌∙◌}
-use Rattle.std.proofs.lemmas.Nat.{div-add-mod'}
-use Rattle.byteorder.specs.Endian.{big_number, big_bytes}
-use Rattle.byteorder.specs.Numbers.{big_from-cons, big_from-bytes}
+use Rattle.std.proofs.Common.{ℕ, ◌/◌, ◌^◌, List, ◌∷◌}
+use Rattle.byteorder.specs.Endian.{big_bytes}
 
 -- the octets of a number, the first one highest
 abbrev pub octets_of : ℕ → List ℕ
 octets_of n = n / 256 ^ 15 ∷ big_bytes 15 n
-
--- the octets give the number back
-pub number_of_octets : (n : ℕ) → big_number 16 (octets_of n) ≡ n
-number_of_octets n =
-    let low = big_from-cons 0 15 (n / 256 ^ 15) (big_bytes 15 n) ∙ big_from-bytes 15 n [] in
-    ap (λ r. n / 256 ^ 15 * 256 ^ 15 + r) low ∙ div-add-mod' n (256 ^ 15)

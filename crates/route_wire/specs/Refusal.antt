@@ -1,5 +1,5 @@
 -- The refusals of a whole record: the first test that is met tells it.
-use Rattle.std.specs.Prelude.{◌≡◌, ◌⊎◌, ℕ, ◌+◌, ◌<◌, Bool, true, false, not, ◌&&◌, ◌||◌, ◌==◌, nat_lt, if◌then◌else◌}
+use Rattle.std.specs.Prelude.{ℕ, ◌+◌, Bool, not, ◌&&◌, ◌||◌, ◌==◌, nat_lt, if◌then◌else◌}
 use Rattle.std.specs.Prelude.{List, [], ◌∷◌, length, take, drop, slice_index, Option}
 use Rattle.std.specs.List.{list_any}
 use Rattle.byteorder.specs.Endian.{big_number}
@@ -13,7 +13,7 @@ use Rattle.route_wire.specs.declared.route.TheConstants.{COMMUNITY_LEN, COMMUNIT
 use Rattle.route_wire.specs.declared.record.Header.{Header}
 use Rattle.ether_wire.specs.Frame.{first_of}
 use Rattle.route_wire.specs.Route.{route_type, route_len, is_mac_route, ip_len, is_listed_len, tail_of, ip_bits}
-use Rattle.route_wire.specs.Route.{wanted_bits, HasRoute}
+use Rattle.route_wire.specs.Route.{wanted_bits}
 
 -- there is a route type, and it is neither a MAC's nor a flood list's
 abbrev pub is_unknown_type : List ℕ → Bool
@@ -76,10 +76,3 @@ refusal_tests h r =
 
 abbrev pub refusal_of : Header → List ℕ → Option ℕ
 refusal_of h r = first_of (refusal_tests h r)
-
--- what is known of a record that isn't refused
-pub record IsReadable (h : Header) (r : List ℕ) : Type 0 where
-  pub route : HasRoute r
-  pub tail : is_mac_advert h r ≡ true → (length (tail_of r) ≡ 0) ⊎ (length (tail_of r) ≡ 8)
-  pub individual : has_bad_mac r ≡ false
-  pub counted : 0 < h.counter

@@ -1,8 +1,8 @@
 -- The parts of a route (RFC 7432, sections 7.2, 7.3 and 7.7; RFC 8365 for the first label), from its type octet on.
-use Rattle.std.specs.Prelude.{◌≡◌, ◌⊎◌, ℕ, ◌+◌, ◌*◌, ◌≤◌, Bool, ◌||◌, ◌==◌, nat_lt, if◌then◌else◌, List, length, drop}
+use Rattle.std.specs.Prelude.{ℕ, ◌+◌, ◌*◌, Bool, ◌||◌, ◌==◌, nat_lt, if◌then◌else◌, List, drop}
 use Rattle.std.specs.Prelude.{slice_index, Option, Some, None}
 use Rattle.byteorder.specs.Endian.{big_number}
-use Rattle.route_wire.specs.declared.route.TheConstants.{MAC_ROUTE, FLOOD_ROUTE, IP_BITS_PLACE, IP_PLACE, LABEL2_PLACE}
+use Rattle.route_wire.specs.declared.route.TheConstants.{MAC_ROUTE, IP_BITS_PLACE, IP_PLACE, LABEL2_PLACE}
 use Rattle.route_wire.specs.declared.route.TheConstants.{ROUTER_BITS_PLACE, FLOOD_LEN, MAC_LEN, MAC_LEN_LABEL2}
 use Rattle.route_wire.specs.declared.route.TheConstants.{MAC_LEN_V4, MAC_LEN_V6, BITS_OF_ROUTER}
 use Rattle.route_wire.specs.declared.update.Ip.{Ip}
@@ -49,10 +49,3 @@ ip_in r = if ip_len r == 0 then None else if ip_len r == 4 then Some (V4 (big_nu
 
 abbrev pub label2_in : List ℕ → Option ℕ
 label2_in r = if has_label2 r then Some (big_number 3 (drop (LABEL2_PLACE + ip_len r) r)) else None
-
--- what a route holds that isn't refused as bad
-pub record HasRoute (r : List ℕ) : Type 0 where
-  pub known : (route_type r ≡ MAC_ROUTE) ⊎ (route_type r ≡ FLOOD_ROUTE)
-  pub flood : 19 ≤ length r
-  pub mac : route_type r ≡ MAC_ROUTE → LABEL2_PLACE + ip_len r + (if has_label2 r then 3 else 0) ≤ length r
-  pub whole : 2 + route_len r ≤ length r

@@ -4,7 +4,8 @@ ghost use Rattle.byteorder.specs.Endian.{big_bytes};
 ghost use Rattle.arrayvec.specs.ArrayVec.{array_vec_len};
 ghost use Rattle.route_wire.specs.Order.{vni_of, label2_of, sequence_of};
 ghost use Rattle.route_wire.specs.Record.{Spells, Reads};
-ghost use Rattle.route_wire.specs.Encode.{ip_octets, label2_octets, distinguisher, no_segment, mac_route, flood_route, community, mobility, route_octets, kind_of, record_octets, spelling_of, IpFits, Label2Fits, RouteFits};
+ghost use Rattle.route_wire.specs.Encode.{ip_octets, label2_octets, distinguisher, no_segment, mac_route, flood_route, community, mobility, route_octets, kind_of, record_octets, spelling_of};
+ghost use Rattle.route_wire.specs.Inner.Encode.{IpFits, Label2Fits, RouteFits};
 
 use crate::route::{
     BITS_OF_MAC, BITS_OF_ROUTER, COMMUNITY_TYPE, FLOOD_LEN, FLOOD_ROUTE, MAC_LEN, MAC_ROUTE,

@@ -10,8 +10,9 @@
 //! | the rest | the route, as `route` has it, and what stands after it |
 ghost use Rattle.std.specs.Prelude.{◌≡◌, ◌+◌, ◌≤◌, ◌⊎◌, if◌then◌else◌, length};
 ghost use Rattle.route_wire.specs.Stream.{IsWhole};
-ghost use Rattle.route_wire.specs.Route.{HasRoute, ip_len, has_label2, ip_in, label2_in, route_type, tail_of};
-ghost use Rattle.route_wire.specs.Refusal.{IsReadable};
+ghost use Rattle.route_wire.specs.Route.{ip_len, has_label2, ip_in, label2_in, route_type, tail_of};
+ghost use Rattle.route_wire.specs.Inner.Route.{HasRoute};
+ghost use Rattle.route_wire.specs.Inner.Refusal.{IsReadable};
 ghost use Rattle.route_wire.specs.Record.{route_place, first_header_in, later_header_in, header_in, is_flagged, advert_in, names_no_ip, key_in, content_in, update_in, reading};
 
 use crate::refusal::refusal;

@@ -2,8 +2,10 @@
 ghost use Rattle.std.specs.Prelude.{◌≡◌, ◌≤◌, ◌⊎◌, length, true, false, not, ◌==◌, IfNone};
 ghost use Rattle.std.specs.Bool.{OnFalse};
 ghost use Rattle.std.specs.List.{list_any};
-ghost use Rattle.route_wire.specs.Route.{HasRoute, tail_of};
-ghost use Rattle.route_wire.specs.Refusal.{IsReadable, is_mac_advert, is_unknown_type, is_bad_route, is_followed_well, is_community, has_other_distinguisher, is_multihomed, is_tagged, has_other_label, has_bad_mac, refusal_of};
+ghost use Rattle.route_wire.specs.Route.{tail_of};
+ghost use Rattle.route_wire.specs.Inner.Route.{HasRoute};
+ghost use Rattle.route_wire.specs.Refusal.{is_mac_advert, is_unknown_type, is_bad_route, is_followed_well, is_community, has_other_distinguisher, is_multihomed, is_tagged, has_other_label, has_bad_mac, refusal_of};
+ghost use Rattle.route_wire.specs.Inner.Refusal.{IsReadable};
 
 use crate::reason::{
     BAD_MAC, BAD_ROUTE, COUNTER_ZERO, LABEL_MISMATCH, MULTIHOMED, RD_MISMATCH, TAG_UNSUPPORTED,

@@ -49,8 +49,8 @@ impl Addr6 {
 
 impl Ord for Addr6 {
     ghost use Rattle.route_wire.specs.Order.{addr6_cmp};
-    ghost use Rattle.route_wire.specs.Totals.{addr6_total};
-    ghost use Rattle.route_wire.specs.Ties.{tied_addresses};
+    ghost use Rattle.route_wire.specs.Inner.Totals.{addr6_total};
+    ghost use Rattle.route_wire.specs.Inner.Ties.{tied_addresses};
 
     ghost cmp = { addr6_cmp };
 
@@ -68,8 +68,8 @@ impl Ord for Addr6 {
 impl PartialOrd for Addr6 {
     ghost use Rattle.std.specs.Cmp.{po};
     ghost use Rattle.route_wire.specs.Order.{addr6_cmp};
-    ghost use Rattle.route_wire.specs.Totals.{addr6_total};
-    ghost use Rattle.route_wire.specs.Ties.{tied_addresses};
+    ghost use Rattle.route_wire.specs.Inner.Totals.{addr6_total};
+    ghost use Rattle.route_wire.specs.Inner.Ties.{tied_addresses};
 
     ghost partial_cmp = { λ x y. Some (addr6_cmp x y) };
 
@@ -116,8 +116,8 @@ impl Ip {
 
 impl Ord for Ip {
     ghost use Rattle.route_wire.specs.Order.{ip_order};
-    ghost use Rattle.route_wire.specs.Totals.{ip_order_total};
-    ghost use Rattle.route_wire.specs.Ties.{tied_ips};
+    ghost use Rattle.route_wire.specs.Inner.Totals.{ip_order_total};
+    ghost use Rattle.route_wire.specs.Inner.Ties.{tied_ips};
 
     ghost cmp = { ip_order };
 
@@ -137,8 +137,8 @@ impl Ord for Ip {
 impl PartialOrd for Ip {
     ghost use Rattle.std.specs.Cmp.{po};
     ghost use Rattle.route_wire.specs.Order.{ip_order};
-    ghost use Rattle.route_wire.specs.Totals.{ip_order_total};
-    ghost use Rattle.route_wire.specs.Ties.{tied_ips};
+    ghost use Rattle.route_wire.specs.Inner.Totals.{ip_order_total};
+    ghost use Rattle.route_wire.specs.Inner.Ties.{tied_ips};
 
     ghost partial_cmp = { λ x y. Some (ip_order x y) };
 
@@ -216,8 +216,8 @@ impl Key {
 
 impl Ord for Key {
     ghost use Rattle.route_wire.specs.Order.{key_cmp};
-    ghost use Rattle.route_wire.specs.Totals.{key_total};
-    ghost use Rattle.route_wire.specs.Ties.{tied_keys};
+    ghost use Rattle.route_wire.specs.Inner.Totals.{key_total};
+    ghost use Rattle.route_wire.specs.Inner.Ties.{tied_keys};
 
     ghost cmp = { key_cmp };
 
@@ -239,8 +239,8 @@ impl Ord for Key {
 impl PartialOrd for Key {
     ghost use Rattle.std.specs.Cmp.{po};
     ghost use Rattle.route_wire.specs.Order.{key_cmp};
-    ghost use Rattle.route_wire.specs.Totals.{key_total};
-    ghost use Rattle.route_wire.specs.Ties.{tied_keys};
+    ghost use Rattle.route_wire.specs.Inner.Totals.{key_total};
+    ghost use Rattle.route_wire.specs.Inner.Ties.{tied_keys};
 
     ghost partial_cmp = { λ x y. Some (key_cmp x y) };
 
@@ -264,8 +264,8 @@ pub struct Register {
 
 impl Ord for Register {
     ghost use Rattle.route_wire.specs.Order.{register_cmp};
-    ghost use Rattle.route_wire.specs.Totals.{register_total};
-    ghost use Rattle.route_wire.specs.Ties.{tied_registers};
+    ghost use Rattle.route_wire.specs.Inner.Totals.{register_total};
+    ghost use Rattle.route_wire.specs.Inner.Ties.{tied_registers};
 
     ghost cmp = { register_cmp };
 
@@ -289,8 +289,8 @@ impl Ord for Register {
 impl PartialOrd for Register {
     ghost use Rattle.std.specs.Cmp.{po};
     ghost use Rattle.route_wire.specs.Order.{register_cmp};
-    ghost use Rattle.route_wire.specs.Totals.{register_total};
-    ghost use Rattle.route_wire.specs.Ties.{tied_registers};
+    ghost use Rattle.route_wire.specs.Inner.Totals.{register_total};
+    ghost use Rattle.route_wire.specs.Inner.Ties.{tied_registers};
 
     ghost partial_cmp = { λ x y. Some (register_cmp x y) };
 

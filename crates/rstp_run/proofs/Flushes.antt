@@ -6,7 +6,8 @@ use Rattle.std.proofs.lemmas.Bool.{eqb-true, eqb-false}
 use Rattle.std.proofs.lemmas.Nat.Bits.{bit_at_or, bit_at-pow_same, bit_at-pow_other, bit_at-lt}
 use Rattle.ether_wire.specs.Ports.{has_port, with_port}
 use Rattle.ether_wire.proofs.PortLemmas.{has_port-bit, has_port-none}
-use Rattle.rstp_run.specs.Runs.{Firing, Run, Goes, IsSettled, flushed, is_flush}
+use Rattle.rstp_run.specs.Runs.{Firing, Run, IsSettled, flushed, is_flush}
+use Rattle.rstp_run.specs.Inner.Runs.{Goes}
 use Rattle.rstp_run.specs.Rules.{Tree}
 use Rattle.rstp_run.specs.Events.{flushes, direct, Happens}
 use Rattle.rstp_run.proofs.Settled.{both-ways, settled_or_not}

@@ -6,7 +6,7 @@ use Rattle.std.specs.Option.{option_map_or}
 use Rattle.std.proofs.lemmas.List.Folds.{list_any_more}
 use Rattle.rstp_state.specs.declared.port.PortState.{PortState}
 use Rattle.rstp_state.specs.Port.{change_at}
-use Rattle.rstp_state.specs.Selection.{length-selected_ports}
+use Rattle.rstp_state.specs.Inner.Selection.{length-selected_ports}
 use Rattle.rstp_roles.specs.AllPorts.{with_sync, with_re_root}
 use Rattle.rstp_roles.specs.RoleTransitions.{without_proposal}
 use Rattle.rstp_run.specs.declared.rule.Rule.{Rule}
@@ -17,7 +17,8 @@ use Rattle.rstp_run.specs.declared.rule.TopologyRule.TheVariants as topology_rul
 use Rattle.rstp_run.specs.declared.count.Count.{Count}
 use Rattle.rstp_machines.specs.TopologyChange.{telling_others, with_propagation}
 use Rattle.rstp_run.specs.Rules.{Tree, guard, after, ports_after}
-use Rattle.rstp_run.specs.Runs.{Goes, Sweeps, IsIdle, IsOff, AreOffAt, Run, Firing, flushed, flush_after, counted}
+use Rattle.rstp_run.specs.Runs.{AreOffAt, Run, Firing, flushed, flush_after}
+use Rattle.rstp_run.specs.Inner.Runs.{Goes, Sweeps, IsIdle, IsOff, counted}
 
 pub length-change_at : (p : ℕ) (change : PortState → PortState) (ports : List PortState)
     → length (change_at p change ports) ≡ length ports

@@ -1,15 +1,11 @@
 -- Runs of a bridge, and what an event may answer.
-use Rattle.std.specs.Prelude.{ℕ, Bool, true, false, ◌≡◌, ◌+◌, ◌≤◌, ◌<◌, if◌then◌else◌, List, [], ◌∷◌, length}
+use Rattle.std.specs.Prelude.{ℕ, Bool, true, false, ◌≡◌, ◌+◌, ◌<◌, if◌then◌else◌, List, [], ◌∷◌, length}
 use Rattle.std.specs.List.{list_any}
 use Rattle.ether_wire.specs.Ports.{with_port}
 use Rattle.rstp_run.specs.Rules.{Tree, guard, after}
 use Rattle.rstp_run.specs.declared.rule.Rule.{Rule}
 use Rattle.rstp_run.specs.declared.rule.Rule.TheVariants.{Topology}
 use Rattle.rstp_run.specs.declared.rule.TopologyRule.TheVariants.{Flush}
-use Rattle.rstp_run.specs.declared.rule.Part.{Part}
-use Rattle.rstp_run.specs.declared.rule.Part.TheVariants as part
-use Rattle.rstp_run.specs.declared.rule.TheConstants.{MAIN, SENDS}
-use Rattle.rstp_run.specs.declared.count.Count.{Count}
 
 -- a rule that fires, and the place of its port
 pub record Firing : Type 0 where
@@ -46,34 +42,6 @@ abbrev pub flushed : List Firing → ℕ → ℕ
 flushed [] before = before
 flushed (f ∷ earlier) before = flush_after f.rule f.place (flushed earlier before)
 
--- one more firing is counted
-abbrev pub counted : Count → Rule → ℕ → Count
-counted a rule p = record { fired = a.fired + 1; limit = a.limit; flush = flush_after rule p a.flush }
-
--- some firings lead from one state and count to another
-pub record Goes (s : Tree) (a : Count) (t : Tree) (b : Count) : Type 0 where
-  pub firings : List Firing
-  pub run : Run firings s t
-  pub fired : b.fired ≡ a.fired + length firings
-  pub flush : b.flush ≡ flushed firings a.flush
-  pub limit : b.limit ≡ a.limit
-  pub within : b.fired ≤ b.limit
-
--- nothing fired, though more might have
-pub record IsIdle (a b : Count) : Type 0 where
-  pub same : b.fired ≡ a.fired
-  pub below : b.fired < b.limit
-
--- firings lead from one state and count to another; where there were none, P holds and nothing changed
-pub record Sweeps (P : Tree → Type 0) (s : Tree) (a : Count) (t : Tree) (b : Count) : Type 0 where
-  pub goes : Goes s a t b
-  pub idle : IsIdle a b → P s × (t ≡ s)
-  pub ports : length t.ports ≡ length s.ports
-
--- the rule is not enabled at port p
-abbrev pub IsOff : Rule → ℕ → Tree → Type 0
-IsOff rule p s = guard rule s p ≡ false
-
 -- none of the rules is enabled at port p
 abbrev pub AreOffAt : List Rule → ℕ → Tree → Type 0
 AreOffAt rules p s = list_any (λ rule. guard rule s p) rules ≡ false
@@ -81,11 +49,6 @@ AreOffAt rules p s = list_any (λ rule. guard rule s p) rules ≡ false
 -- none of the rules is enabled at a port below n
 abbrev pub AreOffBelow : List Rule → ℕ → Tree → Type 0
 AreOffBelow rules n s = (p : ℕ) → p < n → AreOffAt rules p s
-
--- the rules of a part of the table
-abbrev pub rules_of : Part → List Rule
-rules_of part.Main = MAIN
-rules_of part.Sends = SENDS
 
 -- none of the rules is enabled
 abbrev pub AreOff : List Rule → Tree → Type 0

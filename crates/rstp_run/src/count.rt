@@ -14,7 +14,7 @@ pub(crate) struct Count {
 }
 
 impl Count {
-    ghost use Rattle.rstp_run.specs.Runs.{counted};
+    ghost use Rattle.rstp_run.specs.Inner.Runs.{counted};
 
     /// One more firing, of this rule at the port at place `p`.
     pub(crate) fn add(&mut self, rule: Rule, p: usize)

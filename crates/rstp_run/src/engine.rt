@@ -159,17 +159,9 @@ fn fire_in(settings: &Settings, root: &mut Root, ports: &mut [PortState], rule: 
 
 impl Engine {
     ghost use Rattle.rstp_run.specs.Events.{IsPort};
-    ghost use Rattle.rstp_run.specs.Rest.{is_busy};
-    ghost use Rattle.rstp_run.specs.Runs.{
-      Goes,
-      Sweeps,
-      IsOff,
-      AreOffAt,
-      AreOffBelow,
-      AreOff,
-      IsSettled,
-      rules_of,
-    };
+    ghost use Rattle.rstp_run.specs.Inner.Rest.{is_busy};
+    ghost use Rattle.rstp_run.specs.Runs.{AreOffAt, AreOffBelow, AreOff, IsSettled};
+    ghost use Rattle.rstp_run.specs.Inner.Runs.{Goes, Sweeps, IsOff, rules_of};
 
     /// A bridge before its first event.
     pub(crate) fn new(settings: Settings, ports: &[PortSettings]) -> Self

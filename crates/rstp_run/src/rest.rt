@@ -2,21 +2,7 @@
 //! to do there. A machine that isn't busy has no rule that is enabled.
 
 ghost use Rattle.std.specs.Prelude.{◌≡◌, ◌<◌, length};
-ghost use Rattle.rstp_run.specs.Rest.{
-  receive_is_busy,
-  migration_is_busy,
-  detection_is_busy,
-  information_is_busy,
-  keeps_forwarding,
-  role_is_busy,
-  state_is_busy,
-  change_is_busy,
-  topology_is_busy,
-  port_is_busy,
-  main_is_busy,
-  port_sends,
-  is_busy,
-};
+ghost use Rattle.rstp_run.specs.Inner.Rest.{receive_is_busy, migration_is_busy, detection_is_busy, information_is_busy, keeps_forwarding, role_is_busy, state_is_busy, change_is_busy, topology_is_busy, port_is_busy, main_is_busy, port_sends, is_busy};
 ghost use Rattle.rstp_run.specs.Rules.{wants_selection};
 ghost use Rattle.std.specs.List.{list_any};
 

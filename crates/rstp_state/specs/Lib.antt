@@ -3,3 +3,4 @@ pub mod Port
 pub mod Selection
 pub mod Start
 pub mod Vector
+pub mod Inner

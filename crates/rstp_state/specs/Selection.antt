@@ -1,9 +1,6 @@
 -- How a bridge selects its root and its ports' roles (IEEE 802.1D-2004, 17.21.25).
-use Rattle.std.specs.Prelude.{◌≡◌, length, ℕ, Bool, true, false, not, ◌&&◌, ◌==◌, ◌+◌, min, if◌then◌else◌, List, ◌∷◌}
+use Rattle.std.specs.Prelude.{◌≡◌, ℕ, Bool, true, false, not, ◌&&◌, ◌==◌, ◌+◌, min, if◌then◌else◌, List, ◌∷◌}
 use Rattle.std.specs.Prelude.{map, find, Option, Some, None, unwrap_or, option_and_then, slice_get, Contains}
-use Rattle.std.proofs.Common.{◌∙◌}
-use Rattle.std.proofs.lemmas.List.{length-map}
-use Rattle.std.proofs.lemmas.List.FromFn.{length-enumerate_from}
 use Rattle.std.specs.Option.{option_map_or, option_cmp}
 use Rattle.std.specs.List.{list_all, filter_map, enumerate_from}
 use Rattle.std.specs.declared.cmp.Ordering.{Ordering}
@@ -159,8 +156,3 @@ selected_root s ports = root_along s ports (best_path s ports)
 unfoldable pub selected_ports : Settings → List PortState → List PortState
 selected_ports s ports =
     map (λ e. with_choice s (selected_root s ports) (is_through (best_path s ports) e.0) e.1) (enumerate_from 0 ports)
-
--- selection keeps the number of ports
-pub length-selected_ports : (s : Settings) (ports : List PortState) → length (selected_ports s ports) ≡ length ports
-unfolding selected_ports
-length-selected_ports s ports = length-map (enumerate_from 0 ports) _ ∙ length-enumerate_from 0 ports

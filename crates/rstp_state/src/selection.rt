@@ -2,25 +2,7 @@
 
 ghost use Rattle.std.specs.Prelude.{◌≡◌, map};
 ghost use Rattle.std.specs.List.{enumerate_from};
-ghost use Rattle.rstp_state.specs.Selection.{
-  own_root,
-  own_path,
-  is_told,
-  path_through,
-  best_path,
-  IsLeastOf,
-  candidates,
-  times_beyond,
-  root_along,
-  designated_vector,
-  designated_times,
-  role_by,
-  updates_by,
-  with_choice,
-  is_through,
-  selected_root,
-  selected_ports,
-};
+ghost use Rattle.rstp_state.specs.Selection.{own_root, own_path, is_told, path_through, best_path, IsLeastOf, candidates, times_beyond, root_along, designated_vector, designated_times, role_by, updates_by, with_choice, is_through, selected_root, selected_ports};
 
 use crate::port::{InfoIs, PortState, Role};
 use crate::start::Settings;

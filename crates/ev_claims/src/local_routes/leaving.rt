@@ -4,7 +4,8 @@ ghost use Rattle.std.specs.Prelude.{◌≡◌, ◌<◌, slice_get};
 ghost use Rattle.mac_arena.specs.ListsName.{ListsName};
 ghost use Rattle.mac_arena.specs.Laws.{unpinned_on};
 ghost use Rattle.ev_claims.specs.LocalRoutes.{after_removals};
-ghost use Rattle.ev_claims.specs.Leaving.{after_ageing, after_flush, due_in, AreKept};
+ghost use Rattle.ev_claims.specs.Leaving.{after_ageing, after_flush, due_in};
+ghost use Rattle.ev_claims.specs.Inner.Leaving.{AreKept};
 
 use crate::local_routes::LocalRoutes;
 use ether_wire::next_port;

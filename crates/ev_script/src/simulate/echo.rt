@@ -1,6 +1,6 @@
 //! A command's line, as it is printed where a script is played.
 ghost use Rattle.ether_wire.specs.Ends.{IsOpen, Puts};
-ghost use Rattle.ev_script.specs.Shown.{shown_text};
+ghost use Rattle.ev_script.specs.Inner.Shown.{shown_text};
 
 use crate::script::Mode;
 use ether_wire::{Device, Out};

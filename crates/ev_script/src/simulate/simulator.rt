@@ -2,9 +2,9 @@
 ghost use Rattle.std.specs.Prelude.{◌≡◌, ◌+◌, ◌<◌, ◌^◌, [], ◌∷◌, ◌++◌, length, true, false, ℕ, Option, Some, None};
 ghost use Rattle.ether_wire.specs.Ends.{IsOpen};
 ghost use Rattle.ev_report.specs.Ends.{Tells};
-ghost use Rattle.ev_script.specs.Printing.{PutsSome, Minds};
-ghost use Rattle.ev_script.specs.Shown.{shown_text};
-ghost use Rattle.ev_script.specs.Views.{view_text};
+ghost use Rattle.ev_script.specs.Inner.Printing.{PutsSome, Minds};
+ghost use Rattle.ev_script.specs.Inner.Shown.{shown_text};
+ghost use Rattle.ev_script.specs.Inner.Views.{view_text};
 ghost use Rattle.ev_script.specs.Simulation.{port_number, is_out_of_memory};
 
 use crate::script::{Command, Hex, Mode, Question, cut_line, parse};
@@ -148,7 +148,7 @@ impl Simulator {
     ghost use Rattle.ev_fabric.specs.declared.step.Step.TheVariants.{Local, Announce};
     ghost use Rattle.ev_fabric.specs.declared.step.LocalEvent.TheVariants.{Second};
     ghost use Rattle.ev_script.specs.Script.{command_of, octets_of, second, frame, tunnel};
-    ghost use Rattle.ev_script.specs.Playing.{Makes, MakesOne, Performs, PlaysLine, PlaysTo, Answers};
+    ghost use Rattle.ev_script.specs.Inner.Playing.{Makes, MakesOne, Performs, PlaysLine, PlaysTo, Answers};
 
     /// A fabric of which nothing was asked yet.
     pub(crate) fn new(fabric: Fabric) -> Simulator

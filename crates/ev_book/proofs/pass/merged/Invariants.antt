@@ -1,5 +1,5 @@
 use Rattle.std.proofs.Common.{◌≡◌, ◌+◌, vec_len}
-use Rattle.ev_book.specs.Closing.{calls_of}
+use Rattle.ev_book.specs.Inner.Closing.{calls_of}
 use Rattle.ev_book.proofs.pass.merged.Given as goal
 
 abbrev pub invariant-loop-pass : goal.invariant-loop-pass

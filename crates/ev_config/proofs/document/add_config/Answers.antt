@@ -1,4 +1,4 @@
-use Rattle.std.proofs.Common.{◌≡◌, ◌++◌, List, [], ◌∷◌, Ok, codes, Bor, subst}
+use Rattle.std.proofs.Common.{◌≡◌, ◌++◌, [], ◌∷◌, Ok, codes, Bor, subst}
 use Rattle.std.specs.Prelude.{Result}
 use Rattle.toml.specs.Data.{Items}
 use Rattle.std.specs.Prelude.{Vec}
@@ -6,8 +6,8 @@ use Rattle.std.specs.declared.alloc.Global.{Global}
 use Rattle.toml.specs.declared.value.Value.{Value}
 use Rattle.toml.specs.View.{table_view, array_view}
 use Rattle.ev_config.specs.declared.keys.Fault.{Fault}
-use Rattle.ev_config.specs.Keys.{required, tables_in}
-use Rattle.ev_config.specs.Faults.{File, fault_at, faults_view, others, edges_faults, edge_items, edge_tables}
+use Rattle.ev_config.specs.Faults.{File, others, edges_faults, edge_items, edge_tables}
+use Rattle.ev_config.specs.Inner.Faults.{faults_view}
 use Rattle.ev_config.proofs.Adding.{adds_then, noted}
 use Rattle.ev_config.proofs.document.add_config.Goals as goal
 

@@ -1,4 +1,4 @@
-use Rattle.std.proofs.Common.{◌≡◌, ℕ, ◌++◌, List, [], ◌∷◌, Option, Ok, codes, Bor, ap, sym, subst, ◌∙◌}
+use Rattle.std.proofs.Common.{◌≡◌, ℕ, ◌++◌, List, [], ◌∷◌, Option, codes, Bor, ap, subst, ◌∙◌}
 use Rattle.std.specs.Prelude.{Result, true}
 use Rattle.std.specs.Option.{option_map_or}
 use Rattle.toml.specs.Data.{Items, no_items}
@@ -6,8 +6,9 @@ use Rattle.std.specs.Prelude.{Vec}
 use Rattle.std.specs.declared.alloc.Global.{Global}
 use Rattle.toml.specs.declared.value.Value.{Value}
 use Rattle.toml.specs.View.{table_view, array_view}
-use Rattle.ev_config.specs.Keys.{required, optional, tables_in, path_in, tables_beside, count_of}
-use Rattle.ev_config.specs.Faults.{File, Faulty, Adds, faults_view, fault_at, others, edges_faults, edge_items}
+use Rattle.ev_config.specs.Keys.{required, optional, path_in, tables_beside, count_of}
+use Rattle.ev_config.specs.Faults.{File, Faulty, fault_at, others, edges_faults, edge_items}
+use Rattle.ev_config.specs.Inner.Faults.{Adds, faults_view}
 use Rattle.ev_config.specs.Faults.{edge_tables}
 use Rattle.ev_config.specs.Faults.{peers_faults, tables_or_none, all_addresses}
 use Rattle.ev_config.proofs.Adding.{adds_then, noted}

@@ -3,7 +3,7 @@ use Rattle.std.specs.Prelude.{eqb}
 use Rattle.std.specs.List.{list_any}
 use Rattle.ev_edge.specs.Config.{vnis_of}
 use Rattle.ev_config.specs.declared.edge.Described.{Described}
-use Rattle.ev_config.specs.Fitting.{AreAmong, Fits}
+use Rattle.ev_config.specs.Inner.Fitting.{AreAmong, Fits}
 use Rattle.ev_config.proofs.edge.edge_of.Goals as goal
 
 pub returns-clause-new : goal.returns-clause-new

@@ -1,6 +1,7 @@
 use Rattle.std.proofs.Common.{◌≡◌, sym, subst}
-use Rattle.ev_config.specs.Config.{Edges, edges_view, with_edge}
-use Rattle.ev_config.specs.Fitting.{FitTogether}
+use Rattle.ev_config.specs.Config.{Edges, with_edge}
+use Rattle.ev_config.specs.Inner.Config.{edges_view}
+use Rattle.ev_config.specs.Inner.Fitting.{FitTogether}
 use Rattle.ev_config.proofs.Fitting.{fit_more}
 use Rattle.ev_config.proofs.edges.add_edge.Goals as goal
 

@@ -1,7 +1,8 @@
 use Rattle.std.proofs.Common.{◌≡◌, length, drop, vec_len}
 use Rattle.toml.specs.View.{items_view}
-use Rattle.ev_config.specs.Config.{edges_from, edges_view, no_edges}
-use Rattle.ev_config.specs.Fitting.{FitTogether}
+use Rattle.ev_config.specs.Config.{edges_from, no_edges}
+use Rattle.ev_config.specs.Inner.Config.{edges_view}
+use Rattle.ev_config.specs.Inner.Fitting.{FitTogether}
 use Rattle.ev_config.proofs.edges.edges_of.Given as goal
 
 abbrev pub invariant-loop-value : goal.invariant-loop-value

@@ -1,4 +1,5 @@
-use Rattle.ev_config.specs.Config.{edges_view, view_of}
+use Rattle.ev_config.specs.Config.{view_of}
+use Rattle.ev_config.specs.Inner.Config.{edges_view}
 use Rattle.ev_config.proofs.Fitting.{opens_with}
 use Rattle.ev_config.proofs.edges.with_peers.Goals as goal
 

@@ -3,7 +3,7 @@ use Rattle.std.specs.Prelude.{Vec}
 use Rattle.std.specs.declared.alloc.Global.{Global}
 use Rattle.toml.specs.declared.value.Value.{Value}
 use Rattle.toml.specs.View.{table_view, array_view}
-use Rattle.ev_config.proofs.Adding.{gives_fault, adds_then, noted}
+use Rattle.ev_config.proofs.Adding.{adds_then, noted}
 use Rattle.ev_config.specs.Keys.{required, tables_in}
 use Rattle.ev_config.specs.ConfigEdge.{edge_keys}
 use Rattle.ev_config.specs.Faults.{Edge, fault_at, others, names_faults, tree_faults, limits_faults, odd_times}

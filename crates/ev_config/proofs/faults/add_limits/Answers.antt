@@ -1,6 +1,6 @@
 use Rattle.toml.specs.View.{table_view}
 use Rattle.ev_config.proofs.Adding.{five}
-use Rattle.ev_config.specs.Faults.{spot_of}
+use Rattle.ev_config.specs.Inner.Faults.{spot_of}
 use Rattle.ev_config.specs.ConfigEdge.{ageing_of, capacity_of, buckets_of, salt_of, incarnation_of}
 use Rattle.ev_config.proofs.faults.add_limits.Goals as goal
 

@@ -1,8 +1,9 @@
-use Rattle.std.proofs.Common.{◌++◌, ℕ, Bool}
+use Rattle.std.proofs.Common.{◌++◌, ℕ}
 use Rattle.toml.specs.View.{table_view}
-use Rattle.ev_config.proofs.Adding.{gives_fault, adds_then, noted}
+use Rattle.ev_config.proofs.Adding.{gives_fault, noted}
 use Rattle.arrayvec.specs.ArrayVec.{ArrayVec}
-use Rattle.ev_config.specs.Faults.{spot_of, fault_at}
+use Rattle.ev_config.specs.Faults.{fault_at}
+use Rattle.ev_config.specs.Inner.Faults.{spot_of}
 use Rattle.ev_config.specs.ConfigEdge.{address_of, bridge_of, networks_of}
 use Rattle.ev_config.proofs.faults.add_names.Goals as goal
 

@@ -1,6 +1,7 @@
 use Rattle.std.proofs.Common.{◌≡◌, ◌++◌, map, string_bytes}
 use Rattle.toml.specs.View.{table_view}
-use Rattle.ev_config.specs.Faults.{spot_of, faults_view, unknown, others}
+use Rattle.ev_config.specs.Faults.{unknown, others}
+use Rattle.ev_config.specs.Inner.Faults.{spot_of, faults_view}
 use Rattle.ev_config.proofs.faults.add_others.Given as goal
 
 abbrev pub invariant-loop-key : goal.invariant-loop-key

@@ -1,7 +1,8 @@
-use Rattle.std.proofs.Common.{◌++◌, ℕ, Bool}
+use Rattle.std.proofs.Common.{ℕ}
 use Rattle.toml.specs.View.{table_view}
-use Rattle.ev_config.proofs.Adding.{gives_fault, adds_then, noted}
-use Rattle.ev_config.specs.Faults.{spot_of, fault_at, others}
+use Rattle.ev_config.proofs.Adding.{noted}
+use Rattle.ev_config.specs.Faults.{fault_at, others}
+use Rattle.ev_config.specs.Inner.Faults.{spot_of}
 use Rattle.ev_config.specs.ConfigEdge.{address_of}
 use Rattle.ev_config.specs.ConfigPeer.{peer_keys}
 use Rattle.ev_config.proofs.faults.add_peer.Goals as goal

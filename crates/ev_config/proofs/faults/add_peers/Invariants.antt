@@ -1,6 +1,7 @@
 use Rattle.std.proofs.Common.{◌≡◌, ◌+◌, ◌++◌, drop}
 use Rattle.toml.specs.View.{items_view}
-use Rattle.ev_config.specs.Faults.{faults_view, peers_faults}
+use Rattle.ev_config.specs.Faults.{peers_faults}
+use Rattle.ev_config.specs.Inner.Faults.{faults_view}
 use Rattle.ev_config.proofs.faults.add_peers.Given as goal
 
 abbrev pub invariant-loop-value : goal.invariant-loop-value

@@ -1,8 +1,9 @@
 use Rattle.std.proofs.Common.{◌++◌, ℕ, Bool, List, Option, option_map, codes}
 use Rattle.toml.specs.View.{table_view}
-use Rattle.ev_config.proofs.Adding.{gives_fault, adds_then, noted}
+use Rattle.ev_config.proofs.Adding.{noted}
 use Rattle.ev_config.specs.declared.endpoint.Endpoint.{Endpoint}
-use Rattle.ev_config.specs.Faults.{spot_of, fault_at, network_of, others}
+use Rattle.ev_config.specs.Faults.{fault_at, network_of, others}
+use Rattle.ev_config.specs.Inner.Faults.{spot_of}
 use Rattle.ev_config.specs.ConfigPort.{cost_of, priority_of, admin_edge_of, auto_edge_of, point_to_point_of}
 use Rattle.ev_config.specs.ConfigPort.{endpoint_of, port_keys}
 use Rattle.ev_config.proofs.faults.add_port.Goals as goal

@@ -1,6 +1,7 @@
 use Rattle.std.proofs.Common.{◌≡◌, ◌+◌, ◌++◌, drop, option_map}
 use Rattle.toml.specs.View.{items_view}
-use Rattle.ev_config.specs.Faults.{faults_view, ports_faults}
+use Rattle.ev_config.specs.Faults.{ports_faults}
+use Rattle.ev_config.specs.Inner.Faults.{faults_view}
 use Rattle.ev_config.proofs.faults.add_ports.Given as goal
 
 abbrev pub invariant-loop-value : goal.invariant-loop-value

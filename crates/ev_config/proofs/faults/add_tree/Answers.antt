@@ -1,6 +1,6 @@
 use Rattle.toml.specs.View.{table_view}
 use Rattle.ev_config.proofs.Adding.{five}
-use Rattle.ev_config.specs.Faults.{spot_of}
+use Rattle.ev_config.specs.Inner.Faults.{spot_of}
 use Rattle.ev_config.specs.ConfigEdge.{priority_of, hello_of, max_age_of, forward_delay_of, hold_of}
 use Rattle.ev_config.proofs.faults.add_tree.Goals as goal
 

@@ -1,7 +1,7 @@
 use Rattle.std.proofs.Common.{List, ℕ, sym, subst}
 use Rattle.std.specs.Prelude.{eqb}
 use Rattle.std.specs.List.{IsDistinct}
-use Rattle.ev_config.specs.Fitting.{AreAmong}
+use Rattle.ev_config.specs.Inner.Fitting.{AreAmong}
 use Rattle.ev_config.proofs.Fitting.{listed_more}
 use Rattle.ether_wire.proofs.DistinctNumbers.{distinct_more}
 use Rattle.ev_config.proofs.peers.add_address.Goals as goal

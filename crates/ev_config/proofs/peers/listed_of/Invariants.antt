@@ -2,7 +2,7 @@ use Rattle.std.proofs.Common.{◌≡◌, ◌+◌, length, drop}
 use Rattle.std.specs.Prelude.{eqb}
 use Rattle.std.specs.List.{IsDistinct}
 use Rattle.toml.specs.View.{items_view}
-use Rattle.ev_config.specs.Fitting.{AreAmong}
+use Rattle.ev_config.specs.Inner.Fitting.{AreAmong}
 use Rattle.ev_config.specs.ConfigPeer.{listed_from}
 use Rattle.ev_config.proofs.peers.listed_of.Given as goal
 

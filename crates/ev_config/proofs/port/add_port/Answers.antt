@@ -1,7 +1,7 @@
 use Rattle.std.proofs.Common.{List, sym, subst}
 use Rattle.ev_edge.specs.declared.config.PortConfig.{PortConfig}
 use Rattle.ev_edge.specs.Config.{vnis_of}
-use Rattle.ev_config.specs.Fitting.{AreAmong}
+use Rattle.ev_config.specs.Inner.Fitting.{AreAmong}
 use Rattle.ev_config.proofs.Fitting.{served_more}
 use Rattle.ev_config.proofs.port.add_port.Goals as goal
 

@@ -4,7 +4,7 @@ use Rattle.ev_edge.specs.declared.config.PortConfig.{PortConfig}
 use Rattle.ev_edge.specs.Config.{vnis_of}
 use Rattle.ev_config.specs.declared.endpoint.PortEndpoints.{PortEndpoints}
 use Rattle.ev_config.specs.ConfigPort.{ports_from}
-use Rattle.ev_config.specs.Fitting.{AreAmong}
+use Rattle.ev_config.specs.Inner.Fitting.{AreAmong}
 use Rattle.ev_config.proofs.Fitting.{none_served}
 use Rattle.ev_config.proofs.port.ports_of.Goals as goal
 

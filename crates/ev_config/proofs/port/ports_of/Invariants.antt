@@ -1,7 +1,7 @@
 use Rattle.std.proofs.Common.{◌≡◌, length, drop}
 use Rattle.toml.specs.View.{items_view}
 use Rattle.ev_edge.specs.Config.{vnis_of}
-use Rattle.ev_config.specs.Fitting.{AreAmong}
+use Rattle.ev_config.specs.Inner.Fitting.{AreAmong}
 use Rattle.ev_config.specs.ConfigPort.{no_ports, ports_from}
 use Rattle.ev_config.proofs.port.ports_of.Given as goal
 

@@ -1,4 +1,4 @@
-use Rattle.std.proofs.Common.{◌≡◌, ℕ, ◌+◌, List, [], ◌∷◌, ◌++◌, length, refl, sym, ap, ◌∙◌}
+use Rattle.std.proofs.Common.{ℕ, ◌+◌, List, [], ◌∷◌, ◌++◌, refl, sym, ap, ◌∙◌}
 use Rattle.ether_wire.specs.Ends.{End, with_text}
 use Rattle.ether_wire.specs.Memory.{page_octets}
 use Rattle.ether_wire.proofs.Appending.{with_text_twice, with_text_none}

@@ -1,7 +1,7 @@
 use Rattle.std.proofs.Common.{◌<◌, ℕ, List, [], take, length, Ok, Err, refl, subst, ◌∙◌, arith}
 use Rattle.std.proofs.lemmas.Bool.Decides.{nat_tests}
 use Rattle.ether_wire.specs.Ends.{Gets}
-use Rattle.ev_console.specs.Conversation.{TakesOctets, TakesEnd}
+use Rattle.ev_console.specs.Inner.Conversation.{TakesOctets, TakesEnd}
 use Rattle.ev_console.proofs.Talking.{goes_none, goes_more, goes_unwritten, goes_end, goes_unread, goes_on}
 use Rattle.ev_console.proofs.conversation.converse_with.Goals as goal
 

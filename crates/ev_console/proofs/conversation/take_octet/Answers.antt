@@ -1,6 +1,6 @@
 use Rattle.std.proofs.Common.{List, ℕ, subst, arith}
 use Rattle.std.proofs.lemmas.Bool.Decides.{nat_tests}
-use Rattle.ev_console.specs.Answers.{Replies}
+use Rattle.ev_console.specs.Inner.Answers.{Replies}
 use Rattle.ev_console.proofs.Conversing.{takes_kept, takes_reply}
 use Rattle.ev_console.proofs.conversation.take_octet.Goals as goal
 

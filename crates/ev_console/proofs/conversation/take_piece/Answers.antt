@@ -1,6 +1,6 @@
 use Rattle.std.proofs.Common.{◌≡◌, ℕ, ◌+◌, List, [], ◌∷◌, ◌++◌, take, drop, get_or, Ok, Err, sym, ap, subst, ◌∙◌}
 use Rattle.std.proofs.lemmas.List.{take_more, take-append-drop}
-use Rattle.ev_console.specs.Conversation.{TakesOctets}
+use Rattle.ev_console.specs.Inner.Conversation.{TakesOctets}
 use Rattle.ev_console.proofs.Conversing.{takes_both, takes_broken}
 use Rattle.ev_console.proofs.conversation.take_piece.Goals as goal
 

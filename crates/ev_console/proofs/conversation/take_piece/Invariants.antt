@@ -1,5 +1,5 @@
 use Rattle.std.proofs.Common.{◌≡◌, take, Ok}
-use Rattle.ev_console.specs.Conversation.{TakesOctets}
+use Rattle.ev_console.specs.Inner.Conversation.{TakesOctets}
 use Rattle.ev_console.proofs.conversation.take_piece.Given as goal
 
 abbrev pub invariant-loop-octet : goal.invariant-loop-octet

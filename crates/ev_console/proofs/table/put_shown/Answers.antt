@@ -2,7 +2,7 @@ use Rattle.std.proofs.Common.{Result, sym, subst}
 use Rattle.std.specs.Global.{Vec}
 use Rattle.std.specs.declared.alloc.AllocError.{AllocError}
 use Rattle.route_wire.specs.Fields.{Fields}
-use Rattle.ev_console.specs.Answers.{PutsShown}
+use Rattle.ev_console.specs.Inner.Answers.{PutsShown}
 use Rattle.ev_console.proofs.Doing.{puts_refused}
 use Rattle.ev_console.proofs.table.put_shown.Goals as goal
 

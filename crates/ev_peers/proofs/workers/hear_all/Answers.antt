@@ -1,7 +1,8 @@
 use Rattle.std.proofs.Common.{◌≡◌, ℕ, Bool, true, List, Option, rules, subst}
 use Rattle.ev_links.specs.Links.{Call}
-use Rattle.ev_links.specs.Coming.{DoesOne}
-use Rattle.ev_peers.specs.Working.{standing, Hearing, hearing, Answers, TurnsOnce}
+use Rattle.ev_links.specs.Inner.Coming.{DoesOne}
+use Rattle.ev_peers.specs.Working.{standing, Hearing, hearing, Answers}
+use Rattle.ev_peers.specs.Inner.Working.{TurnsOnce}
 use Rattle.ev_peers.specs.declared.workers.Source.{Source}
 use Rattle.ev_links.proofs.Coming.{goes_on}
 use Rattle.ev_peers.proofs.workers.hear_all.Goals as goal

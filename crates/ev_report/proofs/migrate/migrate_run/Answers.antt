@@ -5,7 +5,7 @@ use Rattle.ev_report.specs.declared.stream.Intake.{Intake}
 use Rattle.ev_report.specs.Notes.{has_stopped, ran_out_of_memory, status_of}
 use Rattle.ev_report.specs.Ends.{devices}
 use Rattle.ev_report.specs.Report.{Renders, taken_of}
-use Rattle.ev_report.specs.Progressing.{state, new_intake, TakesInput}
+use Rattle.ev_report.specs.Inner.Progressing.{state, new_intake, TakesInput}
 use Rattle.ev_report.specs.Migrated.{migrated_of, records_of}
 use Rattle.ev_report.specs.Migrations.{migration}
 use Rattle.ev_report.proofs.Finishing.{renders}

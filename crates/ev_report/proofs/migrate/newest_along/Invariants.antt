@@ -1,5 +1,6 @@
 use Rattle.std.proofs.Common.{◌≡◌, drop}
-use Rattle.ev_report.specs.Migrated.{newest_along, behind}
+use Rattle.ev_report.specs.Migrated.{newest_along}
+use Rattle.ev_report.specs.Inner.Migrated.{behind}
 use Rattle.ev_report.proofs.migrate.newest_along.Given as goal
 
 -- what is to be found from here on is what is to be found from the first

@@ -4,7 +4,8 @@ use Rattle.ether_wire.proofs.Appending.{with_text_twice}
 use Rattle.route_wire.specs.Fields.{Fields}
 use Rattle.route_wire.specs.Encode.{spelling_of}
 use Rattle.route_join.specs.Updates.{all_updates}
-use Rattle.ev_report.specs.Migrated.{newest_along, behind, entering, migrated_at, migrated_along, migrated_all}
+use Rattle.ev_report.specs.Migrated.{newest_along, entering, migrated_at, migrated_along, migrated_all}
+use Rattle.ev_report.specs.Inner.Migrated.{behind}
 use Rattle.ev_report.specs.Migrated.{records_of}
 use Rattle.ev_report.proofs.Migrating.{behind_first, entered_is}
 use Rattle.ev_report.proofs.migrate.put_migrated.Goals as goal

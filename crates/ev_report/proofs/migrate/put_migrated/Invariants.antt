@@ -1,6 +1,7 @@
 use Rattle.std.proofs.Common.{◌≡◌, drop}
 use Rattle.ether_wire.specs.Ends.{with_text}
-use Rattle.ev_report.specs.Migrated.{behind, migrated_along, migrated_of, records_of}
+use Rattle.ev_report.specs.Migrated.{migrated_along, migrated_of, records_of}
+use Rattle.ev_report.specs.Inner.Migrated.{behind}
 use Rattle.ev_report.proofs.migrate.put_migrated.Given as goal
 
 -- what is left to write makes the whole, and the one iterator is where the other's old register ends

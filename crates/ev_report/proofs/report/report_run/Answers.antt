@@ -5,7 +5,7 @@ use Rattle.route_join.specs.Table.{Table}
 use Rattle.route_join.specs.Report.{report_of}
 use Rattle.ev_report.specs.declared.stream.Intake.{Intake}
 use Rattle.ev_report.specs.Notes.{has_stopped, status_of}
-use Rattle.ev_report.specs.Progressing.{state, new_intake, TakesInput}
+use Rattle.ev_report.specs.Inner.Progressing.{state, new_intake, TakesInput}
 use Rattle.ev_report.proofs.Finishing.{renders}
 use Rattle.ev_report.proofs.report.report_run.Goals as goal
 

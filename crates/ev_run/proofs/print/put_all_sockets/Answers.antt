@@ -1,6 +1,6 @@
 use Rattle.std.proofs.Common.{ℕ, List}
 use Rattle.ev_run.specs.declared.bound.Sockets.{Sockets}
-use Rattle.ev_run.specs.Sockets.{bound_at}
+use Rattle.ev_run.specs.Inner.Sockets.{bound_at}
 use Rattle.ev_run.specs.RunEdges.{sockets_text}
 use Rattle.ev_view.proofs.Each.{each_written}
 use Rattle.ev_run.proofs.print.put_all_sockets.Goals as goal

@@ -1,6 +1,6 @@
 use Rattle.std.proofs.Common.{◌≡◌, take}
 use Rattle.ether_wire.specs.Ends.{with_text}
-use Rattle.ev_run.specs.Sockets.{bound_at}
+use Rattle.ev_run.specs.Inner.Sockets.{bound_at}
 use Rattle.ev_run.specs.RunEdges.{sockets_text}
 use Rattle.ev_view.specs.EdgeViews.{each_from}
 use Rattle.ev_run.proofs.print.put_all_sockets.Given as goal

@@ -1,7 +1,7 @@
 use Rattle.std.proofs.Common.{◌≡◌, ◌++◌, map, ap, ◌∙◌}
 use Rattle.ether_wire.specs.Ends.{End, with_text}
 use Rattle.ether_wire.proofs.Appending.{puts_behind, with_text_twice}
-use Rattle.ev_run.specs.Sockets.{bound_at}
+use Rattle.ev_run.specs.Inner.Sockets.{bound_at}
 use Rattle.ev_run.specs.RunEdges.{drops_text, sockets_text, system_text, lost_text}
 use Rattle.ev_view.specs.EdgeViews.{each_from}
 use Rattle.ev_view.proofs.Each.{each_of_map}

@@ -1,6 +1,6 @@
 use Rattle.std.proofs.Common.{rules, ℕ, List, map, sym, subst, ◌∙◌}
 use Rattle.ether_wire.specs.Ends.{End, Source}
-use Rattle.ev_run.specs.Sockets.{bound_at}
+use Rattle.ev_run.specs.Inner.Sockets.{bound_at}
 use Rattle.ev_run.specs.RunEdges.{ReadsOut, Ended, system_text, TellsEnded}
 use Rattle.ev_run.proofs.run.run_bound.Goals as goal
 

@@ -1,8 +1,9 @@
 use Rattle.std.proofs.Common.{Bool, ℕ, false, map, not, ◌||◌, nat_lt, is_ok, subst, ap, ◌∙◌}
 use Rattle.std.specs.List.{list_any}
 use Rattle.ev_report.specs.Notes.{status_of}
-use Rattle.ev_run.specs.Sockets.{bound_at}
-use Rattle.ev_run.specs.RunEdges.{all_lost, link_failed, system_text, noted_text, PutsRest}
+use Rattle.ev_run.specs.Inner.Sockets.{bound_at}
+use Rattle.ev_run.specs.RunEdges.{all_lost, link_failed, system_text, noted_text}
+use Rattle.ev_run.specs.Inner.RunEdges.{PutsRest}
 use Rattle.ev_run.proofs.Running.{tells_ended}
 use Rattle.ev_run.proofs.run.tell_ended.Goals as goal
 

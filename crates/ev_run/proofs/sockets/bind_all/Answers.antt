@@ -1,5 +1,6 @@
 use Rattle.std.proofs.Common.{map}
-use Rattle.ev_run.specs.Sockets.{bound_at, all_ends, lacks_address}
+use Rattle.ev_run.specs.Sockets.{all_ends, lacks_address}
+use Rattle.ev_run.specs.Inner.Sockets.{bound_at}
 use Rattle.ev_run.proofs.Binding.{exits, tunnel_hinders, ports_hinder, edge_hinders}
 use Rattle.ev_run.proofs.sockets.bind_all.Goals as goal
 

@@ -1,6 +1,7 @@
 use Rattle.std.proofs.Common.{◌≡◌, ◌+◌, ◌++◌, map, length, vec_len}
 use Rattle.std.specs.List.{list_any}
-use Rattle.ev_run.specs.Sockets.{ends_from, bound_at, endpoints_of, lacks_ends, lacks_address}
+use Rattle.ev_run.specs.Sockets.{ends_from, endpoints_of, lacks_ends, lacks_address}
+use Rattle.ev_run.specs.Inner.Sockets.{bound_at}
 use Rattle.ev_run.proofs.sockets.bind_all.Given as goal
 
 abbrev pub invariant-loop-edge : goal.invariant-loop-edge

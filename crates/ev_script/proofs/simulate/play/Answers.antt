@@ -1,6 +1,6 @@
 use Rattle.std.proofs.Common.{Bool, not, ◌||◌, is_ok, ap, subst, ◌∙◌}
 use Rattle.ev_report.specs.Notes.{status_of}
-use Rattle.ev_script.specs.Printing.{Minds}
+use Rattle.ev_script.specs.Inner.Printing.{Minds}
 use Rattle.ev_script.proofs.Simulating.{plays_on}
 use Rattle.ev_script.proofs.simulate.play.Goals as goal
 

@@ -3,7 +3,8 @@ use Rattle.std.specs.Prelude.{string_bytes}
 use Rattle.ether_wire.specs.Ends.{End}
 use Rattle.ev_report.specs.Ends.{devices}
 use Rattle.ev_config.specs.Config.{ConfigFor}
-use Rattle.evpnd.specs.Checks.{Checks, ChecksText}
+use Rattle.evpnd.specs.Checks.{Checks}
+use Rattle.evpnd.specs.Inner.Checks.{ChecksText}
 use Rattle.evpnd.proofs.Filed.{of_read}
 use Rattle.evpnd.proofs.check.check.Goals as goal
 

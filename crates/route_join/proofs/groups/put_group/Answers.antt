@@ -4,7 +4,7 @@ use Rattle.ether_wire.specs.Ends.{with_text, Puts}
 use Rattle.ether_wire.proofs.Appending.{puts_behind}
 use Rattle.route_join.specs.Table.{entries_of}
 use Rattle.route_join.specs.Report.{spaced, owner_name, owner_line}
-use Rattle.route_join.specs.Lines.{place_text, subject_text, HaveText, register_lines}
+use Rattle.route_join.specs.Inner.Lines.{place_text, subject_text, HaveText, register_lines}
 use Rattle.route_join.proofs.Lines.{have_text, flood_report, address_report}
 use Rattle.route_join.proofs.groups.put_group.Goals as goal
 

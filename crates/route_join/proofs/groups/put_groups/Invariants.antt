@@ -1,6 +1,6 @@
 use Rattle.std.proofs.Common.{◌≡◌}
 use Rattle.ether_wire.specs.Ends.{with_text}
-use Rattle.route_join.specs.Lines.{group_lines}
+use Rattle.route_join.specs.Inner.Lines.{group_lines}
 use Rattle.route_join.specs.Group.{AreGroups}
 use Rattle.route_join.proofs.groups.put_groups.Given as goal
 

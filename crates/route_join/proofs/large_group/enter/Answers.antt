@@ -4,8 +4,8 @@ use Rattle.std.proofs.lemmas.List.{length-map}
 use Rattle.route_wire.specs.declared.update.Register.{Register}
 use Rattle.route_wire.specs.Order.{register_cmp}
 use Rattle.route_join.specs.declared.winner_tree.WinnerNode.{WinnerNode}
-use Rattle.route_join.specs.WinnerTree.{owns}
-use Rattle.route_join.specs.LargeGroup.{place_at}
+use Rattle.route_join.specs.Inner.WinnerTree.{owns}
+use Rattle.route_join.specs.Inner.LargeGroup.{place_at}
 use Rattle.route_join.proofs.Leaders.{on_ok}
 use Rattle.route_join.proofs.Trees.{entered_group, entered_put}
 use Rattle.route_join.proofs.large_group.enter.Goals as goal

@@ -1,5 +1,5 @@
 use Rattle.std.proofs.Common.{◌≡◌, drop}
-use Rattle.route_join.specs.Place.{place_of, later_by}
+use Rattle.route_join.specs.Inner.Place.{place_of, later_by}
 use Rattle.route_join.proofs.place.place.Given as goal
 
 abbrev pub invariant-loop-i : goal.invariant-loop-i

@@ -1,7 +1,7 @@
 use Rattle.std.proofs.Common.{◌≡◌}
 use Rattle.ether_wire.specs.Ends.{with_text}
 use Rattle.route_join.specs.Table.{entries_of}
-use Rattle.route_join.specs.Lines.{register_lines, HaveText}
+use Rattle.route_join.specs.Inner.Lines.{register_lines, HaveText}
 use Rattle.route_join.proofs.report.put_updates.Given as goal
 
 -- what is left to write makes the whole of what was written

@@ -1,5 +1,5 @@
 use Rattle.std.proofs.Common.{◌+◌, take, sym, subst}
-use Rattle.route_join.specs.Group.{told, HasWinner}
+use Rattle.route_join.specs.Inner.Group.{told, HasWinner}
 use Rattle.route_join.proofs.Leaders.{winner_more, some_update}
 use Rattle.route_join.proofs.small_group.best_place.Goals as goal
 

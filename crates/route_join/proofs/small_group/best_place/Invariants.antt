@@ -1,5 +1,5 @@
 use Rattle.std.proofs.Common.{take}
-use Rattle.route_join.specs.Group.{told, HasWinner}
+use Rattle.route_join.specs.Inner.Group.{told, HasWinner}
 use Rattle.route_join.proofs.small_group.best_place.Given as goal
 
 abbrev pub invariant-loop-at : goal.invariant-loop-at

@@ -1,5 +1,5 @@
 use Rattle.std.proofs.Common.{sym, subst, ap, ◌∙◌}
-use Rattle.route_join.specs.WinnerTree.{owns, said_at, IsBestOf}
+use Rattle.route_join.specs.Inner.WinnerTree.{owns, said_at, IsBestOf}
 use Rattle.route_join.proofs.WinnerTrees.{best_of}
 use Rattle.route_join.proofs.winner_tree.best.Goals as goal
 

@@ -1,5 +1,5 @@
 use Rattle.std.proofs.Common.{◌≡◌, None, ◌++◌, ◌∷◌, [], length, sym, subst, arith}
-use Rattle.route_join.specs.WinnerTree.{IsSettledBut}
+use Rattle.route_join.specs.Inner.WinnerTree.{IsSettledBut}
 use Rattle.route_join.proofs.WinnerTrees.{pushed}
 use Rattle.route_join.proofs.winner_tree.push.Goals as goal
 

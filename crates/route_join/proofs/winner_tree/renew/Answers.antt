@@ -1,7 +1,7 @@
 use Rattle.std.proofs.Common.{◌≡◌, ◌<◌, Some, length, refl, ap, ◌∙◌, arith}
 use Rattle.std.specs.List.{slice_get}
 use Rattle.std.proofs.lemmas.Option.{slice_get_read}
-use Rattle.route_join.specs.WinnerTree.{best_at, best_below}
+use Rattle.route_join.specs.Inner.WinnerTree.{best_at, best_below}
 use Rattle.route_join.proofs.WinnerTrees.{found_owns, renewed_above, renewed_first, renewed_all}
 use Rattle.route_join.proofs.winner_tree.renew.Goals as goal
 

@@ -1,5 +1,5 @@
 use Rattle.std.proofs.Common.{◌≡◌, ◌<◌, length}
-use Rattle.route_join.specs.WinnerTree.{owns, IsSettledBut}
+use Rattle.route_join.specs.Inner.WinnerTree.{owns, IsSettledBut}
 use Rattle.route_join.proofs.winner_tree.settle.Given as goal
 
 -- all places but this one and those above it are right

@@ -2,7 +2,7 @@ use Rattle.std.proofs.Common.{◌≡◌, refl, ap, ◌∙◌}
 use Rattle.route_wire.specs.declared.update.Value.{Value}
 use Rattle.route_wire.specs.Order.{register_cmp}
 use Rattle.route_join.specs.Owner.{advert_in}
-use Rattle.route_join.specs.Group.{wins_by}
+use Rattle.route_join.specs.Inner.Group.{wins_by}
 use Rattle.route_join.proofs.Within.{both_say}
 use Rattle.route_join.proofs.winner_tree.wins_against.Goals as goal
 

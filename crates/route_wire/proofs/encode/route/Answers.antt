@@ -1,7 +1,7 @@
 use Rattle.std.proofs.Common.{sym, subst}
 use Rattle.route_wire.specs.declared.update.Key.{Key}
 use Rattle.route_wire.specs.Order.{label2_of}
-use Rattle.route_wire.specs.Encode.{RouteFits, Label2Fits}
+use Rattle.route_wire.specs.Inner.Encode.{RouteFits, Label2Fits}
 use Rattle.route_wire.proofs.encode.route.Goals as goal
 
 pub returns-in-Flood-clause-fits : goal.returns-in-Flood-clause-fits

@@ -4,7 +4,8 @@ use Rattle.route_wire.specs.declared.update.Value.{Value}
 use Rattle.route_wire.specs.Fields.{Fields, IsUpdate}
 use Rattle.route_wire.specs.Order.{vni_of}
 use Rattle.route_wire.specs.Record.{Spells}
-use Rattle.route_wire.specs.Encode.{route_octets, kind_of, record_octets, spelling_of, RouteFits}
+use Rattle.route_wire.specs.Encode.{route_octets, kind_of, record_octets, spelling_of}
+use Rattle.route_wire.specs.Inner.Encode.{RouteFits}
 use Rattle.route_wire.proofs.Spelt.{written, read_again}
 use Rattle.route_wire.proofs.encode.write.Goals as goal
 

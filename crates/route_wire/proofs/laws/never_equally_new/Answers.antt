@@ -1,4 +1,4 @@
-use Rattle.route_wire.specs.Totals.{neither_newer}
+use Rattle.route_wire.specs.Inner.Totals.{neither_newer}
 use Rattle.route_wire.proofs.laws.never_equally_new.Goals as goal
 
 pub returns : goal.returns

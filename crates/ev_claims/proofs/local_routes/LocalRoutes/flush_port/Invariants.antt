@@ -1,7 +1,7 @@
 use Rattle.std.proofs.Common.{◌≡◌, length}
 use Rattle.ev_claims.specs.LocalRoutes.{after_removals}
 use Rattle.mac_arena.specs.Laws.{unpinned_on}
-use Rattle.ev_claims.specs.Leaving.{AreKept}
+use Rattle.ev_claims.specs.Inner.Leaving.{AreKept}
 use Rattle.ev_claims.proofs.local_routes.LocalRoutes.flush_port.Given as goal
 
 abbrev pub invariant-loop-station : goal.invariant-loop-station

@@ -1,7 +1,7 @@
 use Rattle.std.proofs.Common.{◌≡◌, Some, List, length, sym, ap, ◌∙◌, arith}
 use Rattle.std.specs.Prelude.{slice_get}
 use Rattle.route_wire.specs.declared.update.Register.{Register}
-use Rattle.ev_claims.specs.Pending.{Pending, no_register, queue, register_at}
+use Rattle.ev_claims.specs.Inner.Pending.{Pending, no_register, queue, register_at}
 use Rattle.idx_links.proofs.Paths.{has-at}
 use Rattle.ev_claims.proofs.Queue.{front_map}
 use Rattle.ev_claims.proofs.pending.Pending.first.Goals as goal

@@ -2,7 +2,7 @@ use Rattle.std.proofs.Common.{◌≡◌, ◌++◌, ◌∷◌, [], ◌<◌, cond,
 use Rattle.std.specs.Prelude.{Contains, slice_index_or}
 use Rattle.route_wire.specs.contracts.update.RegisterPartialEq.TheImpl as register
 use Rattle.route_join.proofs.Leaders.{on_ok}
-use Rattle.ev_claims.specs.Pending.{Pending, queue, register_at, node_of, IsPending}
+use Rattle.ev_claims.specs.Inner.Pending.{Pending, queue, register_at, node_of, IsPending}
 use Rattle.ev_claims.proofs.Queue.{get_contains, room_pending, same_names, not_known}
 use Rattle.ev_claims.proofs.pending.Pending.make_room.Goals as goal
 

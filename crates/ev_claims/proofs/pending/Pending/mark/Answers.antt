@@ -3,7 +3,8 @@ use Rattle.std.specs.Prelude.{Contains, slice_index_or}
 use Rattle.std.proofs.lemmas.Bool.{cond-true}
 use Rattle.std.proofs.lemmas.Option.{slice_get_within}
 use Rattle.idx_links.specs.Families.{lists_of}
-use Rattle.ev_claims.specs.Pending.{Pending, queue, register_at, node_of, marked}
+use Rattle.ev_claims.specs.Pending.{marked}
+use Rattle.ev_claims.specs.Inner.Pending.{Pending, queue, register_at, node_of}
 use Rattle.ev_claims.proofs.Queue.{pushed, now_queue, waits, on_queue, off_lists, marked_is, marked_pending, not_known}
 use Rattle.ev_claims.proofs.pending.Pending.mark.Goals as goal
 

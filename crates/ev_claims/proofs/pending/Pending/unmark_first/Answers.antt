@@ -1,6 +1,6 @@
 use Rattle.std.proofs.Common.{sym, ap, ◌∙◌, map, arith, lit<}
 use Rattle.std.specs.Prelude.{drop}
-use Rattle.ev_claims.specs.Pending.{Pending, queue, register_at}
+use Rattle.ev_claims.specs.Inner.Pending.{Pending, queue, register_at}
 use Rattle.idx_links.proofs.Paths.{has-at}
 use Rattle.ev_claims.proofs.Queue.{now_queue, unlinked, front_out, drop_map, left_pending}
 use Rattle.ev_claims.proofs.pending.Pending.unmark_first.Goals as goal

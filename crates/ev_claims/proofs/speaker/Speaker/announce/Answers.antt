@@ -1,6 +1,7 @@
 use Rattle.std.proofs.Common.{◌≡◌, [], sym, subst, ◌∙◌}
-use Rattle.ev_claims.specs.Pending.{Pending}
-use Rattle.ev_claims.specs.Speaker.{Speaker, speaker_of, IsSpeaker}
+use Rattle.ev_claims.specs.Inner.Pending.{Pending}
+use Rattle.ev_claims.specs.Speaker.{Speaker}
+use Rattle.ev_claims.specs.Inner.Speaker.{speaker_of, IsSpeaker}
 use Rattle.ev_claims.proofs.Hearing.{announced_speaker, nobody_first, announced_there}
 use Rattle.ev_claims.proofs.speaker.Speaker.announce.Goals as goal
 

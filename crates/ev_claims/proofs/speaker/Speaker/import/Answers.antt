@@ -1,5 +1,6 @@
 use Rattle.std.proofs.Common.{◌≢◌, sym, subst}
-use Rattle.ev_claims.specs.Speaker.{Speaker, speaker_of}
+use Rattle.ev_claims.specs.Speaker.{Speaker}
+use Rattle.ev_claims.specs.Inner.Speaker.{speaker_of}
 use Rattle.ev_claims.proofs.Said.{heard_speaker}
 use Rattle.ev_claims.proofs.speaker.Speaker.import.Goals as goal
 

@@ -1,5 +1,6 @@
 use Rattle.std.proofs.Common.{◌≡◌, ◌<◌, true, sym, subst}
-use Rattle.ev_claims.specs.Speaker.{Speaker, speaker_of, is_newest}
+use Rattle.ev_claims.specs.Speaker.{Speaker, is_newest}
+use Rattle.ev_claims.specs.Inner.Speaker.{speaker_of}
 use Rattle.ev_claims.proofs.Hearing.{earlier_speaker}
 use Rattle.ev_claims.proofs.speaker.Speaker.import_withdrawal.Goals as goal
 

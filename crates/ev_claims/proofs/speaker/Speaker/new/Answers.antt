@@ -1,7 +1,7 @@
 use Rattle.std.proofs.Common.{[], sym, subst}
 use Rattle.route_join.specs.Table.{Table}
-use Rattle.ev_claims.specs.Pending.{Pending}
-use Rattle.ev_claims.specs.Speaker.{speaker_of, IsSpeaker}
+use Rattle.ev_claims.specs.Inner.Pending.{Pending}
+use Rattle.ev_claims.specs.Inner.Speaker.{speaker_of, IsSpeaker}
 use Rattle.ev_claims.proofs.Hearing.{silent_speaker}
 use Rattle.ev_claims.proofs.speaker.Speaker.new.Goals as goal
 

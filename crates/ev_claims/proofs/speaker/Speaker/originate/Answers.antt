@@ -2,8 +2,10 @@ use Rattle.std.proofs.Common.{◌≡◌, ◌+◌, sym, ap, subst, ◌∙◌}
 use Rattle.route_wire.specs.Fields.{Fields}
 use Rattle.route_join.specs.Table.{with_update}
 use Rattle.route_join.proofs.Leaders.{on_ok}
-use Rattle.ev_claims.specs.Pending.{Pending, marked}
-use Rattle.ev_claims.specs.Speaker.{Speaker, own_register, speaker_of, IsSpeaker, after_originating}
+use Rattle.ev_claims.specs.Pending.{marked}
+use Rattle.ev_claims.specs.Inner.Pending.{Pending}
+use Rattle.ev_claims.specs.Speaker.{Speaker, own_register, after_originating}
+use Rattle.ev_claims.specs.Inner.Speaker.{speaker_of, IsSpeaker}
 use Rattle.ev_claims.proofs.Numbers.{said_numbers, said_rooms, said_joins}
 use Rattle.ev_claims.proofs.speaker.Speaker.originate.Goals as goal
 

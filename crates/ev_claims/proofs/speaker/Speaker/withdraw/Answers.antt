@@ -1,8 +1,10 @@
 use Rattle.std.proofs.Common.{◌≡◌, ◌+◌, sym, ap, subst, ◌∙◌}
 use Rattle.std.specs.Prelude.{IsSome}
 use Rattle.route_wire.specs.declared.update.Content.TheVariants.{Withdrawn}
-use Rattle.ev_claims.specs.Pending.{Pending, marked}
-use Rattle.ev_claims.specs.Speaker.{Speaker, own_register, own_advert, speaker_of, IsSpeaker, after_originating}
+use Rattle.ev_claims.specs.Pending.{marked}
+use Rattle.ev_claims.specs.Inner.Pending.{Pending}
+use Rattle.ev_claims.specs.Speaker.{Speaker, own_register, own_advert, after_originating}
+use Rattle.ev_claims.specs.Inner.Speaker.{speaker_of, IsSpeaker}
 use Rattle.ev_claims.proofs.Said.{there, said_is, said_speaker}
 use Rattle.ev_claims.proofs.speaker.Speaker.withdraw.Goals as goal
 

@@ -1,6 +1,7 @@
 use Rattle.std.proofs.Common.{sym, ap, subst, ◌∙◌}
 use Rattle.ev_edge.specs.Edge.{Edge, edge_of, address_of}
-use Rattle.ev_edge.specs.Steps.{TakesOwn, own_result}
+use Rattle.ev_edge.specs.Steps.{TakesOwn}
+use Rattle.ev_edge.specs.Inner.Steps.{own_result}
 use Rattle.ev_edge.proofs.Returned.{own_steps, own_kept}
 use Rattle.ev_edge.proofs.edge.Edge.take_own.Goals as goal
 

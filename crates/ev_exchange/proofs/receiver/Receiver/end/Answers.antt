@@ -1,7 +1,8 @@
 use Rattle.std.proofs.Common.{ℕ, List, ap, subst, ◌∙◌}
 use Rattle.route_wire.specs.Record.{is_length}
 use Rattle.route_wire.specs.Feed.{Held, shown}
-use Rattle.ev_exchange.specs.Receiving.{Received, Given, HasReceived, Delivers, end_of_next}
+use Rattle.ev_exchange.specs.Receiving.{Received, Given, HasReceived, Delivers}
+use Rattle.ev_exchange.specs.Inner.Receiving.{end_of_next}
 use Rattle.route_wire.proofs.Steps.{same_after}
 use Rattle.ev_exchange.proofs.Receiving.{delivered}
 use Rattle.ev_exchange.proofs.receiver.Receiver.end.Goals as goal

@@ -1,7 +1,8 @@
 use Rattle.std.proofs.Common.{subst}
 use Rattle.ev_fabric.specs.declared.step.Step.TheVariants.{Local}
 use Rattle.ev_fabric.specs.Fabric.{fabric_of}
-use Rattle.ev_fabric.specs.Steps.{OneSteps, FabricSteps}
+use Rattle.ev_fabric.specs.Steps.{FabricSteps}
+use Rattle.ev_fabric.specs.Inner.Steps.{OneSteps}
 use Rattle.ev_fabric.proofs.Calls.{local_does}
 use Rattle.ev_fabric.proofs.fabric.Fabric.local.Goals as goal
 

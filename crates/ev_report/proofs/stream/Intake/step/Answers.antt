@@ -4,7 +4,7 @@ use Rattle.route_wire.specs.Record.{is_length}
 use Rattle.route_wire.specs.Feed.{Held, shown}
 use Rattle.route_wire.proofs.Steps.{feeds_some}
 use Rattle.ev_report.specs.declared.stream.Intake.{Intake}
-use Rattle.ev_report.specs.Progressing.{State, state}
+use Rattle.ev_report.specs.Inner.Progressing.{State, state}
 use Rattle.ev_report.proofs.Feeding.{shows_next}
 use Rattle.ev_report.proofs.Refusals.{refused_otherwise}
 use Rattle.ev_report.proofs.Taking.{octets_next, octets_more, octets_faulty, answers_refused, or_false}

@@ -4,7 +4,7 @@ use Rattle.route_join.specs.Taken.{number_of}
 use Rattle.route_join.specs.declared.table.TakeError.{TakeError}
 use Rattle.route_join.specs.declared.table.TakeError.TheVariants.{UnknownOriginator, NoMemory}
 use Rattle.ev_report.specs.Report.{Becomes}
-use Rattle.ev_report.specs.Progressing.{State, state, Refuses}
+use Rattle.ev_report.specs.Inner.Progressing.{State, state, Refuses}
 use Rattle.ev_report.proofs.Taking.{answers_taken, answers_refused, becomes, or_false, or_true}
 use Rattle.ev_report.proofs.stream.Intake.take.Goals as goal
 

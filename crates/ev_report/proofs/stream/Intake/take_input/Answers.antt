@@ -3,7 +3,7 @@ use Rattle.std.proofs.lemmas.Bool.Decides.{nat_tests}
 use Rattle.ether_wire.specs.Ends.{Gets}
 use Rattle.route_wire.specs.Stream.{whole_up_to}
 use Rattle.ev_report.specs.declared.ending.Ending.TheVariants.{Ended, Failed, Unended}
-use Rattle.ev_report.specs.Progressing.{State, state}
+use Rattle.ev_report.specs.Inner.Progressing.{State, state}
 use Rattle.ev_report.proofs.Gathering.{stops_ended, stops_failed, stops_faulty, stops_unended}
 use Rattle.ev_report.proofs.Inputs.{reads_none, reads_more, input_by, input_faulty}
 use Rattle.ev_report.proofs.stream.Intake.take_input.Goals as goal

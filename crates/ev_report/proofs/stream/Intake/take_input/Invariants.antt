@@ -1,7 +1,7 @@
 use Rattle.std.proofs.Common.{◌≡◌, ◌*◌, ◌≤◌}
 use Rattle.route_wire.specs.declared.stream.Whole.TheVariants.{Rest}
 use Rattle.route_wire.specs.Feed.{shown}
-use Rattle.ev_report.specs.Progressing.{state}
+use Rattle.ev_report.specs.Inner.Progressing.{state}
 use Rattle.ev_report.proofs.Inputs.{TakesReads}
 use Rattle.ev_report.proofs.stream.Intake.take_input.Given as goal
 

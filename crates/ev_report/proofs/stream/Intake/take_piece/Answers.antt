@@ -1,6 +1,6 @@
 use Rattle.std.proofs.Common.{List, ℕ, take, length, sym, subst, ◌≡◌, arith}
 use Rattle.std.proofs.lemmas.Bool.Decides.{nat_tests}
-use Rattle.ev_report.specs.Progressing.{State, state, TakesOctets}
+use Rattle.ev_report.specs.Inner.Progressing.{State, state, TakesOctets}
 use Rattle.ev_report.proofs.Fronts.{Front, front_none, front_more, front_rest, front_all}
 use Rattle.ev_report.proofs.Taking.{octets_none, octets_both}
 use Rattle.ev_report.proofs.stream.Intake.take_piece.Goals as goal

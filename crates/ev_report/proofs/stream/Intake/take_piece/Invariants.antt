@@ -1,7 +1,7 @@
 use Rattle.std.proofs.Common.{◌≡◌, ◌+◌, ◌≤◌, length}
 use Rattle.route_wire.specs.declared.stream.Whole.TheVariants.{Rest}
 use Rattle.route_wire.specs.Feed.{shown}
-use Rattle.ev_report.specs.Progressing.{state, TakesOctets}
+use Rattle.ev_report.specs.Inner.Progressing.{state, TakesOctets}
 use Rattle.ev_report.proofs.Fronts.{Front}
 use Rattle.ev_report.proofs.stream.Intake.take_piece.Given as goal
 

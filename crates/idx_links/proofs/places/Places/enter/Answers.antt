@@ -1,5 +1,5 @@
 use Rattle.std.proofs.Common.{refl, ap, ◌∙◌, ◌+◌, set, get_or}
-use Rattle.idx_links.specs.Columns.{list_named}
+use Rattle.idx_links.specs.Inner.Columns.{list_named}
 use Rattle.idx_links.proofs.Columns.{named, both_places, owners_changed, lens_changed, none_seen}
 use Rattle.idx_links.proofs.places.Places.enter.Goals as goal
 

@@ -1,7 +1,7 @@
 use Rattle.std.proofs.Common.{rules, ◌≡◌, ◌≤◌, ◌++◌, ◌-◌, ◌∙◌, ap, length, map, replicate, vec_len}
 use Rattle.std.proofs.lemmas.List.{length-map}
 use Rattle.idx_links.specs.declared.places.Link.{Link}
-use Rattle.idx_links.specs.Columns.{owners}
+use Rattle.idx_links.specs.Inner.Columns.{owners}
 use Rattle.idx_links.proofs.Columns.{owners_more}
 use Rattle.idx_links.proofs.places.Places.grow.Goals as goal
 

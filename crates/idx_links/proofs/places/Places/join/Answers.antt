@@ -1,5 +1,5 @@
 use Rattle.std.proofs.Common.{refl, ap, ◌∙◌, set, take}
-use Rattle.idx_links.specs.Columns.{owners}
+use Rattle.idx_links.specs.Inner.Columns.{owners}
 use Rattle.idx_links.proofs.Columns.{first_seen, second_seen, none_seen}
 use Rattle.idx_links.proofs.places.Places.join.Goals as goal
 

@@ -1,7 +1,7 @@
 use Rattle.std.proofs.Common.{rules, ◌≡◌, ◌+◌, ◌∙◌, ap, map, replicate, take, arith}
 use Rattle.std.proofs.lemmas.List.{take-replicate}
 use Rattle.idx_links.specs.declared.places.Link.{Link}
-use Rattle.idx_links.specs.Columns.{owners}
+use Rattle.idx_links.specs.Inner.Columns.{owners}
 use Rattle.idx_links.proofs.Columns.{owners-none}
 use Rattle.idx_links.proofs.places.Places.new.Goals as goal
 

@@ -1,5 +1,5 @@
 use Rattle.std.proofs.Common.{None, get_or, ap, sym, ◌∙◌}
-use Rattle.idx_links.specs.Columns.{list_named}
+use Rattle.idx_links.specs.Inner.Columns.{list_named}
 use Rattle.idx_links.proofs.Columns.{marked_named, owner_at}
 use Rattle.idx_links.proofs.places.Places.owner.Goals as goal
 

@@ -1,7 +1,7 @@
 use Rattle.std.proofs.Common.{ap, ◌∙◌}
-use Rattle.mac_arena.specs.Learning.{standing, heard}
+use Rattle.mac_arena.specs.Inner.Learning.{standing, heard}
 use Rattle.mac_arena.proofs.Tables.{Found, slot_of, slot_changed, latest_in, is_ageless, heard_table, heard_seen}
-use Rattle.mac_arena.specs.Slot.{heard_on}
+use Rattle.mac_arena.specs.Inner.Slot.{heard_on}
 use Rattle.mac_arena.proofs.table.MacTable.hear.Goals as goal
 
 pub age-requires-clause-ageless : goal.age-requires-clause-ageless

@@ -1,7 +1,7 @@
 use Rattle.std.proofs.Common.{ap, ◌∙◌}
-use Rattle.mac_arena.specs.Learning.{standing, held}
+use Rattle.mac_arena.specs.Inner.Learning.{standing, held}
 use Rattle.mac_arena.proofs.Tables.{Found, slot_of, slot_changed, node_low, is_ageing, held_table, held_seen, at_new}
-use Rattle.mac_arena.specs.Slot.{held_on}
+use Rattle.mac_arena.specs.Inner.Slot.{held_on}
 use Rattle.mac_arena.proofs.table.MacTable.hold.Goals as goal
 
 pub invariant_of-self : goal.invariant_of-self

@@ -1,5 +1,5 @@
 use Rattle.std.proofs.Common.{arith, ap, ◌∙◌}
-use Rattle.mac_arena.specs.Learning.{heard}
+use Rattle.mac_arena.specs.Inner.Learning.{heard}
 use Rattle.mac_arena.specs.Entry.{pinned_at}
 use Rattle.mac_arena.specs.declared.station.Learned.{Learned}
 use Rattle.mac_arena.proofs.Values.{standing_is, stands, latest_with, new_is}

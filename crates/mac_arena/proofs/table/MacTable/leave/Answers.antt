@@ -1,5 +1,5 @@
 use Rattle.std.proofs.Common.{ap, ◌∙◌}
-use Rattle.mac_arena.specs.Learning.{standing, dropped}
+use Rattle.mac_arena.specs.Inner.Learning.{standing, dropped}
 use Rattle.mac_arena.proofs.Tables.{Found, slot_of, is_chained, is_ported, is_ageless, dropped_table, dropped_seen}
 use Rattle.mac_arena.proofs.table.MacTable.leave.Goals as goal
 

@@ -1,5 +1,5 @@
 use Rattle.std.proofs.Common.{ap, ◌∙◌}
-use Rattle.mac_arena.specs.Learning.{held, shifted}
+use Rattle.mac_arena.specs.Inner.Learning.{held, shifted}
 use Rattle.mac_arena.specs.Entry.{pinned_at}
 use Rattle.mac_arena.specs.declared.station.Learned.{Learned}
 use Rattle.mac_arena.proofs.Values.{known_at, standing_is, pinned_stays, pinned_moves, held_is, held_moves}

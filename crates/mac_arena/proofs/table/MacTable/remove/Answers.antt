@@ -1,5 +1,6 @@
 use Rattle.std.proofs.Common.{ap, sym, ◌∙◌, ◌≡◌, Some}
-use Rattle.mac_arena.specs.Learning.{dropped, held, entry_at}
+use Rattle.mac_arena.specs.Learning.{entry_at}
+use Rattle.mac_arena.specs.Inner.Learning.{dropped, held}
 use Rattle.mac_arena.specs.declared.station.Learned.{Learned}
 use Rattle.mac_arena.proofs.Values.{known_at, standing_is, pinned_goes, held_goes}
 use Rattle.mac_arena.proofs.table.MacTable.remove.Goals as goal

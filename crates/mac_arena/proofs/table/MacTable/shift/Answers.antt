@@ -1,8 +1,8 @@
 use Rattle.std.proofs.Common.{ap, ◌∙◌, ◌<◌, ◌-◌, length, arith}
-use Rattle.mac_arena.specs.Learning.{standing, shifted}
+use Rattle.mac_arena.specs.Inner.Learning.{standing, shifted}
 use Rattle.mac_arena.proofs.Tables.{Found, slot_of, slot_changed, node_low, ports_in, is_ported, not_twice}
 use Rattle.mac_arena.proofs.Tables.{shifted_table, shifted_seen, at_new}
-use Rattle.mac_arena.specs.Slot.{shifted_to}
+use Rattle.mac_arena.specs.Inner.Slot.{shifted_to}
 use Rattle.mac_arena.proofs.table.MacTable.shift.Goals as goal
 
 pub shift-requires-clause-linked : goal.shift-requires-clause-linked

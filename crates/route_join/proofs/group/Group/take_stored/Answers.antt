@@ -1,7 +1,7 @@
 use Rattle.std.proofs.Common.{Ok, [], ◌∷◌, ap, sym, subst, ◌∙◌}
 use Rattle.route_join.specs.Table.{entries_of}
-use Rattle.route_join.specs.Group.{Takes}
-use Rattle.route_join.specs.Storage.{stored_updates}
+use Rattle.route_join.specs.Inner.Group.{Takes}
+use Rattle.route_join.specs.Inner.Storage.{stored_updates}
 use Rattle.route_join.proofs.group.Group.take_stored.Goals as goal
 
 pub returns-in-Some-clause-takes : goal.returns-in-Some-clause-takes

@@ -1,7 +1,8 @@
 use Rattle.std.proofs.Common.{◌≡◌, false, Some, cond, ap, sym, subst, ◌∙◌}
 use Rattle.std.specs.BTreeMap.{insert_entry}
-use Rattle.route_join.specs.Subject.{Subject, subject_cmp, subject_eq}
-use Rattle.route_join.specs.Groups.{group_in, groups_along, is_among, AreIndexed}
+use Rattle.route_join.specs.Subject.{Subject, subject_cmp}
+use Rattle.route_join.specs.Inner.Subject.{subject_eq}
+use Rattle.route_join.specs.Inner.Groups.{group_in, groups_along, is_among, AreIndexed}
 use Rattle.route_join.proofs.Indexed.{same_along, same_indexed, new_indexed, entered, not_among}
 use Rattle.route_join.proofs.Leaders.{on_ok}
 use Rattle.route_join.proofs.Merging.{on_err}

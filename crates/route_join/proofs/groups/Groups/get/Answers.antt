@@ -1,5 +1,5 @@
 use Rattle.std.proofs.Common.{ap, ◌∙◌}
-use Rattle.route_join.specs.Groups.{group_at}
+use Rattle.route_join.specs.Inner.Groups.{group_at}
 use Rattle.route_join.proofs.Indexed.{found}
 use Rattle.route_join.proofs.groups.Groups.get.Goals as goal
 

@@ -1,5 +1,5 @@
 use Rattle.std.proofs.Common.{sym, subst}
-use Rattle.route_join.specs.Groups.{AreThere}
+use Rattle.route_join.specs.Inner.Groups.{AreThere}
 use Rattle.route_join.proofs.Indexed.{are_there}
 use Rattle.route_join.proofs.groups.Groups.iter.Goals as goal
 

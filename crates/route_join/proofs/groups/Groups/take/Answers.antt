@@ -4,7 +4,7 @@ use Rattle.std.specs.Map.{set_value}
 use Rattle.std.specs.HashMap.{HashMap}
 use Rattle.route_wire.specs.declared.update.Register.{Register}
 use Rattle.route_join.specs.Subject.{Subject, subject_cmp, subject_of}
-use Rattle.route_join.specs.Groups.{group_at, groups_along}
+use Rattle.route_join.specs.Inner.Groups.{group_at, groups_along}
 use Rattle.route_join.proofs.Groupings.{about_there}
 use Rattle.route_join.specs.Group.{updates_in}
 use Rattle.route_join.specs.Table.{entries_of}

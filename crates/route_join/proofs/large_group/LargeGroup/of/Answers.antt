@@ -4,7 +4,7 @@ use Rattle.std.proofs.lemmas.List.{take_all}
 use Rattle.route_wire.specs.Fields.{Fields}
 use Rattle.route_wire.specs.Order.{register_cmp}
 use Rattle.route_join.specs.Table.{entries_of}
-use Rattle.route_join.specs.LargeGroup.{large_updates}
+use Rattle.route_join.specs.Inner.LargeGroup.{large_updates}
 use Rattle.route_join.proofs.Leaders.{not_yet}
 use Rattle.route_join.proofs.Trees.{same_updates, absent_place, filled_more}
 use Rattle.route_join.proofs.large_group.LargeGroup.of.Goals as goal

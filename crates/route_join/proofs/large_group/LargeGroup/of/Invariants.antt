@@ -1,6 +1,6 @@
 use Rattle.std.proofs.Common.{◌≡◌, take}
 use Rattle.route_join.specs.Table.{entries_of}
-use Rattle.route_join.specs.LargeGroup.{IsLargeGroup, large_updates}
+use Rattle.route_join.specs.Inner.LargeGroup.{IsLargeGroup, large_updates}
 use Rattle.route_join.proofs.large_group.LargeGroup.of.Given as goal
 
 -- the first updates are entered

@@ -1,8 +1,8 @@
 use Rattle.std.proofs.Common.{None, Some, sym, subst}
 use Rattle.route_wire.specs.declared.update.Register.{Register}
-use Rattle.route_join.specs.Group.{IsLeader, IsSilent}
-use Rattle.route_join.specs.WinnerTree.{owns, AreSettled, IsBestOf}
-use Rattle.route_join.specs.LargeGroup.{large_updates}
+use Rattle.route_join.specs.Inner.Group.{IsLeader, IsSilent}
+use Rattle.route_join.specs.Inner.WinnerTree.{owns, AreSettled, IsBestOf}
+use Rattle.route_join.specs.Inner.LargeGroup.{large_updates}
 use Rattle.route_join.proofs.Trees.{silent, leads}
 use Rattle.route_join.proofs.large_group.LargeGroup.owner.Goals as goal
 

@@ -1,6 +1,6 @@
 use Rattle.std.proofs.Common.{ap, sym, ◌∙◌}
-use Rattle.route_join.specs.Group.{update_among}
-use Rattle.route_join.specs.WinnerTree.{owns, said_at}
+use Rattle.route_join.specs.Inner.Group.{update_among}
+use Rattle.route_join.specs.Inner.WinnerTree.{owns, said_at}
 use Rattle.route_join.proofs.Trees.{among}
 use Rattle.route_join.proofs.large_group.LargeGroup.register.Goals as goal
 

@@ -1,7 +1,7 @@
 use Rattle.std.proofs.Common.{sym, subst, ◌∙◌}
 use Rattle.route_join.specs.Table.{IsOrdered}
-use Rattle.route_join.specs.WinnerTree.{owns}
-use Rattle.route_join.specs.LargeGroup.{updates_along, ArePlaced}
+use Rattle.route_join.specs.Inner.WinnerTree.{owns}
+use Rattle.route_join.specs.Inner.LargeGroup.{updates_along, ArePlaced}
 use Rattle.route_join.proofs.Trees.{all_placed, ordered_along}
 use Rattle.route_join.proofs.large_group.LargeGroup.updates.Goals as goal
 

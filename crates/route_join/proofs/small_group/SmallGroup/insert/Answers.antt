@@ -4,8 +4,8 @@ use Rattle.std.specs.List.{insert}
 use Rattle.std.specs.FinMap.Entries.{put}
 use Rattle.route_wire.specs.Order.{register_cmp}
 use Rattle.route_join.specs.Table.{entries_of, IsOrdered}
-use Rattle.route_join.specs.Place.{place_of}
-use Rattle.route_join.specs.Group.{told, better_place, moved, IsGroup}
+use Rattle.route_join.specs.Inner.Place.{place_of}
+use Rattle.route_join.specs.Inner.Group.{told, better_place, moved, IsGroup}
 use Rattle.route_join.proofs.Places.{gapped}
 use Rattle.route_join.proofs.Edits.{inserted, ordered_put}
 use Rattle.route_join.proofs.Leaders.{winner_inserted, winner_movable}

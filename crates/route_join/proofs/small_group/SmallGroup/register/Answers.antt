@@ -1,5 +1,5 @@
 use Rattle.std.proofs.Common.{◌<◌, length, ap, refl, ◌∙◌, arith}
-use Rattle.route_join.specs.Group.{update_among}
+use Rattle.route_join.specs.Inner.Group.{update_among}
 use Rattle.route_join.proofs.Edits.{found_at, gap_at}
 use Rattle.route_join.proofs.Leaders.{among_there, among_none}
 use Rattle.route_join.proofs.small_group.SmallGroup.register.Goals as goal

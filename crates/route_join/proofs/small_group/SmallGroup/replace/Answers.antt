@@ -4,8 +4,8 @@ use Rattle.route_wire.specs.declared.update.Value.{Value}
 use Rattle.route_wire.specs.Order.{register_cmp}
 use Rattle.route_join.specs.Table.{entries_of, IsOrdered}
 use Rattle.route_join.specs.Owner.{advert_in}
-use Rattle.route_join.specs.Place.{place_of}
-use Rattle.route_join.specs.Group.{told, better_place, stays_best, HasWinner}
+use Rattle.route_join.specs.Inner.Place.{place_of}
+use Rattle.route_join.specs.Inner.Group.{told, better_place, stays_best, HasWinner}
 use Rattle.route_join.proofs.Places.{placed}
 use Rattle.route_join.proofs.Edits.{ordered_put}
 use Rattle.route_join.proofs.Leaders.{winner_set, winner_stays}

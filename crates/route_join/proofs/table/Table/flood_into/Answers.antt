@@ -1,5 +1,5 @@
 use Rattle.std.proofs.Common.{◌≡◌, ◌≤◌, Some, None, length, ap, sym, subst, ◌∙◌}
-use Rattle.route_join.specs.Groups.{group_at}
+use Rattle.route_join.specs.Inner.Groups.{group_at}
 use Rattle.route_join.specs.Table.{Table, table_from, entries_of}
 use Rattle.route_join.specs.Flood.{IsFloodList, flooding, flood_of}
 use Rattle.route_join.specs.Group.{updates_in}

@@ -1,5 +1,5 @@
 use Rattle.std.proofs.Common.{None, sym, subst, ap, ◌∙◌}
-use Rattle.route_join.specs.Groups.{group_at}
+use Rattle.route_join.specs.Inner.Groups.{group_at}
 use Rattle.route_join.proofs.Holding.{Owned, owner_only, unowned, owned_by}
 use Rattle.route_join.proofs.table.Table.owner.Goals as goal
 

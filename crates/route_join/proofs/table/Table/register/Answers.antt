@@ -2,7 +2,7 @@ use Rattle.std.proofs.Common.{◌≡◌, Some, None, ap, sym, ◌∙◌}
 use Rattle.route_join.specs.Table.{update_at, register_of}
 use Rattle.route_join.specs.Subject.{subject_of}
 use Rattle.route_join.proofs.Groupings.{about_there}
-use Rattle.route_join.specs.Groups.{group_at}
+use Rattle.route_join.specs.Inner.Groups.{group_at}
 use Rattle.route_join.proofs.Holding.{update_there, update_nowhere}
 use Rattle.route_join.proofs.table.Table.register.Goals as goal
 

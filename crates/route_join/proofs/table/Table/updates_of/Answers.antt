@@ -1,5 +1,5 @@
 use Rattle.std.proofs.Common.{sym, ap, subst, ◌∙◌}
-use Rattle.route_join.specs.Groups.{group_at}
+use Rattle.route_join.specs.Inner.Groups.{group_at}
 use Rattle.route_join.specs.Table.{Table}
 use Rattle.route_join.specs.Updates.{updates_of, AreUpdatesOf}
 use Rattle.route_join.proofs.Abouts.{updates_of_are, updates_there, updates_nowhere}

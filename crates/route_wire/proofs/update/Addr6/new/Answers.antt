@@ -1,6 +1,7 @@
 use Rattle.std.proofs.Common.{◌≡◌, ℕ, ◌/◌, ◌%◌, ◌^◌, ◌<◌, ◌∷◌, sym, ap, ◌∙◌, arith}
 use Rattle.byteorder.specs.Endian.{big_number, big_bytes}
-use Rattle.route_wire.specs.Octets.{octets_of, number_of_octets}
+use Rattle.route_wire.specs.Octets.{octets_of}
+use Rattle.route_wire.specs.Inner.Octets.{number_of_octets}
 use Rattle.route_wire.proofs.update.Addr6.new.Goals as goal
 
 -- the octets of a number of 128 bits are those that a machine writes

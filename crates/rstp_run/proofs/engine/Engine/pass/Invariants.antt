@@ -1,4 +1,5 @@
-use Rattle.rstp_run.specs.Runs.{Sweeps, AreOffBelow, rules_of}
+use Rattle.rstp_run.specs.Runs.{AreOffBelow}
+use Rattle.rstp_run.specs.Inner.Runs.{Sweeps, rules_of}
 use Rattle.rstp_run.proofs.engine.Engine.pass.Given as goal
 
 abbrev pub invariant-loop-p : goal.invariant-loop-p

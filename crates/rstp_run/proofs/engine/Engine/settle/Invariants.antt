@@ -1,5 +1,5 @@
 use Rattle.std.proofs.Common.{◌≡◌, ◌-◌, length}
-use Rattle.rstp_run.specs.Runs.{Goes}
+use Rattle.rstp_run.specs.Inner.Runs.{Goes}
 use Rattle.rstp_run.proofs.engine.Engine.settle.Given as goal
 
 abbrev pub invariant-passes : goal.invariant-passes

@@ -1,5 +1,6 @@
 use Rattle.std.proofs.Common.{take}
-use Rattle.rstp_run.specs.Runs.{Sweeps, AreOffAt}
+use Rattle.rstp_run.specs.Runs.{AreOffAt}
+use Rattle.rstp_run.specs.Inner.Runs.{Sweeps}
 use Rattle.rstp_run.proofs.engine.Engine.try_port.Given as goal
 
 abbrev pub invariant-loop-rule : goal.invariant-loop-rule

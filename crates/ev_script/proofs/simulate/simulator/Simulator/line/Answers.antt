@@ -1,7 +1,7 @@
 use Rattle.std.proofs.Common.{rules, ◌≡◌, ◌++◌, Some, None, true, false, refl, sym}
 use Rattle.ev_script.specs.Script.{skips, asked_in}
-use Rattle.ev_script.specs.Shown.{shown_text}
-use Rattle.ev_script.specs.Views.{view_text}
+use Rattle.ev_script.specs.Inner.Shown.{shown_text}
+use Rattle.ev_script.specs.Inner.Views.{view_text}
 use Rattle.ev_script.proofs.Minding.{minds_none, minds_both, still_open, tells_minds}
 use Rattle.ev_script.proofs.Playings.{no_question, question_asked, line_passed, question_answered, nothing_answered}
 use Rattle.ev_script.proofs.Playings.{line_skipped, line_bad, line_done, makes_none}

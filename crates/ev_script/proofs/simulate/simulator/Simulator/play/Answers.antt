@@ -1,6 +1,6 @@
 use Rattle.std.proofs.Common.{rules, ◌≡◌, ◌<◌, Bool, true, false, length, refl, subst, arith}
 use Rattle.std.proofs.lemmas.Bool.Decides.{nat_tests}
-use Rattle.ev_script.specs.Playing.{PlaysLine}
+use Rattle.ev_script.specs.Inner.Playing.{PlaysLine}
 use Rattle.ev_script.proofs.Minding.{minds_none, minds_both, still_open}
 use Rattle.ev_script.proofs.Playings.{played_none, played_more, played_bad}
 use Rattle.ev_script.proofs.simulate.simulator.Simulator.play.Goals as goal

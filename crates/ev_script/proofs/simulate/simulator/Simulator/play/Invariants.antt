@@ -1,6 +1,6 @@
 use Rattle.std.proofs.Common.{◌+◌, ◌≤◌, length}
-use Rattle.ev_script.specs.Printing.{Minds}
-use Rattle.ev_script.specs.Playing.{Played}
+use Rattle.ev_script.specs.Inner.Printing.{Minds}
+use Rattle.ev_script.specs.Inner.Playing.{Played}
 use Rattle.ev_script.proofs.simulate.simulator.Simulator.play.Given as goal
 
 abbrev pub invariant-lines : goal.invariant-lines

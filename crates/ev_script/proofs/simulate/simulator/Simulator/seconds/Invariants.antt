@@ -1,6 +1,6 @@
 use Rattle.ev_script.specs.Script.{second}
-use Rattle.ev_script.specs.Printing.{Minds}
-use Rattle.ev_script.specs.Playing.{Performs}
+use Rattle.ev_script.specs.Inner.Printing.{Minds}
+use Rattle.ev_script.specs.Inner.Playing.{Performs}
 use Rattle.ev_script.proofs.simulate.simulator.Simulator.seconds.Given as goal
 
 abbrev pub invariant-loop-turn : goal.invariant-loop-turn

@@ -10,8 +10,8 @@ use Rattle.ether_wire.specs.Ends.{End}
 use Rattle.ev_script.specs.declared.script.mode.Mode.{Mode}
 use Rattle.ev_script.specs.declared.script.question.Question.{Question}
 use Rattle.ev_script.specs.Script.{Command, Item, item_of, asked_in, Follows, Ends}
-use Rattle.ev_script.specs.Shown.{shown_text}
-use Rattle.ev_script.specs.Views.{view_text}
+use Rattle.ev_script.specs.Inner.Shown.{shown_text}
+use Rattle.ev_script.specs.Inner.Views.{view_text}
 use Rattle.ev_script.specs.Simulation.{Made, Asked, AskedItem, AskedAll, Goes, ran_out_of_memory, joined}
 
 -- These steps were made.

@@ -10,7 +10,8 @@ use Rattle.ev_report.specs.declared.ending.Ending.{Ending}
 use Rattle.ev_report.specs.declared.stream.Intake.{Intake}
 use Rattle.ev_report.specs.Notes.{refused_line, refusals_from, ran_out_of_memory}
 use Rattle.ev_report.specs.Ends.{fault_in, fault_told, Gave, Tells}
-use Rattle.ev_report.specs.Report.{BecomeAll, table_after_all, fresh}
+use Rattle.ev_report.specs.Report.{BecomeAll, fresh}
+use Rattle.ev_report.specs.Inner.Report.{table_after_all}
 
 -- the records on their way into a table, and what the notes hold of them
 pub record State : Type 0 where

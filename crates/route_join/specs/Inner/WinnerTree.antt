@@ -8,7 +8,7 @@ use Rattle.route_wire.specs.declared.update.Advert.{Advert}
 use Rattle.route_wire.specs.Fields.{Fields}
 use Rattle.route_join.specs.declared.winner_tree.WinnerNode.{WinnerNode}
 use Rattle.route_join.specs.Owner.{advert_in}
-use Rattle.route_join.specs.Group.{candidate_in, wins}
+use Rattle.route_join.specs.Inner.Group.{candidate_in, wins}
 
 -- adverts that are equally good, so that the order of their registers tells the better one
 abbrev pub is_level_by : Bool → Bool → ℕ → ℕ → Bool

@@ -5,7 +5,8 @@ use Rattle.route_wire.specs.declared.update.Value.{Value}
 use Rattle.route_wire.specs.Fields.{Fields}
 use Rattle.route_join.specs.Subject.{Subject, subject_of}
 use Rattle.route_join.specs.Table.{entries_of}
-use Rattle.route_join.specs.Report.{station_text, register_line, report_lines}
+use Rattle.route_join.specs.Report.{station_text, register_line}
+use Rattle.route_join.specs.Inner.Report.{report_lines}
 
 -- a network, and the address in it
 abbrev pub place_text : ℕ → Option ℕ → List ℕ

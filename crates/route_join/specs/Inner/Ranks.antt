@@ -11,7 +11,8 @@ use Rattle.std.specs.Ordering.{is_eq, nat_cmp, ordering_then, eq_by_cmp}
 use Rattle.std.proofs.lemmas.Cmp.{on_total, then_total}
 use Rattle.std.proofs.lemmas.Map.Lookups.{exact_unsigned}
 use Rattle.std.proofs.lemmas.Map.Views.{exact_unsigned_eq}
-use Rattle.route_join.specs.Subject.{Subject, subject_cmp, subject_eq, mac_place, mac_at}
+use Rattle.route_join.specs.Subject.{Subject, subject_cmp}
+use Rattle.route_join.specs.Inner.Subject.{subject_eq, mac_place, mac_at}
 
 -- ---- places in a network
 pub place_back : (p : ℕ) → mac_place (mac_at p) ≡ p

@@ -6,7 +6,8 @@ use Rattle.std.specs.Option.{unwrap_or}
 use Rattle.std.specs.Map.{lookup}
 use Rattle.std.specs.BTreeMap.{is_at}
 use Rattle.route_wire.specs.Fields.{Fields}
-use Rattle.route_join.specs.Subject.{Subject, subject_cmp, subject_eq}
+use Rattle.route_join.specs.Subject.{Subject, subject_cmp}
+use Rattle.route_join.specs.Inner.Subject.{subject_eq}
 
 -- the group of a subject, among groups in the order of their subjects
 abbrev pub group_at : Subject → List (Subject × List Fields) → Option (List Fields)

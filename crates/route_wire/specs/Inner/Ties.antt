@@ -17,10 +17,12 @@ use Rattle.route_wire.specs.contracts.update.Addr6PartialEq.TheImpl as addr6
 use Rattle.route_wire.specs.contracts.update.IpPartialEq.TheImpl as ip
 use Rattle.route_wire.specs.contracts.update.KeyPartialEq.TheImpl as key
 use Rattle.route_wire.specs.contracts.update.RegisterPartialEq.TheImpl as register
-use Rattle.route_wire.specs.Octets.{octets_of, number_of_octets}
+use Rattle.route_wire.specs.Octets.{octets_of}
+use Rattle.route_wire.specs.Inner.Octets.{number_of_octets}
 use Rattle.route_wire.specs.Order.{addr6_cmp, ip_order, key_cmp, register_cmp}
-use Rattle.route_wire.specs.Totals.{addr6_total, ip_order_total, ip_order_exact, key_total, key_exact, register_total}
-use Rattle.route_wire.specs.Totals.{register_exact}
+use Rattle.route_wire.specs.Inner.Totals.{addr6_total, ip_order_total, ip_order_exact, key_total, key_exact}
+use Rattle.route_wire.specs.Inner.Totals.{register_total}
+use Rattle.route_wire.specs.Inner.Totals.{register_exact}
 
 each : (a b : Bool) → a && b ≡ true → (a ≡ true) × (b ≡ true)
 each true b e = (refl, e)

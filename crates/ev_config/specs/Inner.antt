@@ -1,0 +1,5 @@
+pub mod Config
+pub mod Faults
+pub mod Fitting
+pub mod Keys
+pub mod Told

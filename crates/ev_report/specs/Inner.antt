@@ -1,0 +1,4 @@
+pub mod Migrated
+pub mod Originators
+pub mod Progressing
+pub mod Report

@@ -1,0 +1,2 @@
+pub mod RunEdges
+pub mod Sockets

@@ -1,0 +1,5 @@
+pub mod Playing
+pub mod Printing
+pub mod Shown
+pub mod Simulation
+pub mod Views

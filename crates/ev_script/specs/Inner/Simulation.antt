@@ -1,0 +1,16 @@
+-- What a simulation does: the steps that its lines ask for, from an opened fabric on.
+use Rattle.std.specs.Prelude.{ℕ, List, []}
+use Rattle.std.specs.Prelude.{Option, Some, None}
+use Rattle.ev_report.specs.declared.input.ReadError.{ReadError}
+use Rattle.ev_report.specs.declared.input.ReadError.TheVariants.{Device, NoMemory}
+use Rattle.ev_script.specs.Simulation.{bad_line}
+
+-- for the line of this number, if there is one
+abbrev pub note_of_line : Option ℕ → List ℕ
+note_of_line None = []
+note_of_line (Some number) = bad_line number
+
+-- the status of a script that wasn't read to its end
+abbrev pub read_error_status : ReadError → ℕ
+read_error_status Device = 4
+read_error_status NoMemory = 3

@@ -1,0 +1,4 @@
+pub mod Checks
+pub mod Configured
+pub mod Files
+pub mod Program

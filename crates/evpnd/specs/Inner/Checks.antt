@@ -1,0 +1,16 @@
+-- What becomes of a configuration's file.
+use Rattle.std.specs.Prelude.{ℕ, Result}
+use Rattle.ether_wire.specs.Ends.{End, Source}
+use Rattle.ev_config.specs.declared.whole.Config.{Config}
+use Rattle.ev_config.specs.declared.config.ConfigRefusal.{ConfigRefusal}
+use Rattle.evpnd.specs.Files.{Text}
+use Rattle.ev_report.specs.Ends.{devices}
+use Rattle.ev_config.specs.Config.{ConfigFor}
+use Rattle.evpnd.specs.declared.check.Purpose.{Purpose}
+use Rattle.evpnd.specs.Checks.{Checks}
+
+-- what a text gives for a configuration is so checked, whatever the reader has
+abbrev pub ChecksText : Purpose → Text → End → End → End → End → ℕ → Type 0
+ChecksText purpose text out notes out' notes' status =
+    (found : Result Config ConfigRefusal) × ConfigFor purpose.wanted text found
+    × ((input : Source) → Checks purpose found (devices input out notes) (devices input out' notes') status)

@@ -1,0 +1,11 @@
+-- A run of the program, from its words to its status.
+use Rattle.std.specs.Prelude.{◌≡◌, ℕ, ◌+◌, ◌⊎◌}
+use Rattle.ether_wire.specs.Ends.{End}
+use Rattle.ev_report.specs.Originators.{Text}
+use Rattle.ev_report.specs.Usage.{IsTold}
+
+-- what became of telling a fault of the words: memory was refused once more for the text, or it was told
+abbrev pub TellsFault : ℕ → ℕ → End → End → ℕ → Type 0
+TellsFault refusals refusals' notes notes' status =
+    ((refusals' ≡ refusals + 1) × (notes' ≡ notes) × (status ≡ 3))
+    ⊎ ((refusals' ≡ refusals) × ((text : Text) × IsTold text notes notes' status))

@@ -1,0 +1,3 @@
+pub mod Learning
+pub mod Orders
+pub mod Slot

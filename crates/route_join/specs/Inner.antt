@@ -1,0 +1,11 @@
+pub mod Group
+pub mod Groups
+pub mod Hashes
+pub mod LargeGroup
+pub mod Lines
+pub mod Place
+pub mod Ranks
+pub mod Report
+pub mod Storage
+pub mod Subject
+pub mod WinnerTree
