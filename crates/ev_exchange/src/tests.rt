@@ -45,3 +45,10 @@ fn of_another() -> [u8; 44] {
 fn withdrawn() -> [u8; 44] {
     with(with(FLOOD, KIND, 2), COUNTER, 2)
 }
+
+/// Whether octets are these records.
+fn are(octets: &[u8], records: &[[u8; 44]]) -> bool {
+    octets.len() == 44 * records.len()
+        && records.iter().enumerate().all(|(place, record)| octets[44 * place..44 * (place + 1)]
+            == record[..])
+}

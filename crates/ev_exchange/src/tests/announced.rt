@@ -1,5 +1,5 @@
 //! What edges say on a connection that is joined to them.
-use super::{EDGE, FLOOD, of_another, update, withdrawn};
+use super::{EDGE, FLOOD, are, of_another, update, withdrawn};
 use crate::{Announcing, EdgeTable, Sender, announce};
 use ether_wire::{Addr, FailAt, Page};
 use route_wire::Update;
@@ -32,9 +32,11 @@ impl Announcing for Two {
     ghost told = { λ two. None };
 
     fn table(&mut self, alloc: Global, edge: u64) -> Option<EdgeTable> {
-        if edge > self.tables {
-            return None;
-        }
+        let address = match edge {
+            _ if edge > self.tables => return None,
+            1 => EDGE,
+            _ => EDGE + 1,
+        };
         let mut updates = Vec::new(alloc);
         for record in [FLOOD, of_another()].iter() {
             if let Ok(update) = update(record) {
@@ -42,13 +44,13 @@ impl Announcing for Two {
             }
         }
         Some(EdgeTable {
-            address: Addr::new(EDGE + edge as u32 - 1),
+            address: Addr::new(address),
             updates,
         })
     }
 
     fn next(&mut self) -> Option<Update> {
-        self.announced += 1;
+        self.announced = self.announced.saturating_add(1);
         match self.announced {
             1 => update(&withdrawn()).ok(),
             _ => None,
@@ -58,13 +60,6 @@ impl Announcing for Two {
     fn is_idle(&self) -> bool {
         self.idle
     }
-}
-
-/// Whether octets are these records.
-fn are(octets: &[u8], records: &[[u8; 44]]) -> bool {
-    octets.len() == 44 * records.len()
-        && records.iter().enumerate().all(|(place, record)| octets[44 * place..44 * (place + 1)]
-            == record[..])
 }
 
 #[test]

@@ -1,6 +1,6 @@
 //! What is received of octets, in whatever pieces.
 use super::{COUNTER, FLOOD, KIND, with};
-use crate::{Entrance, Receiver, StreamEnd, receive};
+use crate::{Entrance, Incoming, Receiver, StreamEnd, receive};
 use arrayvec::ArrayVec;
 use ether_wire::{Addr, FailAt, Octets, Vni};
 use ev_report::Ending;
@@ -104,35 +104,35 @@ fn behind_a_fault_nothing_is_read(rt: HostRuntime) {
     assert_eq!(rt; receiver.refused(COUNTER_ZERO), 2);
 }
 
+/// What octets are received as where the read of this number fails, and how many reads there were.
+fn received(alloc: Global, octets: &[u8], at: u64) -> (Kept, Incoming, u64) {
+    let mut kept = Kept::none(alloc);
+    let mut reader = FailAt::reader(Octets::new(octets), at);
+    let incoming = receive(&mut kept, &mut reader);
+    (kept, incoming, reader.calls())
+}
+
 #[test]
 fn a_reader_is_read_to_its_end(rt: HostRuntime) {
-    let mut kept = Kept::none(rt.alloc());
-    let octets = stream();
-    let mut reader = FailAt::reader(Octets::new(octets.as_slice()), 9);
-    let incoming = receive(&mut kept, &mut reader);
+    let (kept, incoming, calls) = received(rt.alloc(), stream().as_slice(), 9);
     assert!(rt; is_stream(&kept));
     assert!(rt; matches!(incoming.ending, Ending::Ended));
     assert_eq!(rt; incoming.end, StreamEnd::Whole);
     assert_eq!(rt; incoming.receiver.refused(COUNTER_ZERO), 2);
-    assert_eq!(rt; reader.calls(), 2);
+    assert_eq!(rt; calls, 2);
 }
 
 #[test]
 fn behind_a_faulty_piece_no_read_is_made(rt: HostRuntime) {
-    let mut kept = Kept::none(rt.alloc());
-    let mut reader = FailAt::reader(Octets::new(b"GET / HTTP/1.1\r\n"), 9);
-    let incoming = receive(&mut kept, &mut reader);
+    let (_, incoming, calls) = received(rt.alloc(), b"GET / HTTP/1.1\r\n", 9);
     assert!(rt; matches!(incoming.ending, Ending::Faulty(BAD_MAGIC)));
     assert_eq!(rt; incoming.end, StreamEnd::Faulty(BAD_MAGIC));
-    assert_eq!(rt; reader.calls(), 1);
+    assert_eq!(rt; calls, 1);
 }
 
 #[test]
 fn a_failed_read_ends_it(rt: HostRuntime) {
-    let mut kept = Kept::none(rt.alloc());
-    let octets = stream();
-    let mut reader = FailAt::reader(Octets::new(octets.as_slice()), 2);
-    let incoming = receive(&mut kept, &mut reader);
+    let (kept, incoming, _) = received(rt.alloc(), stream().as_slice(), 2);
     assert!(rt; is_stream(&kept));
     assert!(rt; matches!(incoming.ending, Ending::Failed));
 }

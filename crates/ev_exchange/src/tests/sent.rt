@@ -1,27 +1,18 @@
 //! What is written on a connection.
-use super::{EDGE, FLOOD, of_another, update, withdrawn};
+use super::{EDGE, FLOOD, are, of_another, update, withdrawn};
 use crate::Sender;
-use arrayvec::ArrayVec;
 use ether_wire::{Addr, FailAt, Page};
-use route_join::Table;
 use route_wire::Update;
 use std::alloc::Global;
 use std::test::Fail;
 
-/// The updates of a table of both edges that took these records.
+/// The updates that these records spell.
 fn updates(alloc: Global, records: &[[u8; 44]]) -> Vec<Update> {
-    let mut originators = ArrayVec::new();
-    originators.push(Addr::new(EDGE));
-    originators.push(Addr::new(EDGE + 1));
-    let mut table = Table::new(alloc, originators);
+    let mut updates = Vec::new(alloc);
     for record in records.iter() {
         if let Ok(update) = update(record) {
-            let _ = table.take(&update);
+            let _ = updates.push(update);
         }
-    }
-    let mut updates = Vec::new(alloc);
-    for update in table.updates() {
-        let _ = updates.push(update);
     }
     updates
 }
@@ -37,15 +28,12 @@ fn own_registers_are_said_and_then_what_is_announced(rt: HostRuntime) {
     }
     sender.flush();
     assert!(rt; sender.is_open());
-    let page = sender.finish();
-    let (first, second) = page.octets().split_at(44);
-    assert!(rt; first == FLOOD.as_slice());
-    assert!(rt; second == withdrawn().as_slice());
+    assert!(rt; are(sender.finish().octets(), &[FLOOD, withdrawn()]));
 }
 
 #[test]
 fn a_withdrawn_register_is_said(rt: HostRuntime) {
-    let updates = updates(rt.alloc(), &[FLOOD, withdrawn()]);
+    let updates = updates(rt.alloc(), &[withdrawn()]);
     let page: Page<256> = Page::new();
     let mut sender = Sender::new(page);
     sender.originate(Addr::new(EDGE), updates.as_slice());

@@ -81,7 +81,9 @@ fn colliding_subjects_are_told_apart(rt: HostRuntime) -> Result<(), Fail> {
             assert_eq!(rt; table.owner(vni(), near(number)), Some(addr(1)));
             assert_eq!(rt; table.owner(vni(), near(number ^ 1)), None);
         }
-        assert_eq!(rt; table.updates().count(), 23);
+        let mut updates = table.updates();
+        assert!(rt; updates.nth(22).is_some());
+        assert!(rt; updates.next().is_none());
     }
     Ok(())
 }
