@@ -25,7 +25,7 @@ import unittest
 from typing import Dict, List, NamedTuple
 
 TOP = os.path.dirname(os.path.dirname(os.path.dirname(os.path.abspath(__file__))))
-PAGES = ("README.md", "docs/tutorial.md", "docs/running.md", "docs/audit.md", "docs/fabric.md")
+PAGES = ("README.md", "examples/README.md", "docs/tutorial.md", "docs/running.md", "docs/audit.md", "docs/fabric.md")
 NOT_RUN = {"sh root": "it needs root, namespaces or devices", "sh frr": "it needs a host with FRR, or its views", "sh proof": "it proves a crate"}
 READ_ALONE = ("text", "toml")
 FENCE = re.compile(r"^( *)```(.*)$")
@@ -142,6 +142,9 @@ class Pages(unittest.TestCase):
 
     def test_readme(self):
         self.run_page("README.md")
+
+    def test_examples(self):
+        self.run_page("examples/README.md")
 
     def test_tutorial(self):
         self.run_page("docs/tutorial.md")
