@@ -80,17 +80,24 @@ class Try(unittest.TestCase):
         self.write(f"{self.crate}/src/main.rt", SOURCE.replace("return 3", "return 4"))
         self.run_try("small", status=4)
         self.assertEqual(self.builds(), 2)
-        self.assertEqual(sorted(os.listdir(f"{self.crate}/out/tried")), ["small", "stamp"])
+        self.assertEqual(sorted(os.listdir(f"{self.crate}/out/tried")), ["small", "small.sources", "stamp"])
 
     def test_build_prints_the_path(self):
+        self.assertEqual(self.run_try("--proved", "small", status=1).stdout, "")
         self.assertEqual(self.run_try("--build", "small").stdout, f"{self.crate}/out/tried/small\n")
+        with open(f"{self.crate}/out/tried/small.sources", encoding="utf-8") as stream:
+            listed = stream.read()
+        self.assertEqual(subprocess.run(["sha256sum", "--check", "--quiet"], input=listed, cwd=self.top, text=True, check=False).returncode, 0)
+        self.assertEqual([line.split()[1] for line in listed.splitlines()], ["crates.txt", "crates/small/src/main.rt"])
+        self.assertEqual(self.run_try("--sources", "small").stdout, listed)
 
     def test_proved_program_is_taken_while_no_source_is_newer(self):
         os.makedirs(f"{self.crate}/out")
         self.write(f"{self.crate}/out/small", "#!/bin/sh\nexit 7\n")
         os.chmod(f"{self.crate}/out/small", 0o755)
         self.run_try("small", status=7)
-        self.assertEqual(self.run_try("--build", "small").stdout, f"{self.crate}/out/small\n")
+        for option in ("--build", "--proved"):
+            self.assertEqual(self.run_try(option, "small").stdout, f"{self.crate}/out/small\n")
         self.assertEqual(self.builds(), 0)
         later = os.stat(f"{self.crate}/out/small").st_mtime + 5
         os.utime(f"{self.crate}/src/main.rt", (later, later))
