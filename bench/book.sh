@@ -5,14 +5,15 @@
 # registers have to fit in what 4,000 registers take, and 20 rounds of 20,000 stations in what two took.
 #   bench/book.sh [UPDATES]        (default: 10,000,000)
 # Needs the kit. It is no crate of this repository and proves nothing: its tests are built beside those of ev_book, without the
-# checks that `rt try` makes, whose allocator keeps what was freed.
+# checks that `rt try` makes, whose allocator keeps what was freed (tools/try --fast). With a kit that builds checked programs
+# only, it prints so, and the runs that compare memory are left out.
 set -euo pipefail
 cd "$(dirname "$0")/.."
 updates=${1-10000000}
 work=$(mktemp -d)
 trap 'rm -rf "$work"' EXIT
 sed "s/^const UPDATES: u64 = .*;/const UPDATES: u64 = $updates;/" bench/book/long.rt.txt > "$work/long.rt"
-tools/try --tests ev_book "$work/long.rt" "$work/long"
+tools/try --fast --tests ev_book "$work/long.rt" "$work/long"
 
 run() {
   echo "-- $1"
@@ -20,6 +21,10 @@ run() {
 }
 run eight_threads_make_a_million_calls
 run compacting_grows_with_the_journal
+if grep -q __asan_ "$work/long"; then
+  echo "-- not run: the memory of a book, since this program is a checked one"
+  exit
+fi
 run many_updates_of_1000_registers
 many=$(sed -n 's/ KiB for .*//p' "$work/said")
 run one_update_of_4000_registers

@@ -14,6 +14,12 @@ BY_RATTLE = PROGRAM.endswith(".by-rattle")
 COMPILER = shutil.which("cc")
 
 
+def is_checked(program: str) -> bool:
+    """Returns `True` for the checked program of `rt try`, whose allocator is its own: a library can't make its memory fail."""
+    with open(program, "rb") as stream:
+        return b"__asan_" in stream.read()
+
+
 class Done(NamedTuple):
     """What came of a run."""
 
@@ -23,13 +29,13 @@ class Done(NamedTuple):
 
 
 class Preloaded(unittest.TestCase):
-    """Tests over the library of one source. They aren't run where there is no C compiler."""
+    """Tests over the library of one source. They aren't run if there is no C compiler, or if the program is a checked one."""
 
     source = ""
 
     @classmethod
     def setUpClass(cls):
-        if not COMPILER:
+        if cls.hindrance():
             return
         folder = tempfile.TemporaryDirectory()
         cls.addClassCleanup(folder.cleanup)
@@ -37,11 +43,19 @@ class Preloaded(unittest.TestCase):
         cls.library = os.path.join(cls.folder, "preloaded.so")
         subprocess.run([COMPILER, "-shared", "-fPIC", "-O1", "-o", cls.library, cls.source], check=True)
 
+    @staticmethod
+    def hindrance() -> str:
+        """Returns why these tests can't run, or an empty string."""
+        if not COMPILER:
+            return "there is no C compiler"
+        return "EVPND is a checked program (use tools/try --fast --build evpnd, or the proved one)" if is_checked(PROGRAM) else ""
+
     def run(self, result=None):
-        """As any test, where there is a compiler."""
-        if COMPILER:
+        """Runs the test, or prints why it can't run."""
+        why = self.hindrance()
+        if not why:
             return super().run(result)
-        print(f"{self}: there is no C compiler")
+        print(f"{self}: not run: {why}")
         return result
 
     @classmethod
