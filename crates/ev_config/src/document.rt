@@ -126,7 +126,7 @@ fn add_served<'a>(
 ///
 /// # Errors
 ///
-/// `AllocError` if memory is refused.
+/// `Fault::NoMemory` if memory is refused.
 pub(crate) fn faults_of<'a>(
     alloc: Global,
     wanted: Use,
