@@ -19,7 +19,7 @@ use ev_tunnel::{Decision, Forwarding, Source, decide_into, unwrap_datagram};
 use mac_arena::Station;
 use rstp_run::event::Event;
 
-/// Returns the place for a decision, and creates one if there is none.
+/// Creates an empty decision if there is none.
 fn make_room(decision: &mut Option<Decision>)
     ensures { IsSome decision.new }
 {
