@@ -1,0 +1,52 @@
+"""The gate as a graph of files for ninja: which rule waits for which, and in which order they start.
+
+ninja starts what is ready in the order of its file. Proofs come first, that with the longest chain of other proofs behind it before
+all; edits, tests and looks fill what proofs leave free. A pool holds as many large crates as memory does.
+"""
+from calls import free_memory
+
+# in the order in which what is ready starts
+RULES = ("proof", "edits", "tests", "house", "layout", "texts")
+# What a check of the largest crates was seen to need, in MiB, and how many crates below one make it large.
+LARGE, MANY = 5500, 15
+HEAD = """builddir = {folder}
+pool large
+  depth = {depth}
+rule work
+  command = {command} rule $rule $crate
+  description = $crate $rule
+build always: phony
+"""
+
+
+def needs_of(project, rule, name):
+    """Returns the crates whose proofs this rule of a crate waits for."""
+    if rule == "proof":
+        return project.below[name]
+    return [name] if rule in ("edits", "house") else []
+
+
+def longest_first(project, crates):
+    """Returns the crates, that with the most lines of source in a chain above it first."""
+    behind = {}
+    for name in reversed(crates):
+        above = [behind[it] for it in crates if it in behind and name in project.below[it]]
+        behind[name] = project.lines_of(name) + max(above, default=0)
+    return sorted(crates, key=lambda it: -behind[it])
+
+
+def is_large(project, rule, name):
+    """Returns `True` if this rule takes as much memory as a large crate's check."""
+    return rule in ("proof", "edits", "house") and len(project.reach(name)) > MANY
+
+
+def ninja_file(project, crates, rules, command):
+    """Returns the text of a build.ninja that does these rules of these crates, each by this command."""
+    depth = max(1, free_memory() * 85 // 100 // LARGE)
+    parts = [HEAD.format(depth=depth, command=command, folder=project.gate)]
+    for rule in rules:
+        for name in longest_first(project, crates):
+            waits = " ".join([*(f"{project.gate}/{it}.proof" for it in needs_of(project, rule, name)), "always"])
+            pool = "  pool = large\n" if is_large(project, rule, name) else ""
+            parts.append(f"build {project.gate}/{name}.{rule}: work | {waits}\n  rule = {rule}\n  crate = {name}\n{pool}")
+    return "\n".join(parts)
