@@ -23,6 +23,9 @@ pub mod StationStages
 pub mod StationMotion
 pub mod StationRest
 pub mod StationArrival
+pub mod StationAlone
+pub mod StationRounds
+pub mod StationMeanwhile
 pub mod Goings
 pub mod Journeys
 pub mod Example

@@ -42,7 +42,7 @@ use Rattle.ev_fabric.proofs.StationMotion.{runs_stage, agreed_known, said_news, 
 use Rattle.ev_fabric.proofs.StationMotion.{to_advertises, Begins}
 
 -- ---- lists
-filter_from : {X : Type 0} (p : X → Bool) (xs : List X) (x : X) → Contains (filter p xs) x
+pub filter_from : {X : Type 0} (p : X → Bool) (xs : List X) (x : X) → Contains (filter p xs) x
     → Contains xs x × (p x ≡ true)
 filter_from p [] x (k, lt, is) = absurd (omega (arith, lt))
 filter_from p (y ∷ ys) x in' = go (p y) refl in' (filter_from p ys x)
@@ -186,8 +186,9 @@ agrees_at f s waits has = record {
 }
 
 -- at a stage at which nothing waits
-stage_waits : {base extra : List Fields} {i j : ℕ} {s : Station} {o : ℕ} {w : Fields} {says : Bool} {pool : List Fields}
-    {edges : List Edge} → StageOf base extra i j s o w [] [] says pool edges → (y : ℕ) (c : Edge) → At edges y c
+pub stage_waits : {base extra : List Fields} {i j : ℕ} {s : Station} {o : ℕ} {w : Fields} {says : Bool}
+    {pool : List Fields} {edges : List Edge} → StageOf base extra i j s o w [] [] says pool edges → (y : ℕ) (c : Edge)
+    → At edges y c
     → waiting s c.routes.speaker ≡ []
 stage_waits {base} {extra} {i} {j} {s} {o} {w} {says} {pool} {edges} g y c at =
     elim (cases_eq y i) as (λ _. waiting s c.routes.speaker ≡ []) [

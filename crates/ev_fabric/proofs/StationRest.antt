@@ -140,7 +140,7 @@ lasts_move s old _ kept (Takes x a w at in' ok) agree = (
         (same_itself s a.routes.speaker)
 
 -- an event from outside
-local_same : (s : Station) (old new : Fabric) (x : ℕ) (a : Edge) (event : LocalEvent)
+pub local_same : (s : Station) (old new : Fabric) (x : ℕ) (a : Edge) (event : LocalEvent)
     (result : Result Reply FabricRefusal)
     → IsSound old → IsEdge old x a → (h : StepsAt old (suc x) a (event_of event) result new)
     → ((b : Edge) → IsEdge new x b → SaysTheSame s a b)
