@@ -350,7 +350,7 @@ class Routes:
         found = self.communities.get(text)
         if found is None:
             targets = COMMUNITY_RT.findall(text)
-            vnis = tuple(dict.fromkeys(vni for target in targets for vni in self.vnis_of_target(target)))
+            vnis = tuple(dict.fromkeys(vni for target in targets for vni in self.importers_of(target)))
             mobility, router = COMMUNITY_MOBILITY.search(text), COMMUNITY_ROUTER.search(text)
             found = self.communities[text] = Community(
                 tuple(vni for vni in vnis if vni in self.vnis),
@@ -361,18 +361,16 @@ class Routes:
             )
         return found
 
-    def vnis_of_target(self, target: str) -> Tuple[int, ...]:
+    def importers_of(self, target: str) -> Tuple[int, ...]:
         """The networks that import a route target: as was said, as bgpd imports it, or by the number in it."""
-        if target in self.targets:
-            return (self.targets[target],)
-        return self.imports.vnis_of(target) if self.imports is not None else tuple(self.numbers_of([target]))
+        if target in self.targets or self.imports is None:
+            return (self.vni_of_target(target),)
+        return self.imports.vnis_of(target)
 
-    @staticmethod
-    def numbers_of(targets: Iterable[str]) -> Iterator[int]:
-        """The VNIs that the numbers in route targets are."""
-        for target in targets:
-            number = int(target.rpartition(":")[2])
-            yield number - AUTO_RT if number >= AUTO_RT else number
+    def vni_of_target(self, target: str) -> int:
+        """The VNI that a route target stands for: as was said, or by the number in it."""
+        number = int(target.rpartition(":")[2])
+        return self.targets.get(target, number - AUTO_RT if number >= AUTO_RT else number)
 
     def advert(self, static: bool, sequence: int, label: Optional[str]) -> Advert:
         """The advert, one object for all that are equal."""

@@ -128,11 +128,14 @@ def plant(edge: Edge, model: Model, keys: List[Key]) -> str:
 
 
 def told_of(text: str) -> Tuple[Dict[Key, str], List[str]]:
-    """The MACs that an audit tells, each with its mend, and what else it tells."""
+    """The MACs of which an audit tells that frames go elsewhere, each with its mend, and what else it tells.
+
+    After a mend zebra 8.4.4 may name the wrong edge while the kernel has the right one: that is told, and no frame shows it.
+    """
     said = json.loads(text)
     told, others = {}, [cause["text"] for view in said["views"] for cause in view["causes"]]
     for result in said["results"]:
-        told.update({(result["vni"], each["mac"]): each["mend"] for each in result["macs"]})
+        told.update({(result["vni"], each["mac"]): each["mend"] for each in result["macs"] if each["kernel"] != each["owner"]})
         others += [f"{result['vni']} {cause['text']}" for cause in result["causes"]]
         for name in ("floods", "routers"):
             others += [f"{each['kind']} {result['vni']} {each['what']}" for each in result[name] or []]
