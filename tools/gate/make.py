@@ -47,7 +47,7 @@ import proofs
 import rooms
 import summary
 import tried
-from calls import Calls, processors
+from calls import Calls
 from project import Project
 
 COMMAND = f"{sys.executable} {os.path.realpath(__file__)}"
@@ -157,7 +157,7 @@ def run(project, crates, rules):
     os.makedirs(project.gate, exist_ok=True)
     own_kit.make(project.gate)
     facts.write(project.gate, "repository", "files", looks.files(project))
-    jobs, program = int(os.environ.get("GATE_JOBS") or processors()), ninja()
+    jobs, program = lanes.lanes(), ninja()
     if program:
         with open(f"{project.gate}/build.ninja", "w", encoding="utf-8") as it:
             it.write(graph.ninja_file(project, crates, rules, COMMAND))
