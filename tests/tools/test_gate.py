@@ -280,6 +280,12 @@ class Gate(unittest.TestCase):
         self.assertIn("gate: 2 functions proved, 0 of the sources not among them\n", said)
         self.assertIn("gate: 2 crates proved, 4 tests run unproved, 2 edits refused\n", said)
 
+    def test_all_is_well_without_ninja(self):
+        status, said = self.gate(GATE_NINJA="no")
+        self.assertEqual((status, said.splitlines()[-1]), (0, "8 passed, 0 failed"), said)
+        proofs = [it.start() for it in re.finditer("^(?:low|high) proof: functions", said, re.M)]
+        self.assertEqual(said.find("low proof: functions"), proofs[0], said)
+
     def test_function_that_no_check_has_seen(self):
         write(f"{self.stub}/high.lib", "0\nlogic=proved functions=0 sum=1\n")
         self.fails("high proof: no check has proved twice", 3, 6)
@@ -337,6 +343,10 @@ class Gate(unittest.TestCase):
     def test_file_that_no_check_reads(self):
         write(f"{self.top}/docs/lost.rt", "")
         self.fails("repository files: no check reads docs/lost.rt")
+
+    def test_tidy_gate_leaves_libraries_alone(self):
+        self.assertEqual(self.gate(GATE_TIDY="yes")[0], 0)
+        self.assertEqual(os.listdir(f"{self.top}/.gate/low.proof.room/crates/low/out"), ["rlib"])
 
     def test_resumed_gate_does_only_what_changed(self):
         self.gate()

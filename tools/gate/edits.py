@@ -179,12 +179,13 @@ class Trial:
                 texts[path] = texts.get(path, "") + REFUSED_ANSWER
         return texts
 
-    def refuse(self, edit, goals):
-        """Notes that a check refused an edit, for these goals of functions."""
+    def refuse(self, edit, goals, lemmas=()):
+        """Notes that a check refused an edit, for these goals of functions, and because these lemmas aren't proved."""
         strong = {full: [it for it, is_lost in own.items() if not is_lost] for full, own in goals.items()}
-        told = "; ".join(f"{full}: {', '.join(strong[full] or own)}" for full, own in goals.items())
-        self.found.append(f"refused {edit}: {told}")
-        self.found += [f"weak {edit}: only names that the edit took away: {it}" for it in goals if not strong[it]]
+        told = [f"{full}: {', '.join(strong[full] or own)}" for full, own in goals.items()]
+        self.found.append(f"refused {edit}: {'; '.join([*lemmas, *told])}")
+        if not lemmas:
+            self.found += [f"weak {edit}: only names that the edit took away: {it}" for it in goals if not strong[it]]
 
     def together(self, waiting):
         """Tries edits of different bodies in one check. Returns those that wait for another one, and those to be tried alone."""
@@ -226,7 +227,7 @@ class Trial:
             verdict = self.check(edit.texts)
         own = {full: goals for full, goals in verdict.goals.items() if goals}
         if verdict.word == "not-proved":
-            self.refuse(edit, own) if own else self.found.append(f"refused {edit}: {first_line_of(verdict.said)}")
+            self.refuse(edit, own, lemmas_of(verdict.said))
         elif verdict.word == "proved":
             self.found.append(f"fail {edit}: NOT REFUSED: it is proved")
         else:
@@ -247,6 +248,12 @@ class Trial:
         for path in alone:
             self.alone(path)
         return [*self.found, f"pass {sum(it.startswith('refused ') for it in self.found)}"]
+
+
+def lemmas_of(said):
+    """Returns the lemmas that a check refused for themselves, each with its file."""
+    errors = re.findall(r"^(?:\./)?(proofs/\S+?\.antt):\d+:\d+: error: `([^`]*)`: (.*)$", said, re.M)
+    return list(dict.fromkeys(f"{file}: {name}" for file, name, why in errors if name != NO_GOAL and not LOST.search(why)))
 
 
 def first_line_of(said):

@@ -4,10 +4,17 @@ import fcntl
 import os
 import time
 
-from calls import processors
+from calls import free_memory, processors
 
 # crates with fewer lines: a second job would read all that stands below once more, some half of their proofs
 SMALL = 800
+# MiB that have to be free for a second job
+ENOUGH = 11_000
+
+
+def lanes():
+    """Returns how many rules run side by side: GATE_JOBS, or as many as there are processors."""
+    return int(os.environ.get("GATE_JOBS") or processors())
 
 
 @contextlib.contextmanager
@@ -37,9 +44,9 @@ def at_work(folder):
 
 
 def jobs_for(project, name):
-    """Returns how many jobs the crate's proof gets: two if the crate is not small and a processor is idle, else one."""
-    if project.lines_of(name) < SMALL or processors() < 2:
+    """Returns how many jobs the crate's proof gets: two if it is not small, a lane is idle and memory is free, else one."""
+    if project.lines_of(name) < SMALL or lanes() < 2:
         return 1
     # what can start beside it has started by then
     time.sleep(1)
-    return 2 if at_work(project.gate) < processors() else 1
+    return 2 if at_work(project.gate) < lanes() and free_memory() > ENOUGH else 1

@@ -23,6 +23,8 @@ found well is kept if all that it reads is the same: the crate, those below it, 
 of them, so that only what changed is proved again. Without GATE_RESUME a gate deletes .gate and begins with nothing.
 
     GATE_JOBS=N           how many rules run side by side (default: as many as there are processors)
+    GATE_TIDY=yes         deletes what a proof kept once no rule reads it: some 10 GB less of disk, and less to resume from
+    GATE_NINJA=no         does without ninja, as where it can't be installed
     GATE_FOLDER=FOLDER    where facts and rooms are (default: .gate, at the top)
 
 Last lines of checks say incremental=trusted: a check trusts whoever can write to its folder, and that is this run alone.
@@ -45,7 +47,7 @@ import proofs
 import rooms
 import summary
 import tried
-from calls import Calls, processors
+from calls import Calls
 from project import Project
 
 COMMAND = f"{sys.executable} {os.path.realpath(__file__)}"
@@ -107,6 +109,12 @@ def found_by(project, rule, name, calls):
     return {"tests": tried.tests, "house": looks.house, "layout": looks.layout, "texts": looks.texts}[rule](project, name, calls)
 
 
+def tidy(project, name):
+    """Deletes what the crate's proof kept, if no rule reads it any more: it may be a gigabyte."""
+    if all(os.path.exists(facts.path_of(project.gate, name, it)) for it in ("proof", "edits", "house")):
+        shutil.rmtree(f"{project.proof_out(name)}/{proofs.KEPT}", ignore_errors=True)
+
+
 def work(project, rule, name):
     """Does a rule's work and writes what it found, with what it took."""
     inputs = inputs_of(project, rule, name)
@@ -123,6 +131,8 @@ def work(project, rule, name):
         found += [*calls.facts(), f"inputs {inputs}"]
         facts.write(project.gate, name, rule, found)
         print(f"{name} {rule}: " + "; ".join(it for it in found if not it.startswith(("proved ", "inputs ", "left ")))[:1000], flush=True)
+    if os.environ.get("GATE_TIDY"):
+        tidy(project, name)
     if rule == "proof" and project.is_program(name) and facts.is_well(facts.read(project.gate, name, rule)):
         proofs.hand_over(project, name)
     return 0
@@ -130,6 +140,8 @@ def work(project, rule, name):
 
 def ninja():
     """Returns the path of ninja, which is installed if it is missing and this is root, or None."""
+    if os.environ.get("GATE_NINJA") == "no":
+        return None
     if not shutil.which("ninja") and os.geteuid() == 0 and shutil.which("apt-get"):
         for words in (["update"], ["install", "-y", "--no-install-recommends", "ninja-build"]):
             subprocess.run(["apt-get", "-q", *words], stdin=subprocess.DEVNULL, stdout=subprocess.DEVNULL, check=False)
@@ -145,11 +157,15 @@ def run(project, crates, rules):
     os.makedirs(project.gate, exist_ok=True)
     own_kit.make(project.gate)
     facts.write(project.gate, "repository", "files", looks.files(project))
-    with open(f"{project.gate}/build.ninja", "w", encoding="utf-8") as it:
-        it.write(graph.ninja_file(project, crates, rules, COMMAND))
-    program = ninja() or sys.exit("there is no ninja: install Debian's ninja-build")
-    words = [program, "-k", "0", "-j", os.environ.get("GATE_JOBS") or str(processors()), "-f", f"{project.gate}/build.ninja"]
-    subprocess.run(words, cwd=project.top, stdin=subprocess.DEVNULL, check=False)
+    jobs, program = lanes.lanes(), ninja()
+    if program:
+        with open(f"{project.gate}/build.ninja", "w", encoding="utf-8") as it:
+            it.write(graph.ninja_file(project, crates, rules, COMMAND))
+        words = [program, "-k", "0", "-j", str(jobs), "-f", f"{project.gate}/build.ninja"]
+        subprocess.run(words, cwd=project.top, stdin=subprocess.DEVNULL, check=False)
+    else:
+        print("gate: there is no ninja (Debian's ninja-build): the rules run without it", flush=True)
+        graph.run_without_ninja(project, crates, rules, COMMAND, jobs)
     return 0 if summary.print_total(project, crates, rules) else 1
 
 
