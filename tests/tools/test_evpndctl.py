@@ -103,15 +103,38 @@ class Evpndctl(unittest.TestCase):
     def test_refusals(self) -> None:
         """What an edge refuses, one that has ended and a line that is none are printed as any answer; the status tells of them."""
         answers = {"1 port 9": "1 refused edge 16\n", "12 port 1": "12 ended\n", "1 port": "bad: expected E port P\n"}
-        self.server({line: f"{answer}\n".encode() for line, answer in answers.items()})
+        self.server({"help": HELP, **{line: f"{answer}\n".encode() for line, answer in answers.items()}})
         for line, answer in answers.items():
-            self.assertEqual(self.ask(line), (1, answer, ""))
+            self.assertEqual(self.ask(line)[:2], (1, answer))
+
+    def test_causes(self) -> None:
+        """Standard error names what was refused and why, behind it the number; the answer stays as it is."""
+        causes = {
+            f"1 pin 5001 {STATION} 7": ("1 refused edge 16\n", "edge 1 has no port 7 (edge 16)"),
+            "1 port 9": ("1 refused edge 16\n", "edge 1 has no port 9 (edge 16)"),
+            f"2 pin 5009 {STATION} 1": ("2 refused edge 17\n", "edge 2 doesn't serve network 5009, or its port 1 isn't of this network (edge 17)"),
+            "9 report": ("9 refused edge 18\n", "there is no edge 9 (edge 18)"),
+            "1 pin 5001 01:00:00:00:00:01 1": ("1 refused edge 11\n", "01:00:00:00:00:01 is a group address, which can't be pinned (edge 11)"),
+            "1 pin": ("1 refused edge 13\n", "edge 1 refused it (edge 13)"),
+        }
+        self.server({line: f"{answer}\n".encode() for line, (answer, _) in causes.items()})
+        for line, (answer, cause) in causes.items():
+            self.assertEqual(self.ask(*line.split()), (1, answer, f"evpndctl: {cause}\n"))
+
+    def test_unknown_words(self) -> None:
+        """Standard error has the words that a console accepts, not a script's, and the nearest one."""
+        script = "bad: expected up, down, mcheck or report behind the edge\n"
+        self.server({"help": HELP, **{line: f"{script}\n".encode() for line in ("1 foo", "1 reprot", "hlep")}})
+        forms = "A console accepts E pin VNI MAC P, E port P, E report, edges, help"
+        self.assertEqual(self.ask("1", "foo"), (1, script, f"evpndctl: no such command: foo; {forms}\n"))
+        self.assertEqual(self.ask("1", "reprot"), (1, script, f"evpndctl: no such command: reprot; did you mean `E report`? {forms}\n"))
+        self.assertEqual(self.ask("hlep"), (1, script, f"evpndctl: no such command: hlep; did you mean `help`? {forms}\n"))
 
     def test_lines_of_standard_input(self) -> None:
         """Each is answered, what asks for nothing is passed over, and one refusal among them is the status."""
         server = self.server({"edges": EDGES, "1 port 9": b"1 refused edge 16\n\n", "1 report": REPORT})
         status, out, notes = self.ask(typed=b"edges\n\n# the ports\n1 port 9\n1 report")
-        self.assertEqual((status, notes), (1, ""))
+        self.assertEqual((status, notes), (1, "evpndctl: edge 1 has no port 9 (edge 16)\n"))
         self.assertEqual(out, (EDGES[:-1] + b"1 refused edge 16\n" + REPORT[:-1]).decode())
         self.assertEqual(server.heard, [[b"console\n", b"edges\n", b"1 port 9\n", b"1 report\n"]])
 
