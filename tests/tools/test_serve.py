@@ -209,10 +209,11 @@ class Asked(Served):
 
     def test_evpndctl(self) -> None:
         """The tool, over the socket."""
-        for words, status, out in ((["1", "report"], 0, FLOODS), (["1", "port", "9"], 1, "1 refused edge 16\n")):
+        no_port = "evpndctl: edge 1 has no port 9 (edge 16)\n"
+        for words, status, out, notes in ((["1", "report"], 0, FLOODS, ""), (["1", "port", "9"], 1, "1 refused edge 16\n", no_port)):
             tool = [sys.executable, os.path.join(TOP, "tools", "evpndctl"), "--control", self.path, *words]
             done = subprocess.run(tool, capture_output=True, encoding="utf-8", timeout=20, check=False)
-            self.assertEqual((done.returncode, done.stdout, done.stderr), (status, out, ""))
+            self.assertEqual((done.returncode, done.stdout, done.stderr), (status, out, notes))
         self.ends_well()
 
     def test_watch(self) -> None:
