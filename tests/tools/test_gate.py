@@ -222,6 +222,7 @@ if [ -e "$it.again" ] && [ -e "$it.called" ]; then it=$it.again; fi
 [ -e "$it" ] || exit 2
 touch "$it.called"
 [ "$word" = lib ] && mkdir -p out/incremental out/rlib
+case $word in run*) mkdir -p out; echo "$word" > "out/$(basename "$PWD")"; cat "$it.err" >&2;; esac
 tail -n +2 "$it"
 exit "$(head -n 1 "$it")"
 """
@@ -347,6 +348,28 @@ class Gate(unittest.TestCase):
     def test_tidy_gate_leaves_libraries_alone(self):
         self.assertEqual(self.gate(GATE_TIDY="yes")[0], 0)
         self.assertEqual(os.listdir(f"{self.top}/.gate/low.proof.room/crates/low/out"), ["rlib"])
+
+    def program(self, by_rattle):
+        """Adds a program that prints `four`, and, as the other compiler builds it, this."""
+        write(f"{self.top}/crates.txt", "low:\nhigh: low\ntop: high\n")
+        write(f"{self.top}/crates/top/src/main.rt", LIBRARY)
+        write(f"{self.top}/crates/top/stdout", "four\n")
+        for word, text in (("run", "0\nfour\n"), ("run.rattle", f"0\n{by_rattle}\n"), ("house", HOUSE)):
+            write(f"{self.stub}/top.{word}", text)
+            write(f"{self.stub}/top.{word}.err", PROVED.format("top"))
+
+    def test_program_is_handed_over_as_both_compilers_build_it(self):
+        self.program("four")
+        status, said = self.gate()
+        self.assertEqual((status, said.splitlines()[-1]), (0, "9 passed, 0 failed"), said)
+        for name, word in (("top", "run"), ("top.by-rattle", "run.rattle")):
+            with open(f"{self.top}/crates/top/out/{name}", encoding="utf-8") as it:
+                self.assertEqual(it.read(), f"{word}\n")
+
+    def test_program_that_prints_something_else(self):
+        self.program("five")
+        self.fails("top proof: as rattle builds it, it ended with status 0 and wrote 5 octets", 2 + 1, 8)
+        self.assertFalse(os.path.exists(f"{self.top}/crates/top/out/top"))
 
     def test_resumed_gate_does_only_what_changed(self):
         self.gate()
