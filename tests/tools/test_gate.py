@@ -379,6 +379,10 @@ class Gate(unittest.TestCase):
         self.assertEqual(sorted(re.findall(r"^(\w+ \w+): as before$", said, re.M)), [f"low {it}" for it in sorted(graph.RULES)])
         self.assertIn("gate: high proof: proved over kept work\n", said)
 
+    def test_some_rules_alone(self):
+        status, said = self.gate(GATE_RULES="proof edits")
+        self.assertEqual((status, said.splitlines()[-1]), (0, "4 passed, 0 failed"), said)
+
     def test_resumed_gate_keeps_no_failure(self):
         write(f"{self.stub}/high.house", HOUSE.replace("0 found", "1 found"))
         self.gate()

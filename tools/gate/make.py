@@ -22,6 +22,7 @@ goes on with an earlier gate's work, for a day's work and never in CI. FOLDER is
 found well is kept if all that it reads is the same: the crate, those below it, and the kit. Other proofs start with what FOLDER kept
 of them, so that only what changed is proved again. Without GATE_RESUME a gate deletes .gate and begins with nothing.
 
+    GATE_RULES='RULE ..'   does these rules only, for a day's work and never in CI
     GATE_JOBS=N           how many rules run side by side (default: as many as there are processors)
     GATE_TIDY=yes         deletes what a proof kept once no rule reads it: some 10 GB less of disk, and less to resume from
     GATE_NINJA=no         does without ninja, as where it can't be installed
@@ -195,7 +196,8 @@ def main(words):
         return 0
     if verb == "sum":
         return 0 if summary.print_total(project, crates, graph.RULES) else 1
-    return tests_alone(project, names) if verb == "tests" else run(project, crates, graph.RULES)
+    rules = os.environ.get("GATE_RULES", " ".join(graph.RULES)).split()
+    return tests_alone(project, names) if verb == "tests" else run(project, crates, [it for it in graph.RULES if it in rules])
 
 
 if __name__ == "__main__":
