@@ -216,7 +216,7 @@ class Ends(unittest.TestCase):
 STUB = """#!/bin/bash
 case $1 in version) echo stub; exit;; doc) echo /nowhere/it.md; exit;; fmt) exit 0;; esac
 word=$1
-for it in "$@"; do case $it in --empty-contracts) word=house;; --only) word=edits;; rattle) word=run.rattle;; esac; done
+for it in "$@"; do case $it in --empty-contracts) word=house;; --only) word=edits; break;; rattle) word=run.rattle;; esac; done
 it=$STUB/$(basename "$PWD").$word
 if [ -e "$it.again" ] && [ -e "$it.called" ]; then it=$it.again; fi
 [ -e "$it" ] || exit 2
@@ -229,6 +229,7 @@ exit "$(head -n 1 "$it")"
 LIBRARY = "//! Numbers.\n\n/// Twice.\npub fn twice(number: u32) -> u64 {\n    u64::from(number) * 2\n}\n"
 TESTS = "\n#[cfg(test)]\nmod tests {\n    #[test]\n    fn one() {\n    }\n\n    #[test]\n    fn two() {\n    }\n}\n"
 PROVED = "0\nfn {0}::twice: proved\nlogic=proved functions=1 sum=1\n"
+SEARCHED = "empty contracts: 0 found; tried 1 of 1 functions\n"
 REFUSED = "1\nnote: src/lib.rt:5:5: it is not proved that what the function ensures holds (`returns`)\nfn {0}::twice: not proved\nonly=1 proved=0\n"
 HOUSE = "0\nempty contracts: 0 found; tried 1 of 1 functions\nlogic=proved functions=1 sum=1\n"
 TRIED = "0\ntests: 2\ntest tests::one ... ok\ntest tests::two ... ok\nrun=ended status=0 runners=1 proved=no\n"
@@ -323,7 +324,17 @@ class Gate(unittest.TestCase):
 
     def test_contract_that_no_call_can_meet(self):
         write(f"{self.stub}/low.house", HOUSE.replace("0 found", "1 found"))
-        self.fails("low house: status 0, empty contracts: 1 found")
+        self.fails("low house: empty contracts: 1 found")
+
+    def test_search_that_a_check_of_edits_has_made(self):
+        os.unlink(f"{self.stub}/low.house")
+        write(f"{self.stub}/low.edits", REFUSED.format("low").replace("only=1", SEARCHED + "only=1"))
+        status, said = self.gate()
+        self.assertEqual((status, said.splitlines()[-1]), (0, "8 passed, 0 failed"), said)
+
+    def test_search_that_no_check_has_made(self):
+        os.unlink(f"{self.stub}/low.house")
+        self.fails("low house: no search for empty contracts")
 
     def test_check_that_refused_nothing_gets_a_second_run(self):
         write(f"{self.stub}/low.lib", "3\nfn low::twice: could not tell\n")

@@ -10,7 +10,7 @@ usage: tools/gate/make.py [CRATE..]      (at the top of the repository; CRATE: t
 Each crate has six rules. `proof` proves it from nothing and builds its library (`rt lib`), or builds a program by two compilers and
 runs it (`rt run`); each function of the sources has to be among those proved. `edits` tries its must-fail edits over what the proof
 kept, many in one check. `tests` runs its tests, compiled with the kit's checks and not proved (`rt try --test`). `house` searches for
-contracts that no call can meet (`rt check --empty-contracts`). `layout` runs `rt fmt` on a copy. `texts` looks for what `rt ci` alone
+contracts that no call can meet (`rt check --empty-contracts`), if no check of edits has done so. `layout` runs `rt fmt` on a copy. `texts` looks for what `rt ci` alone
 refuses. ninja runs them side by side. Each works in a room of its own, since `rt` locks the folders of a crate and of all below it.
 
 What a rule found is in .gate/CRATE.RULE, also if it failed, so that a gate goes through all crates. A check that fails and refuses
@@ -97,11 +97,19 @@ def broken_below(project, rule, name):
     return next((it for it in needs.get(rule, []) if not facts.is_well(facts.read(project.gate, it, "proof"))), None)
 
 
+def is_searched(project, name):
+    """Returns `True` if a check of the crate's edits, as they are, searched for contracts that no call can meet, and found none."""
+    found = facts.read(project.gate, name, "edits")
+    return bool(facts.of_kind(found, "searched")) and facts.of_kind(found, "inputs") == [inputs_of(project, "edits", name)]
+
+
 def found_by(project, rule, name, calls):
     """Does a rule's work, and returns the facts."""
     broken = broken_below(project, rule, name)
     if broken:
         return [f"fail not tried, since {broken} isn't proved"]
+    if rule == "house" and is_searched(project, name):
+        return ["pass 0"]
     if rule == "proof":
         return proofs.proof(project, name, calls, lanes.jobs_for(project, name), kept_of(project, name))
     if rule == "edits":
