@@ -216,18 +216,20 @@ class Ends(unittest.TestCase):
 STUB = """#!/bin/bash
 case $1 in version) echo stub; exit;; doc) echo /nowhere/it.md; exit;; fmt) exit 0;; esac
 word=$1
-for it in "$@"; do case $it in --empty-contracts) word=house;; --only) word=edits;; rattle) word=run.rattle;; esac; done
+for it in "$@"; do case $it in --empty-contracts) word=house;; --only) word=edits; break;; rattle) word=run.rattle;; esac; done
 it=$STUB/$(basename "$PWD").$word
 if [ -e "$it.again" ] && [ -e "$it.called" ]; then it=$it.again; fi
 [ -e "$it" ] || exit 2
 touch "$it.called"
 [ "$word" = lib ] && mkdir -p out/incremental out/rlib
+case $word in run*) mkdir -p out; echo "$word" > "out/$(basename "$PWD")"; cat "$it.err" >&2;; esac
 tail -n +2 "$it"
 exit "$(head -n 1 "$it")"
 """
 LIBRARY = "//! Numbers.\n\n/// Twice.\npub fn twice(number: u32) -> u64 {\n    u64::from(number) * 2\n}\n"
 TESTS = "\n#[cfg(test)]\nmod tests {\n    #[test]\n    fn one() {\n    }\n\n    #[test]\n    fn two() {\n    }\n}\n"
 PROVED = "0\nfn {0}::twice: proved\nlogic=proved functions=1 sum=1\n"
+SEARCHED = "empty contracts: 0 found; tried 1 of 1 functions\n"
 REFUSED = "1\nnote: src/lib.rt:5:5: it is not proved that what the function ensures holds (`returns`)\nfn {0}::twice: not proved\nonly=1 proved=0\n"
 HOUSE = "0\nempty contracts: 0 found; tried 1 of 1 functions\nlogic=proved functions=1 sum=1\n"
 TRIED = "0\ntests: 2\ntest tests::one ... ok\ntest tests::two ... ok\nrun=ended status=0 runners=1 proved=no\n"
@@ -322,7 +324,17 @@ class Gate(unittest.TestCase):
 
     def test_contract_that_no_call_can_meet(self):
         write(f"{self.stub}/low.house", HOUSE.replace("0 found", "1 found"))
-        self.fails("low house: status 0, empty contracts: 1 found")
+        self.fails("low house: empty contracts: 1 found")
+
+    def test_search_that_a_check_of_edits_has_made(self):
+        os.unlink(f"{self.stub}/low.house")
+        write(f"{self.stub}/low.edits", REFUSED.format("low").replace("only=1", SEARCHED + "only=1"))
+        status, said = self.gate()
+        self.assertEqual((status, said.splitlines()[-1]), (0, "8 passed, 0 failed"), said)
+
+    def test_search_that_no_check_has_made(self):
+        os.unlink(f"{self.stub}/low.house")
+        self.fails("low house: no search for empty contracts")
 
     def test_check_that_refused_nothing_gets_a_second_run(self):
         write(f"{self.stub}/low.lib", "3\nfn low::twice: could not tell\n")
@@ -348,6 +360,28 @@ class Gate(unittest.TestCase):
         self.assertEqual(self.gate(GATE_TIDY="yes")[0], 0)
         self.assertEqual(os.listdir(f"{self.top}/.gate/low.proof.room/crates/low/out"), ["rlib"])
 
+    def program(self, by_rattle):
+        """Adds a program that prints `four`, and, as the other compiler builds it, this."""
+        write(f"{self.top}/crates.txt", "low:\nhigh: low\ntop: high\n")
+        write(f"{self.top}/crates/top/src/main.rt", LIBRARY)
+        write(f"{self.top}/crates/top/stdout", "four\n")
+        for word, text in (("run", "0\nfour\n"), ("run.rattle", f"0\n{by_rattle}\n"), ("house", HOUSE)):
+            write(f"{self.stub}/top.{word}", text)
+            write(f"{self.stub}/top.{word}.err", PROVED.format("top"))
+
+    def test_program_is_handed_over_as_both_compilers_build_it(self):
+        self.program("four")
+        status, said = self.gate()
+        self.assertEqual((status, said.splitlines()[-1]), (0, "9 passed, 0 failed"), said)
+        for name, word in (("top", "run"), ("top.by-rattle", "run.rattle")):
+            with open(f"{self.top}/crates/top/out/{name}", encoding="utf-8") as it:
+                self.assertEqual(it.read(), f"{word}\n")
+
+    def test_program_that_prints_something_else(self):
+        self.program("five")
+        self.fails("top proof: as rattle builds it, it ended with status 0 and wrote 5 octets", 2 + 1, 8)
+        self.assertFalse(os.path.exists(f"{self.top}/crates/top/out/top"))
+
     def test_resumed_gate_does_only_what_changed(self):
         self.gate()
         write(f"{self.top}/crates/high/src/lib.rt", LIBRARY + "// changed\n" + TESTS)
@@ -355,6 +389,10 @@ class Gate(unittest.TestCase):
         self.assertEqual((status, said.splitlines()[-1]), (0, "8 passed, 0 failed"), said)
         self.assertEqual(sorted(re.findall(r"^(\w+ \w+): as before$", said, re.M)), [f"low {it}" for it in sorted(graph.RULES)])
         self.assertIn("gate: high proof: proved over kept work\n", said)
+
+    def test_some_rules_alone(self):
+        status, said = self.gate(GATE_RULES="proof edits")
+        self.assertEqual((status, said.splitlines()[-1]), (0, "4 passed, 0 failed"), said)
 
     def test_resumed_gate_keeps_no_failure(self):
         write(f"{self.stub}/high.house", HOUSE.replace("0 found", "1 found"))

@@ -21,7 +21,7 @@ class Calls:
     """The calls of one rule: the folder whose disk they fill, the least memory and disk that was left, and how failing calls ended."""
 
     def __init__(self, folder):
-        self.folder, self.notes, self.started = folder, [], time.monotonic()
+        self.folder, self.notes, self.started = folder, [], (time.monotonic(), seconds_of_children())
         self.least, self.environment = (free_memory(), free_disk(folder)), own_kit.environment(folder)
 
     def rt(self, folder, *words, stdin=None):
@@ -45,10 +45,15 @@ class Calls:
 
     def facts(self):
         """Returns as facts how failing calls ended, what the calls took, and what was left."""
-        used = resource.getrusage(resource.RUSAGE_CHILDREN)
-        seconds = used.ru_utime + used.ru_stime
-        took = f"seconds {seconds:.1f} {time.monotonic() - self.started:.1f} {used.ru_maxrss >> 10}"
+        most = resource.getrusage(resource.RUSAGE_CHILDREN).ru_maxrss >> 10
+        took = f"seconds {seconds_of_children() - self.started[1]:.1f} {time.monotonic() - self.started[0]:.1f} {most}"
         return [*(f"note {it}" for it in self.notes), took, f"left {self.least[0]} {self.least[1]}"]
+
+
+def seconds_of_children():
+    """Returns the processor seconds of all commands that have ended."""
+    used = resource.getrusage(resource.RUSAGE_CHILDREN)
+    return used.ru_utime + used.ru_stime
 
 
 def could_not_tell(status, said):

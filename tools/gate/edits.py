@@ -19,12 +19,16 @@ evidence: an edit counts as refused only for goals of the function's own.
 
 For each refused edit the goals that refused it are printed. If they only miss a name that the edit took away, that is printed too:
 such an edit shows little of a contract.
+
+The first check of edits of bodies also searches the whole crate for contracts that no call can meet: no body has part in that, and it
+saves a check.
 """
 import os
 import re
 import sys
 
 sys.path.insert(0, os.path.dirname(os.path.realpath(__file__)))
+import looks
 import rooms
 from calls import Calls, text_of
 from project import Project
@@ -152,11 +156,11 @@ class Trial:
     def __init__(self, project, name, calls, kept, libraries, proved=()):
         self.project, self.name, self.calls = project, name, calls
         self.kept, self.libraries, self.proved = kept, libraries, proved
-        self.folder, self.found = project.folder(name), []
+        self.folder, self.found, self.is_searched = project.folder(name), [], False
 
-    def check(self, texts, only=()):
+    def check(self, texts, only=(), flags=()):
         """Checks a copy of the crate with these texts, over a copy of the kept work: a check keeps what it made of wrong bodies."""
-        words = [word for it in only for word in ("--only", it)]
+        words = [*flags, *(word for it in only for word in ("--only", it))]
         with rooms.room_for(self.project, self.name, "edits", self.kept, self.libraries) as folder:
             for path, text in texts.items():
                 os.makedirs(os.path.dirname(f"{folder}/{path}"), exist_ok=True)
@@ -200,7 +204,10 @@ class Trial:
         if not taken:
             return [], later
         functions = sorted({it for edit in taken for it in edit.functions})
-        verdict = self.check(self.with_refused_answers(texts, functions), functions)
+        verdict = self.check(self.with_refused_answers(texts, functions), functions, [] if self.is_searched else [looks.SEARCH])
+        if not self.is_searched and not looks.faults_of_search(verdict.said):
+            self.found.append("searched for contracts that no call can meet: none")
+        self.is_searched = True
         again, alone = [], []
         for edit in taken:
             goals = dict(verdict.refusal(it, self.name) for it in edit.functions)

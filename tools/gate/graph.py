@@ -22,11 +22,10 @@ build always: phony
 """
 
 
-def needs_of(project, rule, name):
-    """Returns the crates whose proofs this rule of a crate waits for."""
-    if rule == "proof":
-        return project.below[name]
-    return [name] if rule in ("edits", "house") else []
+def needs_of(project, rules, rule, name):
+    """Returns the rules and crates that this rule of a crate waits for, if these are the rules that are done."""
+    needs = {"proof": [("proof", it) for it in project.below[name]], "edits": [("proof", name)], "house": [("proof", name), ("edits", name)]}
+    return [it for it in needs.get(rule, []) if it[0] in rules]
 
 
 def longest_first(project, crates):
@@ -53,7 +52,7 @@ def ninja_file(project, crates, rules, command):
     parts = [HEAD.format(depth=large_at_once(), command=command, folder=project.gate)]
     for rule in rules:
         for name in longest_first(project, crates):
-            waits = " ".join([*(f"{project.gate}/{it}.proof" for it in needs_of(project, rule, name)), "always"])
+            waits = " ".join([*(f"{project.gate}/{crate}.{it}" for it, crate in needs_of(project, rules, rule, name)), "always"])
             pool = "  pool = large\n" if is_large(project, rule, name) else ""
             parts.append(f"build {project.gate}/{name}.{rule}: work | {waits}\n  rule = {rule}\n  crate = {name}\n{pool}")
     return "\n".join(parts)
@@ -65,7 +64,7 @@ def run_without_ninja(project, crates, rules, command, jobs):
     large, done, running = large_at_once(), set(), {}
 
     def can_start(step):
-        waits = not done.issuperset(("proof", it) for it in needs_of(project, *step))
+        waits = not done.issuperset(needs_of(project, rules, *step))
         return not waits and not (is_large(project, *step) and sum(is_large(project, *it) for it in running.values()) >= large)
 
     with ThreadPoolExecutor(jobs) as pool:

@@ -12,6 +12,8 @@ from sources import shape_of, sources_in
 
 # what `rt check` warns of, and a verdict refuses
 WARNING = re.compile(r"^(?:rt: warning: .*|warning: (?:no call of|calls of a tactic that chose) .*)$", re.M)
+# the flag of `rt check` for that search
+SEARCH = "--empty-contracts"
 # what a crate of this repository doesn't write, beside why
 NEVER = (
     (r"\bAbort\b", "ends the process"),
@@ -48,15 +50,19 @@ def differing(left, right):
     return [f"{left}/{it}" for it in changed + unread + both.left_only + both.right_only] + inner
 
 
-def house(project, name, calls):
-    """Checks over kept work what `rt lib` lets pass: contracts that no call can meet, and what a verdict refuses in the texts."""
-    with rooms.room_for(project, name, "house", project.proof_out(name), project.proof_out) as folder:
-        status, out, err = calls.check(folder, "check", "--empty-contracts")
-    said = text_of(out, err)
+def faults_of_search(said):
+    """Returns what a check's search for contracts that no call can meet found, and what it warned of; that there was none, if so."""
     found = re.search(r"^empty contracts: (\d+) found; tried (\d+) of (\d+) functions", said, re.M)
-    facts = [] if status == 0 and found and found[1] == "0" else [f"fail status {status}, {found[0] if found else 'no search'}"]
-    facts += [f"fail {it}" for it in said.splitlines() if WARNING.match(it) or UNENDED in it]
-    return facts + ["pass 0"]
+    faults = [] if found and found[1] == "0" else [found[0] if found else "no search for empty contracts"]
+    return faults + [it for it in said.splitlines() if WARNING.match(it) or UNENDED in it]
+
+
+def house(project, name, calls):
+    """Searches over kept work for contracts that no call can meet, and looks for warnings that a verdict refuses."""
+    with rooms.room_for(project, name, "house", project.proof_out(name), project.proof_out) as folder:
+        status, out, err = calls.check(folder, "check", after=[SEARCH])
+    faults = faults_of_search(text_of(out, err)) or [f"its check ended with status {status}"] * (status != 0)
+    return [f"fail {it}" for it in faults] + ["pass 0"]
 
 
 def texts(project, name, _calls):

@@ -10,7 +10,7 @@ usage: tools/gate/make.py [CRATE..]      (at the top of the repository; CRATE: t
 Each crate has six rules. `proof` proves it from nothing and builds its library (`rt lib`), or builds a program by two compilers and
 runs it (`rt run`); each function of the sources has to be among those proved. `edits` tries its must-fail edits over what the proof
 kept, many in one check. `tests` runs its tests, compiled with the kit's checks and not proved (`rt try --test`). `house` searches for
-contracts that no call can meet (`rt check --empty-contracts`). `layout` runs `rt fmt` on a copy. `texts` looks for what `rt ci` alone
+contracts that no call can meet (`rt check --empty-contracts`), if no check of edits has done so. `layout` runs `rt fmt` on a copy. `texts` looks for what `rt ci` alone
 refuses. ninja runs them side by side. Each works in a room of its own, since `rt` locks the folders of a crate and of all below it.
 
 What a rule found is in .gate/CRATE.RULE, also if it failed, so that a gate goes through all crates. A check that fails and refuses
@@ -22,6 +22,7 @@ goes on with an earlier gate's work, for a day's work and never in CI. FOLDER is
 found well is kept if all that it reads is the same: the crate, those below it, and the kit. Other proofs start with what FOLDER kept
 of them, so that only what changed is proved again. Without GATE_RESUME a gate deletes .gate and begins with nothing.
 
+    GATE_RULES='RULE ..'   does these rules only, for a day's work and never in CI
     GATE_JOBS=N           how many rules run side by side (default: as many as there are processors)
     GATE_TIDY=yes         deletes what a proof kept once no rule reads it: some 10 GB less of disk, and less to resume from
     GATE_NINJA=no         does without ninja, as where it can't be installed
@@ -96,11 +97,19 @@ def broken_below(project, rule, name):
     return next((it for it in needs.get(rule, []) if not facts.is_well(facts.read(project.gate, it, "proof"))), None)
 
 
+def is_searched(project, name):
+    """Returns `True` if a check of the crate's edits, as they are, searched for contracts that no call can meet, and found none."""
+    found = facts.read(project.gate, name, "edits")
+    return bool(facts.of_kind(found, "searched")) and facts.of_kind(found, "inputs") == [inputs_of(project, "edits", name)]
+
+
 def found_by(project, rule, name, calls):
     """Does a rule's work, and returns the facts."""
     broken = broken_below(project, rule, name)
     if broken:
         return [f"fail not tried, since {broken} isn't proved"]
+    if rule == "house" and is_searched(project, name):
+        return ["pass 0"]
     if rule == "proof":
         return proofs.proof(project, name, calls, lanes.jobs_for(project, name), kept_of(project, name))
     if rule == "edits":
@@ -195,7 +204,8 @@ def main(words):
         return 0
     if verb == "sum":
         return 0 if summary.print_total(project, crates, graph.RULES) else 1
-    return tests_alone(project, names) if verb == "tests" else run(project, crates, graph.RULES)
+    rules = os.environ.get("GATE_RULES", " ".join(graph.RULES)).split()
+    return tests_alone(project, names) if verb == "tests" else run(project, crates, [it for it in graph.RULES if it in rules])
 
 
 if __name__ == "__main__":
