@@ -11,8 +11,8 @@ use Rattle.ev_report.specs.Usage.{TellsUsage}
 abbrev pub config_text : Text → Text
 config_text key = codes "config " ++ key ++ codes "\n"
 
--- There is no configuration: its first faulty key is told, or that its text is no document (2); or there was no memory
--- to read it (3), and no device was called.
+-- There is no configuration: its first faulty key is reported, or that its text is no document (2); or there was no
+-- memory to read it (3), and no device was called.
 abbrev pub Refuses : ConfigRefusal → Devices → Devices → ℕ → Type 0
 Refuses (refusal.Key key) before after status = TellsUsage (config_text (string_bytes key)) before after status
 Refuses refusal.Text before after status = TellsUsage (config_text (codes "text")) before after status
