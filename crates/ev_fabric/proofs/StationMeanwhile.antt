@@ -1,10 +1,10 @@
 -- Frames for a station between its move and the agreement on it.
 use Rattle.std.proofs.Common.{◌≡◌, ◌≢◌, ◌⊎◌, inl, inr, ℕ, zero, suc, ◌==◌, Bool, true, false, Option, Some, None, Ok}
-use Rattle.std.proofs.Common.{List, [], ◌∷◌, ◌++◌, refl, sym, ap, subst, ◌∙◌, arith}
+use Rattle.std.proofs.Common.{List, [], ◌∷◌, refl, sym, ap, subst, ◌∙◌, arith}
 use Rattle.std.proofs.lemmas.Bool.{cases_eq}
 use Rattle.std.proofs.lemmas.Bool.Decides.{nat_tests}
 use Rattle.std.proofs.lemmas.List.Elements.{Contains-append_cases}
-use Rattle.std.specs.Prelude.{Contains, slice_get, slice_set, is_some}
+use Rattle.std.specs.Prelude.{Contains, slice_get}
 use Rattle.std.specs.Option.{MatchOption, option_map}
 use Rattle.ether_wire.specs.Addr.{is_group}
 use Rattle.route_wire.specs.declared.update.Ip.{Ip}
@@ -21,7 +21,6 @@ use Rattle.route_join.specs.Owner.{advert_in, advert_of, advert_at, owner, IsOwn
 use Rattle.route_join.proofs.Owners.{owner_is}
 use Rattle.mac_arena.specs.declared.station.Station.{Station}
 use Rattle.mac_arena.specs.declared.station.Entry.{Entry}
-use Rattle.mac_arena.specs.Learning.{entry_at}
 use Rattle.ev_tunnel.specs.declared.decision.Source.TheVariants.{Port}
 use Rattle.ev_tunnel.specs.Decision.{open_ports, others_of, local_for, remote_for}
 use Rattle.ev_claims.specs.Speaker.{Speaker, own_advert, is_newest}
@@ -36,19 +35,21 @@ use Rattle.ev_fabric.specs.declared.step.Step.TheVariants.{Local, Announce, Deli
 use Rattle.ev_fabric.specs.Fabric.{Fabric, IsEdge}
 use Rattle.ev_fabric.specs.Sound.{update_of, IsSound}
 use Rattle.ev_fabric.specs.Agreed.{Advertises}
-use Rattle.ev_fabric.specs.Laws.{IsBehindPort, IsFrameFor, GoesTo}
+use Rattle.ev_fabric.specs.Laws.{IsFrameFor, GoesTo}
 use Rattle.ev_fabric.specs.Station.{is_of, StationComes, RunsBeside, LeavesStation, IsLeftAlone, NoneRestarts}
 use Rattle.ev_fabric.specs.Station.{updates_on}
 use Rattle.ev_fabric.specs.Meanwhile.{IsFlooded, GoesHome, FramesMeanwhile}
-use Rattle.ev_fabric.proofs.Agreements.{individual, advert_bare, learnt}
+use Rattle.ev_fabric.proofs.Agreements.{individual, advert_bare}
 use Rattle.ev_fabric.proofs.Stations.{about_station, station_one, station_from}
 use Rattle.ev_fabric.proofs.Places.{set_cases}
 use Rattle.ev_fabric.proofs.Fabrics.{step_sound}
 use Rattle.ev_fabric.proofs.Sends.{IsSent, frame_sent, no_entry, elsewhere_local, elsewhere_remote, frames_come_out}
 use Rattle.ev_fabric.proofs.ConvergingMoves.{sound_kept}
-use Rattle.ev_fabric.proofs.StationStages.{filter_has, IsAside}
-use Rattle.ev_fabric.proofs.StationMotion.{StageOf, Stage, AtFirst, AtTold, AtLost, AtOver, runs_stage, agreed_known}
-use Rattle.ev_fabric.proofs.StationMotion.{said_news, begins, u, base, first_stage, Begins}
+use Rattle.ev_fabric.proofs.StationStages.{filter_has, said_news, IsAside}
+use Rattle.ev_fabric.proofs.StationMotion.{StageOf, Phase, AtFirst, AtTold, AtLost, AtOver, AtAged, AtLeft, AtBack}
+use Rattle.ev_fabric.proofs.StationMotion.{Stage, runs_stage}
+use Rattle.ev_fabric.proofs.StationMotion.{agreed_known}
+use Rattle.ev_fabric.proofs.StationMotion.{begins, u, base, first_stage, Begins}
 use Rattle.ev_fabric.proofs.StationArrival.{filter_from}
 use Rattle.ev_fabric.proofs.StationAlone.{still, AllKnow, know_still}
 
@@ -63,7 +64,7 @@ left_alone i j s old new (Restart e n) h = elim h as (λ _. IsLeftAlone s old (R
   | inr elsewhere ↦ inr (λ x a is at. (elsewhere x is).never a at)
 ]
 
-none_first : (step : Step) (steps : List Step) → NoneRestarts (step ∷ steps)
+pub none_first : (step : Step) (steps : List Step) → NoneRestarts (step ∷ steps)
     → NoneRestarts (step ∷ []) × NoneRestarts steps
 none_first (Local e event) steps h = (tt, h)
 none_first (Announce e) steps h = (tt, h)
@@ -102,7 +103,7 @@ module _ (old : Fabric) (i j : ℕ) (s : Station) (mid : Fabric) (sound : IsSoun
 
   -- ---- whose adverts an edge has
   module _ (new : Fabric) (still_sound : IsSound new) (know : AllKnow s old.pool new)
-      (stage : Stage before i j s (address_of m.from) advert new.pool new.edges) where
+      (stage : Stage false before i j s (address_of m.from) advert new.pool new.edges) where
     -- an advert that was in the pool before and is there still is the old place's
     old_advert : (x : ℕ) (a : Edge) → IsEdge new x a → (o : ℕ) (ip : Option Ip) (v : Value)
         → value_at (table_of a) (register_of o (Mac s.vni s.mac ip)) ≡ Some v → (y : Advert)
@@ -162,28 +163,29 @@ module _ (old : Fabric) (i j : ℕ) (s : Station) (mid : Fabric) (sound : IsSoun
         new_one v same = inr (ap (λ (z : Fields). z.register.originator) same)
 
         among : (v : Value) → value_at (table_of a) r ≡ Some v → advert_in v.content ≡ Some y
-            → Contains (updates_on s new.pool) (update_of r v)
-            → Stage before i j s (address_of m.from) advert new.pool new.edges
+            → Contains (updates_on s new.pool) (update_of r v) → {extra : List Fields} {here there : List Register}
+            {says : Bool} → Phase false s (address_of m.from) advert extra here there says
+            → StageOf before extra i j s (address_of m.from) advert here there says new.pool new.edges
             → (o ≡ address_of m.from) ⊎ (o ≡ address_of m.to)
-        among v there says in' (AtFirst g) = elim (Contains-append_cases before [] (update_of r v)
+        among v there says in' AtFirst g = elim (Contains-append_cases before [] (update_of r v)
             (subst (λ l. Contains l (update_of r v)) g.grown in')) as (λ _. (o ≡ address_of m.from)
             ⊎ (o ≡ address_of m.to)) [
               | inl earlier ↦ old_one v there says earlier
               | inr never ↦ absurd (let lt = never.1 in omega (arith, lt))
             ]
-        among v there says in' (AtTold g) = elim (Contains-append_cases before (advert ∷ []) (update_of r v)
+        among v there says in' AtTold g = elim (Contains-append_cases before (advert ∷ []) (update_of r v)
             (subst (λ l. Contains l (update_of r v)) g.grown in')) as (λ _. (o ≡ address_of m.from)
             ⊎ (o ≡ address_of m.to)) [
               | inl earlier ↦ old_one v there says earlier
               | inr now ↦ new_one v (one (update_of r v) advert now)
             ]
-        among v there says in' (AtLost g) = elim (Contains-append_cases before (advert ∷ []) (update_of r v)
+        among v there says in' AtLost g = elim (Contains-append_cases before (advert ∷ []) (update_of r v)
             (subst (λ l. Contains l (update_of r v)) g.grown in')) as (λ _. (o ≡ address_of m.from)
             ⊎ (o ≡ address_of m.to)) [
               | inl earlier ↦ old_one v there says earlier
               | inr now ↦ new_one v (one (update_of r v) advert now)
             ]
-        among v there says in' (AtOver w named none g) = elim (Contains-append_cases before (advert ∷ w ∷ [])
+        among v there says in' (AtOver w named none) g = elim (Contains-append_cases before (advert ∷ w ∷ [])
             (update_of r v) (subst (λ l. Contains l (update_of r v)) g.grown in')) as (λ _. (o ≡ address_of m.from)
             ⊎ (o ≡ address_of m.to)) [
               | inl earlier ↦ old_one v there says earlier
@@ -194,13 +196,16 @@ module _ (old : Fabric) (i j : ℕ) (s : Station) (mid : Fabric) (sound : IsSoun
                         ∙ ap (λ (q : Register). q.originator) named)
                   ]
             ]
+        among v there says in' (AtAged yes') g = absurd (let bad : false ≡ true = yes' in cc)
+        among v there says in' (AtLeft yes' w named none) g = absurd (let bad : false ≡ true = yes' in cc)
+        among v there says in' (AtBack yes' w named none) g = absurd (let bad : false ≡ true = yes' in cc)
 
         go : (v : Option Value) → value_at (table_of a) r ≡ v → advert_of v ≡ Some y
             → (o ≡ address_of m.from) ⊎ (o ≡ address_of m.to)
         go None there says = cc
         go (Some v) there says = among v there says
             (filter_has (λ (z : Fields). is_of s z.register) new.pool (update_of r v) (about_station s ip)
-            ((still_sound.told x a at).foreign r v other there)) stage
+            ((still_sound.told x a at).foreign r v other there)) stage.phase stage.of
 
     -- who has learnt the station is one of the two
     at_two : (x : ℕ) (a : Edge) → IsEdge new x a → Advertises a s → (x ≡ i) ⊎ (x ≡ j)
@@ -208,17 +213,10 @@ module _ (old : Fabric) (i j : ℕ) (s : Station) (mid : Fabric) (sound : IsSoun
       | inl p ↦ inl p
       | inr ne_i ↦ elim (cases_eq x j) as (λ _. (x ≡ i) ⊎ (x ≡ j)) [
         | inl p ↦ inr p
-        | inr ne_j ↦ absurd (none (aside stage ne_i ne_j))
+        | inr ne_j ↦ absurd (none (stage.of.asides x a ne_i ne_j at))
       ]
     ]
       where
-        aside : Stage before i j s (address_of m.from) advert new.pool new.edges → x ≢ i → x ≢ j
-            → IsAside new.pool s a.routes.speaker
-        aside (AtFirst g) ne_i ne_j = g.asides x a ne_i ne_j at
-        aside (AtTold g) ne_i ne_j = g.asides x a ne_i ne_j at
-        aside (AtLost g) ne_i ne_j = g.asides x a ne_i ne_j at
-        aside (AtOver w named none g) ne_i ne_j = g.asides x a ne_i ne_j at
-
         none : IsAside new.pool s a.routes.speaker → ⊥
         none h =
             let z = advert_bare a s (still_sound.good x a at) says in
@@ -258,10 +256,10 @@ module _ (i j : ℕ) (s : Station) (old mid new : Fabric) (steps : List Step) (s
   abbrev begun' : Begins old i j s m.from m.to mid
   begun' = begins old i j s mid sound m
 
-  end : Stage (updates_on s old.pool) i j s (address_of m.from) (u old i j s mid sound m) new.pool new.edges
+  end : Stage false (updates_on s old.pool) i j s (address_of m.from) (u old i j s mid sound m) new.pool new.edges
       × IsSound new
-  end = runs_stage (updates_on s old.pool) i j s (address_of m.from) (u old i j s mid sound m) begun'.apart
-      begun'.learns.advert steps mid new sound_mid runs (first_stage old i j s mid sound m)
+  end = runs_stage false (updates_on s old.pool) i j s (address_of m.from) (u old i j s mid sound m) begun'.apart
+      begun'.learns.advert steps mid new sound_mid runs (first_stage old i j s mid sound m false)
 
   know : AllKnow s old.pool new
   know = know_runs i j s old.pool steps mid new sound_mid runs none (know_mid old i j s mid sound m)

@@ -1,10 +1,9 @@
 -- Rounds of a station end in agreement on it.
-use Rattle.std.proofs.Common.{◌≡◌, ◌≢◌, ◌⊎◌, inl, inr, ℕ, zero, suc, ◌+◌, ◌*◌, ◌<◌, ◌≤◌, Bool, true, false, Option}
-use Rattle.std.proofs.Common.{Some, None, List, [], ◌∷◌, ◌++◌, length, refl, sym, ap, subst, ◌∙◌, arith}
+use Rattle.std.proofs.Common.{◌≡◌, ◌⊎◌, inl, inr, ℕ, zero, suc, ◌+◌, ◌<◌, ◌≤◌, Bool, true, false}
+use Rattle.std.proofs.Common.{None, List, [], ◌∷◌, ◌++◌, length, refl, sym, ap, subst, ◌∙◌, arith}
 use Rattle.std.proofs.lemmas.List.{length-append}
 use Rattle.std.proofs.lemmas.List.Elements.{filter-append, Contains-append_cases}
 use Rattle.std.specs.Prelude.{Contains}
-use Rattle.std.specs.List.{filter}
 use Rattle.route_wire.specs.declared.update.Register.{Register}
 use Rattle.route_wire.specs.Fields.{Fields}
 use Rattle.route_join.specs.Table.{register_of}
@@ -24,12 +23,12 @@ use Rattle.ev_fabric.specs.Rounds.{WasAnnounced, AllAnnounced, AllTaken, Rounds,
 use Rattle.ev_fabric.specs.Rounds.{AgreesInFour, IsOrderly, AgreesInTwo}
 use Rattle.ev_fabric.proofs.Agreements.{none_pending}
 use Rattle.ev_fabric.proofs.Stations.{about_station, station_one}
-use Rattle.ev_fabric.proofs.Places.{push_length}
 use Rattle.ev_fabric.proofs.Fabrics.{step_sound, runs_sound}
 use Rattle.ev_fabric.proofs.Goings.{runs_lead}
 use Rattle.ev_fabric.proofs.ConvergingSums.{sum_has}
 use Rattle.ev_fabric.proofs.StationStages.{filter_none, filter_has, no_push, waiting}
-use Rattle.ev_fabric.proofs.StationMotion.{push_after, StageOf, Stage, AtFirst, AtTold, AtLost, AtOver, runs_stage}
+use Rattle.ev_fabric.proofs.StationMotion.{StageOf, Phase, AtFirst, AtTold, AtLost, AtOver, AtAged, AtLeft}
+use Rattle.ev_fabric.proofs.StationMotion.{AtBack, Stage, runs_stage}
 use Rattle.ev_fabric.proofs.StationMotion.{begins, u, base, first_stage, some_is, to_advertises, Begins}
 use Rattle.ev_fabric.proofs.StationRest.{station_settles}
 use Rattle.ev_fabric.proofs.StationArrival.{filter_from, stage_waits}
@@ -210,7 +209,7 @@ module _ (old : Fabric) (i j : ℕ) (s : Station) (mid : Fabric) (sound : IsSoun
   begun = begins old i j s mid sound m
 
   abbrev Staged : Fabric → Type 0
-  Staged f = Stage before i j s (address_of m.from) advert f.pool f.edges
+  Staged f = Stage false before i j s (address_of m.from) advert f.pool f.edges
 
   -- a fabric on the way
   record Point (f : Fabric) : Type 0 where
@@ -219,14 +218,14 @@ module _ (old : Fabric) (i j : ℕ) (s : Station) (mid : Fabric) (sound : IsSoun
 
   point_mid : Point mid
   point_mid = record {
-    stage = first_stage old i j s mid sound m;
+    stage = first_stage old i j s mid sound m false;
     sound_still = step_sound old mid (Local (suc j) m.event) m.result m.step sound;
   }
 
   module _ (steps : List Step) (f g : Fabric) (runs : RunsBeside i j s f steps g) (p : Point f) where
     point_runs : Point g
-    point_runs = let after = runs_stage before i j s (address_of m.from) advert begun.apart begun.learns.advert steps f
-        g p.sound_still runs p.stage in record { stage = after.0; sound_still = after.1 }
+    point_runs = let after = runs_stage false before i j s (address_of m.from) advert begun.apart begun.learns.advert
+        steps f g p.sound_still runs p.stage in record { stage = after.0; sound_still = after.1 }
 
     point_later : IsLaterFabric f g
     point_later = runs_lead steps f g p.sound_still (beside_runs i j s steps f g runs)
@@ -238,19 +237,25 @@ module _ (old : Fabric) (i j : ℕ) (s : Station) (mid : Fabric) (sound : IsSoun
   two_more w z = length-append before (w ∷ z ∷ [])
 
   -- once all that was pending is announced, the pool has the advert
-  advert_out : (f g : Fabric) → IsLaterFabric f g → Staged f → AllAnnounced s f g → length before + 1 ≤ count s g
-  advert_out f g later (AtFirst k) all =
+  advert_out : (f g : Fabric) → IsLaterFabric f g → {extra : List Fields} {here there : List Register} {says : Bool}
+      → Phase false s (address_of m.from) advert extra here there says
+      → StageOf before extra i j s (address_of m.from) advert here there says f.pool f.edges → AllAnnounced s f g
+      → length before + 1 ≤ count s g
+  advert_out f g later AtFirst k all =
       let same = ap length (k.grown ∙ no_push before) in
       let more = announced_grows s f g advert.register (about_station s None)
       (all j k.to advert.register k.at_to (about_station s None) (filter_from (is_of s) k.to.routes.speaker.pending
       advert.register (subst (λ l. Contains l advert.register) (sym k.is_to.waits) (0, omega arith, refl))).0) in
       omega (arith, same, more)
-  advert_out f g later (AtTold k) all =
+  advert_out f g later AtTold k all =
       let same = ap length k.grown ∙ one_more advert in let more = grows s f g later in omega (arith, same, more)
-  advert_out f g later (AtLost k) all =
+  advert_out f g later AtLost k all =
       let same = ap length k.grown ∙ one_more advert in let more = grows s f g later in omega (arith, same, more)
-  advert_out f g later (AtOver w named none k) all =
+  advert_out f g later (AtOver w named none) k all =
       let same = ap length k.grown ∙ two_more advert w in let more = grows s f g later in omega (arith, same, more)
+  advert_out f g later (AtAged yes') k all = absurd (let bad : false ≡ true = yes' in cc)
+  advert_out f g later (AtLeft yes' v named' none') k all = absurd (let bad : false ≡ true = yes' in cc)
+  advert_out f g later (AtBack yes' v named' none') k all = absurd (let bad : false ≡ true = yes' in cc)
 
   -- the old place has lost the station, or has withdrawn it
   abbrev Lost : Fabric → Type 0
@@ -259,12 +264,14 @@ module _ (old : Fabric) (i j : ℕ) (s : Station) (mid : Fabric) (sound : IsSoun
 
   -- once all that the pool had is taken, it has: else both places would agree and advertise it
   station_lost : (f g : Fabric) → IsLaterFabric f g → length before + 1 ≤ count s f → Point g → AllTaken s f g → Lost g
-  station_lost f g later out p taken = go p.stage
+  station_lost f g later out p taken = go p.stage.phase p.stage.of
     where
-      go : Staged g → Lost g
-      go (AtFirst k) = let same = ap length (k.grown ∙ no_push before) in let more = grows s f g later in
+      go : {extra : List Fields} {here there : List Register} {says : Bool}
+          → Phase false s (address_of m.from) advert extra here there says
+          → StageOf before extra i j s (address_of m.from) advert here there says g.pool g.edges → Lost g
+      go AtFirst k = let same = ap length (k.grown ∙ no_push before) in let more = grows s f g later in
           absurd (omega (arith, same, more, out))
-      go (AtTold k) =
+      go AtTold k =
           let same = ap length k.grown ∙ one_more advert in
           let agree = taken_agrees s f g taken (no_more s f g later (omega (arith, same, out))) (stage_waits k) in
           let y = some_is (own_advert k.from.routes.speaker (key_of s)) k.is_from.said in
@@ -273,8 +280,11 @@ module _ (old : Fabric) (i j : ℕ) (s : Station) (mid : Fabric) (sound : IsSoun
             y.0,
             y.1,
           ) (to_advertises g.pool (advert ∷ []) s advert [] k.to begun.learns.advert k.is_to)))
-      go (AtLost k) = inl k
-      go (AtOver w named none k) = let same = ap length k.grown ∙ two_more advert w in inr (omega (arith, same))
+      go AtLost k = inl k
+      go (AtOver w named none) k = let same = ap length k.grown ∙ two_more advert w in inr (omega (arith, same))
+      go (AtAged yes') k = absurd (let bad : false ≡ true = yes' in cc)
+      go (AtLeft yes' v named' none') k = absurd (let bad : false ≡ true = yes' in cc)
+      go (AtBack yes' v named' none') k = absurd (let bad : false ≡ true = yes' in cc)
 
   -- once all that was pending is announced, the pool has the withdrawal
   withdrawal_out : (f g : Fabric) → IsLaterFabric f g → Lost f → AllAnnounced s f g → length before + 2 ≤ count s g
@@ -290,24 +300,29 @@ module _ (old : Fabric) (i j : ℕ) (s : Station) (mid : Fabric) (sound : IsSoun
   -- and once that is taken the edges agree
   over_agrees : (f g : Fabric) → IsLaterFabric f g → length before + 2 ≤ count s f → Point g → AllTaken s f g
       → AgreesOn g s
-  over_agrees f g later out p taken = go p.stage
+  over_agrees f g later out p taken = go p.stage.phase p.stage.of
     where
-      go : Staged g → AgreesOn g s
-      go (AtFirst k) = let same = ap length (k.grown ∙ no_push before) in let more = grows s f g later in
+      go : {extra : List Fields} {here there : List Register} {says : Bool}
+          → Phase false s (address_of m.from) advert extra here there says
+          → StageOf before extra i j s (address_of m.from) advert here there says g.pool g.edges → AgreesOn g s
+      go AtFirst k = let same = ap length (k.grown ∙ no_push before) in let more = grows s f g later in
           absurd (omega (arith, same, more, out))
-      go (AtTold k) = let same = ap length k.grown ∙ one_more advert in let more = grows s f g later in
+      go AtTold k = let same = ap length k.grown ∙ one_more advert in let more = grows s f g later in
           absurd (omega (arith, same, more, out))
-      go (AtLost k) = let same = ap length k.grown ∙ one_more advert in let more = grows s f g later in
+      go AtLost k = let same = ap length k.grown ∙ one_more advert in let more = grows s f g later in
           absurd (omega (arith, same, more, out))
-      go (AtOver w named none k) = let same = ap length k.grown ∙ two_more advert w in
+      go (AtOver w named none) k = let same = ap length k.grown ∙ two_more advert w in
           taken_agrees s f g taken (no_more s f g later (omega (arith, same, out))) (stage_waits k)
+      go (AtAged yes') k = absurd (let bad : false ≡ true = yes' in cc)
+      go (AtLeft yes' v named' none') k = absurd (let bad : false ≡ true = yes' in cc)
+      go (AtBack yes' v named' none') k = absurd (let bad : false ≡ true = yes' in cc)
 
   two_orderly : (next new : Fabric) → IsOrderly i j s mid next → IsOrderly i j s next new → AgreesOn new s
   two_orderly next new x y = over_agrees y.told new (point_later y.after y.told new y.goes_on left)
       (withdrawal_out next y.told (point_later y.before next y.told y.goes heard)
       (station_lost x.told next (point_later x.after x.told next x.goes_on told)
-      (advert_out mid x.told (point_later x.before mid x.told x.goes point_mid) point_mid.stage x.announced) heard
-      x.taken)
+      (advert_out mid x.told (point_later x.before mid x.told x.goes point_mid) point_mid.stage.phase
+      point_mid.stage.of x.announced) heard x.taken)
       y.announced)
       (point_runs y.after y.told new y.goes_on left) y.taken
     where

@@ -25,7 +25,7 @@ pub use refusal::FabricRefusal;
 pub use rounds::{frames_meanwhile, station_agrees, station_agrees_after_a_move};
 pub use station::{
     agreed_station, agrees_on, station_arrives, station_frames_go, station_from_port_to_port,
-    station_lasts, station_moves, station_settles,
+    station_lasts, station_moves, station_moves_anyhow, station_settles,
 };
 pub use step::{LocalEvent, Step};
 pub use witnesses::fabric_opens;
