@@ -356,9 +356,12 @@ class Gate(unittest.TestCase):
         write(f"{self.top}/docs/lost.rt", "")
         self.fails("repository files: no check reads docs/lost.rt")
 
-    def test_tidy_gate_leaves_libraries_alone(self):
-        self.assertEqual(self.gate(GATE_TIDY="yes")[0], 0)
-        self.assertEqual(os.listdir(f"{self.top}/.gate/low.proof.room/crates/low/out"), ["rlib"])
+    def test_tidy_gate_leaves_facts_alone(self):
+        status, said = self.gate(GATE_TIDY="yes")
+        self.assertEqual((status, said.splitlines()[-1]), (0, "8 passed, 0 failed"), said)
+        left = [it for it in os.listdir(f"{self.top}/.gate") if os.path.isdir(f"{self.top}/.gate/{it}")]
+        self.assertEqual(left, [])
+        self.assertTrue(os.path.exists(f"{self.top}/.gate/low.proof"))
 
     def program(self, by_rattle):
         """Adds a program that prints `four`, and, as the other compiler builds it, this."""

@@ -24,7 +24,8 @@ of them, so that only what changed is proved again. Without GATE_RESUME a gate d
 
     GATE_RULES='RULE ..'   does these rules only, for a day's work and never in CI
     GATE_JOBS=N           how many rules run side by side (default: as many as there are processors)
-    GATE_TIDY=yes         deletes what a proof kept once no rule reads it: some 10 GB less of disk, and less to resume from
+    GATE_TIDY=yes         deletes what a proof kept once no rule reads it, and at the end all but the facts, so that some 10 GB less
+                          of disk are needed, `rt ci` finds no crates.txt in .gate, and a later gate has nothing to resume from
     GATE_NINJA=no         does without ninja, as where it can't be installed
     GATE_FOLDER=FOLDER    where facts and rooms are (default: .gate, at the top)
 
@@ -164,6 +165,7 @@ def run(project, crates, rules):
     if not os.environ.get("GATE_RESUME"):
         shutil.rmtree(project.gate, ignore_errors=True)
     os.makedirs(project.gate, exist_ok=True)
+    rooms.sweep(project)
     own_kit.make(project.gate)
     facts.write(project.gate, "repository", "files", looks.files(project))
     jobs, program = lanes.lanes(), ninja()
@@ -175,7 +177,10 @@ def run(project, crates, rules):
     else:
         print("gate: there is no ninja (Debian's ninja-build): the rules run without it", flush=True)
         graph.run_without_ninja(project, crates, rules, COMMAND, jobs)
-    return 0 if summary.print_total(project, crates, rules) else 1
+    is_well = summary.print_total(project, crates, rules)
+    if os.environ.get("GATE_TIDY"):
+        rooms.clear(project)
+    return 0 if is_well else 1
 
 
 def tests_alone(project, names):
