@@ -15,6 +15,8 @@ sys.path.insert(0, os.path.join(TOP, "tools", "gate"))
 import calls
 import edits
 import graph
+import looks
+import project
 import rooms
 import sources
 
@@ -212,6 +214,34 @@ class Ends(unittest.TestCase):
         self.assertEqual(calls.ends_of(3, self.UNENDED), told)
 
 
+class Texts(unittest.TestCase):
+    """What `rt ci` alone refuses in a crate's sources."""
+
+    def faults(self, text):
+        """Returns what the gate has against a source with this text, in a repository that allows Threads and Wait."""
+        with tempfile.TemporaryDirectory() as top:
+            write(f"{top}/crates.txt", "low:\n")
+            write(f"{top}/HANDLES", "Handles allowed: Threads, Wait.\n")
+            write(f"{top}/crates/low/src/lib.rt", text)
+            return [it.partition(": ")[2] for it in looks.texts(project.Project(top), "low", None) if it.startswith("fail ")]
+
+    def test_what_is_refused(self):
+        cases = {
+            "use std::Net;": "Net is a handle beyond HANDLES", "fn f<R: Abort>(rt: R) {}": "Abort ends the process",
+            'unsafe extern "C" { fn f(); }': "extern     { declares C functions", "macro_rules! m { }": "macro_rules is a macro of our own",
+            "fn f() -> Box<dyn Fn(u8) -> u8> {}": "-> Box<dyn F hands out a `dyn` value or a function pointer",
+            "fn __f() {}": "fn __f has a name that begins with two underscores", "use std as other;": "use std as names std another way",
+            "ghost use Rattle.std.specs.Prelude.{◌≤◌ as ◌≡◌};": "◌≤◌ as ◌≡◌ is an own name of an operator",
+        }
+        for text, why in cases.items():
+            with self.subTest(text=text):
+                self.assertEqual([" ".join(it.split()) for it in self.faults(text)], [" ".join(why.split())])
+
+    def test_what_is_not(self):
+        for text in ("fn f<R: Threads>(rt: R) {}", "fn f(take: impl Fn(u8) -> u8) -> u8 {}", "// Net and Abort\n", "fn f() -> u8 { 0 }\nfn g(a: fn(u8) -> u8) {}"):
+            self.assertEqual(self.faults(text), [], text)
+
+
 # A kit that answers from files: $STUB/CRATE.WORD has the status in its first line, and CRATE.WORD.again is the answer to later calls.
 STUB = """#!/bin/bash
 case $1 in version) echo stub; exit;; doc) echo /nowhere/it.md; exit;; fmt) exit 0;; esac
@@ -347,10 +377,6 @@ class Gate(unittest.TestCase):
     def test_proof_that_began_with_the_work_of_others(self):
         write(f"{self.stub}/low.lib", PROVED.format("low").replace("0\n", "0\nrt: low: begins with what a check kept in /elsewhere\n", 1))
         self.fails("low proof: it isn't proved from nothing", 6, 4)
-
-    def test_handle_beyond_those_that_are_allowed(self):
-        write(f"{self.top}/crates/low/src/net.rt", "//! Sockets.\nuse std::Net;\n")
-        self.fails("low texts: src/net.rt: Net is a handle beyond HANDLES")
 
     def test_file_that_no_check_reads(self):
         write(f"{self.top}/docs/lost.rt", "")
