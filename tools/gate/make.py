@@ -31,6 +31,7 @@ of them, so that only what changed is proved again. Without GATE_RESUME a gate d
 
 Last lines of checks say incremental=trusted: a check trusts whoever can write to its folder, and that is this run alone.
 """
+import contextlib
 import os
 import shutil
 import subprocess
@@ -153,8 +154,11 @@ def ninja():
     if os.environ.get("GATE_NINJA") == "no":
         return None
     if not shutil.which("ninja") and os.geteuid() == 0 and shutil.which("apt-get"):
+        how = {"stdin": subprocess.DEVNULL, "stdout": subprocess.DEVNULL, "check": False, "timeout": 240}
+        how["env"] = {**os.environ, "DEBIAN_FRONTEND": "noninteractive"}
         for words in (["update"], ["install", "-y", "--no-install-recommends", "ninja-build"]):
-            subprocess.run(["apt-get", "-q", *words], stdin=subprocess.DEVNULL, stdout=subprocess.DEVNULL, check=False)
+            with contextlib.suppress(subprocess.TimeoutExpired):
+                subprocess.run(["apt-get", "-q", "-o", "Acquire::http::Timeout=20", *words], **how)
     return shutil.which("ninja")
 
 
