@@ -10,8 +10,9 @@ usage: tools/gate/make.py [CRATE..]      (at the top of the repository; CRATE: t
 Each crate has six rules. `proof` proves it from nothing and builds its library (`rt lib`), or builds a program by two compilers and
 runs it (`rt run`); each function of the sources has to be among those proved. `edits` tries its must-fail edits over what the proof
 kept, many in one check. `tests` runs its tests, compiled with the kit's checks and not proved (`rt try --test`). `house` searches for
-contracts that no call can meet (`rt check --empty-contracts`), if no check of edits has done so. `layout` runs `rt fmt` on a copy. `texts` looks for what `rt ci` alone
-refuses. ninja runs them side by side. Each works in a room of its own, since `rt` locks the folders of a crate and of all below it.
+contracts that no call can meet (`rt check --empty-contracts`), if no check of edits has done so. `layout` runs `rt fmt` on a copy.
+`texts` looks for what `rt ci` alone refuses. ninja runs them side by side. Each works in a room of its own, since `rt` locks the
+folders of a crate and of all below it.
 
 What a rule found is in .gate/CRATE.RULE, also if it failed, so that a gate goes through all crates. A check that fails and refuses
 nothing is run once more with one job. The last line is 'N passed, M failed', and the status is 0 only if M is 0.
