@@ -312,6 +312,7 @@ class Gate(unittest.TestCase):
         self.assertEqual((status, said.splitlines()[-1]), (0, "8 passed, 0 failed"), said)
         self.assertIn("gate: 2 functions proved, 0 of the sources not among them\n", said)
         self.assertIn("gate: 2 crates proved, 4 tests run unproved, 2 edits refused\n", said)
+        self.assertRegex(said, r"\ngate: stub; \d+ processors; at least \d+ MiB of memory and \d+ MB of disk were left\n")
 
     def test_all_is_well_without_ninja(self):
         status, said = self.gate(GATE_NINJA="no")
