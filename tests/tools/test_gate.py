@@ -3,6 +3,7 @@
 import os
 import re
 import runpy
+import shutil
 import subprocess
 import sys
 import tempfile
@@ -420,6 +421,15 @@ class Gate(unittest.TestCase):
         self.assertEqual((status, said.splitlines()[-1]), (0, "8 passed, 0 failed"), said)
         self.assertEqual(sorted(re.findall(r"^(\w+ \w+): as before$", said, re.M)), [f"low {it}" for it in sorted(graph.RULES)])
         self.assertIn("gate: high proof: proved over kept work\n", said)
+
+    def test_gate_of_another_clone_goes_on(self):
+        self.gate()
+        first, self.top = self.top, f"{self.top}-other"
+        shutil.copytree(first, self.top, ignore=shutil.ignore_patterns(".gate"))
+        status, said = self.gate(GATE_RESUME=f"{first}/.gate")
+        self.assertEqual((status, said.splitlines()[-1]), (0, "8 passed, 0 failed"), said)
+        self.assertEqual(len(re.findall(r": as before$", said, re.M)), 12)
+        self.assertTrue(os.path.isdir(f"{self.top}/.gate/low.proof.room/crates/low/out/rlib"))
 
     def test_some_rules_alone(self):
         status, said = self.gate(GATE_RULES="proof edits")
