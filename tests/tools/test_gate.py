@@ -3,6 +3,7 @@
 import os
 import re
 import runpy
+import shutil
 import subprocess
 import sys
 import tempfile
@@ -15,6 +16,8 @@ sys.path.insert(0, os.path.join(TOP, "tools", "gate"))
 import calls
 import edits
 import graph
+import looks
+import project
 import rooms
 import sources
 
@@ -212,6 +215,35 @@ class Ends(unittest.TestCase):
         self.assertEqual(calls.ends_of(3, self.UNENDED), told)
 
 
+class Texts(unittest.TestCase):
+    """What `rt ci` alone refuses in a crate's sources."""
+
+    def faults(self, text):
+        """Returns what the gate has against a source with this text, in a repository that allows Threads and Wait."""
+        with tempfile.TemporaryDirectory() as top:
+            write(f"{top}/crates.txt", "low:\n")
+            write(f"{top}/HANDLES", "Handles allowed: Threads, Wait.\n")
+            write(f"{top}/crates/low/src/lib.rt", text)
+            return [it.partition(": ")[2] for it in looks.texts(project.Project(top), "low", None) if it.startswith("fail ")]
+
+    def test_what_is_refused(self):
+        cases = {
+            "use std::Net;": "Net is a handle beyond HANDLES", "fn f<R: Abort>(rt: R) {}": "Abort ends the process",
+            'unsafe extern "C" { fn f(); }': "extern     { declares C functions", "macro_rules! m { }": "macro_rules is a macro of our own",
+            "fn f() -> Box<dyn Fn(u8) -> u8> {}": "-> Box<dyn F hands out a `dyn` value or a function pointer",
+            "fn __f() {}": "fn __f has a name that begins with two underscores", "use std as other;": "use std as names std another way",
+            "ghost use Rattle.std.specs.Prelude.{◌≤◌ as ◌≡◌};": "◌≤◌ as ◌≡◌ is an own name of an operator",
+        }
+        for text, why in cases.items():
+            with self.subTest(text=text):
+                self.assertEqual([" ".join(it.split()) for it in self.faults(text)], [" ".join(why.split())])
+
+    def test_what_is_not(self):
+        taken = "fn f(take: impl Fn(u8) -> u8) -> u8 {}", "fn f() -> u8 { 0 }\nfn g(a: fn(u8) -> u8) {}"
+        for text in (*taken, "fn f<R: Threads>(rt: R) {}", "// Net and Abort\n"):
+            self.assertEqual(self.faults(text), [], text)
+
+
 # A kit that answers from files: $STUB/CRATE.WORD has the status in its first line, and CRATE.WORD.again is the answer to later calls.
 STUB = """#!/bin/bash
 case $1 in version) echo stub; exit;; doc) echo /nowhere/it.md; exit;; fmt) exit 0;; esac
@@ -281,6 +313,7 @@ class Gate(unittest.TestCase):
         self.assertEqual((status, said.splitlines()[-1]), (0, "8 passed, 0 failed"), said)
         self.assertIn("gate: 2 functions proved, 0 of the sources not among them\n", said)
         self.assertIn("gate: 2 crates proved, 4 tests run unproved, 2 edits refused\n", said)
+        self.assertRegex(said, r"\ngate: stub; \d+ processors; at least \d+ MiB of memory and \d+ MB of disk were left\n")
 
     def test_all_is_well_without_ninja(self):
         status, said = self.gate(GATE_NINJA="no")
@@ -348,17 +381,16 @@ class Gate(unittest.TestCase):
         write(f"{self.stub}/low.lib", PROVED.format("low").replace("0\n", "0\nrt: low: begins with what a check kept in /elsewhere\n", 1))
         self.fails("low proof: it isn't proved from nothing", 6, 4)
 
-    def test_handle_beyond_those_that_are_allowed(self):
-        write(f"{self.top}/crates/low/src/net.rt", "//! Sockets.\nuse std::Net;\n")
-        self.fails("low texts: src/net.rt: Net is a handle beyond HANDLES")
-
     def test_file_that_no_check_reads(self):
         write(f"{self.top}/docs/lost.rt", "")
         self.fails("repository files: no check reads docs/lost.rt")
 
-    def test_tidy_gate_leaves_libraries_alone(self):
-        self.assertEqual(self.gate(GATE_TIDY="yes")[0], 0)
-        self.assertEqual(os.listdir(f"{self.top}/.gate/low.proof.room/crates/low/out"), ["rlib"])
+    def test_tidy_gate_leaves_facts_alone(self):
+        status, said = self.gate(GATE_TIDY="yes")
+        self.assertEqual((status, said.splitlines()[-1]), (0, "8 passed, 0 failed"), said)
+        left = [it for it in os.listdir(f"{self.top}/.gate") if os.path.isdir(f"{self.top}/.gate/{it}")]
+        self.assertEqual(left, [])
+        self.assertTrue(os.path.exists(f"{self.top}/.gate/low.proof"))
 
     def program(self, by_rattle):
         """Adds a program that prints `four`, and, as the other compiler builds it, this."""
@@ -389,6 +421,15 @@ class Gate(unittest.TestCase):
         self.assertEqual((status, said.splitlines()[-1]), (0, "8 passed, 0 failed"), said)
         self.assertEqual(sorted(re.findall(r"^(\w+ \w+): as before$", said, re.M)), [f"low {it}" for it in sorted(graph.RULES)])
         self.assertIn("gate: high proof: proved over kept work\n", said)
+
+    def test_gate_of_another_clone_goes_on(self):
+        self.gate()
+        first, self.top = self.top, f"{self.top}-other"
+        shutil.copytree(first, self.top, ignore=shutil.ignore_patterns(".gate"))
+        status, said = self.gate(GATE_RESUME=f"{first}/.gate")
+        self.assertEqual((status, said.splitlines()[-1]), (0, "8 passed, 0 failed"), said)
+        self.assertEqual(len(re.findall(r": as before$", said, re.M)), 12)
+        self.assertTrue(os.path.isdir(f"{self.top}/.gate/low.proof.room/crates/low/out/rlib"))
 
     def test_some_rules_alone(self):
         status, said = self.gate(GATE_RULES="proof edits")

@@ -28,6 +28,7 @@ import re
 import sys
 
 sys.path.insert(0, os.path.dirname(os.path.realpath(__file__)))
+import lanes
 import looks
 import rooms
 from calls import Calls, text_of
@@ -228,17 +229,26 @@ class Trial:
     def alone(self, path):
         """Tries one edit in a check of its own: of the function that it names, and if that doesn't refuse it, of the whole crate."""
         edit, name = applied(path, self.folder, {}), asked_of(path)
-        verdict = self.check(edit.texts, [name]) if name else None
-        goals = verdict.refusal(name, self.name)[1] if verdict and verdict.word == "not-proved" else {}
-        if not any(not is_lost for is_lost in goals.values()):
-            verdict = self.check(edit.texts)
-        own = {full: goals for full, goals in verdict.goals.items() if goals}
+        if name and self.is_refused_by(edit, name):
+            return
+        verdict = self.check(edit.texts)
         if verdict.word == "not-proved":
-            self.refuse(edit, own, lemmas_of(verdict.said))
+            self.refuse(edit, {full: goals for full, goals in verdict.goals.items() if goals}, lemmas_of(verdict.said))
         elif verdict.word == "proved":
             self.found.append(f"fail {edit}: NOT REFUSED: it is proved")
         else:
             self.found.append(f"fail {edit}: BAD EDIT: {verdict.word}: {first_line_of(verdict.said)}")
+
+    def is_refused_by(self, edit, name):
+        """Returns `True` if a check of this function alone refused the edit, for a goal or a lemma that isn't only a lost name."""
+        verdict = self.check(edit.texts, [name])
+        own = {full: goals for full, goals in verdict.goals.items() if is_end_of(name, full, self.name)}
+        lemmas = lemmas_of(verdict.said)
+        is_strong = lemmas or any(not is_lost for goals in own.values() for is_lost in goals.values())
+        if verdict.word != "not-proved" or not own or not is_strong:
+            return False
+        self.refuse(edit, own, lemmas)
+        return True
 
     def all(self):
         """Tries all edits of the crate, and returns the facts."""
@@ -276,7 +286,8 @@ def main(names):
         if not os.path.isdir(kept):
             sys.exit(f"crates/{name}/out has no kept work: run `rt check` in crates/{name} first")
         calls = Calls(project.gate)
-        found = Trial(project, name, calls, kept, lambda it: f"{project.folder(it)}/out").all()
+        with lanes.working(project.gate):
+            found = Trial(project, name, calls, kept, lambda it: f"{project.folder(it)}/out").all()
         print("".join(f"{name}: {it}\n" for it in [*found[:-1], *calls.notes]), end="", flush=True)
         passed += sum(it.startswith("refused ") for it in found)
         failed += sum(it.startswith("fail ") for it in found)

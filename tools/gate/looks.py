@@ -18,15 +18,16 @@ SEARCH = "--empty-contracts"
 NEVER = (
     (r"\bAbort\b", "ends the process"),
     (r"\bmacro_rules\b", "is a macro of our own"),
-    (r'\bextern "C"|\bextern\s+\{', "declares C functions"),
-    (r"\bdyn \w|\bfn\([^)]*\) ?->", "hands out a `dyn` value or a function pointer"),
+    # (literals are blanks there)
+    (r"\bextern\s+(?:\{|fn\b)", "declares C functions"),
+    (r"->[^{;]*\b(?:dyn \w|fn\()", "hands out a `dyn` value or a function pointer"),
     (r"\b(?:mod|struct|enum|trait|type|fn|const|static) __\w", "has a name that begins with two underscores"),
     (r"\buse (?:std|core) as\b|\bextern crate\b", "names std another way"),
 )
 # handles beside Abort, each allowed only where HANDLES names it
 HANDLES = ("Threads", "Wait", "Net", "Processes")
 # an own name for an operator or a plain word of the library
-OWN_OPERATOR = re.compile(r"(?:◌\S*◌|\bOn\w+) as \S+")
+OWN_OPERATOR = re.compile(r"(?:◌\S*◌|\bOn\w+) as [^\s,;}]+")
 
 
 def layout(project, name, calls):
@@ -67,8 +68,10 @@ def house(project, name, calls):
 
 def texts(project, name, _calls):
     """Looks at the crate's sources for what `rt ci` refuses and no check of a crate does."""
-    with open(f"{project.top}/HANDLES", encoding="utf-8") as it:
-        allowed = re.findall(r"\w+", it.read().partition(":")[2])
+    allowed = []
+    if os.path.exists(f"{project.top}/HANDLES"):
+        with open(f"{project.top}/HANDLES", encoding="utf-8") as it:
+            allowed = re.findall(r"\w+", it.read().partition(":")[2])
     words = [*NEVER, *((rf"\b{it}\b", "is a handle beyond HANDLES") for it in HANDLES if it not in allowed)]
     found = []
     for path, shape in sources_in(project.folder(name)).items():

@@ -10,8 +10,9 @@ usage: tools/gate/make.py [CRATE..]      (at the top of the repository; CRATE: t
 Each crate has six rules. `proof` proves it from nothing and builds its library (`rt lib`), or builds a program by two compilers and
 runs it (`rt run`); each function of the sources has to be among those proved. `edits` tries its must-fail edits over what the proof
 kept, many in one check. `tests` runs its tests, compiled with the kit's checks and not proved (`rt try --test`). `house` searches for
-contracts that no call can meet (`rt check --empty-contracts`), if no check of edits has done so. `layout` runs `rt fmt` on a copy. `texts` looks for what `rt ci` alone
-refuses. ninja runs them side by side. Each works in a room of its own, since `rt` locks the folders of a crate and of all below it.
+contracts that no call can meet (`rt check --empty-contracts`), if no check of edits has done so. `layout` runs `rt fmt` on a copy.
+`texts` looks for what `rt ci` alone refuses. ninja runs them side by side. Each works in a room of its own, since `rt` locks the
+folders of a crate and of all below it.
 
 What a rule found is in .gate/CRATE.RULE, also if it failed, so that a gate goes through all crates. A check that fails and refuses
 nothing is run once more with one job. The last line is 'N passed, M failed', and the status is 0 only if M is 0.
@@ -24,12 +25,14 @@ of them, so that only what changed is proved again. Without GATE_RESUME a gate d
 
     GATE_RULES='RULE ..'   does these rules only, for a day's work and never in CI
     GATE_JOBS=N           how many rules run side by side (default: as many as there are processors)
-    GATE_TIDY=yes         deletes what a proof kept once no rule reads it: some 10 GB less of disk, and less to resume from
+    GATE_TIDY=yes         deletes what a proof kept once no rule reads it, and at the end all but the facts, so that some 10 GB less
+                          of disk are needed, `rt ci` finds no crates.txt in .gate, and a later gate has nothing to resume from
     GATE_NINJA=no         does without ninja, as where it can't be installed
     GATE_FOLDER=FOLDER    where facts and rooms are (default: .gate, at the top)
 
 Last lines of checks say incremental=trusted: a check trusts whoever can write to its folder, and that is this run alone.
 """
+import contextlib
 import os
 import shutil
 import subprocess
@@ -152,8 +155,11 @@ def ninja():
     if os.environ.get("GATE_NINJA") == "no":
         return None
     if not shutil.which("ninja") and os.geteuid() == 0 and shutil.which("apt-get"):
+        how = {"stdin": subprocess.DEVNULL, "stdout": subprocess.DEVNULL, "check": False, "timeout": 240}
+        how["env"] = {**os.environ, "DEBIAN_FRONTEND": "noninteractive"}
         for words in (["update"], ["install", "-y", "--no-install-recommends", "ninja-build"]):
-            subprocess.run(["apt-get", "-q", *words], stdin=subprocess.DEVNULL, stdout=subprocess.DEVNULL, check=False)
+            with contextlib.suppress(subprocess.TimeoutExpired):
+                subprocess.run(["apt-get", "-q", "-o", "Acquire::http::Timeout=20", *words], **how)
     return shutil.which("ninja")
 
 
@@ -164,6 +170,7 @@ def run(project, crates, rules):
     if not os.environ.get("GATE_RESUME"):
         shutil.rmtree(project.gate, ignore_errors=True)
     os.makedirs(project.gate, exist_ok=True)
+    rooms.sweep(project)
     own_kit.make(project.gate)
     facts.write(project.gate, "repository", "files", looks.files(project))
     jobs, program = lanes.lanes(), ninja()
@@ -175,7 +182,10 @@ def run(project, crates, rules):
     else:
         print("gate: there is no ninja (Debian's ninja-build): the rules run without it", flush=True)
         graph.run_without_ninja(project, crates, rules, COMMAND, jobs)
-    return 0 if summary.print_total(project, crates, rules) else 1
+    is_well = summary.print_total(project, crates, rules)
+    if os.environ.get("GATE_TIDY"):
+        rooms.clear(project)
+    return 0 if is_well else 1
 
 
 def tests_alone(project, names):

@@ -56,3 +56,17 @@ def room_for(project, name, what, kept=None, libraries=None):
     os.makedirs(project.gate, exist_ok=True)
     with tempfile.TemporaryDirectory(prefix=f"{name}.{what}.", dir=project.gate) as room:
         yield fill(project, name, f"{room}/room", kept, libraries)
+
+
+def sweep(project):
+    """Deletes the rooms that killed rules have left."""
+    for name in os.listdir(project.gate):
+        if os.path.isdir(f"{project.gate}/{name}/room") or name.endswith(".proof.kept"):
+            shutil.rmtree(f"{project.gate}/{name}")
+
+
+def clear(project):
+    """Deletes all rooms and the gate's kit, and leaves the facts. `rt ci` stops at a crates.txt anywhere but at the top."""
+    for name in os.listdir(project.gate):
+        if os.path.isdir(f"{project.gate}/{name}"):
+            shutil.rmtree(f"{project.gate}/{name}")

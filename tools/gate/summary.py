@@ -3,6 +3,7 @@ import collections
 
 import facts
 from calls import processors
+from project import kit_version
 
 COLUMNS = {"proof": "proof", "house": "looks", "layout": "looks", "texts": "looks", "tests": "tests", "edits": "edits"}
 TOLD = {"fail": "FAILED ", "note": "", "weak": "an edit that shows little: "}
@@ -25,11 +26,11 @@ def print_costs(found):
 
 
 def print_room(found):
-    """Prints how many processors there are, and the least memory and disk that were left."""
+    """Prints which kit this was, how many processors there are, and the least memory and disk that were left."""
     left = [[int(number) for number in line.split()] for its in found.values() for line in facts.of_kind(its, "left")]
     if left:
         memory, disk = map(min, zip(*left))
-        print(f"gate: {processors()} processors; at least {memory} MiB of memory and {disk} MB of disk were left")
+        print(f"gate: {kit_version()}; {processors()} processors; at least {memory} MiB of memory and {disk} MB of disk were left")
 
 
 def print_total(project, crates, rules):
