@@ -44,6 +44,9 @@ class Kind(enum.Enum):
         return self.value[1]
 
 
+PASSING = (Kind.NOT_VALID, Kind.UNADVERTISED)
+
+
 @dataclass(frozen=True)
 class Cause:
     """One cause and the stations behind it."""
@@ -167,12 +170,14 @@ def of_router(view: View) -> List[Cause]:
 
 
 def both(first: List[Cause], second: List[Cause]) -> List[Cause]:
-    """The second look's causes that the first one had too, with the stations of both."""
+    """The second look's causes that the first one had too; of causes that come and go with stations, with those of both."""
     before = {(cause.kind, cause.what): cause for cause in first}
     kept = []
     for cause in second:
         old = before.get((cause.kind, cause.what))
-        if old is not None and (cause.kind is not Kind.UNADVERTISED or cause.members & old.members):
-            members = cause.members & old.members if cause.kind is Kind.UNADVERTISED else cause.members
-            kept.append(Cause(cause.kind, cause.what, members))
+        if old is not None and cause.kind in PASSING:
+            if cause.members & old.members:
+                kept.append(Cause(cause.kind, cause.what, cause.members & old.members))
+        elif old is not None:
+            kept.append(cause)
     return kept

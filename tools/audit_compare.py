@@ -1,5 +1,6 @@
 """The comparison: each MAC, flood list and neighbour of a VNI at one router against the routes."""
 
+import functools
 import ipaddress
 from typing import Dict, Iterable, Iterator, List, NamedTuple, Optional, Set, Tuple
 
@@ -26,6 +27,9 @@ SHARED = "the bridge first, which two networks share"
 ARPS = "zebra's own entry of the address (show evpn arp-cache vni all)"
 ROUTER_STAYS = "zebra's own view (show evpn rmac vni all, show evpn next-hops vni all), and the L3VNI's device and bridge"
 STAYS = "whether zebra still names it in a minute; a newer FRR doesn't leave it (docs/audit.md lists FRR's faults)"
+
+
+address_text = functools.lru_cache(maxsize=None)(records.address_text)
 
 
 class Verdict(NamedTuple):
@@ -57,7 +61,10 @@ class Difference(NamedTuple):
 
 
 class Truth(NamedTuple):
-    """What the routes say: owners, each VNI's stations, the edges of each flood list, each IP address's MACs, what isn't judged."""
+    """What the routes say: owners, each VNI's stations, the edges of each flood list, each IP address's MACs, what isn't judged.
+
+    Of an L3VNI: each VTEP's router MACs, and the VTEPs that alone have some prefix, so that the router has to use them.
+    """
 
     report: Dict[Station, Owned]
     stations: Dict[int, Set[bytes]]
@@ -65,6 +72,7 @@ class Truth(NamedTuple):
     neighbours: Dict[int, Dict[bytes, Dict[bytes, Set[bytes]]]]
     unjudged: Set[Tuple[int, Optional[bytes]]]
     routers: Dict[int, Dict[str, Set[bytes]]]
+    needed: Dict[int, Set[str]]
 
 
 class Result(NamedTuple):
@@ -86,13 +94,17 @@ class Result(NamedTuple):
 
 def truth_of(report: Dict[Station, Owned], snapshots: Iterable[frr_routes.Snapshot]) -> Truth:
     """What the routes of some snapshots say together."""
-    truth = Truth(report, {}, {}, {}, set(), {})
+    truth = Truth(report, {}, {}, {}, set(), {}, {})
+    prefixes: Dict[Tuple[int, str], Set[str]] = {}
     for vni, mac in report:
         truth.stations.setdefault(vni, set()).add(mac)
     for snapshot in snapshots:
         for vni, routers in snapshot.routes.routers.items():
             for vtep, macs in routers.items():
                 truth.routers.setdefault(vni, {}).setdefault(vtep, set()).update(macs)
+        for vni, hops in snapshot.routes.prefixes.items():
+            for prefix, vteps in hops.items():
+                prefixes.setdefault((vni, prefix), set()).update(vteps)
         truth.unjudged.update(snapshot.routes.unjudged)
         for vni, station in snapshot.routes.unjudged:
             truth.stations.setdefault(vni, set()).update(() if station is None else (station,))
@@ -102,6 +114,9 @@ def truth_of(report: Dict[Station, Owned], snapshots: Iterable[frr_routes.Snapsh
                 truth.floods.setdefault(vni, set()).add(key[:4])
             elif ip:
                 truth.neighbours.setdefault(vni, {}).setdefault(ip, {}).setdefault(mac, set()).add(key[:4])
+    for (vni, _), vteps in prefixes.items():
+        if len(vteps) == 1:
+            truth.needed.setdefault(vni, set()).update(vteps)
     return truth
 
 
@@ -128,37 +143,39 @@ def kind_of(wanted: str, zebra: str, kernel: str, is_whole: bool = True) -> str:
     return "wrong"
 
 
-def verdict_of(view: View, station: Station, owned: Owned, is_unjudged: bool) -> Verdict:
-    """Compares one MAC at one router."""
+def verdict_of(view: View, station: Station, owned: Owned, is_unjudged: bool, is_asked: bool) -> Verdict:
+    """Compares one MAC at one router; why its owner is the owner is said where it differs, or is asked for."""
     vni, mac = station
-    owner = NOWHERE
+    owner, name = NOWHERE, "none"
     if owned.owner is not None:
-        owner = LOCAL if owned.owner in view.own else records.address_text(owned.owner)
+        name = address_text(owned.owner)
+        owner = LOCAL if owned.owner in view.own else name
     table = view.kernel.get(vni)
     zebra = UNKNOWN if view.zebra is None else view.zebra.get(vni, {}).get(mac, NOWHERE)
     kernel = UNKNOWN if table is None else table.places.get(mac, NOWHERE)
     is_whole = table is None or table.is_whole
+    kind = "not judged" if is_unjudged else "equal" if zebra == kernel == owner else kind_of(owner, zebra, kernel, is_whole)
+    if kind not in DIFFERING and not is_asked:
+        return Verdict(mac, kind, name, "", "", zebra, kernel, "", "", [], "")
     is_heard = owned.owner is None or owned.owner + vni.to_bytes(3, "big") + mac in view.heard
     bgpd = bgpd_of(view, vni, mac, is_heard and owned.owner is not None)
-    kind = "not judged" if is_unjudged else kind_of(owner, zebra, kernel, is_whole)
     cause = cause_of(bgpd, zebra, kernel, is_whole, is_heard)
-    name = "none" if owned.owner is None else records.address_text(owned.owner)
+    reason, heir = reason_of(owned)
     if kind not in DIFFERING:
-        reason, heir = reason_of(owned)
         return Verdict(mac, kind, name, reason, bgpd, zebra, kernel, heir, cause, preferences_of(owned), "")
     if table is not None and mac in table.foreign and zebra in (owner, NOWHERE, UNKNOWN):
         kind, cause = ("foreign" if kind == "extra" else kind), "foreign"
-    reason, heir = reason_of(owned)
     mend, see = mend_of(view.networks.get(vni), mac, owner, zebra, kernel, cause)
     return Verdict(mac, kind, name, reason, bgpd, zebra, kernel, heir, cause, preferences_of(owned), mend, see)
 
 
 def bgpd_of(view: View, vni: int, mac: bytes, is_heard: bool) -> str:
     """Where bgpd's own best path leads; unknown where its tables don't show a MAC of which it shows a route."""
-    if view.best is None:
+    best = view.best()
+    if best is None:
         return UNKNOWN
-    hides = is_heard and not view.best.has_mac_tables
-    return view.best.places.get(vni, {}).get(mac, UNKNOWN if hides else NOWHERE)
+    hides = is_heard and not best.has_mac_tables
+    return best.places.get(vni, {}).get(mac, UNKNOWN if hides else NOWHERE)
 
 
 def cause_of(bgpd: str, zebra: str, kernel: str, is_whole: bool, is_heard: bool) -> str:
@@ -210,7 +227,7 @@ def verdicts_of(view: View, vni: int, truth: Truth, wanted: Set[bytes]) -> List[
     verdicts = []
     for mac in sorted(macs):
         station = vni, mac
-        verdict = verdict_of(view, station, truth.report.get(station, NOBODY), station in truth.unjudged)
+        verdict = verdict_of(view, station, truth.report.get(station, NOBODY), station in truth.unjudged, bool(wanted))
         if verdict.owner != "none" or verdict.kind != "equal" or station in truth.report:
             verdicts.append(verdict)
     return verdicts
@@ -292,12 +309,17 @@ def neighbour_difference(
 
 
 def routers_of(view: View, vni: int, truth: Truth) -> List[Difference]:
-    """An L3VNI: the router's MAC and the next hop of each VTEP that advertises one, in zebra and in the kernel."""
+    """An L3VNI: the router's MAC and the next hop of each VTEP that advertises one, in zebra and in the kernel.
+
+    bgpd tells zebra only those of the routes that it has chosen. So one that neither zebra nor the kernel has is missing only
+    where its VTEP alone has some prefix.
+    """
     wanted = {vtep: macs for vtep, macs in truth.routers.get(vni, {}).items() if records.read_address(vtep) not in view.own}
-    return [*router_macs(view, vni, wanted), *next_hops(view, vni, wanted)]
+    needed = truth.needed.get(vni, set())
+    return [*router_macs(view, vni, wanted, needed), *next_hops(view, vni, wanted, needed)]
 
 
-def router_macs(view: View, vni: int, wanted: Dict[str, Set[bytes]]) -> Iterator[Difference]:
+def router_macs(view: View, vni: int, wanted: Dict[str, Set[bytes]], needed: Set[str]) -> Iterator[Difference]:
     """Each router's MAC: an own one isn't asked for; of several of one VTEP one has to be there."""
     zebra, kernel = view.routed.get(vni), view.kernel.get(vni)
     by_mac: Dict[bytes, Set[str]] = {}
@@ -315,6 +337,8 @@ def router_macs(view: View, vni: int, wanted: Dict[str, Set[bytes]]) -> Iterator
         if not owners:
             kind = "foreign" if kernel and mac in kernel.foreign and zebras in (NOWHERE, UNKNOWN) else "extra"
             yield Difference(f"router {kind}", name, NOWHERE, found, "", WHOSE if kind == "foreign" else ROUTER_STAYS)
+        elif {zebras, kernels} <= {UNKNOWN, NOWHERE} and not owners & needed:
+            continue
         elif not {zebras, kernels} <= {UNKNOWN, *owners} and not owners <= right:
             kind = "missing" if {zebras, kernels} <= {UNKNOWN, NOWHERE, *owners} else "wrong"
             mend = router_mend(view.networks.get(vni), name, owners) if zebras in owners and not (kernel and mac in kernel.foreign) else ""
@@ -335,7 +359,7 @@ def router_mend(network: Optional[Network], mac: str, owners: Set[str]) -> str:
     return f"{self_words}; bridge fdb replace {mac} dev {device} master extern_learn"
 
 
-def next_hops(view: View, vni: int, wanted: Dict[str, Set[bytes]]) -> Iterator[Difference]:
+def next_hops(view: View, vni: int, wanted: Dict[str, Set[bytes]], needed: Set[str]) -> Iterator[Difference]:
     """Each next hop's neighbour entry: a VTEP's address, with its router's MAC."""
     zebra, kernel, network = view.routed.get(vni), view.kernel.get(vni), view.networks.get(vni)
     there = {} if kernel is None else kernel.neighbours
@@ -348,6 +372,8 @@ def next_hops(view: View, vni: int, wanted: Dict[str, Set[bytes]]) -> Iterator[D
         found = f"zebra {by_zebra}, kernel {by_kernel}"
         if not macs:
             yield Difference("next hop extra", hop, NOWHERE, found, "", ROUTER_STAYS)
+        elif {by_zebra, by_kernel} <= {UNKNOWN, NOWHERE} and hop not in needed:
+            continue
         elif not {by_zebra, by_kernel} <= {UNKNOWN, *macs}:
             kind = "missing" if {by_zebra, by_kernel} <= {UNKNOWN, NOWHERE, *macs} else "wrong"
             is_foreign = hop in zebras and not zebras[hop].is_zebras

@@ -139,18 +139,16 @@ class Truths:
         key = tuple(sorted(view.vnis)), tuple(sorted(view.routed)), imports_key(routes.imports)
         if key not in self.known:
             self.known[key] = self.made(routes)
-        return self.known[key]
+        alone = truth_of({}, [view.snapshot])  # an L3VNI's router MACs by the leaf's own routes: paths of type 5 aren't kept
+        return self.known[key]._replace(routers=alone.routers, needed=alone.needed)
 
     def made(self, like: frr_routes.Routes) -> Truth:
         """What a leaf with these imports should know."""
         routes = frr_routes.Routes(like.vnis, like.any_rd, like.targets.items(), True, like.imports, like.routed)
         snapshot = frr_routes.Snapshot(routes)
         for path in self.paths:
-            said = routes.community(path.targets)
-            for vni in said.vnis:
+            for vni in routes.community(path.targets).vnis:
                 snapshot.take(path._replace(vni=vni))
-            if said.router and path.ip:
-                routes.take_router(said, records.address_text(path.vtep))
         routes.told.pop(frr_routes.FOLDED, None)
         report: Dict[Station, Owned] = report_of(self.arguments.program, snapshot.updates(lambda _: 1), set(self.arguments.mac))
         return truth_of(report, [snapshot])
@@ -209,12 +207,19 @@ def without(result: Result, moving: Set[Tuple[int, bytes]]) -> Result:
         each._replace(kind="equal", mend="", see="") if differs(each) and (result.vni, each.mac) in moving else each
         for each in result.macs
     ]
+    causes = []
+    for cause in result.causes:
+        members = frozenset(mac for mac in cause.members if (result.vni, mac) not in moving)
+        if cause.kind not in audit_causes.PASSING:
+            causes.append(cause)
+        elif members:
+            causes.append(Cause(cause.kind, cause.what, members))
     floods = result.floods if (result.vni, b"") not in moving else None
     names = {records.mac_text(mac) for vni, mac in moving if vni == result.vni}
     neighbours = None
     if result.neighbours is not None:
         neighbours = [each for each in result.neighbours if not names & {*each.wanted.split(" or "), each.found}]
-    return result._replace(macs=macs, floods=floods, neighbours=neighbours)
+    return result._replace(macs=macs, causes=causes, floods=floods, neighbours=neighbours)
 
 
 # ---- the report --------------------------------------------------------------------------------------------------------------

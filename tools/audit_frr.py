@@ -1,5 +1,6 @@
 """What zebra and bgpd say of their own choice: MACs, VNIs, best paths. Their routes stand in frr_routes.py."""
 
+import functools
 from dataclasses import dataclass, field
 from typing import Dict, FrozenSet, Iterator, List, Mapping, NamedTuple, Optional, Set, TextIO, Tuple
 
@@ -10,6 +11,8 @@ from audit_report import Said, best_of
 from update_records import Unreadable
 
 SWITCHED_ON = "Enabled"
+
+address_text = functools.lru_cache(maxsize=None)(records.address_text)
 
 
 class Best(NamedTuple):
@@ -207,8 +210,8 @@ def read_best(stream: TextIO, name: str, routes: frr_routes.Routes) -> Best:
         raise text.fail("something stands behind the JSON text")
     places: Dict[int, Dict[bytes, str]] = {}
     for (vni, mac), said in tables[seen["macs"]].items():
-        place = best_of(said).originator
-        places.setdefault(vni, {})[mac] = LOCAL if place in own else records.address_text(place)
+        place = said[0].originator if len(said) == 1 else best_of(said).originator
+        places.setdefault(vni, {})[mac] = LOCAL if place in own else address_text(place)
     return Best(places, own, seen["macs"])
 
 

@@ -15,8 +15,9 @@ from update_records import Unreadable, read_ip
 
 LOCAL, NOWHERE, UNKNOWN, FLOODED = "local", "nowhere", "unknown", "flooded to "
 ALL_ZERO = bytes(6)
-GONE = {"FAILED", "INCOMPLETE"}
+GONE = ("FAILED", "INCOMPLETE")
 VXLAN_PORT = 4789  # RFC 7348, 5
+MAC_TEXT = re.compile("[0-9a-f]{2}(:[0-9a-f]{2}){5}")
 
 
 class Network(NamedTuple):
@@ -91,7 +92,7 @@ def read_list(text: str, name: str, command: str) -> List[dict]:
 
 def octets_of(mac: object, name: str) -> bytes:
     """A MAC's octets, of a group or not."""
-    if not isinstance(mac, str) or not re.fullmatch("[0-9a-f]{2}(:[0-9a-f]{2}){5}", mac):
+    if not isinstance(mac, str) or not MAC_TEXT.fullmatch(mac):
         raise Unreadable(f"{name}: {mac!r} is no MAC address")
     return bytes.fromhex(mac.replace(":", ""))
 
@@ -118,15 +119,15 @@ def untagged_of(vlans: List[dict]) -> Dict[str, int]:
     return found
 
 
-def words_of(value: object, name: str) -> Set[str]:
+def words_of(value: object, name: str) -> List[str]:
     """The words of a list, as `flags` and `state` have them; null is none."""
-    if value is None:
-        return set()
+    if value is None or value == "":
+        return []
     if isinstance(value, str):
-        return {value} - {""}
-    if not isinstance(value, list) or not all(isinstance(word, str) for word in value):
+        return [value]
+    if not isinstance(value, list):
         raise Unreadable(f"{name}: {str(value)[:40]!r} where a list of words is meant")
-    return set(value)
+    return value
 
 
 def object_of(value: object) -> dict:
@@ -226,27 +227,26 @@ class Tables:
         if "mac" not in entry:
             raise Unreadable(f"{self.name}: an entry without 'mac'")
         mac, device = octets_of(entry["mac"], self.name), str(entry.get("ifname", ""))
-        flags = words_of(entry.get("flags"), self.name)
-        vlan, vni = number_of(entry, "vlan", self.name), number_of(entry, "src_vni", self.name)
         if mac[0] & 1:
             return
+        flags = words_of(entry.get("flags"), self.name)
         if "master" in entry and "self" not in flags:
-            is_permanent = "permanent" in words_of(entry.get("state"), self.name)
-            is_own = is_permanent and "extern_learn" not in flags
+            is_own = "extern_learn" not in flags and "permanent" in words_of(entry.get("state"), self.name)
+            vlan = number_of(entry, "vlan", self.name)
             self.ports.setdefault((str(entry["master"]), vlan), {})[mac] = LOCAL if is_own else device
-        else:
-            place = place_text(entry, self.name)
-            if place:
-                places = self.tunnels.setdefault((device, vni), {})
-                places.setdefault(mac, set()).add(place)
-                if "extern_learn" not in flags and any(mac):
-                    self.foreign.setdefault((device, vni), set()).add(mac)
+            return
+        place, vni = place_text(entry, self.name), number_of(entry, "src_vni", self.name)
+        if place:
+            places = self.tunnels.setdefault((device, vni), {})
+            places.setdefault(mac, set()).add(place)
+            if "extern_learn" not in flags and any(mac):
+                self.foreign.setdefault((device, vni), set()).add(mac)
 
     def take_neighbour(self, entry: dict) -> None:
         """Takes an entry of `ip -j neigh show`; one without a MAC says nothing."""
         if "dst" not in entry or "dev" not in entry:
             raise Unreadable(f"{self.name}: a neighbour without 'dst' or 'dev'")
-        if "lladdr" in entry and not words_of(entry.get("state"), self.name) & GONE:
+        if "lladdr" in entry and not any(word in GONE for word in words_of(entry.get("state"), self.name)):
             is_zebras = "extern_learn" in entry or entry.get("protocol") == "zebra"
             neighbour = Neighbour(octets_of(entry["lladdr"], self.name), is_zebras)
             self.neighbours.setdefault(str(entry["dev"]), {})[read_ip(str(entry["dst"]))] = neighbour
@@ -287,7 +287,9 @@ class Tables:
 def number_of(entry: dict, key: str, name: str) -> Optional[int]:
     """A number of an entry, if it is there."""
     value = entry.get(key)
-    if value is not None and (not isinstance(value, int) or isinstance(value, bool)):
+    if value is None:
+        return None
+    if not isinstance(value, int) or isinstance(value, bool):
         raise Unreadable(f"{name}: {key} is {str(value)[:40]!r}, no number")
     return value
 

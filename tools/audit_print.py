@@ -221,6 +221,11 @@ def prometheus_text(told: Told, status: int, fault: str = "") -> str:
     lines += ["# HELP evpnd_audit_unreadable Whether a VNI could not be audited.", "# TYPE evpnd_audit_unreadable gauge"]
     for result in told.results:
         lines.append(f'evpnd_audit_unreadable{{view="{label_text(result.view)}",vni="{result.vni}"}} {int(bool(result.fault))}')
+    lines += ["# HELP evpnd_audit_causes Causes of a router that are of no network, by kind.", "# TYPE evpnd_audit_causes gauge"]
+    for view, causes in told.causes.items():
+        for kind in sorted({cause.kind.name.lower() for cause in causes}):
+            count = sum(cause.kind.name.lower() == kind for cause in causes)
+            lines.append(f'evpnd_audit_causes{{view="{label_text(view)}",cause="{kind}"}} {count}')
     lines += ["# HELP evpnd_audit_left_out Paths left out of the records, by cause.", "# TYPE evpnd_audit_left_out gauge"]
     for view, counts in told.left_out.items():
         for cause, count in sorted(counts.items()):

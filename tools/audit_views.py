@@ -1,6 +1,7 @@
 """Where the audit's texts come from: a directory that holds what a router printed, or the commands of this host."""
 
 import argparse
+import functools
 import json
 import os
 import re
@@ -67,7 +68,7 @@ class View(NamedTuple):
     snapshot: frr_routes.Snapshot
     heard: Set[bytes]
     own: Set[bytes]
-    best: Optional[audit_frr.Best]
+    best: Callable[[], Optional[audit_frr.Best]]
     zebra: Optional[Dict[int, Dict[bytes, str]]]
     kernel: Dict[int, Kernel]
     networks: Dict[int, Network]
@@ -325,13 +326,9 @@ def view_of(texts: Texts, arguments: argparse.Namespace) -> View:
     with texts.routes() as stream:
         routes = routes_of(vnis, arguments, imports, kinds.routed)
         snapshot = frr_routes.snapshot_of(routes, stream, places["routes"], arguments.leaves is not None)
-    best = zebra = None
-    if texts.best is not None:
-        with texts.best() as stream:
-            best = audit_frr.read_best(stream, places["best"], routes_of(vnis, arguments, imports, kinds.routed))
-    if "macs" in read:
-        zebra = audit_frr.read_macs(read["macs"], places["macs"], vnis)
-    own = snapshot.own | (best.own if best else set())
+    best = best_when_asked(texts, lambda: routes_of(vnis, arguments, imports, kinds.routed))
+    zebra = audit_frr.read_macs(read["macs"], places["macs"], vnis) if "macs" in read else None
+    own = set(snapshot.own)
     own |= {records.read_address(each.address) for each in networks.values() if each.address.count(".") == 3}
     heard = {key[: len(STATION_KEY)] for key in snapshot.registers}
     faults = unknown_of(vnis, devices, snapshot)
@@ -361,6 +358,27 @@ def view_of(texts: Texts, arguments: argparse.Namespace) -> View:
         {vni: each.floods for vni, each in (known or {}).items()},
         audit_frr.read_arps(read["arps"], places["arps"]) if "arps" in read else {},
     )
+
+
+def best_when_asked(texts: Texts, routes: Callable[[], frr_routes.Routes]) -> Callable[[], Optional[audit_frr.Best]]:
+    """bgpd's own best paths, which are read once something differs: no MAC that agrees depends on them."""
+    if texts.best is None:
+        return lambda: None
+    stream, name = texts.best(), texts.places["best"]
+    try:
+        text = stream.read().strip()
+    except UnicodeDecodeError as fault:
+        raise Unreadable(f"{name}: a binary file, no text ({fault.reason})") from None
+    if not (text.startswith("{") and text.endswith("}")):
+        raise Unreadable(f"{name}: {'no JSON, or the JSON text is cut' if text else 'empty'}")
+    del text
+
+    @functools.lru_cache(maxsize=None)
+    def best() -> audit_frr.Best:
+        stream.seek(0)
+        return audit_frr.read_best(stream, name, routes())
+
+    return best
 
 
 def stopped_of(

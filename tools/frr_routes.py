@@ -198,6 +198,7 @@ class Routes:
         self.imports = imports
         self.routed = set(routed)
         self.routers: Dict[int, Dict[str, Set[bytes]]] = {}
+        self.prefixes: Dict[int, Dict[str, Set[str]]] = {}
         self.invalid: Dict[Tuple[int, str], Set[bytes]] = {}
         self.left_out: Dict[str, int] = collections.Counter()
         self.told: Dict[str, int] = collections.Counter()
@@ -254,19 +255,20 @@ class Routes:
         targets = path.get("extendedCommunity", {}).get("string", "")
         said = self.community(targets)
         is_own = path.get("peerId") == "(unspec)" or path.get("local") is True
-        if said.router and not is_own and path.get("valid") is True and (kind == "5" or (kind == "2" and match["ip"])):
-            self.take_router(said, path["nexthops"][0]["ip"])
+        if said.routed and path.get("valid") is True and (kind == "5" or (kind == "2" and match["ip"])):
+            prefix = match["rest"] if kind == "5" else match["ip"]
+            self.take_router(said, path["nexthops"][0]["ip"], prefix, b"" if is_own else said.router)
         if kind not in ("2", "3") or (kind == "2" and match["mac"] is None):
             if not (kind == "5" and said.routed):
                 self.leave(NO_KIND)
             return []
         mac = read_mac(match["mac"]) if kind == "2" else None
-        labels = LABELS.fullmatch(str(path.get("pmsi", {}).get("label", "") if mac is None else path.get("VNI", "")))
-        label = int(labels[1]) if labels else None
-        seen = Seen(None, label, mac, match["tag"], path.get("esi", ""), path.get("valid") is True)
+        shown = path.get("pmsi", {}).get("label", "") if mac is None else path.get("VNI", "")
+        labels = LABELS.fullmatch(str(shown)) if shown != "" else None
+        label, is_valid, esi = int(labels[1]) if labels else None, path.get("valid") is True, path.get("esi", "")
         hop = path["nexthops"][0]["ip"]
         vnis: Tuple[Optional[int], ...] = self.networks_of(rd, said, is_own) if vni is None else (vni,)
-        if not seen.is_valid:
+        if not is_valid and not is_own:
             self.take_invalid(vnis, hop, mac)
         best = path.get("bestpath", False)
         is_best = best.get("overall") is True if isinstance(best, dict) else best is True
@@ -275,7 +277,7 @@ class Routes:
         ip = read_ip(match["ip"]) if match["ip"] else b""
         found = []
         for each in vnis or (None,):
-            network = self.network_of(seen._replace(target=each))
+            network = self.network_of(Seen(each, label, mac, match["tag"], esi, is_valid))
             vtep = None if network is None else self.next_hop(rd, hop, network, mac)
             if network is not None and vtep is not None:
                 found.append(Path(rd, network, mac, ip, vtep, advert, seconds, is_best, is_own, targets))
@@ -288,10 +290,12 @@ class Routes:
             return (vni,) if vni in self.vnis else ()
         return said.vnis
 
-    def take_router(self, said: Community, hop: str) -> None:
-        """Takes the router's MAC that a route of an L3VNI names (RFC 9135, 8.1), of an IPv4 next hop."""
+    def take_router(self, said: Community, hop: str, prefix: str, router: bytes) -> None:
+        """Takes the router's MAC that a route of an L3VNI names (RFC 9135, 8.1), of an IPv4 next hop; and who has the prefix."""
         for vni in said.routed if ":" not in hop else ():
-            self.routers.setdefault(vni, {}).setdefault(hop, set()).add(said.router)
+            self.prefixes.setdefault(vni, {}).setdefault(prefix, set()).add(hop)
+            if router:
+                self.routers.setdefault(vni, {}).setdefault(hop, set()).add(router)
 
     def take_invalid(self, vnis: Tuple[Optional[int], ...], hop: str, mac: Optional[bytes]) -> None:
         """Takes a path that isn't valid: bgpd doesn't reach its next hop."""

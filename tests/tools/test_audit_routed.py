@@ -169,6 +169,79 @@ class Routed(unittest.TestCase):
             self.assertEqual([result["kind"] for result in said["results"]][-1], "L3")
 
 
+@needs_program
+class Fabrics(unittest.TestCase):
+    """Leaves of a list, together: stored views in the place of leaves that answer."""
+
+    def leaves(self, version: str, *names: str) -> str:
+        """A list of stored views."""
+        return ",".join(view(version, name) for name in names)
+
+    def test_leaves_that_agree(self):
+        for version in VERSIONS:
+            done = run("fabric", self.leaves(version, "l3vni", "flannel"))
+            self.assertEqual((done.returncode, done.stdout), (0, "fabric: 2 leaves, 2 answered; 0 differences\n"), done.stderr)
+
+    def test_a_leaf_that_does_not_answer(self):
+        """The others are audited; the status isn't 0."""
+        for version in VERSIONS:
+            done = run("fabric", f"{self.leaves(version, 'l3vni', 'flannel')},/nowhere")
+            lines = ["/nowhere: doesn't answer: /nowhere: no such directory", "fabric: 3 leaves, 2 answered; 0 differences"]
+            self.assertEqual((done.returncode, done.stdout.splitlines()), (3, lines))
+        self.assertEqual(run("fabric", "/nowhere,/neither").returncode, 2)
+
+    def test_a_leaf_that_lost_its_session(self):
+        """The other leaf shows the routes: which edges' are lacking, with the session."""
+        for version in VERSIONS:
+            lost = view(version, "session")
+            done = run("fabric", self.leaves(version, "l3vni", "session"))
+            self.assertEqual(done.returncode, 1)
+            for edge in ("10.0.0.1", "10.0.0.2"):
+                self.assertRegex(done.stdout, rf"{lost}: lacks the routes of {edge}: [0-9]+ stations?; 192\.168\.77\.2 is [A-Z]")
+            self.assertNotIn("l3vni: lacks", done.stdout)
+
+    def test_one_line_for_what_a_leaf_forwards_otherwise(self):
+        for version in VERSIONS:
+            wrong = view(version, "otheredge")
+            done = run("fabric", self.leaves(version, "l3vni", "otheredge"))
+            line = f"5001 {FAR} owner 10.0.0.1 (the only advert); {wrong}: wrong, bgpd 10.0.0.1, zebra 10.0.0.1, kernel 10.0.0.2"
+            self.assertEqual((done.returncode, done.stdout.splitlines()[0]), (1, line))
+            said = json.loads(run("fabric", "--json", self.leaves(version, "l3vni", "otheredge")).stdout)
+            self.assertEqual(said["macs"][0]["leaves"], {wrong: ["wrong", "10.0.0.1", "10.0.0.1", "10.0.0.2"]})
+
+    def test_causes_by_leaf(self):
+        for version in VERSIONS:
+            done = run("fabric", self.leaves(version, "l3vni", "devicedown"))
+            self.assertIn(f"{view(version, 'devicedown')}: cause 5001: device vxlan5001 is down: 3 stations\n", done.stdout)
+
+    def test_a_command_of_each_leaf(self):
+        """--run stands before each command; behind ssh a command is one word."""
+        with tempfile.TemporaryDirectory() as folder:
+            for name in ("ssh", "jump"):
+                path = os.path.join(folder, name)
+                with open(path, "w", encoding="utf-8") as out:
+                    out.write(f'#!/bin/sh\necho "$# $1 $2" >> {folder}/said\nexit 1\n')
+                os.chmod(path, 0o755)
+                self.assertEqual(run("fabric", "a,b", "--run", f"{path} {{leaf}}").returncode, 2)
+            with open(os.path.join(folder, "said"), encoding="utf-8") as stream:
+                said = sorted(stream.read().splitlines())
+        wanted = ["2 a vtysh -c 'show bgp l2vpn evpn route detail json'", "2 b vtysh -c 'show bgp l2vpn evpn route detail json'"]
+        self.assertEqual(said, [*wanted, "4 a vtysh", "4 b vtysh"])
+
+
+class Monitoring(unittest.TestCase):
+    """What examples/monitoring/ has."""
+
+    def test_the_board_reads_what_the_audit_writes(self):
+        with open(os.path.join(TOP, "examples", "monitoring", "grafana.json"), encoding="utf-8") as stream:
+            board = json.load(stream)
+        said = " ".join(target["expr"] for panel in board["panels"] for target in panel["targets"])
+        with open(os.path.join(TOP, "tools", "audit_print.py"), encoding="utf-8") as stream:
+            written = stream.read()
+        for name in set(re.findall("evpnd_audit_[a-z_]+", said)):
+            self.assertIn(f"# TYPE {name} gauge", written)
+
+
 class NoMendHarms(unittest.TestCase):
     """What a mend may be, by the text of the tools: one entry, by its MAC or address."""
 

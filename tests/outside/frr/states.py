@@ -130,12 +130,13 @@ def plant(edge: Edge, model: Model, keys: List[Key]) -> str:
 def told_of(text: str) -> Tuple[Dict[Key, str], List[str]]:
     """The MACs of which an audit tells that frames go elsewhere, each with its mend, and what else it tells.
 
-    After a mend zebra 8.4.4 may name the wrong edge while the kernel has the right one: that is told, and no frame shows it.
+    zebra 8.4.4 may name a wrong edge while the kernel is right: that is told too, and no frame shows it.
     """
     said = json.loads(text)
     told, others = {}, [cause["text"] for view in said["views"] for cause in view["causes"]]
     for result in said["results"]:
-        told.update({(result["vni"], each["mac"]): each["mend"] for each in result["macs"] if each["kernel"] != each["owner"]})
+        wrong = [each for each in result["macs"] if each["kernel"].replace("nowhere", "none") != each["owner"]]
+        told.update({(result["vni"], each["mac"]): each["mend"] for each in wrong})
         others += [f"{result['vni']} {cause['text']}" for cause in result["causes"]]
         for name in ("floods", "routers"):
             others += [f"{each['kind']} {result['vni']} {each['what']}" for each in result[name] or []]
@@ -152,7 +153,7 @@ def play(edge: Edge, states: int, seed: int) -> int:
         time.sleep(0.4)
         planted = plant(edge, model, keys) if model.numbers.random() < 0.5 else ""
         wrong = differing(judge, model, keys)
-        status, text = audited(edge, "--json")
+        status, text = audited(edge, "--json", "--again", "1")
         if status not in (0, 1):
             raise Trouble(f"status {status}: {text}")
         told, others = told_of(text)
@@ -169,6 +170,8 @@ def play(edge: Edge, states: int, seed: int) -> int:
         sums["failed mends"] += len(failed)
         if missed or false or failed or others:
             print(f"state {state} ({planted}): missed {[(key, wrong[key], model.owner(key)) for key in sorted(missed)]}, false {sorted(false)}, failed {sorted(failed)}, others {others}", flush=True)
+            for key in false:
+                print(audited(edge, "--vni", str(key[0]), "--mac", key[1])[1], end="", flush=True)
         if state % 20 == 19 or state == states - 1:
             print(f"{time.strftime('%H:%M:%S')} {sums}", flush=True)
     return sums["missed"] + sums["false"] + sums["failed mends"] + sums["others"]
