@@ -141,7 +141,8 @@ def unadvertised(view: View, vni: int) -> List[Cause]:
     own = {bytes.fromhex(link.address.replace(":", "")) for link in view.links.values() if link.address.count(":") == 5}
     key = vni.to_bytes(3, "big")
     told = {register[7:13] for register in view.snapshot.registers if register[4:7] == key}
-    told |= {mac for network, mac in view.snapshot.routes.unjudged if network == vni and mac is not None}
+    unjudged = {*view.snapshot.routes.unjudged, *view.snapshot.routes.multihomed}
+    told |= {mac for network, mac in unjudged if network == vni and mac is not None}
     told |= {mac for (network, _), macs in view.snapshot.routes.invalid.items() if network == vni for mac in macs}
     zebra = {mac for mac, place in view.zebra.get(vni, {}).items() if place == LOCAL}
     there = frozenset((zebra & set(view.kernel[vni].learnt)) - told - own)

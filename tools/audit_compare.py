@@ -23,6 +23,8 @@ CAUSES = {
 }
 WHOSE = "who made the entry: zebra's have the flag extern_learn (bridge -d fdb show)"
 NOT_ZEBRAS = "who made the entry: zebra's are marked 'extern_learn' and 'proto zebra' (ip neigh show)"
+SEGMENTS = "zebra's own view of the segment (show evpn es detail), and the kernel's group (ip nexthop)"
+BY_SEGMENT, NO_EDGE = "by segment", "0.0.0.0"  # FRR 8.4.4 prints 0.0.0.0 for a MAC behind a segment, 10.3 the segment
 SHARED = "the bridge first, which two networks share"
 ARPS = "zebra's own entry of the address (show evpn arp-cache vni all)"
 ROUTER_STAYS = "zebra's own view (show evpn rmac vni all, show evpn next-hops vni all), and the L3VNI's device and bridge"
@@ -73,6 +75,8 @@ class Truth(NamedTuple):
     unjudged: Set[Tuple[int, Optional[bytes]]]
     routers: Dict[int, Dict[str, Set[bytes]]]
     needed: Dict[int, Set[str]]
+    multihomed: Dict[Station, Set[str]]
+    segments: Dict[str, Set[str]]
 
 
 class Result(NamedTuple):
@@ -94,7 +98,7 @@ class Result(NamedTuple):
 
 def truth_of(report: Dict[Station, Owned], snapshots: Iterable[frr_routes.Snapshot]) -> Truth:
     """What the routes of some snapshots say together."""
-    truth = Truth(report, {}, {}, {}, set(), {}, {})
+    truth = Truth(report, {}, {}, {}, set(), {}, {}, {}, {})
     prefixes: Dict[Tuple[int, str], Set[str]] = {}
     for vni, mac in report:
         truth.stations.setdefault(vni, set()).add(mac)
@@ -105,6 +109,12 @@ def truth_of(report: Dict[Station, Owned], snapshots: Iterable[frr_routes.Snapsh
         for vni, hops in snapshot.routes.prefixes.items():
             for prefix, vteps in hops.items():
                 prefixes.setdefault((vni, prefix), set()).update(vteps)
+        for esi, edges in snapshot.routes.segments.items():
+            truth.segments.setdefault(esi, set()).update(edges)
+        for (vni, multihomed), esis in snapshot.routes.multihomed.items():
+            if multihomed is not None:
+                truth.multihomed.setdefault((vni, multihomed), set()).update(esis)
+                truth.stations.setdefault(vni, set()).add(multihomed)
         truth.unjudged.update(snapshot.routes.unjudged)
         for vni, station in snapshot.routes.unjudged:
             truth.stations.setdefault(vni, set()).update(() if station is None else (station,))
@@ -218,6 +228,35 @@ def mend_of(network: Optional[Network], mac: bytes, wanted: str, zebra: str, ker
     ), (STAYS if zebra not in (wanted, UNKNOWN) else "")
 
 
+def segment_verdict(view: View, station: Station, owned: Owned, truth: Truth) -> Verdict:
+    """Compares a MAC behind a segment: each edge that advertises the segment is right (RFC 7432, 8.4 and 14.1.2).
+
+    One with a route without the segment as well, or of a segment that no edge advertises, can't be judged.
+    """
+    vni, mac = station
+    (esi, *others), table = sorted(truth.multihomed[station]), view.kernel.get(vni)
+    members = truth.segments.get(esi, set())
+    zebra = UNKNOWN if view.zebra is None else view.zebra.get(vni, {}).get(mac, NOWHERE)
+    kernel = UNKNOWN if table is None else table.places.get(mac, NOWHERE)
+    kind = "not judged"
+    if members and not others and not owned.adverts and station not in truth.unjudged:
+        right = members | ({LOCAL} if any(records.address_text(own) in members for own in view.own) else set())
+        kind = segment_kind(right, BY_SEGMENT if zebra in (esi, NO_EDGE) else zebra, kernel)
+    reason = f"any of {', '.join(sorted(members))}" if members else "no edge advertises it"
+    see = SEGMENTS if kind in DIFFERING else ""
+    return Verdict(mac, kind, f"segment {esi}", reason, UNKNOWN, zebra, kernel, UNKNOWN, "unknown", [], "", see)
+
+
+def segment_kind(right: Set[str], zebra: str, kernel: str) -> str:
+    """How zebra and the kernel stand to a segment's edges; zebra may name the segment itself."""
+    is_flooded = kernel.startswith(FLOODED)
+    kernel = UNKNOWN if "group " in kernel else kernel
+    edges = {*kernel[len(FLOODED) if is_flooded else 0 :].split("+")}
+    if not (zebra in (UNKNOWN, NOWHERE, BY_SEGMENT) or zebra in right) or not (edges <= right or kernel in (UNKNOWN, NOWHERE)):
+        return "wrong"
+    return "missing" if NOWHERE in (zebra, kernel) or is_flooded else "equal"
+
+
 def verdicts_of(view: View, vni: int, truth: Truth, wanted: Set[bytes]) -> List[Verdict]:
     """All MACs that the report, zebra or the kernel knows, in order."""
     macs = truth.stations.get(vni, set()) | set((view.zebra or {}).get(vni, {}))
@@ -227,7 +266,11 @@ def verdicts_of(view: View, vni: int, truth: Truth, wanted: Set[bytes]) -> List[
     verdicts = []
     for mac in sorted(macs):
         station = vni, mac
-        verdict = verdict_of(view, station, truth.report.get(station, NOBODY), station in truth.unjudged, bool(wanted))
+        owned = truth.report.get(station, NOBODY)
+        if station in truth.multihomed:
+            verdicts.append(segment_verdict(view, station, owned, truth))
+            continue
+        verdict = verdict_of(view, station, owned, station in truth.unjudged, bool(wanted))
         if verdict.owner != "none" or verdict.kind != "equal" or station in truth.report:
             verdicts.append(verdict)
     return verdicts
@@ -271,7 +314,7 @@ def neighbours_of(view: View, vni: int, truth: Truth, wanted: Set[bytes]) -> Opt
     differences = []
     routes = truth.neighbours.get(vni, {})
     for ip in sorted({*routes, *kernel.neighbours}):
-        difference = neighbour_difference(view, ip, routes.get(ip, {}), kernel, network, truth.unjudged)
+        difference = neighbour_difference(view, ip, routes.get(ip, {}), kernel, network, truth.unjudged | set(truth.multihomed))
         if difference is not None and (not wanted or wanted & {*routes.get(ip, {})}):
             differences.append(difference)
     return differences

@@ -139,8 +139,10 @@ class Truths:
         key = tuple(sorted(view.vnis)), tuple(sorted(view.routed)), imports_key(routes.imports)
         if key not in self.known:
             self.known[key] = self.made(routes)
-        alone = truth_of({}, [view.snapshot])  # an L3VNI's router MACs by the leaf's own routes: paths of type 5 aren't kept
-        return self.known[key]._replace(routers=alone.routers, needed=alone.needed)
+        own = truth_of({}, [view.snapshot])  # router MACs and segments by the leaf's own routes: those paths aren't kept
+        return self.known[key]._replace(
+            routers=own.routers, needed=own.needed, multihomed=own.multihomed, segments=own.segments
+        )
 
     def made(self, like: frr_routes.Routes) -> Truth:
         """What a leaf with these imports should know."""

@@ -211,8 +211,11 @@ def each_network(
 class Tables:
     """All forwarding entries and neighbours of a host, read once for all VNIs."""
 
-    def __init__(self, entries: List[dict], neighbours: Optional[List[dict]], name: str) -> None:
+    def __init__(
+        self, entries: List[dict], neighbours: Optional[List[dict]], name: str, groups: Optional[Dict[int, str]] = None
+    ) -> None:
         self.name = name
+        self.groups = groups or {}
         self.ports: Dict[Tuple[str, Optional[int]], Dict[bytes, str]] = {}
         self.tunnels: Dict[Tuple[str, Optional[int]], Dict[bytes, Set[str]]] = {}
         self.foreign: Dict[Tuple[str, Optional[int]], Set[bytes]] = {}
@@ -235,7 +238,7 @@ class Tables:
             vlan = number_of(entry, "vlan", self.name)
             self.ports.setdefault((str(entry["master"]), vlan), {})[mac] = LOCAL if is_own else device
             return
-        place, vni = place_text(entry, self.name), number_of(entry, "src_vni", self.name)
+        place, vni = place_text(entry, self.name, self.groups), number_of(entry, "src_vni", self.name)
         if place:
             places = self.tunnels.setdefault((device, vni), {})
             places.setdefault(mac, set()).add(place)
@@ -294,10 +297,23 @@ def number_of(entry: dict, key: str, name: str) -> Optional[int]:
     return value
 
 
-def place_text(entry: dict, name: str) -> str:
+def groups_of(entries: List[dict], name: str) -> Dict[int, str]:
+    """The edges of each next hop and of each group, of `ip -j nexthop show`; a group's have a plus between them."""
+    hops = {number_of(entry, "id", name): str(entry["gateway"]) for entry in entries if entry.get("gateway") and "fdb" in entry}
+    found = {number: hop for number, hop in hops.items() if number is not None}
+    for entry in entries:
+        members, number = entry.get("group"), number_of(entry, "id", name)
+        if isinstance(members, list) and number is not None:
+            edges = {hops.get(member.get("id"), "?") for member in members if isinstance(member, dict)}
+            found[number] = "+".join(sorted(edges))
+    return found
+
+
+def place_text(entry: dict, name: str, groups: Dict[int, str]) -> str:
     """Where an entry of a VXLAN device leads: the edge, with the VNI and the UDP port where they aren't the device's."""
     if entry.get("dst") is None:
-        return f"group {entry['nhid']}" if entry.get("nhid") is not None else ""
+        group = number_of(entry, "nhid", name)
+        return "" if group is None else groups.get(group, f"group {group}")
     more = [f" {key} {number}" for key in ("vni", "port") if (number := number_of(entry, key, name)) is not None]
     return str(entry["dst"]) + "".join(more)
 

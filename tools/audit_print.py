@@ -9,8 +9,8 @@ import update_records as records
 from audit_causes import Cause
 from audit_compare import CAUSES, Difference, Result, Verdict, differs, marks_of, sums_of
 
-AGREE, DIFFER, UNREADABLE, UNSAID = 0, 1, 2, 3
-NAGIOS_OK, NAGIOS_CRITICAL, NAGIOS_UNKNOWN = 0, 2, 3
+AGREE, DIFFER, UNREADABLE, UNSAID, UNJUDGED = 0, 1, 2, 3, 4
+NAGIOS_OK, NAGIOS_WARNING, NAGIOS_CRITICAL, NAGIOS_UNKNOWN = 0, 1, 2, 3
 FIGURES = ("MACs", "wrong", "missing", "extra", "foreign", "not judged", "flood entries", "neighbours", "routers", "causes")
 SCHEMA = 2  # of --json; docs/audit.md has it
 
@@ -39,12 +39,13 @@ def mark_text(view: str, vni: int, mark: tuple) -> str:
 
 
 def status_of(results: List[Result], skips_are_fine: bool, causes: Iterable[List[Cause]] = ()) -> int:
-    """1 where something differs, 3 where nothing does and something couldn't be judged, else 0."""
+    """1 where something differs; 3 where a VNI couldn't be audited, 4 where a MAC couldn't be judged; else 0."""
     if any(causes) or any(marks_of(result) for result in results):
         return DIFFER
-    silent = any(result.fault for result in results)
+    if any(result.fault for result in results):
+        return UNSAID
     unjudged = any(verdict.kind == "not judged" for result in results for verdict in result.macs)
-    return UNSAID if silent or (unjudged and not skips_are_fine) else AGREE
+    return UNJUDGED if unjudged and not skips_are_fine else AGREE
 
 
 def totals_of(results: List[Result]) -> Dict[str, int]:
@@ -187,14 +188,14 @@ def nagios_line(told: Told, status: int) -> str:
     says = [f"VNI {result.vni}: {result.fault}" for result in told.results if result.fault]
     first = first_cause(told)
     says = [", ".join(f"{totals[name]} {name}" for name in FIGURES), *([first] if first else []), *says]
-    word = {NAGIOS_OK: "OK", NAGIOS_CRITICAL: "CRITICAL"}.get(status, "UNKNOWN")
+    word = {NAGIOS_OK: "OK", NAGIOS_WARNING: "WARNING", NAGIOS_CRITICAL: "CRITICAL"}.get(status, "UNKNOWN")
     figures = " ".join(f"'{name}'={totals[name]}" for name in FIGURES)
     return f"EVPN {word}: {'; '.join(says).replace('|', '/')} | {figures}"
 
 
 def nagios_status(status: int) -> int:
     """The status that Nagios wants."""
-    return {AGREE: NAGIOS_OK, DIFFER: NAGIOS_CRITICAL}.get(status, NAGIOS_UNKNOWN)
+    return {AGREE: NAGIOS_OK, DIFFER: NAGIOS_CRITICAL, UNJUDGED: NAGIOS_WARNING}.get(status, NAGIOS_UNKNOWN)
 
 
 def label_text(text: str) -> str:
@@ -205,7 +206,7 @@ def label_text(text: str) -> str:
 def prometheus_text(told: Told, status: int, fault: str = "") -> str:
     """The text form of Prometheus, for the directory that node_exporter's textfile collector reads."""
     lines = [
-        "# HELP evpnd_audit_status 0 all agree, 1 something differs, 2 nothing could be read, 3 something could not be judged.",
+        "# HELP evpnd_audit_status 0 all agree, 1 something differs, 2 unreadable, 3 a VNI could not be audited, 4 a MAC not judged.",
         "# TYPE evpnd_audit_status gauge",
         f"evpnd_audit_status {status}",
         "# HELP evpnd_audit_time_seconds When the audit ended.",

@@ -43,6 +43,7 @@ KERNEL = {
     "vlans": ["bridge", "-j", "vlan", "show"],
     "tunnels": ["bridge", "-j", "vlan", "tunnelshow"],
     "neigh": ["ip", "-j", "neigh", "show"],
+    "groups": ["ip", "-j", "nexthop", "show"],
 }
 STATION_KEY = bytes(4 + 3 + 6)  # an originator, a VNI and a MAC: how a snapshot's key of a MAC begins
 
@@ -438,7 +439,8 @@ def kernels_of(
     neighbours = None
     if "neigh" in texts.whole:
         neighbours = audit_kernel.read_list(texts.whole["neigh"], texts.places["neigh"], "ip -j neigh show")
-    tables = audit_kernel.Tables(entries, neighbours, name)
+    groups = audit_kernel.read_list(texts.whole.get("groups", ""), texts.places["groups"], "ip -j nexthop show")
+    tables = audit_kernel.Tables(entries, neighbours, name, audit_kernel.groups_of(groups, texts.places["groups"]))
     found = {}
     for vni in vnis:
         if vni in networks:

@@ -17,6 +17,7 @@
         nexthops.json  vtysh -c 'show evpn next-hops vni all json'
         sessions.json  vtysh -c 'show bgp l2vpn evpn summary json'
         arps.json      vtysh -c 'show evpn arp-cache vni all json'
+        groups.json    ip -j nexthop show
         underlay.json  what `ip -j route get` says of each edge, or why it fails
     evpnd_audit.py save DIRECTORY          keeps what this host prints now as such a directory
     evpnd_audit.py mac VNI MAC [VIEW ..]   all that is known of one station
@@ -31,8 +32,8 @@ be missing; what can't be compared then is said. Several views give one report, 
 with --routes, the routes of that directory (a route reflector's, say) alone are the truth.
 
 Each difference is a line, with the adverts in order of preference and what mends it below, then sums. Status
-0: all agree; 1: something differs; 2: usage, or nothing that can be read; 3: nothing differs, and something
-could not be judged. docs/audit.md says what each difference means. Nothing here is proved; the report is.
+0: all agree; 1: something differs; 2: usage, or nothing that can be read; 3: nothing differs, and a VNI could
+not be audited; 4: nothing differs, and a MAC could not be judged. docs/audit.md says what each difference means. Nothing here is proved; the report is.
 """
 
 import argparse

@@ -109,6 +109,7 @@ PREFIX = re.compile(
     r"\[(?P<type>[0-9]+)\]:\[(?P<tag>[0-9]+)\]:\[(?:48\]:\[(?P<mac>[0-9a-f:]{17})\](?::\[(?:32|128)\]:\[(?P<ip>[^]]+)\])?"
     r"|(?P<rest>.*))"
 )
+SEGMENT = re.compile(r"\[(?:1\]:\[[0-9]+|4)\]:\[([0-9a-f]{2}(?::[0-9a-f]{2}){9})\].*")  # RFC 7432, 7.1 and 7.4
 COMMUNITY_RT = re.compile(r"RT:(\S+:[0-9]{1,10})(?![0-9])")
 COMMUNITY_MOBILITY = re.compile(r"MM:([0-9]+)(, sticky MAC)?")
 COMMUNITY_ROUTER = re.compile(r"Rmac:([0-9a-f]{2}(?::[0-9a-f]{2}){5})")
@@ -145,6 +146,7 @@ class Seen(NamedTuple):
 
 NO_KIND = "neither a MAC route nor an inclusive multicast route"
 FOLDED = "folded into the better route of the same next hop and key"
+MULTIHOMED = "a nonzero ESI (multihomed)"
 OTHER_LABEL = "taken by their route target, which isn't the VNI in their label"
 
 
@@ -203,6 +205,8 @@ class Routes:
         self.left_out: Dict[str, int] = collections.Counter()
         self.told: Dict[str, int] = collections.Counter()
         self.unjudged: set = set()
+        self.segments: Dict[str, Set[str]] = {}
+        self.multihomed: Dict[Tuple[int, Optional[bytes]], Set[str]] = {}
         self.routes = 0
         self.communities: Dict[str, Community] = {}
         self.adverts: Dict[Tuple[bool, int, Optional[int]], Advert] = {}
@@ -237,14 +241,14 @@ class Routes:
         groups = route.get("paths") if isinstance(route, dict) else None
         if not isinstance(groups, list):
             raise Unreadable(f"{name}: route {prefix} has no 'paths'")
-        match = PREFIX.fullmatch(prefix)
+        match, segment = PREFIX.fullmatch(prefix), SEGMENT.fullmatch(prefix)
         for group in groups:
             for path in group if isinstance(group, list) else [group]:
                 self.routes += 1
                 if not isinstance(path, dict):
                     raise Unreadable(f"{name}: route {prefix} has a path that is no object")
                 try:
-                    found = self.path(rd, match, path, vni)
+                    found = self.path(rd, match, path, vni) if segment is None else self.take_segment(segment[1], path)
                 except (KeyError, TypeError, AttributeError, IndexError) as fault:
                     raise Unreadable(f"{name}: route {prefix} lacks a field that is needed ({fault})") from None
                 yield from found
@@ -297,6 +301,12 @@ class Routes:
             if router:
                 self.routers.setdefault(vni, {}).setdefault(hop, set()).add(router)
 
+    def take_segment(self, esi: str, path: dict) -> List[Path]:
+        """Takes an edge that says that it is at a segment; no record says that."""
+        if path.get("valid") is True:
+            self.segments.setdefault(esi, set()).add(path["nexthops"][0]["ip"])
+        return []
+
     def take_invalid(self, vnis: Tuple[Optional[int], ...], hop: str, mac: Optional[bytes]) -> None:
         """Takes a path that isn't valid: bgpd doesn't reach its next hop."""
         for vni in vnis:
@@ -313,7 +323,8 @@ class Routes:
         if not seen.is_valid:
             return self.leave("not valid")
         if seen.esi.strip("0:-") != "":
-            return self.leave_unjudged(vni, seen.mac, "a nonzero ESI (multihomed)")
+            self.multihomed.setdefault((vni, seen.mac), set()).add(seen.esi)
+            return self.leave(MULTIHOMED)
         return vni
 
     def vni_of(self, target: Optional[int], label: Optional[int], mac: Optional[bytes]) -> Optional[int]:

@@ -50,7 +50,7 @@ elif name == "bridge" and "fdb" in asked:
     found = [entry for entry in text("fdb") if "dev" not in sys.argv or entry["ifname"] == sys.argv[-1]]
 elif name == "bridge":
     found = text("tunnels" if "tunnelshow" in asked else "vlans")
-elif "route get" in asked:
+elif "route get" in asked or "nexthop" in asked:
     found = []
 else:
     found = text("links" if "link" in asked else "neigh")

@@ -157,6 +157,29 @@ class Routed(unittest.TestCase):
             self.assertEqual(done.returncode, 1)
             self.assertRegex(done.stdout, r": cause: the session with 192\.168\.77\.2 is [A-Z][A-Za-z]+: what it would say isn't known here\n")
 
+    # ---- segments
+
+    def test_each_edge_of_a_segment_is_right(self):
+        self.agrees("segment")
+        for done in self.each("segment"):
+            self.assertRegex(done.stdout, "VNI 5001: [0-9]+ MACs, [0-9]+ equal, 0 wrong, 0 missing, 0 extra, 0 not judged")
+
+    def test_an_edge_that_is_not_at_the_segment(self):
+        self.finds("segmentwrong", "wrong 5001 02:00:00:00:00:22 owner segment 03:44:38:39:ff:ff:01:00:00:01 (any of 10.0.0.1, 10.0.0.2);")
+
+    def test_a_segment_that_no_edge_advertises(self):
+        """Its MAC isn't judged, all else is; the status is one of its own."""
+        for words, status, part in (((), 4, ", 1 not judged"), (("--nagios",), 1, "EVPN WARNING: "), (("--accept-unjudged",), 0, ", 1 not judged")):
+            for done in self.each("segmentunknown", *words):
+                self.assertEqual(done.returncode, status, done.stdout)
+                self.assertIn(part, done.stdout)
+
+    def test_without_the_kernels_groups_zebra_decides(self):
+        for version in VERSIONS:
+            with Changed(view(version, "segment")) as changed:
+                changed.write("groups.json", None)
+                self.assertEqual(run(changed.path).returncode, 0)
+
     def test_nagios_names_the_first_cause(self):
         for done in self.each("devicedown", "--nagios"):
             self.assertRegex(done.stdout, r"^EVPN CRITICAL: [^|]*; cause 5001 device vxlan5001 is down: 3 stations \| 'MACs'=")

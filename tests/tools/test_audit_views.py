@@ -217,10 +217,11 @@ class AuditsLeaves(unittest.TestCase):
                             path.update({"esi": "03:00:00:00:00:00:00:00:00:01"} if prefix.startswith("[2]") else {})
                 changed.write("routes.json", table)
                 done = run("--brief", changed.path)
-                self.assertEqual(done.returncode, 3, done.stdout)
+                self.assertEqual(done.returncode, 4, done.stdout)
                 self.assertIn("VNI 5001: 5 MACs, 0 equal, 0 wrong, 0 missing, 0 extra, 5 not judged", done.stdout)
                 self.assertEqual(run("--brief", "--accept-unjudged", changed.path).returncode, 0)
-                self.assertEqual(run("--nagios", changed.path).returncode, 3)
+                done = run("--nagios", changed.path)
+                self.assertEqual((done.returncode, done.stdout[:14]), (1, "EVPN WARNING: "))
 
     def test_one_vni_that_cannot_be_read(self):
         """The others are told."""

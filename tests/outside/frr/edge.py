@@ -40,13 +40,20 @@ class Edge:
     """One edge; use it by `with`."""
 
     def __init__(
-        self, name: str, root: str = "", vnis: Sequence[int] = (VNI,), access: bool = False, single: bool = False, routed: int = 0
+        self,
+        name: str,
+        root: str = "",
+        vnis: Sequence[int] = (VNI,),
+        access: bool = False,
+        single: bool = False,
+        routed: int = 0,
+        vrf: str = "",
     ) -> None:
         self.inside = f"evpnd-{os.getpid()}-{name}"
         self.outside = f"{self.inside}-pe"
         self.root = root.rstrip("/")
         self.vnis, self.access, self.single = list(vnis), access, single
-        self.address, self.bgpd_lines, self.routed = OWN, BGPD_LINES, routed
+        self.address, self.bgpd_lines, self.routed, self.vrf = OWN, BGPD_LINES, routed, vrf
         self.folder = tempfile.mkdtemp(prefix="evpnd-frr-", dir=f"{self.root}/var/tmp" if root else None)
         self.frr_folder = self.folder[len(self.root) :]
         self.children: List[subprocess.Popen] = []
@@ -103,6 +110,11 @@ class Edge:
                     run(*inside, "addr", "add", f"198.18.{vni % 250}.1/24", "dev", f"br{vni}")
         if self.routed:
             self.make_network(self.routed)
+        if self.vrf:
+            run(*inside, "link", "add", self.vrf, "type", "vrf", "table", "10")
+            run(*inside, "link", "set", self.vrf, "up")
+            for vni in (*self.vnis, self.routed):
+                run(*inside, "link", "set", f"br{vni}", "master", self.vrf)
 
     def make_network(self, vni: int) -> None:
         """A VNI's bridge and its VXLAN device."""
@@ -166,6 +178,7 @@ class Edge:
             self.within(*self.frr("install", "-d", "-o", "frr", "-g", "frr", "/run/frr"))
             self.start_daemon("mgmtd", "")
         routed = f"vni {self.routed}\n" if self.routed and not by_mgmtd else ""
+        routed = f"vrf {self.vrf}\n {routed}exit-vrf\n" if self.vrf else routed
         self.start_daemon("zebra", f"hostname edge\n{routed}")
         if by_mgmtd:
             self.wait_for(self.takes_routed, "mgmtd")

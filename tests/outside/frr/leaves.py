@@ -216,9 +216,9 @@ def is_multihomed(edge: Edge, tally: Tally) -> None:
     edge.wait_for(lambda: "02:00:00:00:03:fa" in edge.shell("show bgp l2vpn evpn route json"), "the routes with an ESI")
     time.sleep(1)
     status, text = audited(edge)
-    tally.see(status == 3 and "251 not judged" in text, "251 MACs with an ESI aren't judged, and the status says so" + ("" if status == 3 else f"\n{status} {text}"))
+    tally.see(status == 4 and "251 not judged" in text, "251 MACs with an ESI aren't judged, and the status says so" + ("" if status == 4 else f"\n{status} {text}"))
     status, text = audited(edge, "--nagios", "--again", "0")
-    tally.see(status == 3 and text.startswith("EVPN UNKNOWN"), "Nagios is told that it is unknown")
+    tally.see(status == 1 and text.startswith("EVPN WARNING"), "Nagios is told a status of its own")
     keep(edge, "multihomed")
 
 

@@ -129,14 +129,14 @@ def has_low_l3vni(edge: Edge, tally: Tally) -> None:
 def imports(edge: Edge, tally: Tally) -> None:
     """A route with two local targets counts in both networks; another target is imported as bgpd was told."""
     edge.heard(5001, HOME)
-    lines = [*start_of(edge.routed), f"target 65000:5001 target 65000:5002 advert 10.0.0.1 5001 02:00:00:00:00:12 seq 0"]
+    lines = [*start_of(edge.routed), "target 65000:5001 target 65000:5002 advert 10.0.0.1 5001 02:00:00:00:00:12 seq 0"]
     edge.tell(lines)
     agrees(edge, tally, "twotargets", "a route with two local route targets")
     goes(edge, tally, "02:00:00:00:00:12", 5002, "10.0.0.1")
     edge.shell_lines(
         "configure terminal", "router bgp 65000", "address-family l2vpn evpn", "vni 5002", "route-target import 65000:100"
     )
-    edge.tell([f"target 65000:100 advert 10.0.0.2 5002 02:00:00:00:00:13 seq 0", "target 65000:100 advert 10.0.0.2 5002 flood"])
+    edge.tell(["target 65000:100 advert 10.0.0.2 5002 02:00:00:00:00:13 seq 0", "target 65000:100 advert 10.0.0.2 5002 flood"])
     agrees(edge, tally, "import", "another import target")
     goes(edge, tally, "02:00:00:00:00:13", 5002, "10.0.0.2")
     status, text = audited(edge, "--vni", "5003")
@@ -195,7 +195,7 @@ def has_wrong_entries(edge: Edge, tally: Tally) -> None:
 def has_causes(edge: Edge, tally: Tally) -> None:
     """Each state that stops frames is one line, with the stations behind it."""
     edge.heard(5001, HOME)
-    edge.tell([*start_of(edge.routed), f"advert 10.0.0.1 5001 02:00:00:00:00:03 seq 0"])
+    edge.tell([*start_of(edge.routed), "advert 10.0.0.1 5001 02:00:00:00:00:03 seq 0"])
     time.sleep(1)
     agrees(edge, tally, "", "at the beginning")
     inside = ["ip", "-n", edge.inside]
@@ -248,10 +248,27 @@ def loses_ways(edge: Edge, tally: Tally) -> None:
     finds(edge, tally, "session", "the session with 192.168.77.2 is ", "a session that is down")
 
 
+def has_segments(edge: Edge, tally: Tally) -> None:
+    """MACs behind a segment of two edges: either edge is right, a third one isn't; without its edges nothing is judged."""
+    edge.tell([*start_of(edge.routed), "esi advert 10.0.0.1 5001 02:00:00:00:00:21 seq 0"])
+    time.sleep(1)
+    status, text = audited(edge)
+    keep(edge, "segmentunknown")
+    tally.see(status == 4 and "1 not judged" in text, f"a segment that no edge advertises isn't judged, all else is\n{text}")
+    edge.tell([f"segment 10.0.0.{pe} 5001" for pe in (1, 2)] + ["esi advert 10.0.0.2 5001 02:00:00:00:00:22 seq 0"])
+    agrees(edge, tally, "segment", "MACs behind a segment of two edges")
+    found = edge.goes(5001, "02:00:00:00:00:21")
+    tally.see(found in ("10.0.0.1", "10.0.0.2"), f"a real frame goes to an edge of the segment: {found}")
+    edge.within("bridge", "fdb", "del", "02:00:00:00:00:22", "dev", "vxlan5001", "self")  # of a group; replace would keep it
+    edge.within("bridge", "fdb", "replace", "02:00:00:00:00:22", "dev", "vxlan5001", "dst", "10.0.0.3", "self", "extern_learn")
+    goes(edge, tally, "02:00:00:00:00:22", 5001, "10.0.0.3")
+    has_no_mend(tally, finds(edge, tally, "segmentwrong", "wrong 5001 02:00:00:00:00:22 owner segment 03:", "an edge that isn't at the segment"))
+
+
 CASES: Tuple[Tuple[str, int, Callable[[Edge, Tally], None]], ...] = (
     ("l3vni", L3VNI, has_l3vni), ("lowl3vni", LOW_L3VNI, has_low_l3vni), ("imports", L3VNI, imports),
     ("others", L3VNI, has_other_devices), ("entries", L3VNI, has_wrong_entries), ("causes", L3VNI, has_causes),
-    ("shared", L3VNI, shares_bridge), ("ways", L3VNI, loses_ways),
+    ("shared", L3VNI, shares_bridge), ("segments", L3VNI, has_segments), ("ways", L3VNI, loses_ways),
 )
 
 

@@ -98,11 +98,12 @@ def prepare(edge: Edge) -> subprocess.Popen:
 
 
 def judged(judge: subprocess.Popen, keys: List[Key]) -> Dict[Key, str]:
-    """Where a real frame to each MAC goes; one that is flooded to all edges goes nowhere of its own."""
+    """Where a real frame to each MAC goes: 'flooded' where all edges get it; one edge and the access port is the device's entry alone."""
     judge.stdin.write(json.dumps(keys) + "\n")
     judge.stdin.flush()
     places = json.loads(judge.stdout.readline())
-    return {key: "flooded" if "+" in place else place for key, place in zip(keys, places)}
+    everywhere = {f"10.0.0.{edge}" for edge in range(1, EDGES + 1)}
+    return {key: "flooded" if everywhere <= {*place.split("+")} else place for key, place in zip(keys, places)}
 
 
 def differing(judge: subprocess.Popen, model: Model, keys: List[Key]) -> Dict[Key, str]:
