@@ -297,6 +297,14 @@ for bridge in 02:aa:00:00:00:0 02:AA:00:00:00:01 02-aa-00-00-00-01 03:aa:00:00:0
 done
 for vnis in "[]" "[5001, 5001]" "[16777216]" "[-1]" '["5001"]' "[$(seq -s, 65)]"; do
   faulty "vnis $vnis" "config vnis" "${named/\[5001\]/$vnis}" "vni = 5001"
+  case $vnis in
+    *5001,*) which="2 is 5001" ;;
+    *16777216*) which="1 is 16777216" ;;
+    *-1*) which="1 is -1" ;;
+    *'"5001"'*) which="1 is '5001'" ;;
+    *) which= ;;
+  esac
+  wrong "vnis $vnis, by its element" "edge 1: vnis is an array${which:+, whose element $which}, allowed are 1 to 64 different numbers, 0 to 16777215"
 done
 fine "vnis at both ends" "${named/5001/0, 16777215}" "vni = 16777215"
 faulty "vnis that aren't an array" "config vnis" "${named/\[5001\]/5001}" "vni = 5001"
@@ -418,7 +426,7 @@ wrong "an edge's times behind its keys, and then its port" "edge 1: salt is -1, 
 edge "$named"$'\nmax_age = 29\nforward_delay = 3' "vni = 5001" > "$conf"
 wrong "times of which one is faulty aren't compared" "edge 1: forward_delay is 3, allowed are 4 to 30"
 edge "${named/5001/-1}" $'vni = 7\nauto_edge = 1\n[[edge.port]]\nvni = -7' > "$conf"
-wrong "a port takes any network where the edge's are faulty" "edge 1: vnis is an array, $some_vnis" \
+wrong "a port takes any network where the edge's are faulty" "edge 1: vnis is an array, whose element 1 is -1, $some_vnis" \
   "edge 1, port 1: auto_edge is 1, allowed are true and false" "edge 1, port 2: vni is -7, allowed is one of the edge's vnis"
 { edge "$named"$'\nageing = 9' "vni = 5002" && edge "${named/.1\"/.2\"}"$'\nbuckets = 0' "vni = 5001" && edge "$second" "vni = 5001"; } > "$conf"
 wrong "faults of three edges" "edge 1: ageing is 9, allowed are 10 to 1000000" \
@@ -517,12 +525,19 @@ printf '> 1 announce\n1 pool 1\n> 1 announce\n1 none\n> 1 report\nflood 5001 10.
 run play --config "$conf"
 tell "a script that is played" gives 0 "$work/played" ""
 run simulate --config "$conf"
-tell "a remark that is simulated" gives 1 "$work/empty" "line 1 bad"
-for line in "1 rise" " # no remark" " "; do
-  printf '# a remark\n\n%s\n1 announce\n' "$line" > "$work/in"
+tell "a remark that is simulated" gives 1 "$work/empty" \
+  $'line 1 bad\nstandard input:1: an empty line or a remark, which only evpnd play skips'
+no_edge="expected the number of an edge, a space and a command"
+a_return="a carriage return: a line ends with a line feed alone, not with CRLF"
+no_verb="expected up, down, mcheck, second, frame, tunnel, pin, unpin, thaw, announce, deliver, port, report or restart behind the edge"
+for line in "1 up x|expected E up P" "1 rise|$no_verb" " # no remark|$no_edge" " |$no_edge" $'1 up 1\r|'"$a_return" $'1 report\r|'"$a_return"; do
+  printf '# a remark\n\n%s\n1 announce\n' "${line%|*}" > "$work/in"
   run play --config "$conf"
-  tell "a bad line that is played: $line" gives 1 "$work/empty" "line 3 bad"
+  tell "a bad line that is played: $line" gives 1 "$work/empty" "line 3 bad"$'\n'"standard input:3: ${line#*|}"
 done
+printf '1 announce\r\n' > "$work/script"
+run check --config "$conf" --script "$work/script"
+tell "a script with CRLF, checked" [ "$status $(cat "$work/notes")" = "1 $work/script:1: $a_return" ]
 examples=$tests/../examples
 cp "$examples/sites.script" "$work/in"
 run simulate --config "$examples/sites.toml"

@@ -378,7 +378,10 @@ class Simulations(unittest.TestCase):
                     done = subprocess.run(
                         [PROGRAM, subcommand, "--config", path], input=script, capture_output=True, timeout=60, check=False
                     )
-                    self.assertEqual((done.returncode, done.stderr.decode()), (status, notes))
+                    told = done.stderr.decode().split("\n", 1)
+                    self.assertEqual((done.returncode, told[0]), (status, notes.rstrip("\n")))
+                    if notes:  # on the next line, why the line is bad
+                        self.assertRegex(told[1], rf"^standard input:{notes.split()[1]}: [^\n]+\n$")
                     if out is not None:
                         self.assertEqual(done.stdout.decode(), out)
 

@@ -7,12 +7,12 @@ use crate::edge::EDGE_KEYS;
 use crate::edges::{FILE_KEYS, SERVED_KEYS};
 use crate::faults::FaultyKey;
 use crate::hints::{meant, put_hint};
-use crate::keys::{addr_in, bridge_in, tables_at};
+use crate::keys::{addr_in, bridge_in, tables_at, vni_in};
 use crate::peers::PEER_KEYS;
 use crate::place::Place;
 use crate::port::PORT_KEYS;
 use crate::whole::Use;
-use ether_wire::{Device, Out, Page, put_decimal};
+use ether_wire::{Device, Out, Page, Vni, put_decimal};
 use std::alloc::Global;
 use toml::value::Array;
 use toml::{Table, Value};
@@ -277,6 +277,45 @@ fn put_table_reason(line: &mut Line, place: Place<'_>, key: &str) -> Result<(), 
     }
 }
 
+/// Returns `true` if an array has this VNI before the place `at`.
+fn is_before(array: &Array, at: usize, vni: Vni) -> bool {
+    for other in array.iter().take(at) {
+        if vni_in(other) == Some(vni) {
+            return true;
+        }
+    }
+    false
+}
+
+/// Returns the first element of an array that is no VNI, or a repeated one, with its place, from 0.
+fn odd_element(array: &Array) -> Option<(usize, &Value)> {
+    for (at, value) in array.iter().enumerate() {
+        match vni_in(value) {
+            Some(vni) if !is_before(array, at, vni) => (),
+            _ => return Some((at, value)),
+        }
+    }
+    None
+}
+
+/// Writes which element of an array of VNIs is wrong: `, whose element 1 is '5001'`.
+fn put_array_reason(line: &mut Line, key: &str, array: &Array) -> Result<(), Device>
+    requires { IsOpen (page_end line.old) }
+    ensures { OnOk result ((page_end line.new).failures ≡ (page_end line.old).failures) }
+{
+    if key != "vnis" {
+        return Ok(());
+    }
+    match odd_element(array) {
+        Some((at, value)) => {
+            put_number(line, b", whose element", at.saturating_add(1))?;
+            line.put(b" is ")?;
+            put_value(line, value)
+        }
+        None => Ok(()),
+    }
+}
+
 /// Writes why a value is wrong, if that is known.
 fn put_reason(
     line: &mut Line,
@@ -298,6 +337,7 @@ fn put_reason(
             )
         }
         Value::Table(_) => put_table_reason(line, place, key),
+        Value::Array(array) => put_array_reason(line, key, array),
         _ => Ok(()),
     }
 }

@@ -15,6 +15,7 @@ use Rattle.ev_report.specs.Ends.{Tells}
 use Rattle.ev_script.specs.declared.script.question.Question.{Question}
 use Rattle.ev_script.specs.Inner.Shown.{shown_text}
 use Rattle.ev_script.specs.Inner.Views.{view_text}
+use Rattle.ev_script.specs.declared.simulate.simulator.BadLine.{BadLine}
 use Rattle.ev_script.specs.declared.simulate.simulator.Simulator.{Simulator}
 use Rattle.ev_script.specs.declared.script.mode.Mode.{Mode}
 use Rattle.ev_script.specs.Script.{Command, Item, second, skips, asked_in, asks_no_step, line_of, item_of, cut_line}
@@ -126,12 +127,14 @@ played_more mode script rest line after p q r n h some cut k =
     }
 
 -- the line behind them is a bad one
-pub played_bad : (mode : Mode) (script rest line after : List ℕ) (p q r : Simulator) (n number : ℕ)
-    → Played mode script rest p q n → 0 < length rest → (line, after) ≡ cut_line rest → PlaysLine mode line q r false
-    → number ≡ n + 1 → PlaysTo mode script p r (Some number)
-played_bad mode script rest line after p q r n number h some cut k is =
+pub played_bad : (mode : Mode) (script rest line after : List ℕ) (p q r : Simulator) (n : ℕ)
+    (found : BadLine) → Played mode script rest p q n → 0 < length rest → (line, after) ≡ cut_line rest
+    → PlaysLine mode line q r false
+    → found.number ≡ n + 1 → found.line.now ≡ line → PlaysTo mode script p r (Some found)
+played_bad mode script rest line after p q r n found h some cut k is at =
+    let first = ap (λ (p : List ℕ × List ℕ). p.0) cut in
     let bad = ap (item_of mode) (sym (ap (λ (p : List ℕ × List ℕ). p.0) cut)) ∙ k.0 in
-    (n, rest, is, (some, bad), subst (λ (x : Simulator). Played mode script rest p x n) (sym k.1) h)
+    (n, rest, is, at ∙ first, (some, bad), subst (λ (x : Simulator). Played mode script rest p x n) (sym k.1) h)
 
 -- ---- a line
 

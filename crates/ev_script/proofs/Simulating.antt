@@ -9,7 +9,9 @@ use Rattle.ev_fabric.specs.Fabric.{Fabric}
 use Rattle.ev_report.specs.declared.input.ReadError.{ReadError}
 use Rattle.ev_report.specs.declared.input.ReadError.TheVariants.{Device, NoMemory}
 use Rattle.ev_script.specs.declared.script.mode.Mode.{Mode}
+use Rattle.ev_script.specs.declared.simulate.simulator.BadLine.{BadLine}
 use Rattle.ev_script.specs.declared.simulate.simulator.Simulator.{Simulator}
+use Rattle.ev_script.specs.Script.{cut_line}
 use Rattle.ev_report.specs.Ends.{Devices, has_failed, Holds, Finishes, Passes}
 use Rattle.ev_report.specs.Input.{ReadsWhole}
 use Rattle.ev_report.specs.Notes.{status_of}
@@ -28,7 +30,7 @@ use Rattle.ev_script.proofs.Minding.{minds_failed, minds_counts}
 module _ (mode : Mode) (start : Fabric) (script : List ℕ) (p final : Simulator) (out out' notes notes' : End)
     (r : Result (Unit {0}) device.Device) (status : ℕ)
     (from : p.fabric ≡ start) (fed : p.is_out_of_memory ≡ false) (told : Minds out out' true final.is_told) where
-  status_played : (bad : Option ℕ) (out_of_memory : Bool) → Puts notes notes' (note_of_line bad) r
+  status_played : (bad : Option BadLine) (out_of_memory : Bool) → Puts notes notes' (note_of_line bad) r
       → final.is_out_of_memory ≡ (p.is_out_of_memory || out_of_memory)
       → status ≡ status_of (not final.is_told || not (is_ok r)) final.is_out_of_memory (is_some bad)
       → status ≡ status_of (has_failed out out' || has_failed notes notes') out_of_memory (is_some bad)
@@ -38,7 +40,7 @@ module _ (mode : Mode) (start : Fabric) (script : List ℕ) (p final : Simulator
       (sym (minds_failed out out' final.is_told told)) (sym (put_failed notes notes' r (note_of_line bad) put)) (s
       ∙ ap (λ b. b || out_of_memory) fed)
 
-  pub plays_on : (bad : Option ℕ) → PlaysTo mode script p final bad → Puts notes notes' (note_of_line bad) r
+  pub plays_on : (bad : Option BadLine) → PlaysTo mode script p final bad → Puts notes notes' (note_of_line bad) r
       → status ≡ status_of (not final.is_told || not (is_ok r)) final.is_out_of_memory (is_some bad)
       → PlaysOn mode start script out out' notes notes' status
   plays_on None h put is =
@@ -57,22 +59,25 @@ module _ (mode : Mode) (start : Fabric) (script : List ℕ) (p final : Simulator
         noted = put_holds notes notes' r [] put;
         status_is = status_played None (ran_out_of_memory (joined played.made)) put played.makes.out_of_memory is;
       }
-  plays_on (Some number) h put is =
-      let played = h.4 in
+  plays_on (Some bad) h put is =
+      let played = h.5 in
+      let number = bad.number in
       let at : number ≡ length played.lines + 1 = h.2 ∙ ap (λ n. n + 1) (sym played.count) in
       record {
         lines = played.lines;
         rest = h.1;
         is_bad = true;
         follows = played.follows;
-        ends = h.3;
+        ends = h.4;
         made = played.made;
         asked = played.asked;
         final = final.fabric;
         goes = subst (λ (f : Fabric). Goes f (joined played.made) final.fabric) from played.makes.goes;
         written = minds_counts out out' final.is_told told;
-        noted = subst (λ n. Holds notes notes' (bad_line n)) at (put_holds notes notes' r (bad_line number) put);
-        status_is = status_played (Some number) (ran_out_of_memory (joined played.made)) put played.makes.out_of_memory
+        noted = subst (λ l. Holds notes notes' (bad_line (length played.lines + 1) l)) h.3
+            (subst (λ n. Holds notes notes' (bad_line n bad.line.now)) at
+            (put_holds notes notes' r (bad_line number bad.line.now) put));
+        status_is = status_played (Some bad) (ran_out_of_memory (joined played.made)) put played.makes.out_of_memory
             is;
       }
 
@@ -117,7 +122,7 @@ module _ (mode : Mode) (configs : List EdgeConfig) (before held after : Devices)
       → PlaysOn mode start script before.out held.out before.notes held.notes status
       → PlaysOn mode start script before.out after.out before.notes after.notes last
   passed_plays start script r =
-      let note = note_of r.is_bad (length r.lines + 1) in
+      let note = note_of r.is_bad (length r.lines + 1) (cut_line r.rest).0 in
       record {
         lines = r.lines;
         rest = r.rest;

@@ -7,7 +7,7 @@ use Rattle.ether_wire.specs.Parse.{parted}
 use Rattle.ev_report.specs.Ends.{Tells}
 use Rattle.ev_script.specs.declared.checking.Found.{Found}
 use Rattle.ev_script.specs.declared.script.fault.LineFault.{LineFault}
-use Rattle.ev_script.specs.declared.script.fault.LineFault.TheVariants.{Remark, Long, NoEdge, NoVerb, Misspelt}
+use Rattle.ev_script.specs.declared.script.fault.LineFault.TheVariants.{Remark, Return, Long, NoEdge, NoVerb, Misspelt}
 use Rattle.ev_script.specs.declared.script.command.Verb.{Verb}
 use Rattle.ev_script.specs.declared.script.command.Verb.TheVariants.{Up, Down, Mcheck, Second, Frame, Tunnel, Pin}
 use Rattle.ev_script.specs.declared.script.command.Verb.TheVariants.{Unpin, Thaw, Announce, Deliver, Port, Report}
@@ -45,7 +45,8 @@ why_words line = why_parted (parted 32 line)
 
 -- of a line that is no command, the first of these that applies
 abbrev pub why_of : List ℕ → LineFault
-why_of line = if is_remark line then Remark else if nat_le (length line) 20000 then why_words line else Long
+why_of line = if is_remark line then Remark else if is_some (parted 13 line) then Return
+    else if nat_le (length line) 20000 then why_words line else Long
 
 -- a line is good exactly where it is a command
 abbrev pub is_good : List ℕ → Bool
@@ -71,6 +72,7 @@ form_of Restart = codes ": expected E restart N, N from 0 to 4294967295\n"
 
 abbrev pub why_text : LineFault → List ℕ
 why_text Remark = codes ": an empty line or a remark, which only evpnd play skips\n"
+why_text Return = codes ": a carriage return: a line ends with a line feed alone, not with CRLF\n"
 why_text Long = codes ": longer than 20000 octets\n"
 why_text NoEdge = codes ": expected the number of an edge, a space and a command\n"
 why_text NoVerb =

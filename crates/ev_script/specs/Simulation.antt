@@ -24,7 +24,8 @@ use Rattle.ev_report.specs.Input.{ReadsWhole}
 use Rattle.ev_report.specs.Silence.{IsSilent, IsRefusedMemory}
 use Rattle.ev_script.specs.declared.script.mode.Mode.{Mode}
 use Rattle.ev_script.specs.Script.{Command, Item, item_of, up, down, mcheck, second, frame, tunnel, pin, unpin, thaw}
-use Rattle.ev_script.specs.Script.{announce, deliver, port, report, restart, Follows, Ends}
+use Rattle.ev_script.specs.Script.{announce, deliver, port, report, restart, cut_line, Follows, Ends}
+use Rattle.ev_script.specs.Faults.{why_of, fault_text}
 
 -- ---- steps
 
@@ -97,11 +98,15 @@ ran_out_of_memory (m ∷ made) = is_out_of_memory m.1 || ran_out_of_memory made
 -- ---- a run
 
 -- `line N bad`
-abbrev pub bad_line : ℕ → List ℕ
-bad_line number = codes "line " ++ decimal number ++ codes " bad\n"
+abbrev pub bad_head : ℕ → List ℕ
+bad_head number = codes "line " ++ decimal number ++ codes " bad\n"
 
-abbrev pub note_of : Bool → ℕ → List ℕ
-note_of is_bad number = if is_bad then bad_line number else []
+-- and on the next line why it is bad, as of a line of the file `standard input`
+abbrev pub bad_line : ℕ → List ℕ → List ℕ
+bad_line number line = bad_head number ++ fault_text (codes "standard input") number (why_of line)
+
+abbrev pub note_of : Bool → ℕ → List ℕ → List ℕ
+note_of is_bad number line = if is_bad then bad_line number line else []
 
 -- some text was written, or one call failed
 abbrev pub CountsFailure : End → End → Type 0
@@ -121,7 +126,7 @@ pub record PlaysOn (mode : Mode) (start : Fabric) (script : List ℕ) (out out' 
   pub final : Fabric
   pub goes : Goes start (joined made) final
   pub written : CountsFailure out out'
-  pub noted : Holds notes notes' (note_of is_bad (length lines + 1))
+  pub noted : Holds notes notes' (note_of is_bad (length lines + 1) (cut_line rest).0)
   pub status_is : status ≡ status_of (has_failed out out' || has_failed notes notes') (ran_out_of_memory (joined made))
       is_bad
 

@@ -20,7 +20,7 @@ pub struct Found {
 
 /// Writes `NAME:N: WHY`.
 #[tactic(auto, using(ether_wire::proofs::Appending::with_text_twice))]
-fn put_fault<N: Out>(
+pub(crate) fn put_fault<N: Out>(
     notes: &mut N,
     name: &[u8],
     number: u64,

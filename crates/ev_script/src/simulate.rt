@@ -3,7 +3,7 @@ ghost use Rattle.std.specs.Prelude.{◌≡◌, ◌^◌, Ok};
 ghost use Rattle.ether_wire.specs.Ends.{IsOpen, Allows, Puts};
 ghost use Rattle.ev_fabric.specs.Opening.{AreConfigs};
 ghost use Rattle.ev_report.specs.Ends.{AreOpen, devices};
-ghost use Rattle.ev_script.specs.Simulation.{PlaysOn, PlaysRead, Simulates};
+ghost use Rattle.ev_script.specs.Simulation.{bad_head, bad_line, PlaysOn, PlaysRead, Simulates};
 ghost use Rattle.ev_script.specs.Inner.Simulation.{note_of_line, read_error_status};
 
 mod echo;
@@ -11,8 +11,9 @@ mod print;
 mod simulator;
 mod viewing;
 
-use crate::script::Mode;
-use crate::simulate::simulator::Simulator;
+use crate::checking::put_fault;
+use crate::script::{Mode, why_of};
+use crate::simulate::simulator::{BadLine, Simulator};
 use ether_wire::{Device, In, Out, put_decimal};
 use ev_edge::EdgeConfig;
 use ev_fabric::Fabric;
@@ -23,18 +24,37 @@ pub use print::{put_number, put_port, put_refusal, put_reply, put_report, put_wo
 pub use simulator::port_number;
 use std::alloc::Global;
 
-/// Writes `line N bad`, if there is such a line.
-#[tactic(auto, using(ether_wire::proofs::Appending::with_text_twice, ether_wire::proofs::Appending::with_text_none))]
-fn put_bad_line<N: Out>(line: Option<u64>, notes: &mut N) -> Result<(), Device>
+/// Writes `line N bad`.
+#[tactic(auto, using(ether_wire::proofs::Appending::with_text_twice))]
+fn put_bad<N: Out>(notes: &mut N, number: u64) -> Result<(), Device>
     requires { IsOpen (N.end notes.old) }
-    ensures { Puts (N.end notes.old) (N.end notes.new) (note_of_line line) result }
+    ensures { Puts (N.end notes.old) (N.end notes.new) (bad_head number) result }
 {
-    let Some(number) = line else {
-        return Ok(());
-    };
     notes.put(b"line ")?;
     put_decimal(notes, number)?;
     notes.put(b" bad\n")
+}
+
+/// Writes `line N bad`, and on the next line why it is bad.
+#[tactic(auto, using(ether_wire::proofs::Appending::with_text_twice))]
+fn put_bad_and_why<N: Out>(notes: &mut N, number: u64, line: &[u8]) -> Result<(), Device>
+    requires { IsOpen (N.end notes.old) }
+    ensures { Puts (N.end notes.old) (N.end notes.new) (bad_line number line.now) result }
+{
+    put_bad(notes, number)?;
+    put_fault(notes, b"standard input", number, why_of(line))
+}
+
+/// Writes which line is bad and why, if there is such a line.
+#[tactic(auto, using(ether_wire::proofs::Appending::with_text_none))]
+fn put_bad_line<N: Out>(bad: Option<BadLine<'_>>, notes: &mut N) -> Result<(), Device>
+    requires { IsOpen (N.end notes.old) }
+    ensures { Puts (N.end notes.old) (N.end notes.new) (note_of_line bad.entry) result }
+{
+    match bad {
+        None => Ok(()),
+        Some(found) => put_bad_and_why(notes, found.number, found.line),
+    }
 }
 
 /// Runs a script on a fabric.
@@ -84,8 +104,9 @@ fn read_error_status(read_error: ReadError) -> u8
 
 /// Reads a whole script, and then runs its lines, one after the other, on a fabric of edges that
 /// are opened with these configurations. Each command's lines come on `out`. The first line
-/// outside the grammar ends the run: `notes` gets `line N bad`; what stood before it has been
-/// run, and its lines stay. Where it is played (`Mode::Play`), empty lines and remarks are skipped,
+/// outside the grammar ends the run: `notes` gets `line N bad`, and on the next line why, as
+/// `check_lines` writes it of a file `standard input`; what stood before it has been run, and its
+/// lines stay. Where it is played (`Mode::Play`), empty lines and remarks are skipped,
 /// questions are answered, and each command's or question's line is printed before what becomes of
 /// it.
 ///

@@ -4,12 +4,13 @@ use Rattle.std.specs.Prelude.{Option, Some, None, Result}
 use Rattle.ev_edge.specs.declared.reply.Reply.{Reply}
 use Rattle.ev_fabric.specs.declared.refusal.FabricRefusal.{FabricRefusal}
 use Rattle.ev_fabric.specs.declared.step.Step.{Step}
+use Rattle.ev_script.specs.declared.simulate.simulator.BadLine.{BadLine}
 use Rattle.ev_script.specs.declared.simulate.simulator.Simulator.{Simulator}
 use Rattle.ev_report.specs.Ends.{Tells}
 use Rattle.ether_wire.specs.Ends.{End}
 use Rattle.ev_script.specs.declared.script.mode.Mode.{Mode}
 use Rattle.ev_script.specs.declared.script.question.Question.{Question}
-use Rattle.ev_script.specs.Script.{Command, Item, item_of, asked_in, Follows, Ends}
+use Rattle.ev_script.specs.Script.{Command, Item, item_of, asked_in, cut_line, Follows, Ends}
 use Rattle.ev_script.specs.Inner.Shown.{shown_text}
 use Rattle.ev_script.specs.Inner.Views.{view_text}
 use Rattle.ev_script.specs.Simulation.{Made, Asked, AskedItem, AskedAll, Goes, ran_out_of_memory, joined}
@@ -51,8 +52,8 @@ pub record Played (mode : Mode) (script rest : List ℕ) (old new : Simulator) (
   pub asked : AskedAll lines made
   pub makes : Makes (joined made) old new
 
--- Up to the end of the script, or up to the line of this number, which is the first bad one.
-abbrev pub PlaysTo : Mode → List ℕ → Simulator → Simulator → Option ℕ → Type 0
+-- Up to the end of the script, or up to this line, which is the first bad one.
+abbrev pub PlaysTo : Mode → List ℕ → Simulator → Simulator → Option BadLine → Type 0
 PlaysTo mode script old new None = (n : ℕ) × Played mode script [] old new n
-PlaysTo mode script old new (Some number) =
-    (n : ℕ) × (rest : List ℕ) × (number ≡ n + 1) × Ends (item_of mode) true rest × Played mode script rest old new n
+PlaysTo mode script old new (Some bad) = (n : ℕ) × (rest : List ℕ) × (bad.number ≡ n + 1)
+    × (bad.line.now ≡ (cut_line rest).0) × Ends (item_of mode) true rest × Played mode script rest old new n

@@ -3,12 +3,13 @@ use Rattle.std.specs.Prelude.{ℕ, List, []}
 use Rattle.std.specs.Prelude.{Option, Some, None}
 use Rattle.ev_report.specs.declared.input.ReadError.{ReadError}
 use Rattle.ev_report.specs.declared.input.ReadError.TheVariants.{Device, NoMemory}
+use Rattle.ev_script.specs.declared.simulate.simulator.BadLine.{BadLine}
 use Rattle.ev_script.specs.Simulation.{bad_line}
 
--- for the line of this number, if there is one
-abbrev pub note_of_line : Option ℕ → List ℕ
+-- for this line, if there is one
+abbrev pub note_of_line : Option BadLine → List ℕ
 note_of_line None = []
-note_of_line (Some number) = bad_line number
+note_of_line (Some bad) = bad_line bad.number bad.line.now
 
 -- the status of a script that wasn't read to its end
 abbrev pub read_error_status : ReadError → ℕ

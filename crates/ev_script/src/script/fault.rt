@@ -12,6 +12,8 @@ use ether_wire::parted;
 pub(crate) enum LineFault {
     /// It is empty, or a remark.
     Remark,
+    /// It has a carriage return (13), as a line that ends with CRLF.
+    Return,
     /// It has more than 20,000 octets.
     Long,
     /// It doesn't begin with an edge's number and a space.
@@ -53,6 +55,9 @@ impl LineFault {
     {
         match self {
             LineFault::Remark => b": an empty line or a remark, which only evpnd play skips\n",
+            LineFault::Return => {
+                b": a carriage return: a line ends with a line feed alone, not with CRLF\n"
+            }
             LineFault::Long => b": longer than 20000 octets\n",
             LineFault::NoEdge => b": expected the number of an edge, a space and a command\n",
             LineFault::NoVerb => {
@@ -103,6 +108,9 @@ pub(crate) fn why_of(line: &[u8]) -> LineFault
 {
     if Mode::Play.skips(line) {
         return LineFault::Remark;
+    }
+    if parted(b'\r', line).is_some() {
+        return LineFault::Return;
     }
     if line.len() <= MOST_OCTETS {
         why_words(line)

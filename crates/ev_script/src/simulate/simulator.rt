@@ -20,6 +20,15 @@ use ev_fabric::{Fabric, FabricRefusal, LocalEvent, Step};
 /// The number of the refusal, and of the alert, that says that memory was refused.
 const NO_MEMORY: u8 = 15;
 
+/// The first bad line of a script.
+#[derive(Clone, Copy, Debug)]
+pub(crate) struct BadLine<'a> {
+    /// Its number; the script's first line has 1.
+    pub(crate) number: u64,
+    /// Its octets, without the line feed.
+    pub(crate) line: &'a [u8],
+}
+
 /// A fabric that is played.
 #[derive(Drop)]
 pub(crate) struct Simulator {
@@ -375,8 +384,13 @@ impl Simulator {
         }
     }
 
-    /// Runs the lines of a script up to its end or its first bad line: the latter's number.
-    pub(crate) fn play<W: Out>(&mut self, mode: Mode, script: &[u8], out: &mut W) -> Option<u64>
+    /// Runs the lines of a script up to its end or its first bad line, which it returns.
+    pub(crate) fn play<'a, W: Out>(
+        &mut self,
+        mode: Mode,
+        script: &'a [u8],
+        out: &mut W,
+    ) -> Option<BadLine<'a>>
         requires { self.old.is_told ≡ true → IsOpen (W.end out.old) }
         ensures played { PlaysTo mode script.now self.old self.new result }
         ensures told { Minds (W.end out.old) (W.end out.new) self.old.is_told self.new.is_told }
@@ -387,7 +401,7 @@ impl Simulator {
             let (line, after) = cut_line(rest);
             number += 1;
             if !self.line(mode, line, out) {
-                return Some(number);
+                return Some(BadLine { number, line });
             }
             rest = after;
         }

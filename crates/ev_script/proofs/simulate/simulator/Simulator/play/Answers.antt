@@ -1,4 +1,4 @@
-use Rattle.std.proofs.Common.{rules, ◌≡◌, ◌<◌, Bool, true, false, length, refl, subst, arith}
+use Rattle.std.proofs.Common.{rules, ◌≡◌, ◌+◌, ◌<◌, Bool, true, false, length, refl, subst, arith}
 use Rattle.std.proofs.lemmas.Bool.Decides.{nat_tests}
 use Rattle.ev_script.specs.Inner.Playing.{PlaysLine}
 use Rattle.ev_script.proofs.Minding.{minds_none, minds_both, still_open}
@@ -23,10 +23,11 @@ returns-then-not-line g c =
     let bad : c.line.result ≡ false = search rules in
     record {
       played = played_bad c.args.mode c.args.script.now c.lines.rest.now c.cut_line.result.0.now
-          c.cut_line.result.1.now c.args.self.now c.lines.self c.line.new.self c.lines.number _ inv.played some
+          c.cut_line.result.1.now c.args.self.now c.lines.self c.line.new.self c.lines.number
+          (record { number = c.lines.number + 1; line = c.cut_line.result.0 }) inv.played some
           c.cut_line.ensures.value
           (subst (λ (b : Bool). PlaysLine c.args.mode c.cut_line.result.0.now c.lines.self c.line.new.self b) bad
-          c.line.ensures.played) refl;
+          c.line.ensures.played) refl refl;
       told = minds_both (g.W.Out.end c.args.out.now) (g.W.Out.end c.lines.out) (g.W.Out.end c.line.new.out)
           c.args.self.now.is_told c.lines.self.is_told c.line.new.self.is_told inv.told c.line.ensures.told;
     }
