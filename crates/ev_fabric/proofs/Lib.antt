@@ -26,6 +26,7 @@ pub mod StationArrival
 pub mod StationAlone
 pub mod StationRounds
 pub mod StationMeanwhile
+pub mod StationTaken
 pub mod Goings
 pub mod Journeys
 pub mod Example
