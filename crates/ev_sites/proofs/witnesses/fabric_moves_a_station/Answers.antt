@@ -1,8 +1,8 @@
 use Rattle.std.proofs.Common.{[], refl}
 use Rattle.ev_sites.proofs.Guest.{guest, second_moved}
 use Rattle.ev_sites.proofs.Agreed.{agreed, agreed_run, agrees}
-use Rattle.ev_sites.proofs.Moved.{second_with, come, left, moved, move_steps, rests, beside, agree_again, advertised_there}
-use Rattle.ev_sites.proofs.Moved.{first_round, second_round, comes}
+use Rattle.ev_sites.proofs.Moved.{second_with, come, left, moved, move_steps, rests, beside, agree_again}
+use Rattle.ev_sites.proofs.Moved.{advertised_there, first_round, second_round, comes}
 use Rattle.ev_sites.proofs.witnesses.fabric_moves_a_station.Goals as goal
 
 pub returns : goal.returns
