@@ -21,9 +21,9 @@ pub mod ConvergingLearning
 pub mod ConvergingMotion
 pub mod StationStages
 pub mod StationMotion
+pub mod StationAlone
 pub mod StationRest
 pub mod StationArrival
-pub mod StationAlone
 pub mod StationRounds
 pub mod StationMeanwhile
 pub mod StationTaken

@@ -30,7 +30,7 @@ use Rattle.ev_fabric.proofs.ConvergingEdge.{heard, heard_has}
 use Rattle.ev_fabric.proofs.ConvergingMoves.{Move, before, minus, moved, sound_kept}
 use Rattle.ev_fabric.proofs.ConvergingRounds.{arrived_value}
 use Rattle.ev_fabric.proofs.StationStages.{talks_news}
-use Rattle.ev_fabric.proofs.StationMeanwhile.{none_first}
+use Rattle.ev_fabric.proofs.StationAlone.{none_first}
 
 -- the edge at this place knows the update
 abbrev Knows : Fabric → ℕ → Fields → Type 0
