@@ -6,15 +6,17 @@ use Rattle.std.specs.Prelude.{Contains, slice_get, slice_set}
 use Rattle.std.specs.Option.{MatchOption}
 use Rattle.std.specs.List.{filter}
 use Rattle.route_wire.specs.Fields.{Fields}
+use Rattle.route_join.specs.Table.{value_at}
 use Rattle.route_join.specs.Owner.{advert_of}
 use Rattle.mac_arena.specs.declared.station.Station.{Station}
 use Rattle.ev_claims.specs.Speaker.{Speaker, is_newest, silent}
 use Rattle.ev_claims.specs.LocalRoutes.{LocalRoutes}
 use Rattle.ev_edge.specs.declared.config.EdgeConfig.{EdgeConfig}
 use Rattle.ev_edge.specs.declared.reply.Reply.{Reply}
-use Rattle.ev_edge.specs.Edge.{Edge, address_of}
+use Rattle.ev_edge.specs.Edge.{Edge, table_of, address_of}
 use Rattle.ev_fabric.specs.declared.refusal.FabricRefusal.{FabricRefusal}
 use Rattle.ev_fabric.specs.declared.refusal.FabricRefusal.TheVariants.{NoSuchEdge}
+use Rattle.ev_fabric.specs.declared.step.LocalEvent.{LocalEvent}
 use Rattle.ev_fabric.specs.declared.step.Step.{Step}
 use Rattle.ev_fabric.specs.declared.step.Step.TheVariants.{Local, Announce, Deliver, Restart}
 use Rattle.ev_fabric.specs.Fabric.{Fabric, IsEdge, nth}
@@ -22,20 +24,23 @@ use Rattle.ev_fabric.specs.Local.{event_of}
 use Rattle.ev_fabric.specs.Steps.{IsRefused, StepsAt, in_incarnation, OpensAnew, RestartsAt, FabricSteps}
 use Rattle.ev_fabric.specs.Sound.{update_of, IsSound}
 use Rattle.ev_fabric.specs.Station.{is_of, AgreesOn, NeverAdvertised, updates_on, IsLeftAlone}
-use Rattle.ev_fabric.specs.Station.{RunsAlone, NoneRestarts}
+use Rattle.ev_fabric.specs.Station.{RunsAlone, NoneRestarts, SaysTheSame, StationLasts}
 use Rattle.ev_fabric.proofs.Agreements.{none_pending}
-use Rattle.ev_fabric.proofs.Places.{set_cases}
+use Rattle.ev_fabric.proofs.Places.{set_cases, set_same}
+use Rattle.ev_fabric.proofs.Events.{local_talks}
 use Rattle.ev_fabric.proofs.Fabrics.{step_sound}
 use Rattle.ev_fabric.proofs.ConvergingEdge.{heard}
 use Rattle.ev_fabric.proofs.ConvergingIdle.{known_hearing}
 use Rattle.ev_fabric.proofs.ConvergingGood.{quieter}
 use Rattle.ev_fabric.proofs.ConvergingMoves.{Kept, Move, Stays, Tells, Takes, before, minus, moved}
 use Rattle.ev_fabric.proofs.ConvergingMoves.{sound_kept}
-use Rattle.ev_fabric.proofs.StationStages.{filter_has, filter_past, waiting, SameOf, same_own, same_newest, floods_same}
+use Rattle.ev_fabric.proofs.StationStages.{filter_has, filter_in, filter_past, waiting}
+use Rattle.ev_fabric.proofs.StationStages.{SameOf, same_own, same_newest, floods_same}
 use Rattle.ev_fabric.proofs.StationStages.{silent_quiet, heard_other, IsAside, aside_same, aside_push, aside_hears}
 use Rattle.ev_fabric.proofs.StationStages.{Hears}
+use Rattle.ev_fabric.proofs.StationStages.{left_same}
+use Rattle.ev_fabric.proofs.ConvergingRounds.{arrived_value}
 use Rattle.ev_fabric.proofs.StationMotion.{not_both, agreed_known, agreed_waits}
-use Rattle.ev_fabric.proofs.StationRest.{local_same}
 
 -- ---- a step
 
@@ -61,6 +66,22 @@ opened_aside s old new x a n reply sound at h never = record {
 
     address : address_of h.after ≡ address_of a
     address = same.address ∙ sym (sound.configs x h.config a h.config_is at).address
+
+-- an event from outside
+pub local_same : (s : Station) (old new : Fabric) (x : ℕ) (a : Edge) (event : LocalEvent)
+    (result : Result Reply FabricRefusal)
+    → IsSound old → IsEdge old x a → (h : StepsAt old (suc x) a (event_of event) result new)
+    → ((b : Edge) → IsEdge new x b → SaysTheSame s a b)
+    → (new ≡ record old { edges = slice_set old.edges x h.after }) × SameOf s a.routes.speaker h.after.routes.speaker
+local_same s old new x a event result sound at h same =
+    let whole : new ≡ record old { edges = slice_set old.edges x h.after } = h.new_is
+    ∙ (λ n. record old { edges = slice_set old.edges (minus x n) h.after }) in
+    let here : IsEdge new x h.after = subst (λ f. IsEdge f x h.after) (sym whole)
+    (set_same old.edges x a h.after at) in (
+      whole,
+      left_same s a.routes.speaker h.after.routes.speaker (local_talks a event h.answer h.after h.steps)
+          (sound.good x a at).routes.numbers (same h.after here),
+    )
 
 -- an announcement or a delivery, or an edge that has the same of the station afterwards
 pub data Still (s : Station) (old : Fabric) : Fabric → Type 0 where
@@ -262,3 +283,43 @@ know_still s pool old _ kept (Same x a b at same) know y c w at_c in' of =
           ∙ same_newest s a.routes.speaker b.routes.speaker w same of ∙ know x a w at in' of
       | inr p ↦ know y c w p.1 in' of
     ]
+
+pub none_first : (step : Step) (steps : List Step) → NoneRestarts (step ∷ steps)
+    → NoneRestarts (step ∷ []) × NoneRestarts steps
+none_first (Local e event) steps h = (tt, h)
+none_first (Announce e) steps h = (tt, h)
+none_first (Deliver e k) steps h = (tt, h)
+none_first (Restart e n) steps h = absurd h
+
+pub know_alone : (s : Station) (pool : List Fields) (steps : List Step) (old new : Fabric) → IsSound old
+    → RunsAlone s old steps new → NoneRestarts steps → AllKnow s pool old → AllKnow s pool new
+know_alone s pool [] old new sound h none know = subst (AllKnow s pool) (sym h) know
+know_alone s pool (step ∷ steps) old new sound h none know =
+    let n = none_first step steps none in
+    know_alone s pool steps h.0 new (step_sound old h.0 step h.1 h.2 sound) h.4 n.1
+    (know_still s pool old h.0 (sound_kept old sound) (still s old h.0 step h.1 sound h.2 h.3 n.0) know)
+
+-- ---- who agree go on agreeing
+
+-- each update of the station that the pool has it had before
+abbrev pub IsOld : Station → Fabric → Fabric → Type 0
+IsOld s old new = (w : Fields) → is_of s w.register ≡ true → Contains new.pool w → Contains old.pool w
+
+pub same_old : (s : Station) (old new : Fabric) → updates_on s new.pool ≡ updates_on s old.pool → IsOld s old new
+same_old s old new same w of in' = filter_in (λ (y : Fields). is_of s y.register) old.pool w
+    (subst (λ l. Contains l w) same (filter_has (λ (y : Fields). is_of s y.register) new.pool w of in'))
+
+pub station_lasts : StationLasts
+station_lasts s steps old new sound agree h none =
+    let after = calm_runs s steps old new sound h (agreed_calm old s agree) in
+    let know = know_alone s old.pool steps old new sound h none
+    (λ y c w at in' of. agreed_known old s agree y c w at in' of) in (
+      record {
+        quiet = λ y c r at of in'. none_pending (subst (λ l. Contains l r)
+            (calm_waits new.pool s c.routes.speaker (after.0 y c at))
+            (filter_has (is_of s) c.routes.speaker.pending r of in'));
+        arrived = λ y c w at of in'. arrived_value (value_at (table_of c) w.register) w.value
+            (know y c w at (same_old s old new after.1 w of in') of);
+      },
+      after.1,
+    )

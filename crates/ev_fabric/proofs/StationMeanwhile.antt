@@ -37,21 +37,20 @@ use Rattle.ev_fabric.specs.Sound.{update_of, IsSound}
 use Rattle.ev_fabric.specs.Agreed.{Advertises}
 use Rattle.ev_fabric.specs.Laws.{IsFrameFor, GoesTo}
 use Rattle.ev_fabric.specs.Station.{is_of, StationComes, RunsBeside, LeavesStation, IsLeftAlone, NoneRestarts}
-use Rattle.ev_fabric.specs.Station.{updates_on}
+use Rattle.ev_fabric.specs.Station.{updates_on, RunsAlone}
 use Rattle.ev_fabric.specs.Meanwhile.{IsFlooded, GoesHome, FramesMeanwhile}
 use Rattle.ev_fabric.proofs.Agreements.{individual, advert_bare}
 use Rattle.ev_fabric.proofs.Stations.{about_station, station_one, station_from}
 use Rattle.ev_fabric.proofs.Places.{set_cases}
 use Rattle.ev_fabric.proofs.Fabrics.{step_sound}
 use Rattle.ev_fabric.proofs.Sends.{IsSent, frame_sent, no_entry, elsewhere_local, elsewhere_remote, frames_come_out}
-use Rattle.ev_fabric.proofs.ConvergingMoves.{sound_kept}
 use Rattle.ev_fabric.proofs.StationStages.{filter_has, said_news, IsAside}
 use Rattle.ev_fabric.proofs.StationMotion.{StageOf, Phase, AtFirst, AtTold, AtLost, AtOver, AtAged, AtLeft, AtBack}
 use Rattle.ev_fabric.proofs.StationMotion.{Stage, runs_stage}
 use Rattle.ev_fabric.proofs.StationMotion.{agreed_known}
 use Rattle.ev_fabric.proofs.StationMotion.{begins, u, base, first_stage, Begins}
 use Rattle.ev_fabric.proofs.StationArrival.{filter_from}
-use Rattle.ev_fabric.proofs.StationAlone.{still, AllKnow, know_still}
+use Rattle.ev_fabric.proofs.StationAlone.{AllKnow, know_alone}
 
 -- ---- what the edges knew they know
 left_alone : (i j : ℕ) (s : Station) (old new : Fabric) (step : Step) → LeavesStation i j s old step new
@@ -64,21 +63,11 @@ left_alone i j s old new (Restart e n) h = elim h as (λ _. IsLeftAlone s old (R
   | inr elsewhere ↦ inr (λ x a is at. (elsewhere x is).never a at)
 ]
 
-pub none_first : (step : Step) (steps : List Step) → NoneRestarts (step ∷ steps)
-    → NoneRestarts (step ∷ []) × NoneRestarts steps
-none_first (Local e event) steps h = (tt, h)
-none_first (Announce e) steps h = (tt, h)
-none_first (Deliver e k) steps h = (tt, h)
-none_first (Restart e n) steps h = absurd h
-
-know_runs : (i j : ℕ) (s : Station) (pool : List Fields) (steps : List Step) (old new : Fabric) → IsSound old
-    → RunsBeside i j s old steps new → NoneRestarts steps → AllKnow s pool old → AllKnow s pool new
-know_runs i j s pool [] old new sound h none know = subst (AllKnow s pool) (sym h) know
-know_runs i j s pool (step ∷ steps) old new sound h none know =
-    let n = none_first step steps none in
-    know_runs i j s pool steps h.0 new (step_sound old h.0 step h.1 h.2 sound) h.4 n.1
-    (know_still s pool old h.0 (sound_kept old sound)
-    (still s old h.0 step h.1 sound h.2 (left_alone i j s old h.0 step h.3) n.0) know)
+beside_alone : (i j : ℕ) (s : Station) (steps : List Step) (old new : Fabric) → RunsBeside i j s old steps new
+    → RunsAlone s old steps new
+beside_alone i j s [] old new h = h
+beside_alone i j s (step ∷ steps) old new h =
+    (h.0, h.1, h.2, left_alone i j s old h.0 step h.3, beside_alone i j s steps h.0 new h.4)
 
 module _ (old : Fabric) (i j : ℕ) (s : Station) (mid : Fabric) (sound : IsSound old)
     (m : StationComes old i j s mid) where
@@ -262,7 +251,8 @@ module _ (i j : ℕ) (s : Station) (old mid new : Fabric) (steps : List Step) (s
       begun'.learns.advert steps mid new sound_mid runs (first_stage old i j s mid sound m false)
 
   know : AllKnow s old.pool new
-  know = know_runs i j s old.pool steps mid new sound_mid runs none (know_mid old i j s mid sound m)
+  know = know_alone s old.pool steps mid new sound_mid (beside_alone i j s steps mid new runs) none
+      (know_mid old i j s mid sound m)
 
   single : is_group s.mac ≡ false
   single = individual m.from s (sound.good i m.from m.at_from) m.had

@@ -32,7 +32,7 @@ use Rattle.ev_fabric.proofs.StationMotion.{AtBack, Stage, runs_stage}
 use Rattle.ev_fabric.proofs.StationMotion.{begins, u, base, first_stage, some_is, to_advertises, Begins}
 use Rattle.ev_fabric.proofs.StationRest.{station_settles}
 use Rattle.ev_fabric.proofs.StationArrival.{filter_from, stage_waits}
-use Rattle.ev_fabric.proofs.StationAlone.{AllCalm, calm_waits, agreed_calm, calm_runs}
+use Rattle.ev_fabric.proofs.StationAlone.{AllCalm, IsOld, same_old, calm_waits, agreed_calm, calm_runs}
 
 -- ---- runs
 alone_runs : (s : Station) (steps : List Step) (old new : Fabric) → RunsAlone s old steps new → Runs old steps new
@@ -73,10 +73,6 @@ announced_grows s old new r of h =
     (filter_has (λ (y : Fields). is_of s y.register) h.more (update_of r h.value) of h.there) in
     omega (arith, sum, some)
 
--- where there are no more updates of the station, each was there
-abbrev IsOld : Station → Fabric → Fabric → Type 0
-IsOld s old new = (w : Fields) → is_of s w.register ≡ true → Contains new.pool w → Contains old.pool w
-
 no_more : (s : Station) (old new : Fabric) → IsLaterFabric old new → count s new ≤ count s old → IsOld s old new
 no_more s old new h few w of in' =
     elim (Contains-append_cases old.pool h.more w (subst (λ l. Contains l w) h.pool in')) as (λ _. Contains
@@ -88,10 +84,6 @@ no_more s old new h few w of in' =
           (filter_has (λ (y : Fields). is_of s y.register) h.more w of later) in
           absurd (omega (arith, sum, some, few))
     ]
-
-same_old : (s : Station) (old new : Fabric) → updates_on s new.pool ≡ updates_on s old.pool → IsOld s old new
-same_old s old new same w of in' = (filter_from (λ (y : Fields). is_of s y.register) old.pool w
-    (subst (λ l. Contains l w) same (filter_has (λ (y : Fields). is_of s y.register) new.pool w of in'))).0
 
 -- where all was taken, nothing is pending, and nothing came meanwhile, the edges agree
 taken_agrees : (s : Station) (old new : Fabric) → AllTaken s old new → IsOld s old new

@@ -406,7 +406,7 @@ aside_push pool s e w other t = record {
 
 -- ---- an update of the station is heard
 
-idle_away : (e : Speaker) (w : Fields) → (is_newest e w ≡ false) ⊎ (advert_in w.value.content ≡ None)
+pub idle_away : (e : Speaker) (w : Fields) → (is_newest e w ≡ false) ⊎ (advert_in w.value.content ≡ None)
     → comes_back e w ≡ false
 idle_away e w h = elim h as (λ _. comes_back e w ≡ false) [
   | inl old ↦ known_stays_away e w old

@@ -1,16 +1,21 @@
 -- Rounds of a station: what was pending is announced, what was in the pool is taken, and anything else comes between.
-use Rattle.std.specs.Prelude.{◌≡◌, ℕ, zero, suc, ◌+◌, ◌*◌, ◌≤◌, false, true, Some, List, ◌++◌, Contains}
+use Rattle.std.specs.Prelude.{◌≡◌, ℕ, zero, suc, ◌+◌, ◌*◌, ◌≤◌, false, true, Some, Ok, List, ◌++◌, Contains, slice_get}
 use Rattle.route_wire.specs.declared.update.Register.{Register}
 use Rattle.route_wire.specs.declared.update.Value.{Value}
 use Rattle.route_wire.specs.Fields.{Fields}
 use Rattle.route_wire.specs.Order.{is_newer}
 use Rattle.route_join.specs.Table.{value_at}
 use Rattle.mac_arena.specs.declared.station.Station.{Station}
+use Rattle.ev_edge.specs.declared.reply.Reply.{Reply}
 use Rattle.ev_edge.specs.Edge.{Edge, table_of}
 use Rattle.ev_fabric.specs.declared.step.Step.{Step}
+use Rattle.ev_fabric.specs.declared.step.Step.TheVariants.{Deliver}
 use Rattle.ev_fabric.specs.Fabric.{Fabric, IsEdge}
+use Rattle.ev_fabric.specs.Steps.{FabricSteps}
+use Rattle.ev_fabric.specs.Runs.{Runs}
 use Rattle.ev_fabric.specs.Sound.{update_of, IsSound}
 use Rattle.ev_fabric.specs.Station.{is_of, AgreesOn, to_come_on, RunsAlone, StationComes, RunsBeside}
+use Rattle.ev_fabric.specs.Station.{NoneRestarts}
 
 -- ---- a round
 
@@ -31,6 +36,14 @@ AllAnnounced s old new = (i : ℕ) (a : Edge) (r : Register) → IsEdge old i a 
 abbrev pub AllTaken : Station → Fabric → Fabric → Type 0
 AllTaken s old new = (i : ℕ) (b : Edge) (u : Fields) → IsEdge new i b → is_of s u.register ≡ true
     → Contains old.pool u → (v : Value) × (value_at (table_of b) u.register ≡ Some v) × (is_newer u.value v ≡ false)
+
+-- An edge that has taken an update, at its place i and the update's place k, has it or a newer one of its register from
+-- then on, whatever comes, while no edge restarts.
+abbrev pub TakenStays : Type 0
+TakenStays = (i k : ℕ) (u : Fields) (reply : Reply) (steps : List Step) (old mid new : Fabric) → IsSound old
+    → slice_get old.pool k ≡ Some u → FabricSteps old (Deliver (suc i) (suc k)) (Ok reply) mid → Runs mid steps new
+    → NoneRestarts steps → (b : Edge) → IsEdge new i b
+    → (v : Value) × (value_at (table_of b) u.register ≡ Some v) × (is_newer u.value v ≡ false)
 
 -- what was pending at the beginning was announced, and what the pool had at the beginning was taken
 pub record IsRound (s : Station) (old new : Fabric) : Type 0 where

@@ -1,7 +1,14 @@
 //! How soon the edges agree on a station, in any traffic, and what becomes of frames meanwhile, as
 //! functions that do nothing: the contract is the law.
-ghost use Rattle.ev_fabric.specs.Rounds.{StationAgrees, StationAgreesStill, AgreesInFour, AgreesInTwo};
+ghost use Rattle.ev_fabric.specs.Rounds.{TakenStays, StationAgrees, StationAgreesStill, AgreesInFour, AgreesInTwo};
 ghost use Rattle.ev_fabric.specs.Meanwhile.{FramesMeanwhile};
+
+/// States that an edge which has taken an update has it, or a newer one of its register, from then
+/// on, whatever comes, while no edge restarts. So a round of a station takes what each edge takes
+/// in it.
+pub fn taken_stays()
+    ensures { TakenStays }
+{}
 
 /// States that the edges agree on a station after `2 * to_come_on + 1` rounds of it, in any
 /// traffic that leaves the station alone, and agree after each further round.
