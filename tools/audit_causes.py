@@ -8,7 +8,7 @@ from dataclasses import dataclass
 from typing import Dict, FrozenSet, Iterator, List, Set, Tuple
 
 import update_records as records
-from audit_kernel import LOCAL, Network
+from audit_kernel import LOCAL, Network, octets_of
 from audit_views import View
 
 ESTABLISHED = "Established"
@@ -138,14 +138,17 @@ def unadvertised(view: View, vni: int) -> List[Cause]:
     """The stations that zebra or an access port knows here, and of which no router advertises a route."""
     if view.zebra is None or vni not in view.kernel:
         return []
-    own = {bytes.fromhex(link.address.replace(":", "")) for link in view.links.values() if link.address.count(":") == 5}
+    zebra = {mac for mac, place in view.zebra.get(vni, {}).items() if place == LOCAL}
+    candidates = zebra & set(view.kernel[vni].learnt)
+    if not candidates:
+        return []
+    own = {octets_of(link.address, "links") for link in view.links.values() if link.address.count(":") == 5}
     key = vni.to_bytes(3, "big")
     told = {register[7:13] for register in view.snapshot.registers if register[4:7] == key}
     unjudged = {*view.snapshot.routes.unjudged, *view.snapshot.routes.multihomed}
     told |= {mac for network, mac in unjudged if network == vni and mac is not None}
     told |= {mac for (network, _), macs in view.snapshot.routes.invalid.items() if network == vni for mac in macs}
-    zebra = {mac for mac, place in view.zebra.get(vni, {}).items() if place == LOCAL}
-    there = frozenset((zebra & set(view.kernel[vni].learnt)) - told - own)
+    there = frozenset(candidates - told - own)
     return [Cause(Kind.UNADVERTISED, "", there)] if there else []
 
 

@@ -35,6 +35,16 @@ class Look:
     silent: Dict[str, str] = field(default_factory=dict)
     results: Dict[str, List[Result]] = field(default_factory=dict)
     causes: Dict[str, List[Cause]] = field(default_factory=dict)
+    own: Dict[frr_routes.Path, None] = field(default_factory=dict)
+    heard: Dict[frr_routes.Path, None] = field(default_factory=dict)
+
+    def take(self, leaf: str, view: View) -> None:
+        """Takes a leaf's view; of its paths each is kept once for all leaves."""
+        for path in view.snapshot.paths or ():
+            kept = self.own if path.is_own else self.heard
+            kept[path._replace(rd="", seconds=0, is_best=False, is_own=False)] = None
+        view.snapshot.paths = None
+        self.views[leaf] = view
 
 
 class Lack(NamedTuple):
@@ -107,7 +117,7 @@ def look(leaves: List[str], arguments: argparse.Namespace) -> Look:
             try:
                 if texts is None:
                     raise Unreadable(fault)
-                found.views[leaf] = audit_views.view_of(texts, arguments)._replace(name=leaf)
+                found.take(leaf, audit_views.view_of(texts, arguments)._replace(name=leaf))
             except Unreadable as unread:
                 found.silent[leaf] = str(unread)
     truths = Truths(found, arguments)
@@ -125,13 +135,9 @@ class Truths:
 
     def __init__(self, seen: Look, arguments: argparse.Namespace) -> None:
         self.arguments = arguments
-        self.paths: Dict[frr_routes.Path, None] = {}
         self.known: Dict[tuple, Truth] = {}
         answering = set().union(*(view.own for view in seen.views.values()))
-        for view in seen.views.values():
-            for path in view.snapshot.paths or ():
-                if path.is_own or path.vtep not in answering:
-                    self.paths[path._replace(rd="", seconds=0, is_best=False, is_own=False)] = None
+        self.paths = [*seen.own, *(path for path in seen.heard if path.vtep not in answering)]
 
     def of(self, view: View) -> Truth:
         """The truth of a leaf."""

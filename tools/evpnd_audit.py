@@ -37,6 +37,7 @@ not be audited; 4: nothing differs, and a MAC could not be judged. docs/audit.md
 """
 
 import argparse
+import gc
 import json
 import os
 import sys
@@ -389,6 +390,7 @@ def run(line: List[str]) -> int:
 
 def main() -> int:
     """Runs the audit; what can't be read is one line and status 2."""
+    gc.disable()  # nothing here makes cycles of any size, and looking for them takes a seventh of the time
     try:
         return run(sys.argv[1:])
     except (Unreadable, argparse.ArgumentTypeError) as fault:

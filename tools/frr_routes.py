@@ -241,7 +241,8 @@ class Routes:
         groups = route.get("paths") if isinstance(route, dict) else None
         if not isinstance(groups, list):
             raise Unreadable(f"{name}: route {prefix} has no 'paths'")
-        match, segment = PREFIX.fullmatch(prefix), SEGMENT.fullmatch(prefix)
+        match = PREFIX.fullmatch(prefix)
+        segment = SEGMENT.fullmatch(prefix) if prefix.startswith(("[1]", "[4]")) else None
         for group in groups:
             for path in group if isinstance(group, list) else [group]:
                 self.routes += 1
@@ -281,7 +282,8 @@ class Routes:
         ip = read_ip(match["ip"]) if match["ip"] else b""
         found = []
         for each in vnis or (None,):
-            network = self.network_of(Seen(each, label, mac, match["tag"], esi, is_valid))
+            is_plain = is_valid and each is not None and label in (None, each) and match["tag"] == "0" and not esi
+            network = each if is_plain else self.network_of(Seen(each, label, mac, match["tag"], esi, is_valid))
             vtep = None if network is None else self.next_hop(rd, hop, network, mac)
             if network is not None and vtep is not None:
                 found.append(Path(rd, network, mac, ip, vtep, advert, seconds, is_best, is_own, targets))

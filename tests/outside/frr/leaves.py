@@ -137,6 +137,7 @@ def has_planted_entries(edge: Edge, tally: Tally) -> None:
     text = finds(edge, tally, line, "another edge in the VXLAN device, by hand")
     keep(edge, "planted")
     tally.see("mend:" not in text and "see who made the entry" in text, "no command touches what zebra didn't make")
+    edge.within("bridge", "fdb", "del", FAR, *device, "dst", "10.0.0.2", "self")  # replace would keep it without zebra's mark
     edge.within("bridge", "fdb", "replace", FAR, *device, "dst", "10.0.0.2", "self", "extern_learn")
     mends(edge, tally, finds(edge, tally, line, "another edge in the VXLAN device, like zebra's"))
     as_frames(edge, tally, 5001, FAR, "10.0.0.1")
