@@ -40,10 +40,13 @@ ADDRESS = functools.lru_cache(maxsize=None)(records.read_address)
 
 def said_of(words: List[str]) -> Optional[Said]:
     """The advert of a line 'mac VNI MAC ORIGINATOR COUNTER ..'; nothing of a withdrawn one."""
-    kind, options = words[5], dict(zip(words[7::2], words[8::2]))
-    if kind == "withdrawn" and len(words) == 6:
+    kind, rest = words[5], words[6:] if words[5] == "withdrawn" else words[7:]
+    options = dict(zip(rest[::2], rest[1::2]))
+    if len(rest) % 2 or not {*options} <= {"ip", "label2"}:
+        raise ValueError(kind)
+    if kind == "withdrawn":
         return None
-    if kind not in ("dynamic", "static") or not words[6].isdecimal() or not {*options} <= {"ip", "label2"} or len(words) % 2 == 0:
+    if kind not in ("dynamic", "static") or not words[6].isdecimal():
         raise ValueError(kind)
     return Said(ADDRESS(words[3]), Advert(kind == "static", int(words[6])), options.get("ip", ""))
 

@@ -79,9 +79,14 @@ class ReadsReports(unittest.TestCase):
     def test_an_owner_with_two_adverts(self):
         self.assertEqual(self.reason((1, False, 0), (1, False, 7), (2, False, 6))[0], "the higher sequence 7, against dynamic 6 of 10.0.0.2")
 
+    def test_a_withdrawn_advert_with_an_address(self):
+        line = "mac 5001 02:00:00:00:00:0d 10.0.0.5 29 withdrawn ip 192.0.2.1\nowner 5001 02:00:00:00:00:0d none\n"
+        self.assertEqual(audit_report.read_report(line), {(5001, station("0d")): audit_report.Owned([], None)})
+
     def test_no_report(self):
-        with self.assertRaises(records.Unreadable):
-            audit_report.read_report("mac 5001\n")
+        for options in ("", " 02:00:00:00:00:0d 10.0.0.5 29 dynamic", " 02:00:00:00:00:0d 10.0.0.5 29 dynamic 1 ip", " 02:00:00:00:00:0d 10.0.0.5 29 lost 1"):
+            with self.assertRaises(records.Unreadable):
+                audit_report.read_report(f"mac 5001{options}\n")
 
 
 class Judges(unittest.TestCase):
