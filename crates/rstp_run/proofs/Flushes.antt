@@ -3,13 +3,15 @@ use Rattle.std.proofs.Common.{◌≡◌, ℕ, ◌≤◌, ◌<◌, ◌-◌, ◌^�
 use Rattle.std.proofs.Common.{refl, sym, arith, if◌then◌else◌, bit_or, max, ◌≢◌, ◌+◌, ◌⊎◌, inl, inr, subst, ap, ◌∙◌}
 use Rattle.std.specs.Int.{bit_at}
 use Rattle.std.proofs.lemmas.Bool.{eqb-true, eqb-false}
+use Rattle.std.proofs.lemmas.List.{append-nil}
 use Rattle.std.proofs.lemmas.Nat.Bits.{bit_at_or, bit_at-pow_same, bit_at-pow_other, bit_at-lt}
 use Rattle.ether_wire.specs.Ports.{has_port, with_port}
 use Rattle.ether_wire.proofs.PortLemmas.{has_port-bit, has_port-none}
 use Rattle.rstp_run.specs.Runs.{Firing, Run, IsSettled, flushed, is_flush}
-use Rattle.rstp_run.specs.Inner.Runs.{Goes}
+use Rattle.rstp_run.specs.Sweep.{Going, swept}
+use Rattle.rstp_run.specs.Inner.Runs.{Goes, done, swept_on}
 use Rattle.rstp_run.specs.Rules.{Tree}
-use Rattle.rstp_run.specs.Events.{flushes, direct, Happens}
+use Rattle.rstp_run.specs.Events.{flushes, direct, Happens, IsSwept}
 use Rattle.rstp_run.proofs.Settled.{both-ways, settled_or_not}
 use Rattle.rstp_run.specs.declared.count.Count.{Count}
 use Rattle.rstp_run.specs.declared.event.Event.{Event}
@@ -55,7 +57,7 @@ has_port-flushed (f ∷ earlier) p =
 
 -- what a run from no firings says of an event
 pub happens-from_goes : (event : Event) (limit : ℕ) (s m t : Tree) (b : Count) (settled : Bool) → m ≡ direct event s
-    → Goes m (record { fired = 0; limit = limit; flush = 0 }) t b
+    → Goes swept_on done m (record { fired = 0; limit = limit; flush = 0 }) t b
     → (settled ≡ true → IsSettled t) → (settled ≡ false → IsSettled t → ⊥) → (settled ≡ false → b.fired ≡ b.limit)
     → Happens event limit s t settled b.flush
 happens-from_goes event limit s m t b settled start goes is_so not_so full = record {
@@ -95,3 +97,15 @@ any_run event limit s t firings run few ends =
     full : (IsSettled t → ⊥) → (length firings ≡ limit) ⊎ IsSettled t → length firings ≡ limit
     full goes_on (inl all) = all
     full goes_on (inr rests) = absurd (goes_on rests)
+
+-- a whole sweep from no firings is what the definition says
+pub swept-from_goes : (event : Event) (limit : ℕ) (s m t : Tree) (b : Count) → m ≡ direct event s
+    → Goes swept_on done m (record { fired = 0; limit = limit; flush = 0 }) t b → IsSwept event limit s t b.flush
+swept-from_goes event limit s m t b start goes =
+    let order : swept limit (direct event s) ≡ record { tree = t; firings = goes.firings } =
+        ap (swept limit) (sym start) ∙ goes.order [] refl
+        ∙ ap (λ list. record { tree = t; firings = list }) (append-nil goes.firings) in
+    record {
+      bridge = ap (λ (g : Going). g.tree) (sym order);
+      flush = goes.flush ∙ ap (λ (g : Going). flushed g.firings 0) (sym order);
+    }

@@ -13,6 +13,7 @@ use Rattle.rstp_state.specs.Selection.{own_root}
 use Rattle.rstp_state.specs.Start.{ports_from}
 use Rattle.rstp_run.specs.Rules.{Tree}
 use Rattle.rstp_run.specs.Runs.{Firing, Run, IsSettled, flushed, is_flush}
+use Rattle.rstp_run.specs.Sweep.{swept}
 use Rattle.rstp_run.specs.declared.event.Event.{Event}
 use Rattle.rstp_run.specs.declared.event.Event.TheVariants as events
 
@@ -61,6 +62,11 @@ RunsHappen =
     (event : Event) (limit : ℕ) (s t : Tree) (firings : List Firing) → Run firings (direct event s) t
     → length firings ≤ limit → (length firings ≡ limit) ⊎ IsSettled t
     → (settled : Bool) × Happens event limit s t settled (flushed firings 0)
+
+-- what the sweep does at the event: the bridge afterwards, and the ports at which it flushes
+pub record IsSwept (event : Event) (limit : ℕ) (s t : Tree) (mask : ℕ) : Type 0 where
+  pub bridge : t ≡ (swept limit (direct event s)).tree
+  pub flush : mask ≡ flushed (swept limit (direct event s)).firings 0
 
 -- the greatest number of firings at an event
 abbrev pub firings_at : Tree → ℕ

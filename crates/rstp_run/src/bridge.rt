@@ -8,6 +8,7 @@ ghost use Rattle.rstp_run.specs.Events.{
   Happens,
   IsAt,
   IsPort,
+  IsSwept,
   Learns,
   Passes,
   sent_from,
@@ -94,6 +95,7 @@ impl Bridge {
     ) -> Effect
         requires { IsAt event (length self.old.ports) }
         ensures happens { Happens event limit self.old self.new result.settled result.flush }
+        ensures order { IsSwept event limit self.old self.new result.flush }
         ensures settled { IsTrue result.settled ↔ IsSettled self.new }
         ensures out { out.new.items ≡ sent_from 1 self.new.ports }
         ensures ports { length self.new.ports ≡ length self.old.ports }
@@ -121,6 +123,7 @@ impl Bridge {
         requires some { 1 ≤ limit }
         requires most { limit ≤ firings_at self.old }
         ensures happens { Happens event limit self.old self.new result.settled result.flush }
+        ensures order { IsSwept event limit self.old self.new result.flush }
         ensures settled { IsTrue result.settled ↔ IsSettled self.new }
         ensures out { result.out.items ≡ sent_from 1 self.new.ports }
         ensures ports { length self.new.ports ≡ length self.old.ports }
@@ -144,6 +147,7 @@ impl Bridge {
         requires { IsAt event (length self.old.ports) }
         ensures happens { Happens event (firings_at self.old) self.old self.new
             result.settled result.flush }
+        ensures order { IsSwept event (firings_at self.old) self.old self.new result.flush }
         ensures settled { IsTrue result.settled ↔ IsSettled self.new }
         ensures out { result.out.items ≡ sent_from 1 self.new.ports }
         ensures ports { length self.new.ports ≡ length self.old.ports }
@@ -163,6 +167,7 @@ impl Bridge {
         requires { IsAt event (length self.old.ports) }
         ensures happens { Happens event (firings_at self.old) self.old self.new
             result.settled result.flush }
+        ensures order { IsSwept event (firings_at self.old) self.old self.new result.flush }
         ensures settled { IsTrue result.settled ↔ IsSettled self.new }
         ensures out { out.new.items ≡ sent_from 1 self.new.ports }
         ensures ports { length self.new.ports ≡ length self.old.ports }

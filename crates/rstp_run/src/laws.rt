@@ -1,6 +1,7 @@
 //! What holds of every bridge that came from its start by events.
 
 ghost use Rattle.rstp_run.specs.Events.{RunsHappen};
+ghost use Rattle.rstp_run.specs.Laws.{EdgeRests};
 ghost use Rattle.rstp_run.specs.RootPort.{OneRootPort};
 ghost use Rattle.rstp_run.specs.Settled.{
   OfSettledPorts,
@@ -51,4 +52,9 @@ pub fn settled_by_lists()
 /// limit, or fewer to where the bridge is settled.
 pub fn runs_happen()
     ensures { RunsHappen }
+{}
+
+/// At a port that is down, Edge and NotEdge don't enable each other once Discard has been there.
+pub fn edge_rests()
+    ensures { EdgeRests }
 {}
