@@ -1,5 +1,6 @@
 -- Decimal texts of few digits, and the last four digits of longer ones.
-use Rattle.std.proofs.Common.{◌≡◌, ℕ, ◌+◌, ◌/◌, ◌%◌, ◌<◌, ◌≤◌, ◌^◌, [], ◌∷◌, ◌++◌, ap, ◌∙◌, arith}
+use Rattle.std.proofs.Common.{◌≡◌, ℕ, ◌+◌, ◌/◌, ◌%◌, ◌<◌, ◌≤◌, ◌^◌, List, [], ◌∷◌, ◌++◌, ap, sym, ◌∙◌, arith}
+use Rattle.std.proofs.Common.{append_assoc}
 use Rattle.std.specs.Fmt.{decimal}
 use Rattle.std.proofs.lemmas.Fmt.{decimal_digit, decimal_step}
 use Rattle.itoa.proofs.Decimal.{decimal_four}
@@ -50,3 +51,18 @@ four_last n least small =
     let c : n % 10000 % 100 / 10 ≡ n % 10000 / 10 % 10 = omega arith in
     let d : n % 10000 % 100 % 10 ≡ n % 10000 % 10 = omega arith in
     rw (decimal_four n least small, a, c, d)
+
+-- the same behind other octets
+pub four_behind : (xs : List ℕ) (n : ℕ) → 10000 ≤ n → n < 2 ^ 64
+    → (xs ++ decimal (n / 10000)) ++ four_digits (n % 10000) ≡ xs ++ decimal n
+four_behind xs n least small =
+    append_assoc xs (decimal (n / 10000)) (four_digits (n % 10000)) ∙ ap (λ x. xs ++ x) (sym (four_last n least small))
+
+-- the same but for the last eight digits
+pub eight_behind : (xs : List ℕ) (n : ℕ) → 100000000 ≤ n → n < 2 ^ 64
+    → ((xs ++ decimal (n / 100000000)) ++ four_digits (n / 10000 % 10000)) ++ four_digits (n % 10000) ≡ xs ++ decimal n
+eight_behind xs n least small =
+    let a : n / 100000000 ≡ n / 10000 / 10000 = omega arith in
+    ap (λ m. ((xs ++ decimal m) ++ four_digits (n / 10000 % 10000)) ++ four_digits (n % 10000)) a
+    ∙ ap (λ x. x ++ four_digits (n % 10000)) (four_behind xs (n / 10000) (omega (arith, least)) (omega (arith, small)))
+    ∙ four_behind xs n (omega (arith, least)) small

@@ -3,8 +3,8 @@
 use Rattle.std.specs.Prelude.{◌≡◌, ℕ, ◌+◌, ◌-◌, ◌≤◌, Bool, true, ◌&&◌, nat_lt, nat_le, if◌then◌else◌, List, [], ◌∷◌}
 use Rattle.std.specs.Prelude.{length, take, drop, Option, Some, None, Result, Ok, Err}
 use Rattle.byteorder.specs.Endian.{big_number}
-use Rattle.ether_wire.specs.declared.frame.TheConstants.{SOURCE_PLACE, TYPE_PLACE, PAYLOAD_PLACE, MOST_OCTETS}
-use Rattle.ether_wire.specs.declared.frame.TheConstants.{MOST_LENGTH, TOO_SHORT, TOO_LONG, LENGTH_BEYOND}
+use Rattle.ether_wire.specs.Numbers.{SOURCE_PLACE, TYPE_PLACE, PAYLOAD_PLACE, MOST_OCTETS}
+use Rattle.ether_wire.specs.Numbers.{MOST_LENGTH, TOO_SHORT, TOO_LONG, LENGTH_BEYOND}
 use Rattle.ether_wire.specs.declared.frame.FrameRefusal.{FrameRefusal}
 use Rattle.ether_wire.specs.declared.frame.FrameRefusal.TheVariants.{Short, Long, BadLength}
 use Rattle.ether_wire.specs.declared.frame.Kind.{Kind}

@@ -1,6 +1,7 @@
 //! Octets at the front of an array, to which more are put in place.
-ghost use Rattle.std.specs.Prelude.{◌≡◌, ◌++◌, ◌+◌, ◌==◌, nat_le, [], length, true, false};
+ghost use Rattle.std.specs.Prelude.{◌≡◌, ◌++◌, ◌+◌, ◌==◌, ◌≤◌, nat_le, [], length, take, true, false};
 
+use crate::text::word_at;
 use std::marker::Model;
 
 /// At most N octets, one after the other. It takes no memory.
@@ -68,5 +69,28 @@ impl<const N: usize> Piece<N> {
         all[len..len + more].copy_from_slice(octets);
         self.len = len + more;
         true
+    }
+
+    /// Returns the first `len` octets of an array.
+    pub fn of(octets: [u8; N], len: usize) -> Self
+        requires { len ≤ N }
+        ensures { result ≡ take len octets.entry }
+    {
+        Piece { octets, len }
+    }
+
+    /// Writes the octets into a line from a place on, and returns the place after them. All of the
+    /// array is copied, whose length is known where it is compiled.
+    #[tactic(auto, using(crate::proofs::Appending::part_behind))]
+    #[inline(always)]
+    pub fn write_at(&self, line: &mut [u8], at: usize) -> usize
+        requires { at + N ≤ length line.old }
+        ensures text { take result line.new ≡ take at line.old ++ self.now }
+        ensures end { result ≤ at + N }
+        ensures len { length line.new ≡ length line.old }
+    {
+        let all = &self.octets[..];
+        let _ = word_at(line, at, all);
+        at + self.len
     }
 }

@@ -20,3 +20,4 @@ pub mod Sames
 pub mod WinnerTrees
 pub mod Trees
 pub mod Abouts
+pub mod HexGroups

@@ -4,7 +4,7 @@ use Rattle.route_join.specs.declared.table.Taken.{Taken}
 use Rattle.route_join.specs.declared.table.Taken.TheVariants.{Newer, Known}
 use Rattle.route_join.specs.declared.table.TakeError.{TakeError}
 use Rattle.route_join.specs.declared.table.TakeError.TheVariants.{UnknownOriginator, NoMemory}
-use Rattle.route_wire.specs.declared.reason.TheConstants.{UNKNOWN_ORIGINATOR, NO_MEMORY}
+use Rattle.route_wire.specs.Numbers.{UNKNOWN_ORIGINATOR, NO_MEMORY}
 use Rattle.route_wire.specs.Fields.{Fields}
 use Rattle.route_join.specs.Table.{Table, value_at, is_news}
 

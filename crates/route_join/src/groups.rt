@@ -14,7 +14,7 @@ ghost use Rattle.route_join.specs.Inner.Report.{report_lines};
 ghost use Rattle.route_join.specs.Inner.Lines.{group_lines};
 
 use crate::group::Group;
-use crate::report::{put_owner, put_updates, subject_text};
+use crate::report::{LINE, put_owner, put_updates, subject_text};
 use crate::salt::Salted;
 use crate::subject::{Subject, subject_of};
 use crate::table::Taken;
@@ -158,18 +158,22 @@ impl<'a> Iterator for GroupsIter<'a> {
 /// Writes the report of a group: the lines of its registers, and behind them, where they are about
 /// an address, that of its owner.
 #[tactic(auto, using(ether_wire::proofs::Appending::with_text_twice))]
-fn put_group<O: Out>(out: &mut O, subject: &Subject, group: &Group) -> Result<(), Device>
+fn put_group<O: Out>(
+    out: &mut O,
+    line: &mut [u8; LINE],
+    subject: &Subject,
+    group: &Group,
+) -> Result<(), Device>
     requires room { IsOpen (O.end out.old) }
     requires about { AreAbout subject.now (entries_of group.now) }
     requires some { IsSome (entries_of group.now) }
     ensures { Puts (O.end out.old) (O.end out.new) (report_lines (entries_of group.now)) result }
 {
-    let characters = subject_text(subject);
-    let text = characters.as_slice();
-    put_updates(out, text, group.updates())?;
+    let text = subject_text(subject);
+    put_updates(out, line, &text, group.updates())?;
     match subject.mac() {
         None => Ok(()),
-        Some(_) => put_owner(out, text, group.owner()),
+        Some(_) => put_owner(out, line, &text, group.owner()),
     }
 }
 
@@ -179,8 +183,9 @@ pub(crate) fn put_groups<O: Out>(out: &mut O, groups: &Groups) -> Result<(), Dev
     requires groups { AreGroups groups.now }
     ensures { Puts (O.end out.old) (O.end out.new) (group_lines groups.now) result }
 {
+    let mut line = [0; LINE];
     for (subject, group) in groups.iter() {
-        put_group(out, subject, group)?;
+        put_group(out, &mut line, subject, group)?;
     }
     Ok(())
 }

@@ -1,6 +1,8 @@
-//! The text of a report, piece by piece. It takes no memory.
-ghost use Rattle.std.specs.Prelude.{◌≡◌, ◌++◌, codes};
+//! The text of a report, line by line. A line is built in one array and written by one call; it
+//! takes no memory.
+ghost use Rattle.std.specs.Prelude.{◌≡◌, ◌+◌, ◌≤◌, ◌++◌, codes, length, take};
 ghost use Rattle.ether_wire.specs.Ends.{IsOpen, Puts};
+ghost use Rattle.ether_wire.specs.Addr.{hex_group};
 ghost use Rattle.route_wire.specs.Order.{label2_of};
 ghost use Rattle.route_wire.specs.Text.{groups_text, addr6_text, ip_text, ip_words};
 ghost use Rattle.route_join.specs.Table.{entries_of};
@@ -10,145 +12,179 @@ ghost use Rattle.route_join.specs.Report.{spaced, counter_text, flood_state, mac
 
 use crate::subject::Subject;
 use crate::updates::UpdatesOf;
-use arrayvec::ArrayVec;
-use ether_wire::{Addr, Device, Out, Vni, mac_characters, put_addr, put_decimal, put_hex_group};
+use ether_wire::{
+    Addr, Device, Out, Piece, Vni, addr_at, decimal_at, hex_group_at, mac_characters, word_at,
+};
 use route_wire::{Addr6, Advert, Content, Ip, Key, Register, Update, Value};
 
-/// Writes four groups of four hexadecimal digits with colons.
-#[tactic(auto, using(ether_wire::proofs::Appending::with_text_twice), unfolding(route_wire::specs::Text::groups_text))]
-fn put_groups<O: Out>(out: &mut O, number: u64) -> Result<(), Device>
-    requires { IsOpen (O.end out.old) }
-    ensures { Puts (O.end out.old) (O.end out.new) (groups_text number) result }
+/// More octets than a line has: 8 for its first word, 48 for its subject, 19 for an originator, 49
+/// for a counter, 33 for a state, 43 for an IP address, 32 for a second label and 3 between them.
+pub(crate) const LINE: usize = 256;
+
+/// The octets of a subject's text, and what is copied with it.
+const SUBJECT: usize = 48;
+
+/// Writes two groups of four hexadecimal digits with a colon.
+fn two_groups_at(line: &mut [u8], at: usize, high: u16, low: u16) -> usize
+    requires { at + 9 ≤ length line.old }
+    ensures text { take result line.new
+        ≡ take at line.old ++ hex_group high ++ codes ":" ++ hex_group low }
+    ensures end { result ≤ at + 9 }
+    ensures len { length line.new ≡ length line.old }
 {
-    put_hex_group(out, (number / 0x1_0000_0000_0000 % 0x1_0000) as u16)?;
-    out.put(b":")?;
-    put_hex_group(out, (number / 0x1_0000_0000 % 0x1_0000) as u16)?;
-    out.put(b":")?;
-    put_hex_group(out, (number / 0x1_0000 % 0x1_0000) as u16)?;
-    out.put(b":")?;
-    put_hex_group(out, (number % 0x1_0000) as u16)
+    let at = hex_group_at(line, at, high);
+    let at = word_at(line, at, b":");
+    hex_group_at(line, at, low)
+}
+
+/// Writes four groups of four hexadecimal digits with colons.
+fn groups_at(line: &mut [u8], at: usize, number: u64) -> usize
+    requires { at + 19 ≤ length line.old }
+    ensures text { take result line.new ≡ take at line.old ++ groups_text number }
+    ensures end { result ≤ at + 19 }
+    ensures len { length line.new ≡ length line.old }
+{
+    let (first, second) = (number / 0x1_0000_0000_0000, number / 0x1_0000_0000);
+    let at = two_groups_at(
+        line,
+        at,
+        (first % 0x1_0000) as u16,
+        (second % 0x1_0000) as u16,
+    );
+    let at = word_at(line, at, b":");
+    let third = number / 0x1_0000 % 0x1_0000;
+    two_groups_at(line, at, third as u16, (number % 0x1_0000) as u16)
 }
 
 /// Writes eight groups of four hexadecimal digits with colons.
-#[tactic(auto, using(ether_wire::proofs::Appending::with_text_twice))]
-fn put_addr6<O: Out>(out: &mut O, address: Addr6) -> Result<(), Device>
-    requires { IsOpen (O.end out.old) }
-    ensures { Puts (O.end out.old) (O.end out.new) (addr6_text address) result }
+fn addr6_at(line: &mut [u8], at: usize, address: Addr6) -> usize
+    requires { at + 39 ≤ length line.old }
+    ensures text { take result line.new ≡ take at line.old ++ addr6_text address }
+    ensures end { result ≤ at + 39 }
+    ensures len { length line.new ≡ length line.old }
 {
     let number = address.number();
-    put_groups(out, (number / 0x1_0000_0000_0000_0000) as u64)?;
-    out.put(b":")?;
-    put_groups(out, (number % 0x1_0000_0000_0000_0000) as u64)
+    let at = groups_at(line, at, (number / 0x1_0000_0000_0000_0000) as u64);
+    let at = word_at(line, at, b":");
+    groups_at(line, at, (number % 0x1_0000_0000_0000_0000) as u64)
 }
 
 /// Writes the text of an IP address.
-fn put_ip<O: Out>(out: &mut O, ip: Ip) -> Result<(), Device>
-    requires { IsOpen (O.end out.old) }
-    ensures { Puts (O.end out.old) (O.end out.new) (ip_text ip) result }
+fn ip_at(line: &mut [u8], at: usize, ip: Ip) -> usize
+    requires { at + 39 ≤ length line.old }
+    ensures text { take result line.new ≡ take at line.old ++ ip_text ip }
+    ensures end { result ≤ at + 39 }
+    ensures len { length line.new ≡ length line.old }
 {
     match ip {
-        Ip::V4(address) => put_addr(out, address),
-        Ip::V6(address) => put_addr6(out, address),
+        Ip::V4(address) => addr_at(line, at, address),
+        Ip::V6(address) => addr6_at(line, at, address),
     }
 }
 
 /// Writes the IP address of a key that has one.
-#[tactic(auto, using(ether_wire::proofs::Appending::with_text_twice, ether_wire::proofs::Appending::with_text_none))]
-fn put_ip_words<O: Out>(out: &mut O, ip: Option<Ip>) -> Result<(), Device>
-    requires { IsOpen (O.end out.old) }
-    ensures { Puts (O.end out.old) (O.end out.new) (ip_words ip) result }
+fn ip_words_at(line: &mut [u8], at: usize, ip: Option<Ip>) -> usize
+    requires { at + 43 ≤ length line.old }
+    ensures text { take result line.new ≡ take at line.old ++ ip_words ip }
+    ensures end { result ≤ at + 43 }
+    ensures len { length line.new ≡ length line.old }
 {
     match ip {
-        None => Ok(()),
+        None => at,
         Some(ip) => {
-            out.put(b" ip ")?;
-            put_ip(out, ip)
+            let at = word_at(line, at, b" ip ");
+            ip_at(line, at, ip)
         }
     }
 }
 
 /// Writes the second label of an advert that has one.
-#[tactic(auto, using(ether_wire::proofs::Appending::with_text_twice, ether_wire::proofs::Appending::with_text_none))]
-fn put_label2_words<O: Out>(out: &mut O, label2: Option<Vni>) -> Result<(), Device>
-    requires { IsOpen (O.end out.old) }
-    ensures { Puts (O.end out.old) (O.end out.new) (label2_words label2) result }
+fn label2_words_at(line: &mut [u8], at: usize, label2: Option<Vni>) -> usize
+    requires { at + 32 ≤ length line.old }
+    ensures text { take result line.new ≡ take at line.old ++ label2_words label2 }
+    ensures end { result ≤ at + 32 }
+    ensures len { length line.new ≡ length line.old }
 {
     match label2 {
-        None => Ok(()),
+        None => at,
         Some(label) => {
-            out.put(b" label2 ")?;
-            put_decimal(out, u64::from(label.number()))
+            let at = word_at(line, at, b" label2 ");
+            decimal_at(line, at, u64::from(label.number()))
         }
     }
 }
 
-/// The text of a subject, which each line of its group has. Ten digits at most are of the network,
-/// and 18 characters behind them of the address.
-pub(crate) fn subject_text(subject: &Subject) -> ArrayVec<u8, 28>
-    ensures { result.items ≡ subject_text subject.now }
+/// The text of a subject, which each line of its group has.
+pub(crate) fn subject_text(subject: &Subject) -> Piece<SUBJECT>
+    ensures { result ≡ subject_text subject.now }
 {
-    let mut text = ArrayVec::new();
-    let mut buffer = itoa::Buffer::new();
-    let _ = text.try_extend_from_slice(buffer.format(subject.vni().number()).as_bytes());
+    let mut text = [0; SUBJECT];
+    let mut end = decimal_at(&mut text, 0, u64::from(subject.vni().number()));
     if let Some(mac) = subject.mac() {
-        let _ = text.try_extend_from_slice(b" ");
-        let _ = text.try_extend_from_slice(&mac_characters(mac));
+        end = word_at(&mut text, end, b" ");
+        end = word_at(&mut text, end, &mac_characters(mac));
     }
-    text
+    Piece::of(text, end)
 }
 
 /// Writes a counter, behind its incarnation where that isn't 0.
-#[tactic(auto, using(ether_wire::proofs::Appending::with_text_twice))]
-fn put_counter<O: Out>(out: &mut O, value: &Value) -> Result<(), Device>
-    requires { IsOpen (O.end out.old) }
-    ensures { Puts (O.end out.old) (O.end out.new) (counter_text value.now) result }
+fn counter_at(line: &mut [u8], at: usize, value: &Value) -> usize
+    requires { at + 49 ≤ length line.old }
+    ensures text { take result line.new ≡ take at line.old ++ counter_text value.now }
+    ensures end { result ≤ at + 49 }
+    ensures len { length line.new ≡ length line.old }
 {
+    let mut at = at;
     if value.incarnation != 0 {
-        put_decimal(out, u64::from(value.incarnation))?;
-        out.put(b".")?;
+        at = decimal_at(line, at, u64::from(value.incarnation));
+        at = word_at(line, at, b".");
     }
-    put_decimal(out, value.counter)
+    decimal_at(line, at, value.counter)
 }
 
 /// Writes an originator and the counter of its value, with a space before them.
-#[tactic(auto, using(ether_wire::proofs::Appending::with_text_twice))]
-fn put_origin<O: Out>(out: &mut O, originator: Addr, value: &Value) -> Result<(), Device>
-    requires { IsOpen (O.end out.old) }
-    ensures { Puts (O.end out.old) (O.end out.new)
-        (spaced (origin_text originator value.now)) result }
+fn origin_at(line: &mut [u8], at: usize, originator: Addr, value: &Value) -> usize
+    requires { at + 70 ≤ length line.old }
+    ensures text { take result line.new
+        ≡ take at line.old ++ spaced (origin_text originator value.now) }
+    ensures end { result ≤ at + 70 }
+    ensures len { length line.new ≡ length line.old }
 {
-    out.put(b" ")?;
-    put_addr(out, originator)?;
-    out.put(b" ")?;
-    put_counter(out, value)
+    let at = word_at(line, at, b" ");
+    let at = addr_at(line, at, originator);
+    let at = word_at(line, at, b" ");
+    counter_at(line, at, value)
 }
 
 /// Writes what is said of a flood list.
-fn put_flood_state<O: Out>(out: &mut O, content: &Content) -> Result<(), Device>
-    requires { IsOpen (O.end out.old) }
-    ensures { Puts (O.end out.old) (O.end out.new) (flood_state content.now) result }
+fn flood_state_at(line: &mut [u8], at: usize, content: &Content) -> usize
+    requires { at + 9 ≤ length line.old }
+    ensures text { take result line.new ≡ take at line.old ++ flood_state content.now }
+    ensures end { result ≤ at + 9 }
+    ensures len { length line.new ≡ length line.old }
 {
     match content {
-        Content::Withdrawn => out.put(b"withdrawn"),
-        Content::Advert(_) => out.put(b"up"),
+        Content::Withdrawn => word_at(line, at, b"withdrawn"),
+        Content::Advert(_) => word_at(line, at, b"up"),
     }
 }
 
 /// Writes what is said of a MAC address.
-#[tactic(auto, using(ether_wire::proofs::Appending::with_text_twice))]
-fn put_mac_state<O: Out>(out: &mut O, content: &Content) -> Result<(), Device>
-    requires { IsOpen (O.end out.old) }
-    ensures { Puts (O.end out.old) (O.end out.new) (mac_state content.now) result }
+fn mac_state_at(line: &mut [u8], at: usize, content: &Content) -> usize
+    requires { at + 32 ≤ length line.old }
+    ensures text { take result line.new ≡ take at line.old ++ mac_state content.now }
+    ensures end { result ≤ at + 32 }
+    ensures len { length line.new ≡ length line.old }
 {
     match content {
-        Content::Withdrawn => out.put(b"withdrawn"),
+        Content::Withdrawn => word_at(line, at, b"withdrawn"),
         Content::Advert(advert) => {
-            if advert.is_static {
-                out.put(b"static ")?;
+            let at = if advert.is_static {
+                word_at(line, at, b"static ")
             } else {
-                out.put(b"dynamic ")?;
-            }
-            put_decimal(out, u64::from(advert.sequence))
+                word_at(line, at, b"dynamic ")
+            };
+            decimal_at(line, at, u64::from(advert.sequence))
         }
     }
 }
@@ -164,61 +200,65 @@ fn label2(content: &Content) -> Option<Vni>
 }
 
 /// Writes what is said of a MAC address, with the IP address of its key and the second label.
-#[tactic(auto, using(ether_wire::proofs::Appending::with_text_twice))]
-fn put_mac_words<O: Out>(out: &mut O, ip: Option<Ip>, content: &Content) -> Result<(), Device>
-    requires { IsOpen (O.end out.old) }
-    ensures { Puts (O.end out.old) (O.end out.new) (mac_words ip content.now) result }
+fn mac_words_at(line: &mut [u8], at: usize, ip: Option<Ip>, content: &Content) -> usize
+    requires { at + 108 ≤ length line.old }
+    ensures text { take result line.new ≡ take at line.old ++ mac_words ip content.now }
+    ensures end { result ≤ at + 108 }
+    ensures len { length line.new ≡ length line.old }
 {
-    out.put(b" ")?;
-    put_mac_state(out, content)?;
-    put_ip_words(out, ip)?;
-    put_label2_words(out, label2(content))
+    let at = word_at(line, at, b" ");
+    let at = mac_state_at(line, at, content);
+    let at = ip_words_at(line, at, ip);
+    label2_words_at(line, at, label2(content))
 }
 
 /// Writes the line of a flood list, whose subject has this text.
-#[tactic(auto, using(ether_wire::proofs::Appending::with_text_twice))]
-fn put_flood_line<O: Out>(
-    out: &mut O,
-    subject: &[u8],
+fn flood_line_at(
+    line: &mut [u8; LINE],
+    subject: &Piece<SUBJECT>,
     originator: Addr,
     value: &Value,
-) -> Result<(), Device>
-    requires { IsOpen (O.end out.old) }
-    ensures { Puts (O.end out.old) (O.end out.new)
-        (codes "flood " ++ subject.now ++ spaced (origin_text originator value.now)
-        ++ spaced (flood_state value.now.content) ++ codes "\n") result }
+) -> usize
+    ensures text { take result line.new ≡ codes "flood " ++ subject.now
+        ++ spaced (origin_text originator value.now)
+        ++ spaced (flood_state value.now.content) ++ codes "\n" }
+    ensures end { result ≤ 256 }
 {
-    out.put(b"flood ")?;
-    out.put(subject)?;
-    put_origin(out, originator, value)?;
-    out.put(b" ")?;
-    put_flood_state(out, &value.content)?;
-    out.put(b"\n")
+    let at = word_at(line, 0, b"flood ");
+    let at = subject.write_at(line, at);
+    let at = origin_at(line, at, originator, value);
+    let at = word_at(line, at, b" ");
+    let at = flood_state_at(line, at, &value.content);
+    word_at(line, at, b"\n")
 }
 
 /// Writes the line of a MAC address, whose subject has this text.
-#[tactic(auto, using(ether_wire::proofs::Appending::with_text_twice))]
-fn put_mac_line<O: Out>(
-    out: &mut O,
-    subject: &[u8],
+fn mac_line_at(
+    line: &mut [u8; LINE],
+    subject: &Piece<SUBJECT>,
     ip: Option<Ip>,
     originator: Addr,
     value: &Value,
-) -> Result<(), Device>
-    requires { IsOpen (O.end out.old) }
-    ensures { Puts (O.end out.old) (O.end out.new)
-        (codes "mac " ++ subject.now ++ spaced (origin_text originator value.now)
-        ++ mac_words ip value.now.content ++ codes "\n") result }
+) -> usize
+    ensures text { take result line.new ≡ codes "mac " ++ subject.now
+        ++ spaced (origin_text originator value.now)
+        ++ mac_words ip value.now.content ++ codes "\n" }
+    ensures end { result ≤ 256 }
 {
-    out.put(b"mac ")?;
-    out.put(subject)?;
-    put_origin(out, originator, value)?;
-    put_mac_words(out, ip, &value.content)?;
-    out.put(b"\n")
+    let at = word_at(line, 0, b"mac ");
+    let at = subject.write_at(line, at);
+    let at = origin_at(line, at, originator, value);
+    let at = mac_words_at(line, at, ip, &value.content);
+    word_at(line, at, b"\n")
 }
 
 /// Writes the line of a register, whose subject has this text.
-pub(crate) fn put_update<O: Out>(out: &mut O, subject: &[u8], update: &Update) -> Result<(), Device>
+pub(crate) fn put_update<O: Out>(
+    out: &mut O,
+    line: &mut [u8; LINE],
+    subject: &Piece<SUBJECT>,
+    update: &Update,
+) -> Result<(), Device>
     requires room { IsOpen (O.end out.old) }
     requires text { subject_text (subject_of update.now.register.key) ≡ subject.now }
     ensures { Puts (O.end out.old) (O.end out.new)
@@ -226,46 +266,51 @@ pub(crate) fn put_update<O: Out>(out: &mut O, subject: &[u8], update: &Update) -
 {
     let Register { originator, key } = update.register();
     let value = update.value();
-    match key {
-        Key::Flood(_) => put_flood_line(out, subject, originator, &value),
-        Key::Mac(_, _, ip) => put_mac_line(out, subject, ip, originator, &value),
-    }
+    let end = match key {
+        Key::Flood(_) => flood_line_at(line, subject, originator, &value),
+        Key::Mac(_, _, ip) => mac_line_at(line, subject, ip, originator, &value),
+    };
+    out.put(&line[..end])
 }
 
 /// Writes the address of an owner, or that there is none.
-fn put_owner_name<O: Out>(out: &mut O, owner: Option<Addr>) -> Result<(), Device>
-    requires { IsOpen (O.end out.old) }
-    ensures { Puts (O.end out.old) (O.end out.new) (owner_name owner) result }
+fn owner_name_at(line: &mut [u8], at: usize, owner: Option<Addr>) -> usize
+    requires { at + 19 ≤ length line.old }
+    ensures text { take result line.new ≡ take at line.old ++ owner_name owner }
+    ensures end { result ≤ at + 19 }
+    ensures len { length line.new ≡ length line.old }
 {
     match owner {
-        None => out.put(b"none"),
-        Some(originator) => put_addr(out, originator),
+        None => word_at(line, at, b"none"),
+        Some(originator) => addr_at(line, at, originator),
     }
 }
 
 /// Writes the line of the owner of a MAC address, whose subject has this text.
-#[tactic(auto, using(ether_wire::proofs::Appending::with_text_twice))]
 pub(crate) fn put_owner<O: Out>(
     out: &mut O,
-    subject: &[u8],
+    line: &mut [u8; LINE],
+    subject: &Piece<SUBJECT>,
     owner: Option<Addr>,
 ) -> Result<(), Device>
     requires { IsOpen (O.end out.old) }
     ensures { Puts (O.end out.old) (O.end out.new)
         (codes "owner " ++ subject.now ++ spaced (owner_name owner) ++ codes "\n") result }
 {
-    out.put(b"owner ")?;
-    out.put(subject)?;
-    out.put(b" ")?;
-    put_owner_name(out, owner)?;
-    out.put(b"\n")
+    let at = word_at(line, 0, b"owner ");
+    let at = subject.write_at(line, at);
+    let at = word_at(line, at, b" ");
+    let at = owner_name_at(line, at, owner);
+    let end = word_at(line, at, b"\n");
+    out.put(&line[..end])
 }
 
 /// Writes the lines of updates of one subject, which has this text, one after the other.
 #[tactic(auto, using(ether_wire::proofs::Appending::with_text_twice, ether_wire::proofs::Appending::with_text_none))]
 pub(crate) fn put_updates<O: Out>(
     out: &mut O,
-    subject: &[u8],
+    line: &mut [u8; LINE],
+    subject: &Piece<SUBJECT>,
     updates: UpdatesOf<'_>,
 ) -> Result<(), Device>
     requires room { IsOpen (O.end out.old) }
@@ -274,7 +319,7 @@ pub(crate) fn put_updates<O: Out>(
         (register_lines (entries_of updates.entry)) result }
 {
     for update in updates {
-        put_update(out, subject, &update)?;
+        put_update(out, line, subject, &update)?;
     }
     Ok(())
 }

@@ -2,10 +2,10 @@
 use Rattle.std.specs.Prelude.{ℕ, ◌+◌, ◌*◌, Bool, not, ◌||◌, ◌==◌, if◌then◌else◌, List, [], ◌∷◌, ◌++◌, length}
 use Rattle.std.specs.Prelude.{Option, Some, None}
 use Rattle.byteorder.specs.Endian.{big_bytes}
-use Rattle.route_wire.specs.declared.route.TheConstants.{MAC_ROUTE, FLOOD_ROUTE, FLOOD_LEN, MAC_LEN, BITS_OF_MAC}
-use Rattle.route_wire.specs.declared.route.TheConstants.{BITS_OF_ROUTER, COMMUNITY_TYPE}
-use Rattle.route_wire.specs.declared.stream.TheConstants.{MAGIC_FIRST, MAGIC_SECOND, NEWEST, ADVERTISES, WITHDRAWS}
-use Rattle.route_wire.specs.declared.stream.TheConstants.{LEAST_LATER}
+use Rattle.route_wire.specs.Numbers.{MAC_ROUTE, FLOOD_ROUTE, FLOOD_LEN, MAC_LEN, BITS_OF_MAC}
+use Rattle.route_wire.specs.Numbers.{BITS_OF_ROUTER, COMMUNITY_TYPE}
+use Rattle.route_wire.specs.Numbers.{MAGIC_FIRST, MAGIC_SECOND, NEWEST, ADVERTISES, WITHDRAWS}
+use Rattle.route_wire.specs.Numbers.{LEAST_LATER}
 use Rattle.route_wire.specs.declared.update.Ip.{Ip}
 use Rattle.route_wire.specs.declared.update.Ip.TheVariants.{V4, V6}
 use Rattle.route_wire.specs.declared.update.Key.{Key}

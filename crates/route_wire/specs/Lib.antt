@@ -10,3 +10,4 @@ pub mod Encode
 pub mod Text
 pub mod Feed
 pub mod Inner
+pub mod Numbers

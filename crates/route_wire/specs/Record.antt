@@ -3,11 +3,11 @@ use Rattle.std.specs.Prelude.{◌≡◌, ℕ, ◌%◌, Bool, true, false, not, �
 use Rattle.std.specs.Prelude.{slice_index, Option, Some, None, Result, Ok, Err}
 use Rattle.byteorder.specs.Endian.{big_number}
 use Rattle.route_wire.specs.declared.record.Header.{Header}
-use Rattle.route_wire.specs.declared.record.TheConstants.{ORIGINATOR_PLACE, FIRST_COUNTER_PLACE, FIRST_VNI_PLACE}
-use Rattle.route_wire.specs.declared.record.TheConstants.{FIRST_ROUTE_PLACE, INCARNATION_PLACE, COUNTER_PLACE}
-use Rattle.route_wire.specs.declared.record.TheConstants.{VNI_PLACE, ROUTE_PLACE}
-use Rattle.route_wire.specs.declared.route.TheConstants.{MAC_PLACE, FLAGS_PLACE, SEQUENCE_PLACE}
-use Rattle.route_wire.specs.declared.stream.TheConstants.{VERSION_PLACE, KIND_PLACE, FIRST_VERSION, NEWEST, WITHDRAWS}
+use Rattle.route_wire.specs.Numbers.{ORIGINATOR_PLACE, FIRST_COUNTER_PLACE, FIRST_VNI_PLACE}
+use Rattle.route_wire.specs.Numbers.{FIRST_ROUTE_PLACE, INCARNATION_PLACE, COUNTER_PLACE}
+use Rattle.route_wire.specs.Numbers.{VNI_PLACE, ROUTE_PLACE}
+use Rattle.route_wire.specs.Numbers.{MAC_PLACE, FLAGS_PLACE, SEQUENCE_PLACE}
+use Rattle.route_wire.specs.Numbers.{VERSION_PLACE, KIND_PLACE, FIRST_VERSION, NEWEST, WITHDRAWS}
 use Rattle.route_wire.specs.declared.stream.Whole.{Whole}
 use Rattle.route_wire.specs.declared.stream.Whole.TheVariants.{Rest, Fault, Length}
 use Rattle.route_wire.specs.declared.update.Key.{Key}

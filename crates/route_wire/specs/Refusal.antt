@@ -4,12 +4,12 @@ use Rattle.std.specs.Prelude.{List, [], ◌∷◌, length, take, drop, slice_ind
 use Rattle.std.specs.List.{list_any}
 use Rattle.byteorder.specs.Endian.{big_number}
 use Rattle.ether_wire.specs.Addr.{is_group}
-use Rattle.route_wire.specs.declared.reason.TheConstants.{UNKNOWN_TYPE, BAD_ROUTE, RD_MISMATCH, MULTIHOMED}
-use Rattle.route_wire.specs.declared.reason.TheConstants.{TAG_UNSUPPORTED, LABEL_MISMATCH, BAD_MAC, COUNTER_ZERO}
-use Rattle.route_wire.specs.declared.route.TheConstants.{MAC_ROUTE, FLOOD_ROUTE, RD_TYPE_PLACE, RD_ADDR_PLACE}
-use Rattle.route_wire.specs.declared.route.TheConstants.{SEGMENT_PLACE, SEGMENT_LEN, MAC_TAG_PLACE, FLOOD_TAG_PLACE}
-use Rattle.route_wire.specs.declared.route.TheConstants.{MAC_BITS_PLACE, MAC_PLACE, IP_PLACE, ROUTER_PLACE, BITS_OF_MAC}
-use Rattle.route_wire.specs.declared.route.TheConstants.{COMMUNITY_LEN, COMMUNITY_TYPE}
+use Rattle.route_wire.specs.Numbers.{UNKNOWN_TYPE, BAD_ROUTE, RD_MISMATCH, MULTIHOMED}
+use Rattle.route_wire.specs.Numbers.{TAG_UNSUPPORTED, LABEL_MISMATCH, BAD_MAC, COUNTER_ZERO}
+use Rattle.route_wire.specs.Numbers.{MAC_ROUTE, FLOOD_ROUTE, RD_TYPE_PLACE, RD_ADDR_PLACE}
+use Rattle.route_wire.specs.Numbers.{SEGMENT_PLACE, SEGMENT_LEN, MAC_TAG_PLACE, FLOOD_TAG_PLACE}
+use Rattle.route_wire.specs.Numbers.{MAC_BITS_PLACE, MAC_PLACE, IP_PLACE, ROUTER_PLACE, BITS_OF_MAC}
+use Rattle.route_wire.specs.Numbers.{COMMUNITY_LEN, COMMUNITY_TYPE}
 use Rattle.route_wire.specs.declared.record.Header.{Header}
 use Rattle.ether_wire.specs.Frame.{first_of}
 use Rattle.route_wire.specs.Route.{route_type, route_len, is_mac_route, ip_len, is_listed_len, tail_of, ip_bits}

@@ -2,9 +2,9 @@
 use Rattle.std.specs.Prelude.{ℕ, ◌+◌, ◌*◌, Bool, ◌||◌, ◌==◌, nat_lt, if◌then◌else◌, List, drop}
 use Rattle.std.specs.Prelude.{slice_index, Option, Some, None}
 use Rattle.byteorder.specs.Endian.{big_number}
-use Rattle.route_wire.specs.declared.route.TheConstants.{MAC_ROUTE, IP_BITS_PLACE, IP_PLACE, LABEL2_PLACE}
-use Rattle.route_wire.specs.declared.route.TheConstants.{ROUTER_BITS_PLACE, FLOOD_LEN, MAC_LEN, MAC_LEN_LABEL2}
-use Rattle.route_wire.specs.declared.route.TheConstants.{MAC_LEN_V4, MAC_LEN_V6, BITS_OF_ROUTER}
+use Rattle.route_wire.specs.Numbers.{MAC_ROUTE, IP_BITS_PLACE, IP_PLACE, LABEL2_PLACE}
+use Rattle.route_wire.specs.Numbers.{ROUTER_BITS_PLACE, FLOOD_LEN, MAC_LEN, MAC_LEN_LABEL2}
+use Rattle.route_wire.specs.Numbers.{MAC_LEN_V4, MAC_LEN_V6, BITS_OF_ROUTER}
 use Rattle.route_wire.specs.declared.update.Ip.{Ip}
 use Rattle.route_wire.specs.declared.update.Ip.TheVariants.{V4, V6}
 

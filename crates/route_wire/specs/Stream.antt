@@ -3,10 +3,10 @@ use Rattle.std.specs.Prelude.{◌≡◌, ℕ, ◌+◌, ◌<◌, ◌≤◌, Bool,
 use Rattle.std.specs.Prelude.{length, take, drop, slice_index, Option, Some, None}
 use Rattle.byteorder.specs.Endian.{big_number}
 use Rattle.ether_wire.specs.Frame.{first_of}
-use Rattle.route_wire.specs.declared.reason.TheConstants.{BAD_MAGIC, BAD_VERSION, BAD_KIND, BAD_LENGTH}
-use Rattle.route_wire.specs.declared.stream.TheConstants.{MAGIC_FIRST, MAGIC_SECOND, VERSION_PLACE, KIND_PLACE}
-use Rattle.route_wire.specs.declared.stream.TheConstants.{LENGTH_PLACE, LENGTH_END, HEAD, FIRST_VERSION, NEWEST}
-use Rattle.route_wire.specs.declared.stream.TheConstants.{ADVERTISES, WITHDRAWS, LEAST_FIRST, LEAST_LATER, MOST}
+use Rattle.route_wire.specs.Numbers.{BAD_MAGIC, BAD_VERSION, BAD_KIND, BAD_LENGTH}
+use Rattle.route_wire.specs.Numbers.{MAGIC_FIRST, MAGIC_SECOND, VERSION_PLACE, KIND_PLACE}
+use Rattle.route_wire.specs.Numbers.{LENGTH_PLACE, LENGTH_END, HEAD, FIRST_VERSION, NEWEST}
+use Rattle.route_wire.specs.Numbers.{ADVERTISES, WITHDRAWS, LEAST_FIRST, LEAST_LATER, MOST}
 use Rattle.route_wire.specs.declared.stream.Whole.{Whole}
 use Rattle.route_wire.specs.declared.stream.Whole.TheVariants.{Rest, Fault, Length}
 

@@ -1,1 +1,2 @@
 pub mod Vxlan
+pub mod Numbers

@@ -3,7 +3,7 @@ use Rattle.std.specs.Prelude.{ℕ, ◌/◌, ◌%◌, Bool, not, ◌==◌, nat_lt
 use Rattle.std.specs.Prelude.{Result}
 use Rattle.byteorder.specs.Endian.{big_number, big_bytes}
 use Rattle.ether_wire.specs.Frame.{first_of, read_as}
-use Rattle.vxlan_wire.specs.declared.vxlan.TheConstants.{HEADER_LEN, VNI_PLACE, INSTANCE_FLAG, TOO_SHORT, NO_INSTANCE}
+use Rattle.vxlan_wire.specs.Numbers.{HEADER_LEN, VNI_PLACE, INSTANCE_FLAG, TOO_SHORT, NO_INSTANCE}
 use Rattle.vxlan_wire.specs.declared.vxlan.VxlanRefusal.{VxlanRefusal}
 use Rattle.vxlan_wire.specs.declared.vxlan.VxlanRefusal.TheVariants.{Short, NoInstance}
 

@@ -2,7 +2,7 @@
 ghost use Rattle.std.specs.Prelude.{◌≡◌};
 
 use crate::{
-    Addr, Mac, Page, Vni, parted, put_addr, put_decimal, put_hex_group, put_mac, read_decimal,
+    Addr, Mac, Page, Vni, hex_group_at, parted, put_addr, put_decimal, put_mac, read_decimal,
 };
 use std::test::Fail;
 
@@ -53,9 +53,9 @@ fn names_are_put_as_they_are_printed(rt: HostRuntime) {
     let mut page: Page<64> = Page::new();
     assert!(rt; put_decimal(&mut page, u64::MAX).is_ok());
     assert_eq!(rt; page.octets(), b"18446744073709551615".as_slice());
-    let mut page: Page<64> = Page::new();
-    assert!(rt; put_hex_group(&mut page, 0x0db8).is_ok());
-    assert_eq!(rt; page.octets(), b"0db8".as_slice());
+    let mut line = [b'x'; 6];
+    assert_eq!(rt; hex_group_at(&mut line, 1, 0x0db8), 5);
+    assert_eq!(rt; line.as_slice(), b"x0db8x".as_slice());
 }
 
 #[test]
@@ -167,6 +167,8 @@ fn octets_of_addresses_are_put_without_leading_zeros(rt: HostRuntime) {
 fn each_hexadecimal_digit_is_put(rt: HostRuntime) {
     let mut page: Page<64> = Page::new();
     assert!(rt; put_mac(&mut page, Mac::new(0x0123_4567_89ab)).is_ok());
-    assert!(rt; put_hex_group(&mut page, 0xcdef).is_ok());
-    assert_eq!(rt; page.octets(), b"01:23:45:67:89:abcdef".as_slice());
+    assert_eq!(rt; page.octets(), b"01:23:45:67:89:ab".as_slice());
+    let mut line = [b'x'; 4];
+    assert_eq!(rt; hex_group_at(&mut line, 0, 0xcdef), 4);
+    assert_eq!(rt; line.as_slice(), b"cdef".as_slice());
 }

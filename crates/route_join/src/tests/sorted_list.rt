@@ -4,7 +4,7 @@ ghost use Rattle.std.specs.Prelude.{◌≤◌, length};
 
 use crate::Table;
 use crate::owner::advert_in;
-use crate::report::{put_owner, put_update, subject_text};
+use crate::report::{LINE, put_owner, put_update, subject_text};
 use crate::subject::{Subject, subject_of};
 use arrayvec::ArrayVec;
 use ether_wire::{Addr, Mac, Out, Page, Vni};
@@ -132,6 +132,7 @@ impl Plain {
         if page.failures() == 0 && self.ends_at(at, vni, mac) {
             let _ = put_owner(
                 page,
+                &mut [0; LINE],
                 &subject_text(&Subject::address(vni, mac)),
                 self.owner(vni, mac),
             );
@@ -144,6 +145,7 @@ impl Plain {
             if page.failures() == 0
                 && put_update(
                     &mut page,
+                    &mut [0; LINE],
                     &subject_text(&subject_of(&update.register().key)),
                     update,
                 )

@@ -1,6 +1,6 @@
 -- The parts of a route (RFC 7432, sections 7.2, 7.3 and 7.7; RFC 8365 for the first label), from its type octet on.
 use Rattle.std.specs.Prelude.{◌≡◌, ◌⊎◌, ℕ, ◌+◌, ◌≤◌, if◌then◌else◌, List, length}
-use Rattle.route_wire.specs.declared.route.TheConstants.{MAC_ROUTE, FLOOD_ROUTE, LABEL2_PLACE}
+use Rattle.route_wire.specs.Numbers.{MAC_ROUTE, FLOOD_ROUTE, LABEL2_PLACE}
 use Rattle.route_wire.specs.Route.{route_type, route_len, ip_len, has_label2}
 
 -- what a route holds that isn't refused as bad

@@ -19,7 +19,7 @@ pub put_updates-requires-clause-text : goal.put_updates-requires-clause-text
 put_updates-requires-clause-text g c =
     let s = c.args.subject.now in
     subst (λ t. HaveText t (entries_of c.updates.result))
-    (sym (c.as_slice-text.ensures.value ∙ c.subject_text-characters.ensures))
+    (sym c.subject_text-text.ensures)
     (subst (λ us. HaveText (subject_text s) (entries_of us)) (sym c.updates.ensures.value)
     (have_text s (entries_of c.args.group.now) c.requires.about))
 
@@ -32,7 +32,7 @@ returns-in-Some g c =
     let lines = register_lines (entries_of c.updates.result) in
     let put = subst (λ (text : List ℕ). Puts (g.O.Out.end c.put_updates.new.out) (g.O.Out.end c.put_owner.new.out)
     (line text) c.put_owner.result)
-    (c.as_slice-text.ensures.value ∙ c.subject_text-characters.ensures ∙ ap (place_text s.vni) is)
+    (c.subject_text-text.ensures ∙ ap (place_text s.vni) is)
     c.put_owner.ensures in
     subst (λ (text : List ℕ). Puts (g.O.Out.end c.args.out.now) (g.O.Out.end c.put_owner.new.out) text
     c.put_owner.result)
