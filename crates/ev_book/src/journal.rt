@@ -1,6 +1,6 @@
 //! The journal of an edge: the updates that it took, and its own, in the order in which they came.
 //! It is compacted where it has grown to twice as many as the edge's table has registers.
-ghost use Rattle.std.specs.Prelude.{◌≡◌, ◌+◌, ◌*◌, ◌≤◌, ◌++◌, [], true, length, OnOk, OnErr, IfSome, vec_len, vec_capacity};
+ghost use Rattle.std.specs.Prelude.{◌≡◌, ◌+◌, ◌*◌, ◌<◌, ◌≤◌, ◌++◌, [], true, length, OnOk, OnErr, IfSome, vec_len, vec_capacity};
 ghost use Rattle.std.specs.Bool.{OnFalse};
 ghost use Rattle.route_wire.specs.Record.{Answers};
 ghost use Rattle.ether_wire.specs.Ends.{IsOpen, Puts};
@@ -217,6 +217,8 @@ impl Journal {
         ensures writer { OnErr result (may_write event.now ≡ true) }
         ensures full { OnErr result (IsFull (table_of edge.now)
             self.old.updates.items self.new.updates.items) }
+        ensures missing { OnErr result (vec_capacity self.new.updates
+            < vec_len self.new.updates + most_written event.now edge.now.routes) }
         ensures table { IsTableOf self.new.updates.items (table_of edge.now) }
         ensures least { self.new.least ≤ register_count (table_of edge.now) }
         ensures room { OnOk result (vec_len self.new.updates

@@ -44,10 +44,10 @@ module _ {I O : Type 0} where
       ap (λ l. l ++ outputs_back before) pushed
       ∙ (append_assoc outputs (link.output ∷ []) (outputs_back before)
       ∙ (ap (λ l. outputs ++ l)
-          (sym (ap outputs_back popped ∙ ap (map (λ l. l.output)) (reverse-append before (link ∷ [])))) ∙ so_far))
+      (sym (ap outputs_back popped ∙ ap (map (λ l. l.output)) (reverse-append before (link ∷ [])))) ∙ so_far))
 
   -- what is sent over at ports, port 1 first again
   pub port_1_first : (tunnel : O) (links : List (Link I O)) → tunnel ∷ reverse (outputs_back links) ≡ outputs_of tunnel links
   port_1_first tunnel links =
       ap (λ l. tunnel ∷ l)
-          (ap reverse (map_reverse (λ l. l.output) links) ∙ reverse-reverse (map (λ l. l.output) links))
+      (ap reverse (map_reverse (λ l. l.output) links) ∙ reverse-reverse (map (λ l. l.output) links))

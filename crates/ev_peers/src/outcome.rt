@@ -68,7 +68,7 @@ impl Faults {
 
     /// Both together.
     pub(crate) fn and(self, other: Faults) -> Self
-        ensures { result ≡ both_faults self.entry other }
+        ensures { result ≡ both_faults self other }
     {
         Faults {
             lost: self.lost.saturating_add(other.lost),
@@ -79,7 +79,7 @@ impl Faults {
 
     /// With what one more worker ended with.
     pub(crate) fn with(self, ended: Ended) -> Self
-        ensures { result ≡ with_end ended self.entry }
+        ensures { result ≡ with_end ended self }
     {
         Faults {
             lost: self.lost,
@@ -90,7 +90,7 @@ impl Faults {
 
     /// With whether a call of the book was refused memory.
     pub(crate) fn with_out_of_memory(self, out_of_memory: bool) -> Self
-        ensures { result ≡ with_memory out_of_memory self.entry }
+        ensures { result ≡ with_memory out_of_memory self }
     {
         Faults {
             memory: self.memory || out_of_memory,
@@ -100,7 +100,7 @@ impl Faults {
 
     /// With what was lost over one more link.
     pub(crate) fn with_lost(self, sent: Sent) -> Self
-        ensures { result ≡ with_sent sent self.entry }
+        ensures { result ≡ with_sent sent self }
     {
         let faults = self.with(sent.1);
         Faults {
