@@ -155,6 +155,7 @@ fn with_tunnel<O: Drop>(outputs: Vec<O>, tunnel: O) -> Vec<O>
 }
 
 /// What the threads of an edge with these links and ports need.
+#[tactic(auto, using(ev_peers::proofs::Plans::port_1_first))]
 pub(crate) fn planned<L: Ledger, I: Drop, O: Drop>(
     alloc: Global,
     links: EdgeLinks<I, O>,
