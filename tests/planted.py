@@ -4,9 +4,9 @@
 usage: tests/planted.py [CRATE..]      (at the top of the repository, where `rt check` has kept work of the crates; default: all)
 
 The wrong body is that of the crate's first must-fail edit which changes one; the wrong expectation is the first comparison of
-its tests, turned round. Each is planted into the sources as they stand, and put back. What judges is what the gate calls of a
-crate (tools/gate/gate.py: `Crate.ci`), over a copy of the kept work, since from nothing it would take an hour. No part of the
-gate. The last line is 'N passed, M failed'.
+its tests, turned round. Each is planted into a copy of the sources. What judges is what the gate calls of a crate (the rules `proof`
+and `tests` of tools/gate), over a copy of the kept work, since from nothing it would take an hour. No part of the gate. The last line
+is 'N passed, M failed'.
 """
 import os
 import re
@@ -18,37 +18,45 @@ import time
 TOP = os.path.dirname(os.path.dirname(os.path.realpath(__file__)))
 sys.path.insert(0, f"{TOP}/tools/gate")
 import edits
-import gate
-from kit import rt, rtlib
+import facts
+import proofs
+import rooms
+import tried
+from calls import Calls
+from project import RUN_FILES, Project, files_below
 
 ASSERT = re.compile(r"\bassert(_eq)?!\((?:rt; )?")
 
 
-class Planted:
-    """Files that are changed for a while, and put back at the end, however it ends."""
+class Planted(Project):
+    """A copy of a crate, of those below it and of their unproved tests, in which texts stand in the place of its own."""
 
-    def __init__(self, texts):
-        self.texts, self.was = texts, {}
-
-    def __enter__(self):
-        for path, text in self.texts.items():
-            with open(path, encoding="utf-8") as it:
-                self.was[path] = it.read()
-            with open(path, "w", encoding="utf-8") as it:
+    def __init__(self, project, name, room, texts):
+        self.start, crates = project, [*project.reach(name), name]
+        shutil.copytree(os.path.dirname(os.path.dirname(rooms.fill(project, name, f"{room}/room"))), f"{room}/top")
+        for file in RUN_FILES:
+            if os.path.exists(f"{project.folder(name)}/{file}"):
+                shutil.copy(f"{project.folder(name)}/{file}", f"{room}/top/crates/{name}/{file}")
+        for crate in crates:
+            if os.path.isdir(tried.unproved_tests(project, crate)):
+                shutil.copytree(tried.unproved_tests(project, crate), f"{room}/top/tests/unproved/{crate}")
+        for path, text in texts.items():
+            with open(f"{room}/top/{path}", "w", encoding="utf-8") as it:
                 it.write(text)
+        super().__init__(f"{room}/top")
 
-    def __exit__(self, *_):
-        for path, text in self.was.items():
-            with open(path, "w", encoding="utf-8") as it:
-                it.write(text)
+    def proof_out(self, name):
+        """Returns the folder of what `rt check` kept of a crate below in the real repository."""
+        return f"{self.start.folder(name)}/out"
 
 
-def wrong_body(crate):
+def wrong_body(project, name):
     """Returns the texts of the crate's first must-fail edit that changes bodies alone, and its name, or None."""
-    for path in rt.edits_of(crate)[0]:
-        made = edits.applied(path, crate.folder, {})
-        if made and all(it.startswith("src/") for it in made[0]):
-            return {f"{crate.folder}/{it}": text for it, text in made[0].items()}, os.path.basename(path)
+    folder = project.folder(name)
+    for path in edits.edits_of(folder):
+        made = edits.applied(path, folder, {})
+        if made and made.functions and all(it.startswith("src/") for it in made.texts):
+            return {f"crates/{name}/{it}": text for it, text in made.texts.items()}, os.path.basename(path)
     return None
 
 
@@ -74,72 +82,54 @@ def turned_round(text):
     return f"{text[: found.end()]}!({text[found.end() : end]}){text[end:]}"
 
 
-def wrong_expectation(crate):
+def wrong_expectation(project, name):
     """Returns the first file of the crate's tests that has a comparison, and its text with that turned round, or None."""
-    folders = f"{crate.folder}/src", f"{TOP}/tests/unproved/{crate.name}"
-    for path in [f"{at}/{it}" for folder in folders for at, _, files in sorted(os.walk(folder)) for it in sorted(files)]:
+    for path in [*files_below(f"{project.folder(name)}/src"), *files_below(tried.unproved_tests(project, name))]:
         with open(path, encoding="utf-8") as it:
             text = turned_round(it.read())
         if text:
-            return path, text
+            return os.path.relpath(path, project.top), text
     return None
 
 
-def judged(crate, is_tests):
-    """Returns what the gate makes of the crate now: its status, and what was said."""
-    with tempfile.TemporaryFile("a+", errors="replace") as crate.out:
-        status = crate.ci(["--jobs", "1"], is_tests)
-        crate.out.seek(0)
-        return status, crate.out.read()
-
-
-def look_at_body(crate):
+def look_at_body(project, name):
     """Plants a wrong body, and looks whether the gate refuses the crate and misses the function."""
-    texts, name = wrong_body(crate) or (None, None)
+    texts, edit = wrong_body(project, name) or (None, None)
     if texts is None:
         # (a crate of laws, whose edits change definitions)
-        print(f"{crate.name}: no edit of a body", flush=True)
+        print(f"{name}: no edit of a body", flush=True)
         return []
-    shutil.copytree(f"{crate.folder}/{rtlib.KEPT[1]}", f"{gate.Run.folder}/{crate.name}")
-    # what stands in out/ goes on being the right one
-    rlib, crate.rlib = crate.rlib, f"{gate.Run.folder}/rlib/{crate.name}.rlib"
-    with Planted(texts):
-        status, said = judged(crate, False)
-        lacking = gate.unproved([crate])
-    crate.rlib = rlib
-    lost = re.findall(r"^fn (\S+): (?:not proved|no proof)", said, re.M)
-    print(f"{crate.name}: {name}: status {status}, not proved: {' '.join(lost)}; the gate lacks: {len(lacking)}", flush=True)
-    return [f"{name} was not refused"] * (status == 0 or not lost) + [f"{name}: no function was missed"] * (not lacking)
+    with tempfile.TemporaryDirectory(prefix="planted-") as room:
+        copy = Planted(project, name, room, texts)
+        found = proofs.proof(copy, name, Calls(copy.gate), 1, f"{project.folder(name)}/out")
+    failed = facts.of_kind(found, "fail")
+    lost = [it for it in failed if re.match(r"fn \S+: (?:not proved|no proof)", it)]
+    print(f"{name}: {edit}: {failed[:1]}, not proved: {len(lost)}", flush=True)
+    missed = any(it.startswith("no check has proved ") for it in failed)
+    return [f"{edit} was not refused"] * (not lost or "pass 1" in found) + [f"{edit}: no function was missed"] * (not missed)
 
 
-def look_at_tests(crate):
+def look_at_tests(project, name):
     """Plants a wrong expectation, and looks whether the gate fails the crate's tests."""
-    path, text = wrong_expectation(crate) or (None, None)
+    path, text = wrong_expectation(project, name) or (None, None)
     if path is None:
-        print(f"{crate.name}: no tests", flush=True)
+        print(f"{name}: no tests", flush=True)
         return []
-    with Planted({path: text}):
-        status, said = judged(crate, True)
-    at = os.path.relpath(path, TOP)
-    print(f"{crate.name}: a comparison turned round in {at}: status {status}, {said.splitlines()[0] if said else ''}", flush=True)
-    return [f"a wrong expectation in {at} passed"] * (status == 0 or "... FAILED" not in said)
+    with tempfile.TemporaryDirectory(prefix="planted-") as room:
+        copy = Planted(project, name, room, {path: text})
+        failed = facts.of_kind(tried.tests(copy, name, Calls(copy.gate)), "fail")
+    print(f"{name}: a comparison turned round in {path}: {failed[:1]}", flush=True)
+    return [f"a wrong expectation in {path} passed"] * (not any("FAILED" in it for it in failed))
 
 
 def main(names):
-    os.chdir(TOP)
-    rtlib.guarded()
-    lost, passed, start = [], 0, time.monotonic()
-    rtlib.Crate = rt.Crate = gate.Crate
-    gate.Crate.allowed = rt.handles_of(TOP)
-    for crate in sorted(rtlib.crates_below(TOP), key=lambda it: len(it.below())):
-        if names and crate.name not in names:
-            continue
-        with tempfile.TemporaryDirectory(prefix="planted-") as gate.Run.folder:
-            open(f"{gate.Run.folder}/ledger", "w").close()
-            for look in (look_at_body, look_at_tests):
-                found = look(crate)
-                passed += not found
-                lost += [f"{crate.name}: {it}" for it in found]
+    """Looks at these crates, or at all."""
+    project, lost, passed, start = Project(TOP), [], 0, time.monotonic()
+    for name in names or project.order:
+        for look in (look_at_body, look_at_tests):
+            found = look(project, name)
+            passed += not found
+            lost += [f"{name}: {it}" for it in found]
     for it in lost:
         print(it)
     print(f"{time.monotonic() - start:.0f} s")

@@ -1,7 +1,7 @@
 #!/usr/bin/env bash
 # usage: tests/quick.sh [CRATE..]        (default: every crate, and then the tools and the program)
 #
-# All tests that need no proof, in some minutes: each crate's tests, compiled with the kit's checks and run (tools/gate/tried.py),
+# All tests that need no proof, in some minutes: each crate's tests, compiled with the kit's checks and run (tools/gate/make.py tests),
 # and the tools' tests, the program's statuses and the documents' names on a program that isn't proved (tools/try). The last
 # line counts what passed and failed.
 set -u
@@ -24,9 +24,9 @@ count() {
   fi
 }
 
-count python3 tools/gate/tried.py "$@"
+count python3 tools/gate/make.py tests "$@"
 if [ $# = 0 ]; then
-  EVPND=$(tools/try --build evpnd) || exit 1
+  EVPND=$(tools/try --fast --build evpnd) || exit 1
   export EVPND
   count python3 tests/tools/run.py
   count bash tests/statuses.sh

@@ -1,12 +1,18 @@
 """What zebra and bgpd say of their own choice: MACs, VNIs, best paths. Their routes stand in frr_routes.py."""
 
-from typing import Dict, Iterator, List, NamedTuple, Optional, Set, TextIO, Tuple
+import functools
+from dataclasses import dataclass, field
+from typing import Dict, FrozenSet, Iterator, List, Mapping, NamedTuple, Optional, Set, TextIO, Tuple
 
 import frr_routes
 import update_records as records
 from audit_kernel import LOCAL, octets_of, read_json
 from audit_report import Said, best_of
 from update_records import Unreadable
+
+SWITCHED_ON = "Enabled"
+
+address_text = functools.lru_cache(maxsize=None)(records.address_text)
 
 
 class Best(NamedTuple):
@@ -48,13 +54,137 @@ def macs_of(table: object, name: str) -> Dict[bytes, str]:
     return found
 
 
-def read_vnis(text: str, name: str) -> Dict[int, str]:
-    """The VNIs of layer 2, each with its VXLAN device, of `show evpn vni json`."""
-    table = read_json(text, name)
+@dataclass(frozen=True)
+class Vni:
+    """A network as zebra or bgpd knows it: of layer 2, or an L3VNI; bgpd alone knows its RD and its route targets."""
+
+    number: int
+    is_routed: bool
+    device: str = ""
+    rd: str = ""
+    imports: Tuple[str, ...] = ()
+    is_in_kernel: bool = True
+    floods: FrozenSet[str] = frozenset()
+
+
+@dataclass(frozen=True)
+class Instance:
+    """What `show bgp l2vpn evpn vni json` says: bgpd's networks, and two of its switches."""
+
+    vnis: Mapping[int, Vni] = field(default_factory=dict)
+    advertises_all: bool = True
+    floods: bool = True
+
+    def imports(self, stopped: List[int]) -> frr_routes.Imports:
+        """Returns which network imports what; networks that bgpd doesn't run import the targets that it would derive."""
+        exact: Dict[str, Tuple[int, ...]] = {}
+        by_number: Dict[int, Tuple[int, ...]] = {}
+        for vni in self.vnis.values():
+            for target in vni.imports:
+                number = int(target.rpartition(":")[2])
+                if target.startswith("*:") or number in (vni.number, vni.number + frr_routes.AUTO_RT):
+                    by_number[number] = (*by_number.get(number, ()), vni.number)
+                else:
+                    exact[target] = (*exact.get(target, ()), vni.number)
+        for number in stopped:
+            for target in (number, number + frr_routes.AUTO_RT):
+                by_number[target] = (*by_number.get(target, ()), number)
+        own = {vni.rd: vni.number for vni in self.vnis.values() if vni.rd and not vni.is_routed}
+        return frr_routes.Imports(exact, by_number, own)
+
+
+def read_table(text: str, name: str, command: str) -> dict:
+    """An object of JSON; nothing at all is an empty one."""
+    table = read_json(text, name) if text.strip() else {}
+    if not isinstance(table, dict):
+        raise Unreadable(f"{name}: not what '{command}' prints")
+    return table
+
+
+def read_vnis(text: str, name: str, may_be_empty: bool = False) -> Dict[int, Vni]:
+    """The VNIs of `show evpn vni json`, each with its VXLAN device."""
+    table = {} if may_be_empty and not text.strip() else read_json(text, name)
     if not isinstance(table, dict):
         raise Unreadable(f"{name}: not what 'show evpn vni json' prints")
-    entries = [entry for entry in table.values() if isinstance(entry, dict) and entry.get("type", "L2") == "L2"]
-    return {entry["vni"]: str(entry.get("vxlanIf", "")) for entry in entries if isinstance(entry.get("vni"), int)}
+    entries = [entry for entry in table.values() if isinstance(entry, dict) and isinstance(entry.get("vni"), int)]
+    found = {}
+    for entry in entries:
+        edges = entry.get("remoteVteps")
+        floods = frozenset(each for each in edges if isinstance(each, str)) if isinstance(edges, list) else frozenset()
+        kind, device = entry.get("type", "L2"), str(entry.get("vxlanIf", ""))
+        found[entry["vni"]] = Vni(entry["vni"], kind != "L2", device, floods=floods)
+    return found
+
+
+def read_instance(text: str, name: str) -> Instance:
+    """bgpd's networks, of `show bgp l2vpn evpn vni json`."""
+    table = read_table(text, name, "show bgp l2vpn evpn vni json")
+    vnis = {}
+    for entry in table.values():
+        if isinstance(entry, dict) and isinstance(entry.get("vni"), int):
+            targets = entry.get("importRTs", [])
+            if not isinstance(targets, list) or not all(is_target(target) for target in targets):
+                raise Unreadable(f"{name}: VNI {entry['vni']} has no list of route targets")
+            rd, in_kernel = str(entry.get("rd", "")), entry.get("inKernel", "True") == "True"
+            vnis[entry["vni"]] = Vni(entry["vni"], entry.get("type") == "L3", "", rd, tuple(targets), in_kernel)
+    return Instance(
+        vnis,
+        table.get("advertiseAllVnis", SWITCHED_ON) == SWITCHED_ON,
+        table.get("vxlanFlooding", SWITCHED_ON) == SWITCHED_ON and table.get("flooding", "") != "Disabled",
+    )
+
+
+def is_target(target: object) -> bool:
+    """Whether a value is a route target, as text."""
+    return isinstance(target, str) and target.rpartition(":")[2].isdecimal()
+
+
+@dataclass
+class Routed:
+    """What zebra has of an L3VNI: each router MAC's VTEP, each next hop's router MAC."""
+
+    routers: Dict[bytes, str] = field(default_factory=dict)
+    next_hops: Dict[str, bytes] = field(default_factory=dict)
+
+
+def read_routed(rmacs: str, hops: str, names: Tuple[str, str]) -> Dict[int, Routed]:
+    """The L3VNIs of `show evpn rmac vni all json` and `show evpn next-hops vni all json`."""
+    found: Dict[int, Routed] = {}
+    for vni, entries in parts_of(rmacs, names[0], "show evpn rmac vni all json"):
+        for entry in entries:
+            mac = octets_of(entry.get("routerMac"), names[0])
+            found.setdefault(vni, Routed()).routers[mac] = str(entry.get("vtepIp", ""))
+    for vni, entries in parts_of(hops, names[1], "show evpn next-hops vni all json"):
+        for entry in entries:
+            mac = octets_of(entry.get("routerMac"), names[1])
+            found.setdefault(vni, Routed()).next_hops[str(entry.get("nexthopIp", ""))] = mac
+    return found
+
+
+def read_arps(text: str, name: str) -> Dict[int, Dict[bytes, bytes]]:
+    """The MAC of each address that zebra has as another edge's, of `show evpn arp-cache vni all json`."""
+    found: Dict[int, Dict[bytes, bytes]] = {}
+    for vni, table in read_table(text, name, "show evpn arp-cache vni all json").items():
+        for ip, entry in table.items() if vni.isdecimal() and isinstance(table, dict) else ():
+            if isinstance(entry, dict) and entry.get("type") == "remote":
+                found.setdefault(int(vni), {})[records.read_ip(ip)] = octets_of(entry.get("mac"), name)
+    return found
+
+
+def parts_of(text: str, name: str, command: str) -> Iterator[Tuple[int, List[dict]]]:
+    """Each VNI's entries, where a command prints a table of tables."""
+    for vni, table in read_table(text, name, command).items():
+        if vni.isdecimal() and isinstance(table, dict):
+            yield int(vni), [entry for entry in table.values() if isinstance(entry, dict)]
+
+
+def read_peers(text: str, name: str) -> Dict[str, str]:
+    """The state of each session, of `show bgp l2vpn evpn summary json`; FRR before 8 has the table in one more."""
+    table = read_table(text, name, "show bgp l2vpn evpn summary json")
+    peers = table.get("peers", {})
+    if not isinstance(peers, dict) or not all(isinstance(peer, dict) for peer in peers.values()):
+        raise Unreadable(f"{name}: no 'peers'")
+    return {peer: str(entry.get("state", "unknown")) for peer, entry in peers.items()}
 
 
 def read_best(stream: TextIO, name: str, routes: frr_routes.Routes) -> Best:
@@ -80,32 +210,29 @@ def read_best(stream: TextIO, name: str, routes: frr_routes.Routes) -> Best:
         raise text.fail("something stands behind the JSON text")
     places: Dict[int, Dict[bytes, str]] = {}
     for (vni, mac), said in tables[seen["macs"]].items():
-        place = best_of(said).originator
-        places.setdefault(vni, {})[mac] = LOCAL if place in own else records.address_text(place)
+        place = said[0].originator if len(said) == 1 else best_of(said).originator
+        places.setdefault(vni, {})[mac] = LOCAL if place in own else address_text(place)
     return Best(places, own, seen["macs"])
 
 
 def paths_of(
-    text: frr_routes.JsonText, name: str, routes: frr_routes.Routes, seen: Dict[str, bool], in_mac_table: bool = False
+    text: frr_routes.JsonText,
+    name: str,
+    routes: frr_routes.Routes,
+    seen: Dict[str, bool],
+    in_mac_table: bool = False,
+    vni: Optional[int] = None,
 ) -> Iterator[Tuple[bool, frr_routes.Path]]:
     """The paths of the next object and of the tables in it, and whether each stands in a table of MACs."""
     for key in text.keys():
         if key.startswith("["):
-            for path in routes.paths("", key, text.value(), name):
-                yield in_mac_table, path
+            route = text.value()
+            if vni is None or vni in routes.vnis:
+                for path in routes.paths("", key, route, name, vni):
+                    yield in_mac_table, path
         elif text.peek() == "{":
             seen["macs"] |= key == "macTable"
-            yield from paths_of(text, name, routes, seen, in_mac_table or key == "macTable")
+            table = int(key) if key.isdecimal() else vni
+            yield from paths_of(text, name, routes, seen, in_mac_table or key == "macTable", table)
         else:
             text.value()
-
-
-def own_addresses(text: Optional[str], name: str) -> Set[bytes]:
-    """The addresses that `ip -j -d link show` gives the VXLAN devices."""
-    found: Set[bytes] = set()
-    links = read_json(text, name) if text is not None and text.strip() else []
-    for link in links if isinstance(links, list) else []:
-        data = link.get("linkinfo", {}).get("info_data", {}) if isinstance(link, dict) else {}
-        if isinstance(data.get("local"), str):
-            found.add(records.read_address(data["local"]))
-    return found

@@ -8,12 +8,16 @@ device still holds of a station that has come home.
 import ipaddress
 import json
 import re
-from typing import Dict, Iterator, List, NamedTuple, Optional, Set, Tuple
+from dataclasses import dataclass
+from typing import Dict, FrozenSet, Iterator, List, Mapping, NamedTuple, Optional, Set, Tuple
 
 from update_records import Unreadable, read_ip
 
 LOCAL, NOWHERE, UNKNOWN, FLOODED = "local", "nowhere", "unknown", "flooded to "
 ALL_ZERO = bytes(6)
+GONE = ("FAILED", "INCOMPLETE")
+VXLAN_PORT = 4789  # RFC 7348, 5
+MAC_TEXT = re.compile("[0-9a-f]{2}(:[0-9a-f]{2}){5}")
 
 
 class Network(NamedTuple):
@@ -35,12 +39,39 @@ class Neighbour(NamedTuple):
 
 
 class Kernel(NamedTuple):
-    """What the kernel does with one VNI: each MAC's place, the flood list, the neighbours where it has an address."""
+    """What the kernel does with one VNI: each MAC's place, the flood list, the neighbours where it has an address.
+
+    `foreign` has the MACs with an entry of the VXLAN device that zebra didn't make (no `extern_learn`); `learnt` has those
+    that an access port learnt, with the port.
+    """
 
     places: Dict[bytes, str]
     floods: Set[str]
     neighbours: Optional[Dict[bytes, Neighbour]]
     is_whole: bool
+    foreign: FrozenSet[bytes] = frozenset()
+    learnt: Mapping[bytes, str] = {}
+
+
+@dataclass(frozen=True)
+class Link:
+    """A link as far as frames depend on it."""
+
+    name: str
+    kind: str
+    is_up: bool
+    master: str
+    address: str
+    mtu: int
+    port_state: str
+    is_isolated: bool
+    floods_unknown: bool
+    floods_broadcast: bool
+    tells_vlans: bool
+    vni: Optional[int]
+    udp_port: int
+    local: str
+    is_external: bool
 
 
 def read_json(text: str, name: str) -> object:
@@ -61,7 +92,7 @@ def read_list(text: str, name: str, command: str) -> List[dict]:
 
 def octets_of(mac: object, name: str) -> bytes:
     """A MAC's octets, of a group or not."""
-    if not isinstance(mac, str) or not re.fullmatch("[0-9a-f]{2}(:[0-9a-f]{2}){5}", mac):
+    if not isinstance(mac, str) or not MAC_TEXT.fullmatch(mac):
         raise Unreadable(f"{name}: {mac!r} is no MAC address")
     return bytes.fromhex(mac.replace(":", ""))
 
@@ -88,37 +119,90 @@ def untagged_of(vlans: List[dict]) -> Dict[str, int]:
     return found
 
 
+def words_of(value: object, name: str) -> List[str]:
+    """The words of a list, as `flags` and `state` have them; null is none."""
+    if value is None or value == "":
+        return []
+    if isinstance(value, str):
+        return [value]
+    if not isinstance(value, list):
+        raise Unreadable(f"{name}: {str(value)[:40]!r} where a list of words is meant")
+    return value
+
+
+def object_of(value: object) -> dict:
+    """A value that is an object of JSON, else an empty one."""
+    return value if isinstance(value, dict) else {}
+
+
+def link_of(entry: dict, name: str) -> Link:
+    """A link of `ip -j -d link show`."""
+    if not isinstance(entry.get("ifname"), str):
+        raise Unreadable(f"{name}: a link without 'ifname'")
+    info = object_of(entry.get("linkinfo"))
+    data, port = object_of(info.get("info_data")), object_of(info.get("info_slave_data"))
+    vni, mtu, udp_port = data.get("id"), entry.get("mtu"), data.get("port")
+    kind = str(info.get("info_kind", ""))
+    return Link(
+        name=entry["ifname"],
+        kind=kind,
+        is_up="UP" in words_of(entry.get("flags"), name),
+        master=str(entry.get("master") or ""),
+        address=str(entry.get("address") or ""),
+        mtu=mtu if isinstance(mtu, int) else 0,
+        port_state=str(port.get("state", "forwarding")),
+        is_isolated=port.get("isolated") is True,
+        floods_unknown=port.get("flood") is not False,
+        floods_broadcast=port.get("bcast_flood") is not False,
+        tells_vlans=bool(data.get("vlan_filtering")),
+        vni=vni if kind == "vxlan" and isinstance(vni, int) and not isinstance(vni, bool) else None,
+        udp_port=udp_port if isinstance(udp_port, int) else 0,
+        local=str(data.get("local") or ""),
+        is_external=bool(data.get("external")),
+    )
+
+
+def links_of(entries: List[dict], name: str) -> Dict[str, Link]:
+    """All links by name."""
+    found = (link_of(entry, name) for entry in entries)
+    return {link.name: link for link in found}
+
+
 def networks_of(links: List[dict], vlans: List[dict], tunnels: List[dict], name: str) -> Dict[int, Network]:
-    """Each VNI's network, of what `ip -j -d link show` and the two of `bridge -j vlan` print."""
+    """Each VNI's network, of what `ip -j -d link show` and the two of `bridge -j vlan` print.
+
+    Of two devices of one VNI the one in a bridge counts.
+    """
+    found: Dict[int, Network] = {}
     try:
-        return dict(each_network(links, untagged_of(vlans), list(pairs_of(tunnels))))
+        for vni, network in each_network(links, links_of(links, name), untagged_of(vlans), list(pairs_of(tunnels))):
+            if vni not in found or network.bridge:
+                found[vni] = network
     except (KeyError, TypeError, ValueError, AttributeError) as fault:
         raise Unreadable(f"{name}: a link or a VLAN lacks what is needed ({fault})") from None
+    return found
 
 
 def each_network(
-    links: List[dict], untagged: Dict[str, int], pairs: List[Tuple[str, int, int]]
+    entries: List[dict], links: Dict[str, Link], untagged: Dict[str, int], pairs: List[Tuple[str, int, int]]
 ) -> Iterator[Tuple[int, Network]]:
     """The networks one by one."""
-    kinds = {link["ifname"]: link.get("linkinfo", {}).get("info_kind") for link in links}
-    data = {link["ifname"]: link.get("linkinfo", {}).get("info_data", {}) for link in links}
-    up = {link["ifname"] for link in links if "UP" in link.get("flags", [])}
-    uppers = [link for link in links if kinds[link["ifname"]] == "vlan"]
-    tagged = {(link.get("link"), data[link["ifname"]].get("id")): link["ifname"] for link in uppers}
-    for link in links:
-        device = link["ifname"]
-        if kinds[device] != "vxlan":
+    uppers = [entry for entry in entries if links[entry["ifname"]].kind == "vlan"]
+    tagged = {(entry.get("link"), object_of(object_of(entry.get("linkinfo")).get("info_data")).get("id")): entry["ifname"] for entry in uppers}
+    for link in links.values():
+        if link.kind != "vxlan":
             continue
-        bridge = str(link.get("master", ""))
-        tells_vlans = bool(data.get(bridge, {}).get("vlan_filtering"))
-        if data[device].get("external"):
-            carried = [(vni, vlan) for port, vlan, vni in pairs if port == device]
+        tells_vlans = link.master in links and links[link.master].tells_vlans
+        if link.is_external:
+            carried = [(vni, vlan) for port, vlan, vni in pairs if port == link.name]
+        elif link.vni is None:
+            raise KeyError("id")
         else:
-            carried = [(int(data[device]["id"]), untagged.get(device) if tells_vlans else None)]
+            carried = [(link.vni, untagged.get(link.name) if tells_vlans else None)]
         for vni, vlan in carried:
-            gateway = tagged.get((bridge, vlan), "") if tells_vlans else bridge
-            address = str(data[device].get("local", ""))
-            yield vni, Network(vni, device, bridge, vlan if tells_vlans else None, gateway if gateway in up else "", address)
+            gateway = tagged.get((link.master, vlan), "") if tells_vlans else link.master
+            is_up = gateway in links and links[gateway].is_up
+            yield vni, Network(vni, link.name, link.master, vlan if tells_vlans else None, gateway if is_up else "", link.local)
 
 
 # ---- where the frames go ------------------------------------------------------------------------------------------
@@ -127,10 +211,14 @@ def each_network(
 class Tables:
     """All forwarding entries and neighbours of a host, read once for all VNIs."""
 
-    def __init__(self, entries: List[dict], neighbours: Optional[List[dict]], name: str) -> None:
+    def __init__(
+        self, entries: List[dict], neighbours: Optional[List[dict]], name: str, groups: Optional[Dict[int, str]] = None
+    ) -> None:
         self.name = name
+        self.groups = groups or {}
         self.ports: Dict[Tuple[str, Optional[int]], Dict[bytes, str]] = {}
         self.tunnels: Dict[Tuple[str, Optional[int]], Dict[bytes, Set[str]]] = {}
+        self.foreign: Dict[Tuple[str, Optional[int]], Set[bytes]] = {}
         self.neighbours: Optional[Dict[str, Dict[bytes, Neighbour]]] = None if neighbours is None else {}
         for entry in entries:
             self.take_entry(entry)
@@ -142,24 +230,26 @@ class Tables:
         if "mac" not in entry:
             raise Unreadable(f"{self.name}: an entry without 'mac'")
         mac, device = octets_of(entry["mac"], self.name), str(entry.get("ifname", ""))
-        flags = entry.get("flags") or []
         if mac[0] & 1:
             return
+        flags = words_of(entry.get("flags"), self.name)
         if "master" in entry and "self" not in flags:
-            is_own = entry.get("state") == "permanent" and "extern_learn" not in flags
-            places = self.ports.setdefault((str(entry["master"]), entry.get("vlan")), {})
-            places[mac] = LOCAL if is_own else device
-        else:
-            place = str(entry["dst"]) if "dst" in entry else f"group {entry['nhid']}" if "nhid" in entry else ""
-            if place:
-                places = self.tunnels.setdefault((device, entry.get("src_vni")), {})
-                places.setdefault(mac, set()).add(place)
+            is_own = "extern_learn" not in flags and "permanent" in words_of(entry.get("state"), self.name)
+            vlan = number_of(entry, "vlan", self.name)
+            self.ports.setdefault((str(entry["master"]), vlan), {})[mac] = LOCAL if is_own else device
+            return
+        place, vni = place_text(entry, self.name, self.groups), number_of(entry, "src_vni", self.name)
+        if place:
+            places = self.tunnels.setdefault((device, vni), {})
+            places.setdefault(mac, set()).add(place)
+            if "extern_learn" not in flags and any(mac):
+                self.foreign.setdefault((device, vni), set()).add(mac)
 
     def take_neighbour(self, entry: dict) -> None:
         """Takes an entry of `ip -j neigh show`; one without a MAC says nothing."""
         if "dst" not in entry or "dev" not in entry:
             raise Unreadable(f"{self.name}: a neighbour without 'dst' or 'dev'")
-        if "lladdr" in entry and not set(entry.get("state", [])) & {"FAILED", "INCOMPLETE"}:
+        if "lladdr" in entry and not any(word in GONE for word in words_of(entry.get("state"), self.name)):
             is_zebras = "extern_learn" in entry or entry.get("protocol") == "zebra"
             neighbour = Neighbour(octets_of(entry["lladdr"], self.name), is_zebras)
             self.neighbours.setdefault(str(entry["dev"]), {})[read_ip(str(entry["dst"]))] = neighbour
@@ -172,7 +262,13 @@ class Tables:
         neighbours = None
         if self.neighbours is not None and network.gateway:
             neighbours = self.neighbours.get(network.gateway, {})
-        return Kernel(places, unicast_of(tunnels.get(ALL_ZERO, set())), neighbours, True)
+        learnt = {mac: port for mac, port in ports.items() if port not in (LOCAL, network.device)}
+        foreign = self.foreign_of(network.device, network.vni)
+        return Kernel(places, unicast_of(tunnels.get(ALL_ZERO, set())), neighbours, True, foreign, learnt)
+
+    def foreign_of(self, device: str, vni: int) -> FrozenSet[bytes]:
+        """The MACs with an entry of a VNI's device that zebra didn't make."""
+        return frozenset(self.foreign.get((device, None), set()) | self.foreign.get((device, vni), set()))
 
     def of_one_device(self, vni: int, device: str) -> Kernel:
         """The same where nobody said which device and bridge is the VNI's: the dump is of its device alone, or that is named."""
@@ -188,7 +284,38 @@ class Tables:
             hides = mac not in ports and any(port != LOCAL for port in ports.values())
             towards = "+".join(sorted(tunnels.get(mac, ())))
             places[mac] = LOCAL if ports.get(mac) == LOCAL else UNKNOWN if hides and towards else towards or NOWHERE
-        return Kernel(places, unicast_of(tunnels.get(ALL_ZERO, set())), None, False)
+        return Kernel(places, unicast_of(tunnels.get(ALL_ZERO, set())), None, False, self.foreign_of(device, vni))
+
+
+def number_of(entry: dict, key: str, name: str) -> Optional[int]:
+    """A number of an entry, if it is there."""
+    value = entry.get(key)
+    if value is None:
+        return None
+    if not isinstance(value, int) or isinstance(value, bool):
+        raise Unreadable(f"{name}: {key} is {str(value)[:40]!r}, no number")
+    return value
+
+
+def groups_of(entries: List[dict], name: str) -> Dict[int, str]:
+    """The edges of each next hop and of each group, of `ip -j nexthop show`; a group's have a plus between them."""
+    hops = {number_of(entry, "id", name): str(entry["gateway"]) for entry in entries if entry.get("gateway") and "fdb" in entry}
+    found = {number: hop for number, hop in hops.items() if number is not None}
+    for entry in entries:
+        members, number = entry.get("group"), number_of(entry, "id", name)
+        if isinstance(members, list) and number is not None:
+            edges = {hops.get(member.get("id"), "?") for member in members if isinstance(member, dict)}
+            found[number] = "+".join(sorted(edges))
+    return found
+
+
+def place_text(entry: dict, name: str, groups: Dict[int, str]) -> str:
+    """Where an entry of a VXLAN device leads: the edge, with the VNI and the UDP port where they aren't the device's."""
+    if entry.get("dst") is None:
+        group = number_of(entry, "nhid", name)
+        return "" if group is None else groups.get(group, f"group {group}")
+    more = [f" {key} {number}" for key in ("vni", "port") if (number := number_of(entry, key, name)) is not None]
+    return str(entry["dst"]) + "".join(more)
 
 
 def place_of(port: Optional[str], device: str, tunnels: Optional[Set[str]]) -> str:

@@ -1,7 +1,7 @@
 """The report of `evpnd` (docs/routes.md): how it is made of updates, what it says, and why an owner is the owner."""
 
+import functools
 import os
-import re
 import shutil
 import subprocess
 import tempfile
@@ -35,10 +35,20 @@ class Owned(NamedTuple):
 
 
 NOBODY = Owned([], None)
-MAC_LINE = re.compile(
-    r"mac ([0-9]+) (\S+) (\S+) \S+ (?:withdrawn|(dynamic|static) ([0-9]+))(?: ip (\S+))?(?: label2 ([0-9]+))?"
-)
-OWNER_LINE = re.compile(r"owner ([0-9]+) (\S+) (\S+)")
+ADDRESS = functools.lru_cache(maxsize=None)(records.read_address)
+
+
+def said_of(words: List[str]) -> Optional[Said]:
+    """The advert of a line 'mac VNI MAC ORIGINATOR COUNTER ..'; nothing of a withdrawn one."""
+    kind, rest = words[5], words[6:] if words[5] == "withdrawn" else words[7:]
+    options = dict(zip(rest[::2], rest[1::2]))
+    if len(rest) % 2 or not {*options} <= {"ip", "label2"}:
+        raise ValueError(kind)
+    if kind == "withdrawn":
+        return None
+    if kind not in ("dynamic", "static") or not words[6].isdecimal():
+        raise ValueError(kind)
+    return Said(ADDRESS(words[3]), Advert(kind == "static", int(words[6])), options.get("ip", ""))
 
 
 def read_report(text: str) -> Dict[Station, Owned]:
@@ -46,17 +56,19 @@ def read_report(text: str) -> Dict[Station, Owned]:
     stations: Dict[Station, Owned] = {}
     adverts: List[Said] = []
     for number, line in enumerate(text.splitlines(), 1):
-        mac_line, owner_line = MAC_LINE.fullmatch(line), OWNER_LINE.fullmatch(line)
-        if mac_line:
-            if mac_line[4]:
-                advert = Advert(mac_line[4] == "static", int(mac_line[5]))
-                adverts.append(Said(records.read_address(mac_line[3]), advert, mac_line[6] or ""))
-        elif owner_line:
-            owner = None if owner_line[3] == "none" else records.read_address(owner_line[3])
-            stations[int(owner_line[1]), records.read_mac(owner_line[2])] = Owned(adverts, owner)
-            adverts = []
-        elif not line.startswith("flood "):
-            raise Unreadable(f"line {number} of the report isn't one of a report: {line[:60]!r}")
+        words = line.split(" ")
+        try:
+            if words[0] == "mac":
+                said = said_of(words)
+                adverts += [] if said is None else [said]
+            elif words[0] == "owner" and len(words) == 4:
+                owner = None if words[3] == "none" else ADDRESS(words[3])
+                stations[int(words[1]), records.read_mac(words[2])] = Owned(adverts, owner)
+                adverts = []
+            elif words[0] != "flood":
+                raise ValueError(words[0])
+        except (ValueError, IndexError):
+            raise Unreadable(f"line {number} of the report isn't one of a report: {line[:60]!r}") from None
     return stations
 
 
@@ -116,9 +128,11 @@ def preferences_of(owned: Owned) -> List[str]:
 
 
 def program_of(named: Optional[str]) -> str:
-    """The program `evpnd`: named, by the variable EVPND, on the path, or where `rt run` leaves it."""
-    built = os.path.join(os.path.dirname(os.path.abspath(__file__)), "..", "crates", "evpnd", "out", "evpnd")
-    return named or os.environ.get("EVPND") or shutil.which("evpnd") or os.path.normpath(built)
+    """The program `evpnd`: named, by the variable EVPND, on the path, or where `rt run` leaves it; `evpnd_report` does as well."""
+    crates = os.path.normpath(os.path.join(os.path.dirname(os.path.abspath(__file__)), "..", "crates"))
+    built = [os.path.join(crates, name, "out", name) for name in ("evpnd", "evpnd_report")]
+    there = next((program for program in built if os.access(program, os.X_OK)), built[0])
+    return named or os.environ.get("EVPND") or shutil.which("evpnd") or shutil.which("evpnd_report") or there
 
 
 def run_report(program: str, updates: List[Update]) -> str:
@@ -130,7 +144,8 @@ def run_report(program: str, updates: List[Update]) -> str:
             stream.write(records.record_of(update))
         stream.seek(0)
         try:
-            words = [program, "report", "--originators", names]
+            alone = os.path.basename(program) == "evpnd_report"
+            words = [program, names] if alone else [program, "report", "--originators", names]
             done = subprocess.run(words, stdin=stream, capture_output=True, check=False)
         except OSError as fault:
             raise Unreadable(f"the program evpnd can't be run, {program}: {fault.strerror}; {WHERE_FROM}") from None

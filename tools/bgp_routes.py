@@ -6,7 +6,7 @@ daemon takes it.
 """
 
 import re
-from typing import Dict, Hashable, Iterable, List, NamedTuple, Optional, Tuple
+from typing import Dict, Hashable, Iterable, List, NamedTuple, Optional, Set, Tuple
 
 from frr_routes import AUTO_RT, NO_KIND, Routes, Seen
 from update_records import FLOOD_ROUTE, MAC_ROUTE, Advert, Register, Unreadable, Update
@@ -185,6 +185,8 @@ class Heard:
 
     A route is known by its session's neighbour and what BGP knows it by. Two routes of one register, by two reflectors
     or with two RDs, are the better of them. Each change takes the next number of its originator.
+
+    A route is in doubt from the end of a daemon that said it until it is said again, or the doubt expires.
     """
 
     def __init__(self, incarnation: int) -> None:
@@ -193,10 +195,12 @@ class Heard:
         self.routes: Dict[Register, Tuple[Tuple[str, Hashable], ...]] = {}
         self.updates: Dict[Register, Update] = {}
         self.counters: Dict[bytes, int] = {}
+        self.doubted: Set[Tuple[str, Hashable]] = set()
 
     def take(self, neighbour: str, key: Hashable, said: Optional[Tuple[Register, Advert]]) -> List[Register]:
         """Takes what a route says now, nothing where it is withdrawn or left out; gives the registers that changed."""
         session = self.sessions.setdefault(neighbour, {})
+        self.doubted.discard((neighbour, key))
         old = session.pop(key, None)
         touched = []
         if old is not None:
@@ -221,18 +225,52 @@ class Heard:
             del self.routes[register]
 
     def lose(self, neighbour: str) -> List[Register]:
-        """Withdraws what a neighbour's session brought; gives the registers that changed."""
-        keys = list(self.sessions.get(neighbour, ()))
+        """Withdraws what a neighbour's session brought, but for what is in doubt; gives the registers that changed."""
+        keys = [key for key in self.sessions.get(neighbour, ()) if (neighbour, key) not in self.doubted]
         return [register for key in keys for register in self.take(neighbour, key, None)]
 
-    def lose_all(self) -> List[Register]:
-        """Withdraws what all sessions brought; gives the registers that changed."""
-        return [register for neighbour in self.sessions for register in self.lose(neighbour)]
+    def doubt_all(self) -> None:
+        """Puts each route in doubt."""
+        self.doubted = {(neighbour, key) for neighbour, session in self.sessions.items() for key in session}
+
+    def expire(self) -> List[Register]:
+        """Withdraws each route that is still in doubt; gives the registers that changed."""
+        return [register for each in list(self.doubted) for register in self.take(*each, None)]
+
+    def drop(self, register: Register, route: Tuple[str, Hashable]) -> None:
+        """Takes a route off its register."""
+        left = tuple(each for each in self.routes[register] if each != route)
+        if left:
+            self.routes[register] = left
+        else:
+            del self.routes[register]
+
+    def lose(self, neighbour: str) -> List[Register]:
+        """Withdraws what a neighbour's session brought, but for what is in doubt; gives the registers that changed."""
+        keys = [key for key in self.sessions.get(neighbour, ()) if (neighbour, key) not in self.doubted]
+        return [register for key in keys for register in self.take(neighbour, key, None)]
+
+    def doubt_all(self) -> None:
+        """Puts each route in doubt."""
+        self.doubted = {(neighbour, key) for neighbour, session in self.sessions.items() for key in session}
+
+    def expire(self) -> List[Register]:
+        """Withdraws each route that is still in doubt; gives the registers that changed."""
+        return [register for each in list(self.doubted) for register in self.take(*each, None)]
+
+    def lacking(self, found: Dict[Register, Update]) -> List[Register]:
+        """The registers that an edge lacks, or of which it has an older update, by what it reports."""
+        return [
+            register
+            for register, update in self.updates.items()
+            if (update.advert is not None and register not in found)
+            or (register in found and newness_of(found[register]) < newness_of(update))
+        ]
 
     def settle(self, register: Register) -> bool:
         """Numbers a change of a register, if what its routes say is another thing than before."""
         adverts = [self.sessions[neighbour][key][1] for neighbour, key in self.routes.get(register, ())]
-        advert = max(adverts, key=content_of) if adverts else None
+        advert = max(adverts, key=content_of, default=None)
         old = self.updates.get(register)
         if advert == (None if old is None else old.advert):
             return False
@@ -261,6 +299,16 @@ class Heard:
             return False
         self.say(register, None)
         return True
+
+
+def lacking_in(found: Dict[Register, Update], said: Dict[Register, Update]) -> List[Register]:
+    """The registers that an edge lacks, or of which it has an older update, by what it reports and what was said to it."""
+    return [
+        register
+        for register, update in said.items()
+        if (update.advert is not None and register not in found)
+        or (register in found and newness_of(found[register]) < newness_of(update))
+    ]
 
 
 # ---- what our edges say ------------------------------------------------------------------------------------
@@ -293,6 +341,14 @@ class Own:
         self.announced, self.stations = {}, {}
         for update in announced:
             self.note(update)
+
+    def differing(self, is_settled: bool) -> List[Register]:
+        """The registers of which the daemon has something else than our edges say.
+
+        What an earlier life announced and nobody has said again counts only if it had its time for that.
+        """
+        registers = dict.fromkeys([*self.wanted, *(self.announced if is_settled else ())])
+        return [each for each in registers if advert_in(self.wanted, each) != advert_in(self.announced, each)]
 
     def note(self, update: Update) -> None:
         """Notes what the daemon was told."""
@@ -335,6 +391,12 @@ class Own:
         others = [self.announced[each] for each in self.stations.get(update.mac, ())]
         higher = [other for other in others if other.advert.sequence > update.advert.sequence]
         return sorted(higher, key=lambda other: other.advert.sequence)
+
+
+def advert_in(updates: Dict[Register, Update], register: Register) -> Optional[Advert]:
+    """What updates advertise of a register."""
+    update = updates.get(register)
+    return None if update is None else update.advert
 
 
 RD_NUMBER = re.compile(r".*:([0-9]{1,5})")

@@ -1,118 +1,92 @@
 #!/usr/bin/env python3
-"""Draws the crates of crates.txt as docs/crates.svg: each above those that it names. Run it after a change of crates.txt.
+"""Draws the crates of crates.txt as docs/crates.svg, each above those that it uses. Run it after a change of crates.txt.
 
-    python3 tools/crates_svg.py           writes the drawing
-    python3 tools/crates_svg.py --check   status 1 where the drawing isn't that of crates.txt
+usage: tools/crates_svg.py            writes the drawing, by Debian's graphviz
+       tools/crates_svg.py --check    exits with 1 if the drawing is not that of crates.txt; needs no graphviz
+
+The drawing shows only edges that no other path implies. Its source, in graphviz's language, is a comment at its end, and --check
+compares that.
 """
 
 import os
+import subprocess
 import sys
-from typing import Dict, List
+from typing import Dict, List, Set
 
 TOP = os.path.normpath(os.path.join(os.path.dirname(os.path.abspath(__file__)), ".."))
 DRAWING = os.path.join(TOP, "docs", "crates.svg")
-BOX_WIDTH, BOX_HEIGHT, GAP_ACROSS, GAP_DOWN, MARGIN = 116, 30, 24, 44, 16
-
-STYLE = """  <style>
-    text { font: 14px sans-serif; text-anchor: middle; fill: #1b1b1b; }
-    rect { fill: #e8f0fa; stroke: #3b6ea5; rx: 5; }
-    .program rect { fill: #fdf1dc; stroke: #b07a1e; }
-    path { fill: none; stroke: #7a7a7a; }
-  </style>"""
+LAYERS = {
+    "programs": ("#fdf1dc", "evpnd evpnd_report ev_words ev_run ev_console ev_script ev_config ev_report ev_exchange"),
+    "running edges": ("#fbe3e1", "ev_peers ev_mailboxes ev_notices ev_links ev_book ev_view"),
+    "fabrics and their laws": ("#efe6f7", "ev_fabric ev_sites"),
+    "one edge": ("#e2effb", "ev_edge ev_claims ev_mobility ev_tunnel"),
+    "routes and stations": ("#e3f4e4", "route_join route_wire mac_arena idx_links"),
+    "spanning tree": ("#dff3f2", "rstp_net rstp_run rstp_roles rstp_machines rstp_state"),
+    "formats": ("#eeeeee", "ether_wire vxlan_wire bpdu_wire"),
+}
+OTHER = "#ffffff"
+HEAD = """digraph crates {
+  graph [rankdir=TB, ranksep=0.45, nodesep=0.2, fontname="sans-serif", fontsize=13];
+  node [shape=box, style="filled,rounded", fontname="sans-serif", fontsize=12, height=0.32, margin="0.1,0.04"];
+  edge [color="#7a7a7a", arrowsize=0.6];"""
 
 Crates = Dict[str, List[str]]
 
 
 def crates_of(text: str) -> Crates:
-    """Each crate with the crates of this repository that it names, in the order of the lines."""
-    named: Crates = {}
+    """Returns each crate with the crates of this repository that it uses, in the order of the lines."""
+    used: Crates = {}
     for line in text.splitlines():
         head, colon, rest = line.split("#")[0].partition(":")
         if colon:
-            named[head.split()[0]] = rest.split()
-    return {name: [below for below in names if below in named] for name, names in named.items()}
+            used[head.split()[0]] = rest.split()
+    return {name: [below for below in names if below in used] for name, names in used.items()}
 
 
-def all_below(crates: Crates, name: str) -> set:
-    """Everything that a crate stands on."""
+def all_below(crates: Crates, name: str) -> Set[str]:
+    """Returns every crate below a crate."""
     found = set(crates[name])
     for below in crates[name]:
         found |= all_below(crates, below)
     return found
 
 
-def nearest(crates: Crates, name: str) -> List[str]:
-    """What a crate names and no other crate that it names stands on: the lines that are drawn."""
-    further = set().union(*(all_below(crates, below) for below in crates[name]))
-    return [below for below in crates[name] if below not in further]
+def directly_below(crates: Crates, name: str) -> List[str]:
+    """Returns the crates that a crate uses and reaches through no other crate."""
+    implied = set().union(*(all_below(crates, below) for below in crates[name]))
+    return sorted(set(crates[name]) - implied)
 
 
-def mean(places: List[float]) -> float:
-    """The middle of some places; 0 of none."""
-    return sum(places) / max(1, len(places))
+def colour_of(name: str) -> str:
+    """Returns the colour of a crate's layer."""
+    return next((colour for colour, names in LAYERS.values() if name in names.split()), OTHER)
 
 
-def rows_of(crates: Crates) -> List[List[str]]:
-    """The crates by height, lowest first; in a row each stands near those below it."""
-    heights: Dict[str, int] = {}
-
-    def height(name: str) -> int:
-        if name not in heights:
-            heights[name] = 1 + max((height(below) for below in crates[name]), default=-1)
-        return heights[name]
-
-    rows: List[List[str]] = [[] for _ in range(1 + max(map(height, crates), default=-1))]
-    place: Dict[str, float] = {}
-    for row, names in enumerate(rows):
-        names += [name for name in crates if heights[name] == row]
-        names.sort(key=lambda name: mean([place[below] for below in nearest(crates, name)]))
-        for across, name in enumerate(names):
-            place[name] = across - len(names) / 2
-    return rows
+def source_of(crates: Crates) -> str:
+    """Returns the drawing in graphviz's language."""
+    lines = [HEAD]
+    lines += [f'  {name} [fillcolor="{colour_of(name)}"];' for name in sorted(crates)]
+    lines += [f"  {name} -> {below};" for name in sorted(crates) for below in directly_below(crates, name)]
+    lines.append('  subgraph cluster_layers { label="layers"; color="#bbbbbb";')
+    for place, (layer, (colour, _)) in enumerate(LAYERS.items()):
+        lines.append(f'    layer{place} [label="{layer}", fillcolor="{colour}", style="filled"];')
+    lines += [f"    layer{place} -> layer{place + 1} [style=invis];" for place in range(len(LAYERS) - 1)]
+    return "\n".join([*lines, "  }", "}"])
 
 
-def drawing_of(crates: Crates) -> str:
-    """The drawing as a text."""
-    rows = rows_of(crates)
-    wide = max((len(row) for row in rows), default=1)
-    width = 2 * MARGIN + wide * BOX_WIDTH + (wide - 1) * GAP_ACROSS
-    height = 2 * MARGIN + len(rows) * BOX_HEIGHT + (len(rows) - 1) * GAP_DOWN
-    middle: Dict[str, int] = {}
-    top: Dict[str, int] = {}
-    for row, names in enumerate(rows):
-        start = (width - len(names) * BOX_WIDTH - (len(names) - 1) * GAP_ACROSS) // 2
-        for across, name in enumerate(names):
-            middle[name] = start + across * (BOX_WIDTH + GAP_ACROSS) + BOX_WIDTH // 2
-            top[name] = height - MARGIN - BOX_HEIGHT - row * (BOX_HEIGHT + GAP_DOWN)
-    lines = [f'<svg xmlns="http://www.w3.org/2000/svg" viewBox="0 0 {width} {height}" width="{width}" height="{height}">']
-    lines += ["  <title>Each crate stands above those that it names</title>", STYLE]
-    lines += ['  <rect width="100%" height="100%" style="fill: white; stroke: none"/>']
-    for name in crates:
-        for below in nearest(crates, name):
-            start, end = top[name] + BOX_HEIGHT, top[below]
-            bend = (start + end) // 2 if end - start <= GAP_DOWN else start + GAP_DOWN // 2
-            high, low = middle[name], middle[below]
-            lines.append(f'  <path d="M{high} {start} C{high} {bend} {low} {bend} {low} {end}"/>')
-    for name in crates:
-        is_program = os.path.exists(os.path.join(TOP, "crates", name, "src", "main.rt"))
-        lines.append('  <g class="program">' if is_program else "  <g>")
-        left = middle[name] - BOX_WIDTH // 2
-        lines.append(f'    <rect x="{left}" y="{top[name]}" width="{BOX_WIDTH}" height="{BOX_HEIGHT}"/>')
-        lines.append(f'    <text x="{middle[name]}" y="{top[name] + BOX_HEIGHT // 2 + 5}">{name}</text>\n  </g>')
-    return "\n".join(lines + ["</svg>"]) + "\n"
-
-
-def main() -> int:
-    """Writes the drawing, or looks whether it is the present one."""
+def main(words: List[str]) -> int:
+    """Writes the drawing, or checks it."""
     with open(os.path.join(TOP, "crates.txt"), encoding="utf-8") as stream:
-        drawing = drawing_of(crates_of(stream.read()))
-    if sys.argv[1:] == ["--check"]:
+        source = source_of(crates_of(stream.read()))
+    comment = "<!--\n" + source.replace("->", "=>") + "\n-->\n"
+    if words == ["--check"]:
         with open(DRAWING, encoding="utf-8") as stream:
-            return 0 if stream.read() == drawing else 1
+            return 0 if stream.read().endswith(comment) else 1
+    drawn = subprocess.run(["dot", "-Tsvg"], input=source, capture_output=True, text=True, check=True).stdout
     with open(DRAWING, "w", encoding="utf-8") as stream:
-        stream.write(drawing)
+        stream.write(drawn + comment)
     return 0
 
 
 if __name__ == "__main__":
-    sys.exit(main())
+    sys.exit(main(sys.argv[1:]))

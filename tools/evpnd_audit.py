@@ -12,10 +12,18 @@
         vlans.json     bridge -j vlan show
         tunnels.json   bridge -j vlan tunnelshow
         neigh.json     ip -j neigh show
+        bgpvnis.json   vtysh -c 'show bgp l2vpn evpn vni json': which VNI is an L3VNI, and who imports what
+        rmacs.json     vtysh -c 'show evpn rmac vni all json'
+        nexthops.json  vtysh -c 'show evpn next-hops vni all json'
+        sessions.json  vtysh -c 'show bgp l2vpn evpn summary json'
+        arps.json      vtysh -c 'show evpn arp-cache vni all json'
+        groups.json    ip -j nexthop show
+        underlay.json  what `ip -j route get` says of each edge, or why it fails
     evpnd_audit.py save DIRECTORY          keeps what this host prints now as such a directory
     evpnd_audit.py mac VNI MAC [VIEW ..]   all that is known of one station
-    evpnd_audit.py record DIRECTORY        audits, and keeps a snapshot of the routes as update records
-    evpnd_audit.py plot DIRECTORY [VNI MAC]   draws a MAC's owner over time, or how many MACs weren't equal, as SVG
+    evpnd_audit.py record DIRECTORY [VIEW ..]   audits, and keeps a snapshot of the routes as update records
+    evpnd_audit.py fabric LIST --run 'ssh {leaf}'   audits all leaves of a list (a file, or names with commas) together
+    evpnd_audit.py plot DIRECTORY [VNI MAC]   draws where a MAC was by the routes and in the kernel, or how many MACs differed, as SVG
 
 The routes become records (evpnd_records.py), `evpnd report` gives the owners, and each MAC is compared with
 where zebra and the kernel send it, each flood list with the inclusive multicast routes, and each ARP and ND
@@ -24,17 +32,22 @@ be missing; what can't be compared then is said. Several views give one report, 
 with --routes, the routes of that directory (a route reflector's, say) alone are the truth.
 
 Each difference is a line, with the adverts in order of preference and what mends it below, then sums. Status
-0: all agree; 1: something differs; 2: usage, or nothing that can be read; 3: nothing differs, and something
-could not be judged. docs/audit.md says what each difference means. Nothing here is proved; the report is.
+0: all agree; 1: something differs; 2: usage, or nothing that can be read; 3: nothing differs, and a VNI could
+not be audited; 4: nothing differs, and a MAC could not be judged. docs/audit.md says what each difference means. Nothing here is proved; the report is.
 """
 
 import argparse
+import gc
+import json
 import os
 import sys
 import time
-from typing import List, Tuple
+from typing import List, NoReturn, Tuple
 
+import audit_causes
+import audit_fabric
 import audit_history
+import audit_plot
 import audit_print
 import audit_views
 import evpnd_records
@@ -56,7 +69,12 @@ def views_of(arguments: argparse.Namespace) -> List[View]:
     """The views of the named directories, or of this host."""
     if arguments.views:
         return [audit_views.view_of(audit_views.texts_of_directory(path), arguments) for path in arguments.views]
-    return [audit_views.view_of(audit_views.texts_of_host(arguments.vtysh), arguments)]
+    return [audit_views.view_of(audit_views.texts_of_host(host_of(arguments)), arguments)]
+
+
+def host_of(arguments: argparse.Namespace) -> audit_views.Host:
+    """This host, asked as the words say."""
+    return audit_views.Host(arguments.vtysh, arguments.timeout)
 
 
 def snapshots_of(views: List[View], arguments: argparse.Namespace) -> List[frr_routes.Snapshot]:
@@ -64,11 +82,14 @@ def snapshots_of(views: List[View], arguments: argparse.Namespace) -> List[frr_r
     if not arguments.routes:
         return [view.snapshot for view in views]
     vnis = sorted({vni for view in views for vni in view.vnis})
+    routed = sorted({vni for view in views for vni in view.routed})
+    imports = views[0].snapshot.routes.imports
     snapshots = []
     for path in arguments.routes:
         name = os.path.join(path, "routes.json") if os.path.isdir(path) else path
         with records.open_text(name) as stream:
-            snapshots.append(frr_routes.snapshot_of(audit_views.routes_of(vnis, arguments), stream, name))
+            routes = audit_views.routes_of(vnis, arguments, imports, routed)
+            snapshots.append(frr_routes.snapshot_of(routes, stream, name))
     return snapshots
 
 
@@ -86,24 +107,35 @@ def truth_for(snapshots: List[frr_routes.Snapshot], arguments: argparse.Namespac
 def look(arguments: argparse.Namespace) -> Tuple[Told, List[View], List[frr_routes.Snapshot]]:
     """One look at all views."""
     views = views_of(arguments)
+    unknown = [view.faults[vni] for view in views for vni in view.unknown]
+    if unknown and all(set(view.vnis) <= set(view.unknown) and not view.routed for view in views):
+        raise Unreadable(f"{views[0].name}: VNI {views[0].unknown[0]}: {unknown[0]}")
     snapshots = snapshots_of(views, arguments)
     truth = truth_for(snapshots, arguments)
     results = [result for view in views for result in results_of(view, truth, set(arguments.mac))]
     left_out = {view.name: dict(view.snapshot.routes.left_out) for view in views}
     told = {view.name: dict(view.snapshot.routes.told) for view in views}
-    return Told(results, left_out, told, {}), views, snapshots
+    causes = {view.name: audit_causes.of_router(view) if not arguments.mac else [] for view in views}
+    devices = {view.name: view.left_out for view in views}
+    return Told(results, left_out, told, {}, causes, devices), views, snapshots
 
 
 def audited(arguments: argparse.Namespace) -> Tuple[Told, List[View], List[frr_routes.Snapshot]]:
     """One look, or two where the first finds something and --again is given: what both saw by the same values stays."""
     told, views, snapshots = look(arguments)
-    if arguments.again is not None and any(marks_of(result) for result in told.results):
+    if arguments.again is not None and told.differs():
         time.sleep(arguments.again)
         second, views, snapshots = look(arguments)
-        told = second._replace(results=seen_twice(told.results, second.results))
+        causes = {name: audit_causes.both(told.causes.get(name, []), found) for name, found in second.causes.items()}
+        told = second._replace(results=seen_twice(told.results, second.results), causes=causes)
     if arguments.state is not None:
         told = told._replace(since=audit_history.since_of(arguments.state, told.results, int(time.time())))
     return told, views, snapshots
+
+
+def status_of(told: Told, arguments: argparse.Namespace) -> int:
+    """The status of an audit."""
+    return audit_print.status_of(told.results, arguments.accept_unjudged, told.causes.values())
 
 
 # ---- what the words ask for ---------------------------------------------------------------------------------------
@@ -116,27 +148,36 @@ def audit(arguments: argparse.Namespace) -> int:
     if arguments.again is not None and arguments.views:
         raise Unreadable("a directory doesn't change: --again is for an audit of this host")
     told, views, _ = audited(arguments)
-    status = audit_print.status_of(told.results, arguments.accept_unjudged)
+    status = status_of(told, arguments)
     if arguments.prometheus:
         audit_print.write_whole(arguments.prometheus, audit_print.prometheus_text(told, status))
     if arguments.nagios:
         print(audit_print.nagios_line(told, audit_print.nagios_status(status)))
         return audit_print.nagios_status(status)
     if arguments.json:
-        print(audit_print.json_text(told))
+        print(audit_print.json_text(told, status))
     elif not arguments.prometheus:
-        for result in told.results:
-            for line in audit_print.lines_of(result, told, arguments.brief):
-                is_sum = line.startswith((" ", f"{result.view}: "))
-                print(line if is_sum or len(views) == 1 else f"{result.view}: {line}")
-        for view in views:
-            view.snapshot.routes.tell(sys.stderr)
+        say(told, views, arguments.brief)
     return status
+
+
+def say(told: Told, views: List[View], is_brief: bool) -> None:
+    """Prints what differs, and on standard error what was left out."""
+    for name, causes in told.causes.items():
+        for cause in causes:
+            print(f"{name}: cause: {cause.line()}")
+    for result in told.results:
+        for line in audit_print.lines_of(result, told, is_brief):
+            is_sum = line.startswith((" ", f"{result.view}: "))
+            print(line if is_sum or len(views) == 1 else f"{result.view}: {line}")
+    for view in views:
+        view.snapshot.routes.tell(sys.stderr)
+        for device in view.left_out:
+            print(f"left out: VXLAN device {device}, which FRR doesn't run", file=sys.stderr)
 
 
 def mac(arguments: argparse.Namespace) -> int:
     """All that is known of one station."""
-    arguments.mac = [mac_word(arguments.station)]
     told, views, snapshots = audited(arguments)
     vni, station = arguments.vni[0], arguments.mac[0]
     for result in told.results:
@@ -144,7 +185,8 @@ def mac(arguments: argparse.Namespace) -> int:
             print(f"{result.view}: {audit_print.line_of(vni, verdict)}")
             for number, advert in enumerate(verdict.adverts, 1):
                 print(f"    {number}. {advert}")
-            print(*([f"    mend: {verdict.mend}"] if verdict.mend else []), sep="\n", end="\n" if verdict.mend else "")
+            for word, text in (("mend:", verdict.mend), ("see", verdict.see)):
+                print(f"    {word} {text}\n" if text else "", end="")
         if not result.macs:
             print(f"{result.view}: " + (result.fault or "neither a route nor zebra nor the kernel knows it"))
         for entry in result.neighbours or []:
@@ -158,21 +200,35 @@ def mac(arguments: argparse.Namespace) -> int:
             vlan = "" if network.vlan is None else f", VLAN {network.vlan}"
             bridge, gateway = network.bridge or "none", network.gateway or "no interface"
             print(f"{view.name}: VXLAN device {network.device}, bridge {bridge}{vlan}, neighbours at {gateway}")
-    return audit_print.status_of(told.results, arguments.accept_unjudged)
+    return status_of(told, arguments)
 
 
 def record(arguments: argparse.Namespace) -> int:
     """Audits, and adds a snapshot."""
     told, _, snapshots = audited(arguments)
     updates = [update for snapshot in snapshots for update in snapshot.updates(lambda _: 1)]
-    print(audit_history.record(arguments.directory, updates, told))
-    return audit_print.status_of(told.results, arguments.accept_unjudged)
+    if arguments.keep is not None:
+        audit_history.prune(arguments.directory, int(time.time() - arguments.keep * 86400))
+    status = status_of(told, arguments)
+    print(audit_history.record(arguments.directory, updates, told, status))
+    return status
 
 
 def save(arguments: argparse.Namespace) -> int:
     """Keeps what this host prints."""
-    audit_views.save(audit_views.texts_of_host(arguments.vtysh), arguments.directory)
+    audit_views.save(audit_views.texts_of_host(host_of(arguments)), arguments.directory)
     return 0
+
+
+def fabric(arguments: argparse.Namespace) -> int:
+    """Audits all leaves of a list."""
+    arguments.program = program_of(arguments.evpnd)
+    found = audit_fabric.audited(arguments)
+    if arguments.json:
+        print(json.dumps(audit_fabric.dict_of(found), indent=1))
+    else:
+        print("\n".join(audit_fabric.lines_of(found)))
+    return audit_print.DIFFER if found.differs() else audit_print.UNSAID if found.silent else audit_print.AGREE
 
 
 def plot(arguments: argparse.Namespace) -> int:
@@ -181,7 +237,7 @@ def plot(arguments: argparse.Namespace) -> int:
     vni = arguments.of_vni[0] if arguments.of_vni else 0
     if bool(station) != bool(arguments.of_vni):
         raise Unreadable("a drawing of an owner needs a VNI and a MAC")
-    print(audit_history.plot(arguments.directory, vni, station), end="")
+    print(audit_plot.plot(arguments.directory, vni, station), end="")
     return 0
 
 
@@ -218,13 +274,28 @@ def add_look_words(words: argparse.ArgumentParser) -> None:
     words.add_argument("--evpnd", metavar="PROGRAM", help="the program evpnd")
     words.add_argument("--report", metavar="FILE", help="a report that was made before, in the place of running evpnd")
     words.add_argument("--vtysh", default="vtysh", metavar="COMMAND", help="vtysh with its options")
+    limit = "how long a command may take (60)"
+    words.add_argument("--timeout", type=seconds_word, default=60.0, metavar="SECONDS", help=limit)
     words.add_argument("--device", metavar="NAME", help="the VXLAN device, if neither links.json nor vnis.json says it")
     evpnd_records.add_route_words(words)
 
 
-def parser() -> argparse.ArgumentParser:
-    """The words of the command line."""
-    words = argparse.ArgumentParser(description=__doc__, formatter_class=argparse.RawDescriptionHelpFormatter)
+class Words(argparse.ArgumentParser):
+    """The command line; a fault of usage is Nagios's UNKNOWN where a line for it is asked for."""
+
+    for_nagios = False
+
+    def error(self, message: str) -> NoReturn:
+        """Ends with the status of a fault of usage."""
+        if self.for_nagios:
+            print(f"EVPN UNKNOWN: {message}")
+            sys.exit(audit_print.NAGIOS_UNKNOWN)
+        super().error(message)
+
+
+def parser() -> Words:
+    """The words of the command line: a command and what it is about may stand anywhere among the options."""
+    words = Words(description=__doc__, formatter_class=argparse.RawDescriptionHelpFormatter)
     words.add_argument(
         "--vni", type=evpnd_records.vnis_of, metavar="N[,N]", help="the VNIs; all that the host or the view has, if none is named"
     )
@@ -235,41 +306,76 @@ def parser() -> argparse.ArgumentParser:
     words.add_argument("--json", action="store_true", help="print JSON, every count with it")
     words.add_argument("--nagios", action="store_true", help="print one line with figures; status 0, 2 (something differs) or 3")
     words.add_argument("--prometheus", metavar="FILE", help="write a text file for node_exporter")
+    before = "with fabric: the words before each command of a leaf, as 'ssh {leaf}'; without, LIST names directories"
+    words.add_argument("--run", default="", metavar="WORDS", help=before)
+    words.add_argument("--keep", type=days_word, metavar="DAYS", help="with record: forget snapshots that are older")
     add_look_words(words)
-    words.add_argument("views", nargs="*", metavar="VIEW", help="directories, one a router")
+    words.add_argument("words", nargs="*", metavar="WORD", help="a command and what it is about, or directories, one a router")
     return words
 
 
-def command_parser(command: str) -> argparse.ArgumentParser:
-    """The words behind `mac`, `record`, `save` and `plot`."""
-    name, layout = f"evpnd_audit.py {command}", argparse.RawDescriptionHelpFormatter
-    words = argparse.ArgumentParser(prog=name, description=__doc__, formatter_class=layout)
-    if command == "mac":
-        words.add_argument("vni", type=evpnd_records.vnis_of, metavar="VNI")
-        words.add_argument("station", metavar="MAC")
-        words.add_argument("views", nargs="*", metavar="VIEW", help="directories, one a router")
-    else:
-        words.add_argument("directory", metavar="DIRECTORY")
-    if command == "plot":
-        words.add_argument("of_vni", type=evpnd_records.vnis_of, nargs="?", metavar="VNI")
-        words.add_argument("station", nargs="?", metavar="MAC")
-    if command == "record":
-        words.add_argument("--vni", type=evpnd_records.vnis_of, metavar="N[,N]", help="the VNIs; all, if none is named")
-        words.add_argument("views", nargs="*", metavar="VIEW", help="directories in the place of this host, one a router")
-        words.set_defaults(mac=[])
-    if command != "plot":
-        add_look_words(words)
-    return words
+def days_word(text: str) -> float:
+    """Days as a word of the command line."""
+    try:
+        days = float(text)
+    except ValueError:
+        days = -1
+    if not 0 < days <= 36500:
+        raise argparse.ArgumentTypeError(f"{text!r} is no number of days up to 36500")
+    return days
 
 
-COMMANDS = {"mac": mac, "record": record, "save": save, "plot": plot}
+# What stands behind each command: how many words at least and at most, and their names.
+OPERANDS = {
+    "mac": (2, None, "VNI MAC [VIEW ..]"),
+    "record": (1, None, "DIRECTORY [VIEW ..]"),
+    "save": (1, 1, "DIRECTORY"),
+    "fabric": (1, 1, "LIST"),
+    "plot": (1, 3, "DIRECTORY [VNI MAC]"),
+}
+COMMANDS = {"mac": mac, "record": record, "save": save, "plot": plot, "fabric": fabric}
 
 
-def run(words: List[str]) -> int:
-    """Runs what the words ask for."""
-    if words and words[0] in COMMANDS:
-        return COMMANDS[words[0]](command_parser(words[0]).parse_args(words[1:]))
-    arguments = parser().parse_args(words)
+def asked(line: List[str]) -> Tuple[str, argparse.Namespace]:
+    """The command that a command line names, if any, and its words."""
+    words = parser()
+    words.for_nagios = "--nagios" in line
+    arguments = words.parse_intermixed_args(line)
+    given = arguments.words
+    command = given[0] if given and given[0] in COMMANDS else ""
+    arguments.views, arguments.leaves = given, None
+    if command:
+        least, most, names = OPERANDS[command]
+        operands = given[1:]
+        if not least <= len(operands) <= (most or len(operands)):
+            words.error(f"{command} is followed by {names}")
+        take_operands(command, operands, arguments, words)
+    return command, arguments
+
+
+def take_operands(command: str, operands: List[str], arguments: argparse.Namespace, words: Words) -> None:
+    """Puts what a command is about where the command looks for it."""
+    try:
+        if command == "mac":
+            arguments.vni, arguments.mac = evpnd_records.vnis_of(operands[0]), [mac_word(operands[1])]
+            arguments.views = operands[2:]
+        elif command == "fabric":
+            arguments.leaves, arguments.views = operands[0], []
+        else:
+            arguments.directory = operands[0]
+            arguments.views = operands[1:] if command == "record" else []
+        if command == "plot":
+            arguments.of_vni = evpnd_records.vnis_of(operands[1]) if len(operands) > 1 else []
+            arguments.station = operands[2] if len(operands) > 2 else ""
+    except argparse.ArgumentTypeError as fault:
+        words.error(str(fault))
+
+
+def run(line: List[str]) -> int:
+    """Runs what a command line asks for."""
+    command, arguments = asked(line)
+    if command:
+        return COMMANDS[command](arguments)
     try:
         return audit(arguments)
     except Unreadable as fault:
@@ -284,6 +390,7 @@ def run(words: List[str]) -> int:
 
 def main() -> int:
     """Runs the audit; what can't be read is one line and status 2."""
+    gc.disable()  # nothing here makes cycles of any size, and looking for them takes a seventh of the time
     try:
         return run(sys.argv[1:])
     except (Unreadable, argparse.ArgumentTypeError) as fault:

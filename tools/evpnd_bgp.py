@@ -4,19 +4,23 @@
     evpnd_bgp.py --watch [SECONDS]            the fabric's routes and their changes, as records on standard output
     evpnd_bgp.py --own LIST --stdio           the same; records on standard input are announced, until it ends
     evpnd_bgp.py --own LIST --socket PATH     the same at the control socket of edges that run (`evpnd serve`)
+    evpnd_bgp.py --own LIST --withdraw        withdraws what a gateway that has ended announced, and ends
 
 LIST has the addresses of our edges, with commas: all that speak records there, also those of other hosts. A record of
 one of them becomes a route of BGP; of any other it is never announced, since it is the fabric's own. A route whose next
 hop is one of our edges becomes no record. So nothing comes back to where it came from. What can't be said is left out:
-each kind is told once on standard error, and counted at the end.
+each kind is logged once on standard error, and counted at the end.
+
+One gateway runs at a time for an edge at a GoBGP, and for a control socket. Every 30 seconds it reads what GoBGP has of
+our edges, and what the edges have of the fabric, and mends what differs. A signal ends it and leaves its routes at GoBGP
+for the next gateway, as SIGKILL does; the end of standard input withdraws them.
 
 GoBGP's daemon runs with an API (`gobgpd --api-hosts 127.0.0.1:50051`). docs/fabric.md has its configuration. Status 0;
-1 where a stream ended by a fault or in a record, or a watch found no daemon; 2 for usage, or where a package is
-missing. Nothing here is proved.
+1 if a stream ended by a fault or in a record, or no daemon answered; 2 for usage, if a package is missing, or if another
+gateway runs there. Nothing here is proved.
 """
 
 import argparse
-import collections
 import itertools
 import os
 import signal
@@ -26,77 +30,38 @@ import threading
 import time
 from typing import BinaryIO, Callable, Dict, Iterable, List, Optional
 
-from bgp_routes import Heard, Names, Own, announced_by, is_target, route_of, said_by
+from bgp_routes import Heard, Names, Own, announced_by, is_target, lacking_in, route_of, said_by
+from bgp_service import AT_ONCE, LOG, Family, Kinds, Lock, Pending, log_to_standard_error, prometheus_text, write_whole
 from evpnd_records import add_route_words, vnis_of
 from frr_routes import FOLDED, Routes
 from gobgp import PROTOS, Daemon, Declined, Event, NoDaemon
-from update_records import Fault, Refused, Register, Unreadable, Update
+from update_records import Fault, Refused, Register, Unreadable, Update, address_text
 from update_records import read_address, read_records, record_of, register_of, update_of_report
 
 HOLD = 10  # seconds in which what an earlier life left may be said anew, before it is withdrawn
-AGAIN = 1  # seconds between two tries of a connection
-AT_ONCE = 200  # registers that are written or announced in one piece: GoBGP looks through its table for each
-PATIENCE = 60  # seconds that a stopped gateway takes at most to withdraw its routes
+KEEP = 60  # seconds for which the fabric's routes are kept after gobgpd has ended, until it says them again
+LOOK = 30  # seconds between two looks at what gobgpd and the edges have
+SHARE = 20  # a look that took one second is followed by no other for so many
+TICK = 1  # seconds between two glances at what is due
+AGAIN = 1  # seconds between two tries to reach gobgpd
+CONNECT = 0.2  # seconds between two tries to reach the edges
+LONGEST = 30  # seconds between two tries, at most, while the edges answer that they are busy
+PATIENCE = 60  # seconds that a gateway takes at most to withdraw its routes, or to wait for an answer
+BUSY = b"busy\n"
+EVENTS = 500  # events that are taken in one piece
 EVERY_VNI = range(1 << 24)
 
 
-def tell(text: str) -> None:
-    """A line on standard error, where anybody reads it."""
-    with_no_fault(lambda: print(f"evpnd_bgp: {text}", file=sys.stderr, flush=True))
-
-
 def with_no_fault(call: Callable[[], None]) -> None:
-    """A call on a connection or a stream that may be gone."""
+    """A call on a connection that may be gone."""
     try:
         call()
     except OSError:
         pass
 
 
-class Kinds(collections.Counter):
-    """Counts by kind, of which each is told when it is first met."""
-
-    def __init__(self, what: str) -> None:
-        super().__init__()
-        self.what = what
-
-    def __setitem__(self, kind: str, count: int) -> None:
-        if kind not in self:
-            tell(f"{self.what}: {kind}")
-        super().__setitem__(kind, count)
-
-    def tell_counts(self) -> None:
-        """How often each kind was met."""
-        for kind, count in sorted(self.items()):
-            tell(f"{self.what} {count}: {kind}")
-
-
-class Pending:
-    """Registers that wait to be told, each once, in the order in which they came."""
-
-    def __init__(self) -> None:
-        self.changed = threading.Condition()
-        self.registers: "collections.OrderedDict[Register, None]" = collections.OrderedDict()
-        self.is_closed = False
-
-    def add(self, registers: Iterable[Register]) -> None:
-        """Lets registers wait; one that waits already keeps its place."""
-        with self.changed:
-            self.registers.update(dict.fromkeys(registers))
-            self.changed.notify_all()
-
-    def close(self) -> None:
-        """Nothing comes any more."""
-        with self.changed:
-            self.is_closed = True
-            self.changed.notify_all()
-
-    def take(self) -> List[Register]:
-        """The next registers, as soon as there are some; none where nothing comes any more."""
-        with self.changed:
-            self.changed.wait_for(lambda: self.registers or self.is_closed)
-            count = min(AT_ONCE, len(self.registers))
-            return [self.registers.popitem(last=False)[0] for _ in range(count)]
+class Busy(OSError):
+    """The edges have no seat for this client."""
 
 
 class Gateway:
@@ -114,97 +79,168 @@ class Gateway:
         self.announcing = Pending()
         self.strangers: Optional[Dict[Register, Update]] = {}
         self.declined: Dict[Optional[bytes], set] = {}
-        self.is_known = self.is_alone = False
-        self.is_up = False
+        self.neighbours: Dict[str, bool] = {}
+        self.is_known = self.is_alone = self.is_up = self.is_joined = False
         self.was_up, self.stopping = threading.Event(), threading.Event()
         self.control: Optional[str] = None
+        self.metrics: Optional[str] = None
+        self.settles_at: Optional[float] = None
+        self.doubt_ends_at: Optional[float] = None
+        self.looked_at: Dict[str, float] = {}
+        self.next_look: Dict[str, float] = {}
 
     # ---- from BGP to records
 
     def watch(self) -> None:
-        """Follows what the daemon tells, and begins anew where it ends; what it brought is withdrawn meanwhile."""
+        """Follows what the daemon reports, and begins again when it ends; what it said is in doubt meanwhile."""
         while not self.stopping.is_set():
             try:
-                for event in self.daemon.watch():
+                for events in self.daemon.watch():
                     self.begin()
-                    self.hear(event)
+                    for place in range(0, len(events), EVENTS):
+                        self.hear(events[place : place + EVENTS])
             except (NoDaemon, Declined) as fault:
                 self.told[f"{fault}; tried again each second"] += 1
-            self.is_up = False
-            with self.lock:
-                changed = self.heard.lose_all()
-            self.push(changed)
+            self.lose_daemon()
             self.stopping.wait(AGAIN)
 
     def begin(self) -> None:
-        """At a daemon's first word: all of ours is announced, and what is older has its time to be said anew."""
+        """Notes a daemon's first word: what it has of ours isn't known, and what is older has its time to be said anew."""
         if self.is_up:
             return
         self.is_up, self.is_known = True, False
         self.was_up.set()
-        with self.lock:
-            wanted = list(self.own.wanted)
-        self.announcing.add(wanted)
-        timer = threading.Timer(HOLD, self.settle)
-        timer.daemon = True
-        timer.start()
+        if self.settles_at is None:
+            self.settles_at = time.monotonic() + HOLD
 
-    def hear(self, event: Event) -> None:
-        """Takes a route's change, or the end of a neighbour's session."""
+    def lose_daemon(self) -> None:
+        """Puts in doubt what the daemon said: it is withdrawn if no daemon says it again in time."""
+        if not self.is_up:
+            return
+        self.is_up = False
         with self.lock:
-            if event.route is None:
-                changed = self.heard.lose(event.neighbour)
-            else:
-                said = None if event.is_withdrawn else said_by(event.route, self.routes)
-                if said is not None and said[0][0] in self.originators:
-                    said = self.routes.leave("a next hop that is one of our own edges")
-                changed = self.heard.take(event.neighbour, (event.route.key(), event.identifier), said)
-                if said is not None and self.heard.is_folded(event.neighbour, said[0]):
-                    self.told[FOLDED] += 1
-        self.push(changed)
+            self.neighbours = dict.fromkeys(self.neighbours, False)
+            self.heard.doubt_all()
+            if self.doubt_ends_at is None:
+                self.doubt_ends_at = time.monotonic() + KEEP
+
+    def hear(self, events: List[Event]) -> None:
+        """Takes changes of routes, and neighbours' sessions that begin or end."""
+        changed: Dict[Register, None] = {}
+        with self.lock:
+            for event in events:
+                changed.update(dict.fromkeys(self.changed_by(event)))
+        self.push(list(changed))
+
+    def changed_by(self, event: Event) -> List[Register]:
+        """Takes one event; gives the registers that changed."""
+        if event.route is None:
+            self.neighbours[event.neighbour] = event.is_up
+            return [] if event.is_up else self.heard.lose(event.neighbour)
+        said = None if event.is_withdrawn else said_by(event.route, self.routes)
+        if said is not None and said[0][0] in self.originators:
+            said = self.routes.leave("a next hop that is one of our own edges")
+        changed = self.heard.take(event.neighbour, (event.route.key(), event.identifier), said)
+        if said is not None and self.heard.is_folded(event.neighbour, said[0]):
+            self.told[FOLDED] += 1
+        return changed
 
     def push(self, changed: List[Register]) -> None:
-        """Lets changes wait for the other side; what the daemon declined is tried again where its MAC has changed."""
-        if changed:
-            self.outgoing.add(changed)
-            for register in changed:
-                self.announcing.add(self.declined.pop(register[2], ()))
-
-    def settle(self) -> None:
-        """What an earlier life left and nobody has said anew is withdrawn, on both sides."""
-        with self.lock:
-            met, self.strangers = self.strangers or {}, None
-            left = [register for register in self.own.announced if register not in self.own.wanted]
-        self.announcing.add(left)
-        for update in met.values():
-            self.answer(update)
-        self.look_back()
-
-    def look_back(self) -> None:
-        """Withdraws what an earlier life has told edges at a socket, once BGP has had its time to say it anew."""
-        with self.lock:
-            is_due = self.control is not None and self.strangers is None
-        if not is_due:
-            return
-        try:
-            updates = reported(self.control)
-        except (OSError, ValueError, Unreadable) as fault:
-            self.told[f"the edges don't report what an earlier life has told them ({fault})"] += 1
-            return
-        for update in updates:
-            if update.originator not in self.originators:
-                self.answer(update)
+        """Queues changes for the other side; what the daemon declined is tried again if its MAC has changed."""
+        self.outgoing.add(changed)
+        for register in changed if self.declined else ():
+            self.announcing.add(self.declined.pop(register[2], ()))
 
     def write(self, out: BinaryIO, pending: Pending) -> None:
         """Writes what waits, until nothing comes any more; not in the second that is this life's incarnation."""
         time.sleep(max(0.0, self.heard.incarnation + 1 - time.time()))
-        registers = pending.take()
-        while registers:
+        while (registers := pending.take()) is not None:
             with self.lock:
                 octets = b"".join(record_of(self.heard.updates[register]) for register in registers)
             out.write(octets)
             out.flush()
-            registers = pending.take()
+
+    # ---- what is due
+
+    def tend(self) -> None:
+        """Does what is due, each second."""
+        while not self.stopping.wait(TICK):
+            now = time.monotonic()
+            if self.doubt_ends_at is not None and now >= self.doubt_ends_at:
+                self.end_doubt()
+            if self.strangers is not None and self.is_settled():
+                self.settle()
+            self.write_metrics()
+
+    def end_doubt(self) -> None:
+        """Withdraws what a daemon said that has ended, and no daemon has said again."""
+        with self.lock:
+            self.doubt_ends_at = None
+            changed = self.heard.expire()
+        if changed:
+            LOG.warning("%d registers of the fabric are withdrawn: gobgpd has not said them again", len(changed))
+        self.push(changed)
+
+    def is_settled(self) -> bool:
+        """Whether what an earlier life left has had its time to be said anew; longer while no neighbour is up."""
+        if self.settles_at is None:
+            return False
+        longer = 0 if True in self.neighbours.values() else KEEP - HOLD
+        return time.monotonic() >= self.settles_at + longer
+
+    def settle(self) -> None:
+        """Withdraws what an earlier life left and nobody has said anew: at gobgpd by its next look, at the edges here."""
+        with self.lock:
+            met, self.strangers = self.strangers or {}, None
+        for update in met.values():
+            self.answer(update)
+        self.next_look.clear()
+
+    def is_due(self, where: str) -> bool:
+        """Whether it is time to look there."""
+        return time.monotonic() >= self.next_look.get(where, 0.0)
+
+    def note_look(self, where: str, begun: float) -> None:
+        """Notes that a look that began at some time has ended, and when the next one is due."""
+        now = time.monotonic()
+        self.looked_at[where] = now
+        self.next_look[where] = now + max(LOOK, SHARE * (now - begun))
+
+    def look_often(self) -> None:
+        """Looks at what the edges have of the fabric, each time that is due."""
+        while not self.stopping.wait(TICK):
+            if self.is_joined and self.strangers is None and self.is_due("edges") and not self.outgoing.waiting():
+                self.look_at_edges()
+
+    def look_at_edges(self) -> None:
+        """Mends what the edges have of the fabric: tells them what they lack, and withdraws what BGP doesn't say."""
+        begun = time.monotonic()
+        with self.lock:
+            said = dict(self.heard.updates)
+        self.stopping.wait(TICK)  # in which the edges take what is on its way to them
+        try:
+            tables = reported(self.control)
+        except (OSError, ValueError, Unreadable) as fault:
+            self.told[f"the edges don't report what they have of the fabric ({fault})"] += 1
+            self.note_look("edges", begun)
+            return
+        for table in tables:
+            found = {each: update for each, update in table.items() if each[0] not in self.originators}
+            self.tell_again(said, found)
+            for update in found.values():
+                self.answer(update)
+        self.note_look("edges", begun)
+
+    def tell_again(self, said: Dict[Register, Update], found: Dict[Register, Update]) -> None:
+        """Tells an edge that has these registers of the fabric what it lacks of what was said; logs whose it never takes."""
+        lacking = lacking_in(found, said)
+        known = {register[0] for register in found}
+        for originator in sorted({register[0] for register in lacking} - known):
+            self.told[f"an edge takes nothing of {address_text(originator)}: no [[peer]] names it"] += 1
+        lacking = [register for register in lacking if register[0] in known]
+        if lacking:
+            LOG.warning("an edge lacked %d registers of the fabric; they are told again", len(lacking))
+            self.outgoing.add(lacking)
 
     # ---- from records to BGP
 
@@ -248,27 +284,31 @@ class Gateway:
             self.push([register_of(update)])
 
     def announce(self) -> None:
-        """Tells the daemon what waits, until nothing comes any more."""
-        registers = self.announcing.take()
-        while registers:
+        """Announces what waits, and mends what the daemon has of ours each time that is due, until nothing comes any more."""
+        while (registers := self.announcing.take(TICK)) is not None:
+            if not registers and not self.is_look_due():
+                continue
             try:
                 self.announce_these(registers)
             except (NoDaemon, Declined) as fault:
                 self.is_known = False
                 if self.stopping.is_set():
-                    tell(f"{fault}: what was announced may stay there until this gateway begins anew")
+                    LOG.error("%s: what was announced stays there until a gateway begins, or --withdraw", fault)
                     return
                 self.told[f"{fault}; tried again each second"] += 1
                 self.announcing.add(registers)
                 self.stopping.wait(AGAIN)
-            registers = self.announcing.take()
+
+    def is_look_due(self) -> bool:
+        """Whether it is time to look what the daemon has of ours."""
+        return self.is_up and bool(self.originators) and (not self.is_known or self.is_due("gobgpd"))
 
     def announce_these(self, registers: List[Register]) -> None:
-        """Tells the daemon of some registers; where it declines one of them, of each alone."""
-        if not self.is_known:
-            self.look()
+        """Announces some registers; if the daemon declines one of them, each alone."""
+        if not self.is_known or (self.is_look_due() and not self.announcing.waiting()):
+            self.look(registers)
         try:
-            if not self.own.wanted and len(self.own.announced) > AT_ONCE:
+            if registers and not self.own.wanted and len(self.own.announced) > AT_ONCE:
                 self.withdraw_all()
             self.change(registers)
         except Declined as fault:
@@ -281,19 +321,30 @@ class Gateway:
                 self.announce_these([register])
 
     def look(self, besides: Iterable[Register] = ()) -> None:
-        """Looks what the daemon has of ours; what it ought to have waits to be announced, but for some registers."""
+        """Reads what the daemon has of ours, and queues what differs from what our edges say, but for some registers."""
+        begun, was_known = time.monotonic(), self.is_known
         self.names.autonomous = self.daemon.autonomous()
-        found = [announced_by(route, self.originators, self.names) for route in self.daemon.own()]
+        routes = list(self.daemon.own())
+        found = [announced_by(route, self.originators, self.names) for route in routes]
         self.is_alone = None not in found
+        changed = [
+            register_of(update)
+            for route, update in zip(routes, found)
+            if update is not None and route != route_of(update, self.names)
+        ]
+        waiting = self.announcing.waiting().union(besides)
         with self.lock:
-            before = set(self.own.announced).difference(besides)
             self.own.renew(update for update in found if update is not None)
-            before.difference_update(self.own.announced)
-        self.announcing.add(before)
+            differing = [*self.own.differing(self.is_settled()), *(each for each in changed if each in self.own.wanted)]
+        differing = [each for each in dict.fromkeys(differing) if each not in waiting]
+        if differing and was_known:
+            LOG.warning("gobgpd had %d routes of our edges otherwise than they say; mended", len(differing))
+        self.announcing.add(differing)
         self.is_known = True
+        self.note_look("gobgpd", begun)
 
     def withdraw_all(self) -> None:
-        """Withdraws all of ours in one call, where the daemon has no other routes of its interface."""
+        """Withdraws all of ours in one call, if the daemon has no other routes of its interface."""
         self.look()
         if self.is_alone:
             self.daemon.clear()
@@ -311,60 +362,77 @@ class Gateway:
         if changes:
             self.daemon.change(changes)
 
+    def withdraw(self) -> int:
+        """Withdraws what an earlier life announced; gives the status."""
+        try:
+            self.look()
+            left = list(self.own.announced)
+            for place in range(0, len(left), AT_ONCE):
+                self.change(left[place : place + AT_ONCE])
+        except (NoDaemon, Declined) as fault:
+            LOG.error("%s: not all of our edges' routes are withdrawn", fault)
+            return 1
+        LOG.info("%d routes of our edges are withdrawn", len(left))
+        return 0
+
     # ---- a session of records
 
     def begin_session(self) -> Pending:
-        """All that is known of the fabric waits to be told to the new one."""
+        """Queues all that is known of the fabric for the new session."""
         self.outgoing = pending = Pending()
         with self.lock:
-            pending.add(self.heard.updates)
+            pending.add(list(self.heard.updates))
         return pending
 
     def end_session(self) -> None:
-        """What it brought is withdrawn."""
+        """Withdraws what a session brought; if it brought nothing, what an earlier life left has its time still."""
+        self.is_joined = False
         with self.lock:
-            brought = self.own.forget()
+            brought = self.own.forget() if self.own.wanted else []
         self.announcing.add(brought)
 
     def by_socket(self, path: str) -> None:
-        """Sessions at a Unix socket, one after the other."""
-        trouble, self.control = "", path
+        """Sessions at a Unix socket, one after the other; each time that the edges are busy it waits longer."""
+        trouble, self.control, wait = "", path, CONNECT
         while not self.stopping.is_set():
             try:
                 with socket.socket(socket.AF_UNIX) as connection:
                     connection.connect(path)
-                    tell(f"{path}: connected")
                     connection.sendall(b"records\n")
-                    trouble = ""
                     self.session(connection)
+                trouble, wait = "", CONNECT
             except OSError as fault:
+                wait = min(2 * max(wait, AGAIN), LONGEST) if isinstance(fault, Busy) else CONNECT
                 if str(fault) != trouble:
-                    tell(f"{path}: {fault.strerror or fault}; tried again each second")
+                    LOG.warning("%s: %s; tried again", path, fault.strerror or fault)
                     trouble = str(fault)
-            finally:
-                self.end_session()
-            self.stopping.wait(AGAIN)
+            self.end_session()
+            self.stopping.wait(wait)
 
     def session(self, connection: socket.socket) -> None:
-        """One session, until either side ends it."""
+        """One session, until either side ends it; raises Busy if the edges have no seat."""
         pending = self.begin_session()
         writer = started(self.write_socket, connection, pending)
-        started(self.look_back)
         try:
             with connection.makefile("rb") as stream:
-                tell(f"session ended: {self.read(stream) or 'by the other side'}")
+                if stream.peek(len(BUSY))[: len(BUSY)] == BUSY:
+                    raise Busy("busy: the edges answer as many clients as they can")
+                LOG.info("%s: connected", self.control)
+                self.is_joined = True
+                self.next_look.pop("edges", None)
+                LOG.warning("session ended: %s", self.read(stream) or "by the other side")
         finally:
             pending.close()
             with_no_fault(lambda: connection.shutdown(socket.SHUT_RDWR))
             writer.join()
 
     def write_socket(self, connection: socket.socket, pending: Pending) -> None:
-        """Writes to a session; where that fails, its reading ends too."""
+        """Writes to a session; if that fails, its reading ends too."""
         try:
             with connection.makefile("wb") as out:
                 self.write(out, pending)
         except OSError:
-            pass  # the reader tells that the session ended
+            pass  # the reader logs that the session ended
         with_no_fault(lambda: connection.shutdown(socket.SHUT_RDWR))
 
     def by_stdio(self, seconds: Optional[float], is_read: bool) -> int:
@@ -379,30 +447,72 @@ class Gateway:
                 self.stopping.wait(seconds)
                 fault = None if self.was_up.is_set() else "the daemon never answered"
         finally:
-            self.end_session()
             pending.close()
             writer.join(PATIENCE)
         if fault is not None:
-            tell(fault)
+            LOG.error(fault)
         return 0 if fault is None else 1
 
     def write_stdout(self, pending: Pending) -> None:
-        """Writes to standard output; where nobody reads it, the gateway ends."""
+        """Writes to standard output; if nobody reads it, the gateway ends."""
         try:
             self.write(sys.stdout.buffer, pending)
         except OSError as fault:
-            tell(f"standard output: {fault.strerror}")
+            LOG.error("standard output: %s", fault.strerror)
             os.kill(os.getpid(), signal.SIGTERM)
 
     def end(self, announcer: threading.Thread) -> None:
-        """Withdraws what is announced still, and tells the counts."""
+        """Withdraws all of ours at the end of the input."""
+        self.end_session()
         self.stopping.set()
         self.announcing.close()
         announcer.join(PATIENCE)
         if announcer.is_alive():
-            tell("not all of ours is withdrawn: this gateway's next life, or gobgpd's end, withdraws the rest")
+            LOG.error("not all of ours is withdrawn: --withdraw, this gateway's next life, or gobgpd's end does the rest")
+
+    def log_counts(self) -> None:
+        """Logs how often what was met."""
         for kinds in (self.left_out, self.told, self.refused):
-            kinds.tell_counts()
+            kinds.log_counts()
+
+    # ---- figures
+
+    def write_metrics(self) -> None:
+        """Writes the figures, if a path was named."""
+        if self.metrics is None:
+            return
+        try:
+            write_whole(self.metrics, prometheus_text(self.figures()))
+        except OSError as fault:
+            self.told[f"{self.metrics}: {fault.strerror}"] += 1
+
+    def figures(self) -> Dict[str, Family]:
+        """What --metrics writes."""
+        with self.lock:
+            heard = sum(update.advert is not None for update in list(self.heard.updates.values()))
+            announced = len(self.own.announced)
+            neighbours = dict(self.neighbours)
+        up = Family("gauge", "1 if the session is up: of records with the edges, of gRPC with gobgpd.")
+        up.set(int(self.is_joined), session="records").set(int(self.is_up), session="gobgpd")
+        peers = Family("gauge", "1 if gobgpd's BGP session with this neighbor is established.")
+        for neighbour, is_up in sorted(neighbours.items()):
+            peers.set(int(is_up), neighbor=neighbour)
+        routes = Family("gauge", "Routes: in, told to the edges; out, announced for them.")
+        routes.set(heard, direction="in").set(announced, direction="out")
+        looks = Family("gauge", "Seconds since the gateway last compared what it says with what is held there.")
+        for where, at in sorted(self.looked_at.items()):
+            looks.set(round(time.monotonic() - at, 1), at=where)
+        refused = Family("counter", "Routes and records that were left out, refused, or taken with a remark, by reason.")
+        for kinds in (self.left_out, self.refused, self.told):
+            for reason, count in sorted(dict(kinds).items()):
+                refused.set(count, kind=kinds.what, reason=reason)
+        return {
+            "evpnd_bgp_session_up": up,
+            "evpnd_bgp_neighbor_up": peers,
+            "evpnd_bgp_routes": routes,
+            "evpnd_bgp_seconds_since_look": looks,
+            "evpnd_bgp_refused_total": refused,
+        }
 
 
 def asked(path: str, *lines: str) -> List[str]:
@@ -418,13 +528,17 @@ def asked(path: str, *lines: str) -> List[str]:
         return answers
 
 
-def reported(path: str) -> List[Update]:
-    """The registers that the edges at a control socket have in their tables."""
+def reported(path: str) -> List[Dict[Register, Update]]:
+    """The registers that each edge at a control socket has in its table."""
     edges = asked(path, "edges")
     if not edges or not edges[0][:1].isdigit():
         raise Unreadable(edges[0] if edges else "no answer")
-    lines = asked(path, *(f"{line.split(' ')[0]} report" for line in edges))
-    return [update for update in map(update_of_report, dict.fromkeys(lines)) if update is not None]
+    return [table_of(asked(path, f"{line.split(' ')[0]} report")) for line in edges]
+
+
+def table_of(lines: Iterable[str]) -> Dict[Register, Update]:
+    """The registers that a report's lines say."""
+    return {register_of(update): update for update in map(update_of_report, lines) if update is not None}
 
 
 def started(body: Callable, *words: object) -> threading.Thread:
@@ -449,7 +563,7 @@ def stop(_number: int, _frame: object) -> None:
 
 
 def end_all(what: threading.ExceptHookArgs) -> None:
-    """Ends the gateway where a thread failed: half a gateway helps nobody, and a supervisor begins it anew."""
+    """Ends the gateway if a thread failed: half a gateway helps nobody, and a supervisor begins it anew."""
     sys.excepthook(what.exc_type, what.exc_value, what.exc_traceback)
     os.kill(os.getpid(), signal.SIGTERM)
 
@@ -470,30 +584,43 @@ def parser() -> argparse.ArgumentParser:
     way.add_argument("--watch", nargs="?", type=float, const=None, default=False, metavar="SECONDS", help=told)
     way.add_argument("--stdio", action="store_true", help="records at standard input and output")
     way.add_argument("--socket", metavar="PATH", help="records at a Unix socket, as its client")
+    way.add_argument("--withdraw", action="store_true", help="withdraw what an earlier gateway announced, and end")
     words.add_argument("--own", type=own_of, default=[], metavar="LIST", help="our edges: their records are announced")
     words.add_argument("--gobgp", default="127.0.0.1:50051", metavar="HOST:PORT", help="the daemon's API")
     words.add_argument("--protos", default=PROTOS, metavar="FOLDER", help="GoBGP's protos, where they aren't Debian's")
     words.add_argument("--vni", type=vnis_of, default=EVERY_VNI, metavar="N[,N]", help="take these VNIs' routes alone")
     words.add_argument("--auto-rt", action="store_true", help="announce route targets in RFC 8365's automatic form")
+    words.add_argument("--metrics", metavar="PATH", help="write figures there each second, as Prometheus' text format")
     add_route_words(words)
     return words
 
 
+def lock_names(arguments: argparse.Namespace) -> List[str]:
+    """What no two gateways may share: an edge at a GoBGP, and a control socket."""
+    names = [f"edge {address_text(each)} at GoBGP {arguments.gobgp}" for each in arguments.own]
+    return names + ([os.path.realpath(arguments.socket)] if arguments.socket is not None else [])
+
+
 def run(gateway: Gateway, arguments: argparse.Namespace) -> int:
     """Runs a gateway until its input or a signal ends it; gives the status."""
-    status = 0
     threading.excepthook = end_all
     for number in (signal.SIGINT, signal.SIGTERM, signal.SIGHUP):
         signal.signal(number, stop)
-    announcer = started(gateway.announce)
-    started(gateway.watch)
     try:
+        if arguments.withdraw:
+            return gateway.withdraw()
+        announcer = started(gateway.announce)
+        for body in (gateway.watch, gateway.tend, gateway.look_often):
+            started(body)
         if arguments.socket is not None:
             gateway.by_socket(arguments.socket)
         status = gateway.by_stdio(arguments.watch, arguments.stdio)
+        gateway.end(announcer)
     except Stopped:
-        pass
-    gateway.end(announcer)
+        status = 0
+        if gateway.own.announced:
+            LOG.info("%d routes stay at gobgpd for the next gateway; --withdraw takes them back", len(gateway.own.announced))
+    gateway.log_counts()
     return status
 
 
@@ -502,18 +629,24 @@ def main() -> int:
     words = parser()
     arguments = words.parse_args()
     if bool(arguments.own) == (arguments.watch is not False):
-        words.error("--stdio and --socket need --own, and --watch announces nothing")
+        words.error("--stdio, --socket and --withdraw need --own, and --watch announces nothing")
     for target, _ in arguments.rt:
         if not is_target(target):
             words.error(f"{target!r} is no route target: AS:NUMBER or ADDRESS:NUMBER")
+    log_to_standard_error()
     try:
+        lock = Lock(lock_names(arguments))
         daemon = Daemon(arguments.gobgp, arguments.protos)
     except Unreadable as fault:
-        tell(str(fault))
+        LOG.error(fault)
         return 2
     routes = Routes(arguments.vni, arguments.any_rd, arguments.rt)
-    names = Names(0, arguments.rt, arguments.auto_rt)
-    return run(Gateway(daemon, routes, arguments.own, names), arguments)
+    gateway = Gateway(daemon, routes, arguments.own, Names(0, arguments.rt, arguments.auto_rt))
+    gateway.metrics = arguments.metrics
+    try:
+        return run(gateway, arguments)
+    finally:
+        lock.free()
 
 
 if __name__ == "__main__":

@@ -7,7 +7,8 @@ record can't say is left out and counted by cause.
 import collections
 import json
 import re
-from typing import Callable, Dict, Iterable, Iterator, List, NamedTuple, Optional, TextIO, Tuple
+from dataclasses import dataclass, field
+from typing import Callable, Dict, Iterable, Iterator, List, Mapping, NamedTuple, Optional, Set, TextIO, Tuple
 
 from update_records import Advert, Unreadable, Update, read_address, read_ip, read_mac, read_number
 
@@ -108,8 +109,10 @@ PREFIX = re.compile(
     r"\[(?P<type>[0-9]+)\]:\[(?P<tag>[0-9]+)\]:\[(?:48\]:\[(?P<mac>[0-9a-f:]{17})\](?::\[(?:32|128)\]:\[(?P<ip>[^]]+)\])?"
     r"|(?P<rest>.*))"
 )
+SEGMENT = re.compile(r"\[(?:1\]:\[[0-9]+|4)\]:\[([0-9a-f]{2}(?::[0-9a-f]{2}){9})\].*")  # RFC 7432, 7.1 and 7.4
 COMMUNITY_RT = re.compile(r"RT:(\S+:[0-9]{1,10})(?![0-9])")
 COMMUNITY_MOBILITY = re.compile(r"MM:([0-9]+)(, sticky MAC)?")
+COMMUNITY_ROUTER = re.compile(r"Rmac:([0-9a-f]{2}(?::[0-9a-f]{2}){5})")
 LABELS = re.compile(r"([0-9]{1,8})(?:/([0-9]{1,8}))?")
 RD_ADDRESS = re.compile(r"([0-9]+\.[0-9]+\.[0-9]+\.[0-9]+):[0-9]+")
 AUTO_RT = 1 << 28  # RFC 8365, 5.1.2.1: the type of an automatic route target that stands for a VXLAN identifier
@@ -127,6 +130,7 @@ class Path(NamedTuple):
     seconds: int
     is_best: bool
     is_own: bool
+    targets: str = ""
 
 
 class Seen(NamedTuple):
@@ -142,23 +146,69 @@ class Seen(NamedTuple):
 
 NO_KIND = "neither a MAC route nor an inclusive multicast route"
 FOLDED = "folded into the better route of the same next hop and key"
+MULTIHOMED = "a nonzero ESI (multihomed)"
+OTHER_LABEL = "taken by their route target, which isn't the VNI in their label"
+
+
+@dataclass(frozen=True)
+class Imports:
+    """Which networks import a route: by its route targets, or for an own route by its RD.
+
+    `by_number` has the targets of which FRR compares the number only, whatever the autonomous system: those that it derives
+    itself from the VNI, and those with `*`.
+    """
+
+    exact: Mapping[str, Tuple[int, ...]] = field(default_factory=dict)
+    by_number: Mapping[int, Tuple[int, ...]] = field(default_factory=dict)
+    own: Mapping[str, int] = field(default_factory=dict)
+
+    def vnis_of(self, target: str) -> Tuple[int, ...]:
+        """Returns the networks that import a route target."""
+        return self.exact.get(target, ()) + self.by_number.get(int(target.rpartition(":")[2]), ())
+
+
+class Community(NamedTuple):
+    """What the extended communities of a path say: networks of layer 2, L3VNIs, mobility, the router's MAC."""
+
+    vnis: Tuple[int, ...]
+    routed: Tuple[int, ...]
+    static: bool
+    sequence: int
+    router: bytes
 
 
 class Routes:
-    """The paths of FRR's tables that are of the wanted VNIs; what is left out is counted by cause."""
+    """The paths of FRR's tables that are of the wanted VNIs; what is left out is counted by cause.
+
+    `routed` are L3VNIs: their routes give router MACs (RFC 9135, 8.1), no MAC of a network. Without `imports` a route
+    target names the VNI that its number is.
+    """
 
     def __init__(
-        self, vnis: Iterable[int], any_rd: bool = False, targets: Iterable[Tuple[str, int]] = (), may_be_empty: bool = False
+        self,
+        vnis: Iterable[int],
+        any_rd: bool = False,
+        targets: Iterable[Tuple[str, int]] = (),
+        may_be_empty: bool = False,
+        imports: Optional[Imports] = None,
+        routed: Iterable[int] = (),
     ) -> None:
         self.vnis = vnis if isinstance(vnis, range) else set(vnis)
         self.any_rd = any_rd
         self.may_be_empty = may_be_empty
         self.targets = dict(targets)
+        self.imports = imports
+        self.routed = set(routed)
+        self.routers: Dict[int, Dict[str, Set[bytes]]] = {}
+        self.prefixes: Dict[int, Dict[str, Set[str]]] = {}
+        self.invalid: Dict[Tuple[int, str], Set[bytes]] = {}
         self.left_out: Dict[str, int] = collections.Counter()
         self.told: Dict[str, int] = collections.Counter()
         self.unjudged: set = set()
+        self.segments: Dict[str, Set[str]] = {}
+        self.multihomed: Dict[Tuple[int, Optional[bytes]], Set[str]] = {}
         self.routes = 0
-        self.communities: Dict[str, Tuple[Optional[int], bool, int]] = {}
+        self.communities: Dict[str, Community] = {}
         self.adverts: Dict[Tuple[bool, int, Optional[int]], Advert] = {}
         self.addresses: Dict[str, bytes] = {}
         self.rds: Dict[str, Optional[str]] = {}
@@ -186,50 +236,84 @@ class Routes:
         if self.routes == before and not self.may_be_empty:
             raise Unreadable(f"{name}: no EVPN route stands there")
 
-    def paths(self, rd: str, prefix: str, route: object, name: str) -> Iterator[Path]:
-        """The paths of one route."""
+    def paths(self, rd: str, prefix: str, route: object, name: str, vni: Optional[int] = None) -> Iterator[Path]:
+        """The paths of one route, for each network that imports it; in a network's own table `vni` is that network."""
         groups = route.get("paths") if isinstance(route, dict) else None
         if not isinstance(groups, list):
             raise Unreadable(f"{name}: route {prefix} has no 'paths'")
         match = PREFIX.fullmatch(prefix)
+        segment = SEGMENT.fullmatch(prefix) if prefix.startswith(("[1]", "[4]")) else None
         for group in groups:
             for path in group if isinstance(group, list) else [group]:
                 self.routes += 1
                 if not isinstance(path, dict):
                     raise Unreadable(f"{name}: route {prefix} has a path that is no object")
                 try:
-                    found = self.path(rd, match, path)
+                    found = self.path(rd, match, path, vni) if segment is None else self.take_segment(segment[1], path)
                 except (KeyError, TypeError, AttributeError, IndexError) as fault:
                     raise Unreadable(f"{name}: route {prefix} lacks a field that is needed ({fault})") from None
-                if found is not None:
-                    yield found
+                yield from found
 
-    def path(self, rd: str, match: Optional["re.Match[str]"], path: dict) -> Optional[Path]:
-        """One path, or nothing with its cause counted."""
-        if match is None or match["type"] not in ("2", "3") or (match["type"] == "2" and match["mac"] is None):
-            return self.leave(NO_KIND)
-        mac = read_mac(match["mac"]) if match["type"] == "2" else None
-        labels = LABELS.fullmatch(str(path.get("pmsi", {}).get("label", "") if mac is None else path.get("VNI", "")))
-        target, static, sequence = self.community(path.get("extendedCommunity", {}).get("string", ""))
-        label = int(labels[1]) if labels else None
-        vni = self.network_of(Seen(target, label, mac, match["tag"], path.get("esi", ""), path.get("valid") is True))
-        if vni is None:
-            return None
-        hop = self.next_hop(rd, path["nexthops"][0]["ip"], vni, mac)
-        if hop is None:
-            return None
+    def path(self, rd: str, match: Optional["re.Match[str]"], path: dict, vni: Optional[int]) -> List[Path]:
+        """One path for each network that imports it; what a record can't say is counted by its cause."""
+        kind = match["type"] if match is not None else ""
+        targets = path.get("extendedCommunity", {}).get("string", "")
+        said = self.community(targets)
+        is_own = path.get("peerId") == "(unspec)" or path.get("local") is True
+        if said.routed and path.get("valid") is True and (kind == "5" or (kind == "2" and match["ip"])):
+            prefix = match["rest"] if kind == "5" else match["ip"]
+            self.take_router(said, path["nexthops"][0]["ip"], prefix, b"" if is_own else said.router)
+        if kind not in ("2", "3") or (kind == "2" and match["mac"] is None):
+            if not (kind == "5" and said.routed):
+                self.leave(NO_KIND)
+            return []
+        mac = read_mac(match["mac"]) if kind == "2" else None
+        shown = path.get("pmsi", {}).get("label", "") if mac is None else path.get("VNI", "")
+        labels = LABELS.fullmatch(str(shown)) if shown != "" else None
+        label, is_valid, esi = int(labels[1]) if labels else None, path.get("valid") is True, path.get("esi", "")
+        hop = path["nexthops"][0]["ip"]
+        vnis: Tuple[Optional[int], ...] = self.networks_of(rd, said, is_own) if vni is None else (vni,)
+        if not is_valid and not is_own:
+            self.take_invalid(vnis, hop, mac)
         best = path.get("bestpath", False)
-        return Path(
-            rd,
-            vni,
-            mac,
-            read_ip(match["ip"]) if match["ip"] else b"",
-            hop,
-            Advert() if mac is None else self.advert(static, sequence, labels[2] if labels else None),
-            read_number(str(path["lastUpdate"]["epoch"]), 1 << 63, "time") if "lastUpdate" in path else 0,
-            best.get("overall") is True if isinstance(best, dict) else best is True,
-            path.get("peerId") == "(unspec)" or path.get("local") is True,
-        )
+        is_best = best.get("overall") is True if isinstance(best, dict) else best is True
+        seconds = read_number(str(path["lastUpdate"]["epoch"]), 1 << 63, "time") if "lastUpdate" in path else 0
+        advert = Advert() if mac is None else self.advert(said.static, said.sequence, labels[2] if labels else None)
+        ip = read_ip(match["ip"]) if match["ip"] else b""
+        found = []
+        for each in vnis or (None,):
+            is_plain = is_valid and each is not None and label in (None, each) and match["tag"] == "0" and not esi
+            network = each if is_plain else self.network_of(Seen(each, label, mac, match["tag"], esi, is_valid))
+            vtep = None if network is None else self.next_hop(rd, hop, network, mac)
+            if network is not None and vtep is not None:
+                found.append(Path(rd, network, mac, ip, vtep, advert, seconds, is_best, is_own, targets))
+        return found
+
+    def networks_of(self, rd: str, said: Community, is_own: bool) -> Tuple[int, ...]:
+        """The wanted networks that have a path: an own one by its RD, another by its route targets."""
+        if is_own and self.imports is not None and rd in self.imports.own:
+            vni = self.imports.own[rd]
+            return (vni,) if vni in self.vnis else ()
+        return said.vnis
+
+    def take_router(self, said: Community, hop: str, prefix: str, router: bytes) -> None:
+        """Takes the router's MAC that a route of an L3VNI names (RFC 9135, 8.1), of an IPv4 next hop; and who has the prefix."""
+        for vni in said.routed if ":" not in hop else ():
+            self.prefixes.setdefault(vni, {}).setdefault(prefix, set()).add(hop)
+            if router:
+                self.routers.setdefault(vni, {}).setdefault(hop, set()).add(router)
+
+    def take_segment(self, esi: str, path: dict) -> List[Path]:
+        """Takes an edge that says that it is at a segment; no record says that."""
+        if path.get("valid") is True:
+            self.segments.setdefault(esi, set()).add(path["nexthops"][0]["ip"])
+        return []
+
+    def take_invalid(self, vnis: Tuple[Optional[int], ...], hop: str, mac: Optional[bytes]) -> None:
+        """Takes a path that isn't valid: bgpd doesn't reach its next hop."""
+        for vni in vnis:
+            if vni is not None:
+                self.invalid.setdefault((vni, hop), set()).update(() if mac is None else (mac,))
 
     def network_of(self, seen: Seen) -> Optional[int]:
         """The VNI of a path that a record can say, but for its next hop; else nothing, with its cause counted."""
@@ -241,7 +325,8 @@ class Routes:
         if not seen.is_valid:
             return self.leave("not valid")
         if seen.esi.strip("0:-") != "":
-            return self.leave_unjudged(vni, seen.mac, "a nonzero ESI (multihomed)")
+            self.multihomed.setdefault((vni, seen.mac), set()).add(seen.esi)
+            return self.leave(MULTIHOMED)
         return vni
 
     def vni_of(self, target: Optional[int], label: Optional[int], mac: Optional[bytes]) -> Optional[int]:
@@ -251,8 +336,10 @@ class Routes:
         if target is None:
             self.told["taken by the VNI in their label: no route target names it"] += 1
             return label
-        if label not in (None, target):
+        if label not in (None, target) and self.imports is None:
             return self.leave_unjudged(target, mac, "a label that isn't the VNI of the route target")
+        if label not in (None, target):
+            self.told[OTHER_LABEL] += 1
         return target
 
     def next_hop(self, rd: str, hop: str, vni: int, mac: Optional[bytes]) -> Optional[bytes]:
@@ -275,16 +362,29 @@ class Routes:
         self.unjudged.add((vni, mac))
         self.leave(cause)
 
-    def community(self, text: str) -> Tuple[Optional[int], bool, int]:
-        """The wanted VNI that a route target names, and the MAC Mobility community's flag and number."""
-        if text not in self.communities:
-            vni = next((vni for vni in map(self.vni_of_target, COMMUNITY_RT.findall(text)) if vni in self.vnis), None)
-            mobility = COMMUNITY_MOBILITY.search(text)
-            static = mobility is not None and mobility[2] is not None
-            self.communities[text] = vni, static, read_number(mobility[1], 1 << 32, "sequence number") if mobility else 0
-        return self.communities[text]
+    def community(self, text: str) -> Community:
+        """What the extended communities of a path say."""
+        found = self.communities.get(text)
+        if found is None:
+            targets = COMMUNITY_RT.findall(text)
+            vnis = tuple(dict.fromkeys(vni for target in targets for vni in self.importers_of(target)))
+            mobility, router = COMMUNITY_MOBILITY.search(text), COMMUNITY_ROUTER.search(text)
+            found = self.communities[text] = Community(
+                tuple(vni for vni in vnis if vni in self.vnis),
+                tuple(vni for vni in vnis if vni in self.routed),
+                mobility is not None and mobility[2] is not None,
+                read_number(mobility[1], 1 << 32, "sequence number") if mobility else 0,
+                bytes.fromhex(router[1].replace(":", "")) if router else b"",
+            )
+        return found
 
-    def vni_of_target(self, target: str) -> Optional[int]:
+    def importers_of(self, target: str) -> Tuple[int, ...]:
+        """The networks that import a route target: as was said, as bgpd imports it, or by the number in it."""
+        if target in self.targets or self.imports is None:
+            return (self.vni_of_target(target),)
+        return self.imports.vnis_of(target)
+
+    def vni_of_target(self, target: str) -> int:
         """The VNI that a route target stands for: as was said, or by the number in it."""
         number = int(target.rpartition(":")[2])
         return self.targets.get(target, number - AUTO_RT if number >= AUTO_RT else number)
@@ -318,8 +418,9 @@ class Routes:
 class Snapshot:
     """The registers that one router shows: each key's better route, with its time."""
 
-    def __init__(self, routes: Routes) -> None:
+    def __init__(self, routes: Routes, paths: Optional[List[Path]] = None) -> None:
         self.routes = routes
+        self.paths = paths
         self.registers: Dict[bytes, Tuple[Advert, int]] = {}
         self.values: Dict[Tuple[Advert, int], Tuple[Advert, int]] = {}
         self.own: set = set()
@@ -331,6 +432,8 @@ class Snapshot:
         value = self.values.setdefault(value, value)
         if path.is_own:
             self.own.add(path.vtep)
+        if self.paths is not None:
+            self.paths.append(path)
         old = self.registers.get(key)
         if old is not None:
             self.routes.told[FOLDED] += 1
@@ -350,9 +453,9 @@ def update_of_key(key: bytes, advert: Optional[Advert], counter: int) -> Update:
     return Update(key[:4], vni, key[7:13] or None, key[13:], advert, counter)
 
 
-def snapshot_of(routes: Routes, stream: TextIO, name: str) -> Snapshot:
-    """The snapshot that a stream's text shows."""
-    snapshot = Snapshot(routes)
+def snapshot_of(routes: Routes, stream: TextIO, name: str, keeps_paths: bool = False) -> Snapshot:
+    """The snapshot that a stream's text shows; with `keeps_paths` it keeps each path too."""
+    snapshot = Snapshot(routes, [] if keeps_paths else None)
     for path in routes.read(stream, name):
         snapshot.take(path)
     if not snapshot.registers and not routes.may_be_empty:

@@ -1,8 +1,9 @@
 """GoBGP's interface (gRPC), as far as a gateway needs it: what its neighbours say, and routes of our own in its table.
 
-Debian's packages have all of it: gobgpd, golang-github-osrg-gobgp-dev (the protos), protobuf-compiler,
-python3-grpcio and python3-protobuf. The classes of the messages are made by `protoc` each time. They are imported late:
-everything but a connection works without them.
+Debian's packages have all of it: gobgpd, python3-grpcio and python3-protobuf. The classes of the messages stand beside
+this file in the folder gobgp_api, where the package of evpnd has them (`gobgp.py FOLDER` makes them there). Where they
+don't, `protoc` makes them at each start, of golang-github-osrg-gobgp-dev (the protos) and protobuf-compiler. All of it is
+imported late: everything but a connection works without.
 """
 
 import importlib
@@ -10,16 +11,19 @@ import os
 import subprocess
 import sys
 import tempfile
-from typing import Dict, Iterable, Iterator, NamedTuple, Optional, Tuple
+from typing import Dict, Iterable, Iterator, List, NamedTuple, Optional, Tuple
 
 from bgp_routes import VXLAN, Pmsi, Route
 from update_records import FLOOD_ROUTE, MAC_ROUTE, Unreadable
 
 PROTOS = "/usr/share/gocode/src/github.com/osrg/gobgp/api"
 PACKAGES = "gobgpd golang-github-osrg-gobgp-dev protobuf-compiler libprotobuf-dev python3-grpcio python3-protobuf"
+MADE = os.path.join(os.path.dirname(os.path.abspath(__file__)), "gobgp_api")
 NO_NEIGHBOUR = ("", "<nil>")
 ROUTE_TARGET = 2  # the subtype of an extended community (RFC 4360, 4)
 SECONDS = 30
+SINGLE_THREADED = "SingleThreadedUnaryStream"  # grpc reads a stream in the thread that asks for it, at half the cost
+REMEMBERED = 1 << 16  # RDs and sets of communities that are kept parsed
 
 
 class NoDaemon(Exception):
@@ -31,7 +35,7 @@ class Declined(Exception):
 
 
 class Event(NamedTuple):
-    """What a watch tells: a neighbour's route, or no route where the neighbour's session doesn't stand.
+    """What a watch reports: a neighbour's route; or, without a route, whether the neighbour's session is up.
 
     The identifier tells several paths of one route apart (RFC 7911).
     """
@@ -40,6 +44,7 @@ class Event(NamedTuple):
     route: Optional[Route] = None
     is_withdrawn: bool = False
     identifier: int = 0
+    is_up: bool = False
 
 
 class Messages:
@@ -48,6 +53,9 @@ class Messages:
     def __init__(self, attribute: object, gobgp: object, any_class: type) -> None:
         self.attribute, self.gobgp, self.any_class = attribute, gobgp, any_class
         self.family = gobgp.Family(afi=gobgp.Family.AFI_L2VPN, safi=gobgp.Family.SAFI_EVPN)
+        self.known: Dict[str, Tuple[str, Optional[type]]] = {}
+        self.rds: Dict[Tuple[str, bytes], str] = {}
+        self.sets: Dict[bytes, Communities] = {}
 
     # ---- to messages
 
@@ -99,68 +107,97 @@ class Messages:
 
     # ---- from messages
 
+    def named(self, address: str) -> Tuple[str, Optional[type]]:
+        """Returns the name and the class that an Any's type address means; another proto's has no class."""
+        if address not in self.known:
+            name = address.rpartition(".")[2]
+            self.known[address] = name, getattr(self.attribute, name, None)
+        return self.known[address]
+
     def unpacked(self, box: object) -> Tuple[str, object]:
-        """The name and the message of an Any; another proto's has no message."""
-        name = box.type_url.rpartition(".")[2]
-        known = getattr(self.attribute, name, None)
-        message = None if known is None else known()
-        if message is not None:
-            box.Unpack(message)
-        return name, message
+        """Returns the name and the message of an Any; another proto's has no message."""
+        name, kind = self.named(box.type_url)
+        return name, None if kind is None else kind.FromString(box.value)
 
     def route(self, path: object) -> Route:
-        """The route of a Path."""
+        """Returns the route of a Path."""
         name, nlri = self.unpacked(path.nlri)
         if name == "EVPNMACIPAdvertisementRoute":
             esi = bytes([nlri.esi.type & 255]) + nlri.esi.value
             address = "" if nlri.ip_address in NO_NEIGHBOUR else nlri.ip_address
-            route = Route(MAC_ROUTE, self.rd(nlri.rd), nlri.mac_address, address, nlri.ethernet_tag, esi)
-            route = route._replace(labels=tuple(nlri.labels))
+            head = MAC_ROUTE, self.rd(nlri.rd), nlri.mac_address, address, nlri.ethernet_tag, esi, tuple(nlri.labels)
         elif name == "EVPNInclusiveMulticastEthernetTagRoute":
-            route = Route(FLOOD_ROUTE, self.rd(nlri.rd), ip=nlri.ip_address, tag=nlri.ethernet_tag)
+            head = FLOOD_ROUTE, self.rd(nlri.rd), "", nlri.ip_address, nlri.ethernet_tag, bytes(10), ()
         else:
             return Route(0, str(nlri))
-        return self.with_attributes(route, path.pattrs)
+        return self.with_attributes(head, path.pattrs)
 
     def rd(self, box: object) -> str:
-        """An RD's spelling."""
-        _, rd = self.unpacked(box)
-        return "" if rd is None else f"{rd.admin}:{rd.assigned}"
+        """Returns an RD's spelling; networks have few of them, and each has many routes."""
+        key = box.type_url, box.value
+        if key not in self.rds:
+            _, rd = self.unpacked(box)
+            remember(self.rds, key, "" if rd is None else f"{rd.admin}:{rd.assigned}")
+        return self.rds[key]
 
-    def with_attributes(self, route: Route, boxes: Iterable[object]) -> Route:
-        """A route with what its path attributes say."""
-        for name, message in map(self.unpacked, boxes):
-            if name == "MpReachNLRIAttribute" and message.next_hops:
-                route = route._replace(hop=message.next_hops[0])
+    def with_attributes(self, head: tuple, boxes: Iterable[object]) -> Route:
+        """Returns the route with these first fields and with what its path attributes say."""
+        hop, said, pmsi = "", Communities(), None
+        for box in boxes:
+            name, kind = self.named(box.type_url)
+            if name == "MpReachNLRIAttribute":
+                hop = next(iter(kind.FromString(box.value).next_hops), hop)
             elif name == "NextHopAttribute":
-                route = route._replace(hop=message.next_hop)
+                hop = kind.FromString(box.value).next_hop
             elif name == "PmsiTunnelAttribute":
-                route = route._replace(pmsi=Pmsi(message.type, message.label, message.id))
+                message = kind.FromString(box.value)
+                pmsi = Pmsi(message.type, message.label, message.id)
             elif name == "ExtendedCommunitiesAttribute":
-                route = self.with_communities(route, message.communities)
-        return route
+                said = self.communities(box)
+        return Route(*head, hop, said.targets, said.mobility, pmsi)
 
-    def with_communities(self, route: Route, boxes: Iterable[object]) -> Route:
-        """A route with what its extended communities say."""
-        targets = []
+    def communities(self, box: object) -> "Communities":
+        """Returns what extended communities say; many routes have the same ones."""
+        if box.value not in self.sets:
+            remember(self.sets, box.value, self.communities_of(self.unpacked(box)[1].communities))
+        return self.sets[box.value]
+
+    def communities_of(self, boxes: Iterable[object]) -> "Communities":
+        """Returns what these extended communities say."""
+        targets, mobility = [], None
         for name, message in map(self.unpacked, boxes):
             if name == "MacMobilityExtended":
-                route = route._replace(mobility=(message.is_sticky, message.sequence_num))
+                mobility = message.is_sticky, message.sequence_num
             elif name.endswith("SpecificExtended") and message.sub_type == ROUTE_TARGET:
                 admin = message.address if name.startswith("IPv") else message.asn
                 targets.append(f"{admin}:{message.local_admin}")
-        return route._replace(targets=tuple(targets))
+        return Communities(tuple(targets), mobility)
 
     def events(self, response: object) -> Iterator[Event]:
-        """What a watch's answer tells."""
+        """Yields what a watch's answer reports."""
         if response.WhichOneof("event") == "peer":
             state = response.peer.peer.state
-            if state.neighbor_address and state.session_state != self.gobgp.PeerState.ESTABLISHED:
-                yield Event(state.neighbor_address)
+            if state.neighbor_address not in NO_NEIGHBOUR:
+                is_up = state.session_state == self.gobgp.PeerState.ESTABLISHED
+                yield Event(state.neighbor_address, is_up=is_up)
             return
         for path in response.table.paths:
             if path.family == self.family:
                 yield Event(path.neighbor_ip, self.route(path), path.is_withdraw, path.identifier)
+
+
+class Communities(NamedTuple):
+    """What the extended communities of a route say: its route targets, static flag and sequence number."""
+
+    targets: Tuple[str, ...] = ()
+    mobility: Optional[Tuple[bool, int]] = None
+
+
+def remember(cache: dict, key: object, value: object) -> None:
+    """Puts a value into a cache, which is emptied first if it is full."""
+    if len(cache) >= REMEMBERED:
+        cache.clear()
+    cache[key] = value
 
 
 class Daemon:
@@ -169,15 +206,10 @@ class Daemon:
     def __init__(self, address: str, protos: str = PROTOS) -> None:
         self.address = address
         self.grpc = imported("grpc")
-        with tempfile.TemporaryDirectory() as folder:
-            make_classes(protos, folder)
-            sys.path.insert(0, folder)
-            try:
-                self.gobgp, attribute = imported("gobgp_pb2"), imported("attribute_pb2")
-            finally:
-                sys.path.remove(folder)
+        self.gobgp, attribute = classes(protos)
         self.messages = Messages(attribute, self.gobgp, imported("google.protobuf.any_pb2").Any)
-        self.channel = self.grpc.insecure_channel(address, [("grpc.max_receive_message_length", -1)])
+        options = [("grpc.max_receive_message_length", -1), (SINGLE_THREADED, 1)]
+        self.channel = self.grpc.insecure_channel(address, options)
 
     def call(self, name: str, kind: str, answer: str, *what: object, **how: object) -> object:
         """A call of the interface; `kind` says which side streams."""
@@ -195,20 +227,23 @@ class Daemon:
             raise self.trouble(fault) from None
         return getattr(answer, "global").asn
 
-    def watch(self) -> Iterator[Event]:
-        """What the neighbours have said, then each change, and each session that doesn't stand."""
+    def watch(self) -> Iterator[List[Event]]:
+        """Yields what the neighbours have said, then each change, and each session that comes up or goes down.
+
+        Each list is one answer of the daemon's, as it came.
+        """
         table = self.gobgp.WatchEventRequest.Table
         wanted = [table.Filter(type=table.Filter.ADJIN, init=True)]
         request = self.gobgp.WatchEventRequest(peer=self.gobgp.WatchEventRequest.Peer(), table=table(filters=wanted))
         try:
             for response in self.call("WatchEvent", "unary_stream", "WatchEventResponse", request):
-                yield from self.messages.events(response)
+                yield list(self.messages.events(response))
         except self.grpc.RpcError as fault:
             raise self.trouble(fault) from None
         raise NoDaemon("the daemon has ended the watch")
 
     def own(self) -> Iterator[Route]:
-        """The routes that this interface has put into the daemon's table."""
+        """Yields the routes that this interface has put into the daemon's table."""
         request = self.gobgp.ListPathRequest(table_type=self.gobgp.GLOBAL, family=self.messages.family)
         try:
             for response in self.call("ListPath", "unary_stream", "ListPathResponse", request, timeout=SECONDS):
@@ -246,6 +281,24 @@ class Daemon:
         return Declined(fault.details())
 
 
+def classes(protos: str) -> Tuple[object, object]:
+    """Returns the modules gobgp_pb2 and attribute_pb2: those of the package, or made by protoc if it has none."""
+    if os.path.exists(os.path.join(MADE, "gobgp_pb2.py")) and protos == PROTOS:
+        return classes_in(MADE)
+    with tempfile.TemporaryDirectory() as folder:
+        make_classes(protos, folder)
+        return classes_in(folder)
+
+
+def classes_in(folder: str) -> Tuple[object, object]:
+    """Returns the modules gobgp_pb2 and attribute_pb2 of a folder."""
+    sys.path.insert(0, folder)
+    try:
+        return imported("gobgp_pb2"), imported("attribute_pb2")
+    finally:
+        sys.path.remove(folder)
+
+
 def imported(name: str) -> object:
     """A module of Debian's packages, or of protoc's making."""
     try:
@@ -267,3 +320,21 @@ def make_classes(protos: str, folder: str) -> None:
         raise Unreadable(f"protoc can't be run ({fault.strerror}): install {PACKAGES}") from None
     if done.returncode != 0:
         raise Unreadable(f"protoc: {done.stderr.strip()}")
+
+
+def main(words: List[str]) -> int:
+    """Makes the classes in a folder, as tools/package.sh does for the package."""
+    if len(words) != 1:
+        print("usage: gobgp.py FOLDER", file=sys.stderr)
+        return 2
+    os.makedirs(words[0], exist_ok=True)
+    try:
+        make_classes(PROTOS, words[0])
+    except Unreadable as fault:
+        print(f"gobgp: {fault}", file=sys.stderr)
+        return 2
+    return 0
+
+
+if __name__ == "__main__":
+    sys.exit(main(sys.argv[1:]))

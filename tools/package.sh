@@ -97,9 +97,11 @@ sed -i '1s|^#!/usr/bin/env python3$|#!/usr/bin/python3|' "$root/usr/bin/evpndctl
 for tool in "$top"/tools/audit_*.py "$top"/tools/evpnd_*.py; do
   install -m 644 "$tool" "$share/"
 done
-for name in bgp_routes frr_routes gobgp update_records; do
+for name in bgp_routes bgp_service frr_routes gobgp update_records; do
   install -m 644 "$top/tools/$name.py" "$share/"
 done
+# The classes of GoBGP's messages, so that the gateway needs no protoc; without them it makes them at each start.
+python3 -B "$top/tools/gobgp.py" "$share/gobgp_api" || rm -rf "$share/gobgp_api"
 sed -i '1{/^#!/d}' "$share"/*.py
 for name in audit bgp records; do
   printf '#!/bin/sh\nexec /usr/bin/python3 -B /usr/share/evpnd/evpnd_%s.py "$@"\n' "$name" > "$root/usr/bin/evpnd-$name"

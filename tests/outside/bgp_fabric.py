@@ -39,6 +39,11 @@ REFLECTED = """  [neighbors.route-reflector.config]
     route-reflector-client = true
     route-reflector-cluster-id = "192.0.2.9"
 """
+FIRST = "[[neighbors]]\n"
+HELPING = """  [neighbors.graceful-restart.config]
+    enabled = true
+    restart-time = 20
+"""
 NEIGHBOUR = """[[neighbors]]
   [neighbors.config]
     neighbor-address = "{0}"
@@ -51,6 +56,8 @@ NEIGHBOUR = """[[neighbors]]
   [[neighbors.afi-safis]]
     [neighbors.afi-safis.config]
       afi-safi-name = "l2vpn-evpn"
+    [neighbors.afi-safis.mp-graceful-restart.config]
+      enabled = true
 """
 
 
@@ -79,6 +86,12 @@ class Child:
         """Ends it; gives its status."""
         self.process.send_signal(number)
         return self.process.wait(PATIENCE)
+
+    def processor(self) -> float:
+        """The seconds of a processor that it has taken."""
+        with open(f"/proc/{self.process.pid}/stat", encoding="ascii") as stream:
+            user, system = stream.read().rpartition(")")[2].split()[11:13]
+        return (int(user) + int(system)) / os.sysconf("SC_CLK_TCK")
 
     def most_memory(self) -> int:
         """The most memory that it has held, in MB."""
@@ -126,7 +139,7 @@ def leaf_text(address: str, neighbour: str = GATEWAY, autonomous: int = 65000) -
 def reflector_text(address: str, neighbours: Iterable[str]) -> str:
     """The configuration of a route reflector."""
     text = leaf_text(address)
-    sessions = (NEIGHBOUR.format(each, 65000, address) + REFLECTED for each in neighbours)
+    sessions = (NEIGHBOUR.format(each, 65000, address) + HELPING + REFLECTED for each in neighbours)
     return text[: text.index("[[neighbors]]")].replace(FAR, "192.0.2.9") + "".join(sessions)
 
 
@@ -134,8 +147,9 @@ def gateway_text(neighbour: str, own: str, autonomous: int = 65000) -> str:
     """The configuration of examples/fabric/gobgpd.toml, with a run's addresses and the neighbour's AS."""
     with open(os.path.join(TOP, "examples", "fabric", "gobgpd.toml"), encoding="utf-8") as stream:
         text = stream.read()
-    text = text.replace('local-address-list = ["192.0.2.2"]', f'local-address-list = ["{own}"]')
-    return text[: text.index("[[neighbors]]")] + NEIGHBOUR.format(neighbour, autonomous, own)
+    head, mark, tail = text.replace('local-address-list = ["192.0.2.2"]', f'local-address-list = ["{own}"]').partition(FIRST)
+    tail = tail.replace('"192.0.2.1"', f'"{neighbour}"').replace("peer-as = 65000", f"peer-as = {autonomous}")
+    return f'{head}{mark}  [neighbors.transport.config]\n    local-address = "{own}"\n{tail}'
 
 
 class Gateway(Child):
@@ -335,19 +349,55 @@ def deaths(pair: Pair, tally: Tally) -> None:
     is_withdrawn = lambda: gateway.says(FAR, STATION) == "withdrawn"  # noqa: E731
     pair.leaf.daemon.change([(far(STATION, mobility=(False, 4)), False)])
     waited(lambda: gateway.says(FAR, STATION) == 4)
+    count = len(gateway.records())
     pair.near.kill()
-    lost = waited(is_withdrawn, 15)
+    time.sleep(2)
     pair.near = Gobgpd(*pair.near.again)
-    back = waited(lambda: gateway.says(FAR, STATION) == 4 and pair.leaf_has() == ours)
-    what = f"gobgpd dies (withdrawn after {seconds(lost)}) and begins anew (all back after {seconds(back)})"
-    tally.see(lost is not None and back is not None, what)
+    back = waited(lambda: pair.leaf_has() == ours)
+    pair.leaf.daemon.change([(far(HOME), False)])
+    again = waited(lambda: gateway.says(FAR, HOME) == 0)
+    what = f"gobgpd dies and begins anew (ours are back after {seconds(back)}), and no record says so"
+    tally.see(back is not None and again is not None and len(gateway.records()) == count + 1, what)
+    pair.leaf.daemon.change([(far(HOME), True)])
+    is_alone(pair, gateway, tally)
     pair.leaf.kill()
     lost = waited(is_withdrawn, 30)
     what = f"a leaf that dies is withdrawn (after {seconds(lost)})"
     tally.see(lost is not None and gateway.owner(STATION) == "none", what)
     pair.leaf = Gobgpd(*pair.leaf.again)
     tally.see(waited(lambda: pair.leaf_has() == ours) is not None, "a leaf that begins anew is told ours")
-    tally.see(gateway.kill(signal.SIGTERM) == 0 and pair.leaf_gets({}), "SIGTERM withdraws all of ours")
+    status = gateway.kill(signal.SIGTERM)
+    time.sleep(2)
+    tally.see(status == 0 and pair.leaf_has() == ours, "SIGTERM leaves our routes")
+    status = pair.gateway("--withdraw").process.wait(PATIENCE)
+    tally.see(status == 0 and pair.leaf_gets({}), "--withdraw takes them back")
+    leftover(pair, tally)
+
+
+def is_alone(pair: Pair, gateway: Gateway, tally: Tally) -> None:
+    """A second gateway of an edge; and somebody who changes our routes at gobgpd."""
+    ours = {("10.0.0.1", MOVED): (False, 3)}
+    second = pair.gateway("--socket", os.path.join(pair.folder, "nowhere"))
+    told = second.process.wait(PATIENCE) == 2 and f"another gateway runs there (process {gateway.process.pid})" in second.noted()
+    tally.see(told and pair.leaf_has() == ours, "a second gateway of the same edges ends with a line, and changes nothing")
+    before = gateway.noted().count("mended")
+    pair.near.daemon.clear()
+    waited(lambda: not pair.leaf_has())
+    back = waited(lambda: pair.leaf_has() == ours)
+    tally.see(back is not None, f"what somebody withdraws at gobgpd is announced again (after {seconds(back)})")
+    tally.see(gateway.noted().count("mended") == before + 1, "and that is logged once")
+
+
+def leftover(pair: Pair, tally: Tally) -> None:
+    """A gateway is killed, and its edges never come back: the next one withdraws their routes."""
+    first = pair.gateway()
+    first.tell(f"advert 10.0.0.1 5001 {MOVED} seq 3")
+    waited(lambda: len(pair.leaf_has()) == 1)
+    first.kill()
+    second = pair.gateway("--socket", os.path.join(pair.folder, "nowhere"))
+    gone = waited(lambda: not pair.leaf_has(), 2 * HOLD + 5)
+    tally.see(gone is not None, f"the routes of edges that never come back are withdrawn (after {seconds(gone)})")
+    second.kill(signal.SIGTERM)
 
 
 def churn(pair: Pair, tally: Tally) -> None:
@@ -406,6 +456,7 @@ def many(pair: Pair, tally: Tally) -> List[str]:
     told = waited(lambda: pair.leaf.rib() >= MANY, 120)
     tally.see(told is not None, f"{MANY} records are routes at the leaf")
     memory = f"memory at most: gateway {gateway.most_memory()} MB, its gobgpd {pair.near.most_memory()} MB"
+    memory += f"; the gateway took {gateway.processor():.1f} s of a processor for all"
     begun = time.monotonic()
     status = gateway.end()
     ended = time.monotonic() - begun

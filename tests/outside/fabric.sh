@@ -1,5 +1,6 @@
 #!/usr/bin/env bash
 # usage: tests/outside/fabric.sh [evpnd]                        (the built program; by default the one that `rt run` leaves)
+#        tests/outside/fabric.sh evpnd failures [NAME..]     (what each failure costs: served_failures.py)
 #        tests/outside/fabric.sh evpnd ROUTES MINUTES
 #
 # One `evpnd serve` in a fabric of two FRR leaves with Linux's bridges and VXLAN devices, by the gateway tools/evpnd_bgp.py
@@ -21,5 +22,8 @@ needs ping iputils-ping command -v ping
 needs socat socat command -v socat
 needs "tap devices" "nothing, but the kernel's module tun" test -e /dev/net/tun
 program=("$here/served_fabric.py")
-[ $# -lt 3 ] || program=("$here/served_load.py" "$2" "$3")
+case ${2-} in
+  failures) program=("$here/served_failures.py" "${@:3}") ;;
+  [0-9]*) program=("$here/served_load.py" "$2" "$3") ;;
+esac
 EVPND=$(realpath "$evpnd") exec unshare --net /usr/bin/python3 -B "${program[@]}"

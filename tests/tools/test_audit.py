@@ -79,9 +79,14 @@ class ReadsReports(unittest.TestCase):
     def test_an_owner_with_two_adverts(self):
         self.assertEqual(self.reason((1, False, 0), (1, False, 7), (2, False, 6))[0], "the higher sequence 7, against dynamic 6 of 10.0.0.2")
 
+    def test_a_withdrawn_advert_with_an_address(self):
+        line = "mac 5001 02:00:00:00:00:0d 10.0.0.5 29 withdrawn ip 192.0.2.1\nowner 5001 02:00:00:00:00:0d none\n"
+        self.assertEqual(audit_report.read_report(line), {(5001, station("0d")): audit_report.Owned([], None)})
+
     def test_no_report(self):
-        with self.assertRaises(records.Unreadable):
-            audit_report.read_report("mac 5001\n")
+        for options in ("", " 02:00:00:00:00:0d 10.0.0.5 29 dynamic", " 02:00:00:00:00:0d 10.0.0.5 29 dynamic 1 ip", " 02:00:00:00:00:0d 10.0.0.5 29 lost 1"):
+            with self.assertRaises(records.Unreadable):
+                audit_report.read_report(f"mac 5001{options}\n")
 
 
 class Judges(unittest.TestCase):
@@ -208,6 +213,8 @@ case "$2" in
   "show bgp vni all json") echo '% Unknown command: show bgp vni all json'; exit UNKNOWN ;;
   "show bgp l2vpn evpn route vni all json") printf '{"5001":'; cat 'SHORT/best.json'; echo '}' ;;
   "show evpn mac vni all json") printf '{"5001":'; cat 'SHORT/macs.json'; echo '}' ;;
+  "show bgp l2vpn evpn vni json"|"show evpn rmac vni all json"|"show evpn next-hops vni all json"|"show bgp l2vpn evpn summary json"|"show evpn arp-cache vni all json")
+    echo "% Unknown command: $2"; exit UNKNOWN ;;
   *) echo 'not expected' >&2; exit 1 ;;
 esac
 """
@@ -236,9 +243,9 @@ class Audits(unittest.TestCase):
 
     def test_why_and_what_mends_it(self):
         done = run("--vni", "5001", SHORT)
-        mend = "    mend: vtysh -c 'clear bgp l2vpn evpn *'"
+        see = "    see the device of the network (ip -d link show)"
         adverts = ["    1. static 0 of 10.0.0.2, before the next: static", "    2. dynamic 3 of 10.0.0.1"]
-        self.assertEqual(done.stdout.splitlines()[:7], [GONE, "    1. dynamic 0 of 10.0.0.1", mend, STATIC, *adverts, mend])
+        self.assertEqual(done.stdout.splitlines()[:7], [GONE, "    1. dynamic 0 of 10.0.0.1", see, STATIC, *adverts, see])
 
     def test_one_mac(self):
         done = run("--vni", "5001", "--mac", "02:00:00:00:00:0b", SHORT)
@@ -246,7 +253,7 @@ class Audits(unittest.TestCase):
 
     def test_json(self):
         done = run("--vni", "5001", "--json", SHORT)
-        result = json.loads(done.stdout)[0]
+        result = json.loads(done.stdout)["results"][0]
         self.assertEqual((done.returncode, result["sums"]["wrong"], [entry["mac"][-2:] for entry in result["macs"]]), (1, 2, ["0a", "0b"]))
 
     def test_all_agree(self):
@@ -368,7 +375,7 @@ class Audits(unittest.TestCase):
         done = self.on_a_host("--brief", vnis="{" + vnis + "}")
         self.assertEqual((done.returncode, done.stdout.splitlines()[:2]), (1, [GONE, STATIC]), done.stderr)
         self.assertEqual(sorted(self.commands), sorted(set(self.commands)))
-        self.assertEqual(len([command for command in self.commands if command.startswith("show bgp")]), 3)
+        self.assertEqual(len([command for command in self.commands if command.startswith("show bgp")]), 5)
 
     def test_twice(self):
         """What stays the same is told after the second look."""
@@ -391,8 +398,18 @@ class Audits(unittest.TestCase):
         """It can't be audited, and the others are."""
         done = self.on_a_host("--brief", "--vni", "77,5001")
         self.assertEqual((done.returncode, done.stdout.splitlines()[1:3]), (1, [GONE, STATIC]), done.stderr)
-        self.assertIn("VNI 77: can't be audited: zebra and the kernel have no such VNI", done.stdout)
-        self.assertEqual(self.on_a_host("--brief", "--vni", "77").returncode, 3)
+        self.assertIn("VNI 77: can't be audited: zebra and the kernel have no such VNI; they have 5001", done.stdout)
+        done = self.on_a_host("--brief", "--vni", "77")
+        self.assertEqual((done.returncode, done.stdout), (2, ""))
+        self.assertIn("VNI 77: zebra and the kernel have no such VNI; they have 5001", done.stderr)
+
+    def test_a_mistyped_vni_with_the_texts_of_one_network(self):
+        """Nothing of them is of that VNI: a fault, no difference, and nothing to clear."""
+        for words in ((), ("--nagios",), ("--json",)):
+            done = run("--vni", "5002", *words, SHORT)
+            self.assertEqual(done.returncode, 3 if words == ("--nagios",) else 2, done.stdout)
+            self.assertIn("VNI 5002: routes.json has no route of it, and routes of other VNIs", done.stdout + done.stderr)
+            self.assertNotIn("mend", done.stdout)
 
     def test_usage(self):
         for words in (("--vni", "x"), ("--mac", "x"), ("--colour",)):

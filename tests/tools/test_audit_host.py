@@ -40,6 +40,9 @@ elif asked.startswith("show evpn mac"):
         os.remove(early)
         found["5001"]["macs"]["02:00:00:00:00:01"]["remoteVtep"] = "10.0.0.2"
     found = found[one[1]] if one else found
+elif asked in ("show bgp l2vpn evpn vni json", "show evpn rmac vni all json", "show evpn next-hops vni all json", "show bgp l2vpn evpn summary json", "show evpn arp-cache vni all json"):
+    print("%% Unknown command: " + asked)
+    sys.exit(1)
 elif asked.startswith("show bgp"):
     found = of_vnis(text("best"))
     found = found[one[1]] if one else found
@@ -47,6 +50,8 @@ elif name == "bridge" and "fdb" in asked:
     found = [entry for entry in text("fdb") if "dev" not in sys.argv or entry["ifname"] == sys.argv[-1]]
 elif name == "bridge":
     found = text("tunnels" if "tunnelshow" in asked else "vlans")
+elif "route get" in asked or "nexthop" in asked:
+    found = []
 else:
     found = text("links" if "link" in asked else "neigh")
 print(json.dumps(found))

@@ -139,7 +139,9 @@ class BinaryFiles(Named):
     def test_a_state(self):
         path = written(self.folder, "state", BINARY)
         report = written(self.folder, "report", "owner 5001 02:00:00:00:00:01 10.0.0.1\n")
-        self.names(run("evpnd_audit.py", "--state", path, "--report", report, VIEW), f"{path}: no state of an audit")
+        done = run("evpnd_audit.py", "--state", path, "--report", report, VIEW)
+        self.assertIn(f"evpnd_audit: {path}: no state of an audit, begun anew\n", done.stderr)
+        self.assertEqual(done.returncode, 1)
 
     def test_records_of_routes(self):
         path = written(self.folder, "routes.json", BINARY)

@@ -3,6 +3,7 @@ three VNIs of which one is empty, another edge's entries, flood lists, neighbour
 
 import json
 import os
+import re
 import shutil
 import subprocess
 import sys
@@ -16,6 +17,7 @@ from test_records import DATA, TOP
 import audit_compare
 import audit_history
 import audit_kernel
+import audit_plot
 import audit_print
 import update_records as records
 
@@ -45,10 +47,10 @@ def octets_of(path: str) -> bytes:
 class Changed:
     """A copy of a stored view whose texts can be changed."""
 
-    def __init__(self, version: str, name: str) -> None:
+    def __init__(self, version: str, name: str = "") -> None:
         self.folder = tempfile.mkdtemp()
         self.path = os.path.join(self.folder, "view")
-        shutil.copytree(view(version, name), self.path)
+        shutil.copytree(view(version, name) if name else version, self.path)
 
     def __enter__(self) -> "Changed":
         return self
@@ -108,10 +110,13 @@ class AuditsLeaves(unittest.TestCase):
         for done in self.each("planted"):
             self.assertEqual((done.returncode, done.stdout.splitlines()[0][: len(line)]), (1, line))
 
-    def test_what_mends_an_entry(self):
+    def test_nothing_mends_an_entry_of_somebody_else(self):
+        """It was made by hand (no extern_learn): told in its own words, and no command touches it."""
         for version in VERSIONS:
             done = run(view(version, "planted"))
-            self.assertIn(f"    mend: bridge fdb replace {FAR} dev vxlan5001 dst 10.0.0.1 self extern_learn; bridge fdb replace {FAR} dev vxlan5001 master extern_learn\n", done.stdout)
+            self.assertIn("; an entry that zebra didn't make: by hand, by another program, or learnt by the device\n", done.stdout)
+            self.assertIn("    see who made the entry: zebra's have the flag extern_learn (bridge -d fdb show)\n", done.stdout)
+            self.assertNotIn("mend:", done.stdout)
 
     def test_an_empty_vni_hides_nothing(self):
         """VNI 5003 has no MACs; the wrong one of VNI 5001 is told all the same."""
@@ -212,10 +217,11 @@ class AuditsLeaves(unittest.TestCase):
                             path.update({"esi": "03:00:00:00:00:00:00:00:00:01"} if prefix.startswith("[2]") else {})
                 changed.write("routes.json", table)
                 done = run("--brief", changed.path)
-                self.assertEqual(done.returncode, 3, done.stdout)
+                self.assertEqual(done.returncode, 4, done.stdout)
                 self.assertIn("VNI 5001: 5 MACs, 0 equal, 0 wrong, 0 missing, 0 extra, 5 not judged", done.stdout)
                 self.assertEqual(run("--brief", "--accept-unjudged", changed.path).returncode, 0)
-                self.assertEqual(run("--nagios", changed.path).returncode, 3)
+                done = run("--nagios", changed.path)
+                self.assertEqual((done.returncode, done.stdout[:14]), (1, "EVPN WARNING: "))
 
     def test_one_vni_that_cannot_be_read(self):
         """The others are told."""
@@ -272,7 +278,7 @@ class ForMonitoring(unittest.TestCase):
                 self.assertRegex(line, r'^(# (HELP|TYPE) .+|[a-z_]+(\{([a-z]+="[^"]*",?)+\})? [0-9]+)$')
 
     def test_json_has_every_count(self):
-        results = json.loads(run("--json", view("10.3", "planted")).stdout)
+        results = json.loads(run("--json", view("10.3", "planted")).stdout)["results"]
         self.assertEqual([result["vni"] for result in results], [5001, 5002, 5003])
         self.assertEqual(results[0]["sums"]["wrong"], 1)
         self.assertEqual([entry["adverts"] for entry in results[0]["macs"]], [["dynamic 0 of 10.0.0.1"]])
@@ -291,9 +297,12 @@ class ForMonitoring(unittest.TestCase):
             run("--state", state, view("10.3", "home"))
             with open(state, encoding="utf-8") as stream:
                 self.assertEqual(json.load(stream), {})
-            with open(state, "w", encoding="utf-8") as out:
-                out.write("[]")
-            self.assertEqual(run("--state", state, view("10.3", "home")).returncode, 2)
+            for text in ("[]", "", "{", '{"a": null}', "\0"):
+                with open(state, "w", encoding="utf-8") as out:
+                    out.write(text)
+                self.assertEqual(run("--state", state, view("10.3", "home")).returncode, 0)
+                with open(state, encoding="utf-8") as stream:
+                    self.assertEqual(json.load(stream), {})
 
     def test_one_station(self):
         for version in VERSIONS:
@@ -319,9 +328,9 @@ class OverTime(unittest.TestCase):
             streams = [path for _, path in audit_history.streams_of(place)]
             self.assertEqual(len(streams), 3)
             vni, mac = 5001, records.read_mac(SHARED)
-            owners = [owner for _, owner in audit_history.owners_over_time(place, vni, mac)]
+            owners = [owner for _, owner in audit_plot.owners_over_time(place, vni, mac)]
             self.assertEqual(owners, ["10.0.0.1", "10.0.0.2", "none"])
-            self.assertEqual([count for _, count in audit_history.wrong_over_time(place)], [0, 0, 1])
+            self.assertEqual([count for _, count in audit_plot.wrong_over_time(place)], [0, 0, 1])
             octets = b"".join(map(octets_of, reversed(streams)))
             words = [PROGRAM, "report", "--originators", "10.0.0.1,10.0.0.2,10.0.0.100"]
             report = subprocess.run(words, input=octets, capture_output=True, check=True).stdout.decode()
@@ -342,6 +351,46 @@ def result(*macs: tuple) -> audit_compare.Result:
         for last, kind, owner, sequence in macs
     ]
     return audit_compare.Result("here", 5001, "", verdicts, [], None)
+
+
+@needs_program
+class DrawsTheFault(unittest.TestCase):
+    """docs/fault.svg is drawn of the recorded run (tests/outside/frr/fault.py made it), and a wrong MAC is never drawn as right."""
+
+    FAULT, STATION = os.path.join(DATA, "fault"), records.read_mac("02:00:00:00:00:0a")
+
+    def test_the_picture_is_of_the_record(self):
+        with open(os.path.join(TOP, "docs", "fault.svg"), encoding="utf-8") as stream:
+            self.assertEqual(stream.read(), audit_plot.plot(self.FAULT, 5001, self.STATION))
+
+    def test_two_lines_and_the_time_between_them(self):
+        """The routes lead home while the kernel sends to the edge that has withdrawn."""
+        steps = audit_plot.steps_of(self.FAULT, 5001, self.STATION)
+        pairs = [(step.owner, step.kernel) for step in steps]
+        kept = [pair for place, pair in enumerate(pairs) if place == 0 or pairs[place - 1] != pair]
+        self.assertEqual(kept, [("10.0.0.1",) * 2, ("10.0.0.2",) * 2, ("10.0.0.1", "10.0.0.2"), ("10.0.0.1",) * 2])
+        ((begin, end),) = audit_plot.spans_of(steps)
+        drawing = audit_plot.plot(self.FAULT, 5001, self.STATION)
+        self.assertIn(f">{end - begin} s: frames go elsewhere<", drawing)
+        wrong = sum(step.is_wrong for step in steps)
+        self.assertEqual((wrong > 3, drawing.count(f'stroke="{audit_plot.WRONG_COLOUR}"')), (True, wrong))
+
+    def test_nothing_is_green(self):
+        """Neither of a MAC's lines, nor the count of what differs."""
+        for drawing in (audit_plot.plot(self.FAULT, 5001, self.STATION), audit_plot.plot(self.FAULT, 0, b"")):
+            for colour in re.findall("#([0-9a-f]{6})", drawing):
+                red, green, blue = bytes.fromhex(colour)
+                self.assertFalse(green > red and green > blue, colour)
+
+    def test_pruned_snapshots_say_the_same(self):
+        with tempfile.TemporaryDirectory() as folder:
+            place = os.path.join(folder, "kept")
+            shutil.copytree(self.FAULT, place)
+            before = audit_plot.owners_over_time(place, 5001, self.STATION)
+            audit_history.prune(place, before[8][0])
+            after = audit_plot.owners_over_time(place, 5001, self.STATION)
+            self.assertEqual(after, before[7:])
+            self.assertEqual(len(os.listdir(place)), 2 * len(after))
 
 
 class LooksTwice(unittest.TestCase):

@@ -6,6 +6,7 @@ and docs/records.md.
 
 import contextlib
 import io
+import logging
 import os
 import queue
 import random
@@ -17,12 +18,15 @@ import threading
 import time
 import types
 import unittest
+from unittest import mock
 
 TOP = os.path.normpath(os.path.join(os.path.dirname(os.path.abspath(__file__)), "..", ".."))
 sys.path.insert(0, os.path.join(TOP, "tools"))
+import bgp_service  # noqa: E402
 import evpnd_bgp as program  # noqa: E402
-from bgp_routes import Heard, Names, Own, Pmsi, Route, announced_by, is_target, route_of, said_by  # noqa: E402
-from evpnd_bgp import Gateway, Pending  # noqa: E402
+from bgp_routes import Heard, Names, Own, Pmsi, Route, announced_by, is_target, lacking_in, route_of, said_by  # noqa: E402
+from bgp_service import Family, Lock, Pending, prometheus_text  # noqa: E402
+from evpnd_bgp import Gateway  # noqa: E402
 from frr_routes import Routes  # noqa: E402
 from gobgp import Declined, Event, Messages, NoDaemon  # noqa: E402
 from report_model import line_of, random_update, report_of  # noqa: E402
@@ -331,8 +335,35 @@ class Hears(unittest.TestCase):
         self.say(leaf_route(OTHER), "b")
         self.assertEqual(self.updates(self.heard.lose("a")), [(100, None, 3)])
         self.assertEqual(self.updates(self.heard.lose("a")), [])
-        self.say(leaf_flood())
-        self.assertEqual(self.updates(self.heard.lose_all()), [(100, None, 5), (100, None, 6)])
+
+    def test_what_is_in_doubt_stays_until_it_expires(self):
+        """A daemon that has ended takes nothing with it: its routes are said again, or withdrawn in the end."""
+        self.say(leaf_route())
+        self.say(leaf_route(OTHER))
+        self.heard.doubt_all()
+        self.assertEqual(self.heard.lose("a"), [])
+        self.assertEqual(self.say(leaf_route()), [])
+        self.assertEqual(self.updates(self.heard.expire()), [(100, None, 3)])
+        self.assertEqual(self.heard.expire(), [])
+        self.assertEqual(self.updates(self.heard.lose("a")), [(100, None, 4)])
+
+    def test_what_an_edge_lacks(self):
+        """A register that isn't there, or an older update of it; a withdrawal only where the edge has the register."""
+        self.say(leaf_route())
+        self.say(leaf_route(OTHER))
+        self.unsay(leaf_route(OTHER))
+        station, other = (f"10.0.0.100 5001 {mac}" for mac in (STATION, OTHER))
+        same, gone = f"advert {station} seq 0 counter 1 incarnation 6", f"withdraw {other} counter 3 incarnation 6"
+        for lines, wanted in (
+            ([same], []),
+            ([], [STATION]),
+            ([f"advert {station} seq 0 counter 9 incarnation 5"], [STATION]),
+            ([same, f"advert {other} seq 0 counter 2 incarnation 6"], [OTHER]),
+            ([same, gone], []),
+        ):
+            found = {each[:4]: each for each in map(update, lines)}
+            lacking = lacking_in(found, self.heard.updates)
+            self.assertEqual([register[2].hex(":") for register in lacking], wanted)
 
     def test_a_route_that_can_no_longer_be_said_is_withdrawn(self):
         self.say(leaf_route())
@@ -423,12 +454,19 @@ class Announces(unittest.TestCase):
 
 
 class Message(types.SimpleNamespace):
-    """A message: its fields, and the name of its class."""
+    """A message: its fields, and the name of its class; it stands for its own octets."""
+
+    __hash__ = object.__hash__
 
 
 def maker(name: str):
     """A class of messages."""
-    return lambda **fields: Message(name=name, **fields)
+
+    def make(**fields: object) -> Message:
+        return Message(name=name, **fields)
+
+    make.FromString = lambda value: value
+    return make
 
 
 class Box:
@@ -436,11 +474,8 @@ class Box:
 
     def Pack(self, message: Message) -> None:  # noqa: N802, as protobuf has it
         """Holds a message."""
-        self.message, self.type_url = message, f"type.googleapis.com/apipb.{message.name}"
-
-    def Unpack(self, message: Message) -> None:  # noqa: N802
-        """Gives what it holds."""
-        message.__dict__.update(self.message.__dict__)
+        self.message = self.value = message
+        self.type_url = f"type.googleapis.com/apipb.{message.name}"
 
 
 class Classes:
@@ -543,7 +578,8 @@ class SpeaksToGobgp(unittest.TestCase):
         other = Message(name="Path", family=(1, 1))
         table = Message(WhichOneof=lambda _: "table", table=Message(paths=[other, path]))
         self.assertEqual(list(messages().events(table)), [Event("192.0.2.1", leaf_route(), False, 7)])
-        for state, wanted in ((6, []), (1, [Event("192.0.2.1")]), (3, [Event("192.0.2.1")])):
+        for state, is_up in ((6, True), (1, False), (3, False)):
+            wanted = [Event("192.0.2.1", is_up=is_up)]
             peer = Message(state=Message(neighbor_address="192.0.2.1", session_state=state))
             answer = Message(WhichOneof=lambda _: "peer", peer=Message(peer=peer))
             self.assertEqual(list(messages().events(answer)), wanted)
@@ -570,12 +606,12 @@ class Stand:
         """Events until an exception is among them."""
         if not self.is_there:
             raise NoDaemon("not there")
-        yield Event("<nil>")
+        yield []
         while True:
             event = self.events.get()
             if isinstance(event, Exception):
                 raise event
-            yield event
+            yield [event]
 
     def own(self) -> list:
         """What it was told."""
@@ -609,7 +645,9 @@ class Edges:
     """Edges in the place of `evpnd serve`, at a Unix socket: they say their records, take what comes, and report it."""
 
     def __init__(self, path: str, *own: str) -> None:
-        self.own, self.table, self.is_busy = [update(line) for line in own], {}, False
+        self.own, self.table = [update(line) for line in own], {}
+        self.is_busy = self.is_full = False
+        self.refused = b""
         self.sessions: list = []
         self.listener = socket.socket(socket.AF_UNIX)
         self.listener.bind(path)
@@ -627,7 +665,9 @@ class Edges:
         """Does what a client's first line asks for, until it ends."""
         with connection, connection.makefile("rb") as stream, contextlib.suppress(OSError):
             word = stream.readline()
-            if word == b"records\n":
+            if word == b"records\n" and self.is_full:
+                connection.sendall(b"busy\n")
+            elif word == b"records\n":
                 self.sessions.append(connection)
                 connection.sendall(b"".join(map(record_of, self.own)))
                 for each in read_records(stream):
@@ -640,7 +680,9 @@ class Edges:
                     connection.sendall((answers[line] + "\n").encode())
 
     def take(self, each: Update) -> None:
-        """Enters a record: the newest of a register stays."""
+        """Enters a record: the newest of a register stays; those of an edge that it refuses aren't taken."""
+        if each.originator == self.refused:
+            return
         old = self.table.get(place_of(each))
         if old is None or newness_of(each) > newness_of(old):
             self.table[place_of(each)] = each
@@ -653,16 +695,27 @@ class Edges:
                 connection.shutdown(socket.SHUT_RDWR)
 
 
+def log_of(test: unittest.TestCase) -> io.StringIO:
+    """What is logged during a test."""
+    said = io.StringIO()
+    handler = logging.StreamHandler(said)
+    program.LOG.addHandler(handler)
+    program.LOG.propagate = False
+    test.addCleanup(program.LOG.removeHandler, handler)
+    return said
+
+
 class Joins(unittest.TestCase):
     """The gateway's threads, from one side to the other."""
 
     def setUp(self):
-        self.hold, self.again = program.HOLD, program.AGAIN
-        program.HOLD, program.AGAIN = 1, 0.05
+        times = {"HOLD": 1, "KEEP": 1, "AGAIN": 0.05, "TICK": 0.05, "CONNECT": 0.05}
+        for name, value in times.items():
+            patch = mock.patch.object(program, name, value)
+            patch.start()
+            self.addCleanup(patch.stop)
         self.stand = Stand()
-        self.said = io.StringIO()
-        self.redirected = contextlib.redirect_stderr(self.said)
-        self.redirected.__enter__()
+        self.said = log_of(self)
         self.gateways, self.threads = [], []
 
     def tearDown(self):
@@ -675,8 +728,6 @@ class Joins(unittest.TestCase):
             self.stand.events.put(NoDaemon("the end"))
         for thread in self.threads:
             thread.join(5)
-        self.redirected.__exit__(None, None, None)
-        program.HOLD, program.AGAIN = self.hold, self.again
 
     def gateway(self) -> Gateway:
         """A running gateway of the edges 10.0.0.1 and 10.0.0.2, whose second is over; it writes into `out`."""
@@ -685,7 +736,7 @@ class Joins(unittest.TestCase):
         self.gateways.append(gateway)
         self.out = io.BytesIO()
         self.writer = program.started(gateway.write, self.out, gateway.begin_session())
-        self.threads += [self.writer, program.started(gateway.announce), program.started(gateway.watch)]
+        self.threads += [self.writer, *(program.started(body) for body in (gateway.announce, gateway.tend, gateway.watch))]
         return gateway
 
     def records(self) -> list:
@@ -741,15 +792,145 @@ class Joins(unittest.TestCase):
         self.assertTrue(reached(lambda: self.records() and self.records()[-1][2] == Advert(False, 9)))
         self.assertEqual(gateway.told, {"folded into the better route of the same next hop and key": 1})
 
-    def test_a_daemon_that_dies_takes_all_and_brings_it_again(self):
+    def test_a_daemon_that_begins_anew_in_time_takes_nothing(self):
+        """What it says again stays without a word; what it doesn't is withdrawn in the end."""
+        self.gateway()
+        self.stand.events.put(Event("a", leaf_route()))
+        self.stand.events.put(Event("a", leaf_route(OTHER)))
+        both = (100, STATION, Advert(), 1), (100, OTHER, Advert(), 2)
+        self.writes(*both)
+        self.stand.events.put(NoDaemon("gone"))
+        self.stand.events.put(Event("a", leaf_route()))
+        self.writes(*both, (100, OTHER, None, 3))
+        self.assertEqual(self.said.getvalue().count("gone"), 1)
+        self.stand.events.put(Event("a"))
+        self.writes(*both, (100, OTHER, None, 3), (100, STATION, None, 4))
+
+    def test_a_daemon_that_stays_away_takes_all(self):
         self.gateway()
         self.stand.events.put(Event("a", leaf_route()))
         self.writes((100, STATION, Advert(), 1))
+        self.stand.is_there = False
         self.stand.events.put(NoDaemon("gone"))
         self.writes((100, STATION, Advert(), 1), (100, STATION, None, 2))
+
+    def test_what_somebody_else_changes_at_the_daemon_is_mended(self):
+        """A route that is gone, and one with another route target or sequence number."""
+        gateway = self.gateway()
+        self.set("LOOK", 0.1)
+        self.give(gateway, f"advert 10.0.0.1 5001 {STATION} seq 3", f"advert 10.0.0.1 5001 {OTHER} seq 1")
+        wanted = ("10.0.0.1", STATION, (False, 3)), ("10.0.0.1", OTHER, (False, 1))
+        self.announces(*wanted)
+        good = dict(self.stand.table)
+        self.stand.table.clear()
+        self.announces(*wanted)
+        for fields in ({"targets": ("65000:7",)}, {"mobility": (False, 9)}):
+            self.stand.table.update({key: route._replace(**fields) for key, route in good.items()})
+            self.assertTrue(reached(lambda: self.stand.table == good), fields)
+        self.assertIn("mended", self.said.getvalue())
+
+    def test_a_look_that_finds_nothing_changes_nothing(self):
+        gateway = self.gateway()
+        self.set("LOOK", 0.05)
+        self.give(gateway, f"advert 10.0.0.1 5001 {STATION} seq 3", "advert 10.0.0.1 5001 flood counter 2")
+        self.assertTrue(reached(lambda: len(self.stand.table) == 2))
+        count = len(self.stand.changes)
+        time.sleep(0.5)
+        self.assertEqual((len(self.stand.changes), self.said.getvalue()), (count, ""))
+
+    def set(self, name: str, value: float) -> None:
+        """Another time, for this test."""
+        patch = mock.patch.object(program, name, value)
+        patch.start()
+        self.addCleanup(patch.stop)
+
+    def left_over(self) -> None:
+        """A route that an earlier life left at the daemon."""
+        route = leaf_route()._replace(rd="10.0.0.1:5001", hop="10.0.0.1", mobility=(False, 0))
+        self.stand.table[route.key()] = route
+
+    def test_what_an_earlier_life_left_is_withdrawn_though_no_edge_comes(self):
+        self.left_over()
+        self.edges().end()
+        os.unlink(self.path)
+        self.at_the_edges()
+        time.sleep(0.5)
+        self.announces(("10.0.0.1", STATION, (False, 0)))
+        self.announces_in_the_end()
+
+    def announces_in_the_end(self, *wanted: tuple) -> None:
+        """Sees that the daemon has these routes in the end, as `announces`."""
+        reached(lambda: len(self.stand.table) == len(wanted))
+        self.announces(*wanted)
+
+    def test_withdraw(self):
+        """What an earlier life left is withdrawn at once; another's route isn't."""
+        theirs = Route(3, "10.0.0.9:1", ip="10.0.0.9", hop="10.0.0.9", pmsi=Pmsi(6, 5001, ONE))
+        self.stand.table["theirs"] = theirs
+        self.left_over()
+        gateway = Gateway(self.stand, Routes(EVERY), [ONE], Names(0))
+        self.assertEqual(gateway.withdraw(), 0)
+        self.assertEqual(self.stand.table, {"theirs": theirs})
+        self.stand.is_there = False
+        self.assertEqual(gateway.withdraw(), 1)
+
+    def test_edges_are_looked_at(self):
+        """What they lack of the fabric is told again, and what BGP doesn't say is withdrawn, whoever said it there."""
+        edges = self.edges()
+        self.set("LOOK", 0.2)
+        self.at_the_edges()
         self.stand.events.put(Event("a", leaf_route()))
-        self.writes((100, STATION, Advert(), 1), (100, STATION, None, 2), (100, STATION, Advert(), 3))
-        self.assertEqual(self.said.getvalue().count("gone"), 1)
+        self.stand.events.put(Event("a", leaf_flood()))
+        wanted = (100, STATION, Advert()), (100, None, Advert())
+        self.has(edges, *wanted)
+        time.sleep(1.5)
+        edges.take(update("advert 10.0.0.77 5001 flood"))
+        edges.table.pop(place_of(update(f"advert 10.0.0.100 5001 {STATION}")))
+        self.has(edges, *wanted, (77, None, None))
+        self.assertIn("an edge lacked 1 registers", self.said.getvalue())
+
+    def test_a_leaf_of_which_the_edges_take_nothing_is_told(self):
+        """No [[peer]] names it."""
+        edges = self.edges()
+        edges.refused = LEAF
+        self.set("LOOK", 0.2)
+        self.at_the_edges()
+        self.stand.events.put(Event("a", leaf_route()))
+        self.stand.events.put(Event("a", leaf_route(OTHER, hop="10.0.0.7")))
+        self.assertTrue(reached(lambda: "takes nothing of 10.0.0.100: no [[peer]] names it" in self.said.getvalue()))
+        self.assertNotIn("nothing of 10.0.0.7", self.said.getvalue())
+
+    def test_edges_that_have_no_seat(self):
+        """That is logged once, the gateway waits longer each time, and is in as soon as there is one."""
+        edges = self.edges()
+        edges.is_full = True
+        waits = []
+        gateway = self.at_the_edges()
+        with mock.patch.object(gateway.stopping, "wait", side_effect=lambda seconds=None: waits.append(seconds) or time.sleep(0.01)):
+            self.assertTrue(reached(lambda: program.LONGEST in waits))
+        longer = sorted(set(waits).difference((program.TICK, program.AGAIN)))
+        self.assertEqual(longer[1:], [min(2 * each, program.LONGEST) for each in longer[:-1]])
+        self.assertEqual(self.said.getvalue().count("busy"), 1)
+        self.assertNotIn("connected", self.said.getvalue())
+
+    def test_figures(self):
+        gateway = self.gateway()
+        self.stand.events.put(Event("192.0.2.1", is_up=True))
+        self.stand.events.put(Event("192.0.2.1", leaf_route()))
+        self.stand.events.put(Event("192.0.2.1", leaf_route(OTHER, hop="2001:db8::1")))
+        self.give(gateway, "advert 10.0.0.1 5001 flood")
+        self.assertTrue(reached(lambda: self.stand.table and gateway.left_out))
+        text = prometheus_text(gateway.figures())
+        for line in (
+            'evpnd_bgp_session_up{session="gobgpd"} 1',
+            'evpnd_bgp_session_up{session="records"} 0',
+            'evpnd_bgp_neighbor_up{neighbor="192.0.2.1"} 1',
+            'evpnd_bgp_routes{direction="in"} 1',
+            'evpnd_bgp_routes{direction="out"} 1',
+            'evpnd_bgp_refused_total{kind="left out",reason="a next hop that isn\'t an IPv4 address"} 1',
+        ):
+            self.assertIn(f"{line}\n", text)
+        self.assertRegex(text, r'evpnd_bgp_seconds_since_look\{at="gobgpd"\} [0-9.]+\n')
 
     def test_from_records_to_bgp(self):
         gateway = self.gateway()
@@ -848,7 +1029,8 @@ class Joins(unittest.TestCase):
         gateway = Gateway(self.stand, Routes(EVERY), [ONE], Names(0))
         gateway.heard.incarnation -= 4 - len(self.gateways)
         self.gateways.append(gateway)
-        self.threads += [program.started(gateway.by_socket, self.path), program.started(gateway.announce), program.started(gateway.watch)]
+        bodies = (gateway.announce, gateway.tend, gateway.look_often, gateway.watch)
+        self.threads += [program.started(gateway.by_socket, self.path), *map(program.started, bodies)]
         return gateway
 
     def kill(self, gateway: Gateway, edges: Edges) -> None:
@@ -910,7 +1092,7 @@ class Joins(unittest.TestCase):
         self.at_the_edges()
         self.stand.events.put(Event("a", leaf_route()))
         self.has(edges, (100, STATION, Advert()))
-        self.assertTrue(reached(lambda: "an earlier life has told them (busy)" in self.said.getvalue()))
+        self.assertTrue(reached(lambda: "what they have of the fabric (busy)" in self.said.getvalue()))
 
     def test_garbage_ends_the_stream_with_a_line_and_nothing_else(self):
         gateway = self.gateway()
@@ -958,7 +1140,7 @@ class Joins(unittest.TestCase):
         gateway.heard.incarnation -= 2
         gateway.outgoing = pending
         for sequence in range(5):
-            gateway.hear(Event("a", leaf_route(mobility=(False, sequence))))
+            gateway.hear([Event("a", leaf_route(mobility=(False, sequence)))])
         pending.close()
         self.out = io.BytesIO()
         gateway.write(self.out, pending)
@@ -1012,6 +1194,45 @@ class AtASocket(unittest.TestCase):
         program.AGAIN = again
 
 
+class IsAService(unittest.TestCase):
+    """One at a time; Prometheus' text format."""
+
+    def test_one_at_a_time(self):
+        first = Lock(["edge 10.0.0.1 at GoBGP here", "a path"])
+        with self.assertRaisesRegex(Unreadable, rf"^a path: another gateway runs there \(process {os.getpid()}\)"):
+            Lock(["edge 10.0.0.2 at GoBGP here", "a path"])
+        second = Lock(["edge 10.0.0.2 at GoBGP here"])
+        first.free()
+        third = Lock(["a path"])
+        second.free()
+        third.free()
+
+    def test_one_that_is_killed_frees_its_names(self):
+        tool = "import sys; sys.path.insert(0, sys.argv[1]); from bgp_service import Lock; Lock(['killed']); print(flush=True); input()"
+        words = [sys.executable, "-B", "-c", f"{tool.replace('Lock([', 'it = Lock([')}", os.path.join(TOP, "tools")]
+        with subprocess.Popen(words, stdin=subprocess.PIPE, stdout=subprocess.PIPE) as child:
+            child.stdout.readline()
+            with self.assertRaisesRegex(Unreadable, f"process {child.pid}"):
+                Lock(["killed"])
+            child.kill()
+            child.wait()
+        Lock(["killed"]).free()
+
+    def test_the_text_format(self):
+        """By Prometheus' text format, version 0.0.4: backslash, quotation mark and line feed are escaped in labels."""
+        family = Family("counter", "What it says.").set(3, reason='a "b" \\ c\nd').set(1000000)
+        wanted = '# HELP it What it says.\n# TYPE it counter\nit{reason="a \\"b\\" \\\\ c\\nd"} 3\nit 1000000\n'
+        self.assertEqual(prometheus_text({"it": family}), wanted)
+
+    def test_a_file_is_written_as_a_whole(self):
+        with tempfile.TemporaryDirectory() as folder:
+            path = os.path.join(folder, "metrics.prom")
+            for text in ("one\n", "two\n"):
+                bgp_service.write_whole(path, text)
+                with open(path, encoding="utf-8") as stream:
+                    self.assertEqual((stream.read(), os.listdir(folder)), (text, ["metrics.prom"]))
+
+
 class AsAProgram(unittest.TestCase):
     """The words, and what is missing."""
 
@@ -1023,11 +1244,11 @@ class AsAProgram(unittest.TestCase):
     def test_a_package_that_is_missing_is_told(self):
         done = self.run_it("--watch")
         self.assertEqual((done.returncode, done.stdout), (2, ""))
-        self.assertRegex(done.stderr, r"^evpnd_bgp: \S+ has no grpc: install gobgpd .*python3-grpcio.*\n$")
+        self.assertRegex(done.stderr, r"^\S+Z ERROR evpnd_bgp: \S+ has no grpc: install gobgpd .*python3-grpcio.*\n$")
 
     def test_usage(self):
         wrong = [("--own", "10.0.0.256", "--stdio"), ("--rt", "a:1=5001", "--watch")]
-        for words in ((), ("--stdio",), ("--watch", "--own", "10.0.0.1"), ("--socket", "it"), *wrong):
+        for words in ((), ("--stdio",), ("--watch", "--own", "10.0.0.1"), ("--socket", "it"), ("--withdraw",), *wrong):
             self.assertEqual(self.run_it(*words).returncode, 2)
         self.assertIn("--socket PATH", self.run_it("--help").stdout)
 

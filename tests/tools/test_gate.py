@@ -1,24 +1,27 @@
-"""The gate's own reading of sources, edits and checks: what it takes for a body, for a name, for a goal of its own."""
+"""The gate: its own reading of sources, edits and checks, and whole runs of it over small repositories with a stub in the kit's place."""
 
-import importlib.machinery
-import importlib.util
 import os
+import re
+import runpy
+import shutil
+import subprocess
 import sys
 import tempfile
+import types
 import unittest
-import unittest.mock
 
 from test_records import TOP
 
 sys.path.insert(0, os.path.join(TOP, "tools", "gate"))
+import calls
 import edits
-import gate
-import lanes
+import graph
+import looks
+import project
+import rooms
 import sources
 
-LOADER = importlib.machinery.SourceFileLoader("check_of_a_change", os.path.join(TOP, "tools", "check"))
-check = importlib.util.module_from_spec(importlib.util.spec_from_loader("check_of_a_change", LOADER))
-LOADER.exec_module(check)
+check = types.SimpleNamespace(**runpy.run_path(os.path.join(TOP, "tools", "check"), run_name="check_of_a_change"))
 
 SOURCE = """//! Numbers: fn in_a_comment() { .. }
 
@@ -69,18 +72,6 @@ fn low::shape::SquareShape::area: not proved
 fn low::pair: not proved
 only=7 proved=1
 """
-TEXTS = {"src/shape.rt": SOURCE, "src/lib.rt": SOURCE, "src/table.rt": "", "src/orders.rt": ""}
-
-
-class Crate:
-    """What the edits ask of a crate."""
-
-    name = "low"
-
-
-def edit(path: str, name: str) -> edits.Edit:
-    """An edit of one function's body."""
-    return edits.Edit("an.edit", {(path, name)})
 
 
 class Sources(unittest.TestCase):
@@ -103,19 +94,19 @@ class Unproved(unittest.TestCase):
             for path, text in {"src/lib.rt": SOURCE, "src/tests/shapes.rt": "#[test]\nfn tested() {\n}\n"}.items():
                 with open(f"{room}/{path}", "w", encoding="utf-8") as it:
                     it.write(text)
-            crate = Crate()
-            crate.folder = room
-            with unittest.mock.patch.dict(gate.Run.proved, {"low": proved}, clear=True):
-                return gate.unproved([crate])
+            return sources.unproved(room, "low", proved)
 
     def test_all_proved_lacks_nothing(self):
         self.assertEqual(self.lacking({"low::SquareShape::area", "low::twice", "low::pair"}), [])
 
     def test_function_left_out_is_missed(self):
-        self.assertEqual(self.lacking({"low::SquareShape::area", "low::pair"}), ["low: twice"])
+        self.assertEqual(self.lacking({"low::SquareShape::area", "low::pair"}), ["twice"])
+
+    def test_namesake_of_another_type_is_no_stand_in(self):
+        self.assertEqual(self.lacking({"low::CircleShape::area", "low::twice", "low::pair"}), ["SquareShape::area"])
 
     def test_crate_left_out_is_missed(self):
-        self.assertEqual(self.lacking(set()), ["low: area", "low: pair", "low: twice"])
+        self.assertEqual(self.lacking(set()), ["SquareShape::area", "pair", "twice"])
 
 
 class Changes(unittest.TestCase):
@@ -139,51 +130,50 @@ class Changes(unittest.TestCase):
         self.assertEqual(check.parted(SOURCE.replace("/// Twice.", "/// Two times.")), check.parted(SOURCE))
 
 
-class Kept(unittest.TestCase):
+class Rooms(unittest.TestCase):
     """What the checks of edits begin with."""
 
     def test_what_a_check_keeps_of_an_edit_is_not_for_the_next_one(self):
-        with tempfile.TemporaryDirectory() as kept:
-            with open(f"{kept}/table.oantt", "w", encoding="utf-8") as it:
-                it.write("proved")
-            with edits.copy_of(kept) as copy:
-                # as a check does it: it writes another file, and puts that in the place
-                with open(f"{copy}/new", "w", encoding="utf-8") as it:
-                    it.write("of a wrong body")
-                os.replace(f"{copy}/new", f"{copy}/table.oantt")
-            with open(f"{kept}/table.oantt", encoding="utf-8") as it:
+        with tempfile.TemporaryDirectory() as top:
+            write(f"{top}/kept/table.oantt", "proved")
+            rooms.linked(f"{top}/kept", f"{top}/copy")
+            # as a check does it: it writes another file, and puts that in the place
+            write(f"{top}/copy/new", "of a wrong body")
+            os.replace(f"{top}/copy/new", f"{top}/copy/table.oantt")
+            with open(f"{top}/kept/table.oantt", encoding="utf-8") as it:
                 self.assertEqual(it.read(), "proved")
 
 
 class Edits(unittest.TestCase):
     """Which function an edit changes, and what a check said of it."""
 
+    def refusal(self, end):
+        """Returns what SAID says of the function of this name's end."""
+        return edits.Verdict(1, SAID).refusal(end, "low")
+
     def test_edit_of_a_body_has_its_function(self):
-        found = edits.function_at("src/shape.rt", SOURCE, "self.side * self.side")
+        found = sources.function_at("src/shape.rt", SOURCE, "self.side * self.side")
         self.assertEqual(found, "SquareShape::area")
-        found = edits.function_at("src/numbers/twice.rt", SOURCE, "u64::from(number) * 2")
+        found = sources.function_at("src/numbers/twice.rt", SOURCE, "u64::from(number) * 2")
         self.assertEqual(found, "numbers::twice::twice")
 
     def test_what_stands_outside_is_no_body(self):
-        self.assertIsNone(edits.function_at("src/shape.rt", SOURCE, "/// Twice."))
-        self.assertIsNone(edits.function_at("src/shape.rt", SOURCE, "result ≡ 2 * number"))
+        self.assertIsNone(sources.function_at("src/shape.rt", SOURCE, "/// Twice."))
+        self.assertIsNone(sources.function_at("src/shape.rt", SOURCE, "result ≡ 2 * number"))
 
     def test_refused_edit_tells_its_goals(self):
-        said = edits.refusal(Crate, edit("src/table.rt", "Table::shift"), TEXTS, SAID)
-        self.assertEqual(said, "low::table::Table::shift: invariant_of-self, returns-clause-after")
-        said = edits.refusal(Crate, edit("src/orders.rt", "Orders::leave"), TEXTS, SAID)
-        self.assertEqual(said, "low::orders::Orders::leave: returns")
+        goals = {"invariant_of-self": False, "returns-clause-after": False}
+        self.assertEqual(self.refusal("Table::shift"), ("low::table::Table::shift", goals))
+        self.assertEqual(self.refusal("Orders::leave"), ("low::orders::Orders::leave", {"returns": False}))
 
     def test_lost_name_is_told(self):
-        said = edits.refusal(Crate, edit("src/table.rt", "Table::learn"), TEXTS, SAID)
-        self.assertEqual(said, "low::table::Table::learn: hear-requires-clause-at (only names that the edit took away)")
+        self.assertEqual(self.refusal("Table::learn"), ("low::table::Table::learn", {"hear-requires-clause-at": True}))
 
-    def test_goal_of_a_function_with_the_refused_answer_is_told_by_its_place(self):
-        said = edits.refusal(Crate, edit("src/shape.rt", "SquareShape::area"), TEXTS, SAID)
-        self.assertEqual(said, "low::shape::SquareShape::area: returns")
+    def test_goals_before_a_function_s_line_are_its_own(self):
+        self.assertEqual(self.refusal("SquareShape::area"), ("low::shape::SquareShape::area", {"returns": False, "returns-again": False}))
 
     def test_refused_answer_alone_refuses_no_edit(self):
-        self.assertIsNone(edits.refusal(Crate, edit("src/lib.rt", "pair"), TEXTS, SAID))
+        self.assertEqual(self.refusal("pair"), (None, {}))
 
     def test_function_that_a_definition_s_edit_names(self):
         with tempfile.NamedTemporaryFile("w", suffix=".edit") as it:
@@ -191,11 +181,16 @@ class Edits(unittest.TestCase):
             it.flush()
             self.assertEqual(edits.asked_of(it.name), "laws::starts")
 
-    def test_caller_of_what_is_not_proved_is_tried_again(self):
-        self.assertEqual(edits.refusal(Crate, edit("src/table.rt", "Table::move"), TEXTS, SAID), "")
+    def test_neither_a_caller_nor_what_is_proved_has_goals(self):
+        self.assertEqual(self.refusal("Table::move"), (None, {}))
+        self.assertEqual(self.refusal("Orders::hold"), (None, {}))
 
-    def test_proved_edit_is_not_refused(self):
-        self.assertIsNone(edits.refusal(Crate, edit("src/orders.rt", "Orders::hold"), TEXTS, SAID))
+    def test_verdicts(self):
+        words = [edits.Verdict(*it).word for it in ((1, SAID), (0, "logic=proved functions=1\n"), (1, "logic=not-proved functions=1\n"))]
+        self.assertEqual(words, ["not-proved", "proved", "not-proved"])
+        unjudged = (3, "logic=not-proved\n"), (1, "./src/lib.rt:1:1: error: no\nlogic=not-proved\n"), (2, ""), (-9, "")
+        for status, said in unjudged:
+            self.assertIn("judged nothing", edits.Verdict(status, said).word)
 
 
 class Ends(unittest.TestCase):
@@ -203,62 +198,250 @@ class Ends(unittest.TestCase):
 
     UNENDED = "fn low::f: proved\nnote: the search for empty contracts did not end\n\nlogic=proved functions=1 sum=1\n"
 
-    def test_check_that_refused_nothing_is_asked_again(self):
-        self.assertTrue(gate.could_not_tell(3, "fn low::f: could not tell\nrattle: no verdict: out of memory\n"))
-        self.assertTrue(gate.could_not_tell(3, self.UNENDED))
-        self.assertTrue(gate.could_not_tell(-6, "memory allocation of 100 bytes failed\n"))
+    def test_check_that_refused_nothing_is_run_again(self):
+        unsure = "fn low::f: could not tell\nrattle: no verdict: out of memory\n"
+        for status, said in ((3, unsure), (3, self.UNENDED), (-6, "memory allocation failed\n"), (-9, "")):
+            self.assertTrue(calls.could_not_tell(status, said))
 
     def test_check_that_refused_is_not(self):
-        self.assertFalse(gate.could_not_tell(1, "fn low::f: not proved: ./proofs/A.antt:1:1: error: `a`\nlogic=not-proved\n"))
-        self.assertFalse(gate.could_not_tell(1, "src/lib.rt:1:1: error[unresolved]: no `g` here\n"))
+        for said in ("fn low::f: not proved\nlogic=not-proved\n", "src/lib.rt:1:1: error[unresolved]: no `g` here\n", "only=2 proved=1\n"):
+            self.assertFalse(calls.could_not_tell(1, said))
 
-    def test_neither_is_one_that_is_well_or_was_killed(self):
-        self.assertFalse(gate.could_not_tell(0, "logic=proved functions=1 sum=1\n"))
-        self.assertFalse(gate.could_not_tell(-9, ""))
+    def test_neither_is_one_that_is_well(self):
+        self.assertFalse(calls.could_not_tell(0, "logic=proved functions=1 sum=1\n"))
 
     def test_its_last_lines_are_told(self):
-        told = ["low: its check ended with status 3", "low: note: the search for empty contracts did not end", "low: logic=proved functions=1 sum=1"]
-        self.assertEqual(gate.ends_of("low", 3, self.UNENDED), told)
+        told = ["its check ended with status 3", "note: the search for empty contracts did not end", "logic=proved functions=1 sum=1"]
+        self.assertEqual(calls.ends_of(3, self.UNENDED), told)
 
 
-class Lanes(unittest.TestCase):
-    """What is started of ready tasks, each with its jobs: (name, what), what it waits for, work, octets of memory, call."""
+class Texts(unittest.TestCase):
+    """What `rt ci` alone refuses in a crate's sources."""
 
-    TASKS = {
-        ("low", "proof"): ((), 100, 10, None),
-        ("side", "proof"): ((), 50, 10, None),
-        ("high", "proof"): ([("low", "proof")], 500, 40, None),
-        ("low", "edits"): ([("low", "proof")], 5, 10, None),
-    }
+    def faults(self, text):
+        """Returns what the gate has against a source with this text, in a repository that allows Threads and Wait."""
+        with tempfile.TemporaryDirectory() as top:
+            write(f"{top}/crates.txt", "low:\n")
+            write(f"{top}/HANDLES", "Handles allowed: Threads, Wait.\n")
+            write(f"{top}/crates/low/src/lib.rt", text)
+            return [it.partition(": ")[2] for it in looks.texts(project.Project(top), "low", None) if it.startswith("fail ")]
 
-    def started(self, ready, memory=1000, running=(), lanes_=4):
-        return [(key, jobs) for key, _, jobs in lanes.started(ready, self.TASKS, lanes_, memory, [*running])]
+    def test_what_is_refused(self):
+        cases = {
+            "use std::Net;": "Net is a handle beyond HANDLES", "fn f<R: Abort>(rt: R) {}": "Abort ends the process",
+            'unsafe extern "C" { fn f(); }': "extern     { declares C functions", "macro_rules! m { }": "macro_rules is a macro of our own",
+            "fn f() -> Box<dyn Fn(u8) -> u8> {}": "-> Box<dyn F hands out a `dyn` value or a function pointer",
+            "fn __f() {}": "fn __f has a name that begins with two underscores", "use std as other;": "use std as names std another way",
+            "ghost use Rattle.std.specs.Prelude.{◌≤◌ as ◌≡◌};": "◌≤◌ as ◌≡◌ is an own name of an operator",
+        }
+        for text, why in cases.items():
+            with self.subTest(text=text):
+                self.assertEqual([" ".join(it.split()) for it in self.faults(text)], [" ".join(why.split())])
 
-    def test_proof_alone_gets_all_processors(self):
-        self.assertEqual(self.started([("high", "proof")]), [(("high", "proof"), 4)])
+    def test_what_is_not(self):
+        taken = "fn f(take: impl Fn(u8) -> u8) -> u8 {}", "fn f() -> u8 { 0 }\nfn g(a: fn(u8) -> u8) {}"
+        for text in (*taken, "fn f<R: Threads>(rt: R) {}", "// Net and Abort\n"):
+            self.assertEqual(self.faults(text), [], text)
 
-    def test_edits_that_are_ready_leave_it_fewer(self):
-        ready = [("high", "proof"), ("low", "edits")]
-        self.assertEqual(self.started(ready, lanes_=2), [(("high", "proof"), 1), (("low", "edits"), 1)])
-        self.assertEqual(self.started(ready, lanes_=3), [(("high", "proof"), 1), (("low", "edits"), 1)])
 
-    def test_no_more_are_started_than_there_are_processors(self):
-        running = [(("side", "proof"), 10, 1)]
-        ready = [("high", "proof"), ("low", "edits")]
-        self.assertEqual(self.started(ready, running=running, lanes_=2), [(("high", "proof"), 1)])
+# A kit that answers from files: $STUB/CRATE.WORD has the status in its first line, and CRATE.WORD.again is the answer to later calls.
+STUB = """#!/bin/bash
+case $1 in version) echo stub; exit;; doc) echo /nowhere/it.md; exit;; fmt) exit 0;; esac
+word=$1
+for it in "$@"; do case $it in --empty-contracts) word=house;; --only) word=edits; break;; rattle) word=run.rattle;; esac; done
+it=$STUB/$(basename "$PWD").$word
+if [ -e "$it.again" ] && [ -e "$it.called" ]; then it=$it.again; fi
+[ -e "$it" ] || exit 2
+touch "$it.called"
+[ "$word" = lib ] && mkdir -p out/incremental out/rlib
+case $word in run*) mkdir -p out; echo "$word" > "out/$(basename "$PWD")"; cat "$it.err" >&2;; esac
+tail -n +2 "$it"
+exit "$(head -n 1 "$it")"
+"""
+LIBRARY = "//! Numbers.\n\n/// Twice.\npub fn twice(number: u32) -> u64 {\n    u64::from(number) * 2\n}\n"
+TESTS = "\n#[cfg(test)]\nmod tests {\n    #[test]\n    fn one() {\n    }\n\n    #[test]\n    fn two() {\n    }\n}\n"
+PROVED = "0\nfn {0}::twice: proved\nlogic=proved functions=1 sum=1\n"
+SEARCHED = "empty contracts: 0 found; tried 1 of 1 functions\n"
+REFUSED = "1\nnote: src/lib.rt:5:5: it is not proved that what the function ensures holds (`returns`)\nfn {0}::twice: not proved\nonly=1 proved=0\n"
+HOUSE = "0\nempty contracts: 0 found; tried 1 of 1 functions\nlogic=proved functions=1 sum=1\n"
+TRIED = "0\ntests: 2\ntest tests::one ... ok\ntest tests::two ... ok\nrun=ended status=0 runners=1 proved=no\n"
 
-    def test_proof_that_lacks_memory_is_waited_for(self):
-        running = [(("side", "proof"), 10, 1)]
-        self.assertEqual(self.started([("high", "proof"), ("low", "edits")], memory=45, running=running), [])
-        self.assertEqual(self.started([("high", "proof"), ("side", "proof")], memory=45, running=running), [(("side", "proof"), 3)])
 
-    def test_one_task_runs_however_little_memory_there_is(self):
-        self.assertEqual(self.started([("high", "proof")], memory=1), [(("high", "proof"), 1)])
+def write(path, text):
+    """Writes a file, and its folders."""
+    os.makedirs(os.path.dirname(path), exist_ok=True)
+    with open(path, "w", encoding="utf-8") as it:
+        it.write(text)
 
-    def test_longest_chain_counts_all_that_waits(self):
-        behind = lanes.works_behind(self.TASKS)
-        self.assertEqual(behind[("low", "proof")], 600)
-        self.assertEqual(behind[("side", "proof")], 50)
+
+class Gate(unittest.TestCase):
+    """Whole runs over two crates, one on the other."""
+
+    def setUp(self):
+        folder = tempfile.TemporaryDirectory()
+        self.addCleanup(folder.cleanup)
+        self.top, self.stub = f"{folder.name}/top", f"{folder.name}/stub"
+        write(f"{self.top}/crates.txt", "low:\nhigh: low\n")
+        write(f"{self.top}/HANDLES", "Handles allowed: none.\n")
+        write(f"{self.top}/.gitignore", "/.gate*/\n")
+        write(f"{self.stub}/bin/rt", STUB)
+        os.chmod(f"{self.stub}/bin/rt", 0o755)
+        for name in ("low", "high"):
+            write(f"{self.top}/crates/{name}/src/lib.rt", LIBRARY + TESTS)
+            write(f"{self.top}/crates/{name}/must-fail/thrice.edit", "file: src/lib.rt\nold: * 2\nnew: * 3\n")
+            for word, text in (("lib", PROVED), ("edits", REFUSED), ("house", HOUSE), ("try", TRIED)):
+                write(f"{self.stub}/{name}.{word}", text.format(name))
+        subprocess.run(["git", "init", "-q"], cwd=self.top, check=True)
+
+    def gate(self, **settings):
+        """Runs the gate. Returns its status and its output."""
+        path = f"{self.stub}/bin:{os.environ['PATH']}"
+        inherited = {it: text for it, text in os.environ.items() if not it.startswith("GATE_")}
+        words = [sys.executable, os.path.join(TOP, "tools", "gate", "make.py")]
+        how = {"cwd": self.top, "env": {**inherited, "PATH": path, "STUB": self.stub, **settings}, "check": False}
+        ran = subprocess.run(words, stdin=subprocess.DEVNULL, stdout=subprocess.PIPE, stderr=subprocess.STDOUT, text=True, **how)
+        return ran.returncode, ran.stdout
+
+    def fails(self, why, count=1, passed=8):
+        """Sees that the gate fails for this reason, and goes through all the same."""
+        status, said = self.gate()
+        self.assertRegex(said, f"(?m)^gate: FAILED {why}")
+        self.assertEqual((status, said.splitlines()[-1]), (1, f"{passed} passed, {count} failed"), said)
+
+    def test_all_is_well(self):
+        status, said = self.gate()
+        self.assertEqual((status, said.splitlines()[-1]), (0, "8 passed, 0 failed"), said)
+        self.assertIn("gate: 2 functions proved, 0 of the sources not among them\n", said)
+        self.assertIn("gate: 2 crates proved, 4 tests run unproved, 2 edits refused\n", said)
+        self.assertRegex(said, r"\ngate: stub; \d+ processors; at least \d+ MiB of memory and \d+ MB of disk were left\n")
+
+    def test_all_is_well_without_ninja(self):
+        status, said = self.gate(GATE_NINJA="no")
+        self.assertEqual((status, said.splitlines()[-1]), (0, "8 passed, 0 failed"), said)
+        proofs = [it.start() for it in re.finditer("^(?:low|high) proof: functions", said, re.M)]
+        self.assertEqual(said.find("low proof: functions"), proofs[0], said)
+
+    def test_function_that_no_check_has_seen(self):
+        write(f"{self.stub}/high.lib", "0\nlogic=proved functions=0 sum=1\n")
+        self.fails("high proof: no check has proved twice", 3, 6)
+
+    def test_edit_that_can_not_be_applied(self):
+        write(f"{self.top}/crates/low/must-fail/lost.edit", "file: src/lib.rt\nold: * 4\nnew: * 3\n")
+        self.fails("low edits: lost.edit: BAD EDIT: it can't be applied")
+
+    def test_edit_that_is_proved(self):
+        write(f"{self.stub}/low.edits", "0\nfn low::twice: proved\nonly=1 proved=1\n")
+        write(f"{self.stub}/low.check", PROVED.format("low"))
+        self.fails("low edits: thrice.edit: NOT REFUSED", 1, 7)
+
+    def test_test_that_is_skipped(self):
+        write(f"{self.stub}/low.try", TRIED.replace("test tests::two ... ok", "test tests::two ... ignored"))
+        self.fails("low tests: 1 of 2 tests passed", 2, 6)
+
+    def test_test_that_is_not_compiled(self):
+        write(f"{self.stub}/low.try", TRIED.replace("tests: 2", "tests: 1").replace("test tests::two ... ok\n", ""))
+        self.fails("low tests: 1 of 2 tests passed", 4, 6)
+
+    def test_ignored_test_fails_by_its_text(self):
+        write(f"{self.top}/crates/low/src/lib.rt", LIBRARY + TESTS.replace("#[test]\n    fn two", "#[test]\n    #[ignore]\n    fn two"))
+        self.fails("low texts: src/lib.rt: an ignored test")
+
+    def test_crate_that_is_not_proved(self):
+        write(f"{self.stub}/low.lib", "1\nfn low::twice: not proved\nlogic=not-proved functions=1 sum=1\n")
+        status, said = self.gate()
+        self.assertEqual(status, 1)
+        whys = "low proof: fn low::twice: not proved", "low edits: not tried, since low isn't proved", "high proof: not tried, since low isn't proved"
+        for why in whys:
+            self.assertIn(f"gate: FAILED {why}\n", said)
+        self.assertIn("4 tests run unproved", said)
+
+    def test_contract_that_no_call_can_meet(self):
+        write(f"{self.stub}/low.house", HOUSE.replace("0 found", "1 found"))
+        self.fails("low house: empty contracts: 1 found")
+
+    def test_search_that_a_check_of_edits_has_made(self):
+        os.unlink(f"{self.stub}/low.house")
+        write(f"{self.stub}/low.edits", REFUSED.format("low").replace("only=1", SEARCHED + "only=1"))
+        status, said = self.gate()
+        self.assertEqual((status, said.splitlines()[-1]), (0, "8 passed, 0 failed"), said)
+
+    def test_search_that_no_check_has_made(self):
+        os.unlink(f"{self.stub}/low.house")
+        self.fails("low house: no search for empty contracts")
+
+    def test_check_that_refused_nothing_gets_a_second_run(self):
+        write(f"{self.stub}/low.lib", "3\nfn low::twice: could not tell\n")
+        write(f"{self.stub}/low.lib.again", PROVED.format("low"))
+        status, said = self.gate()
+        self.assertEqual((status, said.splitlines()[-1]), (0, "8 passed, 0 failed"), said)
+        self.assertIn("gate: low proof: its check ended with status 3\n", said)
+        self.assertIn("gate: low proof: retried with one job, the check ended with status 0\n", said)
+
+    def test_proof_that_began_with_the_work_of_others(self):
+        write(f"{self.stub}/low.lib", PROVED.format("low").replace("0\n", "0\nrt: low: begins with what a check kept in /elsewhere\n", 1))
+        self.fails("low proof: it isn't proved from nothing", 6, 4)
+
+    def test_file_that_no_check_reads(self):
+        write(f"{self.top}/docs/lost.rt", "")
+        self.fails("repository files: no check reads docs/lost.rt")
+
+    def test_tidy_gate_leaves_facts_alone(self):
+        status, said = self.gate(GATE_TIDY="yes")
+        self.assertEqual((status, said.splitlines()[-1]), (0, "8 passed, 0 failed"), said)
+        left = [it for it in os.listdir(f"{self.top}/.gate") if os.path.isdir(f"{self.top}/.gate/{it}")]
+        self.assertEqual(left, [])
+        self.assertTrue(os.path.exists(f"{self.top}/.gate/low.proof"))
+
+    def program(self, by_rattle):
+        """Adds a program that prints `four`, and, as the other compiler builds it, this."""
+        write(f"{self.top}/crates.txt", "low:\nhigh: low\ntop: high\n")
+        write(f"{self.top}/crates/top/src/main.rt", LIBRARY)
+        write(f"{self.top}/crates/top/stdout", "four\n")
+        for word, text in (("run", "0\nfour\n"), ("run.rattle", f"0\n{by_rattle}\n"), ("house", HOUSE)):
+            write(f"{self.stub}/top.{word}", text)
+            write(f"{self.stub}/top.{word}.err", PROVED.format("top"))
+
+    def test_program_is_handed_over_as_both_compilers_build_it(self):
+        self.program("four")
+        status, said = self.gate()
+        self.assertEqual((status, said.splitlines()[-1]), (0, "9 passed, 0 failed"), said)
+        for name, word in (("top", "run"), ("top.by-rattle", "run.rattle")):
+            with open(f"{self.top}/crates/top/out/{name}", encoding="utf-8") as it:
+                self.assertEqual(it.read(), f"{word}\n")
+
+    def test_program_that_prints_something_else(self):
+        self.program("five")
+        self.fails("top proof: as rattle builds it, it ended with status 0 and wrote 5 octets", 2 + 1, 8)
+        self.assertFalse(os.path.exists(f"{self.top}/crates/top/out/top"))
+
+    def test_resumed_gate_does_only_what_changed(self):
+        self.gate()
+        write(f"{self.top}/crates/high/src/lib.rt", LIBRARY + "// changed\n" + TESTS)
+        status, said = self.gate(GATE_RESUME=f"{self.top}/.gate")
+        self.assertEqual((status, said.splitlines()[-1]), (0, "8 passed, 0 failed"), said)
+        self.assertEqual(sorted(re.findall(r"^(\w+ \w+): as before$", said, re.M)), [f"low {it}" for it in sorted(graph.RULES)])
+        self.assertIn("gate: high proof: proved over kept work\n", said)
+
+    def test_gate_of_another_clone_goes_on(self):
+        self.gate()
+        first, self.top = self.top, f"{self.top}-other"
+        shutil.copytree(first, self.top, ignore=shutil.ignore_patterns(".gate"))
+        status, said = self.gate(GATE_RESUME=f"{first}/.gate")
+        self.assertEqual((status, said.splitlines()[-1]), (0, "8 passed, 0 failed"), said)
+        self.assertEqual(len(re.findall(r": as before$", said, re.M)), 12)
+        self.assertTrue(os.path.isdir(f"{self.top}/.gate/low.proof.room/crates/low/out/rlib"))
+
+    def test_some_rules_alone(self):
+        status, said = self.gate(GATE_RULES="proof edits")
+        self.assertEqual((status, said.splitlines()[-1]), (0, "4 passed, 0 failed"), said)
+
+    def test_resumed_gate_keeps_no_failure(self):
+        write(f"{self.stub}/high.house", HOUSE.replace("0 found", "1 found"))
+        self.gate()
+        write(f"{self.stub}/high.house", HOUSE)
+        status, said = self.gate(GATE_RESUME=f"{self.top}/.gate")
+        self.assertEqual((status, said.splitlines()[-1]), (0, "8 passed, 0 failed"), said)
+        self.assertEqual(len(re.findall(r": as before$", said, re.M)), 11)
 
 
 if __name__ == "__main__":

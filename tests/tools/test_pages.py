@@ -7,6 +7,7 @@ Each block of these pages is fenced, and the word behind the fence says what it 
     sh debian       is run where dpkg-deb is there
     sh root         isn't run: it needs root, namespaces or devices
     sh frr          isn't run: it needs a host with FRR, or its views
+    sh proof        isn't run: it proves a crate
     text prints     all that the block before it printed
     text among      each line stands in what the block before it printed; a line that ends with '..' goes on there
     text, toml      is read alone
@@ -24,8 +25,8 @@ import unittest
 from typing import Dict, List, NamedTuple
 
 TOP = os.path.dirname(os.path.dirname(os.path.dirname(os.path.abspath(__file__))))
-PAGES = ("README.md", "docs/tutorial.md", "docs/running.md", "docs/audit.md", "docs/fabric.md")
-NOT_RUN = {"sh root": "it needs root, namespaces or devices", "sh frr": "it needs a host with FRR, or its views"}
+PAGES = ("README.md", "examples/README.md", "docs/tutorial.md", "docs/running.md", "docs/audit.md", "docs/fabric.md")
+NOT_RUN = {"sh root": "it needs root, namespaces or devices", "sh frr": "it needs a host with FRR, or its views", "sh proof": "it proves a crate"}
 READ_ALONE = ("text", "toml")
 FENCE = re.compile(r"^( *)```(.*)$")
 PATIENCE = 1200  # the first builds of both programs are in it
@@ -141,6 +142,9 @@ class Pages(unittest.TestCase):
 
     def test_readme(self):
         self.run_page("README.md")
+
+    def test_examples(self):
+        self.run_page("examples/README.md")
 
     def test_tutorial(self):
         self.run_page("docs/tutorial.md")

@@ -208,6 +208,15 @@ class TwoEdges(TwoCables):
         self.assertEqual(self.two.receive(0.1), b"")
         self.assertEqual(self.running.end()[0], 0)
 
+    def test_empty_datagram_ends_no_link(self) -> None:
+        """After an empty datagram to a port and one to a tunnel, frames are carried as before."""
+        self.is_carried(self.one, self.two, frame(BROADCAST, station(1), b"first"))
+        self.one.send(b"")
+        self.one.here.sendto(b"", (TWO, TUNNELS))
+        self.is_carried(self.one, self.two, frame(BROADCAST, station(1), b"second"))
+        status, _, notes = self.running.end()
+        self.assertEqual((status, notes), (0, ""))
+
     def test_stranger_is_not_let_in(self) -> None:
         """A datagram from an address that is no edge's is dropped, the same from an edge's is taken."""
         self.is_carried(self.one, self.two, frame(BROADCAST, station(1), b"first"))

@@ -1,22 +1,21 @@
-"""Reads Rattle sources so far as these tools need it: where a function's body is."""
+"""Reads Rattle sources as far as these tools need it: where a function's body is, and how a check calls the function."""
 import os
 import re
-import tempfile
 
-from kit import rtlib
-
+# a comment, or a literal
+TOKEN = re.compile(r'//[^\n]*|/\*.*?\*/|b?"(?:\\.|[^"\\])*"|b?\'(?:\\[^\n]+?|[^\'\\\n])\'', re.S)
 # what stands before a brace that opens a clause, and no body
 CLAUSE = re.compile(r"\b(?:requires|ensures|ghost)\b[^{};]*$")
+IMPL = re.compile(
+    r"^(?:unsafe )?impl\b(?:<[^{\n]*?>(?= ))?\s+(?:(?:\w+::)*(\w+)(?:<[^{\n]*?>)?\s+for\s+)?&?(\w+)"
+    r"|^(?:pub(?:\([^)]*\))? )?(?:unsafe )?trait (\w+)",
+    re.M,
+)
 
 
 def shape_of(text):
     """Returns a source's text with blanks for its comments and literals, each character at its place."""
-    with tempfile.TemporaryDirectory(prefix="shape-") as room:
-        os.mkdir(f"{room}/src")
-        with open(f"{room}/src/it.rt", "w", encoding="utf-8") as it:
-            # (the kit's places are those of octets)
-            it.write(re.sub(r"[^\x00-\x7f]", "x", text))
-        return rtlib.blanked(room)[f"{room}/src/it.rt"]
+    return TOKEN.sub(lambda it: re.sub(r"[^\n]", " ", it[0]), text)
 
 
 def closed(shape, start):
@@ -40,7 +39,7 @@ def head_end(shape, at):
 
 
 def body_of(shape, at):
-    """Returns from where to where the body goes of the function whose name ends here, or None where it has none."""
+    """Returns from where to where the body goes of the function whose name ends here, or None if it has none."""
     while True:
         start = head_end(shape, at)
         if start is None or shape[start] == ";":
@@ -61,3 +60,58 @@ def bodies(shape):
             found.append((head[1], head.start(), *body))
             at = body[1]
     return found
+
+
+def name_of(path, name, before):
+    """Returns the end of a function's name, as a check prints it: with its type if it is a method, else with its module.
+
+    `before` is the shape of the source before the function. Of `impl Tr for Ty` a check prints TyTr, of `impl Ty` Ty; and a type's
+    module can be another than that of its impl.
+    """
+    types = [kind + of_trait or trait for of_trait, kind, trait in IMPL.findall(before)]
+    if before.rpartition("\n")[2].startswith(" ") and types:
+        return f"{types[-1]}::{name}"
+    module = [it for it in os.path.splitext(path)[0].split("/")[1:] if it not in ("lib", "main", "mod")]
+    return "::".join([*module, name])
+
+
+def function_at(path, text, old):
+    """Returns the end of the name of the function in whose body this text stands, or None."""
+    at, shape = text.index(old), shape_of(text)
+    for name, head, start, end in bodies(shape):
+        if start < at and at + len(old) < end:
+            return name_of(path, name, shape[:head])
+    return None
+
+
+def is_end_of(end, full, crate):
+    """Returns `True` if this is the end of the function's full name."""
+    return full == f"{crate}::{end}" or full.endswith(f"::{end}")
+
+
+def without_tests(shape):
+    """Returns a source's shape without its module of tests."""
+    inside = re.search(r"#\[cfg\(test\)\]\s*mod \w+\s*\{", shape)
+    return shape[: inside.start()] + shape[closed(shape, inside.end() - 1) :] if inside else shape
+
+
+def sources_in(folder):
+    """Returns the shapes of a crate's sources by their paths below its folder, the files of its tests left out."""
+    found = {}
+    for at, _, files in os.walk(f"{folder}/src"):
+        for file in sorted(files):
+            path = os.path.relpath(f"{at}/{file}", folder)
+            if path.endswith(".rt") and not re.match(r"src/(.*/)?tests(\.rt|/)", path):
+                with open(f"{at}/{file}", encoding="utf-8") as it:
+                    found[path] = shape_of(it.read())
+    return found
+
+
+def unproved(folder, crate, proved):
+    """Returns the ends of the names of the functions in a crate's sources, tests left out, that no check has called proved."""
+    lacking = []
+    for path, shape in sources_in(folder).items():
+        shape = without_tests(shape)
+        ends = [name_of(path, name, shape[:head]) for name, head, *_ in bodies(shape)]
+        lacking += [end for end in ends if not any(is_end_of(end, it, crate) for it in proved)]
+    return sorted(lacking)

@@ -1,6 +1,6 @@
 -- The role that a BPDU says its sender's port has, and when it is too old (IEEE 802.1D-2004, 9.3.3 and 9.3.4).
 use Rattle.std.specs.Prelude.{ℕ, Bool, true, false, ◌&&◌, ◌==◌, nat_le, if◌then◌else◌, bit_and}
-use Rattle.bpdu_wire.specs.declared.flags.TheConstants.{ALTERNATE_OR_BACKUP_ROLE, ROLE_BITS, ROOT_ROLE, UNKNOWN_ROLE}
+use Rattle.bpdu_wire.specs.Numbers.{ALTERNATE_OR_BACKUP_ROLE, ROLE_BITS, ROOT_ROLE, UNKNOWN_ROLE}
 use Rattle.bpdu_wire.specs.declared.bpdu.SenderRole.{SenderRole}
 use Rattle.bpdu_wire.specs.declared.bpdu.SenderRole.TheVariants.{Unknown, AlternateOrBackup, Root, Designated}
 use Rattle.bpdu_wire.specs.declared.bpdu.Message.{Message}

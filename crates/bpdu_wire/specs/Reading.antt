@@ -2,12 +2,12 @@
 use Rattle.std.specs.Prelude.{ℕ, Bool, true, not, ◌&&◌, ◌==◌, nat_lt, if◌then◌else◌, List, [], ◌∷◌, length, drop}
 use Rattle.std.specs.Prelude.{slice_index, Option, Some, None, Result, Ok, Err}
 use Rattle.byteorder.specs.Endian.{big_number}
-use Rattle.bpdu_wire.specs.declared.reading.TheConstants.{VERSION_PLACE, TYPE_PLACE, FLAGS_PLACE, ROOT_PLACE}
-use Rattle.bpdu_wire.specs.declared.reading.TheConstants.{COST_PLACE, BRIDGE_PLACE, PORT_PLACE}
-use Rattle.bpdu_wire.specs.declared.reading.TheConstants.{MESSAGE_AGE_PLACE, MAX_AGE_PLACE, HELLO_PLACE}
-use Rattle.bpdu_wire.specs.declared.reading.TheConstants.{FORWARD_DELAY_PLACE}
-use Rattle.bpdu_wire.specs.declared.reading.TheConstants.{CONFIG_TYPE, RST_TYPE, TCN_TYPE, RAPID_VERSION, CONFIG_SIZE}
-use Rattle.bpdu_wire.specs.declared.reading.TheConstants.{RST_SIZE, TCN_SIZE}
+use Rattle.bpdu_wire.specs.Numbers.{VERSION_PLACE, TYPE_PLACE, FLAGS_PLACE, ROOT_PLACE}
+use Rattle.bpdu_wire.specs.Numbers.{COST_PLACE, BRIDGE_PLACE, PORT_PLACE}
+use Rattle.bpdu_wire.specs.Numbers.{MESSAGE_AGE_PLACE, MAX_AGE_PLACE, HELLO_PLACE}
+use Rattle.bpdu_wire.specs.Numbers.{FORWARD_DELAY_PLACE}
+use Rattle.bpdu_wire.specs.Numbers.{CONFIG_TYPE, RST_TYPE, TCN_TYPE, RAPID_VERSION, CONFIG_SIZE}
+use Rattle.bpdu_wire.specs.Numbers.{RST_SIZE, TCN_SIZE}
 use Rattle.bpdu_wire.specs.declared.bpdu.Message.{Message}
 use Rattle.bpdu_wire.specs.declared.bpdu.Bpdu.{Bpdu}
 use Rattle.bpdu_wire.specs.declared.bpdu.Bpdu.TheVariants.{Config, Rst, Tcn}

@@ -1,6 +1,6 @@
 -- The numbers of the refusals.
 use Rattle.std.specs.Prelude.{ℕ}
-use Rattle.bpdu_wire.specs.declared.refusal.TheConstants.{TOO_SHORT, BAD_PROTOCOL, BAD_TYPE, BAD_VERSION, OVER_AGE}
+use Rattle.bpdu_wire.specs.Numbers.{TOO_SHORT, BAD_PROTOCOL, BAD_TYPE, BAD_VERSION, OVER_AGE}
 use Rattle.bpdu_wire.specs.declared.refusal.BpduRefusal.{BpduRefusal}
 use Rattle.bpdu_wire.specs.declared.refusal.BpduRefusal.TheVariants.{Short, BadProtocol, BadType, BadVersion, Aged}
 

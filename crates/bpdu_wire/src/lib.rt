@@ -4,6 +4,7 @@
 mod bpdu;
 mod flags;
 mod id;
+pub mod laws;
 mod reading;
 mod refusal;
 #[cfg(test)]

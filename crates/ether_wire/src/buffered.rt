@@ -3,7 +3,7 @@ ghost use Rattle.std.specs.Prelude.{◌≡◌, []};
 ghost use Rattle.ether_wire.specs.Ends.{End, IsOpen, Puts};
 
 use crate::ends::{Device, Out};
-use arrayvec::ArrayVec;
+use crate::piece::Piece;
 
 /// How many octets a buffered writer holds at most.
 const HELD: usize = 16_384;
@@ -16,7 +16,7 @@ const HELD: usize = 16_384;
 /// is lost, so that nothing is given twice.
 pub struct Buffered<W> {
     inner: W,
-    held: ArrayVec<u8, HELD>,
+    held: Piece<HELD>,
 }
 
 impl<W: Out> Buffered<W> {
@@ -28,7 +28,7 @@ impl<W: Out> Buffered<W> {
     {
         Buffered {
             inner,
-            held: ArrayVec::new(),
+            held: Piece::new(),
         }
     }
 
@@ -55,13 +55,13 @@ impl<W: Out> Buffered<W> {
     fn pass_on(&mut self) -> Result<(), Device>
         requires { IsOpen (W.end self.old.inner) }
         ensures passes { Puts (W.end self.old.inner)
-            (W.end self.new.inner) self.old.held.items result }
-        ensures empty { self.new.held.items ≡ [] }
+            (W.end self.new.inner) self.old.held result }
+        ensures empty { self.new.held ≡ [] }
     {
         if self.held.is_empty() {
             return Ok(());
         }
-        let result = self.inner.put(self.held.as_slice());
+        let result = self.inner.put(self.held.octets());
         self.held.clear();
         result
     }
@@ -77,15 +77,15 @@ impl<W: Out> Buffered<W> {
             octets.now result }
     {
         self.pass_on()?;
-        match self.held.try_extend_from_slice(octets) {
-            Ok(()) => Ok(()),
-            Err(_) => self.inner.put(octets),
+        if self.held.try_put(octets) {
+            return Ok(());
         }
+        self.inner.put(octets)
     }
 }
 
 impl<W: Out> Out for Buffered<W> {
-    ghost use Rattle.ether_wire.specs.Buffered.{buffered_end};
+    ghost use Rattle.ether_wire.specs.Buffered.{held_of, passed_end, buffered_end};
 
     ghost end = { buffered_end W.end };
 
@@ -96,14 +96,21 @@ impl<W: Out> Out for Buffered<W> {
     #[tactic(auto, using(crate::proofs::Appending::with_text_twice, crate::proofs::Appending::with_text_none))]
     #[inline(always)]
     fn put(&mut self, octets: &[u8]) -> Result<(), Device> {
-        if self.held.try_extend_from_slice(octets).is_ok() {
+        if self.held.try_put(octets) {
             return Ok(());
         }
         self.put_anew(octets)
     }
 
     #[tactic(auto, using(crate::proofs::Appending::with_text_none))]
-    fn flush(&mut self) -> Result<(), Device> {
-        self.pass_on()
+    /// Passes on what it holds. It holds nothing afterwards, whether that failed or not.
+    fn flush(&mut self) -> Result<(), Device>
+        requires { IsOpen (buffered_end W.end self.old) }
+        ensures puts { Puts (buffered_end W.end self.old) (buffered_end W.end self.new) [] result }
+        ensures passes { Puts (passed_end W.end self.old) (passed_end W.end self.new)
+            (held_of self.old) result }
+        ensures empty { held_of self.new ≡ [] }
+    {
+        Self::pass_on(self)
     }
 }

@@ -9,7 +9,7 @@ use Rattle.route_wire.specs.Record.{ReadsUpTo, Reads, Answers}
 use Rattle.route_wire.specs.Encode.{spelling_of}
 use Rattle.ev_book.specs.Journal.{records_of, all_ok}
 
--- answers, and then those of what is left
+-- the answers, followed by those of the rest
 reads_on : (newest : ℕ) (s : List ℕ) (xs ys : List (Result Fields ℕ)) (r t : List ℕ) → ReadsUpTo newest s xs r
     → ReadsUpTo newest r ys t → ReadsUpTo newest s (xs ++ ys) t
 reads_on newest s [] ys r t h k = subst (λ (z : List ℕ). ReadsUpTo newest z ys t) (sym h) k

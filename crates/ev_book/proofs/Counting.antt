@@ -1,4 +1,4 @@
--- What a book keeps of its passes.
+-- The counts and marks that a book keeps of its passes.
 use Rattle.std.proofs.Common.{ℕ, zero, suc, replicate, ◌+◌, ◌<◌, ◌≡◌, inl, inr, true, Option, Some, None, IfSome, List}
 use Rattle.std.proofs.Common.{length, get_or, set, slice_get, refl, ap, sym, subst, ◌∙◌, arith, eqb}
 use Rattle.std.proofs.lemmas.Bool.{cases_eq, false≢true, eqb-true}
@@ -16,7 +16,7 @@ use Rattle.ev_book.specs.Book.{BookState, PassState, book_of, unused, kept_at, c
 use Rattle.ev_book.specs.Entering.{mark_then}
 use Rattle.ev_book.proofs.Reaching.{same_options}
 
--- the pass is what is kept under its number
+-- the pass agrees with the book's record of its number
 pub record Fitting (kept : List Kept) (p : PassState) : Type 0 where
   pub low : p.number < length kept
   pub count : (kept_at kept p.number).count ≡ p.count

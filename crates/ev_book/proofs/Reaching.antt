@@ -13,7 +13,7 @@ use Rattle.route_join.proofs.Tables.{not_newer_itself, same_register}
 use Rattle.ev_book.specs.declared.mark.Mark.{Mark}
 use Rattle.ev_book.specs.Mark.{Holds, HoldsAt, is_same, same_mark, mark_of}
 
--- a table of more updates has what the table of some has
+-- a table of more updates has the values of a table of some of them
 pub still_holds : (us more : List Fields) (s t : Table) → IsTableOf us s → IsTableOf (us ++ more) t → (m : Mark)
     → Holds s m → Holds t m
 still_holds us more s t a b m h =
@@ -32,7 +32,7 @@ holds_update us t u h c =
     let n = h.newest u c in
     record { value = n.0; there = n.1; no_older = n.2 }
 
--- it has what stands in it
+-- it has its own values
 pub holds_there : (t : Table) (u : Fields) → value_at t u.register ≡ Some u.value → Holds t (mark_of u)
 holds_there t u at = record { value = u.value; there = at; no_older = not_newer_itself u.value }
 

@@ -42,7 +42,7 @@ set_elsewhere (x ∷ xs) zero a (suc j) ne = refl
 set_elsewhere (x ∷ xs) (suc i) a zero ne = refl
 set_elsewhere (x ∷ xs) (suc i) a (suc j) ne = set_elsewhere xs i a j (λ same. ne (ap suc same))
 
--- what is kept of the pass is what it has
+-- the book's record of the pass is the pass's own
 kept_itself : (p : PassState) → fits_kept (Some (kept_of p)) p ≡ true
 kept_itself p = both _ _ (eq-eqb p.count p.count refl) (mark_itself p.mark)
 

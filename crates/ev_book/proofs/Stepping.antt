@@ -33,7 +33,7 @@ use Rattle.ev_book.specs.Entering.{may_write, touched, touched_by}
 use Rattle.ev_book.specs.Inner.Entering.{most_written}
 use Rattle.ev_book.proofs.Reaching.{holds_update, holds_there}
 
--- what an event makes the edge say
+-- the own updates of an event
 abbrev pub own_in : {e : Edge} {event : Event} {result : Result Reply edges.Refusal} {e' : Edge}
     → Changes e event result e' → List Fields
 own_in {e} {event} {result} {e'} h = said_updates (heard event result e.routes.speaker) h.said
@@ -49,7 +49,7 @@ are_own {e} {event} {result} {e'} h =
       all = omega (arith, count, counter);
     }
 
--- ---- room for what is written
+-- ---- room for the event's updates
 
 brings_one : (event : Event) → length (brought event) ≤ 1
 brings_one (events.Frame port octets) = omega arith
@@ -101,7 +101,7 @@ silent_counter e (events.PortDown port) result e' silent h = absurd (false≢tru
 silent_counter e (events.Mcheck port) result e' silent h = absurd (false≢true (sym silent))
 silent_counter e events.Announce result e' silent h = ap (λ (x : Edge). x.routes.speaker.counter) h.1
 
--- what the event brings fits into the room that is asked for
+-- the event's updates fit into the reserved room
 pub fits_brought : (event : Event) (routes : LocalRoutes) → length (brought event) ≤ most_written event routes
 fits_brought event routes = go (may_write event) refl
   where
@@ -109,7 +109,7 @@ fits_brought event routes = go (may_write event) refl
     go true is = let one = brings_one event in omega (arith, one)
     go false is = let none = brings_none event is in omega (arith, none)
 
--- the event's own update and what the edge says fit into the room that is asked for
+-- the accepted update and the own updates fit into the reserved room
 pub fits_room : (e : Edge) (event : Event) (result : Result Reply edges.Refusal) (e' : Edge) → Steps e event result e'
     → Changes e event result e'
     → length (brought event) + e'.routes.speaker.counter ≤ most_written event e.routes + e.routes.speaker.counter
@@ -130,7 +130,7 @@ still_table {e} {event} {result} {e'} journal h was =
     subst (IsTableOf (journal ++ (accepted event result ++ own_in h))) (sym h.table)
     (all_taken journal (accepted event result ++ own_in h) (table_of e) was)
 
--- ---- what was touched is there
+-- ---- the register of the mark exists
 
 announced_there : (v : Speaker) (rs : List Register) (u : Fields) → announced_of v rs ≡ Some u
     → value_at v.table u.register ≡ Some u.value

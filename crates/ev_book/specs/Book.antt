@@ -9,7 +9,7 @@ use Rattle.ev_book.specs.declared.mark.Mark.{Mark}
 use Rattle.ev_book.specs.declared.pass.Kept.{Kept}
 use Rattle.ev_book.specs.Mark.{HoldsAt, same_mark}
 
--- an edge, the updates that it took and made, and what is kept of each pass by its number
+-- an edge, the updates that it took and made, and the count and mark of each pass by its number
 pub record BookState : Type 0 where
   pub edge : Edge
   pub journal : List Fields
@@ -55,6 +55,6 @@ abbrev pub fits_kept : Option Kept → PassState → Bool
 fits_kept None p = false
 fits_kept (Some k) p = (k.count == p.count) && same_mark k.mark p.mark
 
--- what the book keeps of the pass is what the pass has
+-- the book's record of the pass is the pass's own count and mark
 abbrev pub fits : BookState → PassState → Bool
 fits b p = fits_kept (slice_get b.kept p.number) p

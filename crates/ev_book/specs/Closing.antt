@@ -23,6 +23,6 @@ count_in (c ∷ counts) number = if c.number == number then Some c.count else co
 abbrev pub AreNumbered : List PassState → Type 0
 AreNumbered passes = IsDistinct eqb (map (λ (p : PassState). p.number) passes)
 
--- of each pass its own count is told
+-- the own count of each pass
 abbrev pub TellsEach : List PassState → List Counted → Type 0
 TellsEach passes counts = (p : PassState) → Contains passes p → count_in counts p.number ≡ Some p.count

@@ -1,4 +1,4 @@
--- What a call of a book does to it and to the pass.
+-- The effect of a call on a book and on the pass.
 use Rattle.std.specs.Prelude.{◌≡◌, ℕ, ◌+◌, ◌^◌, ◌++◌, nat_le, Bool, true, false, Option, Some, None, Result, Ok, Err}
 use Rattle.std.specs.Prelude.{List, slice_set}
 use Rattle.route_wire.specs.Fields.{Fields}
@@ -18,7 +18,7 @@ use Rattle.ev_book.specs.Journal.{AreOwnSince, IsKept, IsFull}
 
 -- ---- answers
 
--- what a call answers that writes its reply where another one stood
+-- the answer of a call that overwrites another reply
 abbrev pub answered : Result (Unit {0}) BookRefusal → Reply → Result Reply BookRefusal
 answered (Ok done) reply = Ok reply
 answered (Err r) reply = Err r
@@ -39,7 +39,7 @@ touched (events.PortUp port) reply = None
 touched (events.PortDown port) reply = None
 touched (events.Mcheck port) reply = None
 
--- where it was refused, there is none
+-- a refused call has none
 abbrev pub touched_by : {R : Type 0} → Event → Result Reply R → Option Fields
 touched_by event (Ok reply) = touched event reply
 touched_by event (Err r) = None
@@ -53,7 +53,7 @@ mark_then m (Some u) = Some (mark_of u)
 abbrev pub called : PassState → Option Mark → PassState
 called p m = record { number = p.number; count = p.count + 1; mark = m }
 
--- ---- what an event can write
+-- ---- the updates that an event can write
 
 -- whether the edge may take or say an update at it: not at a frame from a tunnel, the end of a window or an
 -- announcement
@@ -82,16 +82,16 @@ pub record Grows (e : Edge) (us : List Fields) (event : Event) (result : Result 
   pub are_own : AreOwnSince e'.routes.speaker e.routes.speaker.counter own
   pub journal : us' ≡ us ++ (accepted event result ++ own)
 
--- The same behind what is left of the journal: all of it, or what the table has of it; not more than two updates for
--- each
--- register, and 64.
+-- The same after the rest of the journal: all of it, or the table's updates; at most two updates for each register, and
+-- 64.
 pub record Writes (e : Edge) (us : List Fields) (event : Event) (result : Result Reply edges.Refusal) (e' : Edge)
     (us' : List Fields) : Type 0 where
   pub left : List Fields
   pub kept : IsKept (table_of e) us left
   pub grows : Grows e left event result e' us'
 
--- It is written; or there was no room for what it may write, though the journal is as short as its table allows.
+-- It is written; or there was no room for the updates that it may write, though the journal is as short as its table
+-- allows.
 abbrev pub WritesOrNot : Edge → List Fields → Event → Result Reply BookRefusal → Edge → List Fields → Type 0
 WritesOrNot e journal event (Ok reply) e' journal' = Writes e journal event (Ok reply) e' journal'
 WritesOrNot e journal event (Err (OfEdge r)) e' journal' = Writes e journal event (Err r) e' journal'
@@ -100,9 +100,8 @@ WritesOrNot e journal event (Err NoRoom) e' journal' = (may_write event ≡ true
 WritesOrNot e journal event (Err PassStrange) e' journal' = ⊥
 WritesOrNot e journal event (Err PassSpent) e' journal' = ⊥
 
--- A call that isn't refused for its pass. It is counted, and the pass has the mark of what it took or announced; the
--- book
--- keeps both, and nothing else of any pass changes.
+-- A call that is not refused for its pass. It is counted, and the pass has the mark of the update that it took or
+-- announced; the book has both, and no other count or mark changes.
 pub record Enters (b : BookState) (p : PassState) (event : Event) (result : Result Reply BookRefusal) (b' : BookState)
     (p' : PassState) : Type 0 where
   pub writes : WritesOrNot b.edge b.journal event result b'.edge b'.journal
@@ -130,7 +129,7 @@ Calls true false b p event result b' p' = Enters b p event result b' p'
 abbrev pub CallsBook : BookState → PassState → Event → Result Reply BookRefusal → BookState → PassState → Type 0
 CallsBook b p event result b' p' = Calls (fits b p) (is_spent p) b p event result b' p'
 
--- how many calls an answer stands for
+-- the number of calls that an answer stands for
 abbrev pub calls_counted : Result Reply BookRefusal → ℕ
 calls_counted (Ok reply) = 1
 calls_counted (Err (OfEdge r)) = 1

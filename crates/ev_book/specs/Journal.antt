@@ -1,4 +1,4 @@
--- The journal of an edge: what is added to it, and its octets.
+-- The journal of an edge: its additions, and its octets.
 use Rattle.std.specs.Prelude.{◌≡◌, ◌⊎◌, ℕ, ◌+◌, ◌*◌, ◌≤◌, Some, List, slice_get, length, map, Contains, false}
 use Rattle.std.specs.Prelude.{Result, Ok}
 use Rattle.std.specs.List.{concat}
@@ -40,12 +40,12 @@ register_count t = length (all_updates t)
 abbrev pub IsLeft : Table → List Fields → List Fields → Type 0
 IsLeft t old new = (new ≡ old) ⊎ (new ≡ all_updates t)
 
--- What is left has at most two updates for each register, and 64 more.
+-- The rest has at most two updates for each register, and 64 more.
 pub record IsKept (t : Table) (old new : List Fields) : Type 0 where
   pub left : IsLeft t old new
   pub short : length new ≤ 2 * register_count t + 64
 
--- What is left has no more updates than registers, so nothing could be let go of.
+-- The rest has no more updates than registers, so nothing could be dropped.
 pub record IsFull (t : Table) (old new : List Fields) : Type 0 where
   pub left : IsLeft t old new
   pub least : length new ≡ register_count t

@@ -16,7 +16,7 @@ pub record Holds (t : Table) (m : Mark) : Type 0 where
   pub there : value_at t m.register ≡ Some value
   pub no_older : is_newer m.value value ≡ false
 
--- where there is a mark
+-- if there is a mark
 abbrev pub HoldsAt : Table → Option Mark → Type 0
 HoldsAt t None = Unit {0}
 HoldsAt t (Some m) = Holds t m

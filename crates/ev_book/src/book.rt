@@ -30,10 +30,10 @@ use std::sync::ledger::{Blank, Book as Sum, Ledger, Share};
 /// How many calls a pass can have.
 const SPENT: u64 = 1 << 55;
 
-/// An edge, the journal of the updates that it took and said, and what is kept of each pass.
+/// An edge, the journal of the updates that it took and made, and the count and mark of each pass.
 ///
-/// The table of the journal's updates is the edge's table, the table has what each pass took or
-/// announced last or a newer value of that register, and the counts together are those of all
+/// The table of the journal's updates is the edge's table. The table has the update that each pass
+/// took or announced last, or a newer value of that register. The counts together are those of all
 /// passes.
 #[derive(Drop)]
 pub struct Book<L: Ledger> {
@@ -98,7 +98,7 @@ impl<L: Ledger> Book<L> {
     ///
     /// # Errors
     ///
-    /// Where memory is refused.
+    /// `AllocError` if memory is refused.
     pub fn open(
         alloc: Global,
         blank: Blank,
@@ -146,7 +146,7 @@ impl<L: Ledger> Book<L> {
         &self.edge
     }
 
-    /// Whether what is kept of the pass is what the pass has.
+    /// Returns `true` if the book's count and mark of the pass are the pass's own.
     fn fits(&self, pass: &Pass<L>) -> bool
         ensures { result ≡ fits self.now pass.now }
     {
@@ -184,11 +184,11 @@ impl<L: Ledger> Book<L> {
     ///
     /// # Errors
     ///
-    /// `PassStrange` exactly where the pass isn't what the book keeps of it, else `PassSpent`
-    /// exactly at 2^55 calls: nothing changed then. `NoRoom` where the journal's room is refused to
-    /// an event that may write, though it has no more updates than the table registers, and `Edge`
-    /// as the edge refuses: then the call is counted, the journal may be compacted, and nothing
-    /// else changed.
+    /// `PassStrange` exactly if the pass's count or mark differs from the book's, else `PassSpent`
+    /// exactly at 2^55 calls: then nothing changed. `NoRoom` if the journal's room is refused to an
+    /// event that may write, though the journal has no more updates than the table has registers,
+    /// and `Edge` as the edge refuses: then the call is counted, the journal may be compacted, and
+    /// nothing else changed.
     pub fn enter(&mut self, pass: &mut Pass<L>, event: &Event<'_>) -> Result<Reply, BookRefusal>
         ensures calls { CallsBook self.old pass.old event.now result self.new pass.new }
         ensures number { pass.new.number ≡ pass.old.number }
@@ -201,9 +201,8 @@ impl<L: Ledger> Book<L> {
         }
     }
 
-    /// The same, with the reply written where another one stood: a caller that keeps one
-    /// place for replies spares the copies of a whole one. Of what stands there after a
-    /// refusal nothing is said.
+    /// Does the same and overwrites another reply: a caller that reuses one reply avoids copies of
+    /// a whole one. After a refusal the content of the reply is unspecified.
     ///
     /// # Errors
     ///
@@ -229,12 +228,12 @@ impl<L: Ledger> Book<L> {
         self.enter_counted(pass, event, reply)
     }
 
-    /// The owner of a MAC address in a network, as the table says now: it has what the pass took or
-    /// announced last, or a newer value of that register.
+    /// Returns the owner of a MAC address in a VNI, by the present table: it has the update that
+    /// the pass took or announced last, or a newer value of that register.
     ///
     /// # Errors
     ///
-    /// `PassStrange` exactly where the pass isn't what the book keeps of it.
+    /// `PassStrange` exactly if the pass's count or mark differs from the book's.
     pub fn look_owner(
         &self,
         pass: &Pass<L>,
@@ -265,8 +264,8 @@ impl<L: Ledger> Book<L> {
         self.journal.compact(self.edge.table());
     }
 
-    /// Writes the journal's updates in their order, each as its record. It takes no memory. What it
-    /// wrote is read again: a table that takes the records' updates has the edge's report.
+    /// Writes the journal's updates in their order, each as its record. It takes no memory. A table
+    /// that takes the records' updates has the edge's report.
     ///
     /// # Errors
     ///
@@ -283,8 +282,8 @@ impl<L: Ledger> Book<L> {
         put_records(self.journal.updates.as_slice(), out)
     }
 
-    /// Ends the book, with all its passes: its edge, and how many calls of each pass were counted.
-    /// These are the passes' own counts, and together they are what the book counted.
+    /// Ends the book, with all its passes. Returns its edge, and the number of counted calls of
+    /// each pass. These are the passes' own counts, and their sum is the book's count.
     pub fn close(self, passes: Vec<Pass<L>>) -> (Edge, Totals)
         requires all { vec_len passes ≡ L.parts }
         requires some { (0 < vec_len passes) × (vec_len passes ≤ 256) }

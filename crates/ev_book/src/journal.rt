@@ -1,6 +1,6 @@
 //! The journal of an edge: the updates that it took, and its own, in the order in which they came.
 //! It is compacted where it has grown to twice as many as the edge's table has registers.
-ghost use Rattle.std.specs.Prelude.{◌≡◌, ◌+◌, ◌*◌, ◌≤◌, ◌++◌, [], true, length, OnOk, OnErr, IfSome, vec_len, vec_capacity};
+ghost use Rattle.std.specs.Prelude.{◌≡◌, ◌+◌, ◌*◌, ◌<◌, ◌≤◌, ◌++◌, [], true, length, OnOk, OnErr, IfSome, vec_len, vec_capacity};
 ghost use Rattle.std.specs.Bool.{OnFalse};
 ghost use Rattle.route_wire.specs.Record.{Answers};
 ghost use Rattle.ether_wire.specs.Ends.{IsOpen, Puts};
@@ -70,8 +70,8 @@ fn append_taken(journal: &mut Vec<Update>, event: &Event<'_>, answer: &Result<()
     }
 }
 
-/// One event of the edge, whose reply is written where another one stood. What it took and said
-/// goes behind the journal, for which there is room.
+/// Performs one event of the edge and overwrites the reply. The updates that the edge took and made
+/// go to the end of the journal, which has room for them.
 fn step_within(
     edge: &mut Edge,
     journal: &mut Vec<Update>,
@@ -107,8 +107,8 @@ fn may_write(event: &Event<'_>) -> bool
     }
 }
 
-/// One event of the edge, whose reply is written where another one stood, with what it took and
-/// said behind what is left of the journal.
+/// Performs one event of the edge and overwrites the reply. The updates that the edge took and made
+/// go to the end of the rest of the journal.
 pub(crate) fn step(
     edge: &mut Edge,
     journal: &mut Journal,
@@ -180,7 +180,7 @@ impl Journal {
         came > SPARE && came - SPARE > self.least
     }
 
-    /// Compacts it where it is due. What it lets go of then is more than half of it.
+    /// Compacts the journal when it is due. It then drops more than half of its updates.
     fn keep_short(&mut self, table: &Table)
         requires table { IsTableOf self.old.updates.items table.now }
         requires least { self.old.least ≤ register_count table.now }
@@ -207,8 +207,8 @@ impl Journal {
         }
     }
 
-    /// Makes room for what an event of the edge can append; one that appends nothing asks for none.
-    /// Where memory for it is refused, the journal is compacted first, which may make room.
+    /// Makes room for the updates that an event of the edge can append; an event that appends none
+    /// needs none. If memory is refused, it compacts the journal first, which may make room.
     fn make_room(&mut self, edge: &Edge, event: &Event<'_>) -> Result<(), AllocError>
         requires table { IsTableOf self.old.updates.items (table_of edge.now) }
         requires least { self.old.least ≤ register_count (table_of edge.now) }
@@ -217,6 +217,8 @@ impl Journal {
         ensures writer { OnErr result (may_write event.now ≡ true) }
         ensures full { OnErr result (IsFull (table_of edge.now)
             self.old.updates.items self.new.updates.items) }
+        ensures missing { OnErr result (vec_capacity self.new.updates
+            < vec_len self.new.updates + most_written event.now edge.now.routes) }
         ensures table { IsTableOf self.new.updates.items (table_of edge.now) }
         ensures least { self.new.least ≤ register_count (table_of edge.now) }
         ensures room { OnOk result (vec_len self.new.updates

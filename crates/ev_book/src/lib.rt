@@ -1,5 +1,5 @@
-//! A book: one edge to be shared under a lock, with the journal of what it took and said, and an
-//! exact count of the calls of each of those who share it.
+//! A book: one edge that threads share under a lock, with the journal of the updates that it took
+//! and made, and an exact count of the calls of each pass.
 #![tactic(auto)]
 
 mod book;

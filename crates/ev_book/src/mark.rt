@@ -1,4 +1,4 @@
-//! Marks: what a book and a pass know of the pass's last update.
+//! Marks: the last update of a pass, as the book and the pass know it.
 ghost use Rattle.std.specs.Prelude.{◌≡◌};
 ghost use Rattle.ev_book.specs.Mark.{mark_of, is_same, same_mark};
 
@@ -9,7 +9,7 @@ use route_wire::{Register, Update, Value};
 pub struct Mark {
     /// The update's register.
     pub register: Register,
-    /// What it says of it, and when.
+    /// Its value.
     pub value: Value,
 }
 

@@ -1,4 +1,4 @@
-//! Passes: the right to call a book, and what the book keeps of each.
+//! Passes: the right to call a book, and the book's record of each.
 ghost use Rattle.std.specs.Prelude.{◌≡◌, ◌+◌, ◌<◌, ◌≤◌, length, replicate, vec_len, IfOk};
 ghost use Rattle.ev_book.specs.Book.{unused};
 ghost use Rattle.ev_book.specs.Opening.{opened_pass};
@@ -14,7 +14,7 @@ use std::sync::ledger::{Ledger, Share};
 /// How many passes a book has at most.
 pub(crate) const MOST: usize = 256;
 
-/// What a book keeps of a pass.
+/// A book's record of a pass.
 #[derive(Clone, Copy, Debug, PartialEq, Eq)]
 pub struct Kept {
     /// How many calls of it were counted.
@@ -24,7 +24,7 @@ pub struct Kept {
 }
 
 /// The right to enter a book, with the count of its calls and its mark. Its share of the book's
-/// ledger is that count: so nothing else can stand in for it.
+/// ledger is that count, so nothing else can stand in for it.
 #[derive(Drop)]
 pub struct Pass<L: Ledger> {
     pub(crate) number: usize,
@@ -93,7 +93,7 @@ fn repeated<T: Copy>(alloc: Global, value: T, count: usize) -> Result<Vec<T>, Al
     Ok(values)
 }
 
-/// What is kept of so many passes that have called nothing.
+/// Returns the records of this number of passes that have made no call.
 pub(crate) fn unused(alloc: Global, passes: usize) -> Result<Vec<Kept>, AllocError>
     ensures { IfOk result (λ kept. kept.items ≡ replicate passes unused) }
 {
@@ -172,7 +172,7 @@ impl Model for Totals {
 }
 
 impl Totals {
-    /// How many calls of the pass with this number were counted, if there was such a pass.
+    /// Returns the number of counted calls of the pass with this number, if there was such a pass.
     pub fn of(&self, number: usize) -> Option<u64>
         ensures { result ≡ count_in self.now number }
     {

@@ -7,7 +7,7 @@ use ev_edge::Refusal;
 /// Why a call of a book is refused.
 #[derive(Clone, Copy, Debug, PartialEq, Eq)]
 pub enum BookRefusal {
-    /// What the book keeps of the pass isn't what the pass has. The call isn't counted.
+    /// The pass's count or mark differs from the book's. The call is not counted.
     PassStrange,
     /// The pass has had as many calls as a pass can have, 2^55. The call isn't counted.
     PassSpent,

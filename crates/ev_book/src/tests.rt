@@ -129,7 +129,7 @@ fn said(n: u8, vni: Vni, counter: u64, sequence: u32) -> Update
     Update::new(register, value)
 }
 
-// What the table makes of an update, if it isn't refused.
+// The table's answer to an update, if it is not refused.
 fn take<L: Ledger>(book: &mut Book<L>, pass: &mut Pass<L>, update: Update) -> Option<Taken> {
     match book.enter(pass, &Event::Take(update)) {
         Ok(reply) => reply.taken,

@@ -7,7 +7,7 @@ use Rattle.mac_arena.specs.Learning.{Learning, entry_at}
 use Rattle.mac_arena.specs.Laws.{is_due, due_among}
 use Rattle.ev_claims.specs.Leaving.{due_in}
 
--- ---- what the front of the ageing list says
+-- ---- the first station of the ageing list
 pub front_none : (t : Learning) (limit : ℕ) → None ≡ slice_get t.ageing 0 → None ≡ slice_get (due_in t limit) 0
 front_none t limit e = go t.ageing e
   where

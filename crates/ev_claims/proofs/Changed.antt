@@ -160,7 +160,7 @@ flushed_stands t lists a (p ∷ ps) s climbs =
     both true a b = refl
     both false a b = refl
 
--- an entry is behind one port alone
+-- an entry is at only one port
 not_later : (o : Option Entry) (p a : ℕ) (ps : List ℕ) → is_on o p ≡ true → p ≤ a → Climbs a ps → on_any ps o ≡ false
 not_later o p a [] on low climbs = refl
 not_later None p a (q ∷ ps) on low climbs = cc

@@ -22,7 +22,7 @@ use Rattle.ev_claims.specs.Leaving.{flushed_at}
 use Rattle.ev_claims.specs.Inner.Leaving.{AreKept}
 use Rattle.ev_claims.proofs.Learnt.{removal_there}
 
--- ---- a station that doesn't stand on a list has no part in it
+-- ---- a station that is not on a list has no part in it
 left_absent : (s : Station) (xs : List Station) → stands xs s ≡ false → left s xs ≡ xs
 left_absent s [] h = refl
 left_absent s (x ∷ xs) h = let off = or_parts (is_same x s) (stands xs s) h in
@@ -37,8 +37,7 @@ unpinned_stays t s (x ∷ xs) h =
     λ i. cond (is_pinned (removal_there t s x (λ same. false≢true (sym off.0 ∙ eq_same x s same)) i)) (rest i)
     (x ∷ rest i)
 
--- ---- the stations of a port
--- what the first unpinned station behind a port is, and what is left once it goes
+-- ---- the stations of a port: the first unpinned one, and the rest after its removal
 pub record IsFirst (t : Learning) (port : ℕ) (s : Station) : Type 0 where
   pub goes : GoesFirst (λ u. unpinned_on u port) t s
   pub others : AreKept t (gone t s) port

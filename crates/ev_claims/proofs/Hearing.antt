@@ -1,4 +1,4 @@
--- what an own update of an earlier incarnation does to what an edge says
+-- the effect of an own update of an earlier incarnation on an edge's own registers
 use Rattle.std.proofs.Common.{◌≡◌, ◌≢◌, inl, inr, ℕ, zero, suc, ◌+◌, ◌≤◌, ◌<◌, Bool, true, false, cond, nat_lt, eqb}
 use Rattle.std.proofs.Common.{Option, Some, None, List, [], ◌∷◌, Result, Ok, Err, drop, refl, sym, ap, subst, ◌∙◌}
 use Rattle.std.proofs.Common.{arith}
@@ -43,7 +43,7 @@ IsNoneBefore e known n places = (j : ℕ) (r : Register) → j < places → slic
 
 -- ---- an own update of an earlier incarnation
 
--- a register whose newest update is of an earlier incarnation says nothing of this one
+-- a register whose newest update is of an earlier incarnation has no update of this one
 pub not_present : (e : Speaker) (u : Fields) (v : Value) → is_newest e u ≡ true → u.value.incarnation < e.incarnation
     → value_at e.table u.register ≡ Some v → v.incarnation ≢ e.incarnation
 not_present e u v newest past at present =
@@ -83,7 +83,7 @@ pub elsewhere : (e : Speaker) (u : Fields) (k : Key) → k ≢ u.register.key �
 elsewhere e u k ne = update_other e.table u.register u.value (own_register e k)
     (λ same. ne (ap (λ (r : Register). r.key) same))
 
--- ---- what is said of each key stays
+-- ---- the present update of each key stays
 
 pub unheard : (e : Speaker) (u : Fields) → is_newest e u ≡ false → after_importing e u ≡ e
 unheard e u known = λ i. record e { table = cond (known i) (with_value e.table u.register u.value) e.table }
@@ -289,7 +289,7 @@ pub somebody_first : (rs : List Register) (r : Register) → Some r ≡ slice_ge
 somebody_first [] r e = cc
 somebody_first (x ∷ rs) r e = (0, omega arith, let same : r ≡ x = cc in sym same)
 
--- what is announced is there
+-- an announced register exists
 pub announced_there : (e : Speaker) (r : Register) (o : Option Fields) (P : Type 0) → KeepsNumbers e
     → Some r ≡ slice_get e.pending 0 → o ≡ update_at e.table r → IfNone o P
 announced_there e r None P h first is =
@@ -298,7 +298,7 @@ announced_there e r None P h first is =
     ∙ ap (option_map (λ (v : Value). let u : Fields = record { register = r; value = v } in u)) p.1 in cc)
 announced_there e r (Some u) P h first is = tt
 
--- ---- nothing is said yet
+-- ---- no update yet
 
 listed : (os : List ℕ) (a : ℕ) → Contains os a → list_any (λ x. eqb x a) os ≡ true
 listed [] a (k, less, is) = absurd (omega (arith, less))

@@ -1,4 +1,4 @@
--- that what is learnt and what is said go on naming each other, whatever is learnt, said and heard
+-- stations and own registers keep matching each other at every change
 use Rattle.std.proofs.Common.{◌≡◌, ◌≢◌, inl, inr, ℕ, ◌+◌, ◌-◌, ◌≤◌, ◌<◌, ◌^◌, Bool, true, false, Option, Some, None}
 use Rattle.std.proofs.Common.{Result, Ok, Err, length, refl, sym, ap, subst, ◌∙◌, arith}
 use Rattle.std.specs.Prelude.{IsSome, OnOk, OnErr, ◌↔◌, ◌&&◌, nat_le}
@@ -67,7 +67,7 @@ spoken_routes e v h same left = record {
 key_apart : (r s : Station) → r ≢ s → key_of r ≢ key_of s
 key_apart r s ne e = ne (same_station r s e)
 
--- the station has this entry, and is advertised as the entry says; nothing else is advertised anew
+-- the station has this entry, and is advertised with it; no other advert is new
 pub record Enters (e : LocalRoutes) (t : Learning) (v : Speaker) (s : Station) (x : Entry) : Type 0 where
   pub sets : Sets e.learned t s x
   pub port : vni_at e.ports x.port ≡ Some s.vni

@@ -1,4 +1,4 @@
--- what each change of the learning table leaves: its entries, how many they are, and how many places, ports there are
+-- the learning table after each change: its entries, their number, and the number of places and ports
 use Rattle.std.proofs.Common.{◌≡◌, ◌≢◌, ℕ, zero, suc, ◌+◌, ◌-◌, ◌≤◌, ◌<◌, Bool, true, false, cond, eqb, Option, Some}
 use Rattle.std.proofs.Common.{None, length, map, refl, sym, ap, subst, ◌∙◌, arith}
 use Rattle.std.specs.Option.{is_some}

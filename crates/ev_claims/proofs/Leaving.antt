@@ -23,7 +23,7 @@ pub record Leaves (e e' : LocalRoutes) : Type 0 where
   pub once : AreOnce stations
   pub few : length stations ≤ entries e
 
--- what a test finds is there
+-- a station that a test finds is there
 known_by : (test : Option Entry → Bool) (o : Option Entry) → test None ≡ false → test o ≡ true → IsSome o
 known_by test None none h = cc
 known_by test (Some x) none h = refl

@@ -1,4 +1,4 @@
--- The lists of a learning table name what is left once stations are gone.
+-- The lists of a learning table name the remaining stations after removals.
 use Rattle.std.proofs.Common.{◌≡◌, inl, inr, ℕ, zero, suc, ◌<◌, true, false, Option, Some, None, List, [], ◌∷◌, length}
 use Rattle.std.proofs.Common.{refl, sym, ap, subst, ◌∙◌, arith}
 use Rattle.std.specs.Prelude.{is_some}
@@ -29,7 +29,7 @@ based e h s x at = go x.port (h.ports s x at)
 pub named : (e : LocalRoutes) → KeepsRoutes e → ListsName e.learned → AreNamed e.learned
 named e h lists = record { lists = lists; based = based e h }
 
--- who is known stands in a bucket
+-- a known station is in a bucket
 some_bucket : (t : Learning) (s : Station) → ListsName t → is_some (entry_at t s) ≡ true → 0 < length t.chains
 some_bucket t s lists known = go t.chains refl
   where

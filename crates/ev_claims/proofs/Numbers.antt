@@ -1,4 +1,4 @@
--- what the own registers keep when the edge says or hears something
+-- the invariant of own registers when the edge makes or takes an update
 use Rattle.std.proofs.Common.{◌≡◌, ◌≢◌, ◌⊎◌, inl, inr, ℕ, ◌≤◌, Bool, true, false, cond, Option, Some, None, List}
 use Rattle.std.proofs.Common.{[], ◌∷◌, ◌++◌, refl, sym, ap, subst, ◌∙◌, arith}
 use Rattle.std.proofs.lemmas.List.Elements.{Contains-push_cases}
@@ -110,7 +110,7 @@ said_numbers e k c h = record {
     before : (j : Key) (v : Value) → j ≢ k → own (after_originating e k c) j ≡ Some v → own e j ≡ Some v
     before j v ne is = sym (own_other e k c j ne) ∙ is
 
--- what is said next is news
+-- the next own update is news
 pub said_is_news : (e : Speaker) (k : Key) (c : Content) → KeepsNumbers e → is_news (own e k) (next_value e c) ≡ true
 said_is_news e k c h = go (own e k) refl
   where

@@ -1,4 +1,4 @@
--- what is kept once the flood lists are said
+-- the invariant after the flood lists are advertised
 use Rattle.std.proofs.Common.{◌≡◌, ◌≢◌, ◌⊎◌, inl, inr, ℕ, zero, suc, ◌+◌, ◌≤◌, ◌<◌, Some, None, List, [], ◌∷◌, length}
 use Rattle.std.proofs.Common.{get_or, refl, sym, ap, subst, ◌∙◌, arith}
 use Rattle.std.specs.Prelude.{IsSome, Contains, ◌↔◌}
@@ -65,7 +65,7 @@ floods_more e w ws v rest = (
         (own_advert (after_originating e (Flood w) (Advertised flood_advert)) (Flood x))) is (said_there e w)))
     among (suc k) less is = rest.1 (inr (k, omega (arith, less), is))
 
--- a flood list is advertised where it was, or is said
+-- a flood list was advertised before, or is advertised now
 pub floods_are : (e : Speaker) (vs : List ℕ) (v : ℕ) → IsSome (own_advert (after_floods e vs) (Flood v))
     ↔ (IsSome (own_advert e (Flood v)) ⊎ Contains vs v)
 floods_are e [] v = (

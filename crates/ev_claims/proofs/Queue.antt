@@ -54,7 +54,7 @@ same_names rs r [] h = refl
 same_names rs r (x ∷ xs) h = λ i. get_or_append_left rs (r ∷ []) no_register x (h x (has_first x xs)) i
     ∷ same_names rs r xs (λ n t. h n (or_right (eqb x n) (has xs n) t)) i
 
--- does the register wait: does its node stand on the list
+-- true if the register is pending: its node is on the list
 waits_by : (rs : List Register) (r : Register) (node : ℕ) (xs : List ℕ)
     → ((m : ℕ) → has xs m ≡ true → eq_by_cmp register_cmp r (register_at rs m) ≡ (m == node))
     → list_any (eq_by_cmp register_cmp r) (map (register_at rs) xs) ≡ has xs node

@@ -17,7 +17,7 @@ use Rattle.ev_claims.specs.Speaker.{Speaker, own_register, own_advert, next_valu
 use Rattle.ev_claims.specs.Inner.Speaker.{IsSpeaker}
 use Rattle.ev_claims.proofs.Numbers.{said_numbers, said_rooms, said_joins, heard_numbers, heard_rooms}
 
--- what a look-up of a register gave
+-- the result of a look-up of a register
 pub record IsThere (t : Table) (r : Register) (last : Fields) : Type 0 where
   pub value : Value
   pub at : value_at t r ≡ Some value

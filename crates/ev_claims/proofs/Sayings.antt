@@ -1,4 +1,4 @@
--- What is said, one thing after the other, and no key twice.
+-- A list of own updates, no key twice.
 use Rattle.std.proofs.Common.{◌≡◌, ◌≢◌, inl, inr, ℕ, zero, suc, ◌+◌, ◌≤◌, true, false, cond, Option, Some, None}
 use Rattle.std.proofs.Common.{List, [], ◌∷◌, length, refl, sym, ap, subst, ◌∙◌, arith}
 use Rattle.std.specs.Prelude.{Contains, IsSome, slice_get, eqb}
@@ -36,7 +36,7 @@ use Rattle.ev_claims.proofs.Learnt.{same_station, size_gone, removal_there}
 use Rattle.ev_claims.proofs.Keeping.{known_entry}
 use Rattle.ev_claims.proofs.Changed.{nothing_changes, more_changes}
 
--- ---- what the next number is newer than
+-- ---- the values that are older than the next number
 
 -- no own value is of a later incarnation, nor of this one with a number above the counter
 pub record IsBehind (e : Speaker) : Type 0 where
@@ -69,7 +69,7 @@ heard_behind e u other h = record {
   counted = λ k v is present. h.counted k v (sym (own_stays e u other k) ∙ is) present;
 }
 
--- so what is said next is taken by the table
+-- so the table takes the next own update
 joined : (e : Speaker) (k : Key) (c : Content) → IsBehind e
     → with_update e.table (record { register = own_register e k; value = next_value e c })
     ≡ (after_originating e k c).table
@@ -96,7 +96,7 @@ said_count : (e : Speaker) (ss : List (Key × Content)) → length (said_updates
 said_count e [] = refl
 said_count e (s ∷ ss) = ap suc (said_count (after_originating e s.0 s.1) ss)
 
--- a register of which something is said is that of one of the keys
+-- a register with one of these updates belongs to one of the keys
 said_of : (e : Speaker) (ss : List (Key × Content)) (r : Register) → Contains (registers_in (said_updates e ss)) r
     → (i : ℕ) × (t : Key × Content) × (slice_get ss i ≡ Some t) × (own_register e t.0 ≡ r)
 said_of e [] r (k, less, is) = absurd (omega (arith, less))
@@ -148,7 +148,7 @@ sayings_foreign e [] r ne = refl
 sayings_foreign e (s ∷ ss) r ne = sayings_foreign (after_originating e s.0 s.1) ss r ne
     ∙ at_other e.table (own_register e s.0) (next_value e s.1) r (λ same. ne (ap (λ (q : Register). q.originator) same))
 
--- whoever says these things, says them and no other
+-- an edge that makes these updates makes them and no other
 pub says : (e new : Speaker) (ss : List (Key × Content)) → new ≡ after_originations e ss → AreApart ss → IsBehind e
     → Says e new ss
 says e new ss is apart h = subst (λ v. Says e v ss) (sym is) (record {

@@ -24,8 +24,8 @@ pub record IsNumbered (e : Speaker) (r : Register) (n : ℕ) : Type 0 where
   pub number : value.counter ≡ n
 
 -- The edge changes these own registers, in the order of their numbers, and no other one. They take the numbers after
--- the counter without a gap, and the last is the new counter. What is pending afterwards is what was pending, then
--- those of them that weren't.
+-- the counter without a gap, and the last is the new counter. Pending afterwards are the registers that were pending,
+-- then those of these that were not.
 pub record OwnChanges (old new : Speaker) (changed : List Register) : Type 0 where
   pub address : new.address ≡ old.address
   pub incarnation : new.incarnation ≡ old.incarnation
@@ -40,7 +40,7 @@ pub record OwnChanges (old new : Speaker) (changed : List Register) : Type 0 whe
 abbrev pub registers_of : Speaker → List Station → List Register
 registers_of e ss = map (λ s. own_register e (key_of s)) ss
 
--- ---- what is said, one thing after the other
+-- ---- own updates, one after the other
 
 -- the registers of updates
 abbrev pub registers_in : List Fields → List Register
@@ -51,7 +51,7 @@ abbrev pub after_originations : Speaker → List (Key × Content) → Speaker
 after_originations e [] = e
 after_originations e (s ∷ ss) = after_originations (after_originating e s.0 s.1) ss
 
--- what is said so, as updates with the numbers after the counter
+-- these as updates with the numbers after the counter
 abbrev pub said_updates : Speaker → List (Key × Content) → List Fields
 said_updates e [] = []
 said_updates e (s ∷ ss) = record { register = own_register e s.0; value = next_value e s.1 }

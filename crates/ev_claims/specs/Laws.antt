@@ -1,4 +1,4 @@
--- What goes is said by a test on each entry, and what is said of it by numbers.
+-- The removed stations by a test on each entry, and their withdrawals by numbers.
 use Rattle.std.specs.Prelude.{◌≡◌, ℕ, None, if◌then◌else◌}
 use Rattle.mac_arena.specs.declared.station.Station.{Station}
 use Rattle.mac_arena.specs.Learning.{entry_at}

@@ -19,7 +19,7 @@ after_ageing e limit = after_removals e (due_in e.learned limit)
 
 -- ---- by port
 
--- those behind these ports, one port after the other
+-- those at these ports, one port after the other
 abbrev pub flushed_at : Learning → List ℕ → List Station
 flushed_at t [] = []
 flushed_at t (port ∷ ports) = unpinned_on t port ++ flushed_at t ports

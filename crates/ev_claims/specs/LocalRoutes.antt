@@ -1,4 +1,5 @@
--- What an edge originates and has learnt: that each names the other, and what each event does to both.
+-- The routes that an edge originates and the stations that it has learnt: they match each other, and each event changes
+-- both.
 use Rattle.std.specs.Prelude.{◌≡◌, ℕ, zero, suc, ◌+◌, ◌≤◌, ◌^◌, ◌↔◌, Bool, true, false, Option, Some, None, IsSome}
 use Rattle.std.specs.Prelude.{List, [], ◌∷◌, Contains, slice_get, length, if◌then◌else◌}
 use Rattle.std.specs.Option.{option_map}
@@ -53,10 +54,10 @@ vni_at ports (suc l) = slice_get ports l
 abbrev pub is_member : List ℕ → ℕ → ℕ → Bool
 is_member ports vni port = is_at (vni_at ports port) vni
 
--- What the learning map and the own registers say of each other: the stations that are learnt are those that the edge
--- advertises, and the pinned ones those that it advertises as static; none is advertised with an IP address; each
--- station is behind a port of its VNI; the flood lists that the edge is on are those of its VNIs. The learning map
--- fits, and the counter leaves a number below 2^64 for each withdrawal that may come.
+-- The learning map and the own registers match: the learnt stations are those that the edge advertises, and the pinned
+-- ones those that it advertises as static; none is advertised with an IP address; each station is at a port of its VNI;
+-- the edge is on the flood lists of exactly its VNIs. The learning map fits, and the counter leaves a number below 2^64
+-- for each withdrawal that may come.
 pub record KeepsRoutes (e : LocalRoutes) : Type 0 where
   pub kinds : (s : Station) → option_map (λ (x : Entry). x.pinned) (entry_at e.learned s)
       ≡ option_map (λ (a : Advert). a.is_static) (own_advert e.speaker (key_of s))
@@ -92,7 +93,7 @@ after_advert e s port second n = record e {
   speaker = after_originating e.speaker (key_of s) (moving n);
 }
 
--- a station that is learnt is heard again, on the same port or on another; nothing is said
+-- a learnt station sends again, on the same port or on another; no update is made
 abbrev pub after_refresh : LocalRoutes → Station → ℕ → ℕ → LocalRoutes
 after_refresh e s port second = record e { learned = after_learn e.learned s port second (learnt_of e.learned s port) }
 
@@ -104,7 +105,7 @@ after_pin e s port = record e {
       fixed;
 }
 
--- a station that is pinned already is pinned on another port; nothing is said
+-- a pinned station is pinned on another port; no update is made
 abbrev pub after_shift : LocalRoutes → Station → ℕ → LocalRoutes
 after_shift e s port = record e { learned = pinned_on e.learned s port }
 

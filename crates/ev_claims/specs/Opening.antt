@@ -1,4 +1,4 @@
--- What an edge originates and has learnt when it is opened.
+-- The routes and stations of an edge at its opening.
 use Rattle.std.specs.Prelude.{◌≡◌, ℕ, List, [], ◌∷◌, length, map, IsPermutation, IsSorted}
 use Rattle.std.specs.Ordering.{nat_cmp}
 use Rattle.route_wire.specs.declared.update.Key.{Key}
@@ -26,7 +26,7 @@ pub record IsOpening (s : Start) (e : LocalRoutes) : Type 0 where
   pub learned : e.learned ≡ nothing_learnt s.capacity (length s.ports.items) s.buckets s.salt
   pub ports : e.ports ≡ s.ports.items
 
--- the flood lists as what is said
+-- the flood lists as own updates
 abbrev pub floods_of : List ℕ → List (Key × Content)
 floods_of vs = map (λ v. (Flood v, Advertised flood_advert)) vs
 

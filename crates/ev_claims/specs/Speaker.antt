@@ -1,4 +1,4 @@
--- What an edge originates: its own registers in its table, their numbers, and what is still to be announced.
+-- A speaker: the own registers in its table, their numbers, and the pending ones.
 use Rattle.std.specs.Prelude.{◌≡◌, ℕ, ◌+◌, ◌^◌, ◌≤◌, ◌==◌, ◌&&◌, Bool, true, false, not, nat_le, nat_lt, Option, Some}
 use Rattle.std.specs.Prelude.{None, IsSome, is_some, List, [], ◌∷◌, Contains, drop, if◌then◌else◌}
 use Rattle.std.specs.FinMap.{empty}
@@ -14,8 +14,8 @@ use Rattle.route_join.specs.Table.{Table, value_at, update_at, register_of, is_l
 use Rattle.route_join.specs.Owner.{advert_in, advert_at, owner}
 use Rattle.ev_claims.specs.Pending.{marked}
 
--- Which incarnation of its originator the edge leads, and how many numbers it has given in it; its registers stand in
--- the table among those of others. The pending registers are those that are still to be announced, the first one first.
+-- The incarnation of the edge, and how many numbers it has given in it; its registers are in the table among those of
+-- others. The pending registers are those that are still to be announced, the first one first.
 pub record Speaker : Type 0 where
   pub address : ℕ
   pub incarnation : ℕ
@@ -36,7 +36,7 @@ own_advert e k = advert_at e.table e.address k
 abbrev pub IsPresent : Speaker → Value → Type 0
 IsPresent e v = v.incarnation ≡ e.incarnation
 
--- something was said of the key in this incarnation, as a value that is still its register's
+-- an update of the key was made in this incarnation, and its value is still its register's
 abbrev pub originated_in : ℕ → Option Value → Bool
 originated_in incarnation None = false
 originated_in incarnation (Some v) = v.incarnation == incarnation
@@ -44,8 +44,8 @@ originated_in incarnation (Some v) = v.incarnation == incarnation
 abbrev pub is_originated : Speaker → Key → Bool
 is_originated e k = originated_in e.incarnation (own e k)
 
--- The own registers of this incarnation have numbers up to the counter, each its own; none is of a later incarnation,
--- and one that advertises is of this one. The edge listens to itself. What is pending is an own register of this
+-- The own registers of this incarnation have different numbers up to the counter; none is of a later incarnation, and
+-- one that advertises is of this one. The edge lists itself. Each pending register is an own register of this
 -- incarnation.
 pub record KeepsNumbers (e : Speaker) : Type 0 where
   pub counted : (k : Key) (v : Value) → own e k ≡ Some v → IsPresent e v → v.counter ≤ e.counter
@@ -67,7 +67,7 @@ is_beaten e v m = is_some (own_advert e (Mac v m None)) && not (is_at (owner e.t
 
 -- ---- saying
 
--- the value that is said next
+-- the value of the next own update
 abbrev pub next_value : Speaker → Content → Value
 next_value e c = record { incarnation = e.incarnation; counter = e.counter + 1; content = c }
 
@@ -79,7 +79,7 @@ after_originating e k c = record e {
   pending = marked e.pending (own_register e k);
 }
 
--- nothing is said yet, in this incarnation
+-- no update has been made in this incarnation
 abbrev pub silent : ℕ → ℕ → List ℕ → Speaker
 silent address incarnation originators = record {
   address = address;

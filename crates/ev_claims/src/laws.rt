@@ -1,5 +1,4 @@
-//! What goes by age or by a flush, and what an opening says, as functions that do nothing: the
-//! contract is the law.
+//! Laws on ageing, flushes and the opening, as functions that do nothing: the contract is the law.
 ghost use Rattle.std.specs.Prelude.{eqb};
 ghost use Rattle.std.specs.List.{IsDistinct};
 ghost use Rattle.ev_claims.specs.Laws.{AgesOut, FlushesOut};
@@ -24,8 +23,8 @@ pub fn flushed_out(routes: &LocalRoutes, ports: u64)
     routes.always_good();
 }
 
-/// The opening is a change like any other: from nothing said and counter 0, the flood list of each
-/// VNI is said, each once.
+/// The opening is a change like any other: from no update and counter 0, the edge advertises the
+/// flood list of each VNI, each once.
 pub fn opening_originates(start: &Start, routes: &LocalRoutes)
     requires distinct { IsDistinct eqb start.now.vnis.items }
     requires opening { IsOpening start.now routes.now }

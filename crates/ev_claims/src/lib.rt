@@ -1,5 +1,5 @@
-//! What an edge originates and has learnt: its own routes with their numbers, the stations behind
-//! its ports, and that each names the other.
+//! The routes that an edge originates with their numbers, and the stations at its ports. They match
+//! each other.
 #![tactic(auto)]
 
 mod laws;

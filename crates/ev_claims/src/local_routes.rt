@@ -1,5 +1,5 @@
-//! What an edge originates and has learnt, and each change of it: a station is advertised
-//! exactly while it is learnt.
+//! The routes that an edge originates, the stations that it has learnt, and each change of them: a
+//! station is advertised exactly while it is learnt.
 ghost use Rattle.std.specs.Prelude.{◌≡◌, ◌≢◌, ◌⊎◌, ◌+◌, ◌<◌, ◌≤◌, ◌^◌, ◌↔◌, ℕ, [], true, false, IfOk, IfSome, IfNone, IsSome, is_some, length, slice_get, IsOk, OnOk, OnErr, Err, Some, None, Contains};
 ghost use Rattle.ether_wire.specs.Addr.{is_group};
 ghost use Rattle.route_join.specs.Table.{AreOriginators, value_at, is_listed};
@@ -23,14 +23,14 @@ use route_wire::{Advert, Content, Ip, Key, Update};
 use std::alloc::{AllocError, Global};
 use std::marker::Model;
 
-/// So many of the latest own updates are found at once by their numbers, beside one for each
-/// station that may be learnt: an event says no more.
+/// This number of the latest own updates are found at once by their numbers, beside one for each
+/// station that may be learnt: an event makes no more.
 const LATEST: usize = 64;
 
-/// What an edge says and what it has learnt on its ports.
+/// The own routes of an edge and the stations that it has learnt on its ports.
 ///
-/// It advertises exactly the stations that it has learnt, as static exactly those that are pinned,
-/// and the flood lists of exactly its VNIs. Each change of what it says takes the next number, and
+/// The edge advertises exactly the stations that it has learnt, exactly the pinned ones as static,
+/// and the flood lists of exactly its VNIs. Each change of an own route takes the next number, and
 /// is pending until it is announced.
 #[derive(Drop)]
 pub struct LocalRoutes {
@@ -55,17 +55,17 @@ impl Model for LocalRoutes {
         c.vnis.items) };
 }
 
-/// What came of another edge's update.
+/// The result of another edge's update.
 #[derive(Clone, Copy, Debug, PartialEq, Eq)]
 pub struct Imported {
-    /// What the table made of it.
+    /// The table's answer.
     pub taken: Taken,
     /// Whether it took a pinned station from the edge.
     pub lost_pinned: bool,
 }
 
 impl LocalRoutes {
-    /// An edge that has imported and learnt nothing. It says that it is on the flood list of each
+    /// Returns an edge that has imported and learnt nothing. It advertises the flood list of each
     /// of its VNIs, the lowest first.
     pub fn open(alloc: Global, start: Start) -> Result<Self, AllocError>
         requires originators { AreOriginators start.originators.items }
@@ -96,8 +96,8 @@ impl LocalRoutes {
         })
     }
 
-    /// A law, which does nothing: what is said and what is learnt name each other, the numbers are
-    /// kept, and the lists of the learning table name what is learnt.
+    /// A law, which does nothing: own routes and stations match each other, the numbers are
+    /// consistent, and the lists of the learning table name the stations.
     pub fn always_good(&self)
         ensures { AreGood self.now }
     {
@@ -119,7 +119,7 @@ impl LocalRoutes {
         self.speaker.incarnation()
     }
 
-    /// What the edge has imported and originated.
+    /// Returns the imported and originated routes.
     pub fn table(&self) -> &Table
         ensures { result.now ≡ self.now.speaker.table }
     {
@@ -155,7 +155,7 @@ impl LocalRoutes {
         self.learned.is_full()
     }
 
-    /// What is learnt of a station.
+    /// Returns the entry of a station.
     pub fn look(&self, station: &Station) -> Option<Entry>
         ensures { result ≡ entry_at self.now.learned station.now }
     {
@@ -176,7 +176,7 @@ impl LocalRoutes {
         self.vnis.as_slice()
     }
 
-    /// The VNI of a port, if there is such a port.
+    /// Returns the VNI of a port, if there is this port.
     pub fn vni_of(&self, port: u8) -> Option<Vni>
         ensures { result ≡ vni_at self.now.ports port }
     {
@@ -211,8 +211,8 @@ impl LocalRoutes {
     ///
     /// # Errors
     ///
-    /// Where nothing was said of the station in this incarnation, and memory is refused. Nothing
-    /// changed then.
+    /// `AllocError` if the edge has made no update of the station in this incarnation, and memory is
+    /// refused. Then nothing has changed.
     pub fn advertise(
         &mut self,
         station: &Station,
@@ -242,8 +242,8 @@ impl LocalRoutes {
         Ok(())
     }
 
-    /// A station that is learnt and not pinned is heard on a port of its VNI, the same or another
-    /// one, at a second that isn't below an earlier one. Nothing is said, and it takes no memory.
+    /// Notes a frame of a learnt, unpinned station on a port of its VNI, the same or another one,
+    /// at a second that is not below an earlier one. No update is made, and it takes no memory.
     pub fn refresh(&mut self, station: &Station, port: u8, second: u64)
         requires port { vni_at self.old.ports port ≡ Some station.now.vni }
         requires there { IsSome (entry_at self.old.learned station.now) }
@@ -259,8 +259,8 @@ impl LocalRoutes {
     ///
     /// # Errors
     ///
-    /// Where nothing was said of the station in this incarnation, and memory is refused. Nothing
-    /// changed then.
+    /// `AllocError` if the edge has made no update of the station in this incarnation, and memory is
+    /// refused. Then nothing has changed.
     pub fn pin(&mut self, station: &Station, port: u8) -> Result<(), AllocError>
         requires individual { is_group station.now.mac ≡ false }
         requires port { vni_at self.old.ports port ≡ Some station.now.vni }
@@ -282,8 +282,7 @@ impl LocalRoutes {
         Ok(())
     }
 
-    /// Pins a station that is pinned already on another port of its VNI. Nothing is said,
-    /// and it takes no memory.
+    /// Pins a pinned station on another port of its VNI. No update is made, and it takes no memory.
     pub fn shift(&mut self, station: &Station, port: u8)
         requires port { vni_at self.old.ports port ≡ Some station.now.vni }
         requires pinned { is_pinned (entry_at self.old.learned station.now) ≡ true }
@@ -377,7 +376,7 @@ impl LocalRoutes {
         self.speaker.announce()
     }
 
-    /// Takes another edge's update into the table alone.
+    /// Takes another edge's update into the table only.
     fn learn_of(&mut self, update: &Update) -> Result<Taken, TakeError>
         requires { update.now.register.originator ≢ self.old.speaker.address }
         ensures taken { IfOk result (λ taken. taken ≡ taken_of self.old.speaker.table update.now) }
@@ -391,9 +390,9 @@ impl LocalRoutes {
         self.speaker.import(update)
     }
 
-    /// Takes a station out and withdraws it, where the edge advertises it and isn't its
-    /// owner. Tells whether it was pinned. The edge advertises what it has learnt: the table
-    /// is asked for nothing else.
+    /// Removes and withdraws a station if the edge advertises it and is not its owner. Returns
+    /// whether it was pinned. The edge advertises exactly the stations that it has learnt, so this
+    /// reads nothing else from the table.
     fn lose(&mut self, station: &Station) -> bool
         ensures lost { result ≡ is_pinned (lost_at self.old station.now) }
         ensures after { self.new ≡ after_losing_at self.old station.now }

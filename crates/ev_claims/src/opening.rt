@@ -1,8 +1,8 @@
-//! What an edge is opened with.
+//! The configuration of an edge at its opening.
 use arrayvec::ArrayVec;
 use ether_wire::{Addr, Vni};
 
-/// What an edge is opened with.
+/// The configuration of an edge at its opening.
 #[derive(Drop)]
 pub struct Start {
     /// The address under which the edge speaks. It is one of the originators.

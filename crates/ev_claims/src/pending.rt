@@ -9,9 +9,9 @@ use std::alloc::{AllocError, Global};
 use std::collections::HashMap;
 use std::marker::Model;
 
-/// The registers that an edge says something of, each with a node of one linked list: those that
-/// are still to be announced stand on it. Beside it a ring tells at once which register was marked
-/// under a number of late: it is a guess, since later numbers take its places.
+/// The registers of an edge's own updates, each with a node of one linked list, which has the
+/// pending ones. Beside it a ring finds the register of a recent number at once: it is a guess,
+/// since later numbers overwrite its places.
 #[derive(Drop)]
 pub struct Pending {
     links: Family<1>,
@@ -51,8 +51,8 @@ impl Pending {
         })
     }
 
-    /// Gives a register a node, unless it has one: then no memory is asked for. Where it is
-    /// refused, all stays as it was.
+    /// Gives a register a node, unless it has one: then this takes no memory. If memory is refused,
+    /// nothing changes.
     pub fn make_room(&mut self, register: &Register) -> Result<(), AllocError>
         ensures there { Contains self.old.known register.now → IsOk result }
         ensures waiting { self.new.waiting ≡ self.old.waiting }
@@ -116,7 +116,8 @@ impl Pending {
         Some(named.register())
     }
 
-    /// The register that was marked under this number, or another one: whoever asks looks it up.
+    /// Returns the register that was marked under this number, or another one: the caller checks
+    /// it.
     #[tactic(auto, using(crate::proofs::Queue::get_contains))]
     pub fn guess(&self, number: u64) -> Option<Register>
         ensures { IfSome result (Contains self.now.known) }
@@ -153,7 +154,7 @@ impl Pending {
     }
 }
 
-/// Sees to it that there are more nodes than so many.
+/// Grows the list until it has more than this number of nodes.
 fn spare_node(links: &mut Family<1>, room: &mut usize, used: usize) -> Result<(), AllocError>
     requires counted { links.old.nodes ≡ room.old }
     requires small { room.old < 2 ^ 32 }

@@ -1,4 +1,4 @@
-//! What an edge originates: its own registers, their numbers, and what is still to be announced.
+//! A speaker: the own registers of an edge, their numbers, and the pending ones.
 ghost use Rattle.std.specs.Prelude.{◌≡◌, ◌≢◌, ◌⊎◌, ◌+◌, ◌<◌, ◌^◌, ◌↔◌, [], IfOk, IfSome, IfNone, IsSome, IsOk, IsErr, true, false, OnOk, OnErr, Ok, Err, None, Contains, nat_le, length, is_some, slice_get};
 ghost use Rattle.route_join.specs.Table.{AreOriginators, value_at, is_listed};
 ghost use Rattle.route_wire.specs.Fields.{is_individual, FitsKey, flood_advert};
@@ -21,8 +21,8 @@ pub const SPENT: u64 = 0x8000_0000_0000_0000;
 /// Why an update under the edge's own name wasn't taken. Nothing changed.
 #[derive(Clone, Copy, Debug, PartialEq, Eq)]
 pub enum OwnError {
-    /// It is newer than what the edge said, and isn't of an earlier incarnation: another
-    /// speaks under this name.
+    /// It is newer than the edge's own update, and not of an earlier incarnation: another speaker
+    /// uses this name.
     Ahead,
     /// It would have to be withdrawn, and the edge's counter is at `SPENT` or above.
     Spent,
@@ -30,8 +30,7 @@ pub enum OwnError {
     NoMemory,
 }
 
-/// What an edge originates: its table with its own registers, their numbers, and what is
-/// still to be announced.
+/// A speaker: a table with an edge's own registers, their numbers, and the pending ones.
 #[derive(Drop)]
 pub struct Speaker {
     address: Addr,
@@ -121,7 +120,7 @@ impl Speaker {
         self.counter
     }
 
-    /// What it has imported and originated.
+    /// Returns the imported and originated routes.
     pub fn table(&self) -> &Table
         ensures { result.now ≡ self.now.table }
     {
@@ -172,9 +171,9 @@ impl Speaker {
         self.table.owner(vni, mac) == Some(self.address)
     }
 
-    /// Originates this for a key, under the next number. Where something was originated for it in
-    /// this incarnation, its register has its places, and no memory is asked for. Where memory is
-    /// refused, all stays as it was.
+    /// Originates this content for a key, under the next number. If the key was originated in this
+    /// incarnation, its register has its places, and this takes no memory. If memory is refused,
+    /// nothing changes.
     pub fn originate(&mut self, key: &Key, content: Content) -> Result<(), AllocError>
         requires number { self.old.counter + 1 < 2 ^ 64 }
         requires individual { is_individual key.now ≡ true }
@@ -291,8 +290,7 @@ impl Speaker {
         }
     }
 
-    /// Withdraws what an advert of an earlier incarnation says, which would be its
-    /// register's newest update.
+    /// Withdraws an advert of an earlier incarnation, which would be its register's newest update.
     fn refute(&mut self, update: &Update) -> Result<Taken, OwnError>
         requires own { update.now.register.originator ≡ self.old.address }
         requires returning { is_returning self.old update.now ≡ true }

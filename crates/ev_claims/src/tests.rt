@@ -1,4 +1,4 @@
-//! An edge in small: what it is taught, and one step after the other of what happens to it.
+//! A small edge: its configuration, and one event after the other.
 ghost use Rattle.std.specs.Prelude.{◌≡◌, ◌∷◌, [], IfOk};
 ghost use Rattle.mac_arena.specs.Learning.{IsLatest};
 
@@ -33,7 +33,8 @@ impl Edge {
         None
     }
 
-    /// Whether it was learnt and advertised; nothing where a condition of the call doesn't hold.
+    /// Returns whether it was learnt and advertised, or `None` if a condition of the call does not
+    /// hold.
     fn advertise(
         &mut self,
         station: Station,
@@ -183,7 +184,7 @@ const STATIC: Content = Content::Advert(Advert {
     label2: None,
 });
 
-/// What 10.0.0.`speaker` says of a station.
+/// An update of a station by 10.0.0.`speaker`.
 #[derive(Clone, Copy)]
 struct Said {
     speaker: u8,
@@ -193,7 +194,7 @@ struct Said {
     content: Content,
 }
 
-/// What 10.0.0.N says of a station in incarnation 0.
+/// An update of a station by 10.0.0.N in incarnation 0.
 const fn saying(n: u8, name: Name, counter: u64, content: Content) -> Said {
     Said {
         speaker: n,
@@ -226,7 +227,7 @@ fn key_of(name: Name) -> Key {
 }
 
 impl Said {
-    /// The update; none where there is no such.
+    /// The update, or `None`.
     fn update(self) -> Option<Update> {
         let Station { vni, mac } = station(self.name);
         if self.counter == 0 || mac.is_group() {
@@ -245,7 +246,7 @@ impl Said {
     }
 }
 
-/// What the table says of a station under the edge's name.
+/// The table's value of a station under the edge's name.
 fn says(routes: &LocalRoutes, name: Name) -> Option<Update> {
     routes.table().register(routes.address(), key_of(name))
 }

@@ -9,7 +9,7 @@ use Rattle.ev_config.specs.Inner.Keys.{Gives}
 use Rattle.ev_config.specs.Faults.{Spot, Faulty, fault_at}
 use Rattle.ev_config.specs.Inner.Faults.{faults_view, HasFault, Adds}
 
--- what was read has the fault that reading it has
+-- the result of reading has its fault
 pub gives_fault : {X V : Type 0} (spot : Spot) (view : X → V) (wanted : Result V Key) (r : Result X Fault)
     → Gives view wanted r → HasFault spot r (fault_at spot wanted)
 gives_fault spot view wanted (Ok x) g = ap (fault_at spot) g
@@ -23,11 +23,11 @@ adds_then some rest v0 v1 vn (Ok y) e more =
     more ∙ ap (λ l. l ++ rest) e ∙ append_assoc (faults_view v0) some rest
 adds_then some rest v0 v1 vn (Err any) e more = tt
 
--- the fault of what was read is noted
+-- the fault of a result is collected
 abbrev Notes : {X : Type 0} → Spot → Result X Fault → List FaultyKey → List FaultyKey → Type 0
 Notes spot r old new = (some : List Faulty) → HasFault spot r some → faults_view new ≡ faults_view old ++ some
 
--- the fault of what was read, and then the rest
+-- the fault of a result, and then the rest
 pub noted : {X V Y : Type 0} (spot : Spot) (view : X → V) (wanted : Result V Key) (r : Result X Fault)
     (rest : List Faulty) (v0 v1 vn : List FaultyKey) (end : Result Y Fault)
     → Notes spot r v0 v1 → Gives view wanted r → Adds rest v1 vn end → Adds (fault_at spot wanted ++ rest) v0 vn end

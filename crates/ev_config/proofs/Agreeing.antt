@@ -24,7 +24,7 @@ use Rattle.ev_config.specs.Faults.{found, spelt}
 
 -- ---- one after the other
 
--- so, and what is given is such
+-- the result agrees, and is such a value
 abbrev And : {X : Type 0} → (X → Type 0) → Result X Key → List Faulty → Type 0
 And P (Ok x) faults = (faults ≡ []) × P x
 And P (Err k) faults = StartAt k faults
@@ -160,7 +160,7 @@ ports_agree for_run vnis before n m (item d ds) = go (as_table d)
 
 -- ---- an edge
 
--- the names are what the table spells
+-- the names are those of the table
 abbrev Named : Members → Result Names Key → Type 0
 Named t (Ok names) = (spelt (codes "address") addr_in t ≡ Some names.address)
     × (spelt (codes "bridge") bridge_in t ≡ Some names.bridge)
@@ -171,7 +171,7 @@ abbrev IsSpelt : Result ℕ Key → Option ℕ → Type 0
 IsSpelt (Ok n) o = o ≡ Some n
 IsSpelt (Err k) o = Unit {0}
 
--- a new one is what is spelt
+-- a new name is the table's
 new_spelt : (key : Key) (read : Data → Option ℕ) (before : List ℕ) (o : Option Data)
     → IsSpelt (required_at key (λ d. new_among before (read d)) o) (option_and_then read o)
 new_spelt key read before None = tt

@@ -87,7 +87,7 @@ same_names : (names : List ℕ) (cs : List EdgeConfig) → addresses_of (map (li
 same_names names [] = refl
 same_names names (c ∷ cs) = ap (λ xs. c.address ∷ xs) (same_names names cs)
 
--- one of the edges, before it was told
+-- one of the edges, before it has its list of originators
 abbrev WasOne : List ℕ → List EdgeConfig → EdgeConfig → Type 0
 WasOne names cs c = (d : EdgeConfig) × Contains cs d × (listening names d ≡ c)
 
@@ -115,7 +115,7 @@ pub record AreHeard (names listed : List ℕ) : Type 0 where
   pub few : length listed ≤ 64
   pub all : AreAmong names listed
 
--- so edges open that are told of such addresses
+-- so edges with these lists of originators can be opened
 opens : (e : Edges) (heard : List ℕ) → 0 < length e.addresses → length e.addresses ≤ 64 → AreHeard e.addresses heard
     → FitTogether e → AreConfigs (told heard e).0
 opens e heard some few a h = record {
@@ -166,7 +166,7 @@ opens_with w e heard is some few a h = subst (λ (x : Whole). AreConfigs x.0) (s
 
 -- ---- the addresses of peers
 
--- one more, where its table has it
+-- one more, if its table has it
 pub listed_next : (before : List ℕ) (d : Data) (ds : Items) (t : Members) (a : ℕ) → as_table d ≡ Some t
     → peer_of before t ≡ Ok a → listed_from before (item d ds) ≡ listed_from (before ++ a ∷ []) ds
 listed_next before d ds t a p q = rw (p, q) refl

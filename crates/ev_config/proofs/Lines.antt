@@ -1,4 +1,4 @@
--- Lines that are told one after the other.
+-- Lines that are printed one after the other.
 use Rattle.std.proofs.Common.{◌≡◌, ℕ, ◌+◌, inl, inr, List, [], ◌∷◌, ◌++◌, length, Some, Ok, Err, refl, sym, ap}
 use Rattle.std.proofs.Common.{◌∙◌}
 use Rattle.std.proofs.Common.{append_assoc, arith}
@@ -44,7 +44,7 @@ pub faults_told : (wanted : Use) (t : Members) (faults : List FaultyKey) (old ne
     → TellsFaults wanted t old new r
 faults_told wanted t faults old new r e each = inl (tells_each faults (faults_in wanted t) old new r e each)
 
--- what is told of a document is told of its text
+-- the lines for a document are the lines for its text
 pub text_told : (wanted : Use) (text : List ℕ) (t : Members) (old new : End) (r : Result (Unit {0}) Device)
     → parse_document text ≡ Some t → TellsFaults wanted t old new r → TellsRefusal wanted text old new r
 text_told wanted text t old new r is (inl each) = inl (t, is, each)

@@ -83,9 +83,9 @@ TextGives view read text (Err refusal.NoMemory) = Unit {0}
 abbrev pub ConfigOf : Bool → List ℕ → Result Config ConfigRefusal → Type 0
 ConfigOf for_run = TextGives view_of (config_in for_run)
 
--- ---- edges that are asked while they run
+-- ---- edges that answer queries while they run
 
--- the edges, and the path of the socket where they are asked
+-- the edges, and the path of the control socket
 abbrev pub ServedWhole : Type 0
 ServedWhole = Whole × List ℕ
 
@@ -111,7 +111,7 @@ served_view s = (view_of s.config, string_bytes s.control)
 abbrev pub ServedOf : List ℕ → Result Served ConfigRefusal → Type 0
 ServedOf = TextGives served_view served_in
 
--- so the edges alone, whatever the path is
+-- only the edges, whatever the path is
 abbrev pub ServedEdgesOf : List ℕ → Result Config ConfigRefusal → Type 0
 ServedEdgesOf text (Ok config) =
     (control : String Global) × ServedOf text (Ok (record { config = config; control = control }))

@@ -1,4 +1,4 @@
--- An edge of the configuration: for each key, in the order of the faults, what it holds.
+-- An edge of the configuration: the value of each key, in the order of the faults.
 use Rattle.std.specs.Prelude.{ℕ, ◌+◌, ◌-◌, ◌*◌, ◌^◌, Bool, true, ◌&&◌, nat_le, if◌then◌else◌, List, [], ◌∷◌, codes}
 use Rattle.std.specs.Prelude.{Result, Ok, Err}
 use Rattle.toml.specs.Data.{Members}
@@ -106,7 +106,7 @@ fits_together tree = times_fit tree.hello tree.max_age tree.forward_delay
 abbrev pub related : Settings → Result Bool Key
 related tree = if fits_together tree then Ok true else Err (codes "max_age")
 
--- an edge that nobody told of other edges yet
+-- an edge without its list of originators
 abbrev pub edge_from : Names → Settings → Limits → Ports → Described
 edge_from names tree limits ports = record {
   bridge = names.bridge;
@@ -125,7 +125,7 @@ edge_from names tree limits ports = record {
   links = ports.links;
 }
 
--- what stands in an edge's table, given the addresses and bridges of the edges before it
+-- the content of an edge's table, given the addresses and bridges of the edges before it
 abbrev pub edge_of : Bool → List ℕ → List ℕ → Members → Result Described Key
 edge_of for_run addresses bridges t = do
   names ← names_of addresses bridges t

@@ -1,4 +1,4 @@
--- A peer, an edge that runs elsewhere: for each key, in the order of the faults, what it holds.
+-- A peer, an edge that runs elsewhere: the value of each key, in the order of the faults.
 use Rattle.std.specs.Prelude.{ℕ, List, [], ◌∷◌, ◌++◌, codes, Result, Ok}
 use Rattle.toml.specs.Data.{Items, no_items, item, Members, as_table}
 use Rattle.ev_config.specs.Keys.{Key, ◌>>=◌, read_or, required, addr_in, new_among, only}
@@ -13,7 +13,7 @@ peer_of before t = do
   _ ← only peer_keys t
   Ok address
 
--- the addresses that stand before, and behind them those of the tables
+-- the earlier addresses, followed by those of the tables
 abbrev pub listed_from : List ℕ → Items → Result (List ℕ) Key
 listed_from before no_items = Ok before
 listed_from before (item d ds) = do

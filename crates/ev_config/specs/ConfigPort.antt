@@ -1,4 +1,4 @@
--- A port of the configuration: for each key, in the order of the faults, what it holds.
+-- A port of the configuration: the value of each key, in the order of the faults.
 use Rattle.std.specs.Prelude.{ℕ, ◌∷◌, [], ◌++◌, Bool, true, false, if◌then◌else◌, List, codes, Option, Some, None}
 use Rattle.std.specs.Prelude.{option_map, Result, Ok, Err}
 use Rattle.toml.specs.Data.{Data, Items, no_items, item, Members, get_member, as_table}
@@ -43,7 +43,7 @@ point_to_point_of t = optional (codes "point_to_point") flag_in true t
 
 -- ---- the port
 
--- what stands in a port's table, given the networks of its edge
+-- the content of a port's table, given the VNIs of its edge
 abbrev pub port_of : Bool → List ℕ → Members → Result Port Key
 port_of for_run vnis t = do
   vni ← vni_of vnis t

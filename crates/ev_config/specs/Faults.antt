@@ -1,4 +1,4 @@
--- All faults of a document: its faulty keys, each with its table, in the order in which they are told.
+-- All faults of a document: its faulty keys, each with its table, in the order in which they are printed.
 use Rattle.std.specs.Prelude.{◌≡◌, ℕ, ◌+◌, Bool, true, false, if◌then◌else◌, List, [], ◌∷◌, ◌++◌, codes}
 use Rattle.std.specs.Prelude.{Option, Some, None, option_and_then, Result, Ok, Err}
 use Rattle.toml.specs.Data.{Data, Items, no_items, item, Members, get_member, as_table}
@@ -39,7 +39,7 @@ others spot known t = unknown spot known (keys_of t)
 
 -- ---- a port
 
--- a port's network: one of the edge's, where these are known
+-- a port's VNI: one of the edge's, if these are known
 abbrev pub network_of : Option (List ℕ) → Members → Result ℕ Key
 network_of (Some vnis) t = port.vni_of vnis t
 network_of None t = required (codes "vni") vni_in t
@@ -67,7 +67,7 @@ ports_faults for_run vnis n m (item d ds) = port_at for_run vnis n m (as_table d
 
 -- ---- an edge
 
--- what was read, if it was
+-- the value, if there is one
 abbrev pub found : {X : Type 0} → Result X Key → Option X
 found (Ok x) = Some x
 found (Err k) = None
@@ -84,7 +84,7 @@ tree_faults spot t = fault_at spot (edge.priority_of t)
     ++ (fault_at spot (edge.forward_delay_of t)
     ++ fault_at spot (edge.hold_of t))))
 
--- whatever stands for the buckets where they are left out
+-- any default for the buckets
 abbrev pub limits_faults : Spot → Members → List Faulty
 limits_faults spot t = fault_at spot (edge.ageing_of t)
     ++ (fault_at spot (edge.capacity_of t)
@@ -122,16 +122,16 @@ edge_faults for_run addresses bridges n t = names_faults addresses bridges (Edge
 
 -- ---- all edges
 
--- what a table spells at a key
+-- the value of a table at a key
 abbrev pub spelt : Key → (Data → Option ℕ) → Members → Option ℕ
 spelt key read t = option_and_then read (get_member key t)
 
--- one more behind these, if there is one
+-- one more after these, if there is one
 abbrev pub joined : {X : Type 0} → List X → Option X → List X
 joined before None = before
 joined before (Some n) = before ++ n ∷ []
 
--- with what a table spells, if it is one
+-- with the table's value, if it is one
 abbrev pub behind : Key → (Data → Option ℕ) → List ℕ → Option Members → List ℕ
 behind key read before None = before
 behind key read before (Some t) = joined before (spelt key read t)
@@ -194,7 +194,7 @@ config_faults for_run t = fault_at File (edge_tables t)
     ++ (others File (codes "edge" ∷ []) t
     ++ edges_faults for_run [] [] 1 (edge_items t))
 
--- those of a document of edges that are asked while they run
+-- the faults of a document of edges that answer queries while they run
 abbrev pub served_faults : Members → List Faulty
 served_faults t = fault_at File (edge_tables t)
     ++ (fault_at File (required (codes "control") path_in t)
@@ -209,7 +209,7 @@ faults_in Any = config_faults false
 faults_in Run = config_faults true
 faults_in Serve = served_faults
 
--- ---- faults and what a reading gives
+-- ---- faults and the result of reading
 
 -- the first of these is at this key
 abbrev pub StartAt : Key → List Faulty → Type 0

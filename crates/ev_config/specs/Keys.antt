@@ -1,4 +1,4 @@
--- What the keys of a table hold: a value, or the key as the fault.
+-- The value of each key of a table, or the key as the fault.
 use Rattle.std.specs.Prelude.{ℕ, ℤ, pos, negsuc, ◌+◌, ◌%◌, Bool, true, not, ◌&&◌, ◌==◌, nat_lt, nat_le}
 use Rattle.std.specs.Prelude.{if◌then◌else◌, List, [], ◌∷◌, ◌++◌, length, is_some, Option, Some, None}
 use Rattle.std.specs.Prelude.{option_and_then, Result, Ok, Err}
@@ -132,7 +132,7 @@ are_tables (item d ds) = is_some (as_table d) && are_tables ds
 abbrev pub tables_in : Data → Option Items
 tables_in d = option_and_then (λ ds. if is_few ds && are_tables ds then Some ds else None) (as_array d)
 
--- such an array, of 64 tables at most with so many others
+-- an array of at most 64 tables, together with this number of others
 abbrev pub tables_beside : ℕ → Data → Option Items
 tables_beside others d =
     option_and_then (λ ds. if nat_le (others + count_of ds) 64 then Some ds else None) (tables_in d)
@@ -142,7 +142,7 @@ tables_beside others d =
 abbrev pub is_among : List Key → Key → Bool
 is_among keys k = list_any (λ x. bytes_eq x k) keys
 
--- the keys of a table, which stand in the order of their octets
+-- the keys of a table, in the order of their octets
 abbrev pub keys_of : Members → List Key
 keys_of no_members = []
 keys_of (member k d ms) = k ∷ keys_of ms

@@ -1,4 +1,4 @@
--- What is told of a text that is no configuration.
+-- The messages for a text that is no configuration.
 use Rattle.std.specs.Prelude.{◌≡◌, ℕ, ◌+◌, ◌⊎◌, List, [], ◌∷◌, ◌++◌, length, Some, Result, Ok, Err}
 use Rattle.toml.specs.Data.{Members}
 use Rattle.toml.specs.Parse.{parse_document}
@@ -30,6 +30,6 @@ abbrev pub TellsAll : Use → List ℕ → End → End → Result (Unit {0}) Dev
 TellsAll wanted text old new result =
     (t : Members) × (parse_document text ≡ Some t) × TellsEach (faults_in wanted t) old new result
 
--- Each fault is told; or one line, where there is no document, or was no memory to find more.
+-- Each fault is printed; or one line, if there is no document, or was no memory to find more.
 abbrev pub TellsRefusal : Use → List ℕ → End → End → Result (Unit {0}) Device → Type 0
 TellsRefusal wanted text old new result = TellsAll wanted text old new result ⊎ TellsOne old new result

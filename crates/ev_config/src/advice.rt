@@ -1,4 +1,4 @@
-//! What is told to people of a configuration. Its words are tested, not proved.
+//! The messages about a configuration. Their texts are tested, not proved.
 ghost use Rattle.std.specs.Prelude.{◌≡◌, OnOk};
 ghost use Rattle.ether_wire.specs.Ends.{IsOpen};
 ghost use Rattle.ether_wire.specs.Memory.{page_end};
@@ -28,7 +28,7 @@ fn file_keys(wanted: Use) -> &'static [&'static str] {
     }
 }
 
-/// What may stand at a key of an edge.
+/// Returns the allowed values of a key of an edge.
 fn allowed_in_edge(key: &str) -> &'static str {
     match key {
         "address" => "allowed is an IPv4 address that no edge before has, as '10.0.0.1'",
@@ -51,7 +51,7 @@ fn allowed_in_edge(key: &str) -> &'static str {
     }
 }
 
-/// What may stand at a key of a port.
+/// Returns the allowed values of a key of a port.
 fn allowed_in_port(key: &str) -> &'static str {
     match key {
         "vni" => "allowed is one of the edge's vnis",
@@ -63,7 +63,7 @@ fn allowed_in_port(key: &str) -> &'static str {
     }
 }
 
-/// What may stand at a key of the document itself.
+/// Returns the allowed values of a key of the document itself.
 fn allowed_in_file(wanted: Use, key: &str) -> &'static str {
     match key {
         "edge" => "allowed are 1 to 64 tables, each written as [[edge]]",
@@ -76,7 +76,7 @@ fn allowed_in_file(wanted: Use, key: &str) -> &'static str {
     }
 }
 
-/// What may stand at a key of a peer.
+/// Returns the allowed values of a key of a peer.
 fn allowed_in_peer(key: &str) -> &'static str {
     match key {
         "address" =>
@@ -85,7 +85,7 @@ fn allowed_in_peer(key: &str) -> &'static str {
     }
 }
 
-/// Writes what stands at a key.
+/// Writes the value of a key.
 fn put_value(line: &mut Line, value: &Value) -> Result<(), Device>
     requires { IsOpen (page_end line.old) }
     ensures { OnOk result ((page_end line.new).failures ≡ (page_end line.old).failures) }
@@ -176,7 +176,7 @@ fn table_of(place: Place<'_>) -> &Table {
     }
 }
 
-/// What may stand at a key there.
+/// Returns the allowed values of a key of this table.
 fn allowed<'a>(wanted: Use, place: Place<'_>, key: &str) -> &'a str {
     match place {
         Place::File(_) => allowed_in_file(wanted, key),
@@ -186,8 +186,8 @@ fn allowed<'a>(wanted: Use, place: Place<'_>, key: &str) -> &'a str {
     }
 }
 
-/// What is said of a key that isn't there. Of those that may be left out, `max_age` alone
-/// may be faulty even so.
+/// Writes the message for a missing key. Of the optional keys only `max_age` can be faulty when it
+/// is missing.
 fn absent(key: &str) -> &'static [u8] {
     match key {
         "max_age" => b" is 20 where it is left out",
@@ -219,7 +219,7 @@ struct Twin {
     number: usize,
 }
 
-/// The first of so many tables of an array that has the value at a key.
+/// Returns the first table of an array that has this value at a key.
 fn twin_among(
     document: &Table,
     name: &'static str,
@@ -249,7 +249,7 @@ fn twin_of(document: &Table, place: Place<'_>, key: &str, value: &Value) -> Opti
     }
 }
 
-/// Writes why a text is wrong, where that is known.
+/// Writes why a text is wrong, if that is known.
 fn put_text_reason(line: &mut Line, twin: Option<Twin>, key: &str, text: &str) -> Result<(), Device>
     requires { IsOpen (page_end line.old) }
     ensures { OnOk result ((page_end line.new).failures ≡ (page_end line.old).failures) }
@@ -264,7 +264,7 @@ fn put_text_reason(line: &mut Line, twin: Option<Twin>, key: &str, text: &str) -
     }
 }
 
-/// Writes why a table is wrong, where that is known.
+/// Writes why a table is wrong, if that is known.
 fn put_table_reason(line: &mut Line, place: Place<'_>, key: &str) -> Result<(), Device>
     requires { IsOpen (page_end line.old) }
     ensures { OnOk result ((page_end line.new).failures ≡ (page_end line.old).failures) }
@@ -277,7 +277,7 @@ fn put_table_reason(line: &mut Line, place: Place<'_>, key: &str) -> Result<(), 
     }
 }
 
-/// Returns `true` if an array has this network before the place `at`.
+/// Returns `true` if an array has this VNI before the place `at`.
 fn is_before(array: &Array, at: usize, vni: Vni) -> bool {
     for other in array.iter().take(at) {
         if vni_in(other) == Some(vni) {
@@ -287,8 +287,7 @@ fn is_before(array: &Array, at: usize, vni: Vni) -> bool {
     false
 }
 
-/// Returns the first element of an array that is no network, or one that stands before it, with
-/// its place, from 0.
+/// Returns the first element of an array that is no VNI, or a repeated one, with its place, from 0.
 fn odd_element(array: &Array) -> Option<(usize, &Value)> {
     for (at, value) in array.iter().enumerate() {
         match vni_in(value) {
@@ -299,7 +298,7 @@ fn odd_element(array: &Array) -> Option<(usize, &Value)> {
     None
 }
 
-/// Writes which element of an array of networks is wrong: `, whose element 1 is '5001'`.
+/// Writes which element of an array of VNIs is wrong: `, whose element 1 is '5001'`.
 fn put_array_reason(line: &mut Line, key: &str, array: &Array) -> Result<(), Device>
     requires { IsOpen (page_end line.old) }
     ensures { OnOk result ((page_end line.new).failures ≡ (page_end line.old).failures) }
@@ -317,7 +316,7 @@ fn put_array_reason(line: &mut Line, key: &str, array: &Array) -> Result<(), Dev
     }
 }
 
-/// Writes why a value is wrong, where that is known.
+/// Writes why a value is wrong, if that is known.
 fn put_reason(
     line: &mut Line,
     document: &Table,
@@ -343,7 +342,7 @@ fn put_reason(
     }
 }
 
-/// Writes a key, what stands there and why that is wrong, where it is known.
+/// Writes a key, its value, and why that is wrong, if it is known.
 fn put_found(line: &mut Line, document: &Table, place: Place<'_>, key: &str) -> Result<(), Device>
     requires { IsOpen (page_end line.old) }
     ensures { OnOk result ((page_end line.new).failures ≡ (page_end line.old).failures) }
@@ -359,7 +358,7 @@ fn put_found(line: &mut Line, document: &Table, place: Place<'_>, key: &str) -> 
     }
 }
 
-/// The key of such a table that was meant by another, where one is near.
+/// Returns the nearest key of the table to an unknown one, if one is near.
 fn meant_in(alloc: Global, wanted: Use, place: Place<'_>, key: &str) -> Option<&'static str> {
     match place {
         Place::File(_) => meant(alloc, file_keys(wanted), key),
@@ -369,7 +368,7 @@ fn meant_in(alloc: Global, wanted: Use, place: Place<'_>, key: &str) -> Option<&
     }
 }
 
-/// Writes which key was meant, where one that is none is near to it.
+/// Writes the key that an unknown key resembles, if there is one.
 fn put_meant(
     line: &mut Line,
     alloc: Global,
@@ -390,7 +389,7 @@ fn put_meant(
     }
 }
 
-/// Writes the end of a line: what is allowed, or which key was meant.
+/// Writes the end of a line: the allowed values, or the key that was meant.
 fn put_allowed(
     line: &mut Line,
     alloc: Global,
@@ -406,7 +405,7 @@ fn put_allowed(
     put_meant(line, alloc, wanted, place, key)
 }
 
-/// Writes where a key is faulty, what stands there, why it is wrong and what is allowed.
+/// Writes the place of a faulty key, its value, why it is wrong and what is allowed.
 fn put_fault(
     line: &mut Line,
     alloc: Global,
@@ -423,7 +422,7 @@ fn put_fault(
     put_allowed(line, alloc, wanted, place, key)
 }
 
-/// The line that tells of a faulty key.
+/// The line for a faulty key.
 pub(crate) fn fault_line(
     alloc: Global,
     wanted: Use,

@@ -33,7 +33,7 @@ fn document_of(alloc: Global, text: &str) -> Result<Table, ConfigRefusal>
     }
 }
 
-/// A document's fault as it is told, with its key in memory of its own.
+/// A document's fault for printing, with its key in memory of its own.
 fn refusal_of(alloc: Global, fault: Fault<'_>) -> ConfigRefusal
     ensures { Tells fault.entry result }
 {
@@ -63,9 +63,9 @@ pub fn config_of(alloc: Global, text: &str, for_run: bool) -> Result<Config, Con
     }
 }
 
-/// The configuration that a text spells of edges that are asked while they run: that of a run, with
-/// the path of a Unix socket at the key `control`, and perhaps with peers, edges that run
-/// elsewhere. Each edge listens to all edges and to all peers.
+/// The configuration of a text for edges that answer queries while they run: that of a run, with
+/// the path of a Unix socket at the key `control`, and optional peers, which are edges that run
+/// elsewhere. Each edge lists all edges and all peers.
 ///
 /// # Errors
 ///

@@ -17,7 +17,7 @@ use std::alloc::Global;
 use toml::Table;
 use toml::value::Array;
 
-/// The tables of the edges, where they are right.
+/// The tables of the edges, if they are valid.
 fn edge_tables<'a>(document: &'a Table) -> Result<Option<&'a Array>, Fault<'a>>
     ensures value { IfOk result (λ o. option_map_or (λ a. array_view a.now) o no_items
         ≡ edge_items (table_view document.now)) }
@@ -65,7 +65,7 @@ fn add_edges_at<'a>(
     }
 }
 
-/// The faults of the peers beside so many edges, whose addresses these are.
+/// Collects the faults of the peers, given the number of edges and their addresses.
 fn add_peers_at<'a>(
     faults: &mut Vec<FaultyKey<'a>>,
     edges: Vec<Addr>,
@@ -102,7 +102,7 @@ fn add_config<'a>(
     Ok(())
 }
 
-/// Those of a document of edges that are asked while they run.
+/// Collects the faults of a document of edges that answer queries while they run.
 fn add_served<'a>(
     faults: &mut Vec<FaultyKey<'a>>,
     alloc: Global,
@@ -126,7 +126,7 @@ fn add_served<'a>(
 ///
 /// # Errors
 ///
-/// Where memory is refused.
+/// `Fault::NoMemory` if memory is refused.
 pub(crate) fn faults_of<'a>(
     alloc: Global,
     wanted: Use,

@@ -63,14 +63,14 @@ pub(crate) struct Limits {
     pub(crate) incarnation: u64,
 }
 
-/// An edge as its table describes it. It listens to nobody yet.
+/// An edge as its table describes it. It has no list of originators yet.
 #[derive(Drop)]
 pub(crate) struct Described {
     /// Its bridge's address.
     pub(crate) bridge: Mac,
-    /// What it is opened with.
+    /// Its configuration at the opening.
     pub(crate) config: EdgeConfig,
-    /// Where its ports' frames go and come from.
+    /// The endpoints of its ports.
     pub(crate) links: ArrayVec<PortEndpoints, 64>,
 }
 
@@ -266,7 +266,7 @@ pub(crate) fn related<'a>(tree: &Settings) -> Result<bool, Fault<'a>>
     }
 }
 
-/// The edge of these parts, which listens to nobody yet.
+/// Returns the edge of these parts, without a list of originators.
 fn edge_from(names: Names, tree: Settings, limits: Limits, ports: Ports) -> Described
     requires { limits.incarnation < 2 ^ 32 }
     ensures { result ≡ edge_from names tree limits ports }

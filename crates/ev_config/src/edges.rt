@@ -26,10 +26,10 @@ use toml::value::Array;
 /// The document's own keys.
 pub(crate) const FILE_KEYS: [&'static str; 1] = ["edge"];
 
-/// Those of a document of edges that are asked while they run.
+/// The edges of a document whose edges answer queries while they run.
 pub(crate) const SERVED_KEYS: [&'static str; 3] = ["edge", "control", "peer"];
 
-/// The edges read so far, with their addresses and bridges. They listen to nobody yet.
+/// The edges read so far, with their addresses and bridges. They have no lists of originators yet.
 #[derive(Drop)]
 struct Edges {
     addresses: ArrayVec<Addr, 64>,
@@ -184,7 +184,7 @@ pub(crate) fn peers_at<'a>(table: &'a Table, edges: &Array) -> Result<Option<&'a
     tables_beside(table, "peer", edges.len())
 }
 
-/// The configuration of a document of edges that are asked while they run.
+/// The configuration of a document of edges that answer queries while they run.
 pub(crate) fn served_in<'a>(alloc: Global, table: &'a Table) -> Result<Served, Fault<'a>>
     ensures value { Gives served_view (served_in (table_view table.now)) result }
     ensures opens { IfOk result (λ s. AreConfigs s.config.edges.items) }

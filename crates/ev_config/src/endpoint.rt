@@ -1,4 +1,4 @@
-//! Where a port's frames go and come from.
+//! The endpoints of a port's link.
 ghost use Rattle.std.specs.Prelude.{◌≡◌, Some};
 ghost use Rattle.ether_wire.specs.Parse.{decimal_of_text};
 ghost use Rattle.ev_config.specs.Endpoint.{endpoint_of_text};
@@ -14,12 +14,12 @@ pub struct Endpoint {
     pub port: u16,
 }
 
-/// The two ends of the link that stands for a port's cable.
+/// The two ends of the link that serves as a port's cable.
 #[derive(Clone, Copy, Debug, Default, PartialEq, Eq)]
 pub struct PortEndpoints {
-    /// Where the port's frames are taken.
+    /// The address at which the port receives frames.
     pub local: Option<Endpoint>,
-    /// Where they are sent.
+    /// The address to which it sends them.
     pub remote: Option<Endpoint>,
 }
 

@@ -44,7 +44,7 @@ fn add<'a>(faults: &mut Vec<FaultyKey<'a>>, place: Place<'a>, key: &'a str) -> R
     Ok(())
 }
 
-/// The fault of what was read, where it has one.
+/// Returns the fault of a result, if it has one.
 pub(crate) fn note<'a, T: Drop>(
     faults: &mut Vec<FaultyKey<'a>>,
     place: Place<'a>,
@@ -223,7 +223,7 @@ fn add_odd_times<'a>(
     }
 }
 
-/// The networks of an edge, where they are right.
+/// Returns the VNIs of an edge, if they are valid.
 fn known_vnis<'a>(table: &'a Table) -> Result<Option<ArrayVec<Vni, 64>>, Fault<'a>>
     ensures { IfOk result (λ o. option_map (λ v. v.items) o
         ≡ found (networks_of (table_view table.now))) }
@@ -235,7 +235,7 @@ fn known_vnis<'a>(table: &'a Table) -> Result<Option<ArrayVec<Vni, 64>>, Fault<'
     }
 }
 
-/// The faults of an edge's ports, where there are tables of them.
+/// Collects the faults of an edge's ports, if there are tables of them.
 fn add_ports_at<'a>(
     faults: &mut Vec<FaultyKey<'a>>,
     for_run: bool,
@@ -289,7 +289,7 @@ fn spelt_bridge(table: &Table) -> Option<Mac>
     bridge_in(value_at(table, "bridge")?)
 }
 
-/// One more behind these, if there is one.
+/// Adds one more, if there is one.
 fn join<'a, T: Drop>(before: &mut Vec<T>, more: Option<T>) -> Result<(), Fault<'a>>
     ensures { OnOk result (before.new.items ≡ joined before.old.items more) }
 {

@@ -9,10 +9,10 @@ use ether_wire::{Device, Mac, Out, parted, put_decimal, read_decimal};
 use std::alloc::Global;
 use strsim::levenshtein;
 
-/// What is wrong with a part of a text.
+/// The fault of a part of a text.
 #[derive(Clone, Copy)]
 enum Flaw {
-    /// A zero stands in front of other digits.
+    /// A zero before other digits.
     LeadingZero,
     /// The number is above this one.
     Above(u64),
@@ -20,18 +20,18 @@ enum Flaw {
     UpperCase,
 }
 
-/// A part of a text, and what is wrong with it.
+/// A part of a text, and its fault.
 #[derive(Clone, Copy)]
 struct Hint<'a> {
-    /// What the part is called.
+    /// The name of the part.
     name: &'static str,
     /// Decimal or hexadecimal digits.
     part: &'a [u8],
-    /// What is wrong.
+    /// The fault.
     flaw: Flaw,
 }
 
-/// What is in front of the first such octet, and what behind it: nothing, where there is none.
+/// Returns the text before and after the first such octet, or `None` if there is none.
 fn cut(octet: u8, text: &[u8]) -> (&[u8], &[u8]) {
     match parted(octet, text) {
         Some(parts) => parts,
@@ -39,7 +39,7 @@ fn cut(octet: u8, text: &[u8]) -> (&[u8], &[u8]) {
     }
 }
 
-/// What is wrong with a decimal number of at most `max`, if it has digits alone.
+/// Returns the fault of a decimal number of at most `max`, if it has only digits.
 fn decimal_flaw(part: &[u8], max: u64) -> Option<Flaw> {
     if !part.iter().all(|octet| octet.is_ascii_digit()) {
         return None;
@@ -100,7 +100,7 @@ fn mac_hint(text: &[u8]) -> Option<Hint<'_>> {
     None
 }
 
-/// What is wrong with an IPv4 address with a UDP port.
+/// Returns the fault of an IPv4 address with a UDP port.
 fn endpoint_hint(text: &[u8]) -> Option<Hint<'_>> {
     let (address, port) = cut(b':', text);
     match addr_hint(address) {
@@ -123,7 +123,7 @@ fn hint_of<'a>(key: &str, text: &'a [u8]) -> Option<Hint<'a>> {
     }
 }
 
-/// Writes what is wrong with a part.
+/// Writes the fault of a part.
 fn put_flaw(line: &mut Line, flaw: Flaw) -> Result<(), Device>
     requires { IsOpen (page_end line.old) }
     ensures { OnOk result ((page_end line.new).failures ≡ (page_end line.old).failures) }
@@ -158,7 +158,7 @@ fn is_group(text: &[u8]) -> bool {
     }
 }
 
-/// Writes what is wrong with a text at a key, where that is known.
+/// Writes the fault of a text at a key, if it is known.
 pub(crate) fn put_hint(line: &mut Line, key: &str, text: &str) -> Result<(), Device>
     requires { IsOpen (page_end line.old) }
     ensures { OnOk result ((page_end line.new).failures ≡ (page_end line.old).failures) }
@@ -172,8 +172,8 @@ pub(crate) fn put_hint(line: &mut Line, key: &str, text: &str) -> Result<(), Dev
     }
 }
 
-/// The key that was meant by one that is none of these: the nearest by edits, where these are at
-/// most a third of its length.
+/// Returns the key that an unknown one resembles: the nearest by edits, if these are at most a
+/// third of its length.
 pub(crate) fn meant(alloc: Global, keys: &[&'static str], key: &str) -> Option<&'static str> {
     let mut least = key.len() / 3 + 1;
     let mut found = None;

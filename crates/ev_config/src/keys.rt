@@ -1,4 +1,4 @@
-//! What the keys of a table hold.
+//! The values of a table's keys.
 ghost use Rattle.std.specs.Prelude.{◌≡◌, ◌+◌, ◌<◌, ◌≤◌, ◌^◌, ◌∷◌, length, option_map, IfOk, IfSome, map, true, false, eqb, [], codes};
 ghost use Rattle.std.specs.List.{list_any, IsDistinct};
 ghost use Rattle.std.specs.Option.{option_map_or};
@@ -297,7 +297,7 @@ pub(crate) fn tables_at<'a>(table: &'a Table, key: &'a str) -> Result<&'a Array,
     }
 }
 
-/// Such an array, of 64 tables at most with so many others.
+/// Reads an array of at most 64 tables, together with this number of others.
 #[tactic(auto, using(crate::proofs::Walking::count_of_view))]
 fn tables_in_beside(value: &Value, others: usize) -> Option<&Array>
     requires { others ≤ 64 }
@@ -338,7 +338,7 @@ pub(crate) fn has_vni(vnis: &[Vni], vni: Vni) -> bool
     vnis.contains(&vni)
 }
 
-/// The network that a value is, where it is none of those before.
+/// Returns the VNI of a value, if it differs from those before.
 fn new_vni(before: &[Vni], value: &Value) -> Option<Vni>
     ensures value { result ≡ new_among before.now (vni_in (view value.now)) }
     ensures new { IfSome result (λ v. list_any (λ x. eqb x v) before.now ≡ false) }

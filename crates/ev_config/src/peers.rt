@@ -41,7 +41,7 @@ fn add_address(listed: &mut ArrayVec<Addr, 64>, address: Addr)
     listed.push(address);
 }
 
-/// The addresses of the edges, and behind them those of the peers in these tables.
+/// Returns the addresses of the edges, followed by those of the peers in these tables.
 #[tactic(auto, using(crate::proofs::Walking::items_more, crate::proofs::Fitting::all_listed))]
 fn listed_of<'a>(
     edges: ArrayVec<Addr, 64>,
@@ -68,8 +68,8 @@ fn listed_of<'a>(
     Ok(listed)
 }
 
-/// The addresses that each edge lists: those of the edges, and behind them those of the peers, if
-/// there are any.
+/// Returns the addresses that each edge lists: those of the edges, followed by those of the peers,
+/// if there are any.
 #[tactic(auto, using(crate::proofs::Fitting::all_listed))]
 pub(crate) fn listed_with<'a>(
     edges: ArrayVec<Addr, 64>,

@@ -31,18 +31,18 @@ pub(crate) const PORT_KEYS: [&'static str; 8] = [
 /// A port as its table describes it.
 #[derive(Clone, Copy)]
 pub(crate) struct Port {
-    /// What the edge is opened with.
+    /// Its configuration at the edge's opening.
     pub(crate) config: PortConfig,
-    /// Where its frames go and come from.
+    /// Its endpoints.
     pub(crate) link: PortEndpoints,
 }
 
 /// The ports of an edge, port 1 first.
 #[derive(Drop)]
 pub(crate) struct Ports {
-    /// What the edge is opened with.
+    /// Their configuration at the edge's opening.
     pub(crate) configs: ArrayVec<PortConfig, 64>,
-    /// Where their frames go and come from.
+    /// Their endpoints.
     pub(crate) links: ArrayVec<PortEndpoints, 64>,
 }
 
@@ -110,7 +110,7 @@ pub(crate) fn auto_edge_of<'a>(table: &'a Table) -> Result<bool, Fault<'a>>
     flag(table, "auto_edge", true)
 }
 
-/// Whether one bridge alone is behind the port.
+/// Returns `true` if at most one bridge is at the other end of the port.
 pub(crate) fn point_to_point_of<'a>(table: &'a Table) -> Result<bool, Fault<'a>>
     ensures { Gives (λ b. b) (point_to_point_of (table_view table.now)) result }
 {

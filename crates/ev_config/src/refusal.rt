@@ -1,4 +1,4 @@
-//! What is told of a text that is no configuration. The words of a line are tested, not proved.
+//! The messages for a text that is no configuration. Their texts are tested, not proved.
 ghost use Rattle.std.specs.Prelude.{◌≡◌, OnOk};
 ghost use Rattle.toml.specs.View.{table_view};
 ghost use Rattle.ether_wire.specs.Ends.{IsOpen, Puts};
@@ -48,14 +48,14 @@ fn syntax_line(text: &str, error: &Error) -> Line {
     line
 }
 
-/// What is told where there is no memory to say more.
+/// The message if there is no memory for more.
 fn plain_line(key: Option<&str>) -> Line {
     let mut line = Line::new();
     let _fits = put_plain(&mut line, key.unwrap_or("text"));
     line
 }
 
-/// Writes the faulty key alone.
+/// Writes only the faulty key.
 fn put_plain(line: &mut Line, key: &str) -> Result<(), Device>
     requires { IsOpen (page_end line.old) }
     ensures { OnOk result ((page_end line.new).failures ≡ (page_end line.old).failures) }
@@ -91,7 +91,7 @@ fn put_lines<N: Out>(
     Ok(())
 }
 
-/// Tells each fault of a document, a line each; where memory is refused, the first key alone.
+/// Prints each fault of a document, one per line; if memory is refused, only the first key.
 #[tactic(auto, using(crate::proofs::Lines::faults_told))]
 fn put_faults<N: Out>(
     notes: &mut N,
@@ -110,8 +110,8 @@ fn put_faults<N: Out>(
     }
 }
 
-/// Tells each fault of a text that is no configuration, perhaps none for such a use, a line each.
-/// Where memory is refused, it tells the first faulty key alone.
+/// Prints each fault of a text that is no configuration, possibly none for this use, one per line.
+/// If memory is refused, it prints only the first faulty key.
 ///
 /// # Errors
 ///

@@ -1,4 +1,4 @@
-//! What is told to people of a configuration without fault. Its words are tested, not proved.
+//! The summary of a valid configuration. Its text is tested, not proved.
 ghost use Rattle.std.specs.Prelude.{◌≡◌, OnOk};
 ghost use Rattle.ether_wire.specs.Ends.{IsOpen};
 ghost use Rattle.ether_wire.specs.Memory.{page_end};
@@ -27,7 +27,7 @@ fn is_served(config: &Config, edges: usize, vni: Vni) -> bool {
     false
 }
 
-/// How many networks the edge behind the first ones serves that none of them does.
+/// Returns the number of VNIs of this edge that none of the edges before it serves.
 fn count_new(config: &Config, edges: usize, edge: &EdgeConfig) -> usize {
     let mut count = 0usize;
     for vni in edge.vnis.iter() {
@@ -66,7 +66,7 @@ fn count_peers(config: &Config) -> usize {
     }
 }
 
-/// Writes how many edges run elsewhere, where there are any.
+/// Writes the number of edges that run elsewhere, if there are any.
 fn put_peers(line: &mut Line, count: usize) -> Result<(), Device>
     requires { IsOpen (page_end line.old) }
     ensures { OnOk result ((page_end line.new).failures ≡ (page_end line.old).failures) }
@@ -89,7 +89,7 @@ fn put_summary(line: &mut Line, config: &Config) -> Result<(), Device>
     line.put(b"\n")
 }
 
-/// The line that tells of a configuration without fault.
+/// The summary line of a valid configuration.
 pub fn summary_line(config: &Config) -> Line {
     let mut line = Line::new();
     let _fits = put_summary(&mut line, config);

@@ -1,4 +1,4 @@
-//! What a document describes, whole.
+//! The content of a whole document.
 ghost use Rattle.std.specs.Prelude.{◌≡◌, vec_len};
 
 use crate::endpoint::PortEndpoints;
@@ -8,29 +8,29 @@ use ev_edge::EdgeConfig;
 /// The edges of a document, in its order.
 #[derive(Drop)]
 pub struct Config {
-    /// What each edge is opened with. Each listens to all.
+    /// The configuration of each edge at its opening. Each lists all edges.
     pub edges: Vec<EdgeConfig>,
-    /// For each edge, where its ports' frames go and come from.
+    /// For each edge, the endpoints of its ports.
     pub links: Vec<ArrayVec<PortEndpoints, 64>>,
     ghost each: { vec_len links ≡ vec_len edges },
 }
 
-/// What a configuration is wanted for.
+/// The purpose of a configuration.
 #[derive(Clone, Copy, Debug, PartialEq, Eq)]
 pub enum Use {
     /// Anything: ports may lack their endpoints.
     Any,
     /// A run.
     Run,
-    /// A run whose edges are asked meanwhile.
+    /// A run whose edges answer queries meanwhile.
     Serve,
 }
 
-/// What a document describes for edges that are asked while they run.
+/// The content of a document for edges that answer queries while they run.
 #[derive(Drop)]
 pub struct Served {
     /// The edges.
     pub config: Config,
-    /// The path of the Unix socket where they are asked.
+    /// The path of the Unix control socket.
     pub control: String,
 }

@@ -1,4 +1,4 @@
--- What is learnt is what is advertised, and owned.
+-- The learnt stations are the advertised ones, and the edge owns them.
 use Rattle.std.proofs.Common.{◌≡◌, Bool, Option, Some, None, refl, sym, ap, ◌∙◌}
 use Rattle.std.specs.Prelude.{IsSome, ◌↔◌}
 use Rattle.std.specs.Option.{option_map}

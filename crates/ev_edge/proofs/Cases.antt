@@ -27,7 +27,7 @@ pub record IsNew (e : Edge) (s : Station) (n : ℕ) : Type 0 where
   pub few : is_spent e.routes ≡ false
   pub next : seq_for (table_of e) (address_of e) s.vni s.mac ≡ Next n
 
--- what is heard again is learnt, and not pinned
+-- a station that sends again is learnt, and not pinned
 pub record IsHeard (e : Edge) (s : Station) : Type 0 where
   pub known : IsSome (entry_at e.routes.learned s)
   pub loose : is_pinned (entry_at e.routes.learned s) ≡ false

@@ -1,4 +1,4 @@
--- What each event makes an edge say.
+-- The own updates of an edge at each event.
 use Rattle.std.proofs.Common.{◌≡◌, ◌≢◌, inl, inr, ℕ, suc, ◌+◌, ◌-◌, ◌≤◌, Bool, true, false, cond, eqb, Option, Some}
 use Rattle.std.proofs.Common.{None, Result, Ok, Err, List, [], ◌∷◌, length, refl, sym, ap, subst, ◌∙◌, arith}
 use Rattle.std.specs.Prelude.{nat_le, not, ◌&&◌}
@@ -50,7 +50,7 @@ use Rattle.ev_edge.specs.Steps.{TakesOther, TakesOwn, Pins}
 use Rattle.ev_edge.specs.Changes.{Changes, accepted, heard, heard_in}
 use Rattle.ev_edge.proofs.Cases.{learnt_by, or_refused}
 
--- what is said from a base on
+-- the own updates after a state
 record Saying (base : Speaker) (e e' : Edge) : Type 0 where
   pub said : List (Key × Content)
   pub few : length said ≤ entries e.routes + 1

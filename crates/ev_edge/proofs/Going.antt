@@ -1,4 +1,4 @@
--- What the bridge says of an event is what an edge says of it.
+-- The bridge's answer to an event is part of the edge's answer.
 use Rattle.std.proofs.Common.{◌≡◌, ℕ, Bool, List}
 use Rattle.bpdu_wire.specs.declared.bpdu.Bpdu.{Bpdu}
 use Rattle.rstp_run.specs.declared.event.Event.{Event}

@@ -1,4 +1,4 @@
--- Which events never tell of refused memory.
+-- The events that never report refused memory.
 use Rattle.std.proofs.Common.{◌≡◌, ◌≢◌, inl, inr, ℕ, Bool, true, false, cond, eqb, Option, Some, None, Result, Ok, Err}
 use Rattle.std.proofs.Common.{List, drop, refl, sym, ap, subst, ◌∙◌}
 use Rattle.std.specs.Prelude.{not, is_some, ◌&&◌}

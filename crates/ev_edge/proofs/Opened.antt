@@ -78,7 +78,7 @@ none_passing settings ports p = (
 abbrev none_there : List Station
 none_there = []
 
--- nobody is learnt
+-- no station is learnt
 nobody_individual : (s : Start) (c : LocalRoutes) → IsOpening s c → AreIndividual c.learned
 nobody_individual s c h = subst AreIndividual (sym h.learned)
     (λ r some. absurd (never_learnt (entry_at (nothing_learnt s.capacity (length s.ports.items) s.buckets s.salt) r)

@@ -1,4 +1,5 @@
--- An edge owns what it advertises, and has heard no station later than now, through each change of its local routes.
+-- An edge owns what it advertises, and no station's last second is later than now, through each change of its local
+-- routes.
 use Rattle.std.proofs.Common.{◌≡◌, ◌≢◌, inl, inr, ℕ, ◌<◌, Bool, true, false, cond, not, Option, Some, None, List, []}
 use Rattle.std.proofs.Common.{◌∷◌, length, refl, sym, ap, subst, ◌∙◌, arith}
 use Rattle.std.specs.Prelude.{IsSome, is_some, ◌&&◌, MatchOption}
@@ -30,7 +31,7 @@ use Rattle.ev_claims.specs.LocalRoutes.{after_losing_at}
 use Rattle.ev_claims.specs.LocalRoutes.{after_losing, after_take, is_lost}
 use Rattle.ev_edge.specs.Edge.{OwnsAt, AreIndividual, ServesPorts}
 
--- ---- another key is said
+-- ---- an own update of another key
 pub other_key : (r s : Station) (i j : Option Ip) → r ≢ s → Mac r.vni r.mac i ≢ Mac s.vni s.mac j
 other_key r s i j ne e =
     let vnis : r.vni ≡ s.vni = cc in
@@ -69,7 +70,7 @@ removal_owns c s others r = elim (same_or_other r s) as (λ _. OwnsAt (after_rem
 
 -- ---- several removals
 
--- no group address is learnt, where one entry changes
+-- no group address is learnt, if one entry changes
 pub changed_individual : (t t' : Learning) (s : Station) (o : Option Entry) → ChangesEntry t t' s o
     → (IsSome o → is_group s.mac ≡ false) → AreIndividual t → AreIndividual t'
 changed_individual t t' s o change free h r some = elim (same_or_other r s) as (λ _. is_group r.mac ≡ false) [
@@ -91,7 +92,7 @@ pub record Holds (c : LocalRoutes) (second : ℕ) : Type 0 where
   pub served : ServesPorts c
   pub buckets : 0 < length c.learned.chains
 
--- one bucket at least, where there are as many as before
+-- at least one bucket, if there are as many as before
 pub some_bucket : (t t' : Learning) → length t'.chains ≡ length t.chains → 0 < length t.chains → 0 < length t'.chains
 some_bucket t t' same h = omega (arith, same, h)
 

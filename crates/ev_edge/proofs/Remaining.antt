@@ -1,4 +1,4 @@
--- An edge stays good at each event: of the relation of edge, event, answer and edge alone.
+-- An edge stays good at each event: a consequence of the relation of edge, event, answer and next edge.
 use Rattle.std.proofs.Common.{◌≡◌, ℕ, ◌<◌, ◌^◌, Bool, true, false, cond, eqb, not, ◌&&◌}
 use Rattle.std.proofs.Common.{Option, Some, None, Result, Ok, Err, List, [], ◌∷◌, drop, length, refl, sym, ap}
 use Rattle.std.proofs.Common.{subst, ◌∙◌, arith}
@@ -208,7 +208,7 @@ takes_good e u (Ok reply) e' h false t d = routes_good e e' (after_take e.routes
     (other_keeps e.routes u e.clock (λ same. grind (arith, nat_tests)) (keeps_of e h)) (taken_ports e.routes u) d.2
 takes_good e u (Err r) e' h false t d = same_good e e' d.1 h
 
--- a station that is pinned anew finds a number, and a place
+-- a newly pinned station finds a number, and a place
 record IsPinnable (e : Edge) (s : Station) : Type 0 where
   few : is_spent e.routes ≡ false
   room : entry_at e.routes.learned s ≡ None → is_full e.routes.learned ≡ false
@@ -238,7 +238,7 @@ pinnable e s port (Some x) at is = go x.pinned (eqb x.port port) is
       room = λ none. absurd (let bad : None ≡ Some x = sym none ∙ at in cc);
     }
 
--- what goes to another port is pinned
+-- a station that goes to another port is pinned
 shifts_pinned : (e : Edge) (s : Station) (port : ℕ) (o : Option Entry) → pin_case_at e s port o ≡ Shift
     → is_pinned o ≡ true
 shifts_pinned e s port None is = absurd (never false is)

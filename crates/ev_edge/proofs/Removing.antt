@@ -51,7 +51,7 @@ use Rattle.ev_edge.proofs.Cases.{learnt_by, or_refused}
 
 -- ---- one entry
 
--- the entry is out exactly where the test says so
+-- the entry is removed exactly if the test holds
 either_way : (o p : Option Entry) (b : Bool) → IsSome o → p ≡ cond b None o → (p ≡ None) ↔ (b ≡ true)
 either_way None p b known is = let f : ⊥ = cc in absurd f
 either_way (Some x) p true known is = (λ _. refl, λ _. is)
@@ -63,7 +63,7 @@ still : (o : Option Entry) → IsSome o → (o ≡ None) ↔ (false ≡ true)
 still None known = let f : ⊥ = cc in absurd f
 still (Some x) known = (λ gone. (let f : ⊥ = cc in absurd f), λ bad. (let f : ⊥ = cc in absurd f))
 
--- ---- what takes nobody
+-- ---- events that remove no station
 
 same_table : (e e' : Edge) → e'.routes.learned ≡ e.routes.learned → GoExactly e e' nobody
 same_table e e' is = λ s known.
@@ -132,7 +132,7 @@ learns b e q port told e' h = learnt_by (λ x. GoExactly e x nobody) e q port to
     anew : GoExactly e (after_learning e q port 0) nobody
     anew = learnt e (after_learning e q port 0) q port e.clock New refl
 
--- ---- what goes by one test
+-- ---- stations removed by one test
 
 exactly : (e e' : Edge) (goes : Station → Bool)
     → ((s : Station) → entry_at e'.routes.learned s ≡ cond (goes s) None (entry_at e.routes.learned s))
@@ -154,7 +154,7 @@ pick : (b d : Bool) (o : Option Entry) → (b ≡ true → d ≡ true) → cond 
 pick true d o h = ap (λ x. cond x None o) (sym (h refl))
 pick false d o h = refl
 
--- the station goes if it is so, which is asked of it as of the one that goes
+-- the station is removed if the condition holds for it as for the removed one
 one_if : (c : LocalRoutes) (q s : Station) (test : Station → Bool)
     → entry_at (cond (test q) (after_removal c q) c).learned s
     ≡ cond (is_same q s && test s) None (entry_at c.learned s)

@@ -1,4 +1,4 @@
--- What an update under the edge's own name makes of it.
+-- The effect of an update under the edge's own name.
 use Rattle.std.proofs.Common.{◌≡◌, ◌⊎◌, inl, inr, ℕ, Bool, true, false, Some, None, Result, Ok, Err, refl}
 use Rattle.std.specs.Prelude.{◌↔◌, IfOk, OnOk, OnErr}
 use Rattle.route_wire.specs.Fields.{Fields}

@@ -1,4 +1,4 @@
--- An edge stays good, whatever event comes: of the relation of edge, event, answer and edge alone.
+-- An edge stays good at every event: a consequence of the relation of edge, event, answer and next edge.
 use Rattle.std.proofs.Common.{◌≡◌, ◌≢◌, ℕ, ◌-◌, ◌<◌, ◌≤◌, ◌^◌, Bool, true, false, cond}
 use Rattle.std.proofs.Common.{not, ◌&&◌, ◌||◌, Option, Some, None, Ok, List, [], ◌∷◌, length}
 use Rattle.std.proofs.Common.{refl, sym, ap, subst, ◌∙◌, arith}
@@ -52,7 +52,7 @@ use Rattle.ev_mobility.specs.declared.seq.Seq.TheVariants.{Next}
 use Rattle.ev_edge.specs.Pinning.{is_static}
 use Rattle.ev_edge.specs.Bridging.{aged}
 
--- what a good edge keeps of its local routes, at a second
+-- the invariant of a good edge's local routes, at a second
 pub record Keeps (c : LocalRoutes) (second : ℕ) : Type 0 where
   pub routes : KeepsRoutes c
   pub numbers : KeepsNumbers c.speaker
@@ -215,7 +215,7 @@ later_keeps c second later less h = record {
 
 -- ---- updates come
 
--- what is advertised is learnt
+-- an advertised station is learnt
 advert_known : (c : LocalRoutes) (s : Station) → KeepsRoutes c → is_some (own_advert c.speaker (key_of s)) ≡ true
     → IsSome (entry_at c.learned s)
 advert_known c s h some = go (entry_at c.learned s) (own_advert c.speaker (key_of s)) (h.kinds s) some

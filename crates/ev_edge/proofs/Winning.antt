@@ -186,7 +186,7 @@ pin_fits e s port is = go (vni_at e.routes.ports port) refl is
     go None at q = cc
     go (Some vni) at q = there vni at (eqb vni s.vni) refl q
 
--- what is pinned isn't static elsewhere
+-- a pinned station is not static elsewhere
 not_static : (e : Edge) (s : Station) (known : Bool) → unpinned_case e s known ≡ Pin
     → is_static (seq_for (table_of e) (address_of e) s.vni s.mac) ≡ false
 not_static e s known is = go (is_static (seq_for (table_of e) (address_of e) s.vni s.mac)) refl is

@@ -1,4 +1,4 @@
--- What a frame that comes is, or why it is refused.
+-- The kind of an arriving frame, or the cause of its refusal.
 use Rattle.std.specs.Prelude.{ℕ, ◌==◌, ◌&&◌, Bool, not, if◌then◌else◌, Option, Some, None, Result, Ok, Err}
 use Rattle.std.specs.Prelude.{List, length, take, drop, nat_eq}
 use Rattle.std.specs.List.{list_any}
@@ -32,7 +32,7 @@ has_llc payload = pointwise nat_eq (take (length bpdu_llc) payload) bpdu_llc
 abbrev pub holds_bpdu : List ℕ → Bool
 holds_bpdu frame = destination_of frame == bridge_group && (has_length frame && has_llc (payload_of frame))
 
--- which stands behind the header
+-- the frame after the header
 abbrev pub bpdu_in : List ℕ → List ℕ
 bpdu_in frame = drop (length bpdu_llc) (payload_of frame)
 

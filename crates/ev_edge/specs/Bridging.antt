@@ -1,4 +1,4 @@
--- What an event of the bridge does to an edge (IEEE 802.1D-2004, 17.11, for what is flushed, and 7.9.2 for ageing).
+-- The effect of an event of the bridge on an edge (IEEE 802.1D-2004, 17.11 for flushes, and 7.9.2 for ageing).
 use Rattle.std.specs.Prelude.{◌≡◌, ℕ, ◌+◌, ◌-◌, ◌^◌, ◌==◌, nat_le, Bool, List, if◌then◌else◌}
 use Rattle.bpdu_wire.specs.declared.bpdu.Bpdu.{Bpdu}
 use Rattle.rstp_run.specs.declared.event.Event.{Event}
@@ -8,9 +8,9 @@ use Rattle.ev_claims.specs.LocalRoutes.{LocalRoutes}
 use Rattle.ev_claims.specs.Leaving.{after_ageing, after_flush}
 use Rattle.ev_edge.specs.Edge.{Edge}
 
--- The bridge goes on by the event until it is settled, or has fired as often as it may, and these
--- messages lie in its slots; `flush` are the ports that it flushes. `happens` says that it is
--- settled exactly where no rule is enabled.
+-- The bridge takes the event and fires rules until it is settled, or has fired as often as it may, and these messages
+-- are in its slots; `flush` are the ports that it flushes. `happens` states that it is settled exactly if no rule is
+-- enabled.
 pub record BridgeGoes (event : Event) (old new : Tree) (flush : ℕ) (sent : List (ℕ × Bpdu)) : Type 0 where
   pub settled : Bool
   pub happens : Happens event (firings_at old) old new settled flush
@@ -24,7 +24,7 @@ after_bridge e tree flush = record e { tree = tree; routes = after_flush e.route
 abbrev pub next_second : ℕ → ℕ
 next_second clock = if clock == 2 ^ 63 then clock else clock + 1
 
--- those go that were last heard so many seconds ago, or longer
+-- stations whose last frame is this number of seconds old, or older, are removed
 abbrev pub aged : LocalRoutes → ℕ → ℕ → LocalRoutes
 aged c ageing clock = if nat_le ageing clock then after_ageing c (clock - ageing) else c
 

@@ -1,4 +1,4 @@
--- What an event changes in what an edge says: it hears the update that is accepted, and then says some things itself.
+-- The changes of an edge's own registers at an event: it takes the accepted update, and then makes own updates.
 use Rattle.std.specs.Prelude.{◌≡◌, ◌+◌, ◌≤◌, Result, Ok, Err, List, [], ◌∷◌, ◌++◌, length}
 use Rattle.route_wire.specs.declared.update.Key.{Key}
 use Rattle.route_wire.specs.declared.update.Content.{Content}
@@ -32,7 +32,7 @@ abbrev pub accepted : Event → Result Reply Refusal → List Fields
 accepted event (Ok reply) = brought event
 accepted event (Err r) = []
 
--- what an edge says once it has heard what the event brings, or has announced the first register that was pending
+-- the own registers after the event's update was taken, or after the first pending register was announced
 abbrev pub heard_in : Event → Speaker → Speaker
 heard_in (events.Frame port octets) v = v
 heard_in (events.TunnelFrame from octets) v = v
@@ -50,8 +50,9 @@ abbrev pub heard : Event → Result Reply Refusal → Speaker → Speaker
 heard event (Ok reply) v = heard_in event v
 heard event (Err r) v = v
 
--- From there the edge says some things, no key twice: `Says` tells its own changes, their numbers and what is pending.
--- They are one more at the most than it had stations. The table takes the accepted update, and then what is said.
+-- From there the edge makes own updates, no key twice: `Says` gives its changes, their numbers and the pending
+-- registers. There is at most one more than it had stations. The table takes the accepted update, and then the own
+-- ones.
 pub record Changes (e : Edge) (event : Event) (result : Result Reply Refusal) (e' : Edge) : Type 0 where
   pub said : List (Key × Content)
   pub few : length said ≤ entries e.routes + 1

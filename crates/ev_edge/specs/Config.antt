@@ -1,4 +1,4 @@
--- What an edge may be opened with.
+-- Valid configurations of an edge.
 use Rattle.std.specs.Prelude.{ℕ, ◌≤◌, eqb, List, length, map, Contains}
 use Rattle.std.specs.List.{IsDistinct}
 use Rattle.route_join.specs.Table.{AreOriginators}

@@ -15,8 +15,8 @@ use Rattle.ev_mobility.specs.Moves.{Moves}
 use Rattle.ev_claims.specs.Speaker.{own_advert}
 use Rattle.ev_claims.specs.LocalRoutes.{LocalRoutes, AreGood, key_of}
 
--- What it says and has learnt, the second, how many seconds an entry lives, its bridge, and the windows of the stations
--- that have moved. Ports are counted from 1.
+-- The local routes, the second, how many seconds an entry lives, the bridge, and the windows of the stations that have
+-- moved. Ports are numbered from 1.
 pub record Edge : Type 0 where
   pub routes : LocalRoutes
   pub clock : ℕ
@@ -51,8 +51,8 @@ AreIndividual t = (s : Station) → IsSome (entry_at t s) → is_group s.mac ≡
 abbrev pub ServesPorts : LocalRoutes → Type 0
 ServesPorts c = (v : ℕ) → Contains c.ports v → Contains c.vnis v
 
--- The edge owns what it advertises, has heard no station later than now, and learns no group address; it serves the
--- networks of its ports; its learning table has a bucket; and its bridge has its ports.
+-- The edge owns what it advertises, no station's last second is later than now, and no group address is learnt; it
+-- serves the VNIs of its ports; its learning table has a bucket; and its bridge has its ports.
 pub record KeepsEdge (e : Edge) : Type 0 where
   pub owns : (s : Station) → OwnsAt e.routes s
   pub latest : IsLatest e.routes.learned e.clock
@@ -62,7 +62,7 @@ pub record KeepsEdge (e : Edge) : Type 0 where
   pub ports : length e.tree.ports ≡ length e.routes.ports
   pub early : e.clock ≤ 2 ^ 63
 
--- the good edge: also what is said and what is learnt name each other, and the lists name the learning map
+-- the good edge: also its routes and its stations match each other, and the lists name the learning map
 pub record IsGoodEdge (e : Edge) : Type 0 where
   pub routes : AreGood e.routes
   pub keeps : KeepsEdge e
@@ -71,7 +71,7 @@ pub record IsGoodEdge (e : Edge) : Type 0 where
 abbrev pub ArePassing : Tree → ℕ → Type 0
 ArePassing tree set = (p : ℕ) → (has_port set p ≡ true) ↔ (IsPort p (length tree.ports) × Passes tree p)
 
--- what is kept of an edge in memory: the ports that pass, too
+-- the invariant of an edge in memory: also the set of passing ports
 pub record IsEdge (e : Edge) (passing : ℕ) : Type 0 where
   pub keeps : KeepsEdge e
   pub exact : ArePassing e.tree passing

@@ -1,4 +1,4 @@
--- What the laws of edges say.
+-- The statements of the laws of edges.
 use Rattle.std.specs.Prelude.{◌≡◌, ◌≢◌, ◌↔◌, ℕ, ◌==◌, ◌&&◌, Bool, true, false, not, Option, Some, None, IsSome, is_some}
 use Rattle.std.specs.Prelude.{Result, Ok, Err, List, []}
 use Rattle.std.specs.Option.{ForSome}
@@ -34,7 +34,7 @@ use Rattle.ev_edge.specs.Changes.{Changes}
 
 -- ---- where frames go
 
--- where the answer sends a frame, if anywhere
+-- the decision of the answer, if it has one
 abbrev pub decision_in : Result Reply Refusal → Option Decision
 decision_in (Ok reply) = reply.decision
 decision_in (Err r) = None
@@ -54,11 +54,11 @@ pub record LeavesTunnel (e : Edge) (octets : List ℕ) (d : Decision) : Type 0 w
 abbrev pub IsReserved : List ℕ → Type 0
 IsReserved octets = (frame : List ℕ) × (frame_of octets ≡ Ok frame) × (is_reserved (destination_of frame) ≡ true)
 
--- the datagram holds such a frame
+-- the datagram holds a frame with these properties
 abbrev pub HoldsReserved : List ℕ → Type 0
 HoldsReserved octets = (vni : ℕ) × (inner : List ℕ) × (instance_of octets ≡ Ok (vni, inner)) × IsReserved inner
 
--- ---- what is learnt is what is advertised and owned
+-- ---- the learnt stations are the advertised and owned ones
 
 -- The stations that the edge has learnt or pinned are exactly those that it advertises, as static exactly the pinned
 -- ones, none of them with an IP address, and it owns each.
@@ -71,7 +71,7 @@ pub record AdvertisesItsOwn (e : Edge) : Type 0 where
 
 -- ---- memory
 
--- what comes is to be learnt from
+-- the source of the frame is to be learnt
 abbrev pub is_data : Result Arrival Refusal → Bool
 is_data (Err r) = false
 is_data (Ok Dropped) = false
@@ -93,7 +93,7 @@ takes_none e (events.PortDown port) = true
 takes_none e (events.Mcheck port) = true
 takes_none e events.Announce = true
 
--- the answer tells of refused memory, as a refusal or as an alert
+-- the answer reports refused memory, as a refusal or as an alert
 abbrev pub TellsNoMemory : Result Reply Refusal → Type 0
 TellsNoMemory (Ok reply) = reply.alert ≡ Some Unroomed
 TellsNoMemory (Err r) = r ≡ OfEdge NoMemory

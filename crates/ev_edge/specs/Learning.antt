@@ -1,5 +1,5 @@
 -- Learning the source of a frame (IEEE 802.1D-2004, 7.8, and RFC 7432, section 15): the first of the ten cases that
--- applies, with what it does.
+-- applies, with its effect.
 use Rattle.std.specs.Prelude.{◌≡◌, ◌⊎◌, ℕ, ◌^◌, ◌==◌, ◌||◌, not, nat_le, Bool, true, Option, Some, None, is_none}
 use Rattle.std.specs.Prelude.{if◌then◌else◌}
 use Rattle.std.specs.FinMap.{get, insert}
@@ -26,8 +26,8 @@ use Rattle.ev_edge.specs.Edge.{Edge, table_of, address_of}
 abbrev pub is_spent : LocalRoutes → Bool
 is_spent c = nat_le (2 ^ 63) c.speaker.counter
 
--- Another edge advertises the station where its next number isn't 0: then it moves here, and the fifth move of one
--- window freezes it. A number of 0: nobody else advertises it.
+-- Another edge advertises the station if its next number is not 0: then it moves here, and the fifth move of one window
+-- freezes it. With the number 0 no other edge advertises it.
 abbrev pub move_case : Option Window → ℕ → ℕ → Case
 move_case window second n = if n == 0 then Learn else if is_fifth window second then Freeze else Move n
 
@@ -52,7 +52,7 @@ case_at e s None = new_case e s (get e.windows s)
 abbrev pub case_of : Edge → Station → Case
 case_of e s = case_at e s (entry_at e.routes.learned s)
 
--- ---- what they do
+-- ---- the effects
 
 abbrev pub refreshed : Edge → Station → ℕ → Edge
 refreshed e s port = record e { routes = after_refresh e.routes s port e.clock }
@@ -67,7 +67,7 @@ learnt e s port n = record e { routes = after_advert e.routes s port e.clock n }
 
 -- ---- memory
 
--- a register has to be made for what is said of the station: nothing was said of it in this incarnation
+-- an own register of the station must be created: the edge made no update of it in this incarnation
 abbrev pub needs_register : Edge → Station → Bool
 needs_register e s = not (is_originated e.routes.speaker (key_of s))
 
@@ -80,7 +80,7 @@ abbrev pub OrNoMemory : Bool → Edge → Option Alert → Edge → Option Alert
 OrNoMemory needs e alert after told e' =
     ((told ≡ alert) × (e' ≡ after)) ⊎ ((told ≡ Some NoMemory) × (e' ≡ e) × (needs ≡ true))
 
--- ---- what each case does
+-- ---- the effect of each case
 
 abbrev pub Does : Case → Edge → Station → ℕ → Option Alert → Edge → Type 0
 Does Leave e s port told e' = (told ≡ None) × (e' ≡ e)

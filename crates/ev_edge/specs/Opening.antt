@@ -8,7 +8,7 @@ use Rattle.ev_edge.specs.declared.config.EdgeConfig.{EdgeConfig}
 use Rattle.ev_edge.specs.Config.{vnis_of, settings_of}
 use Rattle.ev_edge.specs.Edge.{Edge}
 
--- what the local routes are opened with
+-- the configuration of the local routes
 abbrev pub start_of : EdgeConfig → Start
 start_of c = record {
   address = c.address;

@@ -1,4 +1,4 @@
--- Pinning a station on a port: the first of these cases that applies, with what it does.
+-- Pinning a station on a port: the first of these cases that applies, with its effect.
 use Rattle.std.specs.Prelude.{◌≡◌, ℕ, ◌==◌, ◌&&◌, Bool, true, false, not, Option, Some, None, if◌then◌else◌}
 use Rattle.std.specs.FinMap.{remove}
 use Rattle.ether_wire.specs.Addr.{is_group}
@@ -18,7 +18,7 @@ use Rattle.ev_edge.specs.declared.refusal.EdgeRefusal.TheVariants.{BadMac, NoSuc
 use Rattle.ev_edge.specs.Edge.{Edge, table_of, address_of}
 use Rattle.ev_edge.specs.Learning.{is_spent, needs_register, OrNoMemory}
 
--- why a pin is refused: there is no such port, it is of another network, or a group address can't be pinned
+-- the cause of a refused pin: there is no such port, it is of another VNI, or a group address can't be pinned
 abbrev pub pin_refusal : Option ℕ → Station → Option EdgeRefusal
 pin_refusal None s = Some NoSuchPort
 pin_refusal (Some vni) s = if vni == s.vni then (if is_group s.mac then Some BadMac else None) else Some NoSuchVni

@@ -36,7 +36,7 @@ nobody s = false
 abbrev pub is_flushed : Edge → ℕ → Station → Bool
 is_flushed e flush s = goes_by_flush flush (entry_at e.routes.learned s)
 
--- an unpinned one that was last heard so many seconds before this one, or earlier
+-- an unpinned station whose last frame is at least this number of seconds old
 abbrev pub is_old : ℕ → ℕ → Option Entry → Bool
 is_old ageing now None = false
 is_old ageing now (Some x) = not x.pinned && nat_le (x.last + ageing) now
@@ -95,7 +95,7 @@ RemovesBy (events.PortDown port) e reply e' = FlushRemoves (tree_events.PortDown
 RemovesBy (events.Mcheck port) e reply e' = FlushRemoves (tree_events.Mcheck port) e reply e'
 RemovesBy events.Announce e reply e' = GoExactly e e' nobody
 
--- what is refused takes none
+-- a refused event removes no station
 abbrev pub Removed : Event → Edge → Result Reply Refusal → Edge → Type 0
 Removed event e (Ok reply) e' = RemovesBy event e reply e'
 Removed event e (Err r) e' = GoExactly e e' nobody

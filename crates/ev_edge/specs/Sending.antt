@@ -1,4 +1,4 @@
--- Where an edge sends a frame.
+-- The decision of an edge on a frame.
 use Rattle.std.specs.Prelude.{◌≡◌, ℕ, ◌<◌, ◌^◌, Option}
 use Rattle.std.specs.Option.{option_map}
 use Rattle.ether_wire.specs.Ports.{has_port}
@@ -14,8 +14,8 @@ use Rattle.ev_edge.specs.Edge.{Edge, table_of, address_of, ArePassing}
 abbrev pub port_of : Edge → ℕ → ℕ → Option ℕ
 port_of e vni mac = option_map (λ (x : Entry). x.port) (entry_at e.routes.learned (record { vni = vni; mac = mac }))
 
--- The decision for a frame of this network and destination: by what the edge has learnt and heard, over the ports of
--- the network and those that pass, each set a word.
+-- The decision for a frame of this VNI and destination: by the edge's stations and routes, over the ports of the VNI
+-- and the passing ports, each set a word.
 pub record IsDecision (e : Edge) (vni destination : ℕ) (from : Source) (d : Decision) : Type 0 where
   pub members : ℕ
   pub members_fit : members < 2 ^ 64

@@ -1,4 +1,4 @@
--- What an event makes of an edge, and what is answered: a table by event and answer.
+-- The effect of an event on an edge, and its answer: a table by event and answer.
 use Rattle.std.specs.Prelude.{◌≡◌, ◌⊎◌, ◌↔◌, ℕ, ◌==◌, ◌&&◌, Bool, true, false, not, IsTrue, Option, Some, None, Result}
 use Rattle.std.specs.Prelude.{Ok, Err, [], if◌then◌else◌}
 use Rattle.ether_wire.specs.Addr.{is_group}
@@ -39,11 +39,11 @@ use Rattle.ev_edge.specs.Sending.{IsDecision}
 abbrev pub nothing : Reply
 nothing = record { decision = None; bpdus = record { items = [] }; taken = None; announced = None; alert = None }
 
--- an alert alone, or nothing
+-- only an alert, or nothing
 abbrev pub alone : Option Alert → Reply
 alone alert = record nothing { alert = alert }
 
--- what a call answers that writes its reply where another one stood
+-- the answer of a call that overwrites another reply
 abbrev pub answered : Result (Unit {0}) Refusal → Reply → Result Reply Refusal
 answered (Ok done) reply = Ok reply
 answered (Err r) reply = Err r
@@ -67,9 +67,8 @@ pub record LearnsAt (e : Edge) (port vni source : ℕ) (told : Option Alert) (e'
   pub are_learnt : IsTrue learns ↔ Learns e.tree port
   pub learning : LearnsIf (learns && not (is_group source)) e (record { vni = vni; mac = source }) port told e'
 
--- A frame of a network comes at a port. Its source is learnt first; then it is sent by what is learnt and heard then,
--- if
--- the port passes.
+-- A port receives a frame of a VNI. Its source is learnt first; then the edge forwards it by its stations and routes at
+-- that point, if the port passes.
 pub record DataSteps (e : Edge) (port vni destination source : ℕ) (reply : Reply) (e' : Edge) : Type 0 where
   pub learning : LearnsAt e port vni source reply.alert e'
   pub passes : Bool
@@ -79,7 +78,7 @@ pub record DataSteps (e : Edge) (port vni destination source : ℕ) (reply : Rep
 
 -- ---- the bridge
 
--- an event of the bridge alone
+-- only an event of the bridge
 pub record BridgeSteps (event : tree.Event) (e : Edge) (reply : Reply) (e' : Edge) : Type 0 where
   pub flush : ℕ
   pub goes : BridgeGoes event e.tree e'.tree flush reply.bpdus.items
@@ -105,7 +104,7 @@ abbrev pub Seconds : Edge → Result Reply Refusal → Edge → Type 0
 Seconds e (Ok reply) e' = SecondSteps e reply e'
 Seconds e (Err r) e' = ⊥
 
--- ---- frames, by what they are
+-- ---- frames, by their kinds
 
 abbrev pub FrameSteps : Result Arrival Refusal → Edge → ℕ → Result Reply Refusal → Edge → Type 0
 FrameSteps (Err r) e port result e' = (result ≡ Err r) × (e' ≡ e)

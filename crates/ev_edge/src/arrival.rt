@@ -1,4 +1,4 @@
-//! What a frame is that comes at a port or from a tunnel.
+//! The kind of a frame from a port or from a tunnel.
 ghost use Rattle.std.specs.Prelude.{◌≡◌, true, false};
 ghost use Rattle.std.specs.Option.{MatchOption};
 ghost use Rattle.ether_wire.specs.Frame.{frame_of};
@@ -8,7 +8,7 @@ use crate::refusal::Refusal;
 use bpdu_wire::Bpdu;
 use ether_wire::{BPDU_LLC, Frame, Kind, Mac, Vni};
 
-/// What a frame is.
+/// The kind of a frame.
 #[derive(Clone, Copy, Debug, PartialEq, Eq)]
 pub enum Arrival {
     /// One that goes nowhere: its port is down, or its destination is reserved.
@@ -33,7 +33,7 @@ fn bpdu_in<'a>(frame: &Frame<'a>) -> Option<&'a [u8]>
     }
 }
 
-/// What a frame is whose destination is reserved.
+/// Returns the kind of a frame with a reserved destination.
 fn reserved_arrival(frame: &Frame<'_>) -> Result<Arrival, Refusal>
     ensures { result ≡ reserved_arrival frame.now }
 {

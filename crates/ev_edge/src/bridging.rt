@@ -1,4 +1,4 @@
-//! Events of the bridge: what it sends, and the stations that go by them.
+//! Events of the bridge: the BPDUs that it sends, and the stations that it removes.
 ghost use Rattle.std.specs.Prelude.{◌≡◌, ◌≤◌, ◌^◌, true, is_some, length};
 ghost use Rattle.rstp_run.specs.Events.{IsAt, IsPort};
 ghost use Rattle.ev_claims.specs.LocalRoutes.{vni_at};
@@ -43,8 +43,8 @@ fn passing_ports(bridge: &Bridge) -> u64
     set
 }
 
-/// The bridge goes on by the event until it is settled, or has fired as often as it may. What it
-/// sends takes the place of what is listed, and it tells the ports that it flushes.
+/// Gives the bridge an event, on which it fires rules until it is settled, or has fired as often as
+/// it may. Its BPDUs replace the list's content. Returns the ports that it flushes.
 #[tactic(auto, using(crate::proofs::Going::goes_by))]
 fn go_on(bridge: &mut Bridge, event: Event, sent: &mut ArrayVec<(u8, Bpdu), 64>) -> u64
     requires { IsAt event (length bridge.old.ports) }
@@ -66,7 +66,7 @@ fn next_second(clock: u64) -> u64
     }
 }
 
-/// The stations that weren't heard for so many seconds go.
+/// Removes the stations that have been silent for too many seconds.
 fn age(routes: &mut LocalRoutes, ageing: u64, clock: u64)
     ensures { routes.new ≡ aged routes.old ageing clock }
 {
@@ -101,7 +101,7 @@ impl Edge {
         age(&mut self.routes, self.ageing, self.clock);
     }
 
-    /// Whether there is such a port.
+    /// Returns `true` if there is such a port, by number.
     fn is_there(&self, port: u8) -> bool
         ensures value { result ≡ is_some (vni_at self.now.routes.ports port) }
         ensures port { result ≡ true → IsPort port (length self.now.tree.ports) }
@@ -133,7 +133,7 @@ impl Edge {
         Ok(())
     }
 
-    /// A port's protocol is to be found out anew.
+    /// Lets a port detect its neighbour's protocol again.
     pub(crate) fn mcheck(&mut self, port: u8, reply: &mut Reply) -> Result<(), Refusal>
         ensures { BridgesAt (vni_at self.old.routes.ports port) (Event.Mcheck port) self.old
             (answered result reply.new) self.new }

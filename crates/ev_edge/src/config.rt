@@ -1,4 +1,4 @@
-//! What an edge is opened with.
+//! The configuration of an edge at its opening.
 ghost use Rattle.std.specs.Prelude.{◌≡◌, take, length};
 ghost use Rattle.ev_edge.specs.Config.{vnis_of, settings_of};
 
@@ -31,7 +31,7 @@ impl Default for PortConfig {
     }
 }
 
-/// What an edge is opened with.
+/// The configuration of an edge at its opening.
 #[derive(Drop)]
 pub struct EdgeConfig {
     /// The address under which the edge speaks. It is one of the originators.

@@ -1,5 +1,4 @@
-//! Refusals and replies in plain words, for people. What is told by number has
-//! its number beside them.
+//! Refusals and replies as text for people. A number stands beside each name.
 
 use crate::refusal::Refusal;
 use crate::reply::Reply;
@@ -73,7 +72,7 @@ fn write_edges<W: Write>(f: &mut Formatter<W>, edges: &[Addr]) -> Result<(), Err
     Ok(())
 }
 
-/// Where a frame goes.
+/// Writes where a frame goes.
 fn write_decision<W: Write>(f: &mut Formatter<W>, decision: &Decision) -> Result<(), Error> {
     if decision.local == NO_PORTS && decision.remote.is_empty() {
         return f.write_str("to nobody");
@@ -83,7 +82,7 @@ fn write_decision<W: Write>(f: &mut Formatter<W>, decision: &Decision) -> Result
     write_edges(f, decision.remote.as_slice())
 }
 
-/// What the table made of an update.
+/// Writes the table's answer to an update.
 fn taken_words(taken: Taken) -> &'static str {
     match taken {
         Taken::Newer => "taken",
@@ -92,8 +91,8 @@ fn taken_words(taken: Taken) -> &'static str {
 }
 
 impl Reply {
-    /// The first parts: where a frame goes, and out of which ports BPDUs go.
-    /// Whether there were none.
+    /// Writes the first parts: where a frame goes, and the ports that send BPDUs. Returns `true` if
+    /// there were none.
     fn write_sent<W: Write>(&self, f: &mut Formatter<W>) -> Result<bool, Error> {
         let mut is_first = true;
         if let Some(decision) = &self.decision {

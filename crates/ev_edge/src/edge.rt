@@ -1,4 +1,4 @@
-//! A provider edge: what it is opened with, its step, and what can be asked of it.
+//! A provider edge: its opening, its step, and its views.
 ghost use Rattle.std.specs.Prelude.{◌≡◌, IfOk, IfSome, IfNone, is_some, slice_get};
 ghost use Rattle.ether_wire.specs.Ends.{IsOpen, Puts};
 ghost use Rattle.route_join.specs.Report.{report_of};
@@ -25,7 +25,7 @@ use rstp_run::bridge::{Bridge, BridgeConfig};
 use std::alloc::{AllocError, Global};
 use std::marker::Model;
 
-/// An edge: what it says and has learnt, its bridge, its clock, and the stations that have moved.
+/// An edge: its routes and stations, its bridge, its clock, and the windows of moved stations.
 ///
 /// It advertises exactly the stations that it has learnt, as static exactly those that are pinned,
 /// and owns each of them.
@@ -56,12 +56,12 @@ impl Model for Edge {
 }
 
 impl Edge {
-    /// An edge that has heard and learnt nothing, at second 0. It says that it is on the flood list
-    /// of each of its networks, the lowest first. All ports are down.
+    /// Returns an edge that has taken and learnt nothing, at second 0. It advertises the flood list
+    /// of each of its VNIs, the lowest first. All ports are down.
     ///
     /// # Errors
     ///
-    /// Where memory is refused.
+    /// `AllocError` if memory is refused.
     pub fn open(alloc: Global, config: EdgeConfig) -> Result<Self, AllocError>
         requires { IsConfig config }
         ensures { IfOk result (IsOpening config) }
@@ -110,8 +110,8 @@ impl Edge {
         }
     }
 
-    /// The same, written where another reply stood: a caller that keeps one place for replies
-    /// spares the copies of a whole one. Of what stands there after a refusal nothing is said.
+    /// Does the same and overwrites another reply: a caller that reuses one reply avoids copies of
+    /// a whole one. After a refusal the content of the reply is unspecified.
     ///
     /// # Errors
     ///
@@ -153,7 +153,7 @@ impl Edge {
         self.routes.always_good();
     }
 
-    /// What the edge has heard and said.
+    /// Returns the table of imported and own routes.
     pub fn table(&self) -> &Table
         ensures { result.now ≡ table_of self.now }
     {
@@ -173,7 +173,7 @@ impl Edge {
         self.table().write_report(out)
     }
 
-    /// What the edge originates and has learnt.
+    /// Returns the own routes and the stations of the edge.
     pub fn routes(&self) -> &LocalRoutes
         ensures { result.now ≡ self.now.routes }
     {

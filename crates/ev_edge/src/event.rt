@@ -25,8 +25,8 @@ pub enum Event<'a> {
     PortUp(u8),
     /// The port goes down.
     PortDown(u8),
-    /// The administrator asks for the port's protocol to be found out anew.
+    /// The administrator lets the port detect its neighbour's protocol again.
     Mcheck(u8),
-    /// The next own update that isn't announced yet is asked for.
+    /// The next pending own update is to be announced.
     Announce,
 }

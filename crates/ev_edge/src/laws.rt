@@ -1,5 +1,5 @@
-//! Laws of edges, each a function that does nothing and whose contract is the law. What holds of
-//! each state of an edge is said of all of them, so of those between two steps of a run, too.
+//! Laws of edges, each a function that does nothing and whose contract is the law. A law on each
+//! state of an edge covers all of them, so also those between two steps of a run.
 ghost use Rattle.std.specs.Prelude.{◌≡◌, None};
 ghost use Rattle.ev_claims.specs.Opening.{Opens};
 ghost use Rattle.ev_edge.specs.Config.{IsConfig};
@@ -15,22 +15,22 @@ use crate::refusal::Refusal;
 use crate::reply::Reply;
 use ether_wire::Addr;
 
-/// A good edge is good after each event, whatever is answered: it follows from what a step is, and
-/// needs nothing that only this code does.
+/// A good edge is good after each event, whatever the answer: it follows from the definition of a
+/// step, and needs nothing that only this code does.
 pub fn stays_good()
     ensures { StaysGood }
 {}
 
-/// What an event changes in what a good edge says: the table takes the update that is accepted, and
-/// then what the edge says itself. Its own changes take the numbers after the counter without a
-/// gap, and those of them that weren't pending are pending at the end, in the order of their
-/// numbers. They are one more at the most than it had stations.
+/// The changes of a good edge's own registers at an event: the table takes the accepted update, and
+/// then the edge's own updates. These take the numbers after the counter without a gap, and those
+/// of their registers that were not pending are pending at the end, in the order of their numbers.
+/// There is at most one more of them than the edge had stations.
 pub fn own_changes()
     ensures { ChangesItsOwn }
 {}
 
-/// The opening is such a change from nothing: the flood list of each network is
-/// said, numbered from 1.
+/// The opening is such a change from nothing: it advertises the flood list of each VNI, numbered
+/// from 1.
 pub fn opening_originates(config: &EdgeConfig, edge: &Edge)
     requires config { IsConfig config.now }
     requires opening { IsOpening config.now edge.now }
@@ -81,18 +81,18 @@ pub fn advertises_its_own()
     ensures { OwnsItsAdverts }
 {}
 
-/// Seconds, ports that come up or go down, frames from tunnels, BPDUs, unpinning,
-/// thawing, announcing, and taking another edge's update of a register that is there,
-/// never tell of refused memory.
+/// Seconds, ports that come up or go down, frames from tunnels, BPDUs, unpinning, thawing,
+/// announcing, and taking another edge's update of an existing register never report refused
+/// memory.
 pub fn takes_no_memory()
     ensures { TakesNoMemory }
 {}
 
-/// At each event of a good edge exactly those stations go from the learning table that pass the
-/// event's test, and no other one: an unpinned one behind a port that the bridge flushes; as a
-/// second passes also an unpinned one that is too old by the new second; the station of another
-/// edge's update, where the edge's own advert isn't the best one any more; and a pinned one that
-/// is unpinned. A frame takes none but by a BPDU, and what is refused takes none.
+/// At each event of a good edge exactly those stations leave the learning table that pass the
+/// event's test: an unpinned one at a port that the bridge flushes; as a second passes also an
+/// unpinned one that is too old by the new second; the station of another edge's update, if the
+/// edge's own advert is no longer the best one; and a pinned one that is unpinned. A frame removes
+/// none except through a BPDU, and a refused event removes none.
 pub fn steps_remove()
     ensures { StepsRemove }
 {}

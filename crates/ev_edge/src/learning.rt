@@ -15,14 +15,14 @@ use ev_claims::SPENT;
 use ev_mobility::{Alert, Seq, next_seq};
 use mac_arena::Station;
 
-/// What is to be done with the source of a frame.
+/// The treatment of a frame's source.
 #[derive(Clone, Copy, Debug, PartialEq, Eq)]
 pub enum Case {
     /// It is pinned or frozen: nothing.
     Leave,
     /// It is learnt, and heard again.
     Refresh,
-    /// It isn't learnt, and this is told.
+    /// It is not learnt, with this alert.
     Refuse(Alert),
     /// It has moved for the fifth time in one window: it is frozen, and not learnt.
     Freeze,
@@ -33,7 +33,7 @@ pub enum Case {
 }
 
 impl Edge {
-    /// Learns a station on a port of its network, and tells what the operator is to know.
+    /// Learns a station on a port of its VNI, and returns the alert for the operator, if any.
     pub(crate) fn learn(&mut self, station: &Station, port: u8) -> Option<Alert>
         requires individual { is_group station.now.mac ≡ false }
         requires port { vni_at self.old.routes.ports port ≡ Some station.now.vni }
@@ -113,8 +113,8 @@ impl Edge {
         )
     }
 
-    /// Notes the fifth move of a station's window, which freezes it. It takes no memory: who has a
-    /// window has its place.
+    /// Notes the fifth move of a station's window, which freezes it. It takes no memory: a station
+    /// with a window has its place.
     fn freeze(&mut self, station: &Station) -> Option<Alert>
         requires { is_fifth (get self.old.windows station.now) self.old.clock ≡ true }
         ensures told { result ≡ Some Alert.Duplicate }

@@ -1,5 +1,5 @@
-//! An edge: a bridge with access ports that learns, advertises what it has learnt, hears other
-//! edges, and says where each frame goes. One event at a time.
+//! An edge: a bridge with access ports that learns stations, advertises them, takes the updates of
+//! other edges, and decides where each frame goes. One event at a time.
 #![tactic(auto)]
 
 mod arrival;

@@ -10,14 +10,14 @@ use ev_claims::SPENT;
 use ev_mobility::{Alert, Seq};
 use mac_arena::Station;
 
-/// What is to be done with a station that is to be pinned.
+/// The treatment of a station that is to be pinned.
 #[derive(Clone, Copy, Debug, PartialEq, Eq)]
 pub enum PinCase {
     /// It is pinned on this port already: nothing.
     Keep,
-    /// It is pinned on another port: it goes to this one, and nothing is said.
+    /// It is pinned on another port: it goes to this one, without an update.
     Shift,
-    /// It can't be pinned, and this is told.
+    /// It cannot be pinned, with this alert.
     Deny(Alert),
     /// It is pinned and advertised as static.
     Pin,
@@ -58,7 +58,7 @@ impl Edge {
         None
     }
 
-    /// What is to be done with a station that is to be pinned on a port.
+    /// Returns the treatment of a station that is to be pinned on a port.
     fn pin_case(&self, station: &Station, port: u8) -> PinCase
         ensures { result ≡ pin_case self.now station.now port }
     {
@@ -89,7 +89,7 @@ impl Edge {
         PinCase::Pin
     }
 
-    /// Pins a station on a port of its network, and tells what the operator is to know.
+    /// Pins a station on a port of its VNI, and returns the alert for the operator, if any.
     fn pin_there(&mut self, station: &Station, port: u8) -> Option<Alert>
         requires { refused_pin self.old station.now port ≡ None }
         ensures { Pinning self.old station.now port result self.new }

@@ -10,15 +10,13 @@ use std::fmt::{Display, Error, Formatter, Write};
 pub enum EdgeRefusal {
     /// A group address can't be pinned.
     BadMac,
-    /// It comes from nobody that the edge listens to; or it came through a tunnel under
-    /// the edge's own name.
+    /// Its originator is not listed, or a tunnel's datagram has the edge's own address.
     UnknownOriginator,
-    /// It is under the edge's own name and of no earlier incarnation, and newer than
-    /// what the edge has said.
+    /// It has the edge's own name, no earlier incarnation, and is newer than the edge's own update.
     OwnNameAhead,
     /// There is no memory for it.
     NoMemory,
-    /// There is no such port.
+    /// There is no port of this number.
     NoSuchPort,
     /// The edge doesn't serve the network, or the port doesn't belong to it.
     NoSuchVni,

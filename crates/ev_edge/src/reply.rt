@@ -1,4 +1,4 @@
-//! What an event gives out.
+//! The output of an event.
 ghost use Rattle.std.specs.Prelude.{◌≡◌};
 ghost use Rattle.ev_edge.specs.Steps.{nothing};
 
@@ -9,18 +9,18 @@ use ev_tunnel::Decision;
 use route_join::Taken;
 use route_wire::Update;
 
-/// What an event gives out.
+/// The output of an event.
 #[derive(Drop)]
 pub struct Reply {
-    /// Where the frame goes.
+    /// The decision on the frame.
     pub decision: Option<Decision>,
     /// The BPDUs to be sent, with their ports' numbers, by ascending ports.
     pub bpdus: ArrayVec<(u8, Bpdu), 64>,
-    /// What the table made of the update.
+    /// The table's answer to the update.
     pub taken: Option<Taken>,
     /// The own update to be announced.
     pub announced: Option<Update>,
-    /// What the operator is to know.
+    /// The alert for the operator.
     pub alert: Option<Alert>,
 }
 

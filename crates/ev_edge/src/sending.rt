@@ -1,4 +1,4 @@
-//! Frames: what comes is learnt from, and sent where it belongs.
+//! Frames: their sources are learnt, then they are forwarded.
 ghost use Rattle.std.specs.Prelude.{◌≡◌, Some, IsSome, []};
 ghost use Rattle.ev_claims.specs.LocalRoutes.{vni_at};
 ghost use Rattle.ev_tunnel.specs.Decision.{IsFrom};
@@ -19,7 +19,7 @@ use ev_tunnel::{Decision, Forwarding, Source, decide_into, unwrap_datagram};
 use mac_arena::Station;
 use rstp_run::event::Event;
 
-/// A place for a decision, where there is none.
+/// Creates an empty decision if there is none.
 fn make_room(decision: &mut Option<Decision>)
     ensures { IsSome decision.new }
 {
@@ -61,7 +61,7 @@ impl Edge {
         Ok(())
     }
 
-    /// What comes at a port, or why it is refused.
+    /// Returns the kind of a port's frame, or the cause of its refusal.
     fn frame_arrival(&self, port: u8, octets: &[u8]) -> Result<Arrival, Refusal>
         ensures { result ≡ frame_arrival self.now port octets.now }
     {
@@ -177,7 +177,7 @@ impl Edge {
         self.routes.has_vni(vni)
     }
 
-    /// What comes from a tunnel, or why it is refused.
+    /// Returns the kind of a tunnel's datagram, or the cause of its refusal.
     fn tunnel_arrival(&self, from: Addr, octets: &[u8]) -> Result<Arrival, Refusal>
         ensures { result ≡ tunnel_arrival self.now from octets.now }
     {

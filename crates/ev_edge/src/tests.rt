@@ -1,4 +1,4 @@
-//! What the definitions don't show by themselves: worked events, and refused memory.
+//! Behaviour that the definitions don't show by themselves: worked events, and refused memory.
 ghost use Rattle.std.specs.Prelude.{◌≡◌, ◌<◌, ◌≤◌, ◌∷◌, []};
 ghost use Rattle.ev_edge.specs.Config.{IsConfig, vnis_of};
 
@@ -67,7 +67,7 @@ fn originators() -> ArrayVec<Addr, 64>
     originators
 }
 
-// A port of this network. Where it is said to lead to no bridge, it passes as soon as it is up.
+// A port of this VNI. With `admin_edge` it passes as soon as it is up.
 fn port_of(vni: Vni, admin_edge: bool) -> PortConfig
     ensures { result.vni ≡ vni }
 {
@@ -135,8 +135,8 @@ fn config(incarnation: u32, capacity: usize, ageing: u64) -> EdgeConfig
     }
 }
 
-// The edge's first or later incarnation, with room for so many stations, which it forgets after so
-// many seconds. Its ports 1 and 2 are up.
+// The edge's first or later incarnation, with this capacity and ageing time. Its ports 1 and 2 are
+// up.
 fn open(alloc: Global, incarnation: u32, capacity: usize, ageing: u64) -> Result<Edge, AllocError>
     requires some { 1 ≤ capacity }
     requires few { capacity ≤ 65536 }
@@ -232,17 +232,17 @@ fn refusal_of(outcome: Result<Reply, Refusal>) -> Option<Refusal> {
     }
 }
 
-// What the operator is told of an event.
+// The alert of an event.
 fn told(edge: &mut Edge, event: &Event<'_>) -> u8 {
     alert_of(step(edge, event))
 }
 
-// A broadcast frame of this station comes at the port: what the operator is told.
+// The alert of a broadcast frame of this station at the port.
 fn import(edge: &mut Edge, port: u8, source: u64) -> u8 {
     told(edge, &Event::Frame(port, &frame(BROADCAST, source)))
 }
 
-// Where a frame goes: its local ports, and how many edges.
+// The receivers of a frame: its local ports, and the number of edges.
 fn sent(outcome: Result<Reply, Refusal>) -> Option<(u64, usize)> {
     match outcome {
         Ok(reply) => match reply.decision {
@@ -253,7 +253,7 @@ fn sent(outcome: Result<Reply, Refusal>) -> Option<(u64, usize)> {
     }
 }
 
-// Where a frame goes that comes at the port and from which nothing is learnt.
+// The receivers of a frame at the port from which nothing is learnt.
 fn route(edge: &mut Edge, port: u8, destination: u64) -> Option<(u64, usize)> {
     sent(step(edge, &Event::Frame(port, &frame(destination, NOBODY))))
 }
@@ -265,7 +265,7 @@ fn seconds(edge: &mut Edge, count: u64) {
     }
 }
 
-// What the edge itself says of a station: its number and content.
+// The edge's own update of a station: its number and content.
 fn says(edge: &Edge, mac: u64) -> Option<(u64, Content)> {
     let key = Key::Mac(Vni::new(5001), mac_of(mac), None);
     match edge.table().register(Addr::new(0x0a00_0002), key) {

@@ -22,7 +22,7 @@ use Rattle.route_join.proofs.Orders.{from_T}
 use Rattle.route_join.proofs.Tables.{one_table}
 use Rattle.ev_exchange.specs.Sending.{is_own, own_updates}
 use Rattle.ev_exchange.specs.Laws.{OwnUpdatesAre, SaidIsCarried, NewestArrives, OwnRegistersAgree, BothAgree}
-use Rattle.ev_exchange.specs.Laws.{said_by, Carries, IsDelivered}
+use Rattle.ev_exchange.specs.Laws.{MeetingAgrees, said_by, Carries, IsDelivered, TookBack}
 
 -- ---- lists
 module _ {X : Type 0} where
@@ -224,6 +224,29 @@ module _ (o : ℕ) (us since written : List Fields) (start now : Table) (began :
       apart : IsTableOf written alone
       apart = all_taken [] written (table_from [] []) (none_taken [])
 
+  pub meets : (ws : List Fields) (before after : Table) → IsTableOf ws before → IsTableOf (ws ++ written) after
+      → TookBack o before (us ++ since) → (r : Register) → r.originator ≡ o → value_at after r ≡ value_at now r
+  meets ws before after old new back r is = same_at (ws ++ written) (us ++ since) after now r new went_on known
+      (own_there (ws ++ written) after (λ u c. Contains-append_right ws written u c) new r is)
+    where
+      -- what the table had of o, of an earlier life say, was said back
+      held : (v : Value) → Contains ws (record { register = r; value = v })
+          → IsThere now (record { register = r; value = v })
+      held v c =
+          let n = old.newest (record { register = r; value = v }) c in
+          let m = went_on.newest (record { register = r; value = n.0 })
+          (back _ ((own_updates_are before o).all r n.0 is n.1)) in
+          (m.0, m.1, not_newer_trans m.0 n.0 v m.2 n.2)
+
+      go : (v : Value) → Contains ws (record { register = r; value = v })
+          ⊎ Contains written (record { register = r; value = v }) → IsThere now (record { register = r; value = v })
+      go v (inl c) = held v c
+      go v (inr c) = went_on.newest (record { register = r; value = v }) (from_own _ c is)
+
+      known : (v : Value) → Contains (ws ++ written) (record { register = r; value = v })
+          → IsThere now (record { register = r; value = v })
+      known v c = go v (Contains-append_cases ws written (record { register = r; value = v }) c)
+
 pub newest_arrives : NewestArrives
 newest_arrives o us since written ws start now before after a b c old new =
     arrives o us since written start now a b c ws before after old new
@@ -231,6 +254,10 @@ newest_arrives o us since written ws start now before after a b c old new =
 pub own_registers_agree : OwnRegistersAgree
 own_registers_agree o us since written taken start now after a b c d table =
     agrees o us since written start now a b c taken after d table
+
+pub meeting_agrees : MeetingAgrees
+meeting_agrees o us since written ws start now before after a b c old new back =
+    meets o us since written start now a b c ws before after old new back
 
 pub both_agree : BothAgree
 both_agree o p us since written vs later back a a' b b' one other there here mine theirs = (same, ap_report same)

@@ -73,3 +73,18 @@ BothAgree =
     → Side p vs later back b b' → IsDelivered o (us ++ since) written (vs ++ later)
     → IsDelivered p (vs ++ later) back (us ++ since) → AreOf o p a' → AreOf o p b'
     → (a'.registers ≡ b'.registers) × (report_of a' ≡ report_of b')
+
+-- ---- when two meet that had met before
+
+-- what a table has of o, said back to o, is among what o's own table took
+abbrev pub TookBack : ℕ → Table → List Fields → Type 0
+TookBack o held own = (u : Fields) → Contains (own_updates held o) u → Contains own u
+
+-- A table had taken anything, of earlier lives of o too. It takes what o's process writes, and o takes what is said back
+-- of that table. Then the table has each register of o as o's own table has it, and no advert of o besides.
+abbrev pub MeetingAgrees : Type 0
+MeetingAgrees =
+    (o : ℕ) (us since written ws : List Fields) (start now before after : Table) → IsTableOf us start
+    → IsTableOf (us ++ since) now → Carries o start since written → IsTableOf ws before
+    → IsTableOf (ws ++ written) after → TookBack o before (us ++ since)
+    → (r : Register) → r.originator ≡ o → value_at after r ≡ value_at now r

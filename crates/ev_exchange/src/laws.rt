@@ -1,5 +1,5 @@
 //! Laws, as functions that do nothing: the contract is the law.
-ghost use Rattle.ev_exchange.specs.Laws.{OwnUpdatesAre, SaidIsCarried, NewestArrives, OwnRegistersAgree, BothAgree};
+ghost use Rattle.ev_exchange.specs.Laws.{OwnUpdatesAre, SaidIsCarried, NewestArrives, OwnRegistersAgree, BothAgree, MeetingAgrees};
 
 /// What an edge says of its table at the beginning are its own registers, all of them, each with
 /// the value that it has, in the order of a report.
@@ -29,4 +29,11 @@ pub fn own_registers_agree()
 /// delivered, if their registers are of these two alone.
 pub fn both_agree()
     ensures { BothAgree }
+{}
+
+/// A table that had taken anything, of an edge's earlier lives too, has each register of the edge
+/// as the edge's own table has it, once the one has taken what the edge's process says and
+/// announces, and the edge has taken what is said back to it of that table.
+pub fn meeting_agrees()
+    ensures { MeetingAgrees }
 {}

@@ -14,7 +14,10 @@ mod stream_end;
 pub use announcing::{Announcing, EdgeTable};
 pub use entrance::Entrance;
 pub use intake::{Incoming, receive};
-pub use laws::{both_agree, newest_arrives, own_registers_agree, own_updates_are, said_is_carried};
+pub use laws::{
+    both_agree, meeting_agrees, newest_arrives, own_registers_agree, own_updates_are,
+    said_is_carried,
+};
 pub use receiver::{KINDS, Receiver};
 pub use saying::announce;
 pub use sender::Sender;

@@ -54,7 +54,7 @@ removals_talk : (c : LocalRoutes) (ss : List Station) → Talks c.speaker (after
 removals_talk c [] = Quiet
 removals_talk c (s ∷ ss) = talks_further c.speaker (after_removal c s).speaker
     (after_removals (after_removal c s) ss).speaker
-    (Says c.speaker (key_of s) Withdrawn Quiet) (removals_talk (after_removal c s) ss)
+    (Says c.speaker (key_of s) Withdrawn refl Quiet) (removals_talk (after_removal c s) ss)
 
 aged_talks : (c : LocalRoutes) (ageing clock : ℕ) → Talks c.speaker (aged c ageing clock).speaker
 aged_talks c ageing clock = go (nat_le ageing clock)
@@ -67,7 +67,7 @@ aged_talks c ageing clock = go (nat_le ageing clock)
 learns_talk : (b : Bool) (e : Edge) (s : Station) (port : ℕ) (told : Option Alert) (e' : Edge)
     → LearnsIf b e s port told e' → Goes e e'
 learns_talk b e s port told e' h = learnt_by (Goes e) e s port told e' Quiet (λ heard. Quiet) Quiet
-    (λ new. Says e.routes.speaker (key_of s) _ Quiet) (λ n new. Says e.routes.speaker (key_of s) _ Quiet) b h
+    (λ new. Says e.routes.speaker (key_of s) _ refl Quiet) (λ n new. Says e.routes.speaker (key_of s) _ refl Quiet) b h
 
 -- ---- the bridge
 bridges_talk : (event : tree.Event) (e : Edge) (result : Result Reply Refusal) (e' : Edge)
@@ -115,7 +115,7 @@ does_pin_talk : (c : PinCase) (e : Edge) (s : Station) (port : ℕ) (told : Opti
 does_pin_talk pins.Keep e s port told e' h = stays e e' h.1
 does_pin_talk pins.Shift e s port told e' h = subst (Goes e) (sym h.1) Quiet
 does_pin_talk (pins.Deny alert) e s port told e' h = stays e e' h.1
-does_pin_talk pins.Pin e s port told e' h = or_refused (Goes e) Quiet (Says e.routes.speaker (key_of s) _ Quiet) h
+does_pin_talk pins.Pin e s port told e' h = or_refused (Goes e) Quiet (Says e.routes.speaker (key_of s) _ refl Quiet) h
 
 pins_talk : (o : Option EdgeRefusal) (e : Edge) (s : Station) (port : ℕ) (result : Result Reply Refusal)
     (e' : Edge)
@@ -128,7 +128,7 @@ unpin_talks : (e : Edge) (s : Station) → Goes e (after_unpin e s)
 unpin_talks e s = go (is_pinned (entry_at e.routes.learned s))
   where
     go : (b : Bool) → Goes e (cond b (record e { routes = after_removal e.routes s }) e)
-    go true = Says e.routes.speaker (key_of s) Withdrawn Quiet
+    go true = Says e.routes.speaker (key_of s) Withdrawn refl Quiet
     go false = Quiet
 
 -- ---- all events from outside
@@ -153,7 +153,7 @@ losing_talks c (Flood v) = Quiet
 losing_talks c (Mac v m ip) = go (record { vni = v; mac = m }) (is_lost c (record { vni = v; mac = m }))
   where
     go : (s : Station) (b : Bool) → Talks c.speaker (cond b (after_removal c s) c).speaker
-    go s true = Says c.speaker (key_of s) Withdrawn Quiet
+    go s true = Says c.speaker (key_of s) Withdrawn refl Quiet
     go s false = Quiet
 
 -- what a take leaves of what the pool and the edge know of each other, and who the edge is

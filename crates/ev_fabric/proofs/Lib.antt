@@ -21,8 +21,12 @@ pub mod ConvergingLearning
 pub mod ConvergingMotion
 pub mod StationStages
 pub mod StationMotion
+pub mod StationAlone
 pub mod StationRest
 pub mod StationArrival
+pub mod StationRounds
+pub mod StationMeanwhile
+pub mod StationTaken
 pub mod Goings
 pub mod Journeys
 pub mod Example

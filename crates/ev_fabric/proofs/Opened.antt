@@ -32,7 +32,7 @@ floods_talk : (e : Speaker) (vs : List ℕ) → Talks e (after_floods e vs)
 floods_talk e [] = Quiet
 floods_talk e (v ∷ vs) = talks_further e (after_originating e (Flood v) (Advertised flood_advert))
     (after_floods (after_originating e (Flood v) (Advertised flood_advert)) vs)
-    (Says e (Flood v) (Advertised flood_advert) Quiet) (floods_talk
+    (Says e (Flood v) (Advertised flood_advert) refl Quiet) (floods_talk
     (after_originating e (Flood v) (Advertised flood_advert))
     vs)
 

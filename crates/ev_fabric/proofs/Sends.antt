@@ -52,11 +52,11 @@ use Rattle.ev_fabric.proofs.Stations.{agree_on_each, station_one, station_owner}
 
 -- ---- learning a station leaves the others
 
-record LeavesBe (a b : Edge) (s : Station) : Type 0 where
-  address : address_of b ≡ address_of a
-  tree : b.tree ≡ a.tree
-  entry : entry_at b.routes.learned s ≡ entry_at a.routes.learned s
-  adverts : (o : ℕ) (ip : Option Ip) → advert_at (table_of b) o (Mac s.vni s.mac ip)
+pub record LeavesBe (a b : Edge) (s : Station) : Type 0 where
+  pub address : address_of b ≡ address_of a
+  pub tree : b.tree ≡ a.tree
+  pub entry : entry_at b.routes.learned s ≡ entry_at a.routes.learned s
+  pub adverts : (o : ℕ) (ip : Option Ip) → advert_at (table_of b) o (Mac s.vni s.mac ip)
       ≡ advert_at (table_of a) o (Mac s.vni s.mac ip)
 
 leaves_itself : (a : Edge) (s : Station) → LeavesBe a a s
@@ -138,11 +138,11 @@ tunnel_step a (events.Mcheck p) result b from octets is h = absurd cc
 tunnel_step a events.Announce result b from octets is h = absurd cc
 
 -- a frame for the station: its source is learnt, and it is sent
-record IsSent (a b : Edge) (s : Station) (from : Source) (reply : Reply) : Type 0 where
-  leaves : LeavesBe a b s
-  decision : Decision
-  there : reply.decision ≡ Some decision
-  is : IsDecision b s.vni s.mac from decision
+pub record IsSent (a b : Edge) (s : Station) (from : Source) (reply : Reply) : Type 0 where
+  pub leaves : LeavesBe a b s
+  pub decision : Decision
+  pub there : reply.decision ≡ Some decision
+  pub is : IsDecision b s.vni s.mac from decision
 
 sent : (passes : Bool) (o : Option Decision) (b : Edge) (vni destination : ℕ) (from : Source) → IsTrue passes
     → SendsIf passes b vni destination from o → (d : Decision) × (o ≡ Some d) × IsDecision b vni destination from d
@@ -150,7 +150,7 @@ sent passes None b vni destination from told h = absurd h
 sent true (Some d) b vni destination from told h = (d, refl, h)
 sent false (Some d) b vni destination from told h = absurd cc
 
-frame_sent : (a b : Edge) (event : Event) (port : ℕ) (s : Station) (reply : Reply) → IsFrameFor a event port s
+pub frame_sent : (a b : Edge) (event : Event) (port : ℕ) (s : Station) (reply : Reply) → IsFrameFor a event port s
     → Steps a event (Ok reply) b → IsSent a b s (Port port) reply
 frame_sent a b event port s reply frame steps =
     let d = sent steps_are.passes reply.decision b s.vni s.mac (Port port) (steps_are.are_passed.1 frame.passes)
@@ -192,7 +192,7 @@ owner_found t vni mac o h = go (owner t vni mac) (owner_is t vni mac)
     go (Some p) is = ap Some (one_owner t vni mac p o is h)
 
 -- what an edge doesn't advertise it hasn't learnt
-no_entry : (a : Edge) (s : Station) → IsGoodEdge a → (Advertises a s → ⊥) → entry_at a.routes.learned s ≡ None
+pub no_entry : (a : Edge) (s : Station) → IsGoodEdge a → (Advertises a s → ⊥) → entry_at a.routes.learned s ≡ None
 no_entry a s h none = go (entry_at a.routes.learned s) refl (own_advert a.routes.speaker (key_of s)) refl
   where
     go : (x : Option Entry) → entry_at a.routes.learned s ≡ x → (y : Option Advert)
@@ -208,12 +208,12 @@ no_entry a s h none = go (entry_at a.routes.learned s) refl (own_advert a.routes
         ap (option_map (λ (x : Advert). x.is_static)) q in
         absurd (let bad : Some x.pinned ≡ None = sym left ∙ k ∙ right in cc)
 
-elsewhere_local : (t : Table) (vni m own o members passing port : ℕ) (entry : Option ℕ) → is_group m ≡ false
+pub elsewhere_local : (t : Table) (vni m own o members passing port : ℕ) (entry : Option ℕ) → is_group m ≡ false
     → entry ≡ None → owner t vni m ≡ Some o → (o == own) ≡ false
     → local_for t vni m entry own (Port port) members passing ≡ 0
 elsewhere_local t vni m own o members passing port entry group none is ne = rw (group, none, is, ne) refl
 
-elsewhere_remote : (t : Table) (vni m own o port : ℕ) (entry : Option ℕ) → is_group m ≡ false → entry ≡ None
+pub elsewhere_remote : (t : Table) (vni m own o port : ℕ) (entry : Option ℕ) → is_group m ≡ false → entry ≡ None
     → owner t vni m ≡ Some o → (o == own) ≡ false → remote_for t vni m entry own (Port port) ≡ o ∷ []
 elsewhere_remote t vni m own o port entry group none is ne = rw (group, none, is, ne) refl
 

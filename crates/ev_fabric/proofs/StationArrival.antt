@@ -36,13 +36,14 @@ use Rattle.ev_fabric.proofs.ConvergingMoves.{rests_before}
 use Rattle.ev_fabric.proofs.ConvergingRounds.{IsReady, move_ready, rests_ready, Has, rests_has, given, deliver_pool}
 use Rattle.ev_fabric.proofs.ConvergingRounds.{Few}
 use Rattle.ev_fabric.proofs.ConvergingRounds.{announcing_few, announcing_none, arrived_value}
-use Rattle.ev_fabric.proofs.StationStages.{filter_has, filter_push, filter_past, no_push, waiting}
-use Rattle.ev_fabric.proofs.StationMotion.{At, one_edge, push_after, StageOf, Stage, AtFirst, AtTold, AtLost, AtOver}
-use Rattle.ev_fabric.proofs.StationMotion.{runs_stage, agreed_known, said_news, begins, u, base, first_stage, some_is}
+use Rattle.ev_fabric.proofs.StationStages.{filter_has, filter_push, filter_past, no_push, waiting, said_news}
+use Rattle.ev_fabric.proofs.StationMotion.{At, one_edge, push_after, StageOf, Phase, AtFirst, AtTold, AtLost, AtOver}
+use Rattle.ev_fabric.proofs.StationMotion.{AtAged, AtLeft, AtBack, Stage}
+use Rattle.ev_fabric.proofs.StationMotion.{runs_stage, agreed_known, begins, u, base, first_stage, some_is}
 use Rattle.ev_fabric.proofs.StationMotion.{to_advertises, Begins}
 
 -- ---- lists
-filter_from : {X : Type 0} (p : X → Bool) (xs : List X) (x : X) → Contains (filter p xs) x
+pub filter_from : {X : Type 0} (p : X → Bool) (xs : List X) (x : X) → Contains (filter p xs) x
     → Contains xs x × (p x ≡ true)
 filter_from p [] x (k, lt, is) = absurd (omega (arith, lt))
 filter_from p (y ∷ ys) x in' = go (p y) refl in' (filter_from p ys x)
@@ -186,8 +187,9 @@ agrees_at f s waits has = record {
 }
 
 -- at a stage at which nothing waits
-stage_waits : {base extra : List Fields} {i j : ℕ} {s : Station} {o : ℕ} {w : Fields} {says : Bool} {pool : List Fields}
-    {edges : List Edge} → StageOf base extra i j s o w [] [] says pool edges → (y : ℕ) (c : Edge) → At edges y c
+pub stage_waits : {base extra : List Fields} {i j : ℕ} {s : Station} {o : ℕ} {w : Fields} {says : Bool}
+    {pool : List Fields} {edges : List Edge} → StageOf base extra i j s o w [] [] says pool edges → (y : ℕ) (c : Edge)
+    → At edges y c
     → waiting s c.routes.speaker ≡ []
 stage_waits {base} {extra} {i} {j} {s} {o} {w} {says} {pool} {edges} g y c at =
     elim (cases_eq y i) as (λ _. waiting s c.routes.speaker ≡ []) [
@@ -213,7 +215,7 @@ module _ (old : Fabric) (i j : ℕ) (s : Station) (mid : Fabric) (sound : IsSoun
 
   -- what is known of a fabric on the way
   record Point (f : Fabric) : Type 0 where
-    stage : Stage before i j s (address_of m.from) advert f.pool f.edges
+    stage : Stage false before i j s (address_of m.from) advert f.pool f.edges
     sound_still : IsSound f
     ready : IsReady f
     has : (y : ℕ) (w : Fields) → Contains before w → Has f y w
@@ -221,8 +223,8 @@ module _ (old : Fabric) (i j : ℕ) (s : Station) (mid : Fabric) (sound : IsSoun
 
   point_rests : (steps : List Step) (f g : Fabric) → Rests f steps g → Point f → Point g
   point_rests steps f g h p = record {
-    stage = (runs_stage before i j s (address_of m.from) advert begun.apart begun.learns.advert steps f g p.sound_still
-        (rests_beside i j s steps f g h) p.stage).0;
+    stage = (runs_stage false before i j s (address_of m.from) advert begun.apart begun.learns.advert steps f g
+        p.sound_still (rests_beside i j s steps f g h) p.stage).0;
     sound_still = rests_sound steps f g h p.sound_still;
     ready = rests_ready steps f g h p.ready;
     has = λ y w in'. rests_has steps f g p.ready.kept h y w (p.has y w in');
@@ -231,7 +233,7 @@ module _ (old : Fabric) (i j : ℕ) (s : Station) (mid : Fabric) (sound : IsSoun
 
   point_mid : Point mid
   point_mid = record {
-    stage = first_stage old i j s mid sound m;
+    stage = first_stage old i j s mid sound m false;
     sound_still = sound_mid;
     ready = record { kept = sound_kept mid sound_mid; numbers = numbers };
     has = λ y w in' c at. let x = filter_from (λ (z : Fields). is_of s z.register) old.pool w in' in
@@ -264,13 +266,18 @@ module _ (old : Fabric) (i j : ℕ) (s : Station) (mid : Fabric) (sound : IsSoun
         f.edges → Late f
 
   late : (f : Fabric) → Point f → length before + 1 ≤ length (updates_on s f.pool) → Late f
-  late f p more = go p.stage
+  late f p more = go p.stage.phase p.stage.of
     where
-      go : Stage before i j s (address_of m.from) advert f.pool f.edges → Late f
-      go (AtFirst g) = let same = ap length (g.grown ∙ no_push before) in absurd (omega (arith, more, same))
-      go (AtTold g) = LateTold g
-      go (AtLost g) = LateLost g
-      go (AtOver w named none g) = LateOver w g
+      go : {extra : List Fields} {here there : List Register} {says : Bool}
+          → Phase false s (address_of m.from) advert extra here there says
+          → StageOf before extra i j s (address_of m.from) advert here there says f.pool f.edges → Late f
+      go AtFirst g = let same = ap length (g.grown ∙ no_push before) in absurd (omega (arith, more, same))
+      go AtTold g = LateTold g
+      go AtLost g = LateLost g
+      go (AtOver w named none) g = LateOver w g
+      go (AtAged yes') g = absurd (let bad : false ≡ true = yes' in cc)
+      go (AtLeft yes' v named' none') g = absurd (let bad : false ≡ true = yes' in cc)
+      go (AtBack yes' v named' none') g = absurd (let bad : false ≡ true = yes' in cc)
 
   -- the pool has the advert
   late_has : (f : Fabric) → Late f → Contains f.pool advert
@@ -290,18 +297,23 @@ module _ (old : Fabric) (i j : ℕ) (s : Station) (mid : Fabric) (sound : IsSoun
 
   -- where nothing is pending at the new place, the advert is out
   none_left : (f : Fabric) → Few f j 0 → Point f → length before + 1 ≤ length (updates_on s f.pool)
-  none_left f few p = go p.stage
+  none_left f few p = go p.stage.phase p.stage.of
     where
       empty : (rs : List Register) → length rs ≤ 0 → (r : Register) → filter (is_of s) rs ≡ r ∷ [] → ⊥
       empty [] le r is = cc
       empty (x ∷ xs) le r is = omega (arith, le)
 
-      go : Stage before i j s (address_of m.from) advert f.pool f.edges
+      go : {extra : List Fields} {here there : List Register} {says : Bool}
+          → Phase false s (address_of m.from) advert extra here there says
+          → StageOf before extra i j s (address_of m.from) advert here there says f.pool f.edges
           → length before + 1 ≤ length (updates_on s f.pool)
-      go (AtFirst g) = absurd (empty g.to.routes.speaker.pending (few g.to g.at_to) advert.register g.is_to.waits)
-      go (AtTold g) = longer_by_one f (LateTold g)
-      go (AtLost g) = longer_by_one f (LateLost g)
-      go (AtOver w named none g) = longer_by_one f (LateOver w g)
+      go AtFirst g = absurd (empty g.to.routes.speaker.pending (few g.to g.at_to) advert.register g.is_to.waits)
+      go AtTold g = longer_by_one f (LateTold g)
+      go AtLost g = longer_by_one f (LateLost g)
+      go (AtOver w named none) g = longer_by_one f (LateOver w g)
+      go (AtAged yes') g = absurd (let bad : false ≡ true = yes' in cc)
+      go (AtLeft yes' v named' none') g = absurd (let bad : false ≡ true = yes' in cc)
+      go (AtBack yes' v named' none') g = absurd (let bad : false ≡ true = yes' in cc)
 
   -- once each edge has the advert, the old place has lost the station: else both would agree and advertise it
   not_told : (f : Fabric) → Point f → ((y : ℕ) → Has f y advert)
@@ -440,7 +452,7 @@ module _ (old : Fabric) (i j : ℕ) (s : Station) (mid : Fabric) (sound : IsSoun
                       ]
 
                   waits : (y : ℕ) (c : Edge) → IsEdge new y c → waiting s c.routes.speaker ≡ []
-                  waits = go q.stage
+                  waits = go q.stage.phase q.stage.of
                     where
                       long : length before + 2 ≤ length (updates_on s new.pool)
                       long = let same = ap (λ l. length (updates_on s l)) pool
@@ -448,15 +460,20 @@ module _ (old : Fabric) (i j : ℕ) (s : Station) (mid : Fabric) (sound : IsSoun
                           ∙ push_length (before ++ advert ∷ []) w ∙ ap suc (push_length before advert) in
                           omega (arith, same)
 
-                      go : Stage before i j s (address_of m.from) advert new.pool new.edges → (y : ℕ) (c : Edge)
-                          → IsEdge new y c → waiting s c.routes.speaker ≡ []
-                      go (AtFirst k) = let same = ap length (k.grown ∙ no_push before) in let more' = long in
+                      go : {extra : List Fields} {here there : List Register} {says : Bool}
+                          → Phase false s (address_of m.from) advert extra here there says
+                          → StageOf before extra i j s (address_of m.from) advert here there says new.pool new.edges
+                          → (y : ℕ) (c : Edge) → IsEdge new y c → waiting s c.routes.speaker ≡ []
+                      go AtFirst k = let same = ap length (k.grown ∙ no_push before) in let more' = long in
                           absurd (omega (arith, same, more'))
-                      go (AtTold k) = let same = ap length k.grown ∙ push_length before advert in let more' = long in
+                      go AtTold k = let same = ap length k.grown ∙ push_length before advert in let more' = long in
                           absurd (omega (arith, same, more'))
-                      go (AtLost k) = let same = ap length k.grown ∙ push_length before advert in let more' = long in
+                      go AtLost k = let same = ap length k.grown ∙ push_length before advert in let more' = long in
                           absurd (omega (arith, same, more'))
-                      go (AtOver z named none k) = stage_waits k
+                      go (AtOver z named none) k = stage_waits k
+                      go (AtAged yes') k = absurd (let bad : false ≡ true = yes' in cc)
+                      go (AtLeft yes' v named' none') k = absurd (let bad : false ≡ true = yes' in cc)
+                      go (AtBack yes' v named' none') k = absurd (let bad : false ≡ true = yes' in cc)
 
 pub station_arrives : StationArrives
 station_arrives i j s old mid told sound numbers m runs = arrives old i j s mid sound numbers m told runs

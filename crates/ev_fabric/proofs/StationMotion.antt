@@ -6,10 +6,8 @@ use Rattle.std.proofs.lemmas.List.Elements.{Contains-append_left, Contains-push}
 use Rattle.std.specs.Prelude.{Contains, IsSome, is_some, slice_get, slice_set}
 use Rattle.std.specs.Option.{MatchOption}
 use Rattle.std.specs.List.{filter}
-use Rattle.route_wire.specs.declared.update.Key.{Key}
 use Rattle.route_wire.specs.declared.update.Register.{Register}
 use Rattle.route_wire.specs.declared.update.Advert.{Advert}
-use Rattle.route_wire.specs.declared.update.Content.{Content}
 use Rattle.route_wire.specs.declared.update.Value.{Value}
 use Rattle.route_wire.specs.Fields.{Fields}
 use Rattle.route_join.specs.Table.{value_at, is_news, register_of}
@@ -17,13 +15,13 @@ use Rattle.route_join.specs.Owner.{advert_in, advert_of, IsOwner}
 use Rattle.route_join.proofs.Tables.{not_newer_itself}
 use Rattle.mac_arena.specs.declared.station.Station.{Station}
 use Rattle.mac_arena.specs.Learning.{entry_at}
-use Rattle.ev_claims.specs.Speaker.{Speaker, KeepsNumbers, own_register, own, own_advert, next_value, is_newest}
-use Rattle.ev_claims.specs.Speaker.{after_originating, silent}
+use Rattle.ev_claims.specs.Speaker.{Speaker, own_register, own, own_advert, next_value, is_newest}
+use Rattle.ev_claims.specs.Speaker.{silent}
 use Rattle.ev_claims.specs.LocalRoutes.{key_of}
-use Rattle.ev_claims.proofs.Numbers.{own_same, said_joins}
+use Rattle.ev_claims.proofs.Numbers.{own_same}
 use Rattle.ev_edge.specs.declared.config.EdgeConfig.{EdgeConfig}
 use Rattle.ev_edge.specs.declared.reply.Reply.{Reply}
-use Rattle.ev_edge.specs.Edge.{Edge, table_of, address_of}
+use Rattle.ev_edge.specs.Edge.{Edge, IsGoodEdge, table_of, address_of}
 use Rattle.ev_edge.specs.Steps.{Steps}
 use Rattle.ev_fabric.specs.declared.refusal.FabricRefusal.{FabricRefusal}
 use Rattle.ev_fabric.specs.declared.refusal.FabricRefusal.TheVariants.{NoSuchEdge}
@@ -36,20 +34,22 @@ use Rattle.ev_fabric.specs.Steps.{IsRefused, StepsAt, in_incarnation, OpensAnew,
 use Rattle.ev_fabric.specs.Sound.{update_of, IsSound}
 use Rattle.ev_fabric.specs.Agreed.{Advertises}
 use Rattle.ev_fabric.specs.Station.{is_of, AgreesOn, StationComes, RestartsElsewhere, LeavesStation, RunsBeside}
-use Rattle.ev_fabric.specs.Station.{SaysTheSame, updates_on, StationMoved, StationMoves}
+use Rattle.ev_fabric.specs.Station.{SaysTheSame, updates_on, StationMoves, LosesItself, RunsLosing, StationMovesAnyhow}
 use Rattle.ev_fabric.proofs.Agreements.{advert_bare, learnt}
 use Rattle.ev_fabric.proofs.Stations.{about_station, station_one, station_owner}
 use Rattle.ev_fabric.proofs.Places.{set_cases, set_same, set_other}
+use Rattle.ev_fabric.proofs.Voices.{Talks}
 use Rattle.ev_fabric.proofs.Events.{local_talks}
 use Rattle.ev_fabric.proofs.Fabrics.{step_sound}
-use Rattle.ev_fabric.proofs.ConvergingEdge.{heard, news_stay}
+use Rattle.ev_fabric.proofs.ConvergingEdge.{heard}
 use Rattle.ev_fabric.proofs.ConvergingGood.{quieter}
 use Rattle.ev_fabric.proofs.ConvergingMoves.{Kept, Move, Stays, Tells, Takes, minus, moved, own_pending, sound_kept}
 use Rattle.ev_fabric.proofs.ConvergingLearning.{LearnsIt, learns_anew}
 use Rattle.ev_fabric.proofs.StationStages.{filter_none, filter_push, filter_past, no_push, waiting, marked_first}
 use Rattle.ev_fabric.proofs.StationStages.{SameOf, same_own, left_same, floods_same, silent_quiet, heard_other, IsTo}
 use Rattle.ev_fabric.proofs.StationStages.{IsFrom, IsAside, to_same, from_same, aside_same, to_push, from_push}
-use Rattle.ev_fabric.proofs.StationStages.{aside_push, Hears, idle_grows, to_grows, from_grows, aside_hears, from_hears}
+use Rattle.ev_fabric.proofs.StationStages.{said_news, talks_news, speaks, aside_push, Hears}
+use Rattle.ev_fabric.proofs.StationStages.{idle_grows, to_grows, from_grows, aside_hears, from_hears}
 
 -- an edge at a place of a list
 abbrev pub At : List Edge → ℕ → Edge → Type 0
@@ -81,18 +81,42 @@ pub record StageOf (base extra : List Fields) (i j : ℕ) (s : Station) (o : ℕ
   pub is_from : IsFrom pool extra s o here says from.routes.speaker
   pub asides : (x : ℕ) (c : Edge) → x ≢ i → x ≢ j → At edges x c → IsAside pool s c.routes.speaker
 
--- the four stages, one after another
-pub data Stage (base : List Fields) (i j : ℕ) (s : Station) (o : ℕ) (u : Fields) (pool : List Fields)
-    (edges : List Edge) : Type 0 where
-  AtFirst : StageOf base [] i j s o u [] (u.register ∷ []) true pool edges → Stage base i j s o u pool edges
-  AtTold : StageOf base (u ∷ []) i j s o u [] [] true pool edges → Stage base i j s o u pool edges
-  AtLost : StageOf base (u ∷ []) i j s o u (register_of o (key_of s) ∷ []) [] false pool edges
-      → Stage base i j s o u pool edges
+-- What the pool has got, what is pending at the old place and at the new one, and whether the old place advertises
+-- still. Where it may lose the station by itself, its withdrawal may come first.
+pub data Phase (may : Bool) (s : Station) (o : ℕ) (u : Fields) : List Fields → List Register → List Register → Bool
+    → Type 0 where
+  AtFirst : Phase may s o u [] [] (u.register ∷ []) true
+  AtTold : Phase may s o u (u ∷ []) [] [] true
+  AtLost : Phase may s o u (u ∷ []) (register_of o (key_of s) ∷ []) [] false
   AtOver : (w : Fields) → w.register ≡ register_of o (key_of s) → advert_in w.value.content ≡ None
-      → StageOf base (u ∷ w ∷ []) i j s o u [] [] false pool edges → Stage base i j s o u pool edges
+      → Phase may s o u (u ∷ w ∷ []) [] [] false
+  AtAged : may ≡ true → Phase may s o u [] (register_of o (key_of s) ∷ []) (u.register ∷ []) false
+  AtLeft : may ≡ true → (w : Fields) → w.register ≡ register_of o (key_of s) → advert_in w.value.content ≡ None
+      → Phase may s o u (w ∷ []) [] (u.register ∷ []) false
+  AtBack : may ≡ true → (w : Fields) → w.register ≡ register_of o (key_of s) → advert_in w.value.content ≡ None
+      → Phase may s o u (w ∷ u ∷ []) [] [] false
 
-module _ (base : List Fields) (i j : ℕ) (s : Station) (o : ℕ) (u : Fields) (apart : i ≢ j)
+pub record Stage (may : Bool) (base : List Fields) (i j : ℕ) (s : Station) (o : ℕ) (u : Fields) (pool : List Fields)
+    (edges : List Edge) : Type 0 where
+  pub extra : List Fields
+  pub here : List Register
+  pub there : List Register
+  pub says : Bool
+  pub phase : Phase may s o u extra here there says
+  pub of : StageOf base extra i j s o u here there says pool edges
+
+module _ (may : Bool) (base : List Fields) (i j : ℕ) (s : Station) (o : ℕ) (u : Fields) (apart : i ≢ j)
     (some : IsSome (advert_in u.value.content)) where
+  abbrev Staged : List Fields → List Edge → Type 0
+  Staged pool edges = Stage may base i j s o u pool edges
+
+  -- at a phase
+  at_phase : {extra : List Fields} {here there : List Register} {says : Bool} {pool : List Fields} {edges : List Edge}
+      → Phase may s o u extra here there says → StageOf base extra i j s o u here there says pool edges
+      → Staged pool edges
+  at_phase {extra} {here} {there} {says} phase g =
+      record { extra = extra; here = here; there = there; says = says; phase = phase; of = g }
+
   -- one edge becomes another
   stage_set : {extra extra' : List Fields} {here here' there there' : List Register} {says says' : Bool}
       {pool pool' : List Fields} {edges : List Edge} (x : ℕ) (a b : Edge)
@@ -165,12 +189,8 @@ module _ (base : List Fields) (i j : ℕ) (s : Station) (o : ℕ) (u : Fields) (
       (λ ne_i ne_j t. aside_same pool s a.routes.speaker b.routes.speaker same t) (λ y c ne at_c t. t)
 
   stays_same : {pool : List Fields} {edges : List Edge} (x : ℕ) (a b : Edge) → At edges x a
-      → SameOf s a.routes.speaker b.routes.speaker → Stage base i j s o u pool edges
-      → Stage base i j s o u pool (slice_set edges x b)
-  stays_same x a b at same (AtFirst g) = AtFirst (stage_same x a b g at same)
-  stays_same x a b at same (AtTold g) = AtTold (stage_same x a b g at same)
-  stays_same x a b at same (AtLost g) = AtLost (stage_same x a b g at same)
-  stays_same x a b at same (AtOver w named none g) = AtOver w named none (stage_same x a b g at same)
+      → SameOf s a.routes.speaker b.routes.speaker → Staged pool edges → Staged pool (slice_set edges x b)
+  stays_same x a b at same k = at_phase k.phase (stage_same x a b k.of at same)
 
   -- ---- another edge than the two changes, and says nothing of the station
   stage_aside : {extra : List Fields} {here there : List Register} {says : Bool} {pool : List Fields}
@@ -182,13 +202,8 @@ module _ (base : List Fields) (i j : ℕ) (s : Station) (o : ℕ) (u : Fields) (
       (λ ne c at_c t. t) (λ p q t. quiet) (λ y c ne at_c t. t)
 
   stays_aside : {pool : List Fields} {edges : List Edge} (x : ℕ) (a b : Edge) → x ≢ i → x ≢ j → At edges x a
-      → IsAside pool s b.routes.speaker → Stage base i j s o u pool edges
-      → Stage base i j s o u pool (slice_set edges x b)
-  stays_aside x a b ne_i ne_j at quiet (AtFirst g) = AtFirst (stage_aside x a b ne_i ne_j g at quiet)
-  stays_aside x a b ne_i ne_j at quiet (AtTold g) = AtTold (stage_aside x a b ne_i ne_j g at quiet)
-  stays_aside x a b ne_i ne_j at quiet (AtLost g) = AtLost (stage_aside x a b ne_i ne_j g at quiet)
-  stays_aside x a b ne_i ne_j at quiet (AtOver w named none g) =
-      AtOver w named none (stage_aside x a b ne_i ne_j g at quiet)
+      → IsAside pool s b.routes.speaker → Staged pool edges → Staged pool (slice_set edges x b)
+  stays_aside x a b ne_i ne_j at quiet k = at_phase k.phase (stage_aside x a b ne_i ne_j k.of at quiet)
 
   -- ---- an update of the station is taken
 
@@ -285,46 +300,54 @@ module _ (base : List Fields) (i j : ℕ) (s : Station) (o : ℕ) (u : Fields) (
   no_update : {w : Fields} → Contains [] w → ⊥
   no_update (x, lt, is) = omega (arith, lt)
 
-  no_news : News []
-  no_news w in' = absurd (no_update in')
+  none_news : (w : Fields) → advert_in w.value.content ≡ None → (z : Fields) → Contains (w ∷ []) z
+      → advert_in z.value.content ≡ None
+  none_news w none z (zero, lt, is) = subst (λ (y : Fields). advert_in y.value.content ≡ None) is none
+  none_news w none z (suc n, lt, is) = absurd (omega (arith, lt))
 
-  one_news : News (u ∷ [])
-  one_news w (zero, lt, is) = inl (sym is)
-  one_news w (suc n, lt, is) = absurd (omega (arith, lt))
+  front_news : (rest : List Fields) → ((z : Fields) → Contains rest z → (z ≡ u) ⊎ (advert_in z.value.content ≡ None))
+      → News (u ∷ rest)
+  front_news rest news w (zero, lt, is) = inl (sym is)
+  front_news rest news w (suc n, lt, is) = news w (n, omega (arith, lt), is)
 
-  two_news : (v : Fields) → advert_in v.value.content ≡ None → News (u ∷ v ∷ [])
-  two_news v none w (zero, lt, is) = inl (sym is)
-  two_news v none w (suc zero, lt, is) = inr (subst (λ (y : Fields). advert_in y.value.content ≡ None) is none)
-  two_news v none w (suc (suc n), lt, is) = absurd (omega (arith, lt))
+  phase_news : {extra : List Fields} {here there : List Register} {says : Bool}
+      → Phase may s o u extra here there says → News extra
+  phase_news AtFirst w in' = absurd (no_update in')
+  phase_news AtTold w in' = front_news [] (λ z never. absurd (no_update never)) w in'
+  phase_news AtLost w in' = front_news [] (λ z never. absurd (no_update never)) w in'
+  phase_news (AtOver v named none) w in' = front_news (v ∷ []) (λ z later. inr (none_news v none z later)) w in'
+  phase_news (AtAged yes') w in' = absurd (no_update in')
+  phase_news (AtLeft yes' v named none) w in' = inr (none_news v none w in')
+  phase_news (AtBack yes' v named none) w (zero, lt, is) = inr
+      (subst (λ (y : Fields). advert_in y.value.content ≡ None) is none)
+  phase_news (AtBack yes' v named none) w (suc n, lt, is) = front_news [] (λ z never. absurd (no_update never)) w
+      (n, omega (arith, lt), is)
 
   takes_stage : {pool : List Fields} {edges : List Edge} (x : ℕ) (a : Edge) (w : Fields) → At edges x a
       → Contains pool w → is_of s w.register ≡ true → Hears a.routes w
-      → ((c d : Edge) → At edges j c → At edges i d → address_of c ≢ address_of d) → Stage base i j s o u pool edges
-      → Stage base i j s o u pool (slice_set edges x (took a w))
-  takes_stage {pool} {edges} x a w at in' of h differ (AtFirst g) =
-      elim (stage_takes x a w g no_news at in' of h differ) as (λ _. Stage base i j s o u pool
+      → ((c d : Edge) → At edges j c → At edges i d → address_of c ≢ address_of d) → Staged pool edges
+      → Staged pool (slice_set edges x (took a w))
+  takes_stage {pool} {edges} x a w at in' of h differ k =
+      elim (stage_takes x a w k.of (phase_news k.phase) at in' of h differ) as (λ _. Staged pool
       (slice_set edges x (took a w))) [
-        | inl k ↦ AtFirst k
-        | inr k ↦ absurd (no_update k.0)
+        | inl g ↦ at_phase k.phase g
+        | inr g ↦ loses k.phase g.0 g.1 g.2
       ]
-  takes_stage {pool} {edges} x a w at in' of h differ (AtTold g) =
-      elim (stage_takes x a w g one_news at in' of h differ) as (λ _. Stage base i j s o u pool
-      (slice_set edges x (took a w))) [
-        | inl k ↦ AtTold k
-        | inr k ↦ AtLost (k.2 refl)
-      ]
-  takes_stage {pool} {edges} x a w at in' of h differ (AtLost g) =
-      elim (stage_takes x a w g one_news at in' of h differ) as (λ _. Stage base i j s o u pool
-      (slice_set edges x (took a w))) [
-        | inl k ↦ AtLost k
-        | inr k ↦ absurd (let never : false ≡ true = k.1 in cc)
-      ]
-  takes_stage {pool} {edges} x a w at in' of h differ (AtOver v named none g) =
-      elim (stage_takes x a w g (two_news v none) at in' of h differ) as (λ _. Stage base i j s o u pool
-      (slice_set edges x (took a w))) [
-        | inl k ↦ AtOver v named none k
-        | inr k ↦ absurd (let never : false ≡ true = k.1 in cc)
-      ]
+    where
+      never : false ≡ true → ⊥
+      never e = cc
+
+      loses : {extra : List Fields} {here there : List Register} {says : Bool} → Phase may s o u extra here there says
+          → Contains extra u → says ≡ true → (here ≡ []
+          → StageOf base extra i j s o u (register_of o (key_of s) ∷ []) there false pool
+          (slice_set edges x (took a w))) → Staged pool (slice_set edges x (took a w))
+      loses AtFirst in' e g = absurd (no_update in')
+      loses AtTold in' e g = at_phase AtLost (g refl)
+      loses AtLost in' e g = absurd (never e)
+      loses (AtOver v named none) in' e g = absurd (never e)
+      loses (AtAged yes') in' e g = absurd (never e)
+      loses (AtLeft yes' v named none) in' e g = absurd (never e)
+      loses (AtBack yes' v named none) in' e g = absurd (never e)
 
   -- ---- an edge announces
 
@@ -453,78 +476,109 @@ module _ (base : List Fields) (i j : ℕ) (s : Station) (o : ℕ) (u : Fields) (
       no_first : {rest : List Register} → r ∷ rest ≡ [] → ⊥
       no_first e = let bad = e in cc
 
-      tells_mine : Stage base i j s o u pool edges → Stage base i j s o u grew after
-      tells_mine (AtFirst g) = elim (place g) as (λ _. Stage base i j s o u grew after) [
-        | inl p ↦ absurd (no_first (from_waits p g))
-        | inr p ↦ AtTold (subst (λ l. StageOf base (u ∷ []) i j s o u [] l true grew after) (ends p)
-            (subst (λ (y : Fields). StageOf base (y ∷ []) i j s o u [] left true grew after) (w_is p) (tells_to p g)))
-      ]
+      -- the new place announces the advert
+      tells_advert : {extra : List Fields} {here : List Register} {says : Bool} → x ≡ j
+          → StageOf base extra i j s o u here (u.register ∷ []) says pool edges
+          → StageOf base (extra ++ u ∷ []) i j s o u here [] says grew after
+      tells_advert {extra} {here} {says} p g =
+          subst (λ l. StageOf base (extra ++ u ∷ []) i j s o u here l says grew after) ends
+          (subst (λ (y : Fields). StageOf base (extra ++ y ∷ []) i j s o u here left says grew after) w_is
+          (tells_to p g))
         where
-          ends : x ≡ j → left ≡ []
-          ends p = let e = to_waits p g in cc
+          ends : left ≡ []
+          ends = let e = to_waits p g in cc
 
-          register : x ≡ j → r ≡ u.register
-          register p = let e = to_waits p g in cc
+          register : r ≡ u.register
+          register = let e = to_waits p g in cc
 
-          value : x ≡ j → v ≡ u.value
-          value p =
+          value : v ≡ u.value
+          value =
               let a_is = one_edge edges x j a g.to p at g.at_to in
-              let says : value_at (table_of a) u.register ≡ Some u.value =
+              let has : value_at (table_of a) u.register ≡ Some u.value =
               subst (λ (e : Edge). value_at (table_of e) u.register ≡ Some u.value) a_is
               (ap (value_at (table_of g.to)) (sym g.is_to.register) ∙ g.is_to.says) in
-              let both : Some v ≡ Some u.value = sym is ∙ ap (value_at (table_of a)) (register p) ∙ says in
+              let both : Some v ≡ Some u.value = sym is ∙ ap (value_at (table_of a)) register ∙ has in
               cc
 
-          w_is : x ≡ j → update_of r v ≡ u
-          w_is p = λ n. update_of (register p n) (value p n)
-      tells_mine (AtTold g) = absurd (elim (place g) as (λ _. ⊥) [
-        | inl p ↦ no_first (from_waits p g)
-        | inr p ↦ no_first (to_waits p g)
-      ])
-      tells_mine (AtLost g) = elim (place g) as (λ _. Stage base i j s o u grew after) [
-        | inl p ↦ AtOver (update_of r v) (register p) (withdrawn p)
-            (subst (λ l. StageOf base (u ∷ update_of r v ∷ []) i j s o u l [] false grew after) (ends p)
-            (tells_from p g))
-        | inr p ↦ absurd (no_first (to_waits p g))
-      ]
-        where
-          ends : x ≡ i → left ≡ []
-          ends p = let e = from_waits p g in cc
+          w_is : update_of r v ≡ u
+          w_is = λ n. update_of (register n) (value n)
 
-          register : x ≡ i → r ≡ register_of o (key_of s)
-          register p = let e = from_waits p g in cc
+      -- the old place announces its withdrawal
+      record Withdraws (extra : List Fields) (there : List Register) : Type 0 where
+        named : r ≡ register_of o (key_of s)
+        none : advert_in v.content ≡ None
+        stage : StageOf base (extra ++ update_of r v ∷ []) i j s o u [] there false grew after
+
+      withdraws : {extra : List Fields} {there : List Register} → x ≡ i
+          → StageOf base extra i j s o u (register_of o (key_of s) ∷ []) there false pool edges
+          → Withdraws extra there
+      withdraws {extra} {there} p g = record {
+        named = named;
+        none = none_in (advert_in v.content) (ap (λ q. is_some (advert_of q)) (sym is
+            ∙ ap (value_at (table_of a)) (named ∙ sym own_is)) ∙ t.said);
+        stage = subst (λ l. StageOf base (extra ++ update_of r v ∷ []) i j s o u l there false grew after) ends
+            (tells_from p g);
+      }
+        where
+          ends : left ≡ []
+          ends = let e = from_waits p g in cc
+
+          named : r ≡ register_of o (key_of s)
+          named = let e = from_waits p g in cc
 
           none_in : (c : Option Advert) → is_some c ≡ false → c ≡ None
           none_in None e = refl
           none_in (Some y) e = cc
 
-          withdrawn : x ≡ i → advert_in v.content ≡ None
-          withdrawn p =
-              let t : IsFrom pool (u ∷ []) s o (register_of o (key_of s) ∷ []) false a.routes.speaker =
-              subst (λ (e : Edge). IsFrom pool (u ∷ []) s o (register_of o (key_of s) ∷ []) false e.routes.speaker)
-              (one_edge edges x i a g.from p at g.at_from) g.is_from in
-              let own_is : own_register a.routes.speaker (key_of s) ≡ register_of o (key_of s) =
-              ap (λ q. register_of q (key_of s)) t.name in
-              none_in (advert_in v.content) (ap (λ q. is_some (advert_of q)) (sym is
-              ∙ ap (value_at (table_of a)) (register p ∙ sym own_is)) ∙ t.said)
-      tells_mine (AtOver w named none g) = absurd (elim (place g) as (λ _. ⊥) [
+          t : IsFrom pool extra s o (register_of o (key_of s) ∷ []) false a.routes.speaker
+          t = subst (λ (e : Edge). IsFrom pool extra s o (register_of o (key_of s) ∷ []) false e.routes.speaker)
+              (one_edge edges x i a g.from p at g.at_from) g.is_from
+
+          own_is : own_register a.routes.speaker (key_of s) ≡ register_of o (key_of s)
+          own_is = ap (λ q. register_of q (key_of s)) t.name
+
+      tells_mine : {extra : List Fields} {here there : List Register} {says : Bool}
+          → Phase may s o u extra here there says → StageOf base extra i j s o u here there says pool edges
+          → Staged grew after
+      tells_mine AtFirst g = elim (place g) as (λ _. Staged grew after) [
+        | inl p ↦ absurd (no_first (from_waits p g))
+        | inr p ↦ at_phase AtTold (tells_advert p g)
+      ]
+      tells_mine AtTold g = absurd (elim (place g) as (λ _. ⊥) [
+        | inl p ↦ no_first (from_waits p g)
+        | inr p ↦ no_first (to_waits p g)
+      ])
+      tells_mine AtLost g = elim (place g) as (λ _. Staged grew after) [
+        | inl p ↦ let k = withdraws p g in at_phase (AtOver (update_of r v) k.named k.none) k.stage
+        | inr p ↦ absurd (no_first (to_waits p g))
+      ]
+      tells_mine (AtOver w named none) g = absurd (elim (place g) as (λ _. ⊥) [
+        | inl p ↦ no_first (from_waits p g)
+        | inr p ↦ no_first (to_waits p g)
+      ])
+      tells_mine (AtAged yes') g = elim (place g) as (λ _. Staged grew after) [
+        | inl p ↦ let k = withdraws p g in at_phase (AtLeft yes' (update_of r v) k.named k.none) k.stage
+        | inr p ↦ at_phase AtLost (tells_advert p g)
+      ]
+      tells_mine (AtLeft yes' w named none) g = elim (place g) as (λ _. Staged grew after) [
+        | inl p ↦ absurd (no_first (from_waits p g))
+        | inr p ↦ at_phase (AtBack yes' w named none) (tells_advert p g)
+      ]
+      tells_mine (AtBack yes' w named none) g = absurd (elim (place g) as (λ _. ⊥) [
         | inl p ↦ no_first (from_waits p g)
         | inr p ↦ no_first (to_waits p g)
       ])
 
-    tells_stage : Stage base i j s o u pool edges → Stage base i j s o u grew after
-    tells_stage stage = go (is_of s r) refl stage
+    tells_stage : Staged pool edges → Staged grew after
+    tells_stage k = go (is_of s r) refl
       where
-        go : (b : Bool) → is_of s r ≡ b → Stage base i j s o u pool edges → Stage base i j s o u grew after
-        go true of k = tells_mine of k
-        go false other (AtFirst g) = AtFirst (tells_other other g)
-        go false other (AtTold g) = AtTold (tells_other other g)
-        go false other (AtLost g) = AtLost (tells_other other g)
-        go false other (AtOver w named none g) = AtOver w named none (tells_other other g)
+        go : (b : Bool) → is_of s r ≡ b → Staged grew after
+        go true of = tells_mine of k.phase k.of
+        go false other = at_phase k.phase (tells_other other k.of)
 
   -- ---- every step
-  stage_moves : (old new : Fabric) → Kept old → Move old new → Stage base i j s o u old.pool old.edges
-      → Stage base i j s o u new.pool new.edges
+  stage_moves : (old new : Fabric) → Kept old → Move old new → Staged old.pool old.edges
+      → Staged new.pool new.edges
   stage_moves old _ kept Stays stage = stage
   stage_moves old _ kept (Tells x a r rs v at pend is) stage =
       tells_stage old.pool old.edges x a r rs v at pend is
@@ -535,7 +589,7 @@ module _ (base : List Fields) (i j : ℕ) (s : Station) (o : ℕ) (u : Fields) (
       differ : (c d : Edge) → At old.edges j c → At old.edges i d → address_of c ≢ address_of d
       differ c d at_c at_d same = apart (sym (kept.apart j i c d at_c at_d same))
 
-      go : (b : Bool) → is_of s w.register ≡ b → Stage base i j s o u old.pool (slice_set old.edges x (took a w))
+      go : (b : Bool) → is_of s w.register ≡ b → Staged old.pool (slice_set old.edges x (took a w))
       go true of = takes_stage x a w at in' of (record {
         numbers = (kept.keeps x a at).numbers;
         owns = (kept.keeps x a at).holds.owns;
@@ -543,25 +597,96 @@ module _ (base : List Fields) (i j : ℕ) (s : Station) (o : ℕ) (u : Fields) (
       }) differ stage
       go false other = stays_same x a (took a w) at (heard_other s a.routes w other) stage
 
-  -- an event from outside that leaves what the edge says of the station
+  -- the old place loses the station by itself
+  module _ (x : ℕ) (a b : Edge) (talks : Talks a.routes.speaker b.routes.speaker) (good : IsGoodEdge a)
+      (p : x ≡ i) (had : Advertises a s) (gone : Advertises b s → ⊥) where
+    own_gone : own_advert b.routes.speaker (key_of s) ≡ None
+    own_gone = go (own_advert b.routes.speaker (key_of s)) refl
+      where
+        go : (y : Option Advert) → own_advert b.routes.speaker (key_of s) ≡ y
+            → own_advert b.routes.speaker (key_of s) ≡ None
+        go None e = e
+        go (Some y) e = absurd (gone (None, y, e))
+
+    own_had : is_some (own_advert a.routes.speaker (key_of s)) ≡ true
+    own_had = ap is_some (advert_bare a s good had).1
+
+    from_loses : (pool extra : List Fields) → IsFrom pool extra s o [] true a.routes.speaker
+        → IsFrom pool extra s o (register_of o (key_of s) ∷ []) false b.routes.speaker
+    from_loses pool extra t = elim (speaks s a.routes.speaker b.routes.speaker talks t.waits) as (λ _. IsFrom pool extra
+        s o (register_of o (key_of s) ∷ []) false b.routes.speaker) [
+          | inl same ↦ absurd (not_both own_had (ap (λ y. is_some (advert_of y))
+              (sym (same_own s a.routes.speaker b.routes.speaker same)) ∙ ap is_some own_gone))
+          | inr spoke ↦ record {
+            name = spoke.address ∙ t.name;
+            said = ap is_some own_gone;
+            waits = spoke.waits ∙ ap (λ q. register_of q (key_of s) ∷ []) t.name;
+            known = λ w in' of. elim (t.known w in' of) as (λ _. (is_newest b.routes.speaker w ≡ false)
+                ⊎ Contains extra w) [
+                  | inl old ↦ inl (talks_news a.routes.speaker b.routes.speaker talks good.routes.numbers w old)
+                  | inr new ↦ inr new
+                ];
+          }
+        ]
+
+    loses_stage : {pool : List Fields} {edges : List Edge} → may ≡ true → At edges x a → Staged pool edges
+        → Staged pool (slice_set edges x b)
+    loses_stage {pool} {edges} yes' at k = go k.phase k.of says
+      where
+        says : k.says ≡ true
+        says = sym k.of.is_from.said ∙ ap (λ (e : Edge). is_some (own_advert e.routes.speaker (key_of s)))
+            (one_edge edges x i a k.of.from p at k.of.at_from) ∙ own_had
+
+        never : false ≡ true → ⊥
+        never e = cc
+
+        set : {extra : List Fields} {there : List Register} → StageOf base extra i j s o u [] there true pool edges
+            → StageOf base extra i j s o u (register_of o (key_of s) ∷ []) there false pool (slice_set edges x b)
+        set {extra} g = stage_set x a b g at g.grown (λ q _. absurd (apart (sym p ∙ q))) (λ ne c at_c t. t)
+            (λ q t. from_loses pool extra t) (λ ne. absurd (ne p)) (λ ne. absurd (ne p)) (λ y c ne at_c t. t)
+
+        go : {extra : List Fields} {here there : List Register} {says : Bool} → Phase may s o u extra here there says
+            → StageOf base extra i j s o u here there says pool edges → says ≡ true → Staged pool (slice_set edges x b)
+        go AtFirst g e = at_phase (AtAged yes') (set g)
+        go AtTold g e = at_phase AtLost (set g)
+        go AtLost g e = absurd (never e)
+        go (AtOver w named none) g e = absurd (never e)
+        go (AtAged y) g e = absurd (never e)
+        go (AtLeft y w named none) g e = absurd (never e)
+        go (AtBack y w named none) g e = absurd (never e)
+
+  -- a step that leaves what is said of the station, or by which the old place loses it
+  abbrev Leaves : Fabric → Step → Fabric → Type 0
+  Leaves old (Local e event) new = (x : ℕ) (a b : Edge) → e ≡ suc x → IsEdge old x a → IsEdge new x b
+      → SaysTheSame s a b ⊎ ((may ≡ true) × LosesItself i s x a b)
+  Leaves old (Announce e) new = Unit {0}
+  Leaves old (Deliver e k) new = Unit {0}
+  Leaves old (Restart e n) new = LeavesStation i j s old (Restart e n) new
+
+  -- an event from outside
   local_stage : (old new : Fabric) (x : ℕ) (a : Edge) (event : LocalEvent) (result : Result Reply FabricRefusal)
       → IsSound old
       → IsEdge old x a → (h : StepsAt old (suc x) a (event_of event) result new)
-      → ((b : Edge) → IsEdge new x b → SaysTheSame s a b)
-      → Stage base i j s o u old.pool old.edges → Stage base i j s o u new.pool new.edges
+      → ((b : Edge) → IsEdge new x b → SaysTheSame s a b ⊎ ((may ≡ true) × LosesItself i s x a b))
+      → Staged old.pool old.edges → Staged new.pool new.edges
   local_stage old new x a event result sound at h same stage =
       let whole : new ≡ record old { edges = slice_set old.edges x h.after } = h.new_is
       ∙ (λ n. record old { edges = slice_set old.edges (minus x n) h.after }) in
       let here : IsEdge new x h.after = subst (λ f. IsEdge f x h.after) (sym whole)
       (set_same old.edges x a h.after at) in
-      let left = left_same s a.routes.speaker h.after.routes.speaker (local_talks a event h.answer h.after h.steps)
-      (sound.good x a at).routes.numbers (same h.after here) in
-      subst (λ (f : Fabric). Stage base i j s o u f.pool f.edges) (sym whole) (stays_same x a h.after at left stage)
+      let talks = local_talks a event h.answer h.after h.steps in
+      let good = sound.good x a at in
+      subst (λ (f : Fabric). Staged f.pool f.edges) (sym whole) (elim (same h.after here) as (λ _. Staged old.pool
+      (slice_set old.edges x h.after)) [
+        | inl same ↦ stays_same x a h.after at (left_same s a.routes.speaker h.after.routes.speaker talks
+            good.routes.numbers same) stage
+        | inr l ↦ loses_stage x a h.after talks good l.1.0 l.1.1 l.1.2 l.0 at stage
+      ])
 
   -- another edge restarts
   opened_stage : (old new : Fabric) (x : ℕ) (a : Edge) (n : ℕ) (reply : Reply) → IsSound old → IsEdge old x a
-      → OpensAnew old (suc x) a n reply new → RestartsElsewhere i j s old x → Stage base i j s o u old.pool old.edges
-      → Stage base i j s o u new.pool new.edges
+      → OpensAnew old (suc x) a n reply new → RestartsElsewhere i j s old x → Staged old.pool old.edges
+      → Staged new.pool new.edges
   opened_stage old new x a n reply sound at h elsewhere stage =
       let whole : new ≡ record old {
         edges = slice_set old.edges x h.after;
@@ -571,7 +696,7 @@ module _ (base : List Fields) (i j : ℕ) (s : Station) (o : ℕ) (u : Fields) (
         edges = slice_set old.edges (minus x m) h.after;
         configs = slice_set old.configs (minus x m) (in_incarnation h.config n);
       }) in
-      subst (λ (f : Fabric). Stage base i j s o u f.pool f.edges) (sym whole)
+      subst (λ (f : Fabric). Staged f.pool f.edges) (sym whole)
       (stays_aside x a h.after elsewhere.not_from elsewhere.not_to at quiet stage)
     where
       config : EdgeConfig
@@ -596,22 +721,21 @@ module _ (base : List Fields) (i j : ℕ) (s : Station) (o : ℕ) (u : Fields) (
 
   restart_stage : (old new : Fabric) (x : ℕ) (a : Edge) (n : ℕ) (result : Result Reply FabricRefusal) → IsSound old
       → IsEdge old x a → RestartsAt old (suc x) a n result new → RestartsElsewhere i j s old x
-      → Stage base i j s o u old.pool old.edges → Stage base i j s o u new.pool new.edges
+      → Staged old.pool old.edges → Staged new.pool new.edges
   restart_stage old new x a n (Ok reply) sound at h elsewhere stage =
       opened_stage old new x a n reply sound at h elsewhere stage
   restart_stage old new x a n (Err why) sound at h elsewhere stage =
-      subst (λ (f : Fabric). Stage base i j s o u f.pool f.edges) (sym h.1) stage
+      subst (λ (f : Fabric). Staged f.pool f.edges) (sym h.1) stage
 
   step_stage : (old new : Fabric) (step : Step) (result : Result Reply FabricRefusal) → IsSound old
-      → FabricSteps old step result new → LeavesStation i j s old step new → Stage base i j s o u old.pool old.edges
-      → Stage base i j s o u new.pool new.edges
+      → FabricSteps old step result new → Leaves old step new → Staged old.pool old.edges
+      → Staged new.pool new.edges
   step_stage old new (Local e event) result sound h leaves stage = go e (nth old.edges e) refl h leaves
     where
       go : (e : ℕ) (c : Option Edge) → nth old.edges e ≡ c
           → MatchOption c (IsRefused NoSuchEdge old result new) (λ a. StepsAt old e a (event_of event) result new)
-          → ((x : ℕ) (a b : Edge) → e ≡ suc x → IsEdge old x a → IsEdge new x b → SaysTheSame s a b)
-          → Stage base i j s o u new.pool new.edges
-      go e None is h leaves = subst (λ (f : Fabric). Stage base i j s o u f.pool f.edges) (sym h.1) stage
+          → Leaves old (Local e event) new → Staged new.pool new.edges
+      go e None is h leaves = subst (λ (f : Fabric). Staged f.pool f.edges) (sym h.1) stage
       go zero (Some a) is h leaves = cc
       go (suc x) (Some a) is h leaves = local_stage old new x a event result sound is h (λ b. leaves x a b refl is)
           stage
@@ -620,25 +744,59 @@ module _ (base : List Fields) (i j : ℕ) (s : Station) (o : ℕ) (u : Fields) (
   step_stage old new (Deliver e k) result sound h leaves stage = let kept = sound_kept old sound in
       stage_moves old new kept (moved old new (Deliver e k) result kept tt h) stage
   step_stage old new (Restart e n) result sound h leaves stage =
-      elim leaves as (λ _. Stage base i j s o u new.pool new.edges) [
-        | inl same ↦ subst (λ (f : Fabric). Stage base i j s o u f.pool f.edges) (sym same) stage
+      elim leaves as (λ _. Staged new.pool new.edges) [
+        | inl same ↦ subst (λ (f : Fabric). Staged f.pool f.edges) (sym same) stage
         | inr elsewhere ↦ go e (nth old.edges e) refl h elsewhere
       ]
     where
       go : (e : ℕ) (c : Option Edge) → nth old.edges e ≡ c
           → MatchOption c (IsRefused NoSuchEdge old result new) (λ a. RestartsAt old e a n result new)
-          → ((x : ℕ) → e ≡ suc x → RestartsElsewhere i j s old x) → Stage base i j s o u new.pool new.edges
-      go e None is h elsewhere = subst (λ (f : Fabric). Stage base i j s o u f.pool f.edges) (sym h.1) stage
+          → ((x : ℕ) → e ≡ suc x → RestartsElsewhere i j s old x) → Staged new.pool new.edges
+      go e None is h elsewhere = subst (λ (f : Fabric). Staged f.pool f.edges) (sym h.1) stage
       go zero (Some a) is h elsewhere = cc
       go (suc x) (Some a) is h elsewhere = restart_stage old new x a n result sound is h (elsewhere x refl) stage
 
   -- a list of steps
-  pub runs_stage : (steps : List Step) (old new : Fabric) → IsSound old → RunsBeside i j s old steps new
-      → Stage base i j s o u old.pool old.edges → Stage base i j s o u new.pool new.edges × IsSound new
-  runs_stage [] old new sound h stage = subst (λ (f : Fabric). Stage base i j s o u f.pool f.edges × IsSound f) (sym h)
+  abbrev pub RunsLeaving : Fabric → List Step → Fabric → Type 0
+  RunsLeaving old [] new = new ≡ old
+  RunsLeaving old (step ∷ steps) new = (mid : Fabric) × (result : Result Reply FabricRefusal)
+      × FabricSteps old step result mid × Leaves old step mid × RunsLeaving mid steps new
+
+  pub leaving_stage : (steps : List Step) (old new : Fabric) → IsSound old → RunsLeaving old steps new
+      → Staged old.pool old.edges → Staged new.pool new.edges × IsSound new
+  leaving_stage [] old new sound h stage = subst (λ (f : Fabric). Staged f.pool f.edges × IsSound f) (sym h)
       (stage, sound)
-  runs_stage (step ∷ steps) old new sound h stage = runs_stage steps h.0 new (step_sound old h.0 step h.1 h.2 sound) h.4
+  leaving_stage (step ∷ steps) old new sound h stage =
+      leaving_stage steps h.0 new (step_sound old h.0 step h.1 h.2 sound) h.4
       (step_stage old h.0 step h.1 sound h.2 h.3 stage)
+
+  pub beside_leaves : (steps : List Step) (old new : Fabric) → RunsBeside i j s old steps new
+      → RunsLeaving old steps new
+  beside_leaves [] old new h = h
+  beside_leaves (Local e event ∷ steps) old new h =
+      (h.0, h.1, h.2, (λ x a b is at at'. inl (h.3 x a b is at at')), beside_leaves steps h.0 new h.4)
+  beside_leaves (Announce e ∷ steps) old new h = (h.0, h.1, h.2, tt, beside_leaves steps h.0 new h.4)
+  beside_leaves (Deliver e k ∷ steps) old new h = (h.0, h.1, h.2, tt, beside_leaves steps h.0 new h.4)
+  beside_leaves (Restart e n ∷ steps) old new h = (h.0, h.1, h.2, h.3, beside_leaves steps h.0 new h.4)
+
+  pub losing_leaves : may ≡ true → (steps : List Step) (old new : Fabric) → RunsLosing i j s old steps new
+      → RunsLeaving old steps new
+  losing_leaves yes' [] old new h = h
+  losing_leaves yes' (Local e event ∷ steps) old new h = (
+    h.0,
+    h.1,
+    h.2,
+    λ x a b is at at'. elim (h.3 x a b is at at') as (λ _. SaysTheSame s a b
+        ⊎ ((may ≡ true) × LosesItself i s x a b)) [ inl same ↦ inl same | inr l ↦ inr (yes', l) ],
+    losing_leaves yes' steps h.0 new h.4,
+  )
+  losing_leaves yes' (Announce e ∷ steps) old new h = (h.0, h.1, h.2, tt, losing_leaves yes' steps h.0 new h.4)
+  losing_leaves yes' (Deliver e k ∷ steps) old new h = (h.0, h.1, h.2, tt, losing_leaves yes' steps h.0 new h.4)
+  losing_leaves yes' (Restart e n ∷ steps) old new h = (h.0, h.1, h.2, h.3, losing_leaves yes' steps h.0 new h.4)
+
+  pub runs_stage : (steps : List Step) (old new : Fabric) → IsSound old → RunsBeside i j s old steps new
+      → Staged old.pool old.edges → Staged new.pool new.edges × IsSound new
+  runs_stage steps old new sound h = leaving_stage steps old new sound (beside_leaves steps old new h)
 
 -- ---- what a move begins with
 
@@ -650,12 +808,6 @@ agreed_known f s agree i a u at in' of = let v = agree.arrived i a u at of in' i
 pub agreed_waits : (f : Fabric) (s : Station) → AgreesOn f s → (i : ℕ) (a : Edge) → IsEdge f i a
     → waiting s a.routes.speaker ≡ []
 agreed_waits f s agree i a at = filter_none (is_of s) a.routes.speaker.pending (λ r in' of. agree.quiet i a r at of in')
-
--- a station that is said leaves what was no news
-pub said_news : (e : Speaker) (k : Key) (c : Content) → KeepsNumbers e → (u : Fields) → is_newest e u ≡ false
-    → is_newest (after_originating e k c) u ≡ false
-said_news e k c h u old = ap (λ t. is_news (value_at t u.register) u.value) (sym (said_joins e k c h))
-    ∙ news_stay e.table (record { register = own_register e k; value = next_value e c }) u.register u.value old
 
 -- one event from outside, by which the second edge learns the station
 pub record Begins (old : Fabric) (i j : ℕ) (s : Station) (from to : Edge) (new : Fabric) : Type 0 where
@@ -723,9 +875,9 @@ module _ (old : Fabric) (i j : ℕ) (s : Station) (new : Fabric) (sound : IsSoun
       go None e = e
       go (Some y) e = absurd (ne (station_one old s sound m.agree x i c m.from at m.at_from (None, y, e) m.had))
 
-  pub first_stage : Stage base i j s (address_of m.from) u new.pool new.edges
-  first_stage = subst (λ (f : Fabric). Stage base i j s (address_of m.from) u f.pool f.edges) (sym b.is)
-      (AtFirst (record {
+  pub first_stage : (may : Bool) → Stage may base i j s (address_of m.from) u new.pool new.edges
+  first_stage may = subst (λ (f : Fabric). Stage may base i j s (address_of m.from) u f.pool f.edges) (sym b.is)
+      (at_phase may base i j s (address_of m.from) u b.apart b.learns.advert AtFirst (record {
         grown = sym (no_push base);
         to = b.after;
         at_to = set_same old.edges j m.to b.after m.at_to;
@@ -771,52 +923,142 @@ pub to_advertises : (pool extra : List Fields) (s : Station) (u : Fields) (there
 to_advertises pool extra s u there c some t = let x = some_in (advert_in u.value.content) some in
     (None, x.0, ap advert_of t.says ∙ x.1)
 
+-- what the pool has got in the end: the withdrawal comes first only if the old place lost the station by itself
+record Got (may : Bool) (old : Fabric) (s : Station) (from to : ℕ) (new : Fabric) : Type 0 where
+  advert : Value
+  withdrawal : Value
+  is_advert : IsSome (advert_in advert.content)
+  is_withdrawal : advert_in withdrawal.content ≡ None
+  is : (updates_on s new.pool ≡ updates_on s old.pool ++ update_of (register_of to (key_of s)) advert
+      ∷ update_of (register_of from (key_of s)) withdrawal ∷ [])
+      ⊎ ((may ≡ true) × (updates_on s new.pool ≡ updates_on s old.pool ++ update_of (register_of from (key_of s))
+      withdrawal ∷ update_of (register_of to (key_of s)) advert ∷ []))
+
+-- how each list of steps ends that leads to agreement
+record Ends (may : Bool) (old : Fabric) (i : ℕ) (s : Station) (from to : ℕ) (new : Fabric) : Type 0 where
+  pool : Got may old s from to new
+  owner : (x : ℕ) (c : Edge) → IsEdge new x c → IsOwner (table_of c) s.vni s.mac to
+  gone : (c : Edge) → IsEdge new i c → Advertises c s → ⊥
+
+module _ (may : Bool) (i j : ℕ) (s : Station) (old mid new : Fabric) (steps : List Step) (sound : IsSound old)
+    (m : StationComes old i j s mid) (runs : RunsLeaving may (updates_on s old.pool) i j s (address_of m.from)
+    (u old i j s mid sound m) (begins old i j s mid sound m).apart (begins old i j s mid sound m).learns.advert mid
+    steps new) (agree : AgreesOn new s) where
+  abbrev came : Begins old i j s m.from m.to mid
+  came = begins old i j s mid sound m
+
+  abbrev advert : Fields
+  advert = u old i j s mid sound m
+
+  end : Stage may (updates_on s old.pool) i j s (address_of m.from) advert new.pool new.edges × IsSound new
+  end = leaving_stage may (updates_on s old.pool) i j s (address_of m.from) advert came.apart came.learns.advert steps
+      mid new (step_sound old mid (Local (suc j) m.event) m.result m.step sound) runs
+      (first_stage old i j s mid sound m may)
+
+  waits_none : (x : ℕ) (c : Edge) (r : Register) → IsEdge new x c → waiting s c.routes.speaker ≡ r ∷ [] → ⊥
+  waits_none x c r at is = let bad : [] ≡ r ∷ [] = sym (agreed_waits new s agree x c at) ∙ is in cc
+
+  over : {extra : List Fields} → StageOf (updates_on s old.pool) extra i j s (address_of m.from) advert [] [] false
+      new.pool new.edges → Got may old s (address_of m.from) (address_of m.to) new
+      → Ends may old i s (address_of m.from) (address_of m.to) new
+  over {extra} g got = record {
+    pool = got;
+    owner = λ x c at. subst (λ q. IsOwner (table_of c) s.vni s.mac q)
+        (ap (λ (r : Register). r.originator) g.is_to.register)
+        (station_owner new s end.1 agree j x g.to c g.at_to at
+        (to_advertises new.pool extra s advert [] g.to came.learns.advert g.is_to));
+    gone = λ c at says.
+        let c_is = one_edge new.edges i i c g.from refl at g.at_from in
+        let x = advert_bare c s (end.1.good i c at) says in
+        let none : is_some (own_advert c.routes.speaker (key_of s)) ≡ false =
+        subst (λ (e : Edge). is_some (own_advert e.routes.speaker (key_of s)) ≡ false) c_is g.is_from.said in
+        let bad : false ≡ true = sym none ∙ ap is_some x.1 in
+        cc;
+  }
+
+  ends : {extra : List Fields} {here there : List Register} {says : Bool}
+      → Phase may s (address_of m.from) advert extra here there says
+      → StageOf (updates_on s old.pool) extra i j s (address_of m.from) advert here there says new.pool new.edges
+      → Ends may old i s (address_of m.from) (address_of m.to) new
+  ends AtFirst g = absurd (waits_none j g.to _ g.at_to g.is_to.waits)
+  ends AtTold g =
+      let y = some_is (own_advert g.from.routes.speaker (key_of s)) g.is_from.said in
+      absurd (came.apart (station_one new s end.1 agree i j g.from g.to g.at_from g.at_to (
+        None,
+        y.0,
+        y.1,
+      ) (to_advertises new.pool _ s advert [] g.to came.learns.advert g.is_to)))
+  ends AtLost g = absurd (waits_none i g.from _ g.at_from g.is_from.waits)
+  ends (AtOver w named none) g = over g (record {
+    advert = advert.value;
+    withdrawal = w.value;
+    is_advert = came.learns.advert;
+    is_withdrawal = none;
+    is = inl (g.grown ∙ ap (λ (y : Fields). updates_on s old.pool ++ advert ∷ y ∷ [])
+        (λ n. update_of (named n) w.value));
+  })
+  ends (AtAged yes') g = absurd (waits_none i g.from _ g.at_from g.is_from.waits)
+  ends (AtLeft yes' w named none) g = absurd (waits_none j g.to _ g.at_to g.is_to.waits)
+  ends (AtBack yes' w named none) g = over g (record {
+    advert = advert.value;
+    withdrawal = w.value;
+    is_advert = came.learns.advert;
+    is_withdrawal = none;
+    is = inr (
+      yes',
+      g.grown ∙ ap (λ (y : Fields). updates_on s old.pool ++ y ∷ advert ∷ [])
+          (λ n. update_of (named n) w.value),
+    );
+  })
+
+  ended : Ends may old i s (address_of m.from) (address_of m.to) new
+  ended = ends end.0.phase end.0.of
+
 pub station_moves : StationMoves
-station_moves i j s old mid new steps sound m runs agree = go end.0
+station_moves i j s old mid new steps sound m runs agree = record {
+  pool = record {
+    advert = e.pool.advert;
+    withdrawal = e.pool.withdrawal;
+    is_advert = e.pool.is_advert;
+    is_withdrawal = e.pool.is_withdrawal;
+    is = elim e.pool.is as (λ _. updates_on s new.pool ≡ updates_on s old.pool
+        ++ update_of (register_of (address_of m.to) (key_of s)) e.pool.advert
+        ∷ update_of (register_of (address_of m.from) (key_of s)) e.pool.withdrawal ∷ []) [
+          | inl is ↦ is
+          | inr never ↦ absurd (let bad : false ≡ true = never.0 in cc)
+        ];
+  };
+  owner = e.owner;
+  gone = e.gone;
+}
   where
-    b : Begins old i j s m.from m.to mid
-    b = begins old i j s mid sound m
+    e : Ends false old i s (address_of m.from) (address_of m.to) new
+    e = ended false i j s old mid new steps sound m (beside_leaves false (updates_on s old.pool) i j s
+        (address_of m.from) (u old i j s mid sound m) (begins old i j s mid sound m).apart
+        (begins old i j s mid sound m).learns.advert steps mid new runs) agree
 
-    some : IsSome (advert_in (u old i j s mid sound m).value.content)
-    some = b.learns.advert
-
-    end : Stage (updates_on s old.pool) i j s (address_of m.from) (u old i j s mid sound m) new.pool new.edges
-        × IsSound new
-    end = runs_stage (updates_on s old.pool) i j s (address_of m.from) (u old i j s mid sound m) b.apart some steps mid
-        new (step_sound old mid (Local (suc j) m.event) m.result m.step sound) runs (first_stage old i j s mid sound m)
-
-    waits_none : (x : ℕ) (c : Edge) (r : Register) → IsEdge new x c → waiting s c.routes.speaker ≡ r ∷ [] → ⊥
-    waits_none x c r at is = let bad : [] ≡ r ∷ [] = sym (agreed_waits new s agree x c at) ∙ is in cc
-
-    go : Stage (updates_on s old.pool) i j s (address_of m.from) (u old i j s mid sound m) new.pool new.edges
-        → StationMoved old i s (address_of m.from) (address_of m.to) new
-    go (AtFirst g) = absurd (waits_none j g.to _ g.at_to g.is_to.waits)
-    go (AtTold g) =
-        let y = some_is (own_advert g.from.routes.speaker (key_of s)) g.is_from.said in
-        absurd (b.apart (station_one new s end.1 agree i j g.from g.to g.at_from g.at_to (
-          None,
-          y.0,
-          y.1,
-        ) (to_advertises new.pool _ s (u old i j s mid sound m) [] g.to some g.is_to)))
-    go (AtLost g) = absurd (waits_none i g.from _ g.at_from g.is_from.waits)
-    go (AtOver w named none g) = record {
-      pool = record {
-        advert = (u old i j s mid sound m).value;
-        withdrawal = w.value;
-        is_advert = some;
-        is_withdrawal = none;
-        is = g.grown ∙ ap (λ (y : Fields). updates_on s old.pool ++ u old i j s mid sound m ∷ y
-            ∷ []) (λ n. update_of (named n) w.value);
-      };
-      owner = λ x c at. subst (λ q. IsOwner (table_of c) s.vni s.mac q)
-          (ap (λ (r : Register). r.originator) g.is_to.register)
-          (station_owner new s end.1 agree j x g.to c g.at_to at
-          (to_advertises new.pool _ s (u old i j s mid sound m) [] g.to some g.is_to));
-      gone = λ c at says.
-          let c_is = one_edge new.edges i i c g.from refl at g.at_from in
-          let x = advert_bare c s (end.1.good i c at) says in
-          let none : is_some (own_advert c.routes.speaker (key_of s)) ≡ false =
-          subst (λ (e : Edge). is_some (own_advert e.routes.speaker (key_of s)) ≡ false) c_is g.is_from.said in
-          let bad : false ≡ true = sym none ∙ ap is_some x.1 in
-          cc;
-    }
+pub station_moves_anyhow : StationMovesAnyhow
+station_moves_anyhow i j s old mid new steps sound m runs agree = record {
+  pool = record {
+    advert = e.pool.advert;
+    withdrawal = e.pool.withdrawal;
+    is_advert = e.pool.is_advert;
+    is_withdrawal = e.pool.is_withdrawal;
+    is = elim e.pool.is as (λ _. (updates_on s new.pool ≡ updates_on s old.pool
+        ++ update_of (register_of (address_of m.to) (key_of s)) e.pool.advert
+        ∷ update_of (register_of (address_of m.from) (key_of s)) e.pool.withdrawal ∷ [])
+        ⊎ (updates_on s new.pool ≡ updates_on s old.pool
+        ++ update_of (register_of (address_of m.from) (key_of s)) e.pool.withdrawal
+        ∷ update_of (register_of (address_of m.to) (key_of s)) e.pool.advert ∷ [])) [
+          | inl is ↦ inl is
+          | inr is ↦ inr is.1
+        ];
+  };
+  owner = e.owner;
+  gone = e.gone;
+}
+  where
+    e : Ends true old i s (address_of m.from) (address_of m.to) new
+    e = ended true i j s old mid new steps sound m (losing_leaves true (updates_on s old.pool) i j s
+        (address_of m.from) (u old i j s mid sound m) (begins old i j s mid sound m).apart
+        (begins old i j s mid sound m).learns.advert refl steps mid new runs) agree

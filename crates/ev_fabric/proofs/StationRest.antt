@@ -1,194 +1,51 @@
 -- A station that is left alone: who agree on it go on agreeing, and what may still be announced of it never grows.
-use Rattle.std.proofs.Common.{◌≡◌, ◌≢◌, inl, inr, ℕ, zero, suc, ◌+◌, ◌≤◌, ◌&&◌, Bool, true, false, cond, nat_lt, Option}
-use Rattle.std.proofs.Common.{Some, None, Result, Ok, Err, List, [], ◌∷◌, ◌++◌, length, refl, sym, ap, subst, ◌∙◌}
+use Rattle.std.proofs.lemmas.Bool.{cases_eq}
+use Rattle.std.proofs.Common.{◌≡◌, ◌≢◌, ◌⊎◌, inl, inr, ℕ, ◌+◌, ◌≤◌, ◌&&◌, Bool, true, false, cond, nat_lt, Option}
+use Rattle.std.proofs.Common.{List, [], ◌∷◌, ◌++◌, length, refl, sym, ap, ◌∙◌}
 use Rattle.std.proofs.Common.{arith}
-use Rattle.std.proofs.lemmas.List.Elements.{Contains-push_cases}
 use Rattle.std.proofs.lemmas.List.Sums.{sum_by-cons}
-use Rattle.std.specs.Prelude.{Contains, is_some, slice_get, slice_set}
+use Rattle.std.specs.Prelude.{Contains, is_some, slice_set}
 use Rattle.std.specs.List.{filter, count_by, list_any}
-use Rattle.std.specs.Option.{MatchOption}
 use Rattle.std.specs.Ordering.{eq_by_cmp}
 use Rattle.route_wire.specs.declared.update.Register.{Register}
 use Rattle.route_wire.specs.declared.update.Advert.{Advert}
 use Rattle.route_wire.specs.declared.update.Content.TheVariants.{Withdrawn}
-use Rattle.route_wire.specs.declared.update.Value.{Value}
 use Rattle.route_wire.specs.Fields.{Fields}
-use Rattle.route_wire.specs.Order.{register_cmp, is_newer}
-use Rattle.route_join.specs.Table.{value_at}
+use Rattle.route_wire.specs.Order.{register_cmp}
 use Rattle.route_join.specs.Owner.{advert_of}
 use Rattle.mac_arena.specs.declared.station.Station.{Station}
 use Rattle.ev_claims.specs.Pending.{marked}
-use Rattle.ev_claims.specs.Speaker.{Speaker, own_register, own_advert, silent, after_importing}
+use Rattle.ev_claims.specs.Speaker.{Speaker, own_register, own_advert, after_importing}
 use Rattle.ev_claims.specs.LocalRoutes.{LocalRoutes, key_of}
 use Rattle.ev_claims.proofs.Numbers.{own_same}
-use Rattle.ev_edge.specs.declared.config.EdgeConfig.{EdgeConfig}
-use Rattle.ev_edge.specs.declared.reply.Reply.{Reply}
-use Rattle.ev_edge.specs.Edge.{Edge, table_of, address_of}
-use Rattle.ev_fabric.specs.declared.refusal.FabricRefusal.{FabricRefusal}
-use Rattle.ev_fabric.specs.declared.refusal.FabricRefusal.TheVariants.{NoSuchEdge}
-use Rattle.ev_fabric.specs.declared.step.LocalEvent.{LocalEvent}
-use Rattle.ev_fabric.specs.declared.step.Step.{Step}
-use Rattle.ev_fabric.specs.declared.step.Step.TheVariants.{Local, Announce, Deliver, Restart}
-use Rattle.ev_fabric.specs.Fabric.{Fabric, IsEdge, nth}
-use Rattle.ev_fabric.specs.Local.{event_of}
-use Rattle.ev_fabric.specs.Steps.{IsRefused, StepsAt, in_incarnation, OpensAnew, RestartsAt, FabricSteps}
+use Rattle.ev_edge.specs.Edge.{Edge}
+use Rattle.ev_fabric.specs.Fabric.{Fabric, IsEdge}
 use Rattle.ev_fabric.specs.Sound.{update_of, IsSound}
 use Rattle.ev_fabric.specs.ConvergenceEdge.{comes_back, IsLater}
 use Rattle.ev_fabric.specs.Agreed.{AllAgree}
 use Rattle.ev_fabric.specs.Convergence.{Rests, two_rounds, full_pool}
-use Rattle.ev_fabric.specs.Station.{is_of, AgreesOn, SaysTheSame, NeverAdvertised, updates_on, IsLeftAlone}
-use Rattle.ev_fabric.specs.Station.{StationLasts, StationReached, unannounced_on, to_come_on, StationSettles}
-use Rattle.ev_fabric.proofs.Agreements.{none_pending}
+use Rattle.ev_fabric.specs.Station.{is_of, updates_on}
+use Rattle.ev_fabric.specs.Station.{StationReached, unannounced_on, to_come_on, StationSettles}
 use Rattle.ev_fabric.proofs.Stations.{agree_on_each}
-use Rattle.ev_fabric.proofs.Places.{set_cases, set_same, push_length}
-use Rattle.ev_fabric.proofs.Events.{local_talks}
+use Rattle.ev_fabric.proofs.Places.{push_length}
 use Rattle.ev_fabric.proofs.Fabrics.{step_sound, rests_sound}
 use Rattle.ev_fabric.proofs.Opened.{start_sound}
 use Rattle.ev_fabric.proofs.ConvergingSums.{sum_set, count_le, count_less, count_push, later_one}
 use Rattle.ev_fabric.proofs.ConvergingEdge.{comes, comes_when, Heard, Back, Lost, Kept as HeardKept, heard, hears}
 use Rattle.ev_fabric.proofs.ConvergingEdge.{heard_later, heard_has, comes_before, others_stay_away, known_stays_away}
-use Rattle.ev_fabric.proofs.ConvergingIdle.{known_hearing}
 use Rattle.ev_fabric.proofs.ConvergingGood.{quieter}
-use Rattle.ev_fabric.proofs.ConvergingMoves.{Kept, Move, Stays, Tells, Takes, minus, moved, own_pending, announced_away}
+use Rattle.ev_fabric.proofs.ConvergingMoves.{Kept, Move, Stays, Tells, Takes, own_pending, announced_away}
 use Rattle.ev_fabric.proofs.ConvergingMoves.{sound_kept}
 use Rattle.ev_fabric.proofs.ConvergingRounds.{IsReady, two_rounds_agree, enough_itself, may_rest, quiet_rounds}
 use Rattle.ev_fabric.proofs.ConvergingNumbers.{start_numbers}
 use Rattle.ev_fabric.proofs.ConvergingStages.{hear_cases}
-use Rattle.ev_fabric.proofs.StationStages.{filter_has, filter_push, filter_past, waiting, SameOf, same_own, same_newest}
-use Rattle.ev_fabric.proofs.StationStages.{same_itself, left_same, floods_same, silent_quiet, heard_other, Hears}
-use Rattle.ev_fabric.proofs.StationStages.{loses_it}
-use Rattle.ev_fabric.proofs.StationMotion.{agreed_known, agreed_waits}
+use Rattle.ev_fabric.proofs.StationStages.{filter_push, filter_past, waiting, SameOf, same_own, same_newest}
+use Rattle.ev_fabric.proofs.StationStages.{heard_other, Hears}
+use Rattle.ev_fabric.proofs.StationStages.{loses_it, idle_away, IsAside}
+use Rattle.ev_fabric.proofs.StationAlone.{Moves, Same, Stills, Opens, Change, change, station_lasts}
 
 not_both : {b : Bool} → b ≡ true → b ≡ false → ⊥
 not_both yes' no' = let bad : true ≡ false = sym yes' ∙ no' in cc
-
--- ---- who agree go on agreeing
-
--- the edge at one place has the same of the station, and the pool the same of it
-agrees_still : (s : Station) (old new : Fabric) (x : ℕ) (a b : Edge) → IsEdge old x a
-    → new.edges ≡ slice_set old.edges x b → SameOf s a.routes.speaker b.routes.speaker
-    → ((u : Fields) → is_of s u.register ≡ true → Contains new.pool u → Contains old.pool u) → AgreesOn old s
-    → AgreesOn new s
-agrees_still s old new x a b at edges same pool agree = record {
-  quiet = λ y c r at_c of in'. elim (set_cases old.edges x b y c
-      (subst (λ l. slice_get l y ≡ Some c) edges at_c)) as (λ _. ⊥) [
-        | inl p ↦ none_pending (subst (λ l. Contains l r) (same.waits ∙ agreed_waits old s agree x a at)
-            (subst (λ (e : Edge). Contains (waiting s e.routes.speaker) r) p.1
-            (filter_has (is_of s) c.routes.speaker.pending r of in')))
-        | inr p ↦ agree.quiet y c r p.1 of in'
-      ];
-  arrived = λ y c u at_c of in'. elim (set_cases old.edges x b y c
-      (subst (λ l. slice_get l y ≡ Some c) edges at_c)) as (λ _. (v : Value)
-      × (value_at (table_of c) u.register ≡ Some v) × (is_newer u.value v ≡ false)) [
-        | inl p ↦ let h = agree.arrived x a u at of (pool u of in') in
-            (h.0, ap (λ (e : Edge). value_at (table_of e) u.register) p.1 ∙ same.values u.register of ∙ h.1, h.2)
-        | inr p ↦ agree.arrived y c u p.1 of (pool u of in')
-      ];
-}
-
--- what goes on: agreement, and what the pool has of the station
-abbrev GoesOn : Station → Fabric → Fabric → Type 0
-GoesOn s old new = AgreesOn new s × (updates_on s new.pool ≡ updates_on s old.pool)
-
-lasts_move : (s : Station) (old new : Fabric) → Kept old → Move old new → AgreesOn old s → GoesOn s old new
-lasts_move s old _ kept Stays agree = (agree, refl)
-lasts_move s old _ kept (Tells x a r rs v at pend is) agree = (
-  agrees_still s old next x a hushed at refl (record {
-    address = refl;
-    incarnation = refl;
-    values = λ q of. refl;
-    waits = same other;
-  }) past agree,
-  filter_past (λ (y : Fields). is_of s y.register) old.pool (update_of r v) other,
-)
-  where
-    hushed : Edge
-    hushed = record a { routes = quieter a.routes rs }
-
-    next : Fabric
-    next = record old { edges = slice_set old.edges x hushed; pool = old.pool ++ update_of r v ∷ [] }
-
-    -- nothing of the station waits
-    other : is_of s r ≡ false
-    other = go (is_of s r) refl
-      where
-        go : (b : Bool) → is_of s r ≡ b → is_of s r ≡ false
-        go false e = e
-        go true e = absurd (agree.quiet x a r at e (subst (λ l. Contains l r) (sym pend) (0, omega arith, refl)))
-
-    same : is_of s r ≡ false → filter (is_of s) rs ≡ filter (is_of s) a.routes.speaker.pending
-    same e = sym (ap (filter (is_of s)) pend ∙ ap (λ b. cond b (r ∷ filter (is_of s) rs) (filter (is_of s) rs)) e)
-
-    past : (u : Fields) → is_of s u.register ≡ true → Contains next.pool u → Contains old.pool u
-    past u of in' = elim (Contains-push_cases old.pool (update_of r v) u in') as (λ _. Contains old.pool u) [
-      | inl before ↦ before
-      | inr now ↦ absurd (not_both (ap (λ (y : Fields). is_of s y.register) now ∙ of) other)
-    ]
-lasts_move s old _ kept (Takes x a w at in' ok) agree = (
-  agrees_still s old (record old { edges = slice_set old.edges x took }) x a took at refl
-      (go (is_of s w.register) refl) (λ u of there. there) agree,
-  refl,
-)
-  where
-    took : Edge
-    took = record a { routes = heard a.routes w }
-
-    go : (b : Bool) → is_of s w.register ≡ b → SameOf s a.routes.speaker took.routes.speaker
-    go false other = heard_other s a.routes w other
-    go true of = subst (λ (c : LocalRoutes). SameOf s a.routes.speaker c.speaker)
-        (sym (known_hearing a.routes w (kept.keeps x a at).holds.owns (agreed_known old s agree x a w at in' of)))
-        (same_itself s a.routes.speaker)
-
--- an event from outside
-local_same : (s : Station) (old new : Fabric) (x : ℕ) (a : Edge) (event : LocalEvent)
-    (result : Result Reply FabricRefusal)
-    → IsSound old → IsEdge old x a → (h : StepsAt old (suc x) a (event_of event) result new)
-    → ((b : Edge) → IsEdge new x b → SaysTheSame s a b)
-    → (new ≡ record old { edges = slice_set old.edges x h.after }) × SameOf s a.routes.speaker h.after.routes.speaker
-local_same s old new x a event result sound at h same =
-    let whole : new ≡ record old { edges = slice_set old.edges x h.after } = h.new_is
-    ∙ (λ n. record old { edges = slice_set old.edges (minus x n) h.after }) in
-    let here : IsEdge new x h.after = subst (λ f. IsEdge f x h.after) (sym whole)
-    (set_same old.edges x a h.after at) in (
-      whole,
-      left_same s a.routes.speaker h.after.routes.speaker (local_talks a event h.answer h.after h.steps)
-          (sound.good x a at).routes.numbers (same h.after here),
-    )
-
-same_fabric : (s : Station) (old new : Fabric) → new ≡ old → AgreesOn old s → GoesOn s old new
-same_fabric s old new is agree = subst (λ f. GoesOn s old f) (sym is) (agree, refl)
-
-lasts_local : (s : Station) (old new : Fabric) (event : LocalEvent) (result : Result Reply FabricRefusal) → IsSound old
-    → AgreesOn old s → (e : ℕ) (c : Option Edge) → nth old.edges e ≡ c
-    → MatchOption c (IsRefused NoSuchEdge old result new) (λ a. StepsAt old e a (event_of event) result new)
-    → ((x : ℕ) (a b : Edge) → e ≡ suc x → IsEdge old x a → IsEdge new x b → SaysTheSame s a b) → GoesOn s old new
-lasts_local s old new event result sound agree e None is h alone = same_fabric s old new h.1 agree
-lasts_local s old new event result sound agree zero (Some a) is h alone = cc
-lasts_local s old new event result sound agree (suc x) (Some a) is h alone =
-    let l = local_same s old new x a event result sound is h (λ b. alone x a b refl is) in
-    subst (λ f. GoesOn s old f) (sym l.0) (
-      agrees_still s old (record old { edges = slice_set old.edges x h.after }) x a
-          h.after is refl l.1 (λ u of there. there) agree,
-      refl,
-    )
-
-pub station_lasts : StationLasts
-station_lasts s [] old new sound agree h none = same_fabric s old new h agree
-station_lasts s (Local e event ∷ steps) old new sound agree h none =
-    let one = lasts_local s old h.0 event h.1 sound agree e (nth old.edges e) refl h.2 h.3 in
-    let rest = station_lasts s steps h.0 new (step_sound old h.0 (Local e event) h.1 h.2 sound) one.0 h.4 none in
-    (rest.0, rest.1 ∙ one.1)
-station_lasts s (Announce e ∷ steps) old new sound agree h none =
-    let kept = sound_kept old sound in
-    let one = lasts_move s old h.0 kept (moved old h.0 (Announce e) h.1 kept tt h.2) agree in
-    let rest = station_lasts s steps h.0 new (step_sound old h.0 (Announce e) h.1 h.2 sound) one.0 h.4 none in
-    (rest.0, rest.1 ∙ one.1)
-station_lasts s (Deliver e k ∷ steps) old new sound agree h none =
-    let kept = sound_kept old sound in
-    let one = lasts_move s old h.0 kept (moved old h.0 (Deliver e k) h.1 kept tt h.2) agree in
-    let rest = station_lasts s steps h.0 new (step_sound old h.0 (Deliver e k) h.1 h.2 sound) one.0 h.4 none in
-    (rest.0, rest.1 ∙ one.1)
-station_lasts s (Restart e n ∷ steps) old new sound agree h none = absurd none
 
 pub station_reached : StationReached
 station_reached configs f are start = (
@@ -421,99 +278,33 @@ count_none p (x ∷ xs) none =
     let sum : count_by p (x ∷ xs) ≡ one (p x) + count_by p xs = sum_by-cons (λ y. one (p y)) x xs in
     omega (arith, here, rest, sum)
 
--- who restarts and has announced no advert of the station announces nothing of it
-opened_total : (s : Station) (old new : Fabric) (x : ℕ) (a : Edge) (n : ℕ) (reply : Reply) → IsSound old
-    → IsEdge old x a → OpensAnew old (suc x) a n reply new → NeverAdvertised old.pool s (address_of a)
-    → total s new ≤ total s old
-opened_total s old new x a n reply sound at h never =
-    let whole : new ≡ record old {
-      edges = slice_set old.edges x h.after;
-      configs = slice_set old.configs x (in_incarnation h.config n);
-    } =
-    h.new_is ∙ (λ m. record old {
-      edges = slice_set old.edges (minus x m) h.after;
-      configs = slice_set old.configs (minus x m) (in_incarnation h.config n);
-    }) in
-    let same_total : total s new ≡ total s (record old { edges = slice_set old.edges x h.after }) =
-    ap (total s) whole in
-    let none = nothing in
-    let less = becomes_total s old x a h.after at (omega (arith, none)) in
-    omega (arith, same_total, less)
+-- who says nothing of the station announces nothing of it
+aside_pays : (s : Station) (pool : List Fields) (e : Speaker) → IsAside pool s e → unannounced_on s pool e ≡ 0
+aside_pays s pool e h =
+    let waits : length (waiting s e) ≡ 0 = ap length h.waits in
+    let advert : one (is_some (own_advert e (key_of s))) ≡ 0 = ap (λ (o : Option Advert). one (is_some o)) h.quiet in
+    let backs = count_none (back_on s e) pool away in
+    omega (arith, waits, advert, backs)
   where
-    config : EdgeConfig
-    config = in_incarnation h.config n
-
-    start : Speaker
-    start = silent config.address config.incarnation config.originators.items
-
-    same : SameOf s start h.after.routes.speaker
-    same = subst (SameOf s start) (sym h.opened.routes.speaker) (floods_same s start h.after.routes.vnis)
-
-    address : address_of h.after ≡ address_of a
-    address = same.address ∙ sym (sound.configs x h.config a h.config_is at).address
-
-    away : (u : Fields) → Contains old.pool u → back_on s h.after.routes.speaker u ≡ false
-    away u in' = go (back_on s h.after.routes.speaker u) refl
+    away : (u : Fields) → Contains pool u → back_on s e u ≡ false
+    away u in' = go (is_of s u.register) refl (cases_eq u.register.originator e.address)
       where
-        go : (b : Bool) → back_on s h.after.routes.speaker u ≡ b → back_on s h.after.routes.speaker u ≡ false
-        go false e = e
-        go true e =
-            let t = both_true (is_of s u.register) (comes_back h.after.routes.speaker u) e in
-            let c = comes h.after.routes.speaker u t.1 in
-            absurd (not_both c.advert (ap (λ (o : Option Advert). is_some o) (never u in' (c.mine ∙ address) t.0)))
+        go : (b : Bool) → is_of s u.register ≡ b → (u.register.originator ≡ e.address)
+            ⊎ (u.register.originator ≢ e.address) → back_on s e u ≡ false
+        go false other c = ap (λ b. b && comes_back e u) other
+        go true of (inl mine) = ap (λ b. b && comes_back e u) of ∙ idle_away e u (h.away u in' of mine)
+        go true of (inr ne) = ap (λ b. b && comes_back e u) of ∙ others_stay_away e u ne
 
-    nothing : unannounced_on s old.pool h.after.routes.speaker ≡ 0
-    nothing =
-        let waits : length (waiting s h.after.routes.speaker) ≡ 0 = ap length same.waits in
-        let advert : one (is_some (own_advert h.after.routes.speaker (key_of s))) ≡ 0 =
-        ap (λ o. one (is_some (advert_of o))) (same_own s start h.after.routes.speaker same)
-        ∙ ap (λ (o : Option Advert). one (is_some o))
-        (silent_quiet s config.address config.incarnation config.originators.items) in
-        let backs = count_none (back_on s h.after.routes.speaker) old.pool away in
-        omega (arith, waits, advert, backs)
-
-restart_total : (s : Station) (old new : Fabric) (x : ℕ) (a : Edge) (n : ℕ) (result : Result Reply FabricRefusal)
-    → IsSound old → IsEdge old x a → RestartsAt old (suc x) a n result new → NeverAdvertised old.pool s (address_of a)
-    → total s new ≤ total s old
-restart_total s old new x a n (Ok reply) sound at h never = opened_total s old new x a n reply sound at h never
-restart_total s old new x a n (Err why) sound at h never = let same = ap (total s) h.1 in omega (arith, same)
-
-step_total : (s : Station) (old new : Fabric) (step : Step) (result : Result Reply FabricRefusal) → IsSound old
-    → FabricSteps old step result new → IsLeftAlone s old step new → total s new ≤ total s old
-step_total s old new (Local e event) result sound h alone = go e (nth old.edges e) refl h alone
-  where
-    go : (e : ℕ) (c : Option Edge) → nth old.edges e ≡ c
-        → MatchOption c (IsRefused NoSuchEdge old result new) (λ a. StepsAt old e a (event_of event) result new)
-        → ((x : ℕ) (a b : Edge) → e ≡ suc x → IsEdge old x a → IsEdge new x b → SaysTheSame s a b)
-        → total s new ≤ total s old
-    go e None is h alone = let same = ap (total s) h.1 in omega (arith, same)
-    go zero (Some a) is h alone = cc
-    go (suc x) (Some a) is h alone =
-        let l = local_same s old new x a event result sound is h (λ b. alone x a b refl is) in
-        let same : total s new ≡ total s (record old { edges = slice_set old.edges x h.after }) = ap (total s) l.0 in
-        let less = becomes_total s old x a h.after is (same_pays s old.pool a.routes.speaker h.after.routes.speaker l.1)
-        in
-        omega (arith, same, less)
-step_total s old new (Announce e) result sound h alone = let kept = sound_kept old sound in
-    move_total s old new kept (moved old new (Announce e) result kept tt h)
-step_total s old new (Deliver e k) result sound h alone = let kept = sound_kept old sound in
-    move_total s old new kept (moved old new (Deliver e k) result kept tt h)
-step_total s old new (Restart e n) result sound h alone = elim alone as (λ _. total s new ≤ total s old) [
-  | inl is ↦ let same = ap (total s) is in omega (arith, same)
-  | inr never ↦ go e (nth old.edges e) refl h never
-]
-  where
-    go : (e : ℕ) (c : Option Edge) → nth old.edges e ≡ c
-        → MatchOption c (IsRefused NoSuchEdge old result new) (λ a. RestartsAt old e a n result new)
-        → ((x : ℕ) (a : Edge) → e ≡ suc x → IsEdge old x a → NeverAdvertised old.pool s (address_of a))
-        → total s new ≤ total s old
-    go e None is h never = let same = ap (total s) h.1 in omega (arith, same)
-    go zero (Some a) is h never = cc
-    go (suc x) (Some a) is h never = restart_total s old new x a n result sound is h (never x a refl is)
+change_total : (s : Station) (old new : Fabric) → Kept old → Change s old new → total s new ≤ total s old
+change_total s old new kept (Stills _ (Moves _ m)) = move_total s old new kept m
+change_total s old _ kept (Stills _ (Same x a b at same)) = becomes_total s old x a b at
+    (same_pays s old.pool a.routes.speaker b.routes.speaker same)
+change_total s old _ kept (Opens x a b cs at quiet) = becomes_total s old x a b at
+    (let none = aside_pays s old.pool b.routes.speaker quiet in omega (arith, none))
 
 pub station_settles : StationSettles
 station_settles s [] old new sound h = let same = ap (total s) h in omega (arith, same)
 station_settles s (step ∷ steps) old new sound h =
-    let one' = step_total s old h.0 step h.1 sound h.2 h.3 in
+    let one' = change_total s old h.0 (sound_kept old sound) (change s old h.0 step h.1 sound h.2 h.3) in
     let rest = station_settles s steps h.0 new (step_sound old h.0 step h.1 h.2 sound) h.4 in
     omega (arith, one', rest)

@@ -3,7 +3,7 @@ use Rattle.std.proofs.Common.{◌≡◌, ◌≢◌, ◌⊎◌, inl, inr, ℕ, ze
 use Rattle.std.proofs.Common.{None, List, [], ◌∷◌, ◌++◌, refl, sym, ap, subst, ◌∙◌, arith}
 use Rattle.std.proofs.lemmas.Bool.{cases_eq}
 use Rattle.std.proofs.lemmas.List.Elements.{filter-append, Contains-push_cases}
-use Rattle.std.specs.Prelude.{Contains, IsSome, is_some, not, ◌&&◌}
+use Rattle.std.specs.Prelude.{Contains, IsSome, is_some, not, ◌&&◌, ◌||◌}
 use Rattle.std.specs.FinMap.{get-empty}
 use Rattle.std.specs.List.{filter, list_any}
 use Rattle.std.specs.Ordering.{eq_by_cmp}
@@ -19,7 +19,7 @@ use Rattle.route_wire.specs.Fields.{Fields, flood_advert}
 use Rattle.route_wire.specs.Order.{register_cmp}
 use Rattle.route_join.specs.Table.{value_at, is_news, register_of}
 use Rattle.route_join.specs.Owner.{is_about, advert_in, advert_of, owner}
-use Rattle.route_join.proofs.Tables.{at_other}
+use Rattle.route_join.proofs.Tables.{at_other, itself_register}
 use Rattle.route_join.proofs.Joins.{update_other}
 use Rattle.mac_arena.specs.declared.station.Station.{Station}
 use Rattle.ev_claims.specs.Pending.{marked}
@@ -27,15 +27,15 @@ use Rattle.ev_claims.specs.Speaker.{Speaker, KeepsNumbers, own_register, own, ow
 use Rattle.ev_claims.specs.Speaker.{after_originating, after_importing, silent}
 use Rattle.ev_claims.specs.LocalRoutes.{LocalRoutes, key_of, after_update, after_removal}
 use Rattle.ev_claims.specs.Opening.{after_floods}
-use Rattle.ev_claims.proofs.Numbers.{own_same, own_other}
+use Rattle.ev_claims.proofs.Numbers.{own_same, own_other, said_joins}
 use Rattle.ev_edge.specs.Edge.{OwnsAt}
 use Rattle.ev_fabric.specs.ConvergenceEdge.{comes_back}
 use Rattle.ev_fabric.specs.Station.{is_of}
-use Rattle.ev_fabric.proofs.Voices.{Talks, Quiet, Says, talks_one, found}
+use Rattle.ev_fabric.proofs.Voices.{Talks, Quiet, Says, talks_numbers, talks_one, is_bare, found}
 use Rattle.ev_fabric.proofs.Stations.{about_station, station_key}
 use Rattle.ev_fabric.proofs.Agreements.{none_pending}
 use Rattle.ev_fabric.proofs.ConvergingEdge.{Accepts, Heard, Back, Lost, Kept, heard, hears, heard_later, stays_away}
-use Rattle.ev_fabric.proofs.ConvergingEdge.{others_stay_away, known_stays_away}
+use Rattle.ev_fabric.proofs.ConvergingEdge.{others_stay_away, known_stays_away, news_stay}
 use Rattle.ev_fabric.proofs.ConvergingIdle.{idle_hearing}
 use Rattle.ev_fabric.proofs.ConvergingStages.{Loses, hear_cases, advert_kept, advert_stays}
 
@@ -62,6 +62,18 @@ filter_has p (y ∷ ys) x yes' (suc k, lt, is) = go (p y) (filter_has p ys x yes
     go true rest = (suc rest.0, (let more = rest.1 in omega (arith, more)), rest.2)
     go false rest = rest
 
+-- which is one of the list
+pub filter_in : {X : Type 0} (p : X → Bool) (xs : List X) (x : X) → Contains (filter p xs) x → Contains xs x
+filter_in p [] x in' = in'
+filter_in p (y ∷ ys) x in' = go (p y) in' (filter_in p ys x)
+  where
+    go : (b : Bool) → Contains (cond b (y ∷ filter p ys) (filter p ys)) x → (Contains (filter p ys) x → Contains ys x)
+        → Contains (y ∷ ys) x
+    go true (zero, lt, is) rest = (0, omega arith, is)
+    go true (suc k, lt, is) rest = let r = rest (k, omega (arith, lt), is) in
+        (suc r.0, (let more = r.1 in omega (arith, more)), r.2)
+    go false in' rest = let r = rest in' in (suc r.0, (let more = r.1 in omega (arith, more)), r.2)
+
 pub no_push : {X : Type 0} (xs : List X) → xs ++ [] ≡ xs
 no_push [] = refl
 no_push (x ∷ xs) = ap (λ l. x ∷ l) (no_push xs)
@@ -87,6 +99,18 @@ marked_other s rs r other = go (list_any (eq_by_cmp register_cmp r) rs)
     go : (b : Bool) → filter (is_of s) (cond b rs (rs ++ r ∷ [])) ≡ filter (is_of s) rs
     go true = refl
     go false = filter_past (is_of s) rs r other
+
+-- a register of the list is found
+has_any : (rs : List Register) (r : Register) → Contains rs r → list_any (eq_by_cmp register_cmp r) rs ≡ true
+has_any [] r (k, lt, is) = absurd (omega (arith, lt))
+has_any (x ∷ rs) r (zero, lt, is) = ap (λ y. eq_by_cmp register_cmp r y || list_any (eq_by_cmp register_cmp r) rs) is
+    ∙ ap (λ b. b || list_any (eq_by_cmp register_cmp r) rs) (itself_register r)
+has_any (x ∷ rs) r (suc k, lt, is) = either (eq_by_cmp register_cmp r x) (has_any rs r (k, omega (arith, lt), is))
+  where
+    either : (b : Bool) → list_any (eq_by_cmp register_cmp r) rs ≡ true
+        → (b || list_any (eq_by_cmp register_cmp r) rs) ≡ true
+    either true e = refl
+    either false e = e
 
 pub marked_first : (s : Station) (rs : List Register) (r : Register) → filter (is_of s) rs ≡ [] → is_of s r ≡ true
     → filter (is_of s) (marked rs r) ≡ r ∷ []
@@ -157,11 +181,11 @@ record Changed (s : Station) (e v : Speaker) : Type 0 where
 
 talk_counter : (e v : Speaker) → Talks e v → e.counter ≤ v.counter
 talk_counter e _ Quiet = omega arith
-talk_counter e _ (Says v k c t) = let h = talk_counter e v t in omega (arith, h)
+talk_counter e _ (Says v k c bare t) = let h = talk_counter e v t in omega (arith, h)
 
 talks_of : (s : Station) (e v : Speaker) → Talks e v → SameOf s e v ⊎ Changed s e v
 talks_of s e _ Quiet = inl (same_itself s e)
-talks_of s e _ (Says v k c t) = go (is_about s.vni s.mac k) refl (talks_of s e v t)
+talks_of s e _ (Says v k c bare t) = go (is_about s.vni s.mac k) refl (talks_of s e v t)
   where
     go : (b : Bool) → is_about s.vni s.mac k ≡ b → SameOf s e v ⊎ Changed s e v
         → SameOf s e (after_originating v k c) ⊎ Changed s e (after_originating v k c)
@@ -193,6 +217,60 @@ left_same s e v t n same = elim (talks_of s e v t) as (λ _. SameOf s e v) [
   | inr h ↦ let most = n.counted (Mac s.vni s.mac h.ip) h.value (sym (same h.ip) ∙ h.there) h.present in
       let more = h.more in absurd (omega (arith, most, more))
 ]
+
+-- a station that is said leaves what was no news
+pub said_news : (e : Speaker) (k : Key) (c : Content) → KeepsNumbers e → (u : Fields) → is_newest e u ≡ false
+    → is_newest (after_originating e k c) u ≡ false
+said_news e k c h u old = ap (λ t. is_news (value_at t u.register) u.value) (sym (said_joins e k c h))
+    ∙ news_stay e.table (record { register = own_register e k; value = next_value e c }) u.register u.value old
+
+pub talks_news : (e v : Speaker) → Talks e v → KeepsNumbers e → (u : Fields) → is_newest e u ≡ false
+    → is_newest v u ≡ false
+talks_news e _ Quiet h u old = old
+talks_news e _ (Says v k c bare t) h u old = said_news v k c (talks_numbers e v t h) u (talks_news e v t h u old)
+
+-- Words that say something of a station of which nothing was pending: its register is pending then, and what was no
+-- news is none.
+pub record Spoke (s : Station) (e v : Speaker) : Type 0 where
+  pub address : v.address ≡ e.address
+  pub waits : waiting s v ≡ own_register e (key_of s) ∷ []
+
+bare_key : (s : Station) (k : Key) → is_bare k ≡ true → is_about s.vni s.mac k ≡ true → k ≡ key_of s
+bare_key s k bare mine = let ip = station_key s k mine in go ip.0 ip.1
+  where
+    go : (ip : Option Ip) → k ≡ Mac s.vni s.mac ip → k ≡ key_of s
+    go None is = is
+    go (Some ip) is = absurd (let bad : false ≡ true = ap is_bare (sym is) ∙ bare in cc)
+
+marked_again : (s : Station) (rs : List Register) (r : Register) → filter (is_of s) rs ≡ r ∷ []
+    → filter (is_of s) (marked rs r) ≡ r ∷ []
+marked_again s rs r waits = ap (λ b. filter (is_of s) (cond b rs (rs ++ r ∷ [])))
+    (has_any rs r (filter_in (is_of s) rs r (subst (λ l. Contains l r) (sym waits) (0, omega arith, refl)))) ∙ waits
+
+pub speaks : (s : Station) (e v : Speaker) → Talks e v → waiting s e ≡ [] → SameOf s e v ⊎ Spoke s e v
+speaks s e _ Quiet none = inl (same_itself s e)
+speaks s e _ (Says v k c bare t) none = go (is_about s.vni s.mac k) refl (speaks s e v t none)
+  where
+    own_is : v.address ≡ e.address → is_about s.vni s.mac k ≡ true → own_register v k ≡ own_register e (key_of s)
+    own_is name mine = (λ n. register_of (name n) (bare_key s k bare mine n))
+
+    go : (b : Bool) → is_about s.vni s.mac k ≡ b → SameOf s e v ⊎ Spoke s e v
+        → SameOf s e (after_originating v k c) ⊎ Spoke s e (after_originating v k c)
+    go true mine (inl h) = inr (record {
+      address = h.address;
+      waits = ap (λ r. filter (is_of s) (marked v.pending r)) (own_is h.address mine)
+          ∙ marked_first s v.pending (own_register e (key_of s)) (h.waits ∙ none) (about_station s None);
+    })
+    go true mine (inr h) = inr (record {
+      address = h.address;
+      waits = ap (λ r. filter (is_of s) (marked v.pending r)) (own_is h.address mine)
+          ∙ marked_again s v.pending (own_register e (key_of s)) h.waits;
+    })
+    go false other (inl h) = inl (same_trans s e v (after_originating v k c) h (says_other s v k c other))
+    go false other (inr h) = inr (record {
+      address = h.address;
+      waits = marked_other s v.pending (own_register v k) other ∙ h.waits;
+    })
 
 -- ---- an update of something else
 
@@ -328,7 +406,7 @@ aside_push pool s e w other t = record {
 
 -- ---- an update of the station is heard
 
-idle_away : (e : Speaker) (w : Fields) → (is_newest e w ≡ false) ⊎ (advert_in w.value.content ≡ None)
+pub idle_away : (e : Speaker) (w : Fields) → (is_newest e w ≡ false) ⊎ (advert_in w.value.content ≡ None)
     → comes_back e w ≡ false
 idle_away e w h = elim h as (λ _. comes_back e w ≡ false) [
   | inl old ↦ known_stays_away e w old

@@ -1,11 +1,12 @@
 -- What an edge says and the pool still know of each other when the edge says, hears or announces something.
-use Rattle.std.proofs.Common.{◌≡◌, ◌≢◌, ◌⊎◌, inl, inr, zero, suc, ◌+◌, ◌<◌, Bool, true, false, cond, Some}
+use Rattle.std.proofs.Common.{◌≡◌, ◌≢◌, ◌⊎◌, inl, inr, zero, suc, ◌+◌, ◌<◌, Bool, true, false, cond, Some, None}
 use Rattle.std.proofs.Common.{List, [], ◌∷◌, ◌++◌, refl, sym, ap, subst, ◌∙◌, arith}
 use Rattle.std.proofs.lemmas.List.Elements.{Contains-append_left, Contains-push, Contains-push_cases}
 use Rattle.std.specs.Prelude.{Contains, ◌||◌}
 use Rattle.std.specs.List.{list_any}
 use Rattle.std.specs.Ordering.{eq_by_cmp}
 use Rattle.route_wire.specs.declared.update.Key.{Key}
+use Rattle.route_wire.specs.declared.update.Key.TheVariants.{Flood, Mac}
 use Rattle.route_wire.specs.declared.update.Register.{Register}
 use Rattle.route_wire.specs.declared.update.Content.{Content}
 use Rattle.route_wire.specs.declared.update.Content.TheVariants.{Withdrawn}
@@ -242,21 +243,29 @@ announced_told pool e r rs v at is present told = record {
     first_gone q ne (suc i, lt, is) = (i, omega (arith, lt), is)
 
 -- ---- what the edge says goes on by own words alone
+
+-- a key with no IP address
+abbrev pub is_bare : Key → Bool
+is_bare (Flood v) = true
+is_bare (Mac v m None) = true
+is_bare (Mac v m (Some ip)) = false
+
 pub data Talks (e : Speaker) : Speaker → Type 0 where
   Quiet : Talks e e
-  Says : (v : Speaker) (k : Key) (c : Content) → Talks e v → Talks e (after_originating v k c)
+  Says : (v : Speaker) (k : Key) (c : Content) → is_bare k ≡ true → Talks e v → Talks e (after_originating v k c)
 
 pub talks_numbers : (e v : Speaker) → Talks e v → KeepsNumbers e → KeepsNumbers v
 talks_numbers e _ Quiet h = h
-talks_numbers e _ (Says v k c t) h = said_numbers v k c (talks_numbers e v t h)
+talks_numbers e _ (Says v k c bare t) h = said_numbers v k c (talks_numbers e v t h)
 
 pub talks_told : (pool : List Fields) (e v : Speaker) → Talks e v → KeepsNumbers e → IsTold pool e → IsTold pool v
 talks_told pool e _ Quiet h told = told
-talks_told pool e _ (Says v k c t) h told = said_told pool v k c (talks_numbers e v t h) (talks_told pool e v t h told)
+talks_told pool e _ (Says v k c bare t) h told = said_told pool v k c (talks_numbers e v t h)
+    (talks_told pool e v t h told)
 
 pub talks_further : (e v w : Speaker) → Talks e v → Talks v w → Talks e w
 talks_further e v _ t Quiet = t
-talks_further e v _ t (Says w k c s) = Says w k c (talks_further e v w t s)
+talks_further e v _ t (Says w k c bare s) = Says w k c bare (talks_further e v w t s)
 
 -- who speaks, in which incarnation, and who is listened to
 pub record AreOne (e v : Speaker) : Type 0 where
@@ -269,7 +278,7 @@ one_itself e = record { address = refl; incarnation = refl; originators = refl }
 
 pub talks_one : (e v : Speaker) → Talks e v → AreOne e v
 talks_one e _ Quiet = one_itself e
-talks_one e _ (Says v k c t) = let h = talks_one e v t in
+talks_one e _ (Says v k c bare t) = let h = talks_one e v t in
     record { address = h.address; incarnation = h.incarnation; originators = h.originators }
 
 pub heard_one : (e : Speaker) (u : Fields) → AreOne e (after_importing e u)

@@ -11,6 +11,8 @@ pub mod ConvergenceEdge
 pub mod Convergence
 pub mod ConvergenceMove
 pub mod Station
+pub mod Rounds
+pub mod Meanwhile
 pub mod Later
 pub mod Witnesses
 pub mod Inner

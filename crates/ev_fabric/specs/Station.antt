@@ -1,7 +1,7 @@
 -- One station of a fabric: when all edges agree on it, and what becomes of it when it moves, whatever else is pending,
 -- missing or under way.
 use Rattle.std.specs.Prelude.{◌≡◌, ◌≢◌, ◌⊎◌, ℕ, suc, ◌+◌, ◌^◌, ◌≤◌, ◌<◌, ◌==◌, ◌&&◌, Bool, true, false, if◌then◌else◌}
-use Rattle.std.specs.Prelude.{Option, Some, None, IsSome, is_some, Result, Ok, List, [], ◌∷◌, length, Contains}
+use Rattle.std.specs.Prelude.{Option, Some, None, IsSome, is_some, Result, Ok, List, [], ◌∷◌, ◌++◌, length, Contains}
 use Rattle.std.specs.List.{filter, count_by, sum_by}
 use Rattle.route_wire.specs.declared.update.Ip.{Ip}
 use Rattle.route_wire.specs.declared.update.Key.{Key}
@@ -10,7 +10,7 @@ use Rattle.route_wire.specs.declared.update.Register.{Register}
 use Rattle.route_wire.specs.declared.update.Value.{Value}
 use Rattle.route_wire.specs.Fields.{Fields}
 use Rattle.route_wire.specs.Order.{is_newer}
-use Rattle.route_join.specs.Table.{value_at}
+use Rattle.route_join.specs.Table.{value_at, register_of}
 use Rattle.route_join.specs.Owner.{is_about, advert_in, IsOwner}
 use Rattle.mac_arena.specs.declared.station.Station.{Station}
 use Rattle.mac_arena.specs.declared.station.Entry.{Entry}
@@ -196,6 +196,48 @@ abbrev pub StationMoves : Type 0
 StationMoves = (i j : ℕ) (s : Station) (old mid new : Fabric) (steps : List Step) → IsSound old
     → (m : StationComes old i j s mid) → RunsBeside i j s mid steps new → AgreesOn new s
     → StationMoved old i s (address_of m.from) (address_of m.to) new
+
+-- ---- a move, where the old place may lose the station by itself
+
+-- the edge at place i advertised the station and doesn't: it was aged, flushed or unpinned there
+abbrev pub LosesItself : ℕ → Station → ℕ → Edge → Edge → Type 0
+LosesItself i s x a b = (x ≡ i) × Advertises a s × (Advertises b s → ⊥)
+
+-- as `LeavesStation`, but the edge at place i may lose the station
+abbrev pub LeavesOrLoses : ℕ → ℕ → Station → Fabric → Step → Fabric → Type 0
+LeavesOrLoses i j s old (Local e event) new = (x : ℕ) (a b : Edge) → e ≡ suc x → IsEdge old x a → IsEdge new x b
+    → SaysTheSame s a b ⊎ LosesItself i s x a b
+LeavesOrLoses i j s old (Announce e) new = Unit {0}
+LeavesOrLoses i j s old (Deliver e k) new = Unit {0}
+LeavesOrLoses i j s old (Restart e n) new = LeavesStation i j s old (Restart e n) new
+
+abbrev pub RunsLosing : ℕ → ℕ → Station → Fabric → List Step → Fabric → Type 0
+RunsLosing i j s old [] new = new ≡ old
+RunsLosing i j s old (step ∷ steps) new = (mid : Fabric) × (result : Result Reply FabricRefusal)
+    × FabricSteps old step result mid × LeavesOrLoses i j s old step mid × RunsLosing i j s mid steps new
+
+-- The pool has got an advert of the station by one originator and a withdrawal by another, in this order or in the
+-- other one.
+pub record IsMovedAnyhow (old : List Fields) (s : Station) (from to : ℕ) (new : List Fields) : Type 0 where
+  pub advert : Value
+  pub withdrawal : Value
+  pub is_advert : IsSome (advert_in advert.content)
+  pub is_withdrawal : advert_in withdrawal.content ≡ None
+  pub is : (new ≡ old ++ update_of (register_of to (key_of s)) advert
+      ∷ update_of (register_of from (key_of s)) withdrawal ∷ [])
+      ⊎ (new ≡ old ++ update_of (register_of from (key_of s)) withdrawal
+      ∷ update_of (register_of to (key_of s)) advert ∷ [])
+
+-- as `StationMoved`, with the two updates in any order
+pub record StationMovedAnyhow (old : Fabric) (i : ℕ) (s : Station) (from to : ℕ) (new : Fabric) : Type 0 where
+  pub pool : IsMovedAnyhow (updates_on s old.pool) s from to (updates_on s new.pool)
+  pub owner : (x : ℕ) (c : Edge) → IsEdge new x c → IsOwner (table_of c) s.vni s.mac to
+  pub gone : (c : Edge) → IsEdge new i c → Advertises c s → ⊥
+
+abbrev pub StationMovesAnyhow : Type 0
+StationMovesAnyhow = (i j : ℕ) (s : Station) (old mid new : Fabric) (steps : List Step) → IsSound old
+    → (m : StationComes old i j s mid) → RunsLosing i j s mid steps new → AgreesOn new s
+    → StationMovedAnyhow old i s (address_of m.from) (address_of m.to) new
 
 -- ---- how far a move is from its end
 

@@ -6,6 +6,7 @@ mod fabric;
 mod later;
 mod laws;
 mod refusal;
+mod rounds;
 mod station;
 mod step;
 #[cfg(test)]
@@ -21,9 +22,10 @@ pub use laws::{
     said_once, sets_join, starts, tables_join, tunnel_frames_come_out,
 };
 pub use refusal::FabricRefusal;
+pub use rounds::{frames_meanwhile, station_agrees, station_agrees_after_a_move, taken_stays};
 pub use station::{
     agreed_station, agrees_on, station_arrives, station_frames_go, station_from_port_to_port,
-    station_lasts, station_moves, station_settles,
+    station_lasts, station_moves, station_moves_anyhow, station_settles,
 };
 pub use step::{LocalEvent, Step};
 pub use witnesses::fabric_opens;

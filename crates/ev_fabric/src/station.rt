@@ -3,7 +3,7 @@
 ghost use Rattle.ev_fabric.specs.Fabric.{Fabric as State};
 ghost use Rattle.ev_fabric.specs.Agreed.{AllAgree};
 ghost use Rattle.ev_fabric.specs.Station.{AgreesOnEach, AgreedStation, StationFramesGo, StationFromPortToPort, StationMoves};
-ghost use Rattle.ev_fabric.specs.Station.{StationArrives, StationLasts, StationReached, StationSettles};
+ghost use Rattle.ev_fabric.specs.Station.{StationMovesAnyhow, StationArrives, StationLasts, StationReached, StationSettles};
 
 /// A law, which does nothing: all agree exactly where they agree on each station and on each flood
 /// list.
@@ -41,6 +41,13 @@ pub fn station_from_port_to_port()
 /// no more.
 pub fn station_moves()
     ensures { StationMoves }
+{}
+
+/// States the same of a move during which the old edge may lose the station by itself: it ages, is
+/// flushed or unpinned there before the old edge takes the news. The pool gets the same two
+/// updates, in any order, and the new edge owns the station at every edge.
+pub fn station_moves_anyhow()
+    ensures { StationMovesAnyhow }
 {}
 
 /// A law, which does nothing: how far it is from a move to agreement on the station. The new edge

@@ -358,3 +358,18 @@ fn restarted_edge_withdraws_what_comes_back(rt: HostRuntime) -> Result<(), Fail>
     assert!(rt; reports(&fabric, 2, ANEW));
     Ok(())
 }
+
+// With ample memory neither the pool's length nor what it holds is a reason to refuse memory: edge
+// 1 announces its flood list in each of 300 incarnations, one after another.
+#[test]
+fn long_pool_and_many_restarts_are_not_refused(rt: HostRuntime) -> Result<(), Fail> {
+    let mut fabric = two(rt.alloc())?;
+    for n in 1..301u32 {
+        assert!(rt; announces(&mut fabric, 1));
+        assert_eq!(rt; fabric.pool().len() as u64, u64::from(n));
+        assert_eq!(rt; outcome(&mut fabric, 1, Act::Restart(n)), Ok(None));
+    }
+    assert!(rt; is_newer(&mut fabric, 2, 1));
+    assert!(rt; is_newer(&mut fabric, 2, 300));
+    Ok(())
+}

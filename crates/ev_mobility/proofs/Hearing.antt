@@ -1,4 +1,4 @@
--- What is heard of all updates of an address is what others advertise of it.
+-- The fold over all updates of an address gives the adverts of the other edges.
 use Rattle.std.proofs.Common.{◌≡◌, ◌≢◌, ◌⊎◌, inl, inr, ℕ, zero, suc, ◌+◌, ◌<◌, ◌≤◌, ◌^◌, Bool, true, false, cond, eqb}
 use Rattle.std.proofs.Common.{Option, Some, None, List, [], ◌∷◌, length, Contains, refl, sym, ap, subst, ◌∙◌, arith}
 use Rattle.std.specs.Prelude.{◌||◌, nat_lt, slice_index_or}
@@ -17,7 +17,7 @@ use Rattle.route_join.proofs.Subjects.{address_key, about_address, about_itself}
 use Rattle.ev_mobility.specs.Seq.{Elsewhere, EveryElsewhere, IsSeqFor, foreign_in, greater_of, heard, heard_all}
 use Rattle.ev_mobility.specs.Seq.{nothing_heard, seq_above, seq_of}
 
--- one of the updates is another's, and says so
+-- one of the updates is another edge's advert
 pub record Among (own : ℕ) (us : List Fields) (P : Advert → Type 0) : Type 0 where
   pub update : Fields
   pub there : Contains us update
@@ -57,7 +57,7 @@ more own u us P m = record {
   so = m.so;
 }
 
--- one more update, that says nothing or an advert
+-- one more update, a withdrawal or an advert
 pub says_more : (own : ℕ) (u : Fields) (us : List Fields) (h k : Heard) (o : Option Advert) → foreign_in own u ≡ o
     → Says own us (heard h o) k → Says own (u ∷ us) h k
 says_more own u us h k None is s = record {

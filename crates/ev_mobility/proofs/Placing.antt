@@ -51,7 +51,7 @@ pub place_found : (es : Places) (q : Station) → has_place (moves_of es) q ≡ 
 place_found [] q = refl
 place_found (e ∷ es) q = ap (λ b. is_same q e.0 || b) (place_found es q) ∙ some_cond (is_same q e.0) e.1 (find es q)
 
--- who has a window has a place
+-- a station with a window has a place
 pub all_placed : (es : Places) → ArePlaced (moves_of es)
 all_placed es q window = place_found es q ∙ found (find es q) (subst IsSome (window_found es q) window)
   where

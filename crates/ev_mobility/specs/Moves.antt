@@ -8,7 +8,7 @@ use Rattle.mac_arena.specs.Station.{station_cmp, is_same}
 use Rattle.ev_mobility.specs.declared.window.Window.{Window}
 use Rattle.ev_mobility.specs.Window.{after_move}
 
--- each station that has moved since its last thaw, with its newest window; and who has a place
+-- each station that has moved since its last thaw, with its newest window; and the stations with a place
 pub record Moves : Type 0 where
   pub windows : FinMap station_cmp Window
   pub places : List Station
@@ -19,7 +19,7 @@ window_at m s = get m.windows s
 abbrev pub has_place : Moves → Station → Bool
 has_place m s = list_any (is_same s) m.places
 
--- whoever has moved since the last thaw has a place
+-- a station that has moved since the last thaw has a place
 abbrev pub ArePlaced : Moves → Type 0
 ArePlaced m = (s : Station) → IsSome (window_at m s) → has_place m s ≡ true
 

@@ -1,23 +1,22 @@
-//! What an edge tells its operator of an address that it doesn't learn, or loses.
+//! Alerts about an address that an edge does not learn, or loses.
 ghost use Rattle.std.specs.Prelude.{◌≡◌};
 ghost use Rattle.ev_mobility.specs.Alert.{number_of};
 
 use std::fmt::{Display, Error, Formatter, Write};
 
-/// What an edge tells its operator while it learns or pins an address, or loses one. The frame that
-/// brought the address is forwarded all the same.
+/// An alert of an edge to its operator about an address that it learns, pins or loses. The edge
+/// forwards the frame that brought the address in any case.
 #[derive(Clone, Copy, Debug, PartialEq, Eq)]
 pub enum Alert {
-    /// Another edge advertises the address as static: it isn't learnt here.
+    /// Another edge advertises the address as static. It is not learnt here.
     StaticElsewhere,
-    /// Another edge has used the greatest sequence number: the address isn't learnt here.
+    /// Another edge has used the greatest sequence number. The address is not learnt here.
     SequenceSpent,
-    /// The address moved for the fifth time within 180 seconds: it is frozen,
-    /// and isn't learnt here.
+    /// The address moved for the fifth time within 180 seconds. It is frozen, and not learnt here.
     Duplicate,
-    /// An address that was pinned here belongs to another edge now: it isn't pinned any more.
+    /// An address that was pinned here now belongs to another edge, and is no longer pinned.
     LostStatic,
-    /// The edge has few numbers left, and keeps them for withdrawals: the address isn't learnt.
+    /// The edge has few numbers left and reserves them for withdrawals. The address is not learnt.
     CounterSpent,
     /// The learning table is full: the address isn't learnt.
     TableFull,
@@ -26,7 +25,7 @@ pub enum Alert {
 }
 
 impl Alert {
-    /// The alert's number, as logs give it: 1 to 6, or 15.
+    /// Returns the alert's number for logs: 1 to 6, or 15.
     pub fn number(self) -> u8
         ensures { result ≡ number_of self }
     {

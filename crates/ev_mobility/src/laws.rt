@@ -2,8 +2,8 @@
 ghost use Rattle.std.specs.Prelude.{◌≡◌, ◌∷◌, Some};
 ghost use Rattle.ev_mobility.specs.Window.{spans, kept, has_five, ends_in_fifth, is_fifth, is_frozen, after_move};
 
-/// What is kept of an address that moved at these seconds, the newest first, and then at one more,
-/// is what is kept of all these moves: the newest window's start, and whether one had five.
+/// The window after moves at these seconds, the newest first, and then one more move, is the window
+/// of all these moves: the newest window's start, and whether one had five.
 pub fn window_with_one_more_move(earlier: &[u64], second: u64)
     ensures window { kept (spans (second ∷ earlier.now))
         ≡ Some (after_move (kept (spans earlier.now)) second) }

@@ -1,5 +1,5 @@
 //! Mobility (RFC 7432, section 15): the sequence number of the next own advert of an address, and
-//! how often an address has moved of late.
+//! the number of recent moves of an address.
 #![tactic(auto)]
 
 mod alert;

@@ -1,4 +1,4 @@
-//! The moves of addresses from edge to edge, and who is frozen for moving too often.
+//! The moves of addresses between edges, and the addresses that are frozen for moving too often.
 ghost use Rattle.std.specs.Prelude.{◌≡◌, [], true, IsOk, OnOk, OnErr};
 ghost use Rattle.std.specs.FinMap.{empty};
 ghost use Rattle.mac_arena.specs.declared.station.Station.{Station as Who};
@@ -11,8 +11,7 @@ use std::alloc::{AllocError, Global};
 use std::collections::BTreeMap;
 use std::marker::Model;
 
-/// The moves of addresses from edge to edge: how many of late, and who is frozen
-/// for moving too often.
+/// The recent moves of addresses between edges, and the frozen addresses.
 ///
 /// A station needs a place before its first move is noted, and keeps it.
 #[derive(Drop)]
@@ -34,7 +33,7 @@ impl Model for Moves {
 }
 
 impl Moves {
-    /// No station has a place, and none has moved.
+    /// Returns an empty value: no station has a place, and none has moved.
     pub fn new(alloc: Global) -> Self
         ensures { result ≡ record { windows = empty; places = [] } }
     {
@@ -47,7 +46,8 @@ impl Moves {
     ///
     /// # Errors
     ///
-    /// Where the station has no place, and there is no memory for one. Nothing has changed then.
+    /// `AllocError` if the station has no place and there is no memory for one. Then nothing has
+    /// changed.
     pub fn room(&mut self, key: &Station) -> Result<(), AllocError>
         ensures there { has_place self.old key.now ≡ true → IsOk result }
         ensures place { OnOk result (has_place self.new key.now ≡ true) }
@@ -64,14 +64,15 @@ impl Moves {
         Ok(())
     }
 
-    /// A law, which does nothing: a station that has moved since its last thaw has its place.
+    /// A law, a function that does nothing: a station that has moved since its last thaw has a
+    /// place.
     pub fn always_placed(&self)
         ensures { ArePlaced self.now }
     {
         let _ = &self.places;
     }
 
-    /// The newest window of a station.
+    /// Returns the newest window of a station.
     fn window(&self, key: &Station) -> Option<Window>
         ensures { result ≡ window_at self.now key.now }
     {
@@ -81,27 +82,27 @@ impl Moves {
         }
     }
 
-    /// Whether a move of the station at this second would be the fifth of its window.
+    /// Returns `true` if a move of the station at this second would be the fifth of its window.
     pub fn fifth(&self, key: &Station, second: u64) -> bool
         ensures { result ≡ is_fifth (window_at self.now key.now) second }
     {
         is_fifth(&self.window(key), second)
     }
 
-    /// Notes a move of a station that has a place, and tells whether it is the fifth of its window,
-    /// and the station frozen by it.
+    /// Notes a move of a station that has a place. Returns `true` if it is the fifth of its window,
+    /// which freezes the station.
     pub fn note(&mut self, key: &Station, second: u64) -> bool
         requires { has_place self.old key.now ≡ true }
         ensures fifth { result ≡ is_fifth (window_at self.old key.now) second }
         ensures after { self.new ≡ after_note self.old key.now second }
     {
         let window = self.window(key);
-        // The station has its place already, so no memory is asked for.
+        // The station has its place already, so this takes no memory.
         let _ = self.places.insert(*key, Some(after_move(&window, second)));
         is_fifth(&window, second)
     }
 
-    /// Whether the station is frozen.
+    /// Returns `true` if the station is frozen.
     pub fn frozen(&self, key: &Station) -> bool
         ensures { result ≡ is_frozen (window_at self.now key.now) }
     {

@@ -9,24 +9,24 @@ use route_wire::{Advert, Content, Update};
 /// The sequence number of an edge's next own advert of an address.
 #[derive(Clone, Copy, Debug, PartialEq, Eq)]
 pub enum Seq {
-    /// It is this one.
+    /// The next number.
     Next(u32),
-    /// There is none: another edge advertises the address as static.
+    /// No number: another edge advertises the address as static.
     Static,
-    /// There is none: another edge has used the greatest one.
+    /// No number: another edge has used the greatest one.
     Spent,
 }
 
-/// What other edges advertise of an address.
+/// The adverts of other edges for an address.
 #[derive(Clone, Copy, Debug, PartialEq, Eq)]
 pub(crate) struct Heard {
-    /// Whether any of it is static.
+    /// `true` if one of them is static.
     pub(crate) is_static: bool,
-    /// The greatest sequence number, none where nobody advertises the address.
+    /// The greatest sequence number, or `None` if no other edge advertises the address.
     pub(crate) greatest: Option<u32>,
 }
 
-/// What another edge advertises, if the update is another's and no withdrawal.
+/// Returns the advert of an update, if it is another edge's and no withdrawal.
 fn foreign_in(own: Addr, update: &Update) -> Option<Advert>
     ensures { result ≡ foreign_in own update.now }
 {
@@ -39,7 +39,7 @@ fn foreign_in(own: Addr, update: &Update) -> Option<Advert>
     }
 }
 
-/// The greatest sequence number, this one among them.
+/// Returns the greater of the two sequence numbers.
 fn greater_of(greatest: Option<u32>, sequence: u32) -> u32
     ensures { result ≡ greater_of greatest sequence }
 {
@@ -49,7 +49,7 @@ fn greater_of(greatest: Option<u32>, sequence: u32) -> u32
     }
 }
 
-/// What is heard with one advert more, if it is one.
+/// Adds one more advert, if there is one.
 fn hear(so_far: Heard, advert: Option<Advert>) -> Heard
     ensures { result ≡ heard so_far advert }
 {
@@ -62,7 +62,7 @@ fn hear(so_far: Heard, advert: Option<Advert>) -> Heard
     }
 }
 
-/// What is heard of all updates of an address.
+/// Collects the adverts of other edges from all updates of an address.
 fn hear_all(own: Addr, updates: UpdatesOf<'_>) -> Heard
     ensures { result ≡ heard_all own updates.entry nothing_heard }
 {
@@ -76,7 +76,7 @@ fn hear_all(own: Addr, updates: UpdatesOf<'_>) -> Heard
     so_far
 }
 
-/// The number of the next own advert, from all that is heard of others.
+/// Returns the number of the next own advert, from the adverts of all other edges.
 fn seq_of(all: Heard) -> Seq
     ensures { result ≡ seq_of all }
 {
@@ -90,9 +90,9 @@ fn seq_of(all: Heard) -> Seq
     }
 }
 
-/// The sequence number of an edge's next own advert of an address (RFC 7432, section 15): one above
-/// all that other edges advertise for it, by whatever IP address or none, and 0 where no other
-/// does. It takes no memory.
+/// Returns the sequence number of an edge's next own advert of an address (RFC 7432, section 15):
+/// one above the greatest that other edges advertise for it, with any IP address or none, and 0 if
+/// no other edge does. It takes no memory.
 pub fn next_seq(table: &Table, own: Addr, vni: Vni, mac: Mac) -> Seq
     ensures value { result ≡ seq_for table.now own vni mac }
     ensures exact { IsSeqFor table.now own vni mac result }

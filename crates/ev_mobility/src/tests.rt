@@ -1,4 +1,4 @@
-//! Tests of what no clause says, and of the rows for moves and sequence numbers.
+//! Tests of behaviour that no clause states, and worked examples of moves and sequence numbers.
 
 mod alert;
 mod moves;

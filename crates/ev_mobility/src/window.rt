@@ -3,35 +3,35 @@
 ghost use Rattle.std.specs.Prelude.{◌≡◌};
 ghost use Rattle.ev_mobility.specs.Window.{one_more, runs, count_with, is_fifth, after_move, is_frozen};
 
-/// How many seconds a window lasts.
+/// The length of a window in seconds.
 const LENGTH: u64 = 180;
 
-/// What is kept of the moves of an address since its last thaw.
+/// The summary of the moves of an address since its last thaw.
 #[derive(Clone, Copy, Debug, PartialEq, Eq)]
 pub(crate) struct Window {
     /// The second at which the newest window started.
     pub(crate) start: u64,
-    /// How many moves that window has, counted up to 6.
+    /// The number of moves of that window, counted up to 6.
     pub(crate) count: u8,
-    /// Whether some window had five.
+    /// `true` if some window had five moves.
     pub(crate) frozen: bool,
 }
 
-/// One more, counted up to 6: only the fifth of a window matters.
+/// Returns one more, counted up to 6: only the fifth move of a window matters.
 fn one_more(count: u8) -> u8
     ensures { result ≡ one_more count }
 {
     if count < 6 { count + 1 } else { 6 }
 }
 
-/// Whether a move at the second belongs to the window.
+/// Returns `true` if a move at the second belongs to the window.
 fn runs(window: &Window, second: u64) -> bool
     ensures { result ≡ runs window.now second }
 {
     second < window.start || second - window.start < LENGTH
 }
 
-/// How many moves the newest window has with one at this second.
+/// Returns the number of moves of the newest window after one at this second.
 fn count_with(window: &Option<Window>, second: u64) -> u8
     ensures { result ≡ count_with window.now second }
 {
@@ -41,14 +41,14 @@ fn count_with(window: &Option<Window>, second: u64) -> u8
     }
 }
 
-/// Whether a move at this second is the fifth of its window.
+/// Returns `true` if a move at this second is the fifth of its window.
 pub(crate) fn is_fifth(window: &Option<Window>, second: u64) -> bool
     ensures { result ≡ is_fifth window.now second }
 {
     count_with(window, second) == 5
 }
 
-/// Whether the address is frozen.
+/// Returns `true` if the address is frozen.
 pub(crate) fn is_frozen(window: &Option<Window>) -> bool
     ensures { result ≡ is_frozen window.now }
 {
@@ -58,7 +58,7 @@ pub(crate) fn is_frozen(window: &Option<Window>) -> bool
     }
 }
 
-/// The window with a move at this second.
+/// Returns the window after a move at this second.
 pub(crate) fn after_move(window: &Option<Window>, second: u64) -> Window
     ensures { result ≡ after_move window.now second }
 {

@@ -1,4 +1,4 @@
--- What a stream gives next, and its end.
+-- The next answer of a stream, and its end.
 use Rattle.std.proofs.Common.{◌≡◌, ℕ, true, false, List, None, Result, Ok, Err, refl, sym, ap, ◌∙◌}
 use Rattle.route_wire.specs.declared.stream.Whole.{Whole}
 use Rattle.route_wire.specs.declared.stream.Whole.TheVariants.{Rest, Fault, Length}
@@ -13,7 +13,7 @@ use Rattle.ev_report.specs.declared.ending.Ending.TheVariants.{Ended, Failed, Un
 use Rattle.ev_report.specs.Notes.{end_note, is_broken}
 use Rattle.ev_report.specs.Ends.{fault_in, fault_told}
 
--- ---- what is shown behind what was told
+-- ---- the octets shown after the answers
 
 abbrev pub shown_behind : Next → Whole
 shown_behind More = Rest
@@ -42,7 +42,7 @@ rest_shown Rest e h = refl
 rest_shown (Fault f) e h = cc
 rest_shown (Length n) e h = cc
 
--- what is held makes the same note as the stream's rest
+-- the octets held make the same note as the stream's rest
 module _ (w : Whole) (rest held : List ℕ) (none_held : is_length w ≡ false) (same : is_rest w ≡ true
     → rest ≡ held) where
   pub same_note : (ending : Ending) (n : ℕ) → fault_told ending ≡ fault_in w

@@ -1,4 +1,4 @@
--- What the devices of a report hold at its end, and its status.
+-- The content of a report's devices at its end, and its status.
 use Rattle.std.proofs.Common.{◌≡◌, ◌≢◌, ◌⊎◌, inl, inr, ℕ, ◌+◌, Bool, true, false, cond, not, ◌&&◌, ◌||◌, List, []}
 use Rattle.std.proofs.Common.{length, Result, Ok, Err, is_ok, refl, sym, ap, subst, ◌∙◌, arith}
 use Rattle.std.proofs.lemmas.Bool.Decides.{nat_tests}
@@ -52,7 +52,7 @@ same_status e p q x y s t k l hx hy hs hk =
     ap (λ z. status_of (e || (z || not q)) s k) (sym hx) ∙ ap (λ z. status_of (e || (x || z)) s k) (sym hy)
     ∙ ap (λ z. status_of (e || (x || y)) z k) hs ∙ ap (λ z. status_of (e || (x || y)) t z) hk
 
--- the records of a reader were taken, the end was noted, and what is made of them written
+-- the records of a reader were taken, the end was noted, and the output written
 module _ (newest : ℕ) (output : Output) (originators : List ℕ) (reader reader' : Source)
     (out out' notes mid notes' : End) (intake last : Intake) (ending : Ending) where
   pub renders : (i : TakesInput newest ending reader reader' (state (new_intake newest originators) notes)
@@ -160,7 +160,7 @@ last_status true true false s k x y status last h l f g = l
 
 module _ (before held after : Devices) (status last : ℕ)
     (p : Passes before.out.failures before.notes.failures held after status last) where
-  -- what was written before is written at the end, or a call has failed
+  -- the earlier output is still there at the end, or a call has failed
   pub passed_out : (text : List ℕ) → Holds before.out held.out text → Holds before.out after.out text
   passed_out text h = finish_holds before.out held.out after.out p.is_written text h p.out
 
@@ -210,7 +210,7 @@ module _ (before held after : Devices) (status last : ℕ)
             (failed_out text r.written) (failed_notes lines r.noted) r.status_is;
       }
 
--- what is done with devices that hold octets for others is done with the others, in the end
+-- output to buffering devices reaches the inner devices in the end
 module _ (does : Devices → Devices → ℕ → Type 0)
     (lasts : (before held after : Devices) (status last : ℕ)
     → Passes before.out.failures before.notes.failures held after status last → does before held status

@@ -1,4 +1,4 @@
--- What holds of the octets of a piece that stand in front of its rest.
+-- The octets of a piece before its rest.
 use Rattle.std.proofs.Common.{◌≡◌, ℕ, List, [], ◌++◌, take, drop, length, refl, sym, ap, subst, ◌∙◌, append_assoc}
 use Rattle.std.proofs.lemmas.List.{append-nil, nil_from_length, take-append-drop}
 

@@ -14,7 +14,7 @@ use Rattle.ev_report.specs.Inner.Progressing.{State, TakesOctets, TakesInput}
 use Rattle.ev_report.proofs.Gathering.{gathers_none, gathers_more, Stops, gave_by}
 use Rattle.ev_report.proofs.Taking.{octets_none, octets_both}
 
--- the octets that so many reads gave
+-- the octets of this number of reads
 pub record TakesReads (turn : ℕ) (reader reader' : Source) (old new : State) : Type 0 where
   pub input : List ℕ
   pub read : Gathers turn reader reader' input
@@ -23,7 +23,7 @@ pub record TakesReads (turn : ℕ) (reader reader' : Source) (old new : State) :
 pub reads_none : (reader : Source) (s : State) → TakesReads 0 reader reader s s
 reads_none reader s = record { input = []; read = gathers_none reader [] refl; octets = octets_none s }
 
--- what was taken so far shows no fault
+-- the octets taken so far show no fault
 faultless_octets : (octets : List ℕ) (s t : State) → s.intake.feed.rest ≡ [] → TakesOctets octets s t
     → shown t.intake.feed ≡ Rest → IsFaultless s.intake.feed.newest octets
 faultless_octets octets s t empty o shows =

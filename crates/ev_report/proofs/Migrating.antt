@@ -201,7 +201,7 @@ pub behind_first : (u : Fields) (us : List Fields) → behind (newest_along u us
 behind_first u us = behind_same (newest_along u us) u (u ∷ us)
     (same_back u.register (newest_along u us).register (newest_same u us)) ∙ behind_itself u us
 
--- the iterator that goes ahead, where the one behind it goes on by an update
+-- the leading iterator when the following one advances by an update
 pub entered_is : (newest u n : Fields) (us ahead ahead' : List Fields) → ahead ≡ drop 1 (behind newest (u ∷ us))
     → (is_same_old newest.register u.register ≡ true → (n ≡ newest) × (ahead' ≡ ahead))
     → (is_same_old newest.register u.register ≡ false → (n ≡ newest_along u ahead) × (ahead' ≡ drop 1 (behind u ahead)))
@@ -231,7 +231,7 @@ entered_is newest u n us ahead ahead' is same other = go (is_same_old newest.reg
 
 -- ---- lists in order
 
--- each of them stands behind the register
+-- each of them comes after the register
 abbrev Above : Register → List Fields → Type 0
 Above r [] = Unit {0}
 Above r (u ∷ us) = (register_cmp r u.register ≡ Less) × Above r us
@@ -255,7 +255,7 @@ abbrev Apart : Register → List Fields → Type 0
 Apart r [] = Unit {0}
 Apart r (u ∷ us) = (is_same_old r u.register ≡ false) × Apart r us
 
--- those that are of r's old register stand in front
+-- those of r's old register come first
 abbrev Side : Register → List Fields → Type 0
 Side r [] = Unit {0}
 Side r (u ∷ us) = (is_same_old r u.register ≡ true → Side r us) × (is_same_old r u.register ≡ false → Apart r us)
@@ -284,7 +284,7 @@ side_same r q (u ∷ us) e s = (
   λ t. apart_same r q us e (s.1 (same_left r q u.register e ∙ t)),
 )
 
--- what is contained in a list with a first element
+-- an element of a list with a first element
 first_or_rest : (u : Fields) (us : List Fields) (w : Fields) → Contains (u ∷ us) w → (u ≡ w) ⊎ Contains us w
 first_or_rest u us w c = go c.0 c.1 c.2
   where
@@ -309,7 +309,7 @@ apart_none r (u ∷ us) w a c = go (apart_none r us w a.1) (first_or_rest u us w
 
 -- ---- the newest of an old register
 
--- n is the newest of `best` and those of its old register behind it
+-- n is the newest of `best` and the later updates of its old register
 record Leads (best : Fields) (us : List Fields) (n : Fields) : Type 0 where
   own : (n ≡ best) ⊎ Contains us n
   same : is_same_old best.register n.register ≡ true
@@ -376,7 +376,7 @@ newest_leads best (u ∷ us) s = go (λ b. newest_leads b us) (is_same_old best.
 -- ---- the walk
 
 module _ (all : List Fields) where
-  -- what each becomes, one after the other
+  -- the result for each, one after the other
   abbrev pub Each : List Fields → List Fields → Type 0
   Each [] [] = Unit {0}
   Each [] (w ∷ ws) = ⊥
@@ -477,7 +477,7 @@ module _ (all : List Fields) where
         rest (newest_along u us) (enters best u us h e),
       )
 
--- ---- what is written
+-- ---- the output
 
 -- what becomes of a register is at that register
 pub at_register : (n : Fields) (r : Register) → (migrated_at n r).register ≡ r
@@ -596,7 +596,7 @@ lex_first m n o p f e = go (nat_cmp m n) refl e
 then_itself : (o p : Ordering) → o ≡ Equal → is_lt p ≡ false → is_lt (ordering_then o p) ≡ false
 then_itself o p e h = ap (λ x. is_lt (ordering_then x p)) e ∙ h
 
--- where the register is the same, what is no newer is no newer by the old order
+-- for one register, an update that is no newer is no newer in the old order
 same_newer : (r : Register) (v w : Value) → is_newer v w ≡ false
     → is_newer_old (record { register = r; value = v }) (record { register = r; value = w }) ≡ false
 same_newer r v w e =

@@ -1,4 +1,4 @@
--- After a migration each address has the owner that it had, and what was replaced stays away.
+-- After a migration each address has the owner that it had, and replaced registers stay withdrawn.
 use Rattle.std.proofs.Common.{◌≡◌, ◌≢◌, ◌⊎◌, inl, inr, ℕ, ◌+◌, ◌≤◌, Bool, true, false, cond, List, Contains, Option}
 use Rattle.std.proofs.Common.{Some, None, MatchOption, nat_cmp, refl, sym, ap, subst, ◌∙◌, arith}
 use Rattle.std.proofs.lemmas.Bool.Decides.{nat_tests}
@@ -81,7 +81,7 @@ newest_at us r q u s i = record {
   newest = λ w c t. i.newest w c (same_on w.register q r t (same_back r q s));
 }
 
--- ---- what was written
+-- ---- the output
 
 kept_at : (u : Fields) → migrated_at u u.register ≡ u
 kept_at u = ap (λ b. cond b u (withdrawn_for u u.register)) (itself_register u.register)
@@ -103,7 +103,7 @@ module _ (us ws : List Fields) (m : AreMigrated us ws) where
       let same = one_newest us w.register a.0 u a.1 i in
       subst (Contains ws) (ap (λ (x : Fields). migrated_at x w.register) same ∙ replaced_at u w.register ne) a.2
 
-  -- of what was written there is one update of a register
+  -- the output has one update of a register
   one_written : (r : Register) (v w : Value) → Contains ws (record { register = r; value = v })
       → Contains ws (record { register = r; value = w }) → v ≡ w
   one_written r v w c d =
@@ -165,7 +165,7 @@ lower_first vni mac o p i j ne e = go (nat_cmp o p) refl
         ∙ h in cc
 
 module _ (us ws : List Fields) (t : Table) (vni mac : ℕ) (m : AreMigrated us ws) (h : IsTableOf ws t) where
-  -- what a newest update says of the address is in the table
+  -- a newest update's advert of the address is in the table
   says : (p : ℕ) (w : Fields) (i : IsNewest us (register_of p (Mac vni mac None)) w)
       → advert_at t p (Mac vni mac (address_register vni mac p w.register i.same).0) ≡ advert_in w.value.content
   says p w i =
@@ -218,7 +218,7 @@ same_owners us ws t vni mac m h = go (owner t vni mac) (owner_is t vni mac)
     go None k = unowned us ws t vni mac m h k
     go (Some o) k = owned us ws t vni mac m h o k
 
--- ---- what was replaced
+-- ---- replaced registers
 
 -- of an update that isn't newer, incarnation and counter aren't higher
 lex_not_less : (m n : ℕ) (o : Ordering) → is_lt (ordering_then (nat_cmp m n) o) ≡ false

@@ -179,7 +179,7 @@ answers_taken u s t became table count out_of_memory told notes = record {
   };
 }
 
--- a record that wasn't, where what went before may have said that memory was refused
+-- a record that was not taken, when memory may have been refused before
 pub answers_refused : (answer : Result Fields ℕ) (refusal : ℕ) (s m t : State)
     → Becomes s.intake.table answer (Err refusal) → Refuses refusal m t
     → m.intake ≡ record s.intake { is_out_of_memory = m.intake.is_out_of_memory } → m.notes ≡ s.notes
@@ -204,7 +204,7 @@ answers_refused answer refusal s m t became r kept notes out_of_memory = record 
   };
 }
 
--- what a table's answer makes of an update's record
+-- the effect of a table's answer on an update's record
 abbrev pub outcome_of : Fields → Result Taken TakeError → Result Fields ℕ
 outcome_of u (Ok taken) = Ok u
 outcome_of u (Err error) = Err (number_of error)
@@ -260,7 +260,7 @@ octets_skipped octets s fault shows = record {
   taken = answers_none s s refl refl refl (tells_none s.notes s.intake.is_told);
 }
 
--- a step of a feed that held no fault: what it took of a piece, and what it told
+-- a step of a feed without a fault: the octets that it took of a piece, and its answer
 module _ (s : State) (piece : List ℕ) (n : ℕ) (after : Held) (told : Next)
     (takes : TakesNext s.intake.feed after piece n told) (rest : shown s.intake.feed ≡ Rest)
     (took : (stream : List ℕ) (answers : List (Result Fields ℕ)) → HasRead s.intake.feed stream answers
@@ -281,7 +281,7 @@ module _ (s : State) (piece : List ℕ) (n : ℕ) (after : Held) (told : Next)
   octets_more is = let t : State = state (record s.intake { feed = after }) s.notes in
       octets_next More is t refl (answers_none t t refl refl refl (tells_none s.notes s.intake.is_told))
 
-  -- a fault: what is behind it in the piece is taken with it
+  -- a fault: the rest of the piece is taken with it
   pub octets_faulty : (fault : ℕ) → told ≡ Faulty fault
       → TakesOctets piece s (state (record s.intake { feed = after }) s.notes)
   octets_faulty fault is = let t : State = state (record s.intake { feed = after }) s.notes in

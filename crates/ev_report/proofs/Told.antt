@@ -1,4 +1,4 @@
--- What is told of the words.
+-- The messages about the arguments.
 use Rattle.std.proofs.Common.{◌≡◌, inl, inr, ℕ, Bool, true, false, cond, List, Result, Ok, Err, MatchResult, is_ok}
 use Rattle.std.proofs.Common.{refl, ap, subst, ◌∙◌, arith}
 use Rattle.std.proofs.lemmas.Bool.Decides.{nat_tests}
@@ -38,7 +38,7 @@ pub tells_usage : (input : Source) (out notes notes' : End) (text : Text) (statu
     → TellsUsage text (devices input out notes) (devices input out notes') status
 tells_usage input out notes notes' text status told = record { input = refl; out = refl; told = told }
 
--- a list that is wrong is told
+-- a wrong list is reported
 pub tells_list : (input : Source) (out notes notes' : End) (P : List ℕ
     → Type 0) (list : Result (List ℕ) (Text × ListFault)) (wrong : Text × ListFault) (status : ℕ) → Err wrong ≡ list
     → IsTold (list_text wrong) notes notes' status

@@ -88,14 +88,13 @@ pub record Gave (newest : ℕ) (old new : Source) (input : List ℕ) (ending : E
 abbrev pub has_failed : End → End → Bool
 has_failed old new = nat_lt old.failures new.failures
 
--- The writer holds these octets behind what it held, or one call of it failed.
+-- The writer holds these octets after its earlier content, or one call of it failed.
 pub record Holds (old new : End) (octets : List ℕ) : Type 0 where
   pub written : new.failures ≡ old.failures → new ≡ with_text old octets
   pub failures : (new.failures ≡ old.failures) ⊎ (new.failures ≡ old.failures + 1)
 
--- The writer took this text, or a call failed and `after` is false. Where `before` is false a call has failed already,
--- and
--- none was made.
+-- The writer took this text, or a call failed and `after` is false. If `before` is false, a call has failed already,
+-- and none was made.
 pub record Tells (old new : End) (before after : Bool) (text : List ℕ) : Type 0 where
   pub kept : before ≡ false → (after ≡ false) × (new ≡ old)
   pub written : after ≡ true → new ≡ with_text old text

@@ -1,4 +1,4 @@
--- What is told of reads and writes that failed.
+-- The messages about failed reads and writes.
 use Rattle.std.specs.Prelude.{◌≡◌, ℕ, ◌||◌, ◌&&◌, Bool, not, nat_lt, if◌then◌else◌, List, [], ◌++◌, codes, MatchBool}
 use Rattle.ev_report.specs.declared.failures.Failures.{Failures}
 use Rattle.ev_report.specs.Ends.{Devices, Holds}
@@ -14,7 +14,7 @@ is_unread before after = nat_lt before.input after.input
 abbrev pub is_unwritten : Failures → Failures → Bool
 is_unwritten before after = nat_lt before.out after.out
 
--- one of both has, and no call of the notes, on which it can be told
+-- one of the two has failed, and no call of the notes, which take the message
 abbrev pub is_untold : Failures → Failures → Bool
 is_untold before after = (is_unread before after || is_unwritten before after) && not (nat_lt before.notes after.notes)
 
@@ -27,8 +27,8 @@ failed_text unread unwritten =
     text_if unread (codes "standard input: it can't be read\n")
     ++ text_if unwritten (codes "standard output: it can't be written\n")
 
--- Since the devices had these failures, reads or writes have failed: they are told where they can be. Else no call was
--- made.
+-- Since the devices had these failures, reads or writes have failed: they are reported if they can be. Otherwise no
+-- call was made.
 pub record TellsFailed (before : Failures) (mid after : Devices) : Type 0 where
   pub input : after.input ≡ mid.input
   pub out : after.out ≡ mid.out

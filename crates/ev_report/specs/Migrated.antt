@@ -50,7 +50,7 @@ pub record IsNewest (us : List Fields) (r : Register) (u : Fields) : Type 0 wher
   pub same : is_same_old u.register r ≡ true
   pub newest : (w : Fields) → Contains us w → is_same_old w.register r ≡ true → is_newer_old w u ≡ false
 
--- ---- what is written
+-- ---- the output
 
 -- the register is withdrawn in the update's place
 abbrev pub withdrawn_for : Fields → Register → Fields
@@ -63,7 +63,7 @@ withdrawn_for u r = record {
   };
 }
 
--- what becomes of a register, where u is the newest update of its old register
+-- the result for a register, if u is the newest update of its old register
 abbrev pub migrated_at : Fields → Register → Fields
 migrated_at u r = if is_eq (register_cmp u.register r) then u else withdrawn_for u r
 
@@ -77,17 +77,17 @@ pub record AreMigrated (us written : List Fields) : Type 0 where
       × Contains written (migrated_at u v.register)
   pub ordered : IsOrdered written
 
--- ---- the same by a walk over a table's updates, where those of an old register stand side by side
+-- ---- the same by a walk over a table's updates, in which those of an old register are adjacent
 
 abbrev pub newer_old : Fields → Fields → Fields
 newer_old best u = if is_newer_old u best then u else best
 
--- the newest of an old register, from one of its updates and those behind it
+-- the newest of an old register, from one of its updates and the later ones
 abbrev pub newest_along : Fields → List Fields → Fields
 newest_along best [] = best
 newest_along best (u ∷ us) = if is_same_old best.register u.register then newest_along (newer_old best u) us else best
 
--- the newest of u's old register, where `best` is that of the update before
+-- the newest of u's old register, if `best` is that of the update before
 abbrev pub entering : Fields → Fields → List Fields → Fields
 entering best u us = if is_same_old best.register u.register then best else newest_along u us
 

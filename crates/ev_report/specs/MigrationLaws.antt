@@ -1,4 +1,4 @@
--- What a migration keeps: who owns each address, and that no replaced IP address comes back.
+-- A migration keeps the owner of each address, and no replaced IP address comes back.
 use Rattle.std.specs.Prelude.{◌≡◌, ◌≢◌, ℕ, List, ◌++◌, MatchOption, Some, None, Contains}
 use Rattle.std.specs.Ordering.{nat_cmp}
 use Rattle.route_wire.specs.declared.update.Key.TheVariants.{Mac}
@@ -34,8 +34,8 @@ abbrev pub SameOwners : Type 0
 SameOwners = (us ws : List Fields) (t : Table) (vni mac : ℕ) → AreMigrated us ws → IsTableOf ws t
     → MatchOption (owner t vni mac) (IsOldUnowned us vni mac) (IsOldOwner us vni mac)
 
--- A register w that the newest update u of its old register replaced is withdrawn in a table of what was written and of
--- any of the old updates again, unless one of these at w has the very incarnation and counter of u.
+-- A register w that the newest update u of its old register replaced is withdrawn in a table of the output and of any
+-- of the old updates again, unless one of these at w has exactly the incarnation and counter of u.
 abbrev pub StaysAway : Type 0
 StaysAway =
     (us ws olds : List Fields) (t : Table) (u w : Fields) → AreMigrated us ws

@@ -1,4 +1,4 @@
--- What is noted of a stream of records: each record that wasn't taken, and what ended the stream.
+-- The notes on a stream of records: each record that was not taken, and the end of the stream.
 use Rattle.std.specs.Prelude.{ℕ, ◌+◌, Bool, true, false, not, ◌||◌, ◌==◌, if◌then◌else◌, List, [], ◌∷◌, ◌++◌, length}
 use Rattle.std.specs.Prelude.{codes, decimal, Result, Ok, Err}
 use Rattle.route_wire.specs.Fields.{Fields}
@@ -40,7 +40,7 @@ end_note Failed number rest = []
 end_note (Faulty fault) number rest = fault_line fault number
 end_note Unended number rest = []
 
--- all notes on a stream of records, from number 1 on, and on the rest behind them
+-- all notes on a stream of records, from number 1 on, and on the rest after them
 abbrev pub notes_of : List (Result Fields ℕ) → Ending → List ℕ → List ℕ
 notes_of outcomes ending rest = refusals_from 1 outcomes ++ end_note ending (length outcomes + 1) rest
 

@@ -48,7 +48,7 @@ at_part text (Err fault) = Err (text, fault)
 abbrev pub with_part : List ℕ → Text → Result (List ℕ) (Text × ListFault)
 with_part before text = at_part text (with_address before text (addr_of_text text))
 
--- each part is an address that stands in none before it; or the first that isn't, and why
+-- each part is an address that occurs in none before it; or the first that is not, and why
 abbrev pub and_then : Result (List ℕ) (Text × ListFault) → (List ℕ → Result (List ℕ) (Text × ListFault))
     → Result (List ℕ) (Text × ListFault)
 and_then (Ok originators) next = next originators
@@ -63,12 +63,12 @@ originators_from before (text ∷ texts) = and_then (with_part before text)
 abbrev pub originators_of_text : Text → Result (List ℕ) (Text × ListFault)
 originators_of_text text = originators_from [] (parts 44 text)
 
--- what is listed, or the part that is wrong
+-- the list, or its wrong part
 abbrev pub listed : Result (ArrayVec Addr) WrongPart → Result (List ℕ) (Text × ListFault)
 listed (Ok originators) = Ok originators.items
 listed (Err wrong) = Err (wrong.part.now, wrong.fault)
 
--- ---- what is told of a wrong list
+-- ---- the message for a wrong list
 
 abbrev pub reason_of : ListFault → Text
 reason_of NotAnAddress = codes "' isn't an IPv4 address\n"
@@ -76,7 +76,7 @@ reason_of LeadingZero = codes "' has a number that begins with 0\n"
 reason_of Twice = codes "' stands there twice\n"
 reason_of TooMany = codes "' is one more than the 64 that there may be\n"
 
--- which part is wrong, why, and what was expected
+-- the wrong part, why, and what was expected
 abbrev pub list_text : Text × ListFault → Text
 list_text wrong = codes "error: --originators: '" ++ wrong.0 ++ reason_of wrong.1
     ++ codes "expected 1 to 64 different IPv4 addresses with commas between them, as in 10.0.0.1,10.0.0.2\n"

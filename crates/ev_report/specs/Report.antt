@@ -1,4 +1,4 @@
--- What a report is made from: a stream's records, one after the other, and the table that takes them.
+-- The basis of a report: a stream's records, one after the other, and the table that takes them.
 use Rattle.std.specs.Prelude.{◌≡◌, ℕ, ◌||◌, ◌⊎◌, List, [], ◌∷◌, MatchBool, None, Result, Ok, Err}
 use Rattle.std.specs.FinMap.{empty}
 use Rattle.route_wire.specs.Fields.{Fields}
@@ -54,13 +54,12 @@ pub record IsTaken (newest : ℕ) (originators input : List ℕ) (outcomes : Lis
   pub became : BecomeAll (fresh originators) answers outcomes
   pub table_of : IsTableOf (taken_of outcomes) t
 
--- what a program puts out, by how the reading ended, what became of the records, and the table that took them
+-- the program's output, by the end of reading, the results of the records, and the table that took them
 abbrev pub Output : Type 0
 Output = Ending → List (Result Fields ℕ) → Table → List ℕ
 
--- The input was read and its records, up to a version, were taken; the output is what is made of them, the notes tell
--- of
--- every other record and of the end, and the status is the greatest that applies.
+-- The input was read and its records, up to a version, were taken; the output follows from them, the notes name every
+-- other record and the end, and the status is the greatest that applies.
 pub record Renders (newest : ℕ) (output : Output) (originators : List ℕ) (before after : Devices) (status : ℕ) :
     Type 0 where
   pub input : List ℕ

@@ -1,21 +1,21 @@
--- What is told of a program's words.
+-- The messages about a program's arguments.
 use Rattle.std.specs.Prelude.{◌≡◌, ℕ, List, if◌then◌else◌, MatchResult}
 use Rattle.ether_wire.specs.Ends.{End}
 use Rattle.ev_report.specs.Ends.{Devices, has_failed, Holds}
 use Rattle.ev_report.specs.Originators.{Text, originators_of_text, list_text}
 
--- A text on the words or on what they name was written to the notes, or a call of them failed.
+-- A text on the arguments or on what they name was written to the notes, or a call of them failed.
 pub record IsTold (text : Text) (before after : End) (status : ℕ) : Type 0 where
   pub noted : Holds before after text
   pub status_is : status ≡ (if has_failed before after then 4 else 2)
 
--- It is told; nothing was read, nothing else written.
+-- The message was written; nothing was read, nothing else written.
 pub record TellsUsage (text : Text) (before after : Devices) (status : ℕ) : Type 0 where
   pub input : after.input ≡ before.input
   pub out : after.out ≡ before.out
   pub told : IsTold text before.notes after.notes status
 
--- what is done with the originators of a list, or it is told which part of the list is wrong
+-- the use of a list's originators, or the message about the list's wrong part
 abbrev pub OfList : (List ℕ → Devices → Devices → ℕ → Type 0) → Text → Devices → Devices → ℕ → Type 0
 OfList does list before after status =
     MatchResult (originators_of_text list) (λ originators. does originators before after status)

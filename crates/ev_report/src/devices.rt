@@ -7,14 +7,14 @@ use crate::status::DEVICE;
 use ether_wire::{Buffered, In, Out};
 use std::marker::Model;
 
-/// What a program reads, what it writes to, and what it notes on: each as a contract sees it.
+/// A program's input, output and notes, each as a contract sees it.
 #[derive(Drop)]
 pub struct Devices<R: In, W: Out, N: Out> {
     /// Its input.
     pub reader: R,
     /// Its output.
     pub out: W,
-    /// Where it tells what went wrong.
+    /// The notes, for messages about faults.
     pub notes: N,
 }
 
@@ -26,8 +26,8 @@ impl<R: In, W: Out, N: Out> Model for Devices<R, W, N> {
     ghost view = { λ d. ends.devices (R.end d.reader) (W.end d.out) (N.end d.notes) };
 }
 
-/// Devices whose writers get few and large writes: what is written to `out` and `notes` here is
-/// held for them.
+/// Devices with buffered writers: `out` and `notes` here hold their text, so that the inner writers
+/// get few and large writes.
 pub struct Buffers<R, W, N> {
     /// Their reader.
     pub reader: R,
@@ -41,8 +41,8 @@ pub struct Buffers<R, W, N> {
     notes_failures: u64,
 }
 
-/// Gives a writer what is still held for it, and gives it back: whether no call of it has failed
-/// since it had this many failures. After a failed call it makes none.
+/// Passes the buffered text to a writer and returns the writer, with `true` if no call of it has
+/// failed since it had this many failures. After a failed call it makes none.
 fn finish<W: Out>(out: Buffered<W>, failures: u64) -> (W, bool)
     requires { failures + 1 < 2 ^ 64 }
     ensures { Finishes failures (buffered_end W.end out) (W.end result.0) result.1 }
@@ -87,8 +87,9 @@ impl<R: In, W: Out, N: Out> Buffers<R, W, N> {
         }
     }
 
-    /// Gives the devices what is still held for them, and gives them back, with the status: the one
-    /// so far, or 4 where a call of a writer has failed. After a failed call of one it makes none.
+    /// Passes the buffered texts to the devices and returns these, with the status: the one so far,
+    /// or 4 if a call of a writer has failed. After a failed call of a writer it makes no further
+    /// call of it.
     pub fn finish(self, status: u8) -> (u8, Devices<R, W, N>)
         requires out { self.out_failures + 1 < 2 ^ 64 }
         requires notes { self.notes_failures + 1 < 2 ^ 64 }

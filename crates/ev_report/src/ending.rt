@@ -8,7 +8,7 @@ pub enum Ending {
     Ended,
     /// A read failed.
     Failed,
-    /// What was read shows this fault.
+    /// The input shows this fault.
     Faulty(u8),
     /// It gave octets at each of the reads that a run makes at most.
     Unended,

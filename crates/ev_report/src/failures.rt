@@ -1,4 +1,4 @@
-//! Reads and writes that failed, and what is told of them.
+//! Failed reads and writes, and the messages about them.
 ghost use Rattle.std.specs.Prelude.{◌≡◌, ◌+◌, ◌<◌, ◌^◌};
 ghost use Rattle.ether_wire.specs.Ends.{IsOpen, Puts};
 ghost use Rattle.ev_report.specs.Failures.{failures_of, is_unread, is_unwritten, is_untold, text_if, failed_text, TellsFailed};
@@ -13,7 +13,7 @@ pub struct Failures {
     pub input: u64,
     /// Of its output.
     pub out: u64,
-    /// Of what it notes on.
+    /// Of the notes.
     pub notes: u64,
 }
 
@@ -43,7 +43,7 @@ impl Failures {
         self.out < now.out
     }
 
-    /// Whether something has failed since that can be told: the notes haven't.
+    /// Returns `true` if something has failed and can be reported: the notes have not failed.
     fn is_untold(self, now: Failures) -> bool
         ensures { result ≡ is_untold self now }
     {
@@ -74,8 +74,8 @@ fn put_failed<N: Out>(is_unread: bool, is_unwritten: bool, notes: &mut N) -> Res
     )
 }
 
-/// Tells whether reading or writing has failed since the devices had these failures. Where the
-/// notes have failed nothing can be told; where nothing failed no call is made.
+/// Prints whether reading or writing has failed since the devices had these failures. If the notes
+/// have failed, nothing can be printed; if nothing failed, no call is made.
 pub fn tell_failed<R: In, W: Out, N: Out>(
     before: Failures,
     devices: Devices<R, W, N>,

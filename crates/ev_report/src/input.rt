@@ -10,7 +10,7 @@ use std::alloc::Global;
 /// reading failed.
 pub const MOST_READS: u64 = 0x100_0000_0000;
 
-/// How many octets a read asks for.
+/// The number of octets of a read.
 pub(crate) const PIECE: usize = 16_384;
 
 /// Why an input wasn't read to its end.
@@ -26,8 +26,8 @@ pub enum ReadError {
 ///
 /// # Errors
 ///
-/// `Device` where a read failed, or 2^40 reads didn't reach the end; `NoMemory` where there was no
-/// memory for what was read. No read is made after either.
+/// `Device` if a read failed, or 2^40 reads did not reach the end; `NoMemory` if there was no
+/// memory for the input. No read is made after either.
 pub fn read_whole<R: In>(alloc: Global, reader: &mut R) -> Result<Vec<u8>, ReadError>
     requires { Allows (2 ^ 40) (R.end reader.old) }
     ensures { ReadsWhole (R.end reader.old) (R.end reader.new) (input_of result) }

@@ -1,5 +1,5 @@
-//! The migration of records of versions 1 and 2, in which the IP address was a part of what is
-//! said, to version 3, in which it is a part of the key.
+//! The migration of records of versions 1 and 2, in which the IP address is part of the content, to
+//! version 3, in which it is part of the key.
 ghost use Rattle.std.specs.Prelude.{◌≡◌, ◌+◌, ◌<◌, ◌^◌, ◌||◌, true, false, drop, if◌then◌else◌, []};
 ghost use Rattle.ether_wire.specs.Ends.{IsOpen, Allows, Puts};
 ghost use Rattle.route_wire.specs.Order.{ip_version, ip_number, ip_cmp, ip_of, rank_of, sequence_of, label2_of};
@@ -125,8 +125,8 @@ fn newer(newest: &Update, update: &Update) -> Update
     }
 }
 
-/// Goes behind the updates of the old register whose first one is given, and behind the first of
-/// the next: the newest of them.
+/// Advances past the updates of the old register that begins here, and past the first one of the
+/// next. Returns the newest of them.
 fn newest_along(first: &Update, ahead: &mut Updates<'_>) -> Update
     ensures newest { result ≡ newest_along first.now ahead.old }
     ensures ahead { ahead.new ≡ drop 1 (behind first.now ahead.old) }
@@ -141,8 +141,8 @@ fn newest_along(first: &Update, ahead: &mut Updates<'_>) -> Update
     newest
 }
 
-/// The newest of an update's old register, where `newest` is that of the update before: where the
-/// old register is another one, it goes behind that.
+/// Returns the newest of an update's old register, given that of the update before: if the old
+/// register changes, it advances past the new one.
 fn entered(newest: &Update, update: &Update, ahead: &mut Updates<'_>) -> Update
     ensures same { is_same_old newest.now.register update.now.register ≡ true
         → (result ≡ newest.now) × (ahead.new ≡ ahead.old) }
@@ -157,7 +157,7 @@ fn entered(newest: &Update, update: &Update, ahead: &mut Updates<'_>) -> Update
     }
 }
 
-/// What becomes of an update's register, where the other one is the newest of its old register.
+/// Returns the result for an update's register, given the newest update of its old register.
 fn migrated_at(newest: &Update, update: &Update) -> Update
     ensures { result ≡ migrated_at newest.now update.now.register }
 {
@@ -199,14 +199,14 @@ pub(crate) fn put_migrated<W: Out>(table: &Table, out: &mut W) -> Result<(), Dev
     Ok(())
 }
 
-/// Whether what was taken isn't all, so that nothing is to be written.
+/// Returns `true` if the table is incomplete, so that nothing may be written.
 fn is_withheld(ending: Ending, is_out_of_memory: bool) -> bool
     ensures { result ≡ (has_stopped ending || is_out_of_memory) }
 {
     ending.has_stopped() || is_out_of_memory
 }
 
-/// Writes the records of the migration of a table, or nothing where they are withheld.
+/// Writes the records of the migration of a table, or nothing if they are withheld.
 fn put_unless<W: Out>(is_withheld: bool, table: &Table, out: &mut W) -> Result<(), Device>
     requires { IsOpen (W.end out.old) }
     ensures { Puts (W.end out.old) (W.end out.new)
@@ -218,16 +218,16 @@ fn put_unless<W: Out>(is_withheld: bool, table: &Table, out: &mut W) -> Result<(
     put_migrated(table, out)
 }
 
-/// Reads update records of versions 1 and 2 up to the reader's end or the first fault (version 3
-/// is the fault 2), and writes records of version 3 for those that were taken, in the order of a
-/// report. In the earlier versions an originator's newest update of a MAC address replaced what
-/// it had said of any IP address of it: that update is written as it is, and each other IP
-/// address that some update names is withdrawn with its incarnation and counter, so that no
-/// replaced address comes back.
+/// Reads update records of versions 1 and 2 up to the reader's end or the first fault (version 3 is
+/// the fault 2), and writes records of version 3 for the accepted ones, in the order of a report.
+/// In the earlier versions an originator's newest update of a MAC address replaced its updates of
+/// any IP address of it: that update is written as it is, and each other IP address that some
+/// update names is withdrawn with its incarnation and counter, so that no replaced address comes
+/// back.
 ///
-/// Notes and statuses are those of `report_run`. Nothing is written where a read failed, 2^40 reads
-/// didn't reach the end, or there was no memory for an update: what was taken isn't all then. A
-/// fault or a cut record doesn't hold back what stood before it. The input takes no memory.
+/// Notes and statuses are those of `report_run`. Nothing is written if a read failed, 2^40 reads
+/// did not reach the end, or there was no memory for an update, since the table is incomplete then.
+/// A fault or a cut record does not suppress the output. The input takes no memory.
 pub fn migrate_run<R: In, W: Out, N: Out>(
     alloc: Global,
     originators: ArrayVec<Addr, 64>,

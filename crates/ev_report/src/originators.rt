@@ -145,7 +145,7 @@ impl ListFault {
     }
 }
 
-/// Writes which part of a list is wrong, why, and what was expected.
+/// Writes the wrong part of a list, why, and what was expected.
 #[tactic(auto, using(ether_wire::proofs::Appending::with_text_twice))]
 pub fn put_wrong_part<N: Out>(notes: &mut N, wrong: WrongPart<'_>) -> Result<(), Device>
     requires { IsOpen (N.end notes.old) }

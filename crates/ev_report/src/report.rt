@@ -15,7 +15,7 @@ use ether_wire::{Addr, In, Out};
 use route_wire::Feed;
 use std::alloc::Global;
 
-/// Whether a device failed, where the report and the notes were written so.
+/// Returns `true` if a device failed while the report and the notes were written.
 pub fn has_failed(ending: Ending, is_reported: bool, is_told: bool) -> bool
     ensures { result ≡ (has_stopped ending || (not is_reported || not is_told)) }
 {

@@ -6,7 +6,7 @@ pub const DONE: u8 = 0;
 /// The stream shows a fault, or ended within a record.
 pub const BROKEN: u8 = 1;
 
-/// The words aren't the program's, or what they name has a fault.
+/// The arguments are invalid, or what they name has a fault.
 pub const USAGE: u8 = 2;
 
 /// Memory was refused.

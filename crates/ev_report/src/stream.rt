@@ -20,7 +20,7 @@ use std::alloc::Global;
 /// The records of a stream on their way into a table.
 #[derive(Drop)]
 pub(crate) struct Intake {
-    /// What is held of a record that isn't whole yet.
+    /// The octets held of an incomplete record.
     feed: Feed,
     /// What took the updates so far.
     table: Table,
@@ -136,7 +136,7 @@ impl Intake {
         Ok(())
     }
 
-    /// Takes a piece that was read, and gives out the notes on it.
+    /// Takes a piece of input, and writes the notes on it.
     ///
     /// # Errors
     ///

@@ -1,4 +1,4 @@
-//! What is told of a program's words: a usage, a wrong list; and what is done with a list.
+//! The messages about a program's arguments: a usage, a wrong list; and the use of a list.
 ghost use Rattle.std.specs.Prelude.{◌≡◌, is_ok, if◌then◌else◌};
 ghost use Rattle.ether_wire.specs.Ends.{IsOpen};
 ghost use Rattle.ev_report.specs.Ends.{AreOpen};
@@ -15,7 +15,7 @@ use crate::status::{DEVICE, USAGE};
 use ether_wire::{Device, In, Out};
 use std::alloc::Global;
 
-/// The status of a usage, by whether it could be told.
+/// Returns the status of a usage, by whether it could be printed.
 pub fn usage_status(told: Result<(), Device>) -> u8
     ensures { result ≡ (if is_ok told then 2 else 4) }
 {

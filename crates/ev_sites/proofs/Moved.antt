@@ -1,10 +1,13 @@
 -- The guest moves: it is heard at the second edge, which announces it, the first one withdraws it, and the two agree
 -- again.
-use Rattle.std.proofs.Common.{inl, false, None, List, [], ◌∷◌, ◌++◌, refl, sym, ap, subst}
-use Rattle.std.specs.Prelude.{Ok, IsSome}
+use Rattle.std.proofs.Common.{◌≡◌, inl, zero, suc, false, Some, None, List, [], ◌∷◌, ◌++◌, refl, sym, ap, subst, arith}
+use Rattle.std.specs.Prelude.{Ok, IsSome, Contains}
 use Rattle.std.specs.FinMap.{empty, get, insert, get-empty}
 use Rattle.route_wire.specs.declared.update.Register.{Register}
+use Rattle.route_wire.specs.declared.update.Value.{Value}
 use Rattle.route_wire.specs.Fields.{Fields}
+use Rattle.route_wire.specs.Order.{is_newer}
+use Rattle.route_join.specs.Table.{value_at}
 use Rattle.route_join.specs.Owner.{advert_of}
 use Rattle.mac_arena.specs.declared.station.Entry.{Entry}
 use Rattle.mac_arena.specs.Station.{station_cmp}
@@ -15,7 +18,7 @@ use Rattle.ev_tunnel.specs.declared.decision.Source.TheVariants.{Port}
 use Rattle.ev_mobility.specs.declared.window.Window.{Window}
 use Rattle.ev_mobility.specs.Window.{after_move}
 use Rattle.ev_edge.specs.declared.reply.Reply.{Reply}
-use Rattle.ev_edge.specs.Edge.{Edge}
+use Rattle.ev_edge.specs.Edge.{Edge, table_of}
 use Rattle.ev_edge.specs.Steps.{FrameSteps}
 use Rattle.ev_fabric.specs.declared.step.LocalEvent.TheVariants.{Frame}
 use Rattle.ev_fabric.specs.declared.step.Step.{Step}
@@ -25,6 +28,7 @@ use Rattle.ev_fabric.specs.Agreed.{AllAgree, Advertises}
 use Rattle.ev_fabric.specs.Steps.{FabricSteps}
 use Rattle.ev_fabric.specs.Convergence.{Rests}
 use Rattle.ev_fabric.specs.Station.{AgreesOn, StationComes, RunsBeside}
+use Rattle.ev_fabric.specs.Rounds.{AllAnnounced, AllTaken, IsOrderly}
 use Rattle.ev_fabric.proofs.Example.{nobody_learnt}
 use Rattle.ev_sites.proofs.Tables.{Said, found}
 use Rattle.ev_sites.proofs.Guest.{guest, here, there, guest_register, said_first, said_guest, said_gone, speaker_with}
@@ -63,7 +67,7 @@ come = fabric_with first_edge (second_with second_said (guest_register there ∷
 abbrev heard : Fabric
 heard = fabric_with first_edge (second_with second_said []) (agreed_pool ++ guest_there ∷ [])
 
-abbrev left : Fabric
+abbrev pub left : Fabric
 left =
     fabric_with (first_with (guest_register here ∷ [])) (second_with second_said []) (agreed_pool ++ guest_there ∷ [])
 
@@ -161,6 +165,87 @@ agree_again = all_agree first_moved second_moved 3 2 (gone guest_learnt guest) g
     ((said_first, refl, refl), ((said_guest 1, refl, refl), ((said_gone, refl, refl), tt))),
   ),
 )
+
+-- ---- these are two rounds of the guest, in which the announcements come first
+
+-- as the first round ends, but that the withdrawal is pending no more
+told_once : AllAgree (fabric_with (first_with []) (second_with second_said []) (agreed_pool ++ guest_there ∷ []))
+told_once =
+    all_agree first_moved second_said 3 2 (gone guest_learnt guest) guest_learnt empty one_move
+    (agreed_pool ++ guest_there ∷ []) (
+      (said_first, refl, refl),
+      ((said_gone, refl, refl), ((said_first, refl, refl), ((said_guest 1, refl, refl), tt))),
+    ) (
+      (said_first, refl, refl),
+      ((said_guest 0, refl, refl), ((said_first, refl, refl), ((said_guest 1, refl, refl), tt))),
+    )
+
+none_waits : {r : Register} → Contains [] r → ⊥
+none_waits (x, lt, is) = omega (arith, lt)
+
+one_waits : {r q : Register} → Contains (q ∷ []) r → q ≡ r
+one_waits (zero, lt, is) = is
+one_waits (suc n, lt, is) = absurd (omega (arith, lt))
+
+advert_told : AllAnnounced guest come heard
+advert_told zero a r at of waits =
+    let is : first_edge ≡ a = cc in
+    absurd (none_waits (subst (λ (e : Edge). Contains e.routes.speaker.pending r) (sym is) waits))
+advert_told (suc zero) a r at of waits =
+    let is : second_with second_said (guest_register there ∷ []) ≡ a = cc in
+    let one = one_waits (subst (λ (e : Edge). Contains e.routes.speaker.pending r) (sym is) waits) in
+    record {
+      more = guest_there ∷ [];
+      pool = refl;
+      value = said_guest 1;
+      there = (0, omega arith, λ n. update (one n) (said_guest 1));
+    }
+advert_told (suc (suc i)) a r at of waits = let no : ⊥ = cc in absurd no
+
+advert_taken : AllTaken guest heard left
+advert_taken zero b u at of inside =
+    let is : first_with (guest_register here ∷ []) ≡ b = cc in
+    subst (λ (e : Edge). (z : Value) × (value_at (table_of e) u.register ≡ Some z) × (is_newer u.value z ≡ false)) is
+    (told_once.arrived zero (first_with []) refl u inside)
+advert_taken (suc zero) b u at of inside = told_once.arrived (suc zero) b at u inside
+advert_taken (suc (suc i)) b u at of inside = let no : ⊥ = cc in absurd no
+
+pub first_round : IsOrderly 0 1 guest come left
+first_round = record {
+  told = heard;
+  before = Announce 2 ∷ [];
+  goes = (heard, Ok (announcing guest_there), tells, tt, refl);
+  announced = advert_told;
+  after = Deliver 1 4 ∷ [];
+  goes_on = (left, Ok (taking first_edge guest_there), loses, tt, refl);
+  taken = advert_taken;
+}
+
+withdrawal_told : AllAnnounced guest left withdrawn
+withdrawal_told zero a r at of waits =
+    let is : first_with (guest_register here ∷ []) ≡ a = cc in
+    let one = one_waits (subst (λ (e : Edge). Contains e.routes.speaker.pending r) (sym is) waits) in
+    record {
+      more = guest_gone ∷ [];
+      pool = refl;
+      value = said_gone;
+      there = (0, omega arith, λ n. update (one n) said_gone);
+    }
+withdrawal_told (suc zero) a r at of waits =
+    let is : second_with second_said [] ≡ a = cc in
+    absurd (none_waits (subst (λ (e : Edge). Contains e.routes.speaker.pending r) (sym is) waits))
+withdrawal_told (suc (suc i)) a r at of waits = let no : ⊥ = cc in absurd no
+
+pub second_round : IsOrderly 0 1 guest left moved
+second_round = record {
+  told = withdrawn;
+  before = Announce 1 ∷ [];
+  goes = (withdrawn, Ok (announcing guest_gone), tells_it, tt, refl);
+  announced = withdrawal_told;
+  after = Deliver 2 5 ∷ [];
+  goes_on = (moved, Ok (taking (second_with second_said []) guest_gone), hears_it, tt, refl);
+  taken = λ i b u at of inside. agree_again.arrived i b at u inside;
+}
 
 pub advertised_there : Advertises (second_with second_moved []) guest
 advertised_there = (

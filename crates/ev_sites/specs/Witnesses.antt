@@ -17,6 +17,7 @@ use Rattle.ev_fabric.specs.Runs.{Runs}
 use Rattle.ev_fabric.specs.Laws.{tunnel_frame_in, IsFrameFor, IsBehindPort, GoesTo, GoesOut}
 use Rattle.ev_fabric.specs.Convergence.{Rests}
 use Rattle.ev_fabric.specs.Station.{StationComes, RunsBeside}
+use Rattle.ev_fabric.specs.Rounds.{IsOrderly}
 use Rattle.ev_sites.specs.Sites.{Site, Point, ByEdge, ByTunnel}
 use Rattle.ev_sites.specs.Fabrics.{AreSitesOf, SitesRest}
 
@@ -79,6 +80,7 @@ pub record FrameOfAFabric : Type 0 where
 
 -- All edges of a fabric agree, and the one at place i advertises a station, which comes to the edge at place j. After
 -- some announcements and deliveries, and nothing else, all agree again, and the edge at place j advertises the station.
+-- These are two rounds of the station in which the announcements come first.
 pub record MoveOfAFabric : Type 0 where
   pub old : Fabric
   pub has_run : HasRun old
@@ -92,6 +94,9 @@ pub record MoveOfAFabric : Type 0 where
   pub new : Fabric
   pub rests : Rests mid steps new
   pub beside : RunsBeside i j station mid steps new
+  pub half : Fabric
+  pub first_round : IsOrderly i j station mid half
+  pub second_round : IsOrderly i j station half new
   pub agree : AllAgree new
   pub edge : Edge
   pub at : IsEdge new j edge

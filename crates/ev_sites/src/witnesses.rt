@@ -30,9 +30,9 @@ pub fn fabric_carries_a_frame()
     from_port_to_port();
 }
 
-/// A witness of `station_moves` and `moves` of `ev_fabric`: from there the station comes to the
-/// other edge, which learns it; two announcements and two deliveries later all agree again, and the
-/// other edge advertises it.
+/// A witness of `station_moves`, `station_agrees_after_a_move` and `moves` of `ev_fabric`: from
+/// there the station comes to the other edge, which learns it; two announcements and two deliveries
+/// later, which are two rounds of the station, all agree again, and the other edge advertises it.
 pub fn fabric_moves_a_station()
     ensures { MoveOfAFabric }
 {

@@ -44,7 +44,7 @@ open_is (Port p) ports q there =
 open_is Tunnel ports q there = both (has_port ports.members q) (has_port ports.passing q)
     (sym (has_port-common ports.members ports.passing q) ∙ there)
 
--- the port alone
+-- only the port
 record IsAlone (port : ℕ) (from : Source) (ports : Ports) (q : ℕ) : Type 0 where
   pub same : port ≡ q
   pub passes : has_port ports.passing port ≡ true

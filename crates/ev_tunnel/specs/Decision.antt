@@ -1,5 +1,5 @@
--- Where a frame goes (RFC 7432, section 11, and RFC 8365, section 5, for flooding by ingress replication and for split
--- horizon: what came out of a tunnel goes into none).
+-- The forwarding decision (RFC 7432, section 11, and RFC 8365, section 5, for flooding by ingress replication and for
+-- split horizon: a frame from a tunnel goes into no tunnel).
 use Rattle.std.specs.Prelude.{ℕ, ◌==◌, ◌&&◌, not, Bool, false, if◌then◌else◌, List, [], ◌∷◌, filter, Option}
 use Rattle.ether_wire.specs.Ports.{IsPort, has_port, no_ports, with_port, without_port, common_ports}
 use Rattle.ev_tunnel.specs.declared.decision.Ports.{Ports}
@@ -27,7 +27,7 @@ abbrev pub open_ports : Source → Ports → ℕ
 open_ports (Port p) ports = without_port (common_ports ports.members ports.passing) p
 open_ports Tunnel ports = common_ports ports.members ports.passing
 
--- the port alone, if it passes and the frame didn't come from it
+-- only the port, if it passes and the frame did not come from it
 abbrev pub port_alone : ℕ → Source → Ports → ℕ
 port_alone port from ports = if has_port ports.passing port
     && not (is_from from port) then with_port no_ports port else no_ports
@@ -42,7 +42,7 @@ local_of (AtEdge edge) from ports = no_ports
 abbrev pub others_of : ℕ → List ℕ → List ℕ
 others_of own edges = filter (λ edge. not (edge == own)) edges
 
--- the edges that get the frame, where `flood` advertise the network's flood list
+-- the edges that get the frame, if `flood` advertise the VNI's flood list
 abbrev pub remote_of : Place → Source → List ℕ → ℕ → List ℕ
 remote_of place Tunnel flood own = []
 remote_of Everywhere (Port p) flood own = others_of own flood

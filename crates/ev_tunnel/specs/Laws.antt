@@ -1,4 +1,4 @@
--- What the laws on decisions say.
+-- The statements of the laws on decisions.
 use Rattle.std.specs.Prelude.{◌≡◌, ◌≢◌, ℕ, ◌≤◌, true, List, [], length, Contains, IsSome, ◌↔◌}
 use Rattle.std.specs.List.Sorted.{IsStrictlyIncreasing}
 use Rattle.route_wire.specs.declared.update.Key.TheVariants.{Flood}

@@ -1,5 +1,5 @@
--- Where the destination of a frame is known to be, by the first of these cases that applies: a group address; an
--- address in the learning table; one whose owner is another edge; anything else, which is unknown.
+-- The known place of a frame's destination, by the first of these cases that applies: a group address; an address in
+-- the learning table; an address that another edge owns; anything else, which is unknown.
 use Rattle.std.specs.Prelude.{ℕ, ◌==◌, if◌then◌else◌, Option, Some, None}
 use Rattle.ether_wire.specs.Addr.{is_group}
 use Rattle.ev_tunnel.specs.declared.place.Place.{Place}

@@ -1,4 +1,4 @@
-//! Where a frame goes: the access ports and the edges that get it.
+//! The forwarding decision: the access ports and the edges that get a frame.
 ghost use Rattle.std.specs.Prelude.{◌≡◌};
 ghost use Rattle.std.specs.Option.{ForSome};
 ghost use Rattle.route_join.specs.Owner.{owner};
@@ -13,7 +13,7 @@ use arrayvec::ArrayVec;
 use ether_wire::{Addr, Mac, NO_PORTS, Vni, common_ports, has_port, with_port, without_port};
 use route_join::Table;
 
-/// Where a frame came from.
+/// The source of a frame.
 #[derive(Clone, Copy, Debug, PartialEq, Eq)]
 pub enum Source {
     /// This access port, from 1 to 64.
@@ -22,7 +22,7 @@ pub enum Source {
     Tunnel,
 }
 
-/// Where a frame goes.
+/// The receivers of a frame.
 #[derive(Clone, Debug, PartialEq, Eq, Drop)]
 pub struct Decision {
     /// The access ports that get it: port p, from 1 to 64, is bit p - 1.
@@ -40,14 +40,14 @@ pub(crate) struct Ports {
     pub(crate) passing: u64,
 }
 
-/// What a frame's way is decided by, beside its network's ports and those that pass.
+/// The inputs of a forwarding decision, without the two sets of ports.
 #[derive(Clone, Copy)]
 pub struct Forwarding<'a> {
-    /// Where the frame is to go.
+    /// The frame's destination.
     pub destination: Mac,
-    /// Its network.
+    /// The frame's VNI.
     pub vni: Vni,
-    /// Where it came from.
+    /// The frame's source.
     pub from: Source,
     /// The port where its destination was learnt.
     pub learnt: Option<u8>,
@@ -57,7 +57,7 @@ pub struct Forwarding<'a> {
     pub own: Addr,
 }
 
-/// Whether the frame came from this port.
+/// Returns `true` if the frame came from this port.
 fn is_from(from: Source, port: u8) -> bool
     ensures { result ≡ is_from from port }
 {
@@ -67,7 +67,7 @@ fn is_from(from: Source, port: u8) -> bool
     }
 }
 
-/// The members that pass, without the port that the frame came from.
+/// Returns the members that pass, without the port that the frame came from.
 fn open_ports(from: Source, ports: Ports) -> u64
     requires { IsFrom from }
     ensures { result ≡ open_ports from ports }
@@ -79,7 +79,7 @@ fn open_ports(from: Source, ports: Ports) -> u64
     }
 }
 
-/// The port alone, if it passes and the frame didn't come from it.
+/// Returns only the port, if it passes and the frame did not come from it.
 fn port_alone(port: u8, from: Source, ports: Ports) -> u64
     requires { IsPort port }
     ensures { result ≡ port_alone port from ports }
@@ -91,7 +91,7 @@ fn port_alone(port: u8, from: Source, ports: Ports) -> u64
     }
 }
 
-/// The access ports that get a frame whose destination is at this place.
+/// Returns the access ports that get a frame with a destination at this place.
 fn local_of(place: &Place, from: Source, ports: Ports) -> u64
     requires from { IsFrom from }
     requires place { IsPlace place.now }
@@ -104,14 +104,14 @@ fn local_of(place: &Place, from: Source, ports: Ports) -> u64
     }
 }
 
-/// Takes this edge out of a list of edges.
+/// Removes this edge from a list of edges.
 fn leave_out(own: Addr, edges: &mut ArrayVec<Addr, 64>)
     ensures { edges.new.items ≡ others_of own edges.old.items }
 {
     edges.retain(|edge| *edge != own);
 }
 
-/// Puts the edges that a frame is flooded to in the place of what was there.
+/// Replaces a list by the edges to which a frame is flooded.
 fn put_flood(vni: Vni, table: &Table, own: Addr, remote: &mut ArrayVec<Addr, 64>)
     ensures { remote.new.items ≡ others_of own (flood_of table.now vni) }
 {
@@ -119,8 +119,7 @@ fn put_flood(vni: Vni, table: &Table, own: Addr, remote: &mut ArrayVec<Addr, 64>
     leave_out(own, remote);
 }
 
-/// Puts the edges that get a frame whose destination is at this place, in the place of what was
-/// there.
+/// Replaces a list by the edges that get a frame with a destination at this place.
 fn put_remote(
     place: &Place,
     from: Source,
@@ -145,10 +144,10 @@ fn put_remote(
 /// learnt, `members` are the network's ports, `passing` the ports that pass, `own` is this edge.
 ///
 /// A frame for a group address, or for one that is neither learnt nor owned by another edge, goes
-/// to all members that pass but the one that it came from, and from a port to all other edges that
-/// advertise the network's flood list. A frame for a learnt address goes to that port alone, if it
-/// passes and the frame didn't come from it. A frame for an address that another edge owns goes
-/// from a port to that edge alone. No frame goes from a tunnel into a tunnel.
+/// to all members that pass except the port that it came from, and from a port to all other edges
+/// that advertise the VNI's flood list. A frame for a learnt address goes only to that port, if it
+/// passes and the frame did not come from it. A frame for an address that another edge owns goes
+/// from a port only to that edge. No frame goes from a tunnel into a tunnel.
 pub fn decide(
     destination: Mac,
     vni: Vni,
@@ -181,8 +180,8 @@ pub fn decide(
     decision
 }
 
-/// Decides the same, and writes it where another decision stood: a caller that keeps one place for
-/// them spares the copies of a whole list of edges.
+/// Decides the same and overwrites another decision: a caller that reuses one decision avoids
+/// copies of a whole list of edges.
 pub fn decide_into(frame: Forwarding<'_>, members: u64, passing: u64, decision: &mut Decision)
     requires from { IsFrom frame.from }
     requires entry { ForSome frame.learnt IsPort }

@@ -40,7 +40,7 @@ pub fn never_back(
         port ≡ false }
 {}
 
-/// Only members that pass get a frame, where a destination is learnt at members alone.
+/// Only members that pass get a frame, if destinations are learnt only at members.
 pub fn members_that_pass(
     destination: Mac,
     vni: Vni,
@@ -56,8 +56,8 @@ pub fn members_that_pass(
         (local_for table.now vni destination entry own from members passing) }
 {}
 
-/// A frame for an individual address that is learnt or owned by another edge goes to one place at
-/// most: to the port where it was learnt, or to the edge that owns it.
+/// A frame for an individual address that is learnt or owned by another edge goes to at most one
+/// place: to the port where it was learnt, or to the edge that owns it.
 pub fn known_goes_to_one_place(
     destination: Mac,
     vni: Vni,

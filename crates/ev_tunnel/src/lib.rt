@@ -1,4 +1,4 @@
-//! Where a frame goes, and the datagrams that carry frames between edges.
+//! Forwarding decisions, and the datagrams that carry frames between edges.
 #![tactic(auto)]
 
 mod datagram;

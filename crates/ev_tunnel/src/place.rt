@@ -1,4 +1,4 @@
-//! Where a frame's destination is: everywhere, behind an access port, or at another edge.
+//! The place of a frame's destination: everywhere, at an access port, or at another edge.
 ghost use Rattle.std.specs.Prelude.{◌≡◌};
 ghost use Rattle.route_join.specs.Owner.{owner};
 ghost use Rattle.ev_tunnel.specs.Place.{place_of};
@@ -6,19 +6,19 @@ ghost use Rattle.ev_tunnel.specs.Place.{place_of};
 use ether_wire::{Addr, Mac, Vni};
 use route_join::Table;
 
-/// Where the destination of a frame is.
+/// The place of a frame's destination.
 #[derive(Clone, Copy, Debug, PartialEq, Eq)]
 pub(crate) enum Place {
     /// A group address, or one that isn't known: the frame is flooded.
     Everywhere,
     /// On this access port.
     AtPort(u8),
-    /// Behind this other edge.
+    /// At this other edge.
     AtEdge(Addr),
 }
 
-/// Where a destination is: a group address is everywhere, a learnt one at its port, and one whose
-/// owner is another edge there; any other is unknown.
+/// Returns the place of a destination: a group address is everywhere, a learnt one at its port, and
+/// one that another edge owns at that edge; any other is unknown.
 pub(crate) fn place_of(
     destination: Mac,
     vni: Vni,

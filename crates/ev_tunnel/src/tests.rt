@@ -81,7 +81,7 @@ fn new_table(alloc: Global) -> Table {
     Table::new(alloc, originators)
 }
 
-// Such a table, where the first three advertise the flood list of the network, and the last one has
+// A table in which the first three originators advertise the VNI's flood list, and the last one has
 // withdrawn it.
 fn flooded(alloc: Global) -> Result<Table, Fail> {
     let mut table = new_table(alloc);

@@ -1,4 +1,4 @@
--- What each of a list gives, one after the other.
+-- The concatenation of the texts of a list's elements.
 use Rattle.std.proofs.Common.{◌≡◌, ℕ, ◌+◌, ◌<◌, List, [], ◌∷◌, ◌++◌, map, take, length, get_or, append-nil}
 use Rattle.std.proofs.Common.{append_assoc, refl, sym, ap, ◌∙◌, arith}
 use Rattle.std.proofs.lemmas.List.{take_more, length-take-le}
@@ -28,13 +28,13 @@ each_more text number all place d within =
     ∙ ap (λ n. each_from text number before ++ each_from text n (one ∷ [])) count
     ∙ ap (λ t. each_from text number before ++ t) (append-nil (text (number + place) one))
 
--- each of these by what a function makes of it
+-- each of these by a function's result
 pub each_of_map : {A B C : Type 0} (text : ℕ → B → List C) (f : A → B) (number : ℕ) (xs : List A)
     → each_from (λ n x. text n (f x)) number xs ≡ each_from text number (map f xs)
 each_of_map text f number [] = refl
 each_of_map text f number (x ∷ xs) = ap (λ more. text number (f x) ++ more) (each_of_map text f (number + 1) xs)
 
--- a list that has what each of these gives, and gets what one more does
+-- a list that has the texts of these, and gets the text of one more
 pub gives_more : {A B : Type 0} (gives : ℕ → A → List B) (number : ℕ) (all : List A) (place : ℕ) (d : A)
     (start old new : List B)
     → place < length all → old ≡ start ++ each_from gives number (take place all)

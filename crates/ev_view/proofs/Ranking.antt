@@ -12,7 +12,7 @@ use Rattle.route_join.specs.Updates.{update_from, about, updates_of}
 use Rattle.route_join.specs.Owner.{advert_in, better_of, is_about, best_among}
 use Rattle.ev_view.specs.Owners.{Offer, best_but, with_others, ranked, offer_line, offer_lines, leader, OwnerLeads}
 
--- what a search among these updates found is what there is among those that they are
+-- a search among these updates finds the best of them
 pub found_among : (ts told : List ℕ) (vs us : List Fields) (found : Option Offer) → ts ≡ told → vs ≡ us
     → found ≡ best_but ts vs None → best_but told us None ≡ found
 found_among ts told vs us found same all is = sym (is ∙ (λ i. best_but (same i) (all i) None))
@@ -34,7 +34,7 @@ ranked_zero : (us : List Fields) (told : List ℕ) → ranked 0 told us ≡ []
 unfolding ranked
 ranked_zero us told = refl
 
--- of what was to be written behind e, the line of the best one was
+-- the line of the best one was written after e
 pub offer_told : (us : List Fields) (told : List ℕ) (n m number : ℕ) (best : Offer) (e f : End) → n ≡ suc m
     → best_but told us None ≡ Some best → f ≡ with_text e (offer_line number best)
     → with_text e (offer_lines number (ranked n told us))
@@ -44,7 +44,7 @@ offer_told us told n m number best e f is found put =
     ap (λ (os : List Offer). with_text e (offer_lines number os)) (ranked_some us told n m best is found)
     ∙ sym (with_text_twice e (offer_line number best) rest) ∙ ap (λ (x : End). with_text x rest) (sym put)
 
--- nobody else is to be written
+-- no other originator remains
 pub none_told : (us : List Fields) (told : List ℕ) (n number : ℕ) (e : End) → best_but told us None ≡ None
     → with_text e (offer_lines number (ranked n told us)) ≡ e
 none_told us told n number e none =

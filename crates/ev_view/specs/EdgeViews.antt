@@ -1,4 +1,4 @@
--- What is told of one edge.
+-- The answers to queries of one edge.
 use Rattle.std.specs.Prelude.{ℕ, ◌+◌, ◌==◌, if◌then◌else◌, List, [], ◌∷◌, ◌++◌, codes, decimal}
 use Rattle.ether_wire.specs.Addr.{addr_text}
 use Rattle.ev_edge.specs.Edge.{Edge, address_of, table_of}
@@ -8,7 +8,7 @@ use Rattle.ev_view.specs.Owners.{owner_text}
 use Rattle.ev_view.specs.Counts.{counts_text}
 use Rattle.ev_view.specs.Stations.{stations_text}
 
--- what each of these gives, with its number, the first of which is this one
+-- the texts of these, each with its number, which begins at this one
 abbrev pub each_from : {A B : Type 0} → (ℕ → A → List B) → ℕ → List A → List B
 each_from text number [] = []
 each_from text number (one ∷ more) = text number one ++ each_from text (number + 1) more

@@ -16,7 +16,7 @@ use Rattle.route_join.specs.Report.{spaced, mac_state, owner_name}
 abbrev pub Offer : Type 0
 Offer = Register × Advert
 
--- what the update advertises, unless its originator is one of these
+-- the update's advert, unless its originator is one of these
 abbrev pub said_by : List ℕ → Fields → Option Advert
 said_by told u = if list_any (λ o. o == u.register.originator) told then None else advert_in u.value.content
 
@@ -30,8 +30,7 @@ abbrev pub with_others : (Offer → List Offer) → Option Offer → List Offer
 with_others others None = []
 with_others others (Some best) = best ∷ others best
 
--- The best advert, then the best one of the other originators, and so on: so many at the most, but for those of these
--- originators.
+-- The best advert, then the best one of the remaining originators, and so on, at most n of them.
 unfoldable pub ranked : ℕ → List ℕ → List Fields → List Offer
 ranked zero told us = []
 ranked (suc n) told us =
@@ -61,6 +60,6 @@ abbrev pub leader : List Offer → Option ℕ
 leader [] = None
 leader (offer ∷ more) = Some offer.0.originator
 
--- the first advert that is told is the owner's, and none is told where nobody owns the address
+-- the first advert in the answer is the owner's, and there is none if no edge owns the address
 abbrev pub OwnerLeads : Type 0
 OwnerLeads = (t : Table) (vni mac : ℕ) → leader (ranked 64 [] (updates_of t vni mac)) ≡ owner t vni mac

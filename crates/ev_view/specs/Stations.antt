@@ -31,7 +31,7 @@ own_station e u = if is_own e u then bare_station u.register.key else None
 abbrev pub is_frozen_at : Edge → Station → Bool
 is_frozen_at e s = is_frozen (get e.windows s)
 
--- of the network that is asked for, or of each
+-- of the queried VNI, or of each
 abbrev pub is_of : Option ℕ → ℕ → Bool
 is_of None vni = true
 is_of (Some asked) vni = asked == vni
@@ -40,7 +40,7 @@ is_of (Some asked) vni = asked == vni
 abbrev pub age_words : Edge → Entry → List ℕ
 age_words e x = if x.pinned then codes " pinned" else codes " age " ++ decimal (e.clock - x.last)
 
--- ` port P age N`, or `pinned` in the place of its age; nothing where it isn't learnt
+-- ` port P age N`, or `pinned` instead of its age; nothing if it is not learnt
 abbrev pub place_words : Edge → Option Entry → List ℕ
 place_words e None = []
 place_words e (Some x) = codes " port " ++ decimal x.port ++ age_words e x

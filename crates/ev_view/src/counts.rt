@@ -13,29 +13,29 @@ use mac_arena::Station;
 use route_join::{Updates, advert_in};
 use route_wire::Update;
 
-/// What was counted of the registers of an edge's table.
+/// The counts of the registers of an edge's table.
 #[derive(Clone, Copy, Debug)]
 pub(crate) struct Counts {
-    /// Own ones that are about a pinned station.
+    /// Own registers of a pinned station.
     pinned: u64,
-    /// Own ones that are about a frozen station.
+    /// Own registers of a frozen station.
     frozen: u64,
-    /// All of them.
+    /// All registers.
     registers: u64,
-    /// Own ones that advertise.
+    /// Own registers that advertise.
     own: u64,
-    /// Those of other edges that advertise.
+    /// Registers of other edges that advertise.
     foreign: u64,
 }
 
-/// Whether a register's value is an advert.
+/// Returns `true` if a register's value is an advert.
 fn advertises(update: &Update) -> bool
     ensures { result ≡ advertises update.now }
 {
     advert_in(&update.value().content).is_some()
 }
 
-/// Whether a station is pinned at an edge.
+/// Returns `true` if a station is pinned at an edge.
 fn pinned_there(edge: &Edge, station: &Option<Station>) -> bool
     ensures { result ≡ pinned_there edge.now station.now }
 {
@@ -48,7 +48,7 @@ fn pinned_there(edge: &Edge, station: &Option<Station>) -> bool
     }
 }
 
-/// Whether it is frozen there.
+/// Returns `true` if a station is frozen at an edge.
 fn frozen_there(edge: &Edge, station: &Option<Station>) -> bool
     ensures { result ≡ frozen_there edge.now station.now }
 {
@@ -58,7 +58,7 @@ fn frozen_there(edge: &Edge, station: &Option<Station>) -> bool
     }
 }
 
-/// One more, if it is one. A count stays at its greatest number.
+/// Returns one more if the flag is set. A count stays at its greatest number.
 fn one_more(number: u64, is_one: bool) -> u64
     ensures { result ≡ one_more number is_one }
 {
@@ -69,7 +69,7 @@ fn one_more(number: u64, is_one: bool) -> u64
     }
 }
 
-/// A register more.
+/// Counts one more register.
 fn counted(edge: &Edge, update: &Update, so_far: Counts) -> Counts
     ensures { result ≡ counted edge.now update.now so_far }
 {
@@ -85,7 +85,7 @@ fn counted(edge: &Edge, update: &Update, so_far: Counts) -> Counts
     }
 }
 
-/// All these registers more.
+/// Counts these registers, too.
 fn counted_all(edge: &Edge, updates: Updates<'_>) -> Counts
     ensures { result ≡ counted_all edge.now updates.entry none_counted }
 {
@@ -102,7 +102,7 @@ fn counted_all(edge: &Edge, updates: Updates<'_>) -> Counts
     so_far
 }
 
-/// Writes how many there are, behind the word for them.
+/// Writes a word and its count.
 #[tactic(auto, using(ether_wire::proofs::Appending::with_text_twice))]
 fn put_amount<W: Out>(out: &mut W, word: &[u8], amount: u64) -> Result<(), Device>
     requires { IsOpen (W.end out.old) }
@@ -144,7 +144,7 @@ fn put_pending_words<W: Out>(out: &mut W, edge: &Edge) -> Result<(), Device>
     out.put(b"\n")
 }
 
-/// Writes how much an edge holds, of which these were counted.
+/// Writes the counts of an edge from these counts of its registers.
 #[tactic(auto, using(ether_wire::proofs::Appending::with_text_twice))]
 fn put_line<W: Out>(out: &mut W, number: u64, edge: &Edge, counts: &Counts) -> Result<(), Device>
     requires { IsOpen (W.end out.old) }
@@ -157,7 +157,7 @@ fn put_line<W: Out>(out: &mut W, number: u64, edge: &Edge, counts: &Counts) -> R
     put_pending_words(out, edge)
 }
 
-/// Writes how much an edge holds.
+/// Writes the counts of an edge.
 pub(crate) fn put_counts<W: Out>(out: &mut W, number: u64, edge: &Edge) -> Result<(), Device>
     requires { IsOpen (W.end out.old) }
     ensures { Puts (W.end out.old) (W.end out.new) (counts_text number edge.now) result }

@@ -78,7 +78,7 @@ fn put_served<W: Out>(out: &mut W, ports: &[Vni], vnis: &[Vni]) -> Result<(), De
 ///
 /// # Errors
 ///
-/// `Device` exactly where a call of the writer failed; then no further call is made.
+/// `Device` exactly if a call of the writer failed; then no further call is made.
 #[tactic(auto, using(ether_wire::proofs::Appending::with_text_twice))]
 pub fn put_edge_line<W: Out>(
     out: &mut W,
@@ -97,7 +97,7 @@ pub fn put_edge_line<W: Out>(
     put_served(out, ports, vnis)
 }
 
-/// Writes the line of an edge that is looked at.
+/// Writes the line of the edge of a view.
 pub fn put_edge<W: Out>(out: &mut W, number: u64, edge: &Edge) -> Result<(), Device>
     requires { IsOpen (W.end out.old) }
     ensures { Puts (W.end out.old) (W.end out.new) (edge_line number edge.now) result }

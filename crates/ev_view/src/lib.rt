@@ -1,5 +1,5 @@
-//! What is told of one edge that is asked for: its line, who owns a station and why, how much it
-//! holds, which stations it has learnt.
+//! The answers to queries of one edge: its line, the owner of a station with the reasons, its
+//! counts, the stations that it has learnt.
 #![tactic(auto)]
 
 mod counts;

@@ -1,4 +1,4 @@
-//! Who owns a station in an edge's table, and why.
+//! The owner of a station in an edge's table, and why.
 ghost use Rattle.std.specs.Prelude.{◌≡◌, [], None};
 ghost use Rattle.route_join.specs.Updates.{updates_of};
 ghost use Rattle.ether_wire.specs.Ends.{IsOpen, Puts};
@@ -10,13 +10,13 @@ use ether_wire::{Addr, Device, Mac, Out, Vni, put_addr, put_decimal};
 use route_join::{Table, UpdatesOf, advert_in, is_better};
 use route_wire::{Advert, Register, Update};
 
-/// So many originators a table listens to at most.
+/// The maximum number of originators of a table.
 const MOST_ORIGINATORS: usize = 64;
 
 /// An advert, and the register that has it.
 type Offer = (Register, Advert);
 
-/// What an update advertises, unless its originator is one of these.
+/// Returns the update's advert, unless its originator is one of these.
 fn said_by(told: &[Addr], update: &Update) -> Option<Advert>
     ensures { result ≡ said_by told.now update.now }
 {
@@ -26,7 +26,7 @@ fn said_by(told: &[Addr], update: &Update) -> Option<Advert>
     advert_in(&update.value().content)
 }
 
-/// The better of what a register says, if anything, and the best so far.
+/// Returns the better of the register's advert, if it has one, and the best so far.
 fn better_of(register: Register, said: Option<Advert>, best: Option<Offer>) -> Option<Offer>
     ensures { result ≡ better_of register said best }
 {
@@ -43,7 +43,7 @@ fn better_of(register: Register, said: Option<Advert>, best: Option<Offer>) -> O
     }
 }
 
-/// The best advert, but for those of these originators.
+/// Returns the best advert of the originators that are not in the list.
 fn best_but(told: &[Addr], updates: UpdatesOf<'_>) -> Option<Offer>
     ensures { result ≡ best_but told.now updates.entry None }
 {
@@ -96,7 +96,7 @@ fn put_offers<W: Out>(
     Ok(())
 }
 
-/// Writes who owns an address, or that nobody does.
+/// Writes the owner of an address, or `none`.
 #[tactic(auto, using(ether_wire::proofs::Appending::with_text_twice))]
 fn put_owner_line<W: Out>(out: &mut W, number: u64, owner: Option<Addr>) -> Result<(), Device>
     requires { IsOpen (W.end out.old) }
@@ -113,7 +113,7 @@ fn put_owner_line<W: Out>(out: &mut W, number: u64, owner: Option<Addr>) -> Resu
     }
 }
 
-/// Writes who owns an address, and the adverts, the best one first.
+/// Writes the owner of an address and the adverts, the best one first.
 #[tactic(auto, using(ether_wire::proofs::Appending::with_text_twice))]
 pub(crate) fn put_owner<W: Out>(
     out: &mut W,

@@ -1,4 +1,4 @@
-//! A writer over memory that grows, which tells its octets.
+//! A writer over memory that grows.
 ghost use Rattle.std.specs.Prelude.{◌≡◌, [], Some};
 ghost use Rattle.ether_wire.specs.Ends.{end_of};
 ghost use Rattle.ev_view.specs.Inner.Sheet.{sheet_end};
@@ -6,7 +6,7 @@ ghost use Rattle.ev_view.specs.Inner.Sheet.{sheet_end};
 use ether_wire::{Device, Out};
 use std::alloc::Global;
 
-/// A writer over memory that grows. It fails where memory is refused.
+/// A writer over memory that grows. It fails if memory is refused.
 #[derive(Drop)]
 pub(crate) struct Sheet {
     octets: Vec<u8>,
@@ -14,7 +14,7 @@ pub(crate) struct Sheet {
 }
 
 impl Sheet {
-    /// An empty sheet.
+    /// Returns an empty sheet.
     pub(crate) fn new(alloc: Global) -> Self
         ensures { sheet_end result ≡ end_of (Some []) 0 }
     {
@@ -24,7 +24,7 @@ impl Sheet {
         }
     }
 
-    /// What was written.
+    /// Returns the octets written.
     pub(crate) fn into_octets(self) -> Vec<u8>
         ensures { (sheet_end self).octets ≡ Some result.items }
     {

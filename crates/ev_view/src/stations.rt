@@ -1,4 +1,4 @@
-//! Which stations an edge has learnt or frozen.
+//! The stations that an edge has learnt or frozen.
 ghost use Rattle.std.specs.Prelude.{◌≡◌};
 ghost use Rattle.ether_wire.specs.Ends.{IsOpen, Puts};
 ghost use Rattle.ev_view.specs.Stations.{is_own, bare_station, own_station, is_of, age_words};
@@ -10,14 +10,14 @@ use ev_edge::Edge;
 use mac_arena::{Entry, Station};
 use route_wire::{Key, Update};
 
-/// Whether the edge is a register's originator.
+/// Returns `true` if the edge is the register's originator.
 pub(crate) fn is_own(edge: &Edge, update: &Update) -> bool
     ensures { result ≡ is_own edge.now update.now }
 {
     update.register().originator == edge.routes().address()
 }
 
-/// The station of a key without an IP address.
+/// Returns the station of a key without an IP address.
 fn bare_station(key: &Key) -> Option<Station>
     ensures { result ≡ bare_station key.now }
 {
@@ -31,7 +31,7 @@ fn bare_station(key: &Key) -> Option<Station>
     }
 }
 
-/// The station of an own register.
+/// Returns the station of an own register.
 pub(crate) fn own_station(edge: &Edge, update: &Update) -> Option<Station>
     ensures { result ≡ own_station edge.now update.now }
 {
@@ -42,7 +42,7 @@ pub(crate) fn own_station(edge: &Edge, update: &Update) -> Option<Station>
     }
 }
 
-/// Whether a network is the one that is asked for, if one is.
+/// Returns `true` if the VNI is the queried one, or none was given.
 fn is_of(asked: &Option<Vni>, vni: Vni) -> bool
     ensures { result ≡ is_of asked.now vni }
 {
@@ -52,7 +52,7 @@ fn is_of(asked: &Option<Vni>, vni: Vni) -> bool
     }
 }
 
-/// Writes how many seconds ago a station was heard, or that it is pinned.
+/// Writes the seconds since the station's last frame, or that it is pinned.
 #[tactic(auto, using(ether_wire::proofs::Appending::with_text_twice))]
 fn put_age<W: Out>(out: &mut W, edge: &Edge, entry: &Entry) -> Result<(), Device>
     requires { IsOpen (W.end out.old) }
@@ -65,7 +65,7 @@ fn put_age<W: Out>(out: &mut W, edge: &Edge, entry: &Entry) -> Result<(), Device
     put_decimal(out, edge.clock().saturating_sub(entry.last))
 }
 
-/// Writes where a station is learnt, if it is.
+/// Writes the port of a station, if it is learnt.
 #[tactic(auto, using(ether_wire::proofs::Appending::with_text_twice))]
 fn put_place<W: Out>(out: &mut W, edge: &Edge, entry: &Option<Entry>) -> Result<(), Device>
     requires { IsOpen (W.end out.old) }
@@ -90,7 +90,7 @@ fn put_frozen<W: Out>(out: &mut W, frozen: bool) -> Result<(), Device>
     Ok(())
 }
 
-/// Writes which station a line is about.
+/// Writes the station of a line.
 #[tactic(auto, using(ether_wire::proofs::Appending::with_text_twice))]
 fn put_subject<W: Out>(out: &mut W, number: u64, station: &Station) -> Result<(), Device>
     requires { IsOpen (W.end out.old) }
@@ -103,7 +103,7 @@ fn put_subject<W: Out>(out: &mut W, number: u64, station: &Station) -> Result<()
     put_mac(out, station.mac)
 }
 
-/// Writes the line of a station: where it is learnt, if it is, and whether it is frozen.
+/// Writes the line of a station: its port, if it is learnt, and whether it is frozen.
 #[tactic(auto, using(ether_wire::proofs::Appending::with_text_twice))]
 fn put_station<W: Out>(
     out: &mut W,
@@ -136,7 +136,7 @@ fn put_known<W: Out>(out: &mut W, number: u64, edge: &Edge, station: &Station) -
     Ok(())
 }
 
-/// Writes the line of an update's station, if it is one of those that are asked for.
+/// Writes the line of an update's station, if the query covers it.
 fn put_asked<W: Out>(
     out: &mut W,
     number: u64,
@@ -157,7 +157,7 @@ fn put_asked<W: Out>(
     Ok(())
 }
 
-/// Writes the stations that an edge has learnt or frozen, of a network or of all.
+/// Writes the stations that an edge has learnt or frozen, of one VNI or of all.
 #[tactic(auto, using(ether_wire::proofs::Appending::with_text_twice, ether_wire::proofs::Appending::with_text_none))]
 pub(crate) fn put_stations<W: Out>(
     out: &mut W,

@@ -1,4 +1,4 @@
-//! What is told of one edge that is asked for. It takes no memory, and the edge alone is looked at.
+//! The answer to a query of one edge. It takes no memory and reads only this edge.
 ghost use Rattle.std.specs.Prelude.{◌≡◌, IfOk};
 ghost use Rattle.ether_wire.specs.Ends.{IsOpen, Puts};
 ghost use Rattle.ev_view.specs.EdgeViews.{edge_view_text};
@@ -12,22 +12,22 @@ use ev_edge::Edge;
 use mac_arena::Station;
 use std::alloc::{AllocError, Global};
 
-/// A question that one edge alone answers.
+/// A query of one edge.
 #[derive(Clone, Copy, Debug)]
 pub enum EdgeQuestion {
-    /// Who owns a station, and why.
+    /// The owner of a station, and why.
     Owner(Station),
-    /// How much it holds.
+    /// Its counts.
     Counts,
-    /// Which stations it has learnt, of a network or of all.
+    /// The stations that it has learnt, of one VNI or of all.
     Stations(Option<Vni>),
 }
 
-/// Writes what is told of a question of this edge, which has this number.
+/// Writes the answer to a query of this edge, which has this number.
 ///
 /// # Errors
 ///
-/// `Device` exactly where a call of the writer failed; then no further call is made.
+/// `Device` exactly if a call of the writer failed; then no further call is made.
 pub fn put_edge_view<W: Out>(
     out: &mut W,
     number: u64,
@@ -51,11 +51,11 @@ pub fn put_edge_view<W: Out>(
     }
 }
 
-/// What is told of a question of this edge, which has this number, in memory of its own.
+/// Returns the answer to a query of this edge, which has this number, in newly allocated memory.
 ///
 /// # Errors
 ///
-/// Where memory is refused.
+/// `AllocError` if memory is refused.
 pub fn view_of(
     alloc: Global,
     number: u64,

@@ -1,4 +1,4 @@
--- Where the words have no fault, the subcommand's required option has a value.
+-- If the arguments have no fault, the subcommand's required option has a value.
 use Rattle.std.proofs.Common.{◌≡◌, ℕ, zero, suc, ◌&&◌, ◌||◌, ◌==◌, Bool, cond, true, false, not, nat_lt, true≢false}
 use Rattle.std.proofs.Common.{List, [], ◌∷◌, ◌++◌, map, length, drop, codes, Option, Some, None, option_map, is_some}
 use Rattle.std.proofs.Common.{refl, sym, ap, subst, ◌∙◌}
@@ -457,7 +457,7 @@ leaf_of name needs takes flag other =
     built_leaf (inherited above (with_flag other (with_flag flag
     (with_option false takes (with_option true (Some needs) (new_app name))))).top)
 
--- where its level passes, the one that has to be given has a value
+-- if its level passes, the required option has a value
 one_given : (name : Text) (needs : Given) (words : List Text)
     → level_fault (leaf_of name needs None None None) [] nothing_held words false [] ≡ []
     → is_some (first_of (option_name needs) (rows_after (leaf_of name needs None None None).rules [] words)) ≡ true
@@ -579,7 +579,7 @@ entered_invocation (x ∷ xs) name words has f no_help = go (bytes_eq (name_of x
     go true has f more = invocation_is_there x (rows_after (leaf x).rules [] words) (option_given x words f)
     go false has f more = more has f no_help
 
--- Where the words have no fault, they are an invocation.
+-- If the arguments have no fault, they are an invocation.
 pub invocation_given : (words : List Text) → fault_of program words ≡ []
     → is_some (invocation_in (subcommand_of program words)) ≡ true
 invocation_given words f =

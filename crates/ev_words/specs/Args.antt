@@ -149,7 +149,7 @@ given_in (Some option) rows = first_of (option_name option) rows
 abbrev pub is_flagged : Option Given → List Row → Bool
 is_flagged flag rows = option_map_or (λ text. bytes_eq text (codes "true")) (given_in flag rows) false
 
--- what a check is for, by its two flags: where it is for edges that are served, the other one says no more
+-- the purpose of a check, by its two flags: `--serve` includes the other one
 abbrev pub aim_of : Bool → Bool → Aim
 aim_of is_run is_served = if is_served then aim.Serve else if is_run then aim.Run else aim.Any
 
@@ -157,7 +157,7 @@ aim_of is_run is_served = if is_served then aim.Serve else if is_run then aim.Ru
 abbrev pub aim_in : Subcommand → List Row → Aim
 aim_in s rows = aim_of (is_flagged (flag_of s) rows) (is_flagged (other_flag_of s) rows)
 
--- a subcommand, the text of what it has to be given, and of what it may be given, and what its flags say
+-- a subcommand, the value of its required option, that of its optional one, and its flags
 abbrev pub Parts : Type 0
 Parts = Subcommand × Text × Option Text × Aim
 
@@ -190,8 +190,8 @@ abbrev pub IsAnswer : List Text → Result ArgMatches Error → Type 0
 IsAnswer words (Ok m) = (fault_of program words ≡ []) × (subcommand_rows_of m ≡ subcommand_of program words)
 IsAnswer words (Err e) = (kind_of e ≡ OutOfMemory) ⊎ IsAmong (kind_of e) (fault_of program words)
 
--- A parser's answer, and how often it was refused memory before and after: once more exactly where the error's kind
--- says so.
+-- A parser's answer, and how often it was refused memory before and after: once more exactly if the error's kind is
+-- refused memory.
 pub record Parses (words : List Text) (before after : ℕ) (answer : Result ArgMatches Error) : Type 0 where
   pub is_answer : IsAnswer words answer
   pub kept : OnOk answer (after ≡ before)

@@ -9,22 +9,22 @@ use clap::error::ErrorKind;
 use clap::{Arg, ArgAction, ArgMatches, Command, Error};
 use std::alloc::{AllocError, Global};
 
-/// What the program is to do.
+/// The invocation of the program.
 #[derive(Clone, Copy, Debug, Drop)]
 pub struct Invocation<'a> {
     pub subcommand: Subcommand,
-    /// The value of the option that the subcommand has to be given; nothing where there is none.
+    /// The value of the subcommand's required option; empty if it has none.
     pub value: &'a str,
-    /// The value of the one that it may be given besides, where it was.
+    /// The value of its optional option, if given.
     pub more: Option<&'a str>,
-    /// What a check is for.
+    /// The purpose of a check.
     pub aim: Aim,
 }
 
 /// Why the words are no invocation.
 #[derive(Debug, Drop)]
 pub enum ArgsError {
-    /// They are none of the program's, or ask for help: what `clap` tells of it.
+    /// They are invalid, or ask for help: the message of `clap`.
     Usage(Error),
     /// There was no memory to read them.
     NoMemory,
@@ -102,7 +102,7 @@ fn subcommand_command<'a>(alloc: Global, subcommand: Subcommand) -> Result<Comma
     with_flag(alloc, flagged, subcommand.other_flag())
 }
 
-/// What the program does, and what help tells of all subcommands.
+/// Describes the program and the help of all subcommands.
 const ABOUT: &str =
     "EVPN edge bridges: the owners that route updates define, and edges that hold them";
 
@@ -142,7 +142,7 @@ fn program<'a>(alloc: Global) -> Result<Command<'a>, AllocError>
     Ok(command.subcommand_required(true))
 }
 
-/// What reads the program's words, and tells what is wrong with them. It may be refused memory.
+/// A parser of the program's arguments, which reports their faults. It may be refused memory.
 pub trait Parser {
     /// How often it was refused memory.
     ghost refusals: { Self → ℕ };
@@ -228,7 +228,7 @@ pub fn invocation_of<'a, P: Parser>(
     }
 }
 
-/// What an error of `clap` says of the words: they aren't the program's, or there was no memory.
+/// Returns whether an error of `clap` means invalid arguments or refused memory.
 fn args_error_of(error: Error) -> ArgsError
     ensures memory { kind_of error ≡ ErrorKind.OutOfMemory → result ≡ ArgsError.NoMemory }
     ensures usage { kind_of error ≢ ErrorKind.OutOfMemory → result ≡ ArgsError.Usage error }
@@ -240,7 +240,7 @@ fn args_error_of(error: Error) -> ArgsError
     }
 }
 
-/// The value of the option that has to be there, or nothing where there is none.
+/// Returns the value of the required option, or an empty text if there is none.
 fn needed_in<'a>(option: Option<Given>, matches: &ArgMatches<'a>) -> Option<&'a str>
     ensures { option_map (λ s. s.now) result
         ≡ needed_in option (rows_of (found_of matches.now)) }
@@ -272,7 +272,7 @@ fn is_flagged<'a>(flag: Option<Given>, matches: &ArgMatches<'a>) -> bool
     }
 }
 
-/// What a check is for, by its two flags.
+/// Returns the purpose of a check, by its two flags.
 fn aim_of(is_run: bool, is_served: bool) -> Aim
     ensures { result ≡ aim_of is_run is_served }
 {

@@ -1,8 +1,8 @@
-//! The program's subcommands: what each is given, and what help says of it.
+//! The program's subcommands: their options, and their help texts.
 ghost use Rattle.std.specs.Prelude.{◌≡◌};
 ghost use Rattle.ev_words.specs.Args.{name_of, option_name, needs_of, takes_of, flag_of, other_flag_of, named};
 
-/// What the program can do.
+/// A subcommand of the program.
 #[derive(Clone, Copy, Debug, PartialEq, Eq)]
 pub enum Subcommand {
     /// `evpnd report --originators LIST`
@@ -23,7 +23,7 @@ pub enum Subcommand {
     Version,
 }
 
-/// What a subcommand can be given.
+/// The options of a subcommand.
 #[derive(Clone, Copy, Debug, PartialEq, Eq)]
 pub(crate) enum Given {
     /// `--originators LIST`
@@ -38,14 +38,14 @@ pub(crate) enum Given {
     ForServe,
 }
 
-/// What a check is for.
+/// The purpose of a check.
 #[derive(Clone, Copy, Debug, PartialEq, Eq)]
 pub enum Aim {
     /// Anything.
     Any,
     /// A run: `--run`.
     Run,
-    /// A run whose edges are asked meanwhile: `--serve`.
+    /// A run whose edges answer queries meanwhile: `--serve`.
     Serve,
 }
 
@@ -111,7 +111,7 @@ impl Subcommand {
         }
     }
 
-    /// What it does, in a line.
+    /// Returns its effect, in a line.
     pub(crate) fn about<'a>(self) -> &'a str {
         match self {
             Subcommand::Report => "Report the table that a stream of route updates defines",
@@ -125,7 +125,7 @@ impl Subcommand {
         }
     }
 
-    /// What it reads and prints, its statuses, and an example.
+    /// Returns its input and output, its statuses, and an example.
     pub(crate) fn help<'a>(self) -> &'a str {
         match self {
             Subcommand::Report => {

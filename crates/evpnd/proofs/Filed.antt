@@ -1,4 +1,4 @@
--- What is done with what a file gives for a configuration.
+-- The use of a file's configuration.
 use Rattle.std.proofs.Common.{◌≡◌, ℕ, ◌+◌, inl, inr, Result, Ok, Err, refl, ap, subst, ◌∙◌}
 use Rattle.ether_wire.specs.declared.ends.Device.{Device}
 use Rattle.ether_wire.specs.Ends.{End, Source, Puts}
@@ -52,7 +52,7 @@ found_never : {X : Type 0} (uses : UsesConfig X) (found : Result X ConfigRefusal
 found_never uses (Ok config) d d' status h = absurd h
 found_never uses (Err refused) d d' status h = h
 
--- where none is used, it doesn't matter for what
+-- if no configuration is used, its purpose doesn't matter
 never_used : {X : Type 0} (uses : UsesConfig X) (gives : Gives X) (path : Text) (b a : Desk) (status : ℕ)
     → OfFile gives (OfFound Never) path b a status → OfFile gives (OfFound uses) path b a status
 never_used uses gives path b a status (inl h) = inl h
@@ -66,7 +66,7 @@ never_used uses gives path b a status (inr r) =
       used = found_never uses r.found b.devices a.devices status r.used;
     })
 
--- what a file gives, of devices of which nothing but the notes was called yet
+-- the result of a file, given devices of which only the notes were called
 module _ {X : Type 0} (uses : UsesConfig X) (gives : Gives X) (path : Text) (s s' : Shelf) (before : Devices)
     (input : Source) (out notes notes' : End) (is : devices input out notes ≡ before) (status : ℕ) where
   -- none is used

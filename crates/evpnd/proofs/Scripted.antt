@@ -81,7 +81,7 @@ two_or_four : (x : Bool) (status : ℕ) → ◌≡◌ {A = ℕ} status (cond x 4
 two_or_four true status is done = absurd (omega (arith, is, done))
 two_or_four false status is done = absurd (omega (arith, is, done))
 
--- what a script that is looked at then needs
+-- the conditions of a checked script
 pub record IsReady (s : Shelf) (out notes : End) : Type 0 where
   pub has_room : HasRoom s
   pub out_open : IsOpen out
@@ -150,7 +150,7 @@ pub behind_done : (first : ℕ) (path : Text) (before after : Desk) (status : �
     → OfScript path before after status → Behind first path before after status
 behind_done first path before after status e h = rw e h
 
--- a configuration that was checked, and behind it a script
+-- a checked configuration, followed by a script
 pub with_script : (purpose : Purpose) (path : Text) (given : Option (Bor Text)) (script : Bor Text)
     (before mid after : Desk) (first status : ℕ) → given ≡ Some script
     → OfFile (ConfigFor purpose.wanted) (Checks purpose) path before mid first

@@ -1,4 +1,4 @@
--- What is told of the words.
+-- The messages about the arguments.
 use Rattle.std.proofs.Common.{◌≡◌, ◌≢◌, inl, inr, ℕ, ◌+◌, cond, List, [], ◌∷◌, ◌++◌, Result, Ok, Err}
 use Rattle.std.proofs.Common.{is_ok, refl, ap, ◌∙◌}
 use Rattle.ether_wire.specs.declared.ends.Device.{Device}
@@ -23,7 +23,7 @@ pub sums_put : (a b : End) (r : Result (Unit {0}) Device) (text : Text) (status 
     → ◌≡◌ {A = ℕ} status (cond (is_ok r) 0 4) → Sums a b status
 sums_put a b r text status h is = (text, put_holds a b r text h, is ∙ failed_put a b r text 0 h (is_ok r) refl)
 
--- a text was put, and behind it another one
+-- a text was put, followed by another one
 pub put_behind : (a b c : End) (text more : Text) (r : Result (Unit {0}) Device) → b ≡ with_text a text
     → Puts b c more r
     → (t : Text) × Puts a c (t ++ more) r

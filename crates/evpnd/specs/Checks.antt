@@ -34,7 +34,7 @@ pub record IsRefusedText (before after : Desk) (status : ℕ) : Type 0 where
   pub devices_kept : after.devices ≡ before.devices
   pub status_is : status ≡ 3
 
--- once more the file of an option had no text, which is told; nothing was read, nothing else written
+-- once more the file of an option had no text, which is reported; nothing was read, nothing else written
 pub record IsUnread (option : Named) (path : Text) (before after : Desk) (status : ℕ) : Type 0 where
   pub failed : after.shelf ≡ record before.shelf { failures = before.shelf.failures + 1 }
   pub why : Unread
@@ -43,20 +43,20 @@ pub record IsUnread (option : Named) (path : Text) (before after : Desk) (status
   pub noted : Holds before.devices.notes after.devices.notes (unread_text option path why)
   pub status_is : status ≡ 4
 
--- there is no text of an option's file: memory was refused for it, or it can't be read, which is told
+-- there is no text of an option's file: memory was refused for it, or it can't be read, which is reported
 abbrev pub IsTextless : Named → Text → Desk → Desk → ℕ → Type 0
 IsTextless option path before after status = IsRefusedText before after status
     ⊎ IsUnread option path before after status
 
--- what a text gives for a configuration of a kind
+-- the configuration of a text, for a purpose
 abbrev pub Gives : Type 0 → Type 1
 Gives X = Text → Result X ConfigRefusal → Type 0
 
--- what is done with that
+-- the use of it
 abbrev pub Uses : Type 0 → Type 1
 Uses X = Result X ConfigRefusal → Devices → Devices → ℕ → Type 0
 
--- the file has this text, and what it gives for a configuration is used so
+-- the file has this text, and its configuration is used
 pub record IsRead {X : Type 0} (gives : Gives X) (uses : Uses X) (path : Text) (before after : Desk)
     (status : ℕ) : Type 0 where
   pub shelf_kept : after.shelf ≡ before.shelf
@@ -66,7 +66,7 @@ pub record IsRead {X : Type 0} (gives : Gives X) (uses : Uses X) (path : Text) (
   pub is_found : gives text found
   pub used : uses found before.devices after.devices status
 
--- what is done with what a file gives for a configuration
+-- the use of a file's configuration
 abbrev pub OfFile : {X : Type 0} → Gives X → Uses X → Text → Desk → Desk → ℕ → Type 0
 OfFile gives uses path before after status = IsTextless named.Config path before after status
     ⊎ IsRead gives uses path before after status
@@ -78,23 +78,23 @@ abbrev pub Sums : End → End → ℕ → Type 0
 Sums before after status = (text : Text) × Holds before after text
     × (status ≡ (if has_failed before after then 4 else 0))
 
--- some text is told, or a call of the notes failed
+-- some text is written to the notes, or a call of them failed
 abbrev pub TellsSome : End → End → ℕ → Type 0
 TellsSome before after status = (text : Text) × IsTold text before after status
 
--- some text and behind it this one was written on the output, or a call of it failed
+-- some text followed by this one was written on the output, or a call of it failed
 abbrev pub SumsWith : Text → End → End → ℕ → Type 0
 SumsWith more before after status =
     (text : Text) × Holds before after (text ++ more) × (status ≡ (if has_failed before after then 4 else 0))
 
--- Nothing hinders a run, and what it takes is written; or what hinders it is told.
+-- A run has no obstacles, and its resources are written; or its obstacles are reported.
 abbrev pub TellsObstacles : List Obstacle → Text → End → End → End → End → ℕ → Type 0
 TellsObstacles [] takes out out' notes notes' status = (notes' ≡ notes) × SumsWith takes out out' status
 TellsObstacles (one ∷ more) takes out out' notes notes' status =
     (out' ≡ out) × IsTold (obstacles_text (one ∷ more)) notes notes' status
 
--- So of a configuration's run, perhaps one that clients ask meanwhile, where there may be so many descriptors; or there
--- was no memory for what hinders it.
+-- The same for a configuration's run, served or not, given the limit of descriptors; or there was no memory for the
+-- obstacles.
 abbrev pub SumsRun : Bool → Option ℕ → Config → End → End → End → End → ℕ → Type 0
 SumsRun is_asked most config out out' notes notes' status =
     TellsObstacles (obstacles_of config.edges.items config.links.items is_asked most)
@@ -107,7 +107,7 @@ SumsFor Any most config out out' notes notes' status = (notes' ≡ notes) × Sum
 SumsFor Run most config out out' notes notes' status = SumsRun false most config out out' notes notes' status
 SumsFor Serve most config out out' notes notes' status = SumsRun true most config out out' notes notes' status
 
--- A configuration is summed up on the output for its use (0); what is wrong with it is told on the notes (2), or there
+-- A configuration is summed up on the output for its purpose (0); its faults are reported on the notes (2), or there
 -- was no memory (3); nothing was read, nothing else written.
 abbrev pub Checks : Purpose → Result Config ConfigRefusal → Devices → Devices → ℕ → Type 0
 Checks purpose (Ok config) before after status = (after.input ≡ before.input)

@@ -15,8 +15,8 @@ config_text key = codes "config " ++ key ++ codes "\n"
 abbrev pub TellsKey : Text → Devices → Devices → ℕ → Type 0
 TellsKey key before after status = (more : Text) × TellsUsage (config_text key ++ more) before after status
 
--- There is no configuration: its first faulty key is told, or that its text is no document (2); or there was no memory
--- to read it (3), and no device was called.
+-- There is no configuration: its first faulty key is reported, or that its text is no document (2); or there was no
+-- memory to read it (3), and no device was called.
 abbrev pub Refuses : ConfigRefusal → Devices → Devices → ℕ → Type 0
 Refuses (refusal.Key key) before after status = TellsKey (string_bytes key) before after status
 Refuses refusal.Text before after status = TellsKey (codes "text") before after status

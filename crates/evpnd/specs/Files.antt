@@ -1,4 +1,4 @@
--- Files: what they hold, and what became of asking for a text.
+-- Files: their content, and the result of reading one.
 use Rattle.std.specs.Prelude.{◌≡◌, ℕ, ◌+◌, ◌<◌, ◌^◌, List, ◌++◌, codes, string_bytes, String, Option, Some, IfSome}
 use Rattle.std.specs.Prelude.{Result, Ok, Err}
 use Rattle.std.specs.declared.alloc.Global.{Global}
@@ -12,7 +12,7 @@ use Rattle.evpnd.specs.declared.files.FileFault.TheVariants as fault
 abbrev pub Text : Type 0
 Text = List ℕ
 
--- the text of each file, where that is told; how often memory was refused; how often a file had no text
+-- the text of each file, if known; how often memory was refused; how often a file had no text
 pub record Shelf : Type 0 where
   pub texts : Option (Text → Option Text)
   pub refusals : ℕ
@@ -23,7 +23,7 @@ pub record HasRoom (s : Shelf) : Type 0 where
   pub refusals : s.refusals + 1 < 2 ^ 64
   pub failures : s.failures + 1 < 2 ^ 64
 
--- the file at this path holds this text, where that is told
+-- the file at this path holds this text, if known
 abbrev pub IsTextOf : Shelf → Text → Text → Type 0
 IsTextOf s path text = IfSome s.texts (λ texts. texts path ≡ Some text)
 
@@ -33,7 +33,7 @@ GivesText before after path (Ok text) = (after ≡ before) × IsTextOf before pa
 GivesText before after path (Err fault.NoMemory) = after ≡ record before { refusals = before.refusals + 1 }
 GivesText before after path (Err (fault.Unread why)) = after ≡ record before { failures = before.failures + 1 }
 
--- ---- what is told of a file without a text
+-- ---- the message for a file without a text
 
 abbrev pub reason_of : Unread → Text
 reason_of Missing = codes "' isn't there\n"

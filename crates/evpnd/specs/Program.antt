@@ -39,7 +39,7 @@ world refusals shelf devices = record { refusals = refusals; desk = desk shelf d
 
 -- ---- usage
 
--- what is told where a word isn't UTF-8
+-- the message for an argument that isn't UTF-8
 abbrev pub not_text : Text
 not_text = codes "error: a word isn't UTF-8\n"
 
@@ -50,21 +50,21 @@ abbrev pub RunsFile : Bool → Text → Desk → Desk → ℕ → Type 0
 RunsFile false = OfFile (ConfigOf true) RunsFound
 RunsFile true = OfFile ServedOf ServesFound
 
--- so they are, where no standard stream was closed
+-- the edges run, if no standard stream was closed
 abbrev pub RunsOpen : Bool → Option Stream → Text → Desk → Desk → ℕ → Type 0
 RunsOpen is_asked closed path before after status = Unclosed (RunsFile is_asked path) closed before after status
 
--- what a configuration is wanted for, by the aim of a check
+-- the purpose of a configuration, by the aim of a check
 abbrev pub use_of : Aim → Use
 use_of aim.Any = used.Any
 use_of aim.Run = used.Run
 use_of aim.Serve = used.Serve
 
--- what a check is for
+-- the subject of a check
 abbrev pub purpose_of : Aim → Descriptors → Purpose
 purpose_of aim descriptors = record { wanted = use_of aim; most = descriptors.most }
 
--- what each subcommand does with the value of the option that it needs, with that of one more, and with its flags
+-- the effect of each subcommand with the values of its options and its flags
 abbrev pub FollowsAs : Descriptors → Subcommand → Text → Option Text → Aim → Desk → Desk → ℕ → Type 0
 FollowsAs given Report list more aim before after status = (after.shelf ≡ before.shelf)
     × OfList Reports list before.devices after.devices status
@@ -85,7 +85,7 @@ abbrev pub Follows : Descriptors → Parts → Desk → Desk → ℕ → Type 0
 Follows given invocation before after status = FollowsAs given invocation.0 invocation.1 invocation.2 invocation.3
     before after status
 
--- An invocation is followed, and then it is told whether reading or writing failed.
+-- An invocation is executed, and then failed reading or writing is reported.
 pub record FollowsTelling (given : Descriptors) (invocation : Parts) (before after : Desk) (status : ℕ) : Type 0 where
   pub mid : Desk
   pub follows : Follows given invocation before mid status
@@ -94,13 +94,13 @@ pub record FollowsTelling (given : Descriptors) (invocation : Parts) (before aft
 
 -- ---- words
 
--- memory was refused once more, to read the words or to tell what is wrong with them; no device was called
+-- memory was refused once more, for the parser or for its message; no device was called
 pub record IsOutOfMemory (before after : World) (status : ℕ) : Type 0 where
   pub refused : after.refusals ≡ before.refusals + 1
   pub desk_kept : after.desk ≡ before.desk
   pub status_is : status ≡ 3
 
--- the words have a fault, which is told
+-- the arguments have a fault, which is reported
 pub record IsRefused (words : List Text) (before after : World) (status : ℕ) : Type 0 where
   pub faulty : fault_of program words ≢ []
   pub refusals_kept : after.refusals ≡ before.refusals
@@ -120,7 +120,7 @@ RunsWords given words before after status =
     IsOutOfMemory before after status ⊎ (IsRefused words before after status
     ⊎ IsFollowed given words before after status)
 
--- A run, on what the system gives as words, and what it says of descriptors.
+-- A run, given the system's arguments and its limit of descriptors.
 abbrev pub RunsProgram : Descriptors → Argv → World → World → ℕ → Type 0
 RunsProgram given NoMemory before after status = (after ≡ before) × (status ≡ 3)
 RunsProgram given NotText before after status =

@@ -16,12 +16,12 @@ use Rattle.evpnd.specs.Checks.{Desk, IsTextless, OfFile, Checks}
 abbrev pub lines_word : ℕ → Text
 lines_word count = if count == 1 then codes " line\n" else codes " lines\n"
 
--- `ok: N lines`, where each is a command
+-- `ok: N lines`, if each is a command
 abbrev pub lines_text : Bool → ℕ → Text
 lines_text are_good count = if are_good then codes "ok: " ++ decimal count ++ lines_word count else []
 
--- A script of this name was cut into its lines. Each that is no command is told with its place and why (1); or how many
--- there are is written (0).
+-- A script of this name was split into its lines. Each invalid line is reported with its place and why (1); or the
+-- number of lines is written (0).
 pub record Looks (name script : Text) (out out' notes notes' : End) (status : ℕ) : Type 0 where
   pub lines : List Text
   pub follows : Follows (λ line. Some line) script lines []

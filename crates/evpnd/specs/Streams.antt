@@ -12,7 +12,7 @@ closed_text Input = codes "standard input: it is closed\n"
 closed_text Output = codes "standard output: it is closed\n"
 closed_text Error = codes "standard error: it is closed\n"
 
--- Nothing begins: it is told that this stream was closed when the program began. Nothing was read, nothing else
+-- Nothing starts: the notes report that this stream was closed when the program began. Nothing was read, nothing else
 -- written.
 pub record IsClosed (stream : Stream) (before after : Desk) (status : ℕ) : Type 0 where
   pub shelf_kept : after.shelf ≡ before.shelf
@@ -21,7 +21,7 @@ pub record IsClosed (stream : Stream) (before after : Desk) (status : ℕ) : Typ
   pub noted : Holds before.devices.notes after.devices.notes (closed_text stream)
   pub status_is : status ≡ 4
 
--- what is done where no stream was closed
+-- the effect if no stream was closed
 abbrev pub Unclosed : (Desk → Desk → ℕ → Type 0) → Option Stream → Desk → Desk → ℕ → Type 0
 Unclosed does None before after status = does before after status
 Unclosed does (Some stream) before after status = IsClosed stream before after status

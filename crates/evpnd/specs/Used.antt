@@ -1,4 +1,4 @@
--- What a configuration is used for: a script on its edges, or a run of them.
+-- The uses of a configuration: a script on its edges, or a run of them.
 use Rattle.std.specs.Prelude.{ℕ, string_bytes, Result}
 use Rattle.ev_config.specs.declared.whole.Config.{Config}
 use Rattle.ev_config.specs.declared.whole.Served.{Served}

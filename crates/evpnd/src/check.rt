@@ -19,16 +19,16 @@ use ev_report::{DEVICE, DONE, MEMORY, usage_status};
 use ev_run::{Obstacle, needs_of, obstacles_of, put_asked_needs, put_obstacles};
 use std::alloc::Global;
 
-/// What a check is for.
+/// The subject of a check.
 #[derive(Clone, Copy, Debug)]
 pub(crate) struct Purpose {
-    /// What the configuration is wanted for.
+    /// The purpose of the configuration.
     pub(crate) wanted: Use,
-    /// How many descriptors there may be then, where that is told.
+    /// The limit of descriptors then, if known.
     pub(crate) most: Option<u64>,
 }
 
-/// What is to be checked.
+/// The subject of a check.
 #[derive(Clone, Copy, Debug)]
 pub(crate) struct Wanted<'a> {
     /// The path of a configuration.
@@ -39,7 +39,7 @@ pub(crate) struct Wanted<'a> {
     pub(crate) purpose: Purpose,
 }
 
-/// The status of what was done, by whether it could be written.
+/// Returns the status, by whether the output could be written.
 pub(crate) fn done_status(written: Result<(), Device>) -> u8
     ensures { result ≡ (if is_ok written then 0 else 4) }
 {
@@ -57,7 +57,7 @@ fn sum_up<W: Out>(config: &Config, out: &mut W) -> u8
     done_status(out.put(summary_line(config).octets()))
 }
 
-/// Writes how much a configuration has, and what a run of it takes.
+/// Writes the sum of a configuration, and the resources of its run.
 fn put_sums<W: Out>(config: &Config, is_asked: bool, out: &mut W) -> Result<(), Device>
     requires { IsOpen (W.end out.old) }
     ensures { (text : Text) × Puts (W.end out.old) (W.end out.new)
@@ -67,7 +67,7 @@ fn put_sums<W: Out>(config: &Config, is_asked: bool, out: &mut W) -> Result<(), 
     put_asked_needs(out, needs_of(config), is_asked)
 }
 
-/// Writes how much a configuration has, and what a run of it takes, and answers the status.
+/// Writes the sum of a configuration, and the resources of its run, and returns the status.
 fn sum_up_run<W: Out>(config: &Config, is_asked: bool, out: &mut W) -> u8
     requires { IsOpen (W.end out.old) }
     ensures { SumsWith (asked_text is_asked (needs_of config.now.edges.items)) (W.end out.old)
@@ -84,7 +84,7 @@ fn tell_obstacles<N: Out>(found: &[Obstacle], notes: &mut N) -> u8
     usage_status(put_obstacles(notes, found))
 }
 
-/// Writes what a run takes where nothing hinders it, or tells what does.
+/// Writes the resources of a run without obstacles, or reports the obstacles.
 fn tell_run<W: Out, N: Out>(
     config: &Config,
     is_asked: bool,
@@ -103,16 +103,16 @@ fn tell_run<W: Out, N: Out>(
     }
 }
 
-/// What a run is checked for.
+/// The kind of run that a check covers.
 #[derive(Clone, Copy)]
 struct Run {
     /// Whether clients may ask meanwhile.
     is_asked: bool,
-    /// How many descriptors there may be, where that is told.
+    /// The limit of descriptors, if known.
     most: Option<u64>,
 }
 
-/// Writes what a run of a configuration takes, or tells what hinders it.
+/// Writes the resources of a configuration's run, or reports its obstacles.
 fn sum_up_or_tell<W: Out, N: Out>(
     alloc: Global,
     run: Run,
@@ -131,7 +131,7 @@ fn sum_up_or_tell<W: Out, N: Out>(
     }
 }
 
-/// Writes how much a configuration has, and for a run what it takes, or tells what hinders that.
+/// Writes the sum of a configuration, and for a run its resources, or reports its obstacles.
 fn sum_up_for<W: Out, N: Out>(
     alloc: Global,
     purpose: Purpose,

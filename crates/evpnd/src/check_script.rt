@@ -18,7 +18,7 @@ fn lines_word(count: u64) -> &'static [u8]
     if count == 1 { b" line\n" } else { b" lines\n" }
 }
 
-/// Writes how many lines there are, where each is a command.
+/// Writes the number of lines, if each is a command.
 #[tactic(auto, using(ether_wire::proofs::Appending::with_text_twice, ether_wire::proofs::Appending::with_text_none))]
 fn put_lines<W: Out>(are_good: bool, count: u64, out: &mut W) -> Result<(), Device>
     requires { IsOpen (W.end out.old) }
@@ -45,8 +45,8 @@ fn look<W: Out, N: Out>(name: &str, text: &str, out: &mut W, notes: &mut N) -> u
     status_of(has_failed, false, !found.are_good)
 }
 
-/// Looks at the script in the file at a path: each line that is no command is told, or how many
-/// lines there are.
+/// Checks the script in the file at a path: reports each invalid line, or writes the number of
+/// lines.
 pub(crate) fn check_script<F: Files, W: Out, N: Out>(
     files: &mut F,
     path: &str,

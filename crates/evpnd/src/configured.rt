@@ -1,4 +1,4 @@
-//! The configuration in a file, and what is told where there is none.
+//! The configuration in a file, and the message if there is none.
 ghost use Rattle.std.specs.Prelude.{◌++◌, IfOk};
 ghost use Rattle.ether_wire.specs.Ends.{End, Source, IsOpen, Puts};
 ghost use Rattle.ev_config.specs.Config.{ConfigOf, ServedOf};
@@ -72,7 +72,7 @@ fn tell_refusal<N: Out>(refused: Refused<'_>, refusal: &ConfigRefusal, notes: &m
     }
 }
 
-/// The configuration that a text spells, or the status where it spells none, which is told.
+/// Returns the configuration of a text, or the status if it has none, after a report.
 fn configured_by<N: Out>(
     alloc: Global,
     text: &str,
@@ -121,8 +121,8 @@ fn served_by<N: Out>(alloc: Global, text: &str, notes: &mut N) -> Result<Served,
 ///
 /// # Errors
 ///
-/// The status, where memory is refused, the file can't be read, which is told, or its text is no
-/// configuration, of which the first faulty key is told, and each fault in a line.
+/// The status, if memory is refused, if the file can't be read, or if its text is no configuration.
+/// The last two are reported, the latter by its first faulty key and a line for each fault.
 pub(crate) fn configured<F: Files, N: Out>(
     alloc: Global,
     files: &mut F,

@@ -1,4 +1,4 @@
-//! Where the texts of files come from.
+//! The texts of files.
 ghost use Rattle.std.specs.Prelude.{◌≡◌, ◌≢◌, None, IfOk, IfErr, string_bytes};
 ghost use Rattle.ether_wire.specs.Ends.{End, Source, IsOpen, Puts};
 ghost use Rattle.ev_report.specs.Ends.{devices};
@@ -21,7 +21,7 @@ pub(crate) enum Unread {
     Directory,
     /// It is a device, a pipe or a socket: it may have no end.
     Irregular,
-    /// What it holds isn't UTF-8.
+    /// Its content isn't UTF-8.
     NotText,
     /// Anything else.
     Broken,
@@ -47,8 +47,8 @@ pub(crate) enum FileFault {
 
 /// What gives the texts of files. It may be refused memory.
 pub(crate) trait Files {
-    /// The text of each file, where that is told, how often memory was refused, and how often a
-    /// file had no text.
+    /// The text of each file, if known, how often memory was refused, and how often a file had no
+    /// text.
     ghost shelf: { Self → Shelf };
 
     /// The text of the file at a path.
@@ -62,7 +62,7 @@ pub(crate) trait Files {
         ensures { GivesText (shelf self.old) (shelf self.new) path.now result };
 }
 
-/// The files of the system, which tell nothing of what they hold.
+/// The files of the system, whose content contracts don't know.
 #[derive(Drop)]
 pub(crate) struct SystemFiles<'a> {
     rt: &'a HostRuntime,
@@ -71,7 +71,7 @@ pub(crate) struct SystemFiles<'a> {
 }
 
 impl<'a> SystemFiles<'a> {
-    /// Files of which none was asked for yet.
+    /// Returns the files of the system, none of which was read yet.
     pub(crate) fn new(rt: &'a HostRuntime) -> Self
         ensures refusals { result.refusals ≡ 0 }
         ensures failures { result.failures ≡ 0 }
@@ -84,7 +84,7 @@ impl<'a> SystemFiles<'a> {
     }
 }
 
-/// What an error of the system says of a file.
+/// Returns the cause of an error of the system on a file.
 fn fault_of(kind: io::ErrorKind) -> FileFault {
     match kind {
         io::ErrorKind::OutOfMemory => FileFault::NoMemory,
@@ -175,7 +175,7 @@ pub(crate) fn put_unread<N: Out>(
     notes.put(why.reason())
 }
 
-/// The status of a file without a text, which is told.
+/// Returns the status of a file without a text, after a report.
 fn unread_status(told: Result<(), Device>) -> u8
     ensures { result ≡ 4 }
 {
@@ -188,7 +188,7 @@ fn unread_status(told: Result<(), Device>) -> u8
 ///
 /// # Errors
 ///
-/// The status, where memory is refused, or the file can't be read, which is told.
+/// The status, if memory is refused, or if the file can't be read, which is reported.
 pub(crate) fn text_at<F: Files, N: Out>(
     files: &mut F,
     named: Named,

@@ -24,7 +24,7 @@ use std::os::fd::AsFd;
 use std::process::ExitCode;
 use std::{fs, io};
 
-/// Gathers what the system gives, and runs the subcommand that the words name.
+/// Collects the system's resources and arguments, and runs the subcommand.
 fn main(rt: HostRuntime) -> ExitCode {
     let descriptors = Descriptors {
         closed: first_closed(&rt),
@@ -59,7 +59,8 @@ fn is_closed<S: AsFd>(stream: &S) -> bool {
     }
 }
 
-/// The first standard stream that is closed, if one is. What is opened later may have its number.
+/// Returns the first standard stream that is closed, if one is. A file that is opened later may get
+/// its number.
 fn first_closed(rt: &HostRuntime) -> Option<Stream> {
     if is_closed(&rt.stdin()) {
         return Some(Stream::Input);
@@ -73,14 +74,14 @@ fn first_closed(rt: &HostRuntime) -> Option<Stream> {
     None
 }
 
-/// How many descriptors there may be, as Linux tells it in `/proc/self/limits`.
+/// Returns the limit of descriptors, as Linux gives it in `/proc/self/limits`.
 fn most_descriptors(rt: &HostRuntime) -> Option<u64> {
     let limits = fs::read_to_string(rt, "/proc/self/limits").ok()?;
     let (_, line) = limits.as_str().split_once("Max open files")?;
     line.split_ascii_whitespace().next()?.parse::<u64>().ok()
 }
 
-/// What the system gives as words.
+/// The system's arguments.
 fn argv_of(rt: &HostRuntime) -> Argv {
     let words = match std::env::args(rt) {
         Ok(words) => words,

@@ -35,7 +35,7 @@ use std::sync::Wait;
 use std::thread::Threads;
 use std::time::Clock;
 
-/// What the system gives as words.
+/// The system's arguments.
 #[derive(Debug, Drop)]
 pub(crate) enum Argv {
     /// The words, of which the first is the program's name.
@@ -46,7 +46,7 @@ pub(crate) enum Argv {
     NoMemory,
 }
 
-/// Tells what is wrong with the words, in the words of `clap`.
+/// Reports the fault of the arguments, with the text of `clap`.
 fn tell_fault<P: Parser, N: Out>(parser: &mut P, error: &Error, notes: &mut N) -> u8
     requires parser { P.refusals parser.old + 1 < 2 ^ 64 }
     requires notes { IsOpen (N.end notes.old) }
@@ -77,7 +77,7 @@ fn check_on<F: Files, R: In, W: Out, N: Out>(
     (status, devices)
 }
 
-/// What a configuration is wanted for, by the aim of a check.
+/// Returns the purpose of a configuration, by the aim of a check.
 fn use_of(aim: Aim) -> Use
     ensures { result ≡ use_of aim }
 {
@@ -88,7 +88,7 @@ fn use_of(aim: Aim) -> Use
     }
 }
 
-/// What an invocation asks to be checked.
+/// Returns the subject of an invocation's check.
 fn wanted_of<'a>(descriptors: Descriptors, invocation: &Invocation<'a>) -> Wanted<'a>
     ensures path { result.path ≡ invocation.now.value }
     ensures script { result.script ≡ invocation.now.more }
@@ -104,8 +104,8 @@ fn wanted_of<'a>(descriptors: Descriptors, invocation: &Invocation<'a>) -> Wante
     }
 }
 
-/// Runs the edges that the file at a path configures, which may be asked meanwhile or not, where no
-/// standard stream was closed: a socket would have its number.
+/// Runs the edges of the configuration in the file at a path, with or without clients, if no
+/// standard stream was closed: a socket would get its number.
 fn run_open<
     H: Threads + Wait + Net + SocketFiles + Clock + Sync,
     F: Files,
@@ -131,7 +131,7 @@ fn run_open<
     }
 }
 
-/// Does what the words say.
+/// Executes an invocation.
 fn follow<
     H: Threads + Wait + Net + SocketFiles + Clock + Sync,
     F: Files,
@@ -176,7 +176,7 @@ fn follow<
     }
 }
 
-/// Does what the words say, and tells whether reading or writing failed.
+/// Executes an invocation, and reports whether reading or writing failed.
 fn follow_telling<
     H: Threads + Wait + Net + SocketFiles + Clock + Sync,
     F: Files,
@@ -231,13 +231,13 @@ fn run_words<
     }
 }
 
-/// A run of the program: it follows the invocation that the words are, or tells on the notes what
-/// is wrong with them. It takes the devices, and gives them back. Where reading or writing failed
-/// the notes say so at the end, if they didn't fail themselves.
+/// Runs the program: executes the invocation of its arguments, or reports their fault on the notes.
+/// It takes the devices and returns them. If reading or writing failed, the notes say so at the
+/// end, unless they failed themselves.
 ///
-/// The status is the greatest that applies: 4 where a device failed, 3 where memory was refused, 2
-/// where the words aren't the program's or ask for help, or a configuration is faulty, 1 where the
-/// input is broken, else 0. Where a standard stream is closed edges don't begin to run: 4.
+/// The status is the greatest that applies: 4 if a device failed, 3 if memory was refused, 2 if the
+/// arguments are invalid or ask for help, or a configuration is faulty, 1 if the input is broken,
+/// else 0. If a standard stream is closed, edges don't start: 4.
 pub(crate) fn run<
     H: Threads + Wait + Net + SocketFiles + Clock + Sync,
     P: Parser,

@@ -1,4 +1,4 @@
-//! The standard streams, and what is told of one that is closed when the program begins.
+//! The standard streams, and the message for one that is closed when the program begins.
 ghost use Rattle.std.specs.Prelude.{◌≡◌};
 ghost use Rattle.ether_wire.specs.Ends.{IsOpen, Puts};
 ghost use Rattle.ev_report.specs.Ends.{AreOpen};

@@ -8,31 +8,29 @@ use Rattle.ev_report.specs.Usage.{TellsUsage, OfList}
 use Rattle.ev_report.specs.Report.{Reports}
 use Rattle.ev_report.specs.Failures.{failures_of, TellsFailed}
 
--- what is told where the words aren't the program's name and one list
+-- the usage, if the arguments are not the program's name and one list
 abbrev pub usage : Text
 usage = codes "usage: evpnd_report LIST\n"
 
--- what is told where a word isn't UTF-8
+-- the message for an argument that is not UTF-8
 abbrev pub not_text : Text
 not_text = codes "error: a word isn't UTF-8\n"
 
--- the records are reported with the originators of the list, or it is told what is wrong with it; then, whether reading
--- or
+-- the records are reported with the originators of the list, or the list's fault is printed; then, whether reading or
 -- writing failed
 pub record ReportsTelling (list : Text) (before after : Devices) (status : ℕ) : Type 0 where
   pub mid : Devices
   pub reports : OfList Reports list before mid status
   pub told : TellsFailed (failures_of before) mid after
 
--- The records are reported with the originators of the list, or it is told what is wrong with the list or with the
--- words.
+-- The records are reported with the originators of the list, or the fault of the list or of the arguments is printed.
 abbrev pub ReportsWords : List Text → Devices → Devices → ℕ → Type 0
 ReportsWords [] before after status = TellsUsage usage before after status
 ReportsWords (name ∷ []) before after status = TellsUsage usage before after status
 ReportsWords (name ∷ list ∷ []) before after status = ReportsTelling list before after status
 ReportsWords (name ∷ list ∷ word ∷ words) before after status = TellsUsage usage before after status
 
--- A run, on what the system gives as words.
+-- A run, with the system's arguments.
 abbrev pub ReportsLine : Line → Devices → Devices → ℕ → Type 0
 ReportsLine NoMemory before after status = (after ≡ before) × (status ≡ 3)
 ReportsLine NotText before after status = TellsUsage not_text before after status

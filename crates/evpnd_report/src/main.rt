@@ -1,5 +1,5 @@
-//! `evpnd report` alone, as a program that stands on records and tables and nothing else: it is proved
-//! and built in a small part of the time that the whole program takes.
+//! A program with only `evpnd report`, which uses only records and tables: it is proved and built
+//! in a small part of the time of the whole program.
 //!
 //! `evpnd_report LIST < RECORDS`, LIST being the originators with commas.
 #![tactic(auto)]
@@ -12,7 +12,7 @@ use ev_report::Devices;
 use std::io;
 use std::process::ExitCode;
 
-/// Gathers what the system gives, and reports.
+/// Collects the system's devices and arguments, and reports.
 fn main(rt: HostRuntime) -> ExitCode {
     let line = line_of(&rt);
     let (stdout, stderr) = (rt.stdout(), rt.stderr());
@@ -25,7 +25,7 @@ fn main(rt: HostRuntime) -> ExitCode {
     ExitCode::from(status)
 }
 
-/// What the system gives as words.
+/// The arguments of the system.
 fn line_of(rt: &HostRuntime) -> Line {
     let words = match std::env::args(rt) {
         Ok(words) => words,

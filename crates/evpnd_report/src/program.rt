@@ -7,7 +7,7 @@ use ether_wire::{In, Out};
 use ev_report::{Devices, Failures, MEMORY, report_list, tell_failed, tell_words};
 use std::alloc::Global;
 
-/// What the system gives as words.
+/// The arguments of the system.
 #[derive(Debug, Drop)]
 pub(crate) enum Line {
     /// The words, of which the first is the program's name.
@@ -18,8 +18,7 @@ pub(crate) enum Line {
     NoMemory,
 }
 
-/// Reports the records of the originators that a list names, and tells whether reading or writing
-/// failed.
+/// Reports the records of the originators of a list, and prints whether reading or writing failed.
 fn report_telling<R: In, W: Out, N: Out>(
     alloc: Global,
     list: &str,
@@ -48,9 +47,9 @@ fn run_words<R: In, W: Out, N: Out>(
     }
 }
 
-/// A run of the program: it reports the records on its input, or tells on the notes what is wrong
-/// with its words. It takes the devices, and gives them back. Where reading or writing failed the
-/// notes say so at the end, if they didn't fail themselves.
+/// Runs the program: reports the records of its input, or prints the fault of its arguments on the
+/// notes. It takes the devices and returns them. If reading or writing failed, the notes say so at
+/// the end, unless they failed themselves.
 ///
 /// The status is the greatest that applies: 4 where a device failed, 3 where memory was refused, 2
 /// where the words aren't one list of originators, 1 where the input is broken, else 0.

@@ -1,4 +1,4 @@
--- what the calls owe, in the numbers that they read
+-- the proof obligations of the calls, in the numbers that they read
 use Rattle.std.proofs.Common.{suc, ℕ, ◌+◌, ◌-◌, ◌<◌, ◌≤◌, ◌≡◌, true, inl, inr, Option, Some, None, List, [], ◌∷◌, ◌++◌}
 use Rattle.std.proofs.Common.{length, map, replicate, cond, eqb, get_or, set, slice_get, sum, refl, ap, sym, ◌∙◌, subst}
 use Rattle.std.proofs.Common.{arith}
@@ -19,7 +19,7 @@ use Rattle.idx_links.proofs.Rings.{node_below, is_at-self, is_at-true, length-li
 use Rattle.idx_links.proofs.Rings.{more_links, length-more, grown_good, grown_lists, loop_of, loop_distinct, above}
 use Rattle.idx_links.proofs.Rings.{on_ring}
 
--- what a call finds: good places, seen as v, with the number of lists
+-- the state at the start of a call: good places, seen as v, with the number of lists
 pub record Found (next prev : List ℕ) (owner : List (Option ℕ)) (lens : List ℕ) (v : Links) (count : ℕ) : Type 0 where
   pub good : IsGood next prev owner lens
   pub seen : links_of next lens ≡ v
@@ -201,7 +201,7 @@ next_owes {next} {prev} {owner} {lens} {v} {count} found n f l nb on is =
     let cases = node_is good l place lb (or_right (eqb l place) (has xs place) there) in
     rw (found.count_is, f0) (λ low. sym (behind ∙ cases.0 low), λ high. sym (behind ∙ cases.1 high))
 
--- what the call for the next node owes, by place
+-- the proof obligation of the call for the next node, by place
 pub next_at_owes : {next prev : List ℕ} {owner : List (Option ℕ)} {lens : List ℕ} {v : Links} {count : ℕ}
     (found : Found next prev owner lens v count) (n f l i : ℕ) → n < v.nodes → slice_get (list_at v.lists l) i ≡ Some n
     → f ≡ get_or next (count + n) 0
@@ -295,7 +295,7 @@ no_more : (links : List ℕ) (places : ℕ) → places ≤ length links → more
 no_more links places h = (let none : places - length links ≡ 0 = omega arith in
     ap (λ k. links ++ range_with_len (length links) k) none ∙ append-nil links)
 
--- what growing keeps, and that there are so many nodes
+-- growing keeps these, and gives this number of nodes
 pub record IsGrown (nodes : ℕ) (v : Links) (next prev : List ℕ) (owner : List (Option ℕ)) (lens : List ℕ) : Type 0 where
   pub good : IsGood next prev owner lens
   pub lists : (links_of next lens).lists ≡ v.lists

@@ -51,7 +51,7 @@ pub none_seen : {X Y : Type 0} (f : X → Y) (xs : List X) (i j : ℕ) (a b now 
 none_seen f xs i j a b now then is same is' same' = unseen f (set xs i a) j b then is' same'
     ∙ unseen f xs i a now is same
 
--- ---- marks, of which the first n are the lengths of lists, and the others say which list a node is on
+-- ---- marks: the first n are the lengths of lists, the others give the list of a node
 
 length-owners : (n : ℕ) (marks : List ℕ) → n ≤ length marks → length (owners n marks) ≡ length marks
 length-owners n marks low =

@@ -18,7 +18,7 @@ use Rattle.idx_links.specs.Inner.Families.{AreStarts}
 use Rattle.idx_links.proofs.Paths.{has-at, has-append, has-left, has-map, without-map, without-absent, apart-map}
 use Rattle.idx_links.proofs.Paths.{at-map}
 
--- what a call finds: families side by side, seen as v
+-- the state at the start of a call: families side by side, seen as v
 pub record Shown (count nodes : ℕ) (starts : List ℕ) (links : Links) (v : Families) : Type 0 where
   pub good : IsFamily count nodes starts links
   pub seen : families_of count nodes starts links ≡ v
@@ -77,7 +77,7 @@ own_in {count} {nodes} {starts} {links} good k l m low h on =
     family_is good (m % count) k (start starts k + l) (mod-lt m some) low at.0 at.1 (omega arith)
     (list_within good k l low h).0
 
--- a family's node is told by its number and its family
+-- a family's node has a number and a family
 number_is : (count k n m : ℕ) → k < count → m % count ≡ k → m / count ≡ n → m ≡ n * count + k
 number_is count k n m low rest whole = sym (div-add-mod' m count) ∙ ap (λ d. d * count + m % count) whole
     ∙ ap (λ r. n * count + r) rest
@@ -268,7 +268,7 @@ pushed_families {count} {nodes} {starts} {links} {v} shown k l n lists' low h is
           ∙ sym (get_or-set_other old l i (list_at old l ++ n ∷ []) [] ne)
     ])
 
--- what is on the lists once a node is put at the end of one
+-- the content of the lists after a node is put at the end of one
 pushed_on : (lists : List (List ℕ)) (at m j x : ℕ) → at < length lists
     → has (list_at (set lists at (list_at lists at ++ m ∷ [])) j) x ≡ true
     → (has (list_at lists j) x ≡ true) ⊎ ((j ≡ at) × (m ≡ x))
@@ -371,7 +371,7 @@ unlinked_family {count} {nodes} {starts} {links} good m new nodes_is is =
       below = λ j x on. good.below j x (before j x on);
     }
 
--- ---- what the calls tell
+-- ---- the results of the calls
 
 pub front_tells : {count nodes : ℕ} {starts : List ℕ} {links : Links} {v : Families}
     (shown : Shown count nodes starts links v) (k l : ℕ) (r : Option ℕ) → k < count → l < length (lists_of v k)

@@ -18,7 +18,7 @@ has-at [] i n h = cc
 has-at (x ∷ xs) zero n h = (let e : x ≡ n = cc in rw (eq-eqb x n e) refl)
 has-at (x ∷ xs) (suc i) n h = or_right (eqb x n) (has xs n) (has-at xs i n h)
 
--- by place: what follows place i stands at place i + 1
+-- by place: the successor of place i is at place i + 1
 pub after-at : (xs : List ℕ) (i n : ℕ) → Apart xs → slice_get xs i ≡ Some n → after xs n ≡ slice_get xs (suc i)
 after-at [] i n h is = refl
 after-at (x ∷ xs) zero n h is = (let e : x ≡ n = cc in rw (eq-eqb x n e) refl)
@@ -26,7 +26,7 @@ after-at (x ∷ xs) (suc i) n h is =
     let x_n : x ≢ n = λ e. false≢true (sym h.0 ∙ ap (has xs) e ∙ has-at xs i n is) in
     rw (ne_eqb x n x_n) (after-at xs i n h.1 is)
 
--- a list's numbers, each changed, where only m becomes n
+-- a list's numbers, each changed, if only m becomes n
 
 pub has-map : (f : ℕ → ℕ) (xs : List ℕ) (n m : ℕ) → f m ≡ n → ((x : ℕ) → has xs x ≡ true → f x ≡ n → x ≡ m)
     → has (map f xs) n ≡ has xs m
@@ -60,7 +60,7 @@ apart-map f (x ∷ xs) one h =
       apart-map f xs (λ y z ey ez s. one y z (later y ey) (later z ez) s) h.1,
     )
 
--- what stands at a place came from what stood there
+-- the value at a place came from the old value there
 pub at-map : (f : ℕ → ℕ) (xs : List ℕ) (i n : ℕ) → slice_get (map f xs) i ≡ Some n
     → (m : ℕ) × (slice_get xs i ≡ Some m) × (f m ≡ n)
 at-map f [] i n h = cc
@@ -182,7 +182,7 @@ path_without f g a (x ∷ xs) b p n h on apart before past same =
           )
     ]
 
--- a place on a path is not its own next, where the path ends elsewhere
+-- a place on a path is not its own successor if the path ends elsewhere
 pub moves_on : (f : ℕ → ℕ) (a : ℕ) (xs : List ℕ) (b n : ℕ) → Path f a xs b → has xs n ≡ true → has xs b ≡ false
     → Apart xs → f n ≢ n
 moves_on f a [] b n h on out apart stuck = false≢true on
@@ -210,7 +210,7 @@ pub without-minus : (c : ℕ) (xs : List ℕ) (n : ℕ) → ((x : ℕ) → has x
 without-minus c xs n h = without-map (λ x. x - c) xs n (c + n) (omega arith)
     (λ x e s. (let low : c ≤ x = h x e in omega (arith, s)))
 
--- what is left was there
+-- the remaining ones were there before
 pub has-left : (xs : List ℕ) (n y : ℕ) → has (without n xs) y ≡ true → has xs y ≡ true
 has-left [] n y h = h
 has-left (x ∷ xs) n y h =

@@ -35,7 +35,7 @@ pub is_at-true : (o : Option ℕ) (l : ℕ) → is_at o l ≡ true → o ≡ Som
 is_at-true None l h = absurd (false≢true h)
 is_at-true (Some k) l h = ap Some (eqb-true k l h)
 
--- what is owned is a place
+-- an owned node is a place
 pub owned_below : (owner : List (Option ℕ)) (x l : ℕ) → is_at (get_or owner x None) l ≡ true → x < length owner
 owned_below owner x l h = elim (cases_lt x (length owner)) [
   | inl s ↦ s
@@ -263,7 +263,7 @@ pushed_ring {next} {prev} {owner} {lens} good l n t new is_t =
     (λ x. has-append xs (n ∷ []) x ∙ pushed_owner owner l n (has xs x) x (rw good.owners new.low) new.free
     (ring.owned x))
 
--- the rings that a change of links and owner leaves alone
+-- the rings that a change of links and owner does not touch
 kept_ring : {next prev : List ℕ} {owner : List (Option ℕ)} {lens : List ℕ} (good : IsGood next prev owner lens) (k : ℕ)
     (next' : List ℕ) (owner' : List (Option ℕ)) (lens' : List ℕ)
     → k < length lens
@@ -626,7 +626,7 @@ unlinked_lists {next} {prev} {owner} {lens} good l p n q it =
           ∙ ne_eqb l k (λ s. k_l (sym s)))) ∙ sym there
     ])
 
--- ---- what the conditions of the calls give
+-- ---- consequences of the conditions of the calls
 
 pub free_place : {next prev : List ℕ} {owner : List (Option ℕ)} {lens : List ℕ} (good : IsGood next prev owner lens)
     (n : ℕ) → IsFree (links_of next lens).lists n → get_or owner (length lens + n) None ≡ None

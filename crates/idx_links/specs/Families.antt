@@ -16,10 +16,10 @@ lists_of f k = slice_index_or f.families k []
 abbrev pub AreNodes : Families → ℕ → Type 0
 AreNodes f k = (l n : ℕ) → has (list_at (lists_of f k) l) n ≡ true → n < f.nodes
 
--- ---- how the families stand side by side in one set of lists: the lists of one behind those of another,
--- and node n of the k-th of so many families as node n * families + k
+-- ---- the families side by side in one set of lists: the lists of a family come after those of the families before it,
+-- and node n of the k-th family is node n * families + k
 
--- where a family's lists start
+-- the first list of a family
 abbrev pub start : List ℕ → ℕ → ℕ
 start starts k = slice_index_or starts k 0
 
@@ -36,7 +36,7 @@ families_of families nodes starts links = record {
   families = map (family_in families starts links.lists) (range_with_len 0 families);
 }
 
--- so many families with places for so many nodes each; on a family's lists are only its own nodes, each below their
+-- families with places for the same number of nodes each; a family's lists have only its own nodes, each below their
 -- number
 pub record IsFamily (families nodes : ℕ) (starts : List ℕ) (links : Links) : Type 0 where
   pub counted : length starts ≡ families + 1

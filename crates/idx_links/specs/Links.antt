@@ -23,7 +23,7 @@ list_at lists l = slice_index_or lists l []
 abbrev pub IsFree : List (List ℕ) → ℕ → Type 0
 IsFree lists n = (l : ℕ) → has (list_at lists l) n ≡ false
 
--- no node stands twice
+-- no node occurs twice
 abbrev pub Apart : List ℕ → Type 0
 Apart [] = Unit {0}
 Apart (x ∷ xs) = (has xs x ≡ false) × Apart xs

@@ -10,14 +10,13 @@ use std::marker::Model;
 
 /// `K` independent families of doubly linked lists over one arena of nodes.
 ///
-/// A node is a number below the arena's size. In each family it is on one list at most,
-/// and on which one says nothing about the other families. Families, and the lists of a
-/// family, are numbered from 0. Only `new` and `grow` take memory; every other call does a
-/// constant number of steps.
+/// A node is a number below the arena's size. In each family it is on at most one list, and the
+/// families are independent. Families, and the lists of a family, are numbered from 0. Only `new`
+/// and `grow` take memory; every other call takes a constant number of steps.
 #[derive(Drop)]
 pub struct Family<const K: usize> {
     nodes: usize,
-    // Where each family's lists start among the lists of all, and where the last one's end.
+    // The first list of each family among all lists, and the end of the last family.
     starts: Vec<usize>,
     // All lists. A node has a number for each family, which stand side by side.
     linked: LinkedLists,
@@ -35,8 +34,8 @@ impl<const K: usize> Model for Family<K> {
 }
 
 impl<const K: usize> Family<K> {
-    /// Empty lists, so many in each family, over nodes that are on none of them. Refused where the
-    /// lists and the nodes of all families are too many for numbers of 32 bits, too.
+    /// Returns families with empty lists over nodes that are on none of them. Also refused if the
+    /// lists and nodes of all families do not fit into numbers of 32 bits.
     pub fn new(alloc: Global, lists: [usize; K], nodes: usize) -> Result<Self, AllocError>
         ensures nodes { IfOk result (λ f. f.nodes ≡ nodes) }
         ensures lists { IfOk result
@@ -55,8 +54,8 @@ impl<const K: usize> Family<K> {
         })
     }
 
-    /// Adds nodes, which are on no list. Where memory is refused, or the lists and the nodes of all
-    /// families are too many for numbers of 32 bits, all stays as it was. To add none is never
+    /// Adds nodes, which are on no list. If memory is refused, or the lists and nodes of all
+    /// families do not fit into numbers of 32 bits, nothing changes. Adding no node is never
     /// refused.
     pub fn grow(&mut self, more: usize) -> Result<(), AllocError>
         ensures none { more ≡ 0 → IsOk result }
@@ -94,7 +93,7 @@ impl<const K: usize> Family<K> {
         Some(first / K)
     }
 
-    /// The node that stands behind the node on its list of the family.
+    /// Returns the node after this node on its list of the family.
     pub fn next(&self, family: usize, node: usize) -> Option<usize>
         requires family { family < K }
         requires node { node < self.now.nodes }
@@ -106,8 +105,8 @@ impl<const K: usize> Family<K> {
         Some(next / K)
     }
 
-    /// How many nodes the list has. No node stands on a list twice, and each that stands on one is
-    /// below the number of nodes.
+    /// Returns the number of nodes on the list. No node is on a list twice, and each node of a list
+    /// is below the number of nodes.
     pub fn len(&self, family: usize, list: usize) -> usize
         requires family { family < K }
         requires list { list < length (lists_of self.now family) }
@@ -161,7 +160,7 @@ impl<const K: usize> Family<K> {
     }
 }
 
-/// Where each family's lists start, if they have so many, and where the last one's end.
+/// Returns the first list of each family, and the end of the last one.
 fn starts_of(alloc: Global, counts: &Vec<usize>) -> Result<Vec<usize>, AllocError>
     ensures { IfOk result (λ v. AreStarts counts.now.items v.items) }
 {

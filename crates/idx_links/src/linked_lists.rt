@@ -118,8 +118,8 @@ impl LinkedLists {
         self.places.leave(list, place);
     }
 
-    /// Gives the lists so many nodes at least. A new node is on no list. Refused where lists and
-    /// nodes are too many for numbers of 32 bits, too.
+    /// Grows the lists to at least this number of nodes. A new node is on no list. Also refused if
+    /// lists and nodes do not fit into numbers of 32 bits.
     pub(crate) fn grow(&mut self, nodes: usize) -> Result<(), AllocError>
         ensures lists { self.new.lists ≡ self.old.lists }
         ensures kept { self.old.nodes ≤ self.new.nodes }

@@ -9,9 +9,9 @@ use std::marker::Model;
 // Places are fewer than this, so that their numbers and the lists' lengths have 32 bits.
 const LIMIT: usize = 0xffff_ffff;
 
-// What is known of one place. 12 octets, so that a node's three places in `mac_arena` have
-// 36, on one or two cache lines of 64: the fewer octets a large table has, the more of it
-// stays in the caches.
+// The data of one place. It has 12 octets, so that a node's three places in `mac_arena` have 36, on
+// one or two cache lines of 64: the fewer octets a large table has, the more of it stays in the
+// caches.
 #[derive(Clone, Copy)]
 struct Link {
     next: u32,
@@ -70,7 +70,7 @@ impl Places {
         self.lists
     }
 
-    /// Where the place leads.
+    /// Returns the next place.
     pub(crate) fn next(&self, place: usize) -> usize
         requires { place < length self.now.next }
         ensures { result ≡ slice_index_or self.now.next place 0 }
@@ -78,7 +78,7 @@ impl Places {
         self.links[place].next as usize
     }
 
-    /// Where the place leads back.
+    /// Returns the previous place.
     pub(crate) fn prev(&self, place: usize) -> usize
         requires { place < length self.now.next }
         ensures { result ≡ slice_index_or self.now.prev place 0 }
@@ -154,8 +154,8 @@ impl Places {
         self.links[list].mark -= 1;
     }
 
-    /// Makes so many places, unless there are as many. A new one leads to itself, and is on no
-    /// list. Refused where they are too many for 32 bits, too.
+    /// Grows to this number of places. A new place leads to itself and is on no list. Also refused
+    /// if the number does not fit into 32 bits.
     pub(crate) fn grow(&mut self, places: usize) -> Result<(), AllocError>
         ensures next { OnOk result
             (self.new.next ≡ self.old.next ++ range_with_len (length self.old.next)
@@ -181,7 +181,7 @@ impl Places {
     }
 }
 
-/// Up to so many places, each new one alone.
+/// Grows up to this number of places; each new one leads to itself.
 fn add_lone(links: &mut Vec<Link>, places: usize)
     requires more { vec_len links.old ≤ places }
     requires room { places ≤ vec_capacity links.old }

@@ -8,7 +8,7 @@ use std::test::Fail;
 
 const LISTS: usize = 3;
 
-// Two families of three lists, asked only about what is there.
+// Two families of three lists, queried only for existing nodes.
 #[derive(Drop)]
 struct Lists {
     links: Family<2>,
@@ -34,7 +34,7 @@ impl Lists {
         Ok(())
     }
 
-    // False where there is no such list or node, or the node is on a list of the family.
+    // Returns false if there is no such list or node, or if the node is on a list of the family.
     fn push_back(&mut self, family: usize, list: usize, node: usize) -> bool {
         if family >= 2 || list >= LISTS || node >= self.nodes {
             return false;
@@ -128,7 +128,7 @@ fn calls_succeed_while_growth_is_refused(rt: HostRuntime) -> Result<(), Fail> {
     Ok(())
 }
 
-// Run with each allocation refused in turn: what is refused leaves the lists as they were.
+// Run with each allocation refused in turn: a refused call leaves the lists unchanged.
 #[test]
 fn lists_stay_where_memory_is_refused(rt: HostRuntime) -> Result<(), Fail> {
     let mut lists = made(rt.alloc(), 2).ok_or("no lists")?;

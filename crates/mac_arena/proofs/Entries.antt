@@ -53,7 +53,7 @@ same_or_other a b = go (is_same a b) refl
     go true e = inl (same_true a b e)
     go false e = inr (λ s. false≢true (sym e ∙ eq_same a b s))
 
--- what the derived test of two stations says where it fails
+-- the derived test of two stations if it fails
 pub differs : (a b : Station) → false ≡ (eqb a.vni b.vni && eqb a.mac b.mac) → a ≢ b
 differs a b h e = false≢true (h ∙ (λ i. eqb (e i).vni b.vni && eqb (e i).mac b.mac)
     ∙ rw (eq-eqb b.vni b.vni refl, eq-eqb b.mac b.mac refl) refl)
@@ -75,7 +75,7 @@ gone_here m s = get-remove station_total m s s ∙ ap (λ b. cond b None (get m 
 pub gone_there : (m : Map) (s q : Station) → q ≢ s → get (remove m s) q ≡ get m q
 gone_there m s q ne = get-remove station_total m s q ∙ ap (λ b. cond b None (get m q)) (ne_same q s ne)
 
--- what is set twice is what was set last
+-- a key that is set twice has the last value
 pub insert_twice : (m : Map) (s : Station) (a b : Entry) → insert (insert m s a) s b ≡ insert m s b
 insert_twice m s a b = same_map station_total station_exact (insert (insert m s a) s b) (insert m s b) (λ q.
     elim (same_or_other q s) [

@@ -156,7 +156,7 @@ unpinned_stays t s (x ∷ xs) h =
     let rest = unpinned_stays t s xs (apart_rest x xs s h) in
     λ i. cond (is_pinned (same_after t s x (apart_first x xs s h) i)) (rest i) (x ∷ rest i)
 
--- the station is known, from what a list says of it
+-- the station is known, by its place on a list
 known_by : (test : Option Entry → Bool) (t : Learning) (s : Station) → test None ≡ false → test (entry_at t s) ≡ true
     → (e : Entry) × (entry_at t s ≡ Some e)
 known_by test t s none h = go (entry_at t s) refl

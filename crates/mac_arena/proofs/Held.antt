@@ -1,4 +1,4 @@
--- Each change of a table whose lists name its stations gives such a table.
+-- Each change of a table whose lists name its stations gives a table whose lists name its stations.
 use Rattle.std.proofs.Common.{ℕ, ◌-◌, ◌<◌, ◌≡◌, inl, inr, Bool, true, false, cond, eqb, Option, Some, None, length}
 use Rattle.std.proofs.Common.{refl, ap, sym, ◌∙◌, subst, arith}
 use Rattle.std.specs.Prelude.{slice_get, IsSome}
@@ -147,7 +147,7 @@ gone_held v s e h is =
     subst IsHeld (held_goes v s e is) (dropped_held (held v s e.port) s (pinned_at e.port) (held_held v s e h is)
     (get_here v.entries s (pinned_at e.port)) refl)
 
--- ---- what the lists name afterwards
+-- ---- the stations on the lists afterwards
 
 named_by : {v : Learning} → IsHeld v → ListsName v
 named_by h = lists_named h.found

@@ -1,4 +1,4 @@
--- What the changes of a table do to its entries, and that no list is longer than they are many.
+-- The effect of changes on a table's entries; no list is longer than the number of entries.
 use Rattle.std.proofs.Common.{ℕ, ◌+◌, ◌≤◌, ◌≡◌, ◌≢◌, inl, inr, Bool, true, false, cond, eqb, ◌&&◌, Option, Some, None}
 use Rattle.std.proofs.Common.{List, [], ◌∷◌, length, refl, ap, sym, ◌∙◌, arith}
 use Rattle.std.specs.Prelude.{is_some, ◌||◌}

@@ -42,7 +42,7 @@ once f (x ∷ xs) apart only = (
   once f xs apart.1 (λ n on m on'. only n (or_right (eqb x n) (has xs n) on) m (or_right (eqb x m) (has xs m) on')),
 )
 
--- a station that stands on the list of stations is that of a node on the list
+-- a station on the list of stations belongs to a node on the list of nodes
 from_stands : (f : ℕ → Station) (xs : List ℕ) (s : Station) → stands (map f xs) s ≡ true
     → (m : ℕ) × (has xs m ≡ true) × (f m ≡ s)
 from_stands f [] s on = absurd (false≢true on)
@@ -55,7 +55,7 @@ module _ {o : Orders} {slots : Slots} {count buckets salt : ℕ} (t : IsTable o 
   abbrev seen_as : Learning
   seen_as = learning_of o slots salt
 
-  -- who stands on a list, by the slot of the station's node
+  -- the station on a list, by the slot of its node
   listed : (F : Option Learned → Bool) (xs : List ℕ) → F None ≡ false → ((m : ℕ) → has xs m ≡ F (slot_at slots m))
       → ((m : ℕ) → has xs m ≡ true → (y : Learned) × (slot_at slots m ≡ Some y))
       → (G : Option Entry → Station → Bool) → ((s : Station) → G None s ≡ false)

@@ -70,7 +70,7 @@ found_place : (places : List (Option Station)) (n : ℕ) (s : Station) → slice
 found_place [] n s is = cc
 found_place (p ∷ places) n s is = place_pick p places s n (is_at p s) refl is (λ m. found_place places m s)
 
--- whoever stands at a place, on a list
+-- the station at a place on a list
 abbrev on_list : List Station → Option Station → Bool
 on_list xs None = false
 on_list xs (Some s) = stands xs s
@@ -79,7 +79,7 @@ module _ (v : Learning) (named : ListsName v) where
   slot_is : (n : ℕ) → slot_at (slots_of v) n ≡ option_map (learned_as v) (place_at v n)
   slot_is n = get_or-map_same (option_map (learned_as v)) v.places n None
 
-  -- a known station stands at its node
+  -- a known station is at its node
   known_place : (s : Station) → is_some (entry_at v s) ≡ true → place_at v (node v s) ≡ Some s
   known_place s some = go (entry_at v s) refl some
     where
@@ -131,7 +131,7 @@ module _ (v : Learning) (named : ListsName v) where
     nodes_apart xs (later x xs h) once.1,
   )
 
-  -- ---- what each list names
+  -- ---- the content of each list
 
   on_chain : (b : ℕ) → AllKnown (stations_at v.chains b)
   on_chain b s on = go (is_some (entry_at v s)) (sym (named.chains b s) ∙ on)
@@ -154,7 +154,7 @@ module _ (v : Learning) (named : ListsName v) where
       go None h = h
       go (Some e) h = refl
 
-  -- what is said of a node is said of the entry of whoever stands there
+  -- a statement about a node holds for the entry of its station
   said : (F : Option Learned → Bool) (G : Station → Option Entry → Bool) (xs : List Station) → F None ≡ false
       → ((s : Station) (e : Entry) → F (Some (record { station = s; entry = e })) ≡ G s (Some e))
       → ((s : Station) → stands xs s ≡ G s (entry_at v s)) → (n : ℕ)

@@ -1,4 +1,4 @@
--- lists of nodes, and what they say, after one node changes
+-- lists of nodes and their content after one node changes
 use Rattle.std.proofs.Common.{ℕ, zero, suc, ◌+◌, ◌<◌, ◌≤◌, ◌≡◌, ◌≢◌, inl, inr, Bool, true, false, cond, eqb, ◌||◌, ◌&&◌}
 use Rattle.std.proofs.Common.{Option, Some, None, List, [], ◌∷◌, ◌++◌, length, set, map, drop, slice_get, refl, ap, sym}
 use Rattle.std.proofs.Common.{◌∙◌, subst, arith}
@@ -213,7 +213,7 @@ pub lists_kept : (slots : Slots) (lists : List (List ℕ)) (n : ℕ) (v : Option
 lists_kept slots lists n v off = maps_same (station_in (set slots n v)) (station_in slots) lists
     (λ k m on. station_there slots n m v (off_node (list_at lists k) n m (off k) on))
 
--- or each does, where the node keeps its station
+-- or each does, if the node keeps its station
 same_station : (slots : Slots) (n : ℕ) (a x : Learned) → slot_at slots n ≡ Some a → x.station ≡ a.station → (m : ℕ)
     → station_in (set slots n (Some x)) m ≡ station_in slots m
 same_station slots n a x is same m = elim (cases_eq m n) [
@@ -293,7 +293,7 @@ pub first_out : (xs : List ℕ) (n : ℕ) → slice_get xs 0 ≡ Some n
 first_out [] n e = absurd (let s : None ≡ Some n = e in cc)
 first_out (x ∷ xs) n e = (let is : x ≡ n = cc in (is, rw (eq-eqb x n is) refl, rw (eq-eqb x n is) refl))
 
--- ---- alone
+-- ---- lists of one element
 
 pub alone_new : (slots : Slots) (n : ℕ) (x : Learned) → n < length slots → AreAlone slots
     → ((m : ℕ) → m ≢ n → IsOff (slot_at slots m) x.station) → AreAlone (set slots n (Some x))

@@ -36,7 +36,7 @@ use Rattle.mac_arena.proofs.Steps.{lists_kept, list_same, lists_same, lists_join
 use Rattle.mac_arena.proofs.Steps.{IsOnly, places_of, places_set, place_alone, first_out, alone_new, alone_same}
 use Rattle.mac_arena.proofs.Steps.{alone_less, count_set}
 
--- ---- what a node's slot says
+-- ---- the content of a node's slot
 
 pub slot_seen : (o : Orders) (slots : Slots) (salt : ℕ) → AreAlone slots → (n : ℕ)
     → learned_at (learning_of o slots salt) n ≡ slot_at slots n
@@ -73,7 +73,7 @@ below n m e = grind (arith, nat_tests)
 is_below : (n m : ℕ) → n < m → nat_lt n m ≡ true
 is_below n m h = grind (arith, nat_tests)
 
--- a free node is a place with nobody
+-- a free node is an empty place
 pub free_slot : {o : Orders} {slots : Slots} {count buckets salt : ℕ} → IsTable o slots count buckets salt → (n : ℕ)
     → has o.free n ≡ true → (n < length slots) × (slot_at slots n ≡ None)
 free_slot {o} {slots} t n on = (let both = both_true (nat_lt n (length slots)) (is_none (slot_at slots n))
@@ -800,7 +800,7 @@ new_seen capacity ports buckets salt =
       salt = salt;
     }
 
--- ---- what a call finds: a table of nodes, seen as v
+-- ---- the state at the start of a call: a table of nodes, seen as v
 
 pub record Found (o : Orders) (slots : Slots) (count buckets salt : ℕ) (v : Learning) : Type 0 where
   pub table : IsTable o slots count buckets salt
@@ -849,7 +849,7 @@ module _ {o : Orders} {slots : Slots} {count buckets salt : ℕ} {v : Learning}
         found.table.based n x (slot_of n x at) in omega arith),
   )
 
--- what stands at a node that was written
+-- the content of a node that was written
 pub at_new : {o : Orders} (slots : Slots) {count buckets salt : ℕ} (n : ℕ) (x : Learned) → n < length slots
     → IsTable o (set slots n (Some x)) count buckets salt
     → learned_at (learning_of o (set slots n (Some x)) salt) n ≡ Some x
@@ -952,7 +952,7 @@ not_there {o} {slots} {count} {buckets} {salt} {v} found s i passed past = ap (�
         let low = place.1 in
         passed place.0 at.0 (omega (arith, low, past)) place.2 x at.1 refl)
 
--- the first unpinned station of a list is that of the rest, where those before are pinned
+-- the first unpinned station of a list is that of the rest, if those before it are pinned
 pub unpinned_step : {o : Orders} {slots : Slots} {count buckets salt : ℕ} {v : Learning}
     (found : Found o slots count buckets salt v) (xs : List ℕ) (i n : ℕ) (x : Learned) → slice_get xs i ≡ Some n
     → slot_at slots n ≡ Some x
@@ -996,7 +996,7 @@ pub first_free_cases : {o : Orders} {slots : Slots} {count buckets salt : ℕ} {
 first_free_cases found None is = (tt, no_room found (sym is))
 first_free_cases found (Some n) is = (is_room found n (sym is), tt)
 
--- a node on a chain, or on a port's list, with what stands there
+-- a node on a chain, or on a port's list, with its station
 module _ {o : Orders} {slots : Slots} {count buckets salt : ℕ} {v : Learning}
     (found : Found o slots count buckets salt v) (l i n : ℕ) where
   pub at_chain : slice_get (list_at o.chains l) i ≡ Some n
@@ -1015,7 +1015,7 @@ module _ {o : Orders} {slots : Slots} {count buckets salt : ℕ} {v : Learning}
       let low = slot_below slots n r.0 r.1 in
       (r.0, r.1, low, rw found.table.nodes low, (l, on))
 
--- what was read at a node
+-- the station read at a node
 pub read_slot : (slots : Slots) (n : ℕ) (v : Option Learned) → n < length slots → v ≡ get_or slots n v
     → v ≡ slot_at slots n
 read_slot slots n v h is = is ∙ get_or_default slots n v None h

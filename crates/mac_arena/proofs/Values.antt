@@ -22,7 +22,7 @@ use Rattle.mac_arena.specs.Learning.{after_removal_at}
 use Rattle.mac_arena.proofs.Entries.{same_or_other, get_here, get_there, gone_here, gone_there, insert_twice}
 use Rattle.mac_arena.proofs.Entries.{insert_same, remove_inserted}
 
--- who stands at a place is in the table
+-- a station at a place is in the table
 learned_known : (t : Learning) (p : Option Station) (x : Learned) → learned_of t p ≡ Some x
     → entry_at t x.station ≡ Some x.entry
 learned_known t None x e = absurd (let bad : None ≡ Some x = e in cc)
@@ -206,7 +206,7 @@ held_goes t s e known =
     })
     ∙ ap (after_removal_at t s) (sym known)
 
--- ---- what each call keeps, for its callers
+-- ---- the invariants that each call keeps, for its callers
 
 latest_less : (t t' : Learning) (s : Station) (second : ℕ) → IsLatest t second → t'.entries ≡ remove t.entries s
     → IsLatest t' second

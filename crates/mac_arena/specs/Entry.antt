@@ -1,4 +1,4 @@
--- What is known of a station.
+-- The entry of a station.
 use Rattle.std.specs.Prelude.{ℕ, true, false}
 use Rattle.mac_arena.specs.declared.station.Entry.{Entry}
 

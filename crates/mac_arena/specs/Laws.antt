@@ -1,5 +1,5 @@
--- What the changes of a table do to the entries and to how many there are, and whom ageing and the flush of a port
--- take.
+-- The effect of the changes of a table on its entries and their number, and the stations that ageing and the flush of a
+-- port remove.
 use Rattle.std.specs.Prelude.{◌≡◌, ◌≢◌, ℕ, ◌≤◌, Bool, false, Option, Some, None, IsSome, is_some, List, [], ◌∷◌, length}
 use Rattle.std.specs.Prelude.{nat_le, if◌then◌else◌}
 use Rattle.std.specs.FinMap.{len}
@@ -26,7 +26,7 @@ entry_learnt old port second Refreshed = Some (heard_at port second)
 entry_learnt old port second Pinned = old
 entry_learnt old port second Full = old
 
--- the entry of a station that was pinned on the port; a full table pins nobody new
+-- the entry of a station that was pinned on the port; a full table pins no new station
 abbrev pub entry_pinned : Learning → Station → ℕ → Option Entry
 entry_pinned t s port = if can_pin t s then Some (pinned_at port) else None
 

@@ -1,4 +1,4 @@
--- The learning table as callers see it (IEEE 802.1D-2004, 7.8 and 7.9), and what each call does to it.
+-- The learning table as callers see it (IEEE 802.1D-2004, 7.8 and 7.9), and the effect of each call.
 use Rattle.std.specs.Prelude.{ℕ, suc, ◌≤◌, ◌≡◌, ◌==◌, Bool, true, false, Option, Some, None, List, [], ◌∷◌, ◌++◌}
 use Rattle.std.specs.Prelude.{length, map, drop, replicate, slice_set, slice_index, slice_index_or, if◌then◌else◌}
 use Rattle.std.specs.Prelude.{is_some}
@@ -14,9 +14,9 @@ use Rattle.mac_arena.specs.declared.table.Learnt.TheVariants.{New, Moved, Refres
 use Rattle.mac_arena.specs.Station.{station_cmp, is_same, bucket_of}
 use Rattle.mac_arena.specs.Entry.{pinned_at, heard_at}
 
--- What is known of each station; the unpinned stations in the order in which they were last heard; the stations of
--- each port, port 1 first, in the order in which they came to it; the stations of each bucket; and the nodes: which
--- station stands at each, and the free ones, with the next one to be taken first.
+-- The entry of each station; the unpinned stations in the order of their last frames; the stations of each port, port 1
+-- first, in the order in which they came to it; the stations of each bucket; and the nodes: the station at each node,
+-- and the free nodes, with the next one to be taken first.
 pub record Learning : Type 0 where
   pub entries : FinMap station_cmp Entry
   pub ageing : List Station
@@ -43,7 +43,7 @@ abbrev pub learned_of : Learning → Option Station → Option Learned
 learned_of t None = None
 learned_of t (Some s) = option_map (λ e. record { station = s; entry = e }) (entry_at t s)
 
--- who stands at a place, with what is known of it
+-- the station at a place, with its entry
 abbrev pub learned_at : Learning → ℕ → Option Learned
 learned_at t n = learned_of t (slice_index_or t.places n None)
 
@@ -111,7 +111,7 @@ abbrev pub answer_of : Option Entry → Bool → ℕ → Learnt
 answer_of None full port = if full then Full else New
 answer_of (Some e) full port = if e.pinned then Pinned else (if e.port == port then Refreshed else Moved)
 
--- the answer: pinned and full tables are left alone
+-- the answer: a pinned station or a full table stays unchanged
 abbrev pub learnt_of : Learning → Station → ℕ → Learnt
 learnt_of t s port = answer_of (entry_at t s) (is_full t) port
 

@@ -7,12 +7,12 @@ use Rattle.mac_arena.specs.declared.station.Entry.{Entry}
 use Rattle.mac_arena.specs.Station.{is_same}
 use Rattle.mac_arena.specs.Learning.{Learning, entry_at, bucket_in, stations_at}
 
--- does the station stand on the list
+-- true if the station is on the list
 abbrev pub stands : List Station → Station → Bool
 stands [] s = false
 stands (x ∷ xs) s = is_same x s || stands xs s
 
--- no station stands on the list twice
+-- no station is on the list twice
 abbrev pub AreOnce : List Station → Type 0
 AreOnce [] = Unit {0}
 AreOnce (x ∷ xs) = (stands xs x ≡ false) × AreOnce xs
@@ -34,9 +34,9 @@ abbrev pub Rises : Learning → List Station → Type 0
 Rises t [] = Unit {0}
 Rises t (x ∷ xs) = ((s : Station) → stands xs s ≡ true → last_at (entry_at t x) ≤ last_at (entry_at t s)) × Rises t xs
 
--- Bucket b's chain holds exactly the stations whose bucket is b; port p's list, at place p - 1, exactly those behind p;
--- the ageing list exactly the unpinned ones, with last seconds that never fall; each once. Each station stands at one
--- node, and every other node is free, once.
+-- Bucket b's chain holds exactly the stations with bucket b; port p's list, at place p - 1, exactly those at port p;
+-- the ageing list exactly the unpinned ones, with last seconds that never fall; each once. Each station is at one node,
+-- and every other node is free, once.
 pub record ListsName (t : Learning) : Type 0 where
   pub chains : (b : ℕ) (s : Station) → stands (stations_at t.chains b) s
       ≡ (is_some (entry_at t s) && (bucket_in t s == b))

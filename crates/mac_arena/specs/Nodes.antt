@@ -1,4 +1,4 @@
--- What the nodes hold, and that each stands where its station belongs.
+-- The content of the nodes: each is on the lists to which its station belongs.
 use Rattle.std.specs.Prelude.{ℕ, ◌+◌, ◌<◌, ◌≤◌, ◌≡◌, ◌==◌, ◌&&◌, Bool, true, false, not, Option, Some, None, List, []}
 use Rattle.std.specs.Prelude.{◌∷◌, length, map, nat_lt, slice_index_or, is_some, is_none, count_by}
 use Rattle.std.specs.Option.{option_map}

@@ -16,6 +16,6 @@ is_same a b = eq_by_cmp station_cmp a b
 abbrev pub hash_of : ℕ → Station → ℕ
 hash_of salt s = bit_xor ((s.vni * 2 ^ 48 + s.mac) % 2 ^ 64) salt * 11400714819323198485 % 2 ^ 64 / 2 ^ 32
 
--- the bucket of a station, of so many
+-- the bucket of a station, given the number of buckets
 abbrev pub bucket_of : ℕ → ℕ → Station → ℕ
 bucket_of buckets salt s = hash_of salt s % buckets

@@ -8,8 +8,8 @@ ghost use Rattle.mac_arena.specs.Laws.{ChangesEntry, entry_learnt, entry_pinned,
 use crate::station::Station;
 use crate::table::MacTable;
 
-/// What learning, pinning and removing a station do to the entries: they are looked up as before,
-/// but for the station's. And how many stations are known afterwards.
+/// The effect of learning, pinning and removing a station: only this station's entry changes. The
+/// law also gives the number of stations afterwards.
 pub fn entries_after(table: &MacTable, key: &Station, port: u8, second: u64)
     ensures learnt { let answer = learnt_of table.now key.now port in
         ChangesEntry table.now (after_learn table.now key.now port second answer) key.now
@@ -33,8 +33,8 @@ pub fn lists_are_short(table: &MacTable)
     let _count = table.len();
 }
 
-/// Those who go by age are exactly the unpinned ones that were last heard early enough. Once the
-/// first of them is removed, the others go as they would have gone.
+/// Ageing removes exactly the unpinned stations whose last frame is old enough. Once the first of
+/// them is removed, the others are removed as before.
 pub fn going_by_age(table: &MacTable, limit: u64)
     ensures exactly { (s : Named)
         → stands (due_in table.now limit) s
@@ -45,8 +45,8 @@ pub fn going_by_age(table: &MacTable, limit: u64)
     let _count = table.len();
 }
 
-/// Those whom the flush of a port takes are exactly the unpinned ones behind it. Once the first of
-/// them is removed, the others go as they would have gone.
+/// The flush of a port removes exactly its unpinned stations. Once the first of them is removed,
+/// the others are removed as before.
 pub fn going_by_flush(table: &MacTable, port: u8)
     requires { 1 ≤ port }
     ensures exactly { (s : Named)

@@ -1,5 +1,5 @@
-//! The learning table of an edge (IEEE 802.1D-2004, clause 7.8 and 7.9): which station is behind
-//! which port, who was heard longest ago, and who goes when a port is flushed.
+//! The learning table of an edge (IEEE 802.1D-2004, clause 7.8 and 7.9): the port of each station,
+//! the station that has been silent longest, and the stations that a flush of a port removes.
 //!
 //! All memory is taken once, when the table is made. A look-up goes along one chain of a hash
 //! table, and every change takes a constant number of steps.

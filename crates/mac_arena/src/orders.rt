@@ -26,8 +26,8 @@ const AGEING: usize = 0;
 /// The list of free nodes.
 const FREE: usize = 1;
 
-/// The orders in which the table's nodes stand: a chain for each bucket, a list for each port, the
-/// ageing list with the node heard longest ago first, and the free nodes.
+/// The orders of the table's nodes: a chain for each bucket, a list for each port, the ageing list
+/// with the longest silent node first, and the free nodes.
 #[derive(Drop)]
 pub(crate) struct NodeOrders {
     links: Family<3>,
@@ -79,7 +79,7 @@ impl NodeOrders {
         self.links.front(CHAINS, bucket)
     }
 
-    /// The node behind the node on its chain.
+    /// Returns the node after this node on its chain.
     pub(crate) fn next_in_chain(&self, node: usize) -> Option<usize>
         requires node { node < self.now.nodes }
         requires linked { IsLinked self.now.chains node }
@@ -89,7 +89,7 @@ impl NodeOrders {
         self.links.next(CHAINS, node)
     }
 
-    /// How many nodes the bucket's chain has.
+    /// Returns the number of nodes on the bucket's chain.
     pub(crate) fn chain_len(&self, bucket: usize) -> usize
         requires { bucket < length self.now.chains }
         ensures { result ≡ length (list_at self.now.chains bucket) }
@@ -105,7 +105,7 @@ impl NodeOrders {
         self.links.front(PORTS, port)
     }
 
-    /// The node behind the node on its port's list.
+    /// Returns the node after this node on its port's list.
     pub(crate) fn next_at_port(&self, node: usize) -> Option<usize>
         requires node { node < self.now.nodes }
         requires linked { IsLinked self.now.ports node }
@@ -115,7 +115,7 @@ impl NodeOrders {
         self.links.next(PORTS, node)
     }
 
-    /// How many nodes the port's list has.
+    /// Returns the number of nodes on the port's list.
     pub(crate) fn port_len(&self, port: usize) -> usize
         requires { port < length self.now.ports }
         ensures { result ≡ length (list_at self.now.ports port) }
@@ -123,7 +123,7 @@ impl NodeOrders {
         self.links.len(PORTS, port)
     }
 
-    /// The node that was heard longest ago.
+    /// Returns the node that has been silent longest.
     pub(crate) fn oldest(&self) -> Option<usize>
         ensures { result ≡ slice_get self.now.ageing 0 }
     {

@@ -1,4 +1,4 @@
-//! A place of the learning table: a station with what is known of it, or nobody.
+//! A place of the learning table: empty, or a station with its entry.
 ghost use Rattle.std.specs.Prelude.{◌≡◌, None, Some};
 ghost use Rattle.std.specs.Option.{option_map};
 ghost use Rattle.mac_arena.specs.Entry.{pinned_at};
@@ -8,9 +8,9 @@ use crate::station::{Entry, Learned, Station};
 use ether_wire::{Mac, Vni};
 use std::marker::Model;
 
-/// A node's place for a station and its entry, or for nobody.
-// The fields stand by their size and without structs of their own, so that a slot has 24 octets and
-// not 48: of a large table more stays in the processor's caches.
+/// A node's place: empty, or a station with its entry.
+// The fields are ordered by size and without structs of their own, so that a slot has 24 octets
+// instead of 48: more of a large table stays in the processor's caches.
 #[derive(Clone, Drop)]
 pub(crate) struct Slot {
     mac: Mac,
@@ -35,7 +35,7 @@ impl Model for Slot {
 }
 
 impl Slot {
-    /// A place for nobody.
+    /// Returns an empty place.
     pub(crate) fn nobody() -> Self
         ensures { result ≡ None }
     {
@@ -63,7 +63,7 @@ impl Slot {
         }
     }
 
-    /// Who stands there, with what is known of it.
+    /// Returns the station with its entry.
     pub(crate) fn learned(&self) -> Option<Learned>
         ensures { result ≡ self.now }
     {

@@ -17,27 +17,27 @@ use ether_wire::place_of_port;
 use std::alloc::{AllocError, Global};
 use std::marker::Model;
 
-/// What came of learning a station on a port.
+/// The result of learning a station on a port.
 #[derive(Clone, Copy, Debug, PartialEq, Eq)]
 pub enum Learnt {
-    /// It wasn't known, and is learnt.
+    /// The station was unknown, and is learnt.
     New,
-    /// It was behind another port, and is behind this one now.
+    /// The station was at another port, and is at this one now.
     Moved,
-    /// It was behind this port; it is heard again.
+    /// The station was at this port already; its second is updated.
     Refreshed,
-    /// It is pinned. Nothing changed.
+    /// The station is pinned. Nothing changed.
     Pinned,
-    /// It isn't known, and there is no room. Nothing changed.
+    /// The station is unknown, and there is no room. Nothing changed.
     Full,
 }
 
 /// A learning table: a map from stations to their ports, with the orders that
 /// ageing and flushing need.
 ///
-/// Each station stands at one of as many nodes as the table has room for. A node is on the chain
-/// of its station's bucket, on the list of its port and, unless it is pinned, on the ageing
-/// list; or it is free.
+/// Each station is at one node; the table has as many nodes as its capacity. A node is on the chain
+/// of its station's bucket, on the list of its port and, unless it is pinned, on the ageing list.
+/// Otherwise it is free.
 #[derive(Drop)]
 pub struct MacTable {
     orders: NodeOrders,
@@ -64,8 +64,9 @@ impl Model for MacTable {
 }
 
 impl MacTable {
-    /// A table with room for so many stations, for ports from 1 on, with so many buckets.
-    /// `salt` keeps a stranger from choosing stations that all fall into one bucket.
+    /// Returns an empty table with room for `capacity` stations, for ports from 1 on, with
+    /// `buckets` buckets. `salt` keeps a stranger from choosing stations that all fall into one
+    /// bucket.
     pub fn new(
         alloc: Global,
         capacity: usize,
@@ -89,7 +90,7 @@ impl MacTable {
         })
     }
 
-    /// How many stations are known. The table's lists name exactly these.
+    /// Returns the number of stations. The table's lists name exactly these.
     pub fn len(&self) -> usize
         ensures value { result ≡ len self.now.entries }
         ensures lists { ListsName self.now }
@@ -97,15 +98,15 @@ impl MacTable {
         self.count
     }
 
-    /// Whether there is no room for another station.
+    /// Returns `true` if there is no room for another station.
     pub fn is_full(&self) -> bool
         ensures { result ≡ is_full self.now }
     {
         self.place().is_none()
     }
 
-    /// The bucket of a station: network and address as one number of 64 bits, mixed with the salt
-    /// by one multiplication, of whose product the upper half counts.
+    /// Returns the bucket of a station: the upper half of the product of a constant and the number
+    /// of VNI and address in 64 bits, mixed with the salt.
     pub fn bucket(&self, key: &Station) -> usize
         ensures { result ≡ bucket_in self.now key.now }
     {
@@ -116,7 +117,7 @@ impl MacTable {
         (hash as u32 % self.buckets) as usize
     }
 
-    /// How many stations the bucket's chain holds.
+    /// Returns the number of stations on the bucket's chain.
     pub fn chain(&self, bucket: usize) -> usize
         requires { bucket < length self.now.chains }
         ensures { result ≡ length (stations_at self.now.chains bucket) }
@@ -124,7 +125,7 @@ impl MacTable {
         self.orders.chain_len(bucket)
     }
 
-    /// Who stands at a node, with what is known of it; nobody at a free node. It is a step of a
+    /// Returns the station at a node with its entry, or `None` at a free node. It is one step of a
     /// walk over all nodes: the caller goes from node to node.
     pub fn walk(&self, node: usize) -> Option<Learned>
         requires { node < length self.now.places }
@@ -133,7 +134,7 @@ impl MacTable {
         self.slots[node].learned()
     }
 
-    /// What is known of a station.
+    /// Returns the entry of a station.
     pub fn look(&self, key: &Station) -> Option<Entry>
         ensures { result ≡ entry_at self.now key.now }
     {
@@ -144,7 +145,7 @@ impl MacTable {
         }
     }
 
-    /// The station that was heard longest ago, of those that aren't pinned.
+    /// Returns the unpinned station that has been silent longest.
     pub fn oldest(&self) -> Option<Station>
         ensures { result ≡ slice_get self.now.ageing 0 }
     {
@@ -157,7 +158,7 @@ impl MacTable {
         Some(learned.station)
     }
 
-    /// The node where a station of a bucket stands, with what stands there.
+    /// Returns the node of a station of a bucket, with its content.
     fn find(&self, key: &Station, bucket: usize) -> Option<(usize, Learned)>
         requires { bucket ≡ bucket_in self.now key.now }
         ensures found { IfSome result (λ f. learned_at self.now f.0 ≡ Some f.1) }
@@ -180,7 +181,7 @@ impl MacTable {
         None
     }
 
-    /// The first station of the port's list that isn't pinned.
+    /// Returns the first unpinned station of the port's list.
     pub fn first_of(&self, port: u8) -> Option<Station>
         requires some { 0 < port }
         requires port { port ≤ length self.now.ports }
@@ -216,8 +217,8 @@ impl MacTable {
         }
     }
 
-    /// Pins a station on a port, whether it is known or not. Answers false, and changes nothing,
-    /// where it isn't known and there is no room.
+    /// Pins a station on a port, whether it is known or not. Returns `false`, and changes nothing,
+    /// if it is unknown and there is no room.
     pub fn pin(&mut self, key: &Station, port: u8) -> bool
         requires some { 0 < port }
         requires port { port ≤ length self.old.ports }
@@ -240,7 +241,7 @@ impl MacTable {
         }
     }
 
-    /// Removes a station, and answers whether it was known.
+    /// Removes a station, and returns `true` if it was known.
     pub fn remove(&mut self, key: &Station) -> bool
         ensures answer { result ≡ is_some (entry_at self.old key.now) }
         ensures after { self.new ≡ after_removal self.old key.now }
@@ -397,7 +398,7 @@ impl MacTable {
     }
 }
 
-/// So many places with nobody.
+/// Returns this number of empty places.
 fn nobody(alloc: Global, places: usize) -> Result<Vec<Slot>, AllocError>
     ensures { IfOk result (λ v. v.items ≡ replicate places None) }
 {

@@ -12,7 +12,7 @@ mod rows;
 
 const PORTS: u8 = 3;
 
-// A table with three ports and the greatest second that it was told.
+// A table with three ports and the greatest second so far.
 #[derive(Drop)]
 struct Run {
     table: MacTable,
@@ -51,7 +51,7 @@ impl Run {
         None
     }
 
-    // Nothing where there is no such port, or the second is below an earlier one.
+    // Does nothing if there is no such port, or if the second is below an earlier one.
     fn learn(&mut self, key: Station, port: u8, second: u64) -> Option<Learnt> {
         if port == 0 || port > PORTS || second < self.now {
             return None;

@@ -1,7 +1,7 @@
 -- The information rules (IEEE 802.1D-2004, 17.27, in this project's own table).
 use Rattle.std.specs.Prelude.{ℕ, Bool, true, false, not, ◌&&◌, ◌||◌, ◌==◌, ◌*◌, nat_lt, if◌then◌else◌, Option, Some}
-use Rattle.bpdu_wire.specs.declared.flags.TheConstants.{AGREEMENT, CHANGE_ACKNOWLEDGEMENT, LEARNING, PROPOSAL}
-use Rattle.bpdu_wire.specs.declared.flags.TheConstants.{TOPOLOGY_CHANGE}
+use Rattle.bpdu_wire.specs.Numbers.{AGREEMENT, CHANGE_ACKNOWLEDGEMENT, LEARNING, PROPOSAL}
+use Rattle.bpdu_wire.specs.Numbers.{TOPOLOGY_CHANGE}
 use Rattle.bpdu_wire.specs.declared.bpdu.Message.{Message}
 use Rattle.bpdu_wire.specs.declared.bpdu.Bpdu.{Bpdu}
 use Rattle.bpdu_wire.specs.declared.bpdu.Bpdu.TheVariants.{Config, Rst, Tcn}

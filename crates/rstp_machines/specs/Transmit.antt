@@ -1,9 +1,9 @@
 -- The transmit rules (IEEE 802.1D-2004, 17.26, in this project's own table).
 use Rattle.std.specs.Prelude.{ℕ, Bool, false, not, ◌&&◌, ◌||◌, ◌==◌, ◌+◌, ◌*◌, nat_lt, if◌then◌else◌, Some, is_none}
-use Rattle.bpdu_wire.specs.declared.bpdu.TheConstants.{TIME_UNITS, MOST_TIME}
-use Rattle.bpdu_wire.specs.declared.flags.TheConstants.{AGREEMENT, ALTERNATE_OR_BACKUP_ROLE, CHANGE_ACKNOWLEDGEMENT}
-use Rattle.bpdu_wire.specs.declared.flags.TheConstants.{DESIGNATED_ROLE}
-use Rattle.bpdu_wire.specs.declared.flags.TheConstants.{FORWARDING, LEARNING, PROPOSAL, ROOT_ROLE, TOPOLOGY_CHANGE}
+use Rattle.bpdu_wire.specs.Numbers.{TIME_UNITS, MOST_TIME}
+use Rattle.bpdu_wire.specs.Numbers.{AGREEMENT, ALTERNATE_OR_BACKUP_ROLE, CHANGE_ACKNOWLEDGEMENT}
+use Rattle.bpdu_wire.specs.Numbers.{DESIGNATED_ROLE}
+use Rattle.bpdu_wire.specs.Numbers.{FORWARDING, LEARNING, PROPOSAL, ROOT_ROLE, TOPOLOGY_CHANGE}
 use Rattle.bpdu_wire.specs.declared.bpdu.Message.{Message}
 use Rattle.bpdu_wire.specs.declared.bpdu.Bpdu.{Bpdu}
 use Rattle.bpdu_wire.specs.declared.bpdu.Bpdu.TheVariants.{Config, Rst, Tcn}

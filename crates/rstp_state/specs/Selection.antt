@@ -6,7 +6,7 @@ use Rattle.std.specs.List.{list_all, filter_map, enumerate_from}
 use Rattle.std.specs.declared.cmp.Ordering.{Ordering}
 use Rattle.std.specs.Ordering.{nat_cmp, ordering_then, is_lt}
 use Rattle.bpdu_wire.specs.Id.{bridge_address}
-use Rattle.bpdu_wire.specs.declared.bpdu.TheConstants.{MOST_TIME}
+use Rattle.bpdu_wire.specs.Numbers.{MOST_TIME}
 use Rattle.rstp_state.specs.declared.port.InfoIs.{InfoIs}
 use Rattle.rstp_state.specs.declared.port.InfoIs.TheVariants as info_is
 use Rattle.rstp_state.specs.declared.port.PortState.{PortState}

@@ -2,7 +2,7 @@
 use Rattle.std.specs.Prelude.{◌≡◌, ℕ, Bool, false, not, ◌&&◌, ◌||◌, ◌==◌, ◌+◌, ◌-◌, ◌/◌, max}
 use Rattle.std.specs.declared.cmp.Ordering.{Ordering}
 use Rattle.std.specs.Ordering.{nat_cmp, ordering_then, is_lt}
-use Rattle.bpdu_wire.specs.declared.bpdu.TheConstants.{TIME_UNITS}
+use Rattle.bpdu_wire.specs.Numbers.{TIME_UNITS}
 use Rattle.bpdu_wire.specs.declared.bpdu.Message.{Message}
 use Rattle.bpdu_wire.specs.Id.{bridge_address, port_number}
 use Rattle.rstp_state.specs.declared.vector.Vector.{Vector}

@@ -39,12 +39,21 @@ def run(*words: str) -> str:
 class Edge:
     """One edge; use it by `with`."""
 
-    def __init__(self, name: str, root: str = "", vnis: Sequence[int] = (VNI,), access: bool = False, single: bool = False) -> None:
+    def __init__(
+        self,
+        name: str,
+        root: str = "",
+        vnis: Sequence[int] = (VNI,),
+        access: bool = False,
+        single: bool = False,
+        routed: int = 0,
+        vrf: str = "",
+    ) -> None:
         self.inside = f"evpnd-{os.getpid()}-{name}"
         self.outside = f"{self.inside}-pe"
         self.root = root.rstrip("/")
         self.vnis, self.access, self.single = list(vnis), access, single
-        self.address, self.bgpd_lines = OWN, BGPD_LINES
+        self.address, self.bgpd_lines, self.routed, self.vrf = OWN, BGPD_LINES, routed, vrf
         self.folder = tempfile.mkdtemp(prefix="evpnd-frr-", dir=f"{self.root}/var/tmp" if root else None)
         self.frr_folder = self.folder[len(self.root) :]
         self.children: List[subprocess.Popen] = []
@@ -96,9 +105,19 @@ class Edge:
         else:
             for vni in self.vnis:
                 self.make_network(vni)
+                if self.access:
+                    self.make_access(vni, f"br{vni}")
+                    run(*inside, "addr", "add", f"198.18.{vni % 250}.1/24", "dev", f"br{vni}")
+        if self.routed:
+            self.make_network(self.routed)
+        if self.vrf:
+            run(*inside, "link", "add", self.vrf, "type", "vrf", "table", "10")
+            run(*inside, "link", "set", self.vrf, "up")
+            for vni in (*self.vnis, self.routed):
+                run(*inside, "link", "set", f"br{vni}", "master", self.vrf)
 
     def make_network(self, vni: int) -> None:
-        """A VNI's bridge, its VXLAN device and, where they are wanted, its access port with an address on the bridge."""
+        """A VNI's bridge and its VXLAN device."""
         inside = ["ip", "-n", self.inside]
         run(*inside, "link", "add", f"br{vni}", "type", "bridge")
         vxlan = ["type", "vxlan", "id", str(vni), "dstport", "4789", "local", self.address, "nolearning"]
@@ -106,9 +125,6 @@ class Edge:
         run(*inside, "link", "set", f"vxlan{vni}", "master", f"br{vni}")
         for device in (f"br{vni}", f"vxlan{vni}"):
             run(*inside, "link", "set", device, "up")
-        if self.access:
-            self.make_access(vni, f"br{vni}")
-            run(*inside, "addr", "add", f"198.18.{vni % 250}.1/24", "dev", f"br{vni}")
 
     def make_access(self, vni: int, bridge: str) -> None:
         """An access port of a bridge; its host is the other end, from which frames are sent as any station."""
@@ -157,21 +173,41 @@ class Edge:
         os.chmod(self.folder, 0o755)
         inner = self.frr_folder
         self.within(*self.frr("chown", "frr:frr", inner))
-        lines = {"zebra": "hostname edge\n", "bgpd": self.bgpd_lines}
-        for daemon, text in lines.items():
-            path = os.path.join(self.folder, f"{daemon}.conf")
-            with open(path, "w", encoding="utf-8") as stream:
-                stream.write(text)
-            self.within(*self.frr("chown", "frr:frr", f"{inner}/{daemon}.conf"))
-            words = [f"{DAEMONS}/{daemon}", "-f", f"{inner}/{daemon}.conf", "-i", f"{inner}/{daemon}.pid"]
-            words += ["-A", "127.0.0.1", "--vty_socket", inner, "-z", f"{inner}/zserv.api"]
-            with open(os.path.join(self.folder, f"{daemon}.log"), "wb") as log:
-                how = {"stdin": subprocess.DEVNULL, "stdout": log, "stderr": log}
-                self.daemons[daemon] = self.start(self.inside, self.frr(*words), **how)
-                self.children.append(self.daemons[daemon])
-            self.wait_for(lambda: os.path.exists(os.path.join(self.folder, f"{daemon}.vty")), daemon)
+        by_mgmtd = bool(self.routed) and os.path.exists(f"{self.root}{DAEMONS}/mgmtd")
+        if by_mgmtd:
+            self.within(*self.frr("install", "-d", "-o", "frr", "-g", "frr", "/run/frr"))
+            self.start_daemon("mgmtd", "")
+        routed = f"vni {self.routed}\n" if self.routed and not by_mgmtd else ""
+        routed = f"vrf {self.vrf}\n {routed}exit-vrf\n" if self.vrf else routed
+        self.start_daemon("zebra", f"hostname edge\n{routed}")
+        if by_mgmtd:
+            self.wait_for(self.takes_routed, "mgmtd")
+        self.start_daemon("bgpd", self.bgpd_lines)
         known = lambda: all(str(vni) in self.shell("show evpn vni json") for vni in self.vnis)  # noqa: E731
         self.wait_for(known, "the VNIs")
+
+    def start_daemon(self, daemon: str, text: str) -> None:
+        """A daemon with its configuration, until it answers. FRR 10's mgmtd has its own sockets in /run/frr: one edge at a time."""
+        inner = self.frr_folder
+        path = os.path.join(self.folder, f"{daemon}.conf")
+        with open(path, "w", encoding="utf-8") as stream:
+            stream.write(text)
+        self.within(*self.frr("chown", "frr:frr", f"{inner}/{daemon}.conf"))
+        words = [f"{DAEMONS}/{daemon}", "-i", f"{inner}/{daemon}.pid", "--vty_socket", inner]
+        words += ["-f", f"{inner}/{daemon}.conf", "-A", "127.0.0.1", "-z", f"{inner}/zserv.api"] if daemon != "mgmtd" else []
+        with open(os.path.join(self.folder, f"{daemon}.log"), "wb") as log:
+            how = {"stdin": subprocess.DEVNULL, "stdout": log, "stderr": log}
+            self.daemons[daemon] = self.start(self.inside, self.frr(*words), **how)
+            self.children.append(self.daemons[daemon])
+        self.wait_for(lambda: os.path.exists(os.path.join(self.folder, f"{daemon}.vty")), daemon)
+
+    def takes_routed(self) -> bool:
+        """Makes the L3VNI one of the default VRF by mgmtd, which has to know zebra by then; while it starts it is locked."""
+        try:
+            self.shell_lines("configure terminal", f"vni {self.routed}")
+        except Trouble:
+            return False
+        return f"vni {self.routed}" in self.shell("show running-config")
 
     def start_speaker(self) -> None:
         """The speaker, until its session stands."""

@@ -140,7 +140,7 @@ def random_history(edge: Edge, folder: str, tally: Tally) -> None:
         told += [records.update_of_line(line)._replace(counter=turn + 1) for line in lines]
     edge.save(folder)
     status, text = audited("--json", folder)
-    result = json.loads(text)[0] if status < 2 else {}
+    result = json.loads(text)["results"][0] if status < 2 else {}
     print(text if status == 2 else json.dumps(result["sums"]))
     tally.see(status < 2 and result["sums"]["by rule"] == 0, "no difference is one of rule: bgpd's own best path is the owner")
     program = audit_report.program_of(None)

@@ -134,15 +134,18 @@ def has_planted_entries(edge: Edge, tally: Tally) -> None:
     edge.within("bridge", "fdb", "replace", FAR, *device, "dst", "10.0.0.2", "self")
     as_frames(edge, tally, 5001, FAR, "10.0.0.2")
     line = f"wrong 5001 {FAR} owner 10.0.0.1 (the only advert); bgpd 10.0.0.1, zebra 10.0.0.1, kernel 10.0.0.2;"
-    text = finds(edge, tally, line, "another edge in the VXLAN device")
+    text = finds(edge, tally, line, "another edge in the VXLAN device, by hand")
     keep(edge, "planted")
-    mends(edge, tally, text)
+    tally.see("mend:" not in text and "see who made the entry" in text, "no command touches what zebra didn't make")
+    edge.within("bridge", "fdb", "del", FAR, *device, "dst", "10.0.0.2", "self")  # replace would keep it without zebra's mark
+    edge.within("bridge", "fdb", "replace", FAR, *device, "dst", "10.0.0.2", "self", "extern_learn")
+    mends(edge, tally, finds(edge, tally, line, "another edge in the VXLAN device, like zebra's"))
     as_frames(edge, tally, 5001, FAR, "10.0.0.1")
     edge.within("bridge", "fdb", "del", FAR, *device, "master")
     finds_unless(edge, tally, lambda: has_entry(edge, FAR, "master"), f"missing 5001 {FAR}", "the bridge's entry deleted")
     edge.within("bridge", "fdb", "del", FAR, *device, "dst", "10.0.0.1", "self")
     finds_unless(edge, tally, lambda: has_entry(edge, FAR, "dst"), f"missing 5001 {FAR}", "the VXLAN device's entry deleted")
-    edge.within("bridge", "fdb", "replace", "02:00:00:00:66:66", *device, "dst", "10.0.0.1", "self")
+    edge.within("bridge", "fdb", "replace", "02:00:00:00:66:66", *device, "dst", "10.0.0.1", "self", "extern_learn")
     edge.within("bridge", "fdb", "replace", "02:00:00:00:66:66", *device, "master", "extern_learn")
     text = finds(edge, tally, "extra 5001 02:00:00:00:66:66 owner none", "an entry that nobody advertises")
     mends(edge, tally, text)
@@ -161,7 +164,8 @@ def has_planted_floods(edge: Edge, tally: Tally) -> None:
     as_frames(edge, tally, 5001, nobody, "10.0.0.1+10.0.0.2+10.0.0.66+local")
     text = finds(edge, tally, "flood extra 5001 10.0.0.66", "a foreign flood entry added")
     keep(edge, "floods")
-    mends(edge, tally, text)
+    tally.see("mend:" not in text and "see who made the entry" in text, "no command deletes a flood entry")
+    edge.within("bridge", "fdb", "del", zero, "dev", "vxlan5001", "dst", "10.0.0.66", "self")
     as_frames(edge, tally, 5001, nobody, "10.0.0.1+10.0.0.2+local")
     address = f"198.18.{5001 % 250}.7"
     edge.within("ip", "neigh", "del", address, "dev", "br5001")
@@ -173,7 +177,7 @@ def has_planted_floods(edge: Edge, tally: Tally) -> None:
     mends(edge, tally, text)
     edge.shell_lines("configure terminal", "router bgp 65000", "address-family l2vpn evpn", "flooding disable")
     time.sleep(1)
-    finds(edge, tally, "flood missing 5001 10.0.0.2", "flooding switched off in bgpd")
+    finds(edge, tally, "bgpd doesn't flood by ingress replication", "flooding switched off in bgpd")
     keep(edge, "noflood")
 
 
@@ -213,9 +217,9 @@ def is_multihomed(edge: Edge, tally: Tally) -> None:
     edge.wait_for(lambda: "02:00:00:00:03:fa" in edge.shell("show bgp l2vpn evpn route json"), "the routes with an ESI")
     time.sleep(1)
     status, text = audited(edge)
-    tally.see(status == 3 and "251 not judged" in text, "251 MACs with an ESI aren't judged, and the status says so" + ("" if status == 3 else f"\n{status} {text}"))
+    tally.see(status == 4 and "251 not judged" in text, "251 MACs with an ESI aren't judged, and the status says so" + ("" if status == 4 else f"\n{status} {text}"))
     status, text = audited(edge, "--nagios", "--again", "0")
-    tally.see(status == 3 and text.startswith("EVPN UNKNOWN"), "Nagios is told that it is unknown")
+    tally.see(status == 1 and text.startswith("EVPN WARNING"), "Nagios is told a status of its own")
     keep(edge, "multihomed")
 
 
@@ -231,7 +235,8 @@ def loses_session(edge: Edge, tally: Tally) -> None:
         edge.speaker.terminate()
         edge.wait_for(lambda: FAR not in edge.shell("show bgp l2vpn evpn route json"), "the end of the session")
         time.sleep(1)
-        agrees(edge, tally, "the session is lost, and by its own routes the leaf agrees")
+        text = finds(edge, tally, "cause: the session with 192.168.77.2 is ", "the session is lost, and that is told")
+        tally.see(text.count("\n") == 1 + len(VNIS), "by its own routes the leaf agrees")
         keep(edge, "lost")
         status, text = audited(edge, "--routes", reflector)
         tally.see(status == 1 and f"missing 5001 {FAR}" in text and "shows no route of the owner" in text, "by the route reflector's it misses MACs")

@@ -12,6 +12,7 @@ tools are asked the same. Not part of the gate.
 import argparse
 import json
 import os
+import shlex
 import shutil
 import subprocess
 import sys
@@ -68,6 +69,15 @@ def not_root(edge: Edge, tally: Tally, kept: Answers) -> None:
     kept["not root"] = answers_of([*there, *edge.frr(*NOBODY, *vtysh)])
 
 
+def no_configuration(edge: Edge, tally: Tally, kept: Answers) -> None:
+    """vtysh has no vtysh.conf, as in containers: before FRR 10 it warns first, and the audit goes on all the same."""
+    vtysh = [*edge.shell_words(), "--config_dir", "/nowhere"]
+    kept["no vtysh.conf"] = answers_of(["ip", "netns", "exec", edge.inside, *vtysh])
+    words = edge.audit_words()[:-1]
+    status, text = said(*words, " ".join(shlex.quote(word) for word in vtysh))
+    tally.see(status == 0, f"no vtysh.conf: status {status}, {text.strip()}")
+
+
 def is_down(edge: Edge, tally: Tally, kept: Answers, name: str) -> None:
     """What is left of the daemons is asked."""
     see(tally, name, edge.audit_words())
@@ -81,6 +91,7 @@ def each_case(root: str, tally: Tally) -> Tuple[str, Answers]:
         version = edge.version()
         print(f"-- FRR {version}", flush=True)
         not_root(edge, tally, kept)
+        no_configuration(edge, tally, kept)
         end(edge, "bgpd")
         is_down(edge, tally, kept, "bgpd down")
         end(edge, "zebra")

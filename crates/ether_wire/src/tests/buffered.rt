@@ -117,3 +117,11 @@ fn abandoned_octets_are_let_go(rt: HostRuntime) {
     assert_eq!(rt; writer.put(b"abc"), Ok(()));
     assert!(rt; writer.abandon().octets().is_empty());
 }
+
+#[test]
+fn flushed_octets_are_passed_on(rt: HostRuntime) {
+    let mut writer = Buffered::new(Page::<20>::new());
+    assert_eq!(rt; writer.put(b"abc"), Ok(()));
+    assert_eq!(rt; writer.flush(), Ok(()));
+    assert_eq!(rt; writer.abandon().octets(), b"abc".as_slice());
+}

@@ -1,4 +1,4 @@
--- What a call of a book does to it and to the pass.
+-- The effect of a call on a book and on the pass.
 use Rattle.std.specs.Prelude.{ℕ, ◌+◌}
 use Rattle.std.specs.Prelude.{if◌then◌else◌}
 use Rattle.ev_claims.specs.LocalRoutes.{LocalRoutes, entries}

@@ -179,7 +179,7 @@ fn has_own_advert<L: Ledger>(book: &Book<L>) -> bool {
     false
 }
 
-// Whether the stream is of so many records, of which each is taken.
+// Returns `true` if the stream has this number of records, and each is taken.
 fn takes_all<L: Ledger>(
     book: &mut Book<L>,
     pass: &mut Pass<L>,

@@ -1,6 +1,5 @@
-//! What calls make of refused memory: made to be run with one allocation refused, too. A
-//! call that is refused memory is counted and changes nothing else, and does what it should
-//! when it comes again.
+//! Calls that are refused memory: these tests also run with one allocation refused. A call that is
+//! refused memory is counted and changes nothing else, and succeeds when it is repeated.
 ghost use Rattle.std.specs.Prelude.{◌≡◌};
 
 use super::{config, journal, report, said};
@@ -104,7 +103,7 @@ fn journals_all<L: Ledger>(alloc: Global, blank: Blank) -> Result<bool, AllocErr
     Ok(journal(&book).octets().len() == 44 + 16 * 60)
 }
 
-// Where the opening is refused memory, another book is opened.
+// If the opening is refused memory, another book is opened.
 #[test]
 fn refused_growth_is_made_up_for(rt: HostRuntime) -> Result<(), Fail> {
     let first = journals_all::<Brand>(rt.alloc(), Blank::new(1));

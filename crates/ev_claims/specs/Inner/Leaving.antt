@@ -3,6 +3,6 @@ use Rattle.std.specs.Prelude.{◌≡◌, ◌≢◌, ◌<◌, ℕ}
 use Rattle.mac_arena.specs.Learning.{Learning}
 use Rattle.mac_arena.specs.Laws.{unpinned_on}
 
--- all unpinned stations behind other ports are behind these still, in their order
+-- the unpinned stations at other ports are still there, in their order
 abbrev pub AreKept : Learning → Learning → ℕ → Type 0
 AreKept t u port = (q : ℕ) → 0 < q → q ≢ port → unpinned_on u q ≡ unpinned_on t q

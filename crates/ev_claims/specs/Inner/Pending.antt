@@ -28,7 +28,7 @@ pending_of f rs = record { known = rs; waiting = map (register_at rs) (queue f) 
 abbrev pub node_of : List (Register × ℕ) → Register → Option ℕ
 node_of nodes r = lookup (register.eq-value.it r) nodes
 
--- one list; a node for each register at least, the first ones theirs; the map tells each register's node
+-- one list; at least one node for each register, the first ones theirs; the map gives each register's node
 pub record IsPending (f : Families) (rs : List Register) (nodes : List (Register × ℕ)) (room : ℕ) : Type 0 where
   pub one : f.families ≡ (queue f ∷ []) ∷ []
   pub counted : f.nodes ≡ room

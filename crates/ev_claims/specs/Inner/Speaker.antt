@@ -1,4 +1,4 @@
--- What an edge originates: its own registers in its table, their numbers, and what is still to be announced.
+-- A speaker: the own registers in its table, their numbers, and the pending ones.
 use Rattle.std.specs.Prelude.{◌≡◌, ℕ, Some}
 use Rattle.std.specs.Prelude.{List, Contains}
 use Rattle.route_wire.specs.declared.update.Key.{Key}
@@ -8,7 +8,7 @@ use Rattle.route_join.specs.Table.{Table}
 use Rattle.ev_claims.specs.Inner.Pending.{Pending}
 use Rattle.ev_claims.specs.Speaker.{Speaker, own_register, own, IsPresent, KeepsNumbers}
 
--- each own register of this incarnation has a node of the list of what is pending
+-- each own register of this incarnation has a node of the pending list
 abbrev pub HasRooms : Speaker → List Register → Type 0
 HasRooms e known = (k : Key) (v : Value) → own e k ≡ Some v → IsPresent e v → Contains known (own_register e k)
 

@@ -46,7 +46,7 @@ impl LocalRoutes {
         }
     }
 
-    /// The unpinned station behind the port that came to it first, if there is such a port.
+    /// Returns the unpinned station that came to the port first, if there is this port.
     fn first_unpinned(&self, port: u8) -> Option<Station>
         requires { 0 < port }
         ensures first { result ≡ slice_get (unpinned_on self.now.learned port) 0 }

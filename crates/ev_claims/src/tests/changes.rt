@@ -1,4 +1,4 @@
-//! What an edge says of its own accord, and in which order.
+//! The edge's own updates, and their order.
 
 use super::steps::{Step, goes};
 use super::{A, B, C, D, Name, STATIC, dynamic, learnt, own};

@@ -1,5 +1,4 @@
-//! What may happen to an edge's local routes, and what may be asked of them: tests are lists of
-//! these.
+//! The events of an edge's local routes, and the queries: tests are lists of these.
 use super::{Edge, Lesson, Name, Said, knows, knows_not, network, says, station};
 use crate::{Imported, LocalRoutes, OwnError};
 use ether_wire::Addr;
@@ -15,7 +14,7 @@ pub(super) enum Step {
     Pin(Name, u8),
     /// Those that weren't heard after this second go.
     Age(u64),
-    /// Those behind these ports go.
+    /// The stations at these ports are removed.
     Flush(u64),
     /// Another edge's update gives this.
     Import(Said, Result<Imported, TakeError>),
@@ -27,13 +26,13 @@ pub(super) enum Step {
     Announce(Said),
     /// There is none.
     AnnounceNothing,
-    /// It is behind this port, was last heard then, and is pinned or not.
+    /// It is at this port, sent its last frame then, and is pinned or not.
     Knows(Name, u8, u64, bool),
     /// It isn't learnt.
     KnowsNot(Name),
     /// The table says this under the edge's name.
     Says(Said),
-    /// The table says nothing of it under the edge's name.
+    /// The table has no update of it under the edge's name.
     SaysNothing(Name),
     /// The own update with this number is this one.
     Numbered(Said),
@@ -142,8 +141,8 @@ fn announces_flood(routes: &mut LocalRoutes, n: u8, counter: u64) -> bool {
         && value.content == up
 }
 
-/// Whether the station is pinned and advertised; nothing where a condition of
-/// the call doesn't hold.
+/// Returns whether the station is pinned and advertised, or `None` if a condition of the call does
+/// not hold.
 pub(super) fn pin(routes: &mut LocalRoutes, station: Station, port: u8) -> Option<bool> {
     if station.mac.is_group()
         || routes.vni_of(port) != Some(station.vni)
@@ -159,7 +158,7 @@ fn pins(routes: &mut LocalRoutes, station: Station, port: u8) -> bool {
     pin(routes, station, port) == Some(true)
 }
 
-/// What came of another edge's update; nothing where it isn't another's.
+/// The result of another edge's update, or `None` if it is the edge's own.
 pub(super) fn import(routes: &mut LocalRoutes, said: Said) -> Option<Result<Imported, TakeError>> {
     let update = said.update()?;
     if update.register().originator == routes.address() {
@@ -168,7 +167,7 @@ pub(super) fn import(routes: &mut LocalRoutes, said: Said) -> Option<Result<Impo
     Some(routes.import(&update))
 }
 
-/// What came of an own update; nothing where it isn't one.
+/// The result of an own update, or `None` if it is another edge's.
 pub(super) fn import_own(routes: &mut LocalRoutes, said: Said) -> Option<Result<Taken, OwnError>> {
     let update = said.update()?;
     if update.register().originator != routes.address() {

@@ -1,4 +1,4 @@
-//! What an edge makes of others' updates, and of those under its own name.
+//! The effect of other edges' updates, and of those under the edge's own name.
 
 use super::steps::{Step, goes};
 use super::{A, STATIC, dynamic, learnt, own, reborn, saying};

@@ -25,7 +25,7 @@ Reads view text (Err (refusal.Key k)) = ⊥
 Reads view text (Err refusal.Text) = parse_document text ≡ None
 Reads view text (Err refusal.NoMemory) = Unit {0}
 
--- the fault is told by its key, unless there is no memory for that
+-- the fault has its key, unless there is no memory for that
 abbrev pub Tells : Fault → ConfigRefusal → Type 0
 Tells (fault.Key k) (refusal.Key told) = string_bytes told ≡ k.now
 Tells fault.NoMemory (refusal.Key told) = ⊥

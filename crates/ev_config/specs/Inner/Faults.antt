@@ -1,4 +1,4 @@
--- All faults of a document: its faulty keys, each with its table, in the order in which they are told.
+-- All faults of a document: its faulty keys, each with its table, in the order in which they are printed.
 use Rattle.std.specs.Prelude.{◌≡◌, List, [], ◌∷◌, ◌++◌, map}
 use Rattle.std.specs.Prelude.{Result, Ok, Err}
 use Rattle.ev_config.specs.declared.keys.Fault.{Fault}
@@ -20,7 +20,7 @@ faulty_of f = (spot_of f.place, f.key.now)
 abbrev pub faults_view : List FaultyKey → List Faulty
 faults_view faults = map faulty_of faults
 
--- what was read has these faults, none or one; only memory excuses it
+-- the result has these faults, none or one; only refused memory is an exception
 abbrev pub HasFault : {X : Type 0} → Spot → Result X Fault → List Faulty → Type 0
 HasFault spot (Ok x) faults = faults ≡ []
 HasFault spot (Err (fault.Key k)) faults = faults ≡ (spot, k.now) ∷ []

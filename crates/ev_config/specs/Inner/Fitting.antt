@@ -1,4 +1,4 @@
--- What the edges of a configuration are, so that they can be opened.
+-- Edges of a configuration that can be opened.
 use Rattle.std.specs.Prelude.{◌≡◌, ℕ, ◌≤◌, eqb, List, length, Contains}
 use Rattle.std.specs.List.{IsDistinct}
 use Rattle.ev_edge.specs.declared.config.EdgeConfig.{EdgeConfig}
@@ -10,7 +10,7 @@ use Rattle.ev_config.specs.Config.{Edges}
 abbrev pub AreAmong : List ℕ → List ℕ → Type 0
 AreAmong xs ys = (n : ℕ) → Contains xs n → Contains ys n
 
--- what an edge has to be, whomever it listens to
+-- the conditions on an edge, whatever originators it lists
 pub record Fits (c : EdgeConfig) : Type 0 where
   pub distinct : IsDistinct eqb c.vnis.items
   pub some_port : 1 ≤ length c.ports.items

@@ -1,4 +1,4 @@
--- What an event of the bridge does to an edge (IEEE 802.1D-2004, 17.11, for what is flushed, and 7.9.2 for ageing).
+-- The effect of an event of the bridge on an edge (IEEE 802.1D-2004, 17.11 for flushes, and 7.9.2 for ageing).
 use Rattle.std.specs.Prelude.{◌≡◌, ◌⊎◌, ◌↔◌, ℕ, true}
 use Rattle.ether_wire.specs.Ports.{has_port}
 use Rattle.rstp_run.specs.Events.{Passes}

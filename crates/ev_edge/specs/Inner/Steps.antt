@@ -1,4 +1,4 @@
--- What an event makes of an edge, and what is answered: a table by event and answer.
+-- The effect of an event on an edge, and its answer: a table by event and answer.
 use Rattle.std.specs.Prelude.{Some, Result}
 use Rattle.std.specs.Prelude.{Ok, Err}
 use Rattle.route_join.specs.declared.table.Taken.{Taken}

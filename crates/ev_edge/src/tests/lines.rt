@@ -1,4 +1,4 @@
-//! Worked examples as lists of lines: what comes to an edge, and what is seen of it then.
+//! Worked examples as lists of lines: an edge's input, and the expected state.
 
 use super::{import, refusal_of, route, says, seconds, sent, step, told};
 use crate::{Edge, Event, Refusal};
@@ -14,7 +14,7 @@ pub(super) enum Line<'a> {
     Refused(Event<'a>, Refusal),
     /// An event, and where its frame goes: the local ports, and how many edges.
     Sent(Event<'a>, Option<(u64, usize)>),
-    /// An update, and what the table makes of it.
+    /// An update, and the table's answer.
     Taken(Update, Taken),
     /// A broadcast of this station comes at the port: the number of the alert.
     Hear(u8, u64, u8),
@@ -24,13 +24,13 @@ pub(super) enum Line<'a> {
     Pass(u64),
     /// The edge says this of the station, under this number.
     Says(u64, u64, Content),
-    /// The edge says nothing of the station.
+    /// The edge has no update of the station.
     Silent(u64),
     /// So many stations are learnt, and this is the last number.
     Keeps(usize, u64),
 }
 
-// What the table makes of an update, where it is taken.
+// The table's answer to an update, if it is taken.
 fn taken(edge: &mut Edge, update: Update) -> Option<Taken> {
     match step(edge, &Event::Take(update)) {
         Ok(reply) => reply.taken,

@@ -1,6 +1,5 @@
-//! What events make of refused memory: run with each allocation refused in turn, these tests
-//! pass too. An event that is refused memory leaves what was before, and does what it should
-//! when it comes again.
+//! Events that are refused memory: these tests also pass with each allocation refused in turn. An
+//! event that is refused memory leaves the old state, and succeeds when it is entered again.
 
 use super::frames::DATAGRAM;
 use super::lines::{Line, first_wrong};
@@ -14,7 +13,7 @@ use route_join::Taken;
 use route_wire::{Content, Update};
 use std::test::Fail;
 
-/// The number of the alert that says that memory was refused.
+/// The number of the alert for refused memory.
 const NO_MEMORY: u8 = 15;
 
 // What can be seen of an edge.
@@ -45,8 +44,8 @@ fn is_as(edge: &Edge, before: &Seen) -> bool {
         && now.counter == before.counter
 }
 
-// What is told of an event, of its second try where the first one was refused memory
-// and changed nothing.
+// The answer to an event, or to its second try if the first one was refused memory and changed
+// nothing.
 fn alert_at_last(edge: &mut Edge, event: &Event<'_>) -> Option<u8> {
     let before = look_at(edge);
     let alert = told(edge, event);
@@ -59,7 +58,7 @@ fn alert_at_last(edge: &mut Edge, event: &Event<'_>) -> Option<u8> {
     Some(told(edge, event))
 }
 
-// The same for what the table makes of an update.
+// The table's answer to an update, in the same way.
 fn taken_at_last(edge: &mut Edge, update: Update) -> Option<Taken> {
     let before = look_at(edge);
     let outcome = step(edge, &Event::Take(update));
@@ -177,7 +176,7 @@ fn announcements(edge: &mut Edge) -> u8 {
     count
 }
 
-// Once an edge has learnt, none of these events asks for memory: nothing of them can be refused.
+// After an edge has learnt, none of these events takes memory, so none can be refused.
 #[test]
 fn events_that_take_no_memory_succeed(rt: HostRuntime) -> Result<(), Fail> {
     let pinned = 0x0200_0000_000c;

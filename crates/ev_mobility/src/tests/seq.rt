@@ -22,7 +22,7 @@ fn advert(is_static: bool, sequence: u32) -> Content {
     })
 }
 
-/// 10.0.0.N says this of 02:00:00:00:00:0a in network 5001.
+/// 10.0.0.N sends this update of 02:00:00:00:00:0a in VNI 5001.
 fn said(n: u8, ip: Option<Ip>, counter: u64, content: Content) -> Update
     requires { 0 < counter }
 {

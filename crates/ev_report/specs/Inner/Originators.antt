@@ -5,7 +5,7 @@ use Rattle.ev_report.specs.declared.originators.ListFault.{ListFault}
 use Rattle.arrayvec.specs.ArrayVec.{ArrayVec}
 use Rattle.ether_wire.specs.declared.addr.Addr.{Addr}
 
--- what is listed, or the fault
+-- the list, or the fault
 abbrev pub items_of : Result (ArrayVec Addr) ListFault → Result (List ℕ) ListFault
 items_of (Ok originators) = Ok originators.items
 items_of (Err fault) = Err fault

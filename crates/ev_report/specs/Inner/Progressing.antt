@@ -13,7 +13,7 @@ use Rattle.ev_report.specs.Ends.{fault_in, fault_told, Gave, Tells}
 use Rattle.ev_report.specs.Report.{BecomeAll, fresh}
 use Rattle.ev_report.specs.Inner.Report.{table_after_all}
 
--- the records on their way into a table, and what the notes hold of them
+-- the records on their way into a table, and the notes on them
 pub record State : Type 0 where
   pub intake : Intake
   pub notes : End
@@ -63,12 +63,12 @@ pub record TakesOctets (octets : List ℕ) (old new : State) : Type 0 where
   pub version : new.intake.feed.newest ≡ old.intake.feed.newest
   pub taken : TakesAnswers answers old new
 
--- what a step takes of a piece: so many octets, or all of it where it tells a fault
+-- the octets that a step takes of a piece: this number, or all of it at a fault
 abbrev pub taken_by : Result ℕ ℕ → List ℕ → List ℕ
 taken_by (Ok n) piece = take n piece
 taken_by (Err fault) piece = piece
 
--- what the octets that are held show then: this fault, or else a proper beginning of a record
+-- the octets held then show this fault, or else a proper beginning of a record
 abbrev pub shown_by : {A : Type 0} → Result A ℕ → Whole
 shown_by (Ok taken) = Rest
 shown_by (Err fault) = Fault fault

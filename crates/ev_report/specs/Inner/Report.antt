@@ -1,4 +1,4 @@
--- What a report is made from: a stream's records, one after the other, and the table that takes them.
+-- The basis of a report: a stream's records, one after the other, and the table that takes them.
 use Rattle.std.specs.Prelude.{ℕ, List, [], ◌∷◌, Result}
 use Rattle.route_wire.specs.Fields.{Fields}
 use Rattle.route_join.specs.Table.{Table}

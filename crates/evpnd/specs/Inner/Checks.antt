@@ -9,7 +9,7 @@ use Rattle.ev_config.specs.Config.{ConfigFor}
 use Rattle.evpnd.specs.declared.check.Purpose.{Purpose}
 use Rattle.evpnd.specs.Checks.{Checks}
 
--- what a text gives for a configuration is so checked, whatever the reader has
+-- the configuration of a text is checked, whatever the reader has
 abbrev pub ChecksText : Purpose → Text → End → End → End → End → ℕ → Type 0
 ChecksText purpose text out notes out' notes' status =
     (found : Result Config ConfigRefusal) × ConfigFor purpose.wanted text found

@@ -11,7 +11,7 @@ use Rattle.evpnd.specs.Configured.{OfFound}
 abbrev pub Never : {X : Type 0} → X → Devices → Devices → ℕ → Type 0
 Never config before after status = ⊥
 
--- A text gives this configuration; or this status, and what is found is told, whatever the input and the output have.
+-- A text gives this configuration; or this status, and a report of its fault, whatever the input and the output have.
 abbrev pub TextGives : {X : Type 0} → Gives X → Text → End → End → Result X ℕ → Type 0
 TextGives gives text notes notes' (Ok config) = (notes' ≡ notes) × gives text (Ok config)
 TextGives {X = X} gives text notes notes' (Err status) =
@@ -19,7 +19,7 @@ TextGives {X = X} gives text notes notes' (Err status) =
     × ((input : Source) → (out : End) → OfFound Never found (devices input out notes) (devices input out notes')
     status)
 
--- The file at a path has a text that gives this configuration; or this status, and what is found is told.
+-- The file at a path has a text that gives this configuration; or this status, and a report of the fault.
 abbrev pub FileGives : {X : Type 0} → Gives X → Text → Shelf → Shelf → End → End → Result X ℕ → Type 0
 FileGives gives path shelf shelf' notes notes' (Ok config) = (shelf' ≡ shelf) × (notes' ≡ notes)
     × ((text : Text) × IsTextOf shelf path text × gives text (Ok config))

@@ -1,4 +1,4 @@
--- Files: what they hold, and what became of asking for a text.
+-- Files: their content, and the result of reading one.
 use Rattle.std.specs.Prelude.{ℕ, Option}
 use Rattle.evpnd.specs.Files.{Text, Shelf}
 

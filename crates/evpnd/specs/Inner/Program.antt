@@ -4,7 +4,7 @@ use Rattle.ether_wire.specs.Ends.{End}
 use Rattle.ev_report.specs.Originators.{Text}
 use Rattle.ev_report.specs.Usage.{IsTold}
 
--- what became of telling a fault of the words: memory was refused once more for the text, or it was told
+-- the report of a fault of the arguments: memory was refused once more for the text, or it was written
 abbrev pub TellsFault : ℕ → ℕ → End → End → ℕ → Type 0
 TellsFault refusals refusals' notes notes' status =
     ((refusals' ≡ refusals + 1) × (notes' ≡ notes) × (status ≡ 3))

@@ -8,7 +8,7 @@ pub record Columns : Type 0 where
   pub owner : List (Option ℕ)
   pub lens : List ℕ
 
--- a list's number, from one more than it; 0 stands for none
+-- a list's number from one more than it; 0 means no list
 abbrev pub list_named : ℕ → Option ℕ
 list_named mark = if mark == 0 then None else Some (mark - 1)
 
@@ -16,7 +16,7 @@ list_named mark = if mark == 0 then None else Some (mark - 1)
 abbrev pub owners : ℕ → List ℕ → List (Option ℕ)
 owners lists marks = replicate lists None ++ map list_named (drop lists marks)
 
--- so many places, of which so many are lists', have numbers and lengths of 32 bits
+-- places of which some belong to lists have numbers and lengths of 32 bits
 pub record Fits (lists places : ℕ) : Type 0 where
   pub first : lists ≤ places
   pub small : places + 1 < 2 ^ 32

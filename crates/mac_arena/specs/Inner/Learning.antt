@@ -1,4 +1,4 @@
--- The learning table as callers see it (IEEE 802.1D-2004, 7.8 and 7.9), and what each call does to it.
+-- The learning table as callers see it (IEEE 802.1D-2004, 7.8 and 7.9), and the effect of each call.
 use Rattle.std.specs.Prelude.{ℕ, Option, Some, None, [], ◌∷◌, ◌++◌}
 use Rattle.std.specs.Prelude.{map, slice_set}
 use Rattle.std.specs.FinMap.{insert, remove}

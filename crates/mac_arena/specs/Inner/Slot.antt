@@ -1,9 +1,9 @@
--- What a node's slot says, and how a step changes it.
+-- The content of a node's slot, and its change at each step.
 use Rattle.std.specs.Prelude.{ℕ, Bool, true, false, Option, Some, None}
 use Rattle.mac_arena.specs.declared.station.Learned.{Learned}
 use Rattle.mac_arena.specs.Entry.{pinned_at, heard_at}
 
--- somebody, where the slot is taken
+-- a station, if the slot is taken
 abbrev pub learned_in : Bool → Learned → Option Learned
 learned_in false x = None
 learned_in true x = Some x

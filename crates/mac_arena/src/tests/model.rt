@@ -189,7 +189,7 @@ fn step(run: &mut Run, plain: &mut Plain, random: u64, second: u64) -> bool {
     }
 }
 
-// Whether so many random calls leave both tables alike after each.
+// Returns `true` if both tables are alike after each of this number of random calls.
 fn runs_alike(alloc: Global, capacity: usize, buckets: usize, seed: u64) -> bool
     requires capacity { capacity ≤ 65536 }
     requires some { 0 < buckets }

@@ -1,4 +1,4 @@
-//! The learning table: what each call does, one after the other.
+//! The learning table: the effect of each call, one after the other.
 use super::{Run, station};
 use crate::{Entry, Learnt};
 use std::test::Fail;

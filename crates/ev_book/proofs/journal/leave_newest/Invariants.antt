@@ -2,7 +2,7 @@ use Rattle.std.proofs.Common.{◌≡◌, ◌+◌, ◌≤◌, ◌++◌, length, v
 use Rattle.route_join.specs.Updates.{all_updates}
 use Rattle.ev_book.proofs.journal.leave_newest.Given as goal
 
--- what is left stands behind what was put back
+-- the remaining updates come after those that were put back
 abbrev pub invariant-loop-update : goal.invariant-loop-update
 invariant-loop-update l = record {
   all : l.updates.items ++ l.update-iterator ≡ all_updates l.table;

@@ -3,7 +3,7 @@ use Rattle.ev_report.specs.Migrated.{newest_along}
 use Rattle.ev_report.specs.Inner.Migrated.{behind}
 use Rattle.ev_report.proofs.migrate.newest_along.Given as goal
 
--- what is to be found from here on is what is to be found from the first
+-- the newest from here on is the newest from the first
 abbrev pub invariant-loop-update : goal.invariant-loop-update
 invariant-loop-update l = record {
   can_next : (goal.iterator-loop-update).can_next l.ahead;

@@ -4,7 +4,7 @@ use Rattle.ev_report.specs.Migrated.{migrated_along, migrated_of, records_of}
 use Rattle.ev_report.specs.Inner.Migrated.{behind}
 use Rattle.ev_report.proofs.migrate.put_migrated.Given as goal
 
--- what is left to write makes the whole, and the one iterator is where the other's old register ends
+-- the rest completes the output, and the one iterator is at the end of the other's old register
 abbrev pub invariant-loop-update : goal.invariant-loop-update
 invariant-loop-update g l = record {
   whole : with_text (g.W.Out.end l.initial.out) (records_of (migrated_of l.fn.table))

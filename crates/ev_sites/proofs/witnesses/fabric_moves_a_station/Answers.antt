@@ -1,8 +1,8 @@
 use Rattle.std.proofs.Common.{[], refl}
 use Rattle.ev_sites.proofs.Guest.{guest, second_moved}
 use Rattle.ev_sites.proofs.Agreed.{agreed, agreed_run, agrees}
-use Rattle.ev_sites.proofs.Moved.{second_with, come, moved, move_steps, rests, beside, agree_again, advertised_there}
-use Rattle.ev_sites.proofs.Moved.{comes}
+use Rattle.ev_sites.proofs.Moved.{second_with, come, left, moved, move_steps, rests, beside, agree_again}
+use Rattle.ev_sites.proofs.Moved.{advertised_there, first_round, second_round, comes}
 use Rattle.ev_sites.proofs.witnesses.fabric_moves_a_station.Goals as goal
 
 pub returns : goal.returns
@@ -20,6 +20,9 @@ returns c = record {
   new = moved;
   rests = rests;
   beside = beside;
+  half = left;
+  first_round = first_round;
+  second_round = second_round;
   agree = agree_again;
   edge = second_with second_moved [];
   at = refl;

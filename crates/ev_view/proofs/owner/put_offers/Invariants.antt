@@ -4,7 +4,7 @@ use Rattle.route_join.specs.Updates.{updates_of}
 use Rattle.ev_view.specs.Owners.{ranked, offer_lines}
 use Rattle.ev_view.proofs.owner.put_offers.Given as goal
 
--- what was written and what is still to be written is what was to be written
+-- the text written so far and the rest together are the whole text
 abbrev pub invariant-loop-turn : goal.invariant-loop-turn
 invariant-loop-turn g l = record {
   whole : with_text (g.W.Out.end l.initial.out)

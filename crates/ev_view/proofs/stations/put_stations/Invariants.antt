@@ -3,7 +3,7 @@ use Rattle.ether_wire.specs.Ends.{with_text}
 use Rattle.ev_view.specs.Stations.{station_lines, stations_text}
 use Rattle.ev_view.proofs.stations.put_stations.Given as goal
 
--- what is left to write makes the whole of what was written
+-- the rest completes the text written so far to the whole text
 abbrev pub invariant-loop-update : goal.invariant-loop-update
 invariant-loop-update g l = record {
   whole : with_text (g.W.Out.end l.initial.out) (stations_text l.number l.edge l.vni)

@@ -1,0 +1,9 @@
+//! That the public numbers of this crate are those of the standard.
+
+ghost use Rattle.bpdu_wire.specs.Numbers.{AreStandard};
+
+/// The flags, the roles and the unit of times are those of IEEE 802.1D-2004 (9.2.8, 9.3.3): the
+/// definitions have each as a numeral.
+pub fn numbers_are_standard()
+    ensures { AreStandard }
+{}

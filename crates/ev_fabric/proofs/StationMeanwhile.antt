@@ -1,0 +1,327 @@
+-- Frames for a station between its move and the agreement on it.
+use Rattle.std.proofs.Common.{◌≡◌, ◌≢◌, ◌⊎◌, inl, inr, ℕ, zero, suc, ◌==◌, Bool, true, false, Option, Some, None, Ok}
+use Rattle.std.proofs.Common.{List, [], ◌∷◌, refl, sym, ap, subst, ◌∙◌, arith}
+use Rattle.std.proofs.lemmas.Bool.{cases_eq}
+use Rattle.std.proofs.lemmas.Bool.Decides.{nat_tests}
+use Rattle.std.proofs.lemmas.List.Elements.{Contains-append_cases}
+use Rattle.std.specs.Prelude.{Contains, slice_get}
+use Rattle.std.specs.Option.{MatchOption, option_map}
+use Rattle.ether_wire.specs.Addr.{is_group}
+use Rattle.route_wire.specs.declared.update.Ip.{Ip}
+use Rattle.route_wire.specs.declared.update.Key.TheVariants.{Mac}
+use Rattle.route_wire.specs.declared.update.Register.{Register}
+use Rattle.route_wire.specs.declared.update.Advert.{Advert}
+use Rattle.route_wire.specs.declared.update.Value.{Value}
+use Rattle.route_wire.specs.Fields.{Fields}
+use Rattle.route_wire.specs.Order.{is_newer}
+use Rattle.route_wire.specs.Inner.Totals.{neither_newer}
+use Rattle.route_join.specs.Table.{Table, value_at, is_news, register_of}
+use Rattle.route_join.specs.Flood.{flood_of}
+use Rattle.route_join.specs.Owner.{advert_in, advert_of, advert_at, owner, IsOwner, IsUnowned}
+use Rattle.route_join.proofs.Owners.{owner_is}
+use Rattle.mac_arena.specs.declared.station.Station.{Station}
+use Rattle.mac_arena.specs.declared.station.Entry.{Entry}
+use Rattle.ev_tunnel.specs.declared.decision.Source.TheVariants.{Port}
+use Rattle.ev_tunnel.specs.Decision.{open_ports, others_of, local_for, remote_for}
+use Rattle.ev_claims.specs.Speaker.{Speaker, own_advert, is_newest}
+use Rattle.ev_claims.specs.LocalRoutes.{key_of}
+use Rattle.ev_edge.specs.declared.event.Event.{Event}
+use Rattle.ev_edge.specs.declared.reply.Reply.{Reply}
+use Rattle.ev_edge.specs.Edge.{Edge, table_of, address_of}
+use Rattle.ev_edge.specs.Sending.{port_of}
+use Rattle.ev_edge.specs.Steps.{Steps}
+use Rattle.ev_fabric.specs.declared.step.Step.{Step}
+use Rattle.ev_fabric.specs.declared.step.Step.TheVariants.{Local, Announce, Deliver, Restart}
+use Rattle.ev_fabric.specs.Fabric.{Fabric, IsEdge}
+use Rattle.ev_fabric.specs.Sound.{update_of, IsSound}
+use Rattle.ev_fabric.specs.Agreed.{Advertises}
+use Rattle.ev_fabric.specs.Laws.{IsFrameFor, GoesTo}
+use Rattle.ev_fabric.specs.Station.{is_of, StationComes, RunsBeside, LeavesStation, IsLeftAlone, NoneRestarts}
+use Rattle.ev_fabric.specs.Station.{updates_on, RunsAlone}
+use Rattle.ev_fabric.specs.Meanwhile.{IsFlooded, GoesHome, FramesMeanwhile}
+use Rattle.ev_fabric.proofs.Agreements.{individual, advert_bare}
+use Rattle.ev_fabric.proofs.Stations.{about_station, station_one, station_from}
+use Rattle.ev_fabric.proofs.Places.{set_cases}
+use Rattle.ev_fabric.proofs.Fabrics.{step_sound}
+use Rattle.ev_fabric.proofs.Sends.{IsSent, frame_sent, no_entry, elsewhere_local, elsewhere_remote, frames_come_out}
+use Rattle.ev_fabric.proofs.StationStages.{filter_has, said_news, IsAside}
+use Rattle.ev_fabric.proofs.StationMotion.{StageOf, Phase, AtFirst, AtTold, AtLost, AtOver, AtAged, AtLeft, AtBack}
+use Rattle.ev_fabric.proofs.StationMotion.{Stage, runs_stage}
+use Rattle.ev_fabric.proofs.StationMotion.{agreed_known}
+use Rattle.ev_fabric.proofs.StationMotion.{begins, u, base, first_stage, Begins}
+use Rattle.ev_fabric.proofs.StationArrival.{filter_from}
+use Rattle.ev_fabric.proofs.StationAlone.{AllKnow, know_alone}
+
+-- ---- what the edges knew they know
+left_alone : (i j : ℕ) (s : Station) (old new : Fabric) (step : Step) → LeavesStation i j s old step new
+    → IsLeftAlone s old step new
+left_alone i j s old new (Local e event) h = h
+left_alone i j s old new (Announce e) h = h
+left_alone i j s old new (Deliver e k) h = h
+left_alone i j s old new (Restart e n) h = elim h as (λ _. IsLeftAlone s old (Restart e n) new) [
+  | inl same ↦ inl same
+  | inr elsewhere ↦ inr (λ x a is at. (elsewhere x is).never a at)
+]
+
+beside_alone : (i j : ℕ) (s : Station) (steps : List Step) (old new : Fabric) → RunsBeside i j s old steps new
+    → RunsAlone s old steps new
+beside_alone i j s [] old new h = h
+beside_alone i j s (step ∷ steps) old new h =
+    (h.0, h.1, h.2, left_alone i j s old h.0 step h.3, beside_alone i j s steps h.0 new h.4)
+
+module _ (old : Fabric) (i j : ℕ) (s : Station) (mid : Fabric) (sound : IsSound old)
+    (m : StationComes old i j s mid) where
+  abbrev begun : Begins old i j s m.from m.to mid
+  begun = begins old i j s mid sound m
+
+  abbrev before : List Fields
+  before = base old i j s mid sound m
+
+  abbrev advert : Fields
+  advert = u old i j s mid sound m
+
+  know_mid : AllKnow s old.pool mid
+  know_mid y c w at in' of = elim (set_cases old.edges j begun.after y c (subst (λ f. IsEdge f y c) begun.is
+      at)) as (λ _. is_newest c.routes.speaker w ≡ false) [
+        | inl p ↦ ap (λ (e : Edge). is_newest e.routes.speaker w) p.1
+            ∙ ap (λ (e : Speaker). is_newest e w) begun.learns.speaker
+            ∙ said_news m.to.routes.speaker (key_of s) begun.learns.content
+            (sound.good j m.to m.at_to).routes.numbers w (agreed_known old s m.agree j m.to w m.at_to in' of)
+        | inr p ↦ agreed_known old s m.agree y c w p.1 in' of
+      ]
+
+  -- ---- whose adverts an edge has
+  module _ (new : Fabric) (still_sound : IsSound new) (know : AllKnow s old.pool new)
+      (stage : Stage false before i j s (address_of m.from) advert new.pool new.edges) where
+    -- an advert that was in the pool before and is there still is the old place's
+    old_advert : (x : ℕ) (a : Edge) → IsEdge new x a → (o : ℕ) (ip : Option Ip) (v : Value)
+        → value_at (table_of a) (register_of o (Mac s.vni s.mac ip)) ≡ Some v → (y : Advert)
+        → advert_in v.content ≡ Some y → Contains old.pool (update_of (register_of o (Mac s.vni s.mac ip)) v)
+        → o ≡ address_of m.from
+    old_advert x a at o ip v there y says in' = go (sound.sources (update_of r v) in')
+      where
+        r : Register
+        r = register_of o (Mac s.vni s.mac ip)
+
+        of : is_of s r ≡ true
+        of = about_station s ip
+
+        go : ((l : ℕ) × (p : Edge) × IsEdge old l p × (address_of p ≡ o)) → o ≡ address_of m.from
+        go (l, p, at_p, name) = from_is (m.agree.arrived l p (update_of r v) at_p of in')
+          where
+            from_is : ((w : Value) × (value_at (table_of p) r ≡ Some w) × (is_newer v w ≡ false))
+                → o ≡ address_of m.from
+            from_is (w, has, low) =
+                let known : is_news (value_at (table_of a) r) w ≡ false =
+                know x a (update_of r w) at (station_from old s sound m.agree l p r w at_p of has) of in
+                let back : is_newer w v ≡ false = ap (λ z. is_news z w) (sym there) ∙ known in
+                let same : v ≡ w = neither_newer v w low back in
+                let own_is : value_at (table_of p) (register_of (address_of p) (Mac s.vni s.mac ip)) ≡ Some w =
+                ap (λ q. value_at (table_of p) (register_of q (Mac s.vni s.mac ip))) name ∙ has in
+                let advertises : own_advert p.routes.speaker (Mac s.vni s.mac ip) ≡ Some y =
+                ap advert_of own_is ∙ ap (λ (z : Value). advert_in z.content) (sym same) ∙ says in
+                let place = station_one old s sound m.agree l i p m.from at_p m.at_from (ip, y, advertises) m.had in
+                let both : Some p ≡ Some m.from = sym at_p
+                ∙ subst (λ n. slice_get old.edges n ≡ Some m.from) (sym place) m.at_from in
+                let p_is : p ≡ m.from = cc in
+                sym name ∙ ap (λ (e : Edge). address_of e) p_is
+
+    -- what an edge has of another's adverts is the old place's or the new one's
+    of_two : (x : ℕ) (a : Edge) → IsEdge new x a → (o : ℕ) → o ≢ address_of a → (ip : Option Ip) (y : Advert)
+        → advert_at (table_of a) o (Mac s.vni s.mac ip) ≡ Some y → (o ≡ address_of m.from) ⊎ (o ≡ address_of m.to)
+    of_two x a at o other ip y is = go (value_at (table_of a) r) refl is
+      where
+        r : Register
+        r = register_of o (Mac s.vni s.mac ip)
+
+        old_one : (v : Value) → value_at (table_of a) r ≡ Some v → advert_in v.content ≡ Some y
+            → Contains before (update_of r v) → (o ≡ address_of m.from) ⊎ (o ≡ address_of m.to)
+        old_one v there says in' = inl (old_advert x a at o ip v there y says
+            (filter_from (λ (z : Fields). is_of s z.register) old.pool (update_of r v) in').0)
+
+        one : (v w : Fields) → Contains (w ∷ []) v → v ≡ w
+        one v w (zero, lt, is) = sym is
+        one v w (suc n, lt, is) = absurd (omega (arith, lt))
+
+        two : (v w z : Fields) → Contains (w ∷ z ∷ []) v → (v ≡ w) ⊎ (v ≡ z)
+        two v w z (zero, lt, is) = inl (sym is)
+        two v w z (suc zero, lt, is) = inr (sym is)
+        two v w z (suc (suc n), lt, is) = absurd (omega (arith, lt))
+
+        new_one : (v : Value) → update_of r v ≡ advert → (o ≡ address_of m.from) ⊎ (o ≡ address_of m.to)
+        new_one v same = inr (ap (λ (z : Fields). z.register.originator) same)
+
+        among : (v : Value) → value_at (table_of a) r ≡ Some v → advert_in v.content ≡ Some y
+            → Contains (updates_on s new.pool) (update_of r v) → {extra : List Fields} {here there : List Register}
+            {says : Bool} → Phase false s (address_of m.from) advert extra here there says
+            → StageOf before extra i j s (address_of m.from) advert here there says new.pool new.edges
+            → (o ≡ address_of m.from) ⊎ (o ≡ address_of m.to)
+        among v there says in' AtFirst g = elim (Contains-append_cases before [] (update_of r v)
+            (subst (λ l. Contains l (update_of r v)) g.grown in')) as (λ _. (o ≡ address_of m.from)
+            ⊎ (o ≡ address_of m.to)) [
+              | inl earlier ↦ old_one v there says earlier
+              | inr never ↦ absurd (let lt = never.1 in omega (arith, lt))
+            ]
+        among v there says in' AtTold g = elim (Contains-append_cases before (advert ∷ []) (update_of r v)
+            (subst (λ l. Contains l (update_of r v)) g.grown in')) as (λ _. (o ≡ address_of m.from)
+            ⊎ (o ≡ address_of m.to)) [
+              | inl earlier ↦ old_one v there says earlier
+              | inr now ↦ new_one v (one (update_of r v) advert now)
+            ]
+        among v there says in' AtLost g = elim (Contains-append_cases before (advert ∷ []) (update_of r v)
+            (subst (λ l. Contains l (update_of r v)) g.grown in')) as (λ _. (o ≡ address_of m.from)
+            ⊎ (o ≡ address_of m.to)) [
+              | inl earlier ↦ old_one v there says earlier
+              | inr now ↦ new_one v (one (update_of r v) advert now)
+            ]
+        among v there says in' (AtOver w named none) g = elim (Contains-append_cases before (advert ∷ w ∷ [])
+            (update_of r v) (subst (λ l. Contains l (update_of r v)) g.grown in')) as (λ _. (o ≡ address_of m.from)
+            ⊎ (o ≡ address_of m.to)) [
+              | inl earlier ↦ old_one v there says earlier
+              | inr now ↦ elim (two (update_of r v) advert w now) as (λ _. (o ≡ address_of m.from)
+                  ⊎ (o ≡ address_of m.to)) [
+                    | inl same ↦ new_one v same
+                    | inr same ↦ inl (ap (λ (z : Fields). z.register.originator) same
+                        ∙ ap (λ (q : Register). q.originator) named)
+                  ]
+            ]
+        among v there says in' (AtAged yes') g = absurd (let bad : false ≡ true = yes' in cc)
+        among v there says in' (AtLeft yes' w named none) g = absurd (let bad : false ≡ true = yes' in cc)
+        among v there says in' (AtBack yes' w named none) g = absurd (let bad : false ≡ true = yes' in cc)
+
+        go : (v : Option Value) → value_at (table_of a) r ≡ v → advert_of v ≡ Some y
+            → (o ≡ address_of m.from) ⊎ (o ≡ address_of m.to)
+        go None there says = cc
+        go (Some v) there says = among v there says
+            (filter_has (λ (z : Fields). is_of s z.register) new.pool (update_of r v) (about_station s ip)
+            ((still_sound.told x a at).foreign r v other there)) stage.phase stage.of
+
+    -- who has learnt the station is one of the two
+    at_two : (x : ℕ) (a : Edge) → IsEdge new x a → Advertises a s → (x ≡ i) ⊎ (x ≡ j)
+    at_two x a at says = elim (cases_eq x i) as (λ _. (x ≡ i) ⊎ (x ≡ j)) [
+      | inl p ↦ inl p
+      | inr ne_i ↦ elim (cases_eq x j) as (λ _. (x ≡ i) ⊎ (x ≡ j)) [
+        | inl p ↦ inr p
+        | inr ne_j ↦ absurd (none (stage.of.asides x a ne_i ne_j at))
+      ]
+    ]
+      where
+        none : IsAside new.pool s a.routes.speaker → ⊥
+        none h =
+            let z = advert_bare a s (still_sound.good x a at) says in
+            let bad : None ≡ Some z.0 = sym h.quiet ∙ z.1 in
+            cc
+
+-- ---- frames
+
+-- a station that isn't learnt and has no other owner is unknown
+unknown_local : (t : Table) (vni m own members passing port : ℕ) (entry : Option ℕ) → is_group m ≡ false
+    → entry ≡ None → (x : Option ℕ) → owner t vni m ≡ x → ((o : ℕ) → x ≡ Some o → (o == own) ≡ true)
+    → local_for t vni m entry own (Port port) members passing
+    ≡ open_ports (Port port) (record { members = members; passing = passing })
+unknown_local t vni m own members passing port entry group none None is mine = rw (group, none, is) refl
+unknown_local t vni m own members passing port entry group none (Some o) is mine = let same = mine o refl in
+    rw (group, none, is, same) refl
+
+unknown_remote : (t : Table) (vni m own port : ℕ) (entry : Option ℕ) → is_group m ≡ false → entry ≡ None
+    → (x : Option ℕ) → owner t vni m ≡ x → ((o : ℕ) → x ≡ Some o → (o == own) ≡ true)
+    → remote_for t vni m entry own (Port port) ≡ others_of own (flood_of t vni)
+unknown_remote t vni m own port entry group none None is mine = rw (group, none, is) refl
+unknown_remote t vni m own port entry group none (Some o) is mine = let same = mine o refl in
+    rw (group, none, is, same) refl
+
+-- a frame of which this is known
+module _ (i j : ℕ) (s : Station) (old mid new : Fabric) (steps : List Step) (sound : IsSound old)
+    (m : StationComes old i j s mid) (runs : RunsBeside i j s mid steps new) (none : NoneRestarts steps) (x : ℕ)
+    (a b : Edge) (at : IsEdge new x a) (event : Event) (port : ℕ) (reply : Reply) (frame : IsFrameFor a event port s)
+    (does : Steps a event (Ok reply) b) where
+  abbrev Goes : Type 0
+  Goes = (((x ≡ i) ⊎ (x ≡ j)) × GoesHome a s port reply) ⊎ GoesTo (address_of m.from) reply
+      ⊎ GoesTo (address_of m.to) reply ⊎ IsFlooded b s port reply
+
+  sound_mid : IsSound mid
+  sound_mid = step_sound old mid (Local (suc j) m.event) m.result m.step sound
+
+  abbrev begun' : Begins old i j s m.from m.to mid
+  begun' = begins old i j s mid sound m
+
+  end : Stage false (updates_on s old.pool) i j s (address_of m.from) (u old i j s mid sound m) new.pool new.edges
+      × IsSound new
+  end = runs_stage false (updates_on s old.pool) i j s (address_of m.from) (u old i j s mid sound m) begun'.apart
+      begun'.learns.advert steps mid new sound_mid runs (first_stage old i j s mid sound m false)
+
+  know : AllKnow s old.pool new
+  know = know_alone s old.pool steps mid new sound_mid (beside_alone i j s steps mid new runs) none
+      (know_mid old i j s mid sound m)
+
+  single : is_group s.mac ≡ false
+  single = individual m.from s (sound.good i m.from m.at_from) m.had
+
+  sent : IsSent a b s (Port port) reply
+  sent = frame_sent a b event port s reply frame does
+
+  away : (Advertises a s → ⊥) → Goes
+  away quiet = owned (owner (table_of b) s.vni s.mac) refl (owner_is (table_of b) s.vni s.mac)
+    where
+      unlearnt : port_of b s.vni s.mac ≡ None
+      unlearnt = ap (option_map (λ (y : Entry). y.port)) (sent.leaves.entry
+          ∙ no_entry a s (end.1.good x a at) quiet)
+
+      flooded : (o : Option ℕ) → owner (table_of b) s.vni s.mac ≡ o
+          → ((p : ℕ) → o ≡ Some p → (p == address_of b) ≡ true) → Goes
+      flooded o is mine = inr (inr (inr (record {
+        decision = sent.decision;
+        there = sent.there;
+        members = sent.is.members;
+        are_members = sent.is.are_members;
+        passing = sent.is.passing;
+        are_passing = sent.is.are_passing;
+        local = sent.is.local ∙ unknown_local (table_of b) s.vni s.mac (address_of b) sent.is.members sent.is.passing
+            port (port_of b s.vni s.mac) single unlearnt o is mine;
+        remote = sent.is.remote ∙ unknown_remote (table_of b) s.vni s.mac (address_of b) port
+            (port_of b s.vni s.mac) single unlearnt o is mine;
+      })))
+
+      to_one : (o : ℕ) → owner (table_of b) s.vni s.mac ≡ Some o → (o == address_of b) ≡ false → GoesTo o reply
+      to_one o is far = record {
+        decision = sent.decision;
+        there = sent.there;
+        local = sent.is.local ∙ elsewhere_local (table_of b) s.vni s.mac (address_of b) o sent.is.members
+            sent.is.passing port (port_of b s.vni s.mac) single unlearnt is far;
+        remote = sent.is.remote ∙ elsewhere_remote (table_of b) s.vni s.mac (address_of b) o port
+            (port_of b s.vni s.mac) single unlearnt is far;
+      }
+
+      owned : (o : Option ℕ) → owner (table_of b) s.vni s.mac ≡ o
+          → MatchOption (owner (table_of b) s.vni s.mac) (IsUnowned (table_of b) s.vni s.mac)
+          (IsOwner (table_of b) s.vni s.mac) → Goes
+      owned None is h = flooded None is (λ p never. absurd cc)
+      owned (Some o) is h = pick (o == address_of b) refl
+          (subst (λ z. MatchOption z (IsUnowned (table_of b) s.vni s.mac) (IsOwner (table_of b) s.vni s.mac)) is h)
+        where
+          pick : (q : Bool) → (o == address_of b) ≡ q → IsOwner (table_of b) s.vni s.mac o → Goes
+          pick true mine h = flooded (Some o) is (λ p same. let equal : o ≡ p = cc in
+              ap (λ n. n == address_of b) (sym equal) ∙ mine)
+          pick false far h =
+              let other : o ≢ address_of a = (λ same. let mine : o ≡ address_of b = same ∙ sym sent.leaves.address in
+              grind (arith, nat_tests)) in
+              elim (of_two old i j s mid sound m new end.1 know end.0 x a at o other h.ip h.advert
+              (sym (sent.leaves.adverts o h.ip) ∙ h.own)) as (λ _. Goes) [
+                | inl from ↦ inr (inl (subst (λ n. GoesTo n reply) from (to_one o is far)))
+                | inr to ↦ inr (inr (inl (subst (λ n. GoesTo n reply) to (to_one o is far))))
+              ]
+
+  goes : (y : Option Advert) → own_advert a.routes.speaker (key_of s) ≡ y → Goes
+  goes (Some y) is =
+      let says : Advertises a s = (None, y, is) in
+      inl (
+        at_two old i j s mid sound m new end.1 know end.0 x a at says,
+        frames_come_out a b s (end.1.good x a at) says event port reply frame does,
+      )
+  goes None is = away (λ says. let z = advert_bare a s (end.1.good x a at) says in
+      let bad : None ≡ Some z.0 = sym is ∙ z.1 in cc)
+
+pub frames_meanwhile : FramesMeanwhile
+frames_meanwhile i j s old mid new steps sound m runs none x a b at event port reply frame does =
+    goes i j s old mid new steps sound m runs none x a b at event port reply frame does
+    (own_advert a.routes.speaker (key_of s)) refl

@@ -1,0 +1,352 @@
+-- Rounds of a station end in agreement on it.
+use Rattle.std.proofs.Common.{◌≡◌, ◌⊎◌, inl, inr, ℕ, zero, suc, ◌+◌, ◌<◌, ◌≤◌, Bool, true, false}
+use Rattle.std.proofs.Common.{None, List, [], ◌∷◌, ◌++◌, length, refl, sym, ap, subst, ◌∙◌, arith}
+use Rattle.std.proofs.lemmas.List.{length-append}
+use Rattle.std.proofs.lemmas.List.Elements.{filter-append, Contains-append_cases}
+use Rattle.std.specs.Prelude.{Contains}
+use Rattle.route_wire.specs.declared.update.Register.{Register}
+use Rattle.route_wire.specs.Fields.{Fields}
+use Rattle.route_join.specs.Table.{register_of}
+use Rattle.mac_arena.specs.declared.station.Station.{Station}
+use Rattle.ev_claims.specs.Speaker.{own_advert}
+use Rattle.ev_claims.specs.LocalRoutes.{key_of}
+use Rattle.ev_edge.specs.Edge.{Edge, address_of}
+use Rattle.ev_fabric.specs.declared.step.Step.{Step}
+use Rattle.ev_fabric.specs.declared.step.Step.TheVariants.{Local}
+use Rattle.ev_fabric.specs.Fabric.{Fabric, IsEdge}
+use Rattle.ev_fabric.specs.Sound.{update_of, IsSound}
+use Rattle.ev_fabric.specs.Runs.{Runs}
+use Rattle.ev_fabric.specs.Later.{IsLaterFabric}
+use Rattle.ev_fabric.specs.Station.{is_of, AgreesOn, updates_on, unannounced_on, to_come_on, RunsAlone, StationComes}
+use Rattle.ev_fabric.specs.Station.{RunsBeside}
+use Rattle.ev_fabric.specs.Rounds.{WasAnnounced, AllAnnounced, AllTaken, Rounds, StationAgrees, StationAgreesStill}
+use Rattle.ev_fabric.specs.Rounds.{AgreesInFour, IsOrderly, AgreesInTwo}
+use Rattle.ev_fabric.proofs.Agreements.{none_pending}
+use Rattle.ev_fabric.proofs.Stations.{about_station, station_one}
+use Rattle.ev_fabric.proofs.Fabrics.{step_sound, runs_sound}
+use Rattle.ev_fabric.proofs.Goings.{runs_lead}
+use Rattle.ev_fabric.proofs.ConvergingSums.{sum_has}
+use Rattle.ev_fabric.proofs.StationStages.{filter_none, filter_has, no_push, waiting}
+use Rattle.ev_fabric.proofs.StationMotion.{StageOf, Phase, AtFirst, AtTold, AtLost, AtOver, AtAged, AtLeft}
+use Rattle.ev_fabric.proofs.StationMotion.{AtBack, Stage, runs_stage}
+use Rattle.ev_fabric.proofs.StationMotion.{begins, u, base, first_stage, some_is, to_advertises, Begins}
+use Rattle.ev_fabric.proofs.StationRest.{station_settles}
+use Rattle.ev_fabric.proofs.StationArrival.{filter_from, stage_waits}
+use Rattle.ev_fabric.proofs.StationAlone.{AllCalm, IsOld, same_old, calm_waits, agreed_calm, calm_runs}
+
+-- ---- runs
+alone_runs : (s : Station) (steps : List Step) (old new : Fabric) → RunsAlone s old steps new → Runs old steps new
+alone_runs s [] old new h = h
+alone_runs s (step ∷ steps) old new h = (h.0, h.1, h.2, alone_runs s steps h.0 new h.4)
+
+beside_runs : (i j : ℕ) (s : Station) (steps : List Step) (old new : Fabric) → RunsBeside i j s old steps new
+    → Runs old steps new
+beside_runs i j s [] old new h = h
+beside_runs i j s (step ∷ steps) old new h = (h.0, h.1, h.2, beside_runs i j s steps h.0 new h.4)
+
+-- ---- what the pool has of a station
+one_at_least : {X : Type 0} (xs : List X) (x : X) → Contains xs x → 1 ≤ length xs
+one_at_least [] x (k, lt, is) = absurd (omega (arith, lt))
+one_at_least (y ∷ ys) x in' = omega arith
+
+no_length : {X : Type 0} (xs : List X) → length xs ≤ 0 → xs ≡ []
+no_length [] le = refl
+no_length (x ∷ xs) le = absurd (omega (arith, le))
+
+abbrev count : Station → Fabric → ℕ
+count s f = length (updates_on s f.pool)
+
+counted : (s : Station) (old new : Fabric) (more : List Fields) → new.pool ≡ old.pool ++ more
+    → count s new ≡ count s old + length (updates_on s more)
+counted s old new more pool = ap (λ l. length (updates_on s l)) pool
+    ∙ ap length (filter-append (λ (y : Fields). is_of s y.register) old.pool more)
+    ∙ length-append (updates_on s old.pool) (updates_on s more)
+
+grows : (s : Station) (old new : Fabric) → IsLaterFabric old new → count s old ≤ count s new
+grows s old new h = let sum = counted s old new h.more h.pool in omega (arith, sum)
+
+announced_grows : (s : Station) (old new : Fabric) (r : Register) → is_of s r ≡ true → WasAnnounced old new r
+    → count s old + 1 ≤ count s new
+announced_grows s old new r of h =
+    let sum = counted s old new h.more h.pool in
+    let some = one_at_least (updates_on s h.more) (update_of r h.value)
+    (filter_has (λ (y : Fields). is_of s y.register) h.more (update_of r h.value) of h.there) in
+    omega (arith, sum, some)
+
+no_more : (s : Station) (old new : Fabric) → IsLaterFabric old new → count s new ≤ count s old → IsOld s old new
+no_more s old new h few w of in' =
+    elim (Contains-append_cases old.pool h.more w (subst (λ l. Contains l w) h.pool in')) as (λ _. Contains
+    old.pool w) [
+      | inl there ↦ there
+      | inr later ↦
+          let sum = counted s old new h.more h.pool in
+          let some = one_at_least (updates_on s h.more) w
+          (filter_has (λ (y : Fields). is_of s y.register) h.more w of later) in
+          absurd (omega (arith, sum, some, few))
+    ]
+
+-- where all was taken, nothing is pending, and nothing came meanwhile, the edges agree
+taken_agrees : (s : Station) (old new : Fabric) → AllTaken s old new → IsOld s old new
+    → ((y : ℕ) (c : Edge) → IsEdge new y c → waiting s c.routes.speaker ≡ []) → AgreesOn new s
+taken_agrees s old new taken pool waits = record {
+  quiet = λ y c r at of in'. none_pending (subst (λ l. Contains l r) (waits y c at)
+      (filter_has (is_of s) c.routes.speaker.pending r of in'));
+  arrived = λ y c w at of in'. taken y c w at of (pool w of in');
+}
+
+-- ---- from anywhere
+
+-- a run that leaves a station alone
+module _ (s : Station) (steps : List Step) (old new : Fabric) (sound : IsSound old)
+    (runs : RunsAlone s old steps new) where
+  alone_later : IsLaterFabric old new
+  alone_later = runs_lead steps old new sound (alone_runs s steps old new runs)
+
+  alone_sound : IsSound new
+  alone_sound = runs_sound steps old new (alone_runs s steps old new runs) sound
+
+  -- less may still come, and each update makes it less
+  alone_less : count s new + to_come_on s new ≤ count s old + to_come_on s old
+  alone_less = station_settles s steps old new sound runs
+
+calm_rounds : (s : Station) (n : ℕ) (old new : Fabric) → IsSound old → AllCalm s old
+    → Rounds (RunsAlone s) s (suc n) old new → AgreesOn new s
+calm_rounds s zero old new sound calm h =
+    let after = calm_runs s h.1 old h.0 sound h.2 calm in
+    subst (λ f. AgreesOn f s) (sym h.4) (taken_agrees s old h.0 h.3.taken (same_old s old h.0 after.1)
+    (λ y c at. calm_waits h.0.pool s c.routes.speaker (after.0 y c at)))
+calm_rounds s (suc n) old new sound calm h =
+    let after = calm_runs s h.1 old h.0 sound h.2 calm in
+    calm_rounds s n h.0 new (alone_sound s h.1 old h.0 sound h.2) after.0 h.4
+
+pub station_agrees_still : StationAgreesStill
+station_agrees_still s zero old new sound agree h = subst (λ f. AgreesOn f s) (sym h) agree
+station_agrees_still s (suc n) old new sound agree h = calm_rounds s n old new sound (agreed_calm old s agree) h
+
+-- where an edge has something pending, something may come
+waits_come : (s : Station) (f : Fabric) (y : ℕ) (c : Edge) → IsEdge f y c
+    → length (waiting s c.routes.speaker) ≤ to_come_on s f
+waits_come s f y c at = let has = sum_has (λ (a : Edge). unannounced_on s f.pool a.routes.speaker) f.edges y c at in
+    omega (arith, has)
+
+less_or_not : (m n : ℕ) → (m < n) ⊎ (n ≤ m)
+less_or_not m zero = inr (omega arith)
+less_or_not zero (suc n) = inl (omega arith)
+less_or_not (suc m) (suc n) = elim (less_or_not m n) as (λ _. (suc m < suc n) ⊎ (suc n ≤ suc m)) [
+  | inl less ↦ inl (omega (arith, less))
+  | inr not ↦ inr (omega (arith, not))
+]
+
+pub station_agrees : StationAgrees
+station_agrees s zero old new sound h enough = absurd (omega (arith, enough))
+station_agrees s (suc zero) old new sound h enough = subst (λ f. AgreesOn f s) (sym h.4)
+    (taken_agrees s old h.0 h.3.taken (no_more s old h.0 later few) (λ y c at. let less = alone_less s h.1 old h.0
+    sound h.2 in let more = grows s old h.0 later in let bound = waits_come s h.0 y c at in
+    no_length (waiting s c.routes.speaker) (omega (arith, less, more, bound, enough))))
+  where
+    later : IsLaterFabric old h.0
+    later = alone_later s h.1 old h.0 sound h.2
+
+    few : count s h.0 ≤ count s old
+    few = let less = alone_less s h.1 old h.0 sound h.2 in omega (arith, less, enough)
+station_agrees s (suc (suc n)) old new sound h enough =
+    elim (less_or_not (to_come_on s next) (to_come_on s old)) as (λ _. AgreesOn new s) [
+      | inl drop ↦ station_agrees s n next new (alone_sound s h.4.1 h.0 next sound_mid h.4.2) h.4.4
+          (omega (arith, drop, enough))
+      | inr keeps ↦ calm_rounds s n h.0 new sound_mid (agreed_calm h.0 s (agree keeps)) h.4
+    ]
+  where
+    next : Fabric
+    next = h.4.0
+
+    sound_mid : IsSound h.0
+    sound_mid = alone_sound s h.1 old h.0 sound h.2
+
+    agree : to_come_on s old ≤ to_come_on s next → AgreesOn h.0 s
+    agree keeps = taken_agrees s old h.0 h.3.taken (no_more s old h.0 (alone_later s h.1 old h.0 sound h.2) few)
+        quiet
+      where
+        first : count s h.0 + to_come_on s h.0 ≤ count s old + to_come_on s old
+        first = alone_less s h.1 old h.0 sound h.2
+
+        second : count s next + to_come_on s next ≤ count s h.0 + to_come_on s h.0
+        second = alone_less s h.4.1 h.0 next sound_mid h.4.2
+
+        before : count s old ≤ count s h.0
+        before = grows s old h.0 (alone_later s h.1 old h.0 sound h.2)
+
+        after : count s h.0 ≤ count s next
+        after = grows s h.0 next (alone_later s h.4.1 h.0 next sound_mid h.4.2)
+
+        few : count s h.0 ≤ count s old
+        few = let a = first in let b = second in let d = after in let e = keeps in omega (arith, a, b, d, e)
+
+        quiet : (y : ℕ) (c : Edge) → IsEdge h.0 y c → waiting s c.routes.speaker ≡ []
+        quiet y c at = filter_none (is_of s) c.routes.speaker.pending (λ r in' of.
+            let more = announced_grows s h.0 next r of (h.4.3.announced y c r at of in') in
+            let a = first in let b = second in let d = before in let e = keeps in
+            omega (arith, more, a, b, d, e))
+
+-- ---- after a move
+
+module _ (old : Fabric) (i j : ℕ) (s : Station) (mid : Fabric) (sound : IsSound old)
+    (m : StationComes old i j s mid) where
+  abbrev before : List Fields
+  before = base old i j s mid sound m
+
+  abbrev advert : Fields
+  advert = u old i j s mid sound m
+
+  abbrev begun : Begins old i j s m.from m.to mid
+  begun = begins old i j s mid sound m
+
+  abbrev Staged : Fabric → Type 0
+  Staged f = Stage false before i j s (address_of m.from) advert f.pool f.edges
+
+  -- a fabric on the way
+  record Point (f : Fabric) : Type 0 where
+    stage : Staged f
+    sound_still : IsSound f
+
+  point_mid : Point mid
+  point_mid = record {
+    stage = first_stage old i j s mid sound m false;
+    sound_still = step_sound old mid (Local (suc j) m.event) m.result m.step sound;
+  }
+
+  module _ (steps : List Step) (f g : Fabric) (runs : RunsBeside i j s f steps g) (p : Point f) where
+    point_runs : Point g
+    point_runs = let after = runs_stage false before i j s (address_of m.from) advert begun.apart begun.learns.advert
+        steps f g p.sound_still runs p.stage in record { stage = after.0; sound_still = after.1 }
+
+    point_later : IsLaterFabric f g
+    point_later = runs_lead steps f g p.sound_still (beside_runs i j s steps f g runs)
+
+  one_more : (w : Fields) → length (before ++ w ∷ []) ≡ length before + 1
+  one_more w = length-append before (w ∷ [])
+
+  two_more : (w z : Fields) → length (before ++ w ∷ z ∷ []) ≡ length before + 2
+  two_more w z = length-append before (w ∷ z ∷ [])
+
+  -- once all that was pending is announced, the pool has the advert
+  advert_out : (f g : Fabric) → IsLaterFabric f g → {extra : List Fields} {here there : List Register} {says : Bool}
+      → Phase false s (address_of m.from) advert extra here there says
+      → StageOf before extra i j s (address_of m.from) advert here there says f.pool f.edges → AllAnnounced s f g
+      → length before + 1 ≤ count s g
+  advert_out f g later AtFirst k all =
+      let same = ap length (k.grown ∙ no_push before) in
+      let more = announced_grows s f g advert.register (about_station s None)
+      (all j k.to advert.register k.at_to (about_station s None) (filter_from (is_of s) k.to.routes.speaker.pending
+      advert.register (subst (λ l. Contains l advert.register) (sym k.is_to.waits) (0, omega arith, refl))).0) in
+      omega (arith, same, more)
+  advert_out f g later AtTold k all =
+      let same = ap length k.grown ∙ one_more advert in let more = grows s f g later in omega (arith, same, more)
+  advert_out f g later AtLost k all =
+      let same = ap length k.grown ∙ one_more advert in let more = grows s f g later in omega (arith, same, more)
+  advert_out f g later (AtOver w named none) k all =
+      let same = ap length k.grown ∙ two_more advert w in let more = grows s f g later in omega (arith, same, more)
+  advert_out f g later (AtAged yes') k all = absurd (let bad : false ≡ true = yes' in cc)
+  advert_out f g later (AtLeft yes' v named' none') k all = absurd (let bad : false ≡ true = yes' in cc)
+  advert_out f g later (AtBack yes' v named' none') k all = absurd (let bad : false ≡ true = yes' in cc)
+
+  -- the old place has lost the station, or has withdrawn it
+  abbrev Lost : Fabric → Type 0
+  Lost f = StageOf before (advert ∷ []) i j s (address_of m.from) advert
+      (register_of (address_of m.from) (key_of s) ∷ []) [] false f.pool f.edges ⊎ (length before + 2 ≤ count s f)
+
+  -- once all that the pool had is taken, it has: else both places would agree and advertise it
+  station_lost : (f g : Fabric) → IsLaterFabric f g → length before + 1 ≤ count s f → Point g → AllTaken s f g → Lost g
+  station_lost f g later out p taken = go p.stage.phase p.stage.of
+    where
+      go : {extra : List Fields} {here there : List Register} {says : Bool}
+          → Phase false s (address_of m.from) advert extra here there says
+          → StageOf before extra i j s (address_of m.from) advert here there says g.pool g.edges → Lost g
+      go AtFirst k = let same = ap length (k.grown ∙ no_push before) in let more = grows s f g later in
+          absurd (omega (arith, same, more, out))
+      go AtTold k =
+          let same = ap length k.grown ∙ one_more advert in
+          let agree = taken_agrees s f g taken (no_more s f g later (omega (arith, same, out))) (stage_waits k) in
+          let y = some_is (own_advert k.from.routes.speaker (key_of s)) k.is_from.said in
+          absurd (begun.apart (station_one g s p.sound_still agree i j k.from k.to k.at_from k.at_to (
+            None,
+            y.0,
+            y.1,
+          ) (to_advertises g.pool (advert ∷ []) s advert [] k.to begun.learns.advert k.is_to)))
+      go AtLost k = inl k
+      go (AtOver w named none) k = let same = ap length k.grown ∙ two_more advert w in inr (omega (arith, same))
+      go (AtAged yes') k = absurd (let bad : false ≡ true = yes' in cc)
+      go (AtLeft yes' v named' none') k = absurd (let bad : false ≡ true = yes' in cc)
+      go (AtBack yes' v named' none') k = absurd (let bad : false ≡ true = yes' in cc)
+
+  -- once all that was pending is announced, the pool has the withdrawal
+  withdrawal_out : (f g : Fabric) → IsLaterFabric f g → Lost f → AllAnnounced s f g → length before + 2 ≤ count s g
+  withdrawal_out f g later (inr out) all = let more = grows s f g later in omega (arith, out, more)
+  withdrawal_out f g later (inl k) all =
+      let r : Register = register_of (address_of m.from) (key_of s) in
+      let same = ap length k.grown ∙ one_more advert in
+      let more = announced_grows s f g r (about_station s None)
+      (all i k.from r k.at_from (about_station s None) (filter_from (is_of s) k.from.routes.speaker.pending r
+      (subst (λ l. Contains l r) (sym k.is_from.waits) (0, omega arith, refl))).0) in
+      omega (arith, same, more)
+
+  -- and once that is taken the edges agree
+  over_agrees : (f g : Fabric) → IsLaterFabric f g → length before + 2 ≤ count s f → Point g → AllTaken s f g
+      → AgreesOn g s
+  over_agrees f g later out p taken = go p.stage.phase p.stage.of
+    where
+      go : {extra : List Fields} {here there : List Register} {says : Bool}
+          → Phase false s (address_of m.from) advert extra here there says
+          → StageOf before extra i j s (address_of m.from) advert here there says g.pool g.edges → AgreesOn g s
+      go AtFirst k = let same = ap length (k.grown ∙ no_push before) in let more = grows s f g later in
+          absurd (omega (arith, same, more, out))
+      go AtTold k = let same = ap length k.grown ∙ one_more advert in let more = grows s f g later in
+          absurd (omega (arith, same, more, out))
+      go AtLost k = let same = ap length k.grown ∙ one_more advert in let more = grows s f g later in
+          absurd (omega (arith, same, more, out))
+      go (AtOver w named none) k = let same = ap length k.grown ∙ two_more advert w in
+          taken_agrees s f g taken (no_more s f g later (omega (arith, same, out))) (stage_waits k)
+      go (AtAged yes') k = absurd (let bad : false ≡ true = yes' in cc)
+      go (AtLeft yes' v named' none') k = absurd (let bad : false ≡ true = yes' in cc)
+      go (AtBack yes' v named' none') k = absurd (let bad : false ≡ true = yes' in cc)
+
+  two_orderly : (next new : Fabric) → IsOrderly i j s mid next → IsOrderly i j s next new → AgreesOn new s
+  two_orderly next new x y = over_agrees y.told new (point_later y.after y.told new y.goes_on left)
+      (withdrawal_out next y.told (point_later y.before next y.told y.goes heard)
+      (station_lost x.told next (point_later x.after x.told next x.goes_on told)
+      (advert_out mid x.told (point_later x.before mid x.told x.goes point_mid) point_mid.stage.phase
+      point_mid.stage.of x.announced) heard x.taken)
+      y.announced)
+      (point_runs y.after y.told new y.goes_on left) y.taken
+    where
+      told : Point x.told
+      told = point_runs x.before mid x.told x.goes point_mid
+
+      heard : Point next
+      heard = point_runs x.after x.told next x.goes_on told
+
+      left : Point y.told
+      left = point_runs y.before next y.told y.goes heard
+
+pub agrees_in_two : AgreesInTwo
+agrees_in_two i j s old mid next new sound m x y = two_orderly old i j s mid sound m next new x y
+
+-- the announcements of one round and the deliveries of the next are an orderly round
+pub agrees_in_four : AgreesInFour
+agrees_in_four i j s old mid new sound m h = subst (λ f. AgreesOn f s) (sym h.4.4.4.4) (agrees_in_two i j s old mid
+    h.4.0 h.4.4.4.0 sound m (record {
+      told = h.0;
+      before = h.1;
+      goes = h.2;
+      announced = h.3.announced;
+      after = h.4.1;
+      goes_on = h.4.2;
+      taken = h.4.3.taken;
+    }) (record {
+      told = h.4.4.0;
+      before = h.4.4.1;
+      goes = h.4.4.2;
+      announced = h.4.4.3.announced;
+      after = h.4.4.4.1;
+      goes_on = h.4.4.4.2;
+      taken = h.4.4.4.3.taken;
+    }))

@@ -1,0 +1,185 @@
+#!/usr/bin/env python3
+"""A fabric of four leaves, and its audits while stations move. As root, with frr and iproute2:
+
+    fabric_leaves.py [--audits N] [ROOT]
+
+Four edges (edge.py) with one speaker in a route reflector's place: what a leaf advertises is what the speaker says of its address to
+the others, and what its own access port heard. `evpnd_audit.py fabric` asks all four in their namespaces (--run), while stations
+move 20 times a second. No audit may find anything; then a planted fault, a leaf that lacks routes and a leaf that doesn't answer
+each have to be found. Not part of the gate.
+"""
+
+import argparse
+import contextlib
+import os
+import random
+import subprocess
+import sys
+import threading
+import time
+from typing import List, Tuple
+
+import edge as lab
+from edge import Edge, Trouble
+from histories import Tally
+
+LEAVES, MACS, VNI = 4, 400, 5001
+RATE = 20.0
+
+
+def address_of(leaf: int) -> str:
+    """The VXLAN address of a leaf."""
+    return f"10.0.0.{101 + leaf}"
+
+
+class Leaf(Edge):
+    """A leaf with its own address."""
+
+    def __init__(self, number: int, root: str) -> None:
+        super().__init__(f"leaf{number}", root, (VNI,), access=True)
+        self.number, self.address = number, address_of(number)
+        self.bgpd_lines = lab.BGPD_LINES.replace(lab.OWN, self.address)
+
+    def __enter__(self) -> "Leaf":
+        super().__enter__()
+        words = [sys.executable, os.path.join(lab.HERE, "frames.py"), "stations", f"host{VNI}"]
+        self.stations = self.start(self.inside, words, stdin=subprocess.PIPE, encoding="utf-8")
+        self.children.append(self.stations)
+        return self
+
+    def hear(self, macs: List[str]) -> None:
+        """Real frames of stations at the access port."""
+        self.stations.stdin.write("".join(f"{mac}\n" for mac in macs))
+        self.stations.stdin.flush()
+
+    def say(self, lines: List[str]) -> None:
+        """Tells routes, and waits for nothing."""
+        self.speaker.stdin.write("".join(f"{line}\n" for line in lines))
+        self.speaker.stdin.flush()
+
+
+def station(place: int) -> str:
+    """The MAC of a station."""
+    return f"02:00:00:02:{place >> 8:02x}:{place & 255:02x}"
+
+
+class Fabric:
+    """The leaves, and where each station is."""
+
+    def __init__(self, leaves: List[Leaf]) -> None:
+        self.leaves, self.homes, self.sequences = leaves, [place % LEAVES for place in range(MACS)], [0] * MACS
+
+    def begin(self) -> None:
+        """Each station is heard at its leaf, and the others are told."""
+        for leaf in self.leaves:
+            others = [each for each in self.leaves if each is not leaf]
+            leaf.say([f"advert {each.address} {VNI} flood" for each in others])
+            leaf.say([f"advert {address_of(home)} {VNI} {station(place)} seq 0" for place, home in enumerate(self.homes) if home != leaf.number])
+            heard = [station(place) for place, home in enumerate(self.homes) if home == leaf.number]
+            leaf.hear(heard)
+
+    def move(self, place: int, home: int) -> None:
+        """A station moves: its new leaf hears it, the others are told with the next sequence number."""
+        self.homes[place], self.sequences[place] = home, self.sequences[place] + 1
+        mac, leaf = station(place), self.leaves[home]
+        leaf.hear([mac])
+        for each in self.leaves:
+            if each is not leaf:
+                each.say([f"advert {leaf.address} {VNI} {mac} seq {self.sequences[place]}"])
+
+    def keep_moving(self, ended: threading.Event) -> None:
+        """Stations move until that ends."""
+        numbers = random.Random(4)
+        while not ended.wait(1 / RATE):
+            place = numbers.randrange(MACS)
+            self.move(place, (self.homes[place] + numbers.randint(1, LEAVES - 1)) % LEAVES)
+
+
+def audited(fabric: Fabric, *words: str) -> Tuple[int, str]:
+    """The audit of the fabric, with its status."""
+    names = ",".join(leaf.inside for leaf in fabric.leaves)
+    tool = [sys.executable, os.path.join(lab.TOOLS, "evpnd_audit.py"), "fabric", names, "--again", "4", *words]
+    how = {"capture_output": True, "encoding": "utf-8", "check": False}
+    done = subprocess.run([*tool, "--run", f"{sys.executable} {os.path.abspath(__file__)} within {{leaf}}"], **how)
+    return done.returncode, done.stdout + done.stderr
+
+
+def within(leaf: str, words: List[str]) -> None:
+    """Runs a command of a leaf in its namespace; vtysh gets the folder of its sockets."""
+    if words[0] == "vtysh":
+        with open(f"/run/evpnd-lab-{leaf}", encoding="utf-8") as stream:
+            words = [*stream.read().splitlines(), *words[1:]]
+    os.execvp("ip", ["ip", "netns", "exec", leaf, *words])
+
+
+def main() -> int:
+    """Plays the fabric."""
+    if sys.argv[1:2] == ["within"]:
+        within(sys.argv[2], sys.argv[3:])
+    words = argparse.ArgumentParser(description=__doc__, formatter_class=argparse.RawDescriptionHelpFormatter)
+    words.add_argument("--audits", type=int, default=10, metavar="N")
+    words.add_argument("root", nargs="?", default="", metavar="ROOT")
+    arguments = words.parse_args()
+    tally = Tally()
+    with contextlib.ExitStack() as stack:
+        try:
+            leaves = [stack.enter_context(Leaf(number, arguments.root)) for number in range(LEAVES)]
+            for leaf in leaves:
+                path = f"/run/evpnd-lab-{leaf.inside}"
+                stack.callback(os.remove, path)
+                with open(path, "w", encoding="utf-8") as out:
+                    out.write("\n".join(leaf.shell_words()))
+            print(f"-- FRR {leaves[0].version()}", flush=True)
+            play(Fabric(leaves), tally, arguments.audits)
+        except (Trouble, subprocess.SubprocessError, OSError) as trouble:
+            tally.see(False, str(trouble))
+    print(f"{tally.passed} passed, {tally.failed} failed")
+    return 1 if tally.failed else 0
+
+
+def play(fabric: Fabric, tally: Tally, audits: int) -> None:
+    """Audits at rest, while stations move, and with planted faults."""
+    fabric.begin()
+    time.sleep(8)
+    status, text = audited(fabric)
+    tally.see(status == 0, f"at rest all agree: {text if status else text.strip()}")
+    ended = threading.Event()
+    mover = threading.Thread(target=fabric.keep_moving, args=(ended,))
+    mover.start()
+    begun, alarms = time.monotonic(), 0
+    try:
+        for turn in range(audits):
+            status, text = audited(fabric)
+            alarms += status != 0
+            print(f"audit {turn + 1}: {alarms} alarms {text if status else ''}", flush=True)
+        rate = sum(fabric.sequences) / (time.monotonic() - begun)
+        tally.see(alarms == 0, f"{alarms} alarms in {audits} audits at {rate:.0f} moves a second")
+        first, second = fabric.leaves[:2]
+        mac = "02:00:00:00:00:77"
+        for leaf in fabric.leaves[1:]:
+            leaf.say([f"advert {first.address} {VNI} {mac} seq 0"])
+        first.hear([mac])
+        time.sleep(3)
+        wrong = ["dst", fabric.leaves[2].address, "self", "extern_learn"]
+        second.within("bridge", "fdb", "replace", mac, "dev", f"vxlan{VNI}", *wrong)
+        status, text = audited(fabric)
+        tally.see(status == 1 and f"{VNI} {mac} owner {first.address}" in text, f"a planted fault is found meanwhile\n{text}")
+        right = ["dst", first.address, "self", "extern_learn"]
+        second.within("bridge", "fdb", "replace", mac, "dev", f"vxlan{VNI}", *right)
+        second.say([f"withdraw {first.address} {VNI} {mac}"])
+        time.sleep(2)
+        status, text = audited(fabric)
+        tally.see(status == 1 and f"{second.inside}: lacks the routes of {first.address}: 1 station" in text, f"a leaf that lacks a route\n{text}")
+        ended.set()
+        mover.join()
+        second.daemons["bgpd"].terminate()
+        second.daemons["bgpd"].wait()
+        status, text = audited(fabric)
+        tally.see(f"{second.inside}: doesn't answer: " in text and "4 leaves, 3 answered" in text, f"a leaf that doesn't answer\n{text}")
+    finally:
+        ended.set()
+        mover.join()
+
+
+if __name__ == "__main__":
+    sys.exit(main())

@@ -1,0 +1,299 @@
+#!/usr/bin/env python3
+"""Leaves of a routed fabric, and what keeps frames from arriving, beside FRR of one or several versions. As root, with iproute2:
+
+    routed.py [--keep FOLDER] [--only CASE] [ROOT ..]
+
+A ROOT is a folder with a Debian that has frr (see leaves.py); with none, this host's FRR. The L3VNI is of the default VRF:
+no kernel with VRFs is needed. Each `mend:` that the audit prints is run as printed, with frames before and after; --keep
+keeps each case's texts as views, which tests/tools/test_audit_routed.py reads. Not part of the gate.
+"""
+
+import argparse
+import os
+import subprocess
+import sys
+import time
+from typing import Callable, Dict, List, Optional, Tuple
+
+import edge as lab
+from edge import Edge, Trouble, run
+from histories import Tally
+from leaves import audited
+
+L3VNI, LOW_L3VNI = 6000, 4000
+VNIS = (5001, 5002)
+HOME, FAR, OTHER, ROUTER, OTHER_ROUTER = (f"02:00:00:00:{last}" for last in ("00:aa", "00:01", "00:02", "fe:01", "fe:02"))
+FAR_IP, OTHER_IP = f"198.18.{5001 % 250}.7", f"198.18.{5002 % 250}.7"
+KEPT: Dict[str, Optional[str]] = {"folder": None}
+
+
+def start_of(routed: int) -> List[str]:
+    """Two other edges with a router's MAC each, and a station with an address behind each."""
+    lines = [f"advert 10.0.0.{pe} {vni} flood" for pe in (1, 2) for vni in VNIS]
+    for pe, vni, mac, ip, router in ((1, 5001, FAR, FAR_IP, ROUTER), (2, 5002, OTHER, OTHER_IP, OTHER_ROUTER)):
+        targets = f"target 65000:{vni} target 65000:{routed}"
+        lines.append(f"router {router} {targets} advert 10.0.0.{pe} {vni} {mac} ip {ip} seq 0 label2 {routed}")
+    return lines
+
+
+def keep(edge: Edge, name: str) -> None:
+    """Keeps a view, if that is wanted."""
+    if KEPT["folder"] and name:
+        edge.save(os.path.join(KEPT["folder"], edge.version(), name))
+
+
+def agrees(edge: Edge, tally: Tally, name: str, what: str) -> None:
+    """Keeps the view, and sees that the audit finds nothing."""
+    time.sleep(1.5)
+    keep(edge, name)
+    status, text = audited(edge)
+    tally.see(status == 0, f"{what}: all agree" + ("" if status == 0 else f"\n{text}"))
+
+
+def finds(edge: Edge, tally: Tally, name: str, words: str, what: str) -> str:
+    """Keeps the view, and sees that the audit tells of something; gives what it prints."""
+    time.sleep(1.5)
+    keep(edge, name)
+    status, text = audited(edge)
+    tally.see(status == 1 and words in text, what + ("" if status == 1 and words in text else f"\nstatus {status}: {text}"))
+    return text
+
+
+def mends(edge: Edge, tally: Tally, text: str) -> None:
+    """Runs what the audit says that mends, and sees that it did; what has no mend has to say what to look at."""
+    commands = [line.strip()[len("mend: ") :] for line in text.splitlines() if line.strip().startswith("mend: ")]
+    for command in commands:
+        edge.within("sh", "-c", command)
+    status, after = audited(edge)
+    tally.see(bool(commands) and status == 0, f"mended by: {'; '.join(commands)}" + ("" if status == 0 else f"\n{after}"))
+
+
+def has_no_mend(tally: Tally, text: str) -> None:
+    """Sees that nothing is said to mend it."""
+    tally.see("mend:" not in text, "no command is printed" + ("" if "mend:" not in text else f"\n{text}"))
+
+
+def goes(edge: Edge, tally: Tally, mac: str, vni: int, place: str) -> None:
+    """Sees where a real frame goes."""
+    found = edge.goes(vni, mac)
+    tally.see(found == place, f"a real frame to {mac} of VNI {vni} goes to {place}" + ("" if found == place else f", not {found}"))
+
+
+def routes(edge: Edge, tally: Tally, vni: int, where: str = "") -> None:
+    """Sees that routed datagrams leave to the right edge, with the L3VNI and the router's MAC."""
+    program = os.path.join(lab.HERE, "frames.py")
+    found = edge.within(sys.executable, program, "routed", FAR_IP, "up0").strip()
+    wanted = where or f"10.0.0.1 vni {vni} {ROUTER}"
+    tally.see(found == wanted, f"a routed datagram to {FAR_IP} leaves to {wanted}" + ("" if found == wanted else f", not {found}"))
+
+
+# ---- L3VNIs -------------------------------------------------------------------------------------------------------
+
+
+def has_l3vni(edge: Edge, tally: Tally) -> None:
+    """Router MACs and next hops: right, changed by hand and mended, deleted, of somebody else."""
+    vni, device, bridge = edge.routed, f"vxlan{edge.routed}", f"br{edge.routed}"
+    edge.tell(start_of(vni))
+    agrees(edge, tally, "l3vni" if vni == L3VNI else "lowl3vni", f"an L3VNI {vni}")
+    routes(edge, tally, vni)
+    if vni != L3VNI:
+        return
+    edge.within("bridge", "fdb", "replace", ROUTER, "dev", device, "dst", "10.0.0.2", "self", "extern_learn")
+    routes(edge, tally, vni, f"10.0.0.2 vni {vni} {ROUTER}")
+    text = finds(edge, tally, "routerwrong", f"router wrong {vni} {ROUTER}", "a router's MAC at another edge")
+    mends(edge, tally, text)
+    routes(edge, tally, vni)
+    edge.within("bridge", "fdb", "del", ROUTER, "dev", device, "dst", "10.0.0.1", "self")
+    text = finds(edge, tally, "routergone", f"router missing {vni} {ROUTER}", "a router's MAC deleted")
+    mends(edge, tally, text)
+    routes(edge, tally, vni)
+    edge.within("ip", "neigh", "replace", "10.0.0.1", "lladdr", OTHER_ROUTER, "dev", bridge, "nud", "noarp", "extern_learn", "protocol", "zebra")
+    text = finds(edge, tally, "hopwrong", f"next hop wrong {vni} 10.0.0.1", "a next hop with another router's MAC")
+    mends(edge, tally, text)
+    routes(edge, tally, vni)
+    stray = "02:00:00:00:fe:99"
+    edge.within("bridge", "fdb", "replace", stray, "dev", device, "dst", "10.0.0.9", "self")
+    has_no_mend(tally, finds(edge, tally, "routerforeign", f"router foreign {vni} {stray}", "a router's MAC by hand"))
+    edge.within("bridge", "fdb", "del", stray, "dev", device, "dst", "10.0.0.9", "self")
+    agrees(edge, tally, "", "it is gone")
+
+
+def has_low_l3vni(edge: Edge, tally: Tally) -> None:
+    """An L3VNI with a lower number than its networks."""
+    has_l3vni(edge, tally)
+
+
+# ---- route targets, other devices, names --------------------------------------------------------------------------
+
+
+def imports(edge: Edge, tally: Tally) -> None:
+    """A route with two local targets counts in both networks; another target is imported as bgpd was told."""
+    edge.heard(5001, HOME)
+    lines = [*start_of(edge.routed), "target 65000:5001 target 65000:5002 advert 10.0.0.1 5001 02:00:00:00:00:12 seq 0"]
+    edge.tell(lines)
+    agrees(edge, tally, "twotargets", "a route with two local route targets")
+    goes(edge, tally, "02:00:00:00:00:12", 5002, "10.0.0.1")
+    edge.shell_lines(
+        "configure terminal", "router bgp 65000", "address-family l2vpn evpn", "vni 5002", "route-target import 65000:100"
+    )
+    edge.tell(["target 65000:100 advert 10.0.0.2 5002 02:00:00:00:00:13 seq 0", "target 65000:100 advert 10.0.0.2 5002 flood"])
+    agrees(edge, tally, "import", "another import target")
+    goes(edge, tally, "02:00:00:00:00:13", 5002, "10.0.0.2")
+    status, text = audited(edge, "--vni", "5003")
+    tally.see(status == 2 and "no such VNI" in text, f"a VNI that isn't there: {text.strip()}")
+
+
+def has_other_devices(edge: Edge, tally: Tally) -> None:
+    """A flannel's VXLAN device, and entries that somebody else made: left out by name, and told in their own words."""
+    inside = ["ip", "-n", edge.inside]
+    edge.tell(start_of(edge.routed))
+    run(*inside, "link", "add", "flannel.1", "type", "vxlan", "id", "1", "dstport", "8472", "local", edge.address, "nolearning")
+    run(*inside, "link", "set", "flannel.1", "up")
+    edge.within("bridge", "fdb", "append", "02:00:00:00:f1:01", "dev", "flannel.1", "dst", "10.0.0.1", "self", "permanent")
+    time.sleep(1)
+    agrees(edge, tally, "flannel", "a flannel's device")
+    tally.see("flannel.1 (VNI 1)" in audited(edge)[1], "the flannel's device is left out by name")
+    edge.within("bridge", "fdb", "add", "02:00:00:00:66:66", "dev", "vxlan5001", "dst", "10.0.0.2", "self", "static")
+    text = finds(edge, tally, "foreign", "foreign 5001 02:00:00:00:66:66", "an entry by hand that nobody advertises")
+    has_no_mend(tally, text)
+    edge.within("bridge", "fdb", "del", "02:00:00:00:66:66", "dev", "vxlan5001", "dst", "10.0.0.2", "self")
+    edge.within("bridge", "fdb", "append", "00:00:00:00:00:00", "dev", "vxlan5001", "dst", "10.0.0.66", "self", "permanent")
+    has_no_mend(tally, finds(edge, tally, "foreignflood", "flood extra 5001 10.0.0.66", "a flood entry by hand"))
+    edge.within("bridge", "fdb", "del", "00:00:00:00:00:00", "dev", "vxlan5001", "dst", "10.0.0.66", "self")
+    agrees(edge, tally, "", "they are gone")
+
+
+# ---- entries and states that keep frames from arriving ----------------------------------------------------------------
+
+
+def has_wrong_entries(edge: Edge, tally: Tally) -> None:
+    """An entry with another VNI, another UDP port, another edge; a MAC that nobody advertises; a neighbour."""
+    edge.tell(start_of(edge.routed))
+    agrees(edge, tally, "", "at the beginning")
+    goes(edge, tally, FAR, 5001, "10.0.0.1")
+    device, zebras = ["dev", "vxlan5001"], ["self", "extern_learn"]
+    for name, words, place in (
+        ("othervni", ["dst", "10.0.0.1", "vni", "77"], "10.0.0.1 vni 77"),
+        ("otherport", ["dst", "10.0.0.1", "port", "4790"], "10.0.0.1 port 4790"),
+        ("otheredge", ["dst", "10.0.0.2"], "10.0.0.2"),
+    ):
+        edge.within("bridge", "fdb", "replace", FAR, *device, *words, *zebras)
+        goes(edge, tally, FAR, 5001, place)
+        mends(edge, tally, finds(edge, tally, name, f"kernel {place}", f"an entry to {place}"))
+        goes(edge, tally, FAR, 5001, "10.0.0.1")
+    edge.within("bridge", "fdb", "replace", "02:00:00:00:66:67", *device, "dst", "10.0.0.2", *zebras)
+    edge.within("bridge", "fdb", "replace", "02:00:00:00:66:67", *device, "master", "extern_learn")
+    mends(edge, tally, finds(edge, tally, "extra", "extra 5001 02:00:00:00:66:67", "an entry like zebra's that nobody advertises"))
+    goes(edge, tally, FAR, 5001, "10.0.0.1")
+    edge.within("ip", "neigh", "replace", FAR_IP, "lladdr", OTHER, "dev", "br5001", "nud", "noarp", "extern_learn", "protocol", "zebra")
+    mends(edge, tally, finds(edge, tally, "neighbour", f"neighbour wrong 5001 {FAR_IP}", "a wrong ARP entry"))
+    edge.within("ip", "neigh", "replace", "198.18.1.99", "lladdr", OTHER, "dev", "br5001", "nud", "noarp", "extern_learn", "protocol", "zebra")
+    mends(edge, tally, finds(edge, tally, "neighbourextra", "neighbour extra 5001 198.18.1.99", "an ARP entry that no route names"))
+    goes(edge, tally, FAR, 5001, "10.0.0.1")
+
+
+def has_causes(edge: Edge, tally: Tally) -> None:
+    """Each state that stops frames is one line, with the stations behind it."""
+    edge.heard(5001, HOME)
+    edge.tell([*start_of(edge.routed), "advert 10.0.0.1 5001 02:00:00:00:00:03 seq 0"])
+    time.sleep(1)
+    agrees(edge, tally, "", "at the beginning")
+    inside = ["ip", "-n", edge.inside]
+
+    def state(name: str, make: List[str], undo: List[str], words: str) -> None:
+        run(*make)
+        text = finds(edge, tally, name, words, f"{' '.join(make[3:])}: {words}")
+        has_no_mend(tally, text)
+        lines = [line for line in text.splitlines() if " 5001 " in line and not line.startswith(("cause", " "))]
+        tally.see(not lines, "no line a MAC beside it" + ("" if not lines else f"\n{text}"))
+        goes_nowhere = edge.goes(5001, FAR)
+        tally.see(goes_nowhere != "10.0.0.1" or name == "isolated", f"frames don't arrive: {goes_nowhere}")
+        run(*undo)
+        time.sleep(3)
+        agrees(edge, tally, "", "undone")
+
+    bridge = ["bridge", "-n", edge.inside, "link", "set", "dev"]
+    state("bridgedown", [*inside, "link", "set", "br5001", "down"], [*inside, "link", "set", "br5001", "up"], "bridge br5001 is down: 3 stations")
+    state("portdisabled", [*bridge, "vxlan5001", "state", "0"], [*bridge, "vxlan5001", "state", "3"], "bridge port vxlan5001 is disabled, not forwarding: 3 stations")
+    run(*bridge, "acc5001", "isolated", "on")
+    state("isolated", [*bridge, "vxlan5001", "isolated", "on"], [*bridge, "vxlan5001", "isolated", "off"], "isolated from each other: vxlan5001, acc5001: 3 stations")
+    run(*bridge, "acc5001", "isolated", "off")
+    state("devicedown", [*inside, "link", "set", "vxlan5001", "down"], [*inside, "link", "set", "vxlan5001", "up"], "device vxlan5001 is down: 3 stations")
+
+
+def shares_bridge(edge: Edge, tally: Tally) -> None:
+    """A device in another network's bridge."""
+    edge.tell(start_of(edge.routed))
+    run("ip", "-n", edge.inside, "link", "set", "vxlan5002", "master", "br5001")
+    has_no_mend(tally, finds(edge, tally, "sharedbridge", "networks leak into each other: vxlan5001, vxlan5002 are in one bridge, br5001", "two networks in one bridge"))
+
+
+def loses_ways(edge: Edge, tally: Tally) -> None:
+    """No route of the underlay; routes that aren't valid; a session that is down; no advertise-all-vni."""
+    edge.tell(start_of(edge.routed))
+    run("ip", "-n", edge.inside, "route", "add", "unreachable", "10.0.0.1/32")
+    time.sleep(6)
+    text = finds(edge, tally, "noroute", "10.0.0.1", "the underlay has no route to an edge")
+    tally.see("cause 5001 " in text, f"it is a cause: {[line for line in text.splitlines() if line.startswith('cause')]}")
+    run("ip", "-n", edge.inside, "route", "del", "unreachable", "10.0.0.1/32")
+    time.sleep(6)
+    agrees(edge, tally, "", "undone")
+    edge.shell_lines("configure terminal", "router bgp 65000", "address-family l2vpn evpn", "no advertise-all-vni")
+    finds(edge, tally, "switchedoff", "bgpd has no 'advertise-all-vni'", "no advertise-all-vni")
+    edge.shell_lines("configure terminal", "router bgp 65000", "address-family l2vpn evpn", "advertise-all-vni")
+    time.sleep(3)
+    agrees(edge, tally, "", "undone")
+    edge.speaker.terminate()
+    edge.wait_for(lambda: FAR not in edge.shell("show bgp l2vpn evpn route json"), "the end of the session")
+    finds(edge, tally, "session", "the session with 192.168.77.2 is ", "a session that is down")
+
+
+def has_segments(edge: Edge, tally: Tally) -> None:
+    """MACs behind a segment of two edges: either edge is right, a third one isn't; without its edges nothing is judged."""
+    edge.tell([*start_of(edge.routed), "esi advert 10.0.0.1 5001 02:00:00:00:00:21 seq 0"])
+    time.sleep(1)
+    status, text = audited(edge)
+    keep(edge, "segmentunknown")
+    tally.see(status == 4 and "1 not judged" in text, f"a segment that no edge advertises isn't judged, all else is\n{text}")
+    edge.tell([f"segment 10.0.0.{pe} 5001" for pe in (1, 2)] + ["esi advert 10.0.0.2 5001 02:00:00:00:00:22 seq 0"])
+    agrees(edge, tally, "segment", "MACs behind a segment of two edges")
+    found = edge.goes(5001, "02:00:00:00:00:21")
+    tally.see(found in ("10.0.0.1", "10.0.0.2"), f"a real frame goes to an edge of the segment: {found}")
+    edge.within("bridge", "fdb", "del", "02:00:00:00:00:22", "dev", "vxlan5001", "self")  # of a group; replace would keep it
+    edge.within("bridge", "fdb", "replace", "02:00:00:00:00:22", "dev", "vxlan5001", "dst", "10.0.0.3", "self", "extern_learn")
+    goes(edge, tally, "02:00:00:00:00:22", 5001, "10.0.0.3")
+    has_no_mend(tally, finds(edge, tally, "segmentwrong", "wrong 5001 02:00:00:00:00:22 owner segment 03:", "an edge that isn't at the segment"))
+
+
+CASES: Tuple[Tuple[str, int, Callable[[Edge, Tally], None]], ...] = (
+    ("l3vni", L3VNI, has_l3vni), ("lowl3vni", LOW_L3VNI, has_low_l3vni), ("imports", L3VNI, imports),
+    ("others", L3VNI, has_other_devices), ("entries", L3VNI, has_wrong_entries), ("causes", L3VNI, has_causes),
+    ("shared", L3VNI, shares_bridge), ("segments", L3VNI, has_segments), ("ways", L3VNI, loses_ways),
+)
+
+
+def main() -> int:
+    """Plays all cases to leaves of each version."""
+    words = argparse.ArgumentParser(description=__doc__, formatter_class=argparse.RawDescriptionHelpFormatter)
+    words.add_argument("--keep", metavar="FOLDER")
+    words.add_argument("--only", metavar="CASE")
+    words.add_argument("roots", nargs="*", metavar="ROOT")
+    arguments = words.parse_args()
+    KEPT["folder"] = arguments.keep
+    tally = Tally()
+    for root in arguments.roots or [""]:
+        for name, routed, case in CASES:
+            if arguments.only not in (None, name):
+                continue
+            try:
+                with Edge(name, root, VNIS, access=True, routed=routed) as edge:
+                    print(f"-- {name}, FRR {edge.version()}", flush=True)
+                    case(edge, tally)
+            except (Trouble, subprocess.SubprocessError, OSError) as trouble:
+                tally.see(False, f"{name}: {trouble}")
+    print(f"{tally.passed} passed, {tally.failed} failed")
+    return 1 if tally.failed else 0
+
+
+if __name__ == "__main__":
+    sys.exit(main())

@@ -1,0 +1,50 @@
+"""Limits on oblique phrases (tests/prose.py): of the documents together, of each document, and of the comments."""
+
+import os
+import sys
+import tempfile
+import unittest
+
+TOP = os.path.dirname(os.path.dirname(os.path.dirname(os.path.abspath(__file__))))
+sys.path.insert(0, os.path.join(TOP, "tests"))
+from prose import counted, files_of_git
+
+# Phrases in 1,000 words. A limit may fall and not rise; the goals are 4 for documents, 12 for each one, 6 for comments.
+DOCUMENTS = 14.0
+EACH_DOCUMENT = 46.0
+COMMENTS = 32.0
+
+
+class Prose(unittest.TestCase):
+    """The documents and the comments of the repository."""
+
+    @classmethod
+    def setUpClass(cls):
+        cls.before = os.getcwd()
+        os.chdir(TOP)
+
+    @classmethod
+    def tearDownClass(cls):
+        os.chdir(cls.before)
+
+    def test_documents_together(self):
+        self.assertLessEqual(counted(files_of_git(("*.md",))).per_thousand(), DOCUMENTS)
+
+    def test_each_document(self):
+        for path in files_of_git(("*.md",)):
+            with self.subTest(path=path):
+                self.assertLessEqual(counted([path]).per_thousand(), EACH_DOCUMENT)
+
+    def test_comments(self):
+        self.assertLessEqual(counted(files_of_git(("*.rt", "*.antt", "*.py", "*.sh", "*.toml"))).per_thousand(), COMMENTS)
+
+    def test_a_phrase_is_found_and_code_is_not(self):
+        with tempfile.NamedTemporaryFile("w", suffix=".md", encoding="utf-8") as page:
+            page.write("It is told anew.\n```\nWhat is told anew.\n```\nRun `anew` twice.\n")
+            page.flush()
+            count = counted([page.name])
+        self.assertEqual((count.words, sum(count.found.values())), (7, 2))
+
+
+if __name__ == "__main__":
+    unittest.main()
