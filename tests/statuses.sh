@@ -168,6 +168,9 @@ is_ok() { [ "$status" = 0 ] && [ ! -s "$work/notes" ] && grep -qE "^ok: [0-9]+ e
 # says LINE..: a usage whose lines are these
 says() { is_usage && [ "$(cat "$work/notes")" = "$(printf '%s\n' "$@")" ]; }
 
+# begins LINE: a usage whose first line is this
+begins() { is_usage && [ "$(head -n 1 "$work/notes")" = "$1" ]; }
+
 # names KEY COUNT: a usage of so many lines, the first of which says what stands at the key
 names() {
   is_usage && [ "$(wc -l < "$work/notes")" = "$2" ] &&
@@ -206,9 +209,11 @@ fine() {
 faulty() {
   edge "$3" "$4" > "$conf"
   opened
-  tell "$1" tells "$2"
+  tell "$1" begins "$2"
+  sed 1d "$work/notes" > "$work/behind"
   run check --config "$conf"
   tell "$1, checked" names "${2#config }" "${5-1}"
+  tell "$1: the lines of a check follow the key" cmp -s "$work/behind" "$work/notes"
 }
 
 cp "$work/empty" "$work/in"
@@ -508,7 +513,11 @@ tell "an unread file that can't be told" [ "$status" = 4 ]
 # ---- the version, which stands in CHANGELOG.md too
 sed -n 's/^## \([0-9][^,]*\).*/evpnd \1/p' "$tests/../CHANGELOG.md" | head -n 1 > "$work/version"
 run version
-tell "the version" gives 0 "$work/version" ""
+case $(sed -n 2p "$work/out") in
+  unproved) echo unproved >> "$work/version" ;;
+  *) echo proved >> "$work/version" ;;
+esac
+tell "the version, and whether the program is proved" gives 0 "$work/version" ""
 for words in "version --help" "version 1" "version --config $conf" "--version"; do
   # shellcheck disable=SC2086
   run $words
@@ -538,6 +547,13 @@ done
 printf '1 announce\r\n' > "$work/script"
 run check --config "$conf" --script "$work/script"
 tell "a script with CRLF, checked" [ "$status $(cat "$work/notes")" = "1 $work/script:1: $a_return" ]
+for file in /dev/zero /dev/null "$work/fifo"; do
+  [ -e "$file" ] || mkfifo "$file"
+  run simulate --config "$file"
+  tell "$file as configuration" gives 4 "$work/empty" "error: --config: '$file' isn't a regular file"
+  run check --config "$conf" --script "$file"
+  tell "$file as script" [ "$status $(cat "$work/notes")" = "4 error: --script: '$file' isn't a regular file" ]
+done
 examples=$tests/../examples
 cp "$examples/sites.script" "$work/in"
 run simulate --config "$examples/sites.toml"
@@ -552,7 +568,7 @@ run play --config "$work/none"
 tell "play: a configuration that isn't there" [ "$status $(cat "$work/notes")" = "4 error: --config: '$work/none' isn't there" ]
 edge "$named" "vni = 5002" > "$conf"
 run play --config "$conf"
-tell "play: a faulty configuration" says "config vni"
+tell "play: a faulty configuration" says "config vni" "edge 1, port 1: vni is 5002, allowed is one of the edge's vnis"
 run play --help
 tell "help on play" tells "--config <FILE>" "  0  " "  1  " "  4  " "Example:"
 
@@ -765,7 +781,7 @@ peers() {
 # unserved NAME KEY LINE..: the configuration in $conf can't be served: the key is told, and by a check these lines
 unserved() {
   run serve --config "$conf"
-  tell "$1" says "config $2"
+  tell "$1" says "config $2" "${@:3}"
   run check --serve --config "$conf"
   tell "$1, checked" says "${@:3}"
 }
@@ -791,12 +807,14 @@ tell "as many descriptors as edges and clients need" gives 0 "$work/served" ""
 for subcommand in run simulate play check "check --run"; do
   # shellcheck disable=SC2086
   run $subcommand --config "$conf"
-  tell "$subcommand: no control" tells control
+  tell "$subcommand: no control" tells "control is '$control', which is a key of what \`serve\` runs alone"
   sed '/^control/d' "$conf" > "$work/uncontrolled"
   # shellcheck disable=SC2086
   run $subcommand --config "$work/uncontrolled"
   tell "$subcommand: no peers" tells peer
 done
+sed '/^control/d' "$conf" > "$work/uncontrolled" && mv "$work/uncontrolled" "$conf"
+unserved "control is missing" control "control is missing, allowed is the path of a socket, 1 to 107 octets, none of them 0"
 peers "address = \"$host.1\""
 unserved "a peer that is an edge" address "peer 1: address is '$host.1', which edge 1 has, $an_address"
 peers "$there" 'address = "10.0.0.8"' "$there"
@@ -816,7 +834,7 @@ for value in '"10.0.0.9"' 9 '[9]' '[]'; do
   serves "$control"
   sed -i "1i peer = $value" "$conf"
   run serve --config "$conf"
-  tell "peer = $value" says "config peer"
+  tell "peer = $value" begins "config peer"
   run check --serve --config "$conf"
   tell "peer = $value, checked" names peer 1
 done

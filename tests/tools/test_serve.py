@@ -517,7 +517,9 @@ class Socket(Served):
         self.begin()
         self.ends_well()
         self.path += "x"
-        self.assertEqual(self.started().end(), (2, "", "config control\n"))
+        status, out, notes = self.started().end()
+        self.assertEqual((status, out, notes.split("\n")[0]), (2, "", "config control"))
+        self.assertIn(", allowed is the path of a socket, 1 to 107 octets, none of them 0\n", notes)
 
     def test_file_that_was_moved_away(self) -> None:
         """What lies at the path at the end and isn't the socket stays, and the run ends as ever."""

@@ -103,7 +103,8 @@ fn subcommand_command<'a>(alloc: Global, subcommand: Subcommand) -> Result<Comma
 }
 
 /// Describes the program and the help of all subcommands.
-const ABOUT: &str = "EVPN edge bridges: what route updates define, proved from octet to octet";
+const ABOUT: &str =
+    "EVPN edge bridges: the owners that route updates define, and edges that hold them";
 
 const HELP: &str = "\
 Each subcommand's --help says what it reads and prints, and its statuses: 0 done, 1 broken input,

@@ -121,7 +121,7 @@ impl Subcommand {
             Subcommand::Play => "Simulate, and print each command before what becomes of it",
             Subcommand::Run => "Carry frames: run the edges of a configuration over UDP sockets",
             Subcommand::Serve => "Run edges, and answer who asks them at a control socket",
-            Subcommand::Version => "Print the version",
+            Subcommand::Version => "Print the version, and whether this program is proved",
         }
     }
 
@@ -166,7 +166,7 @@ Example:
                 "\
 Reads the configuration in FILE, as docs/configuration.md describes it; standard input isn't read.
 If it is right, standard output has how many edges, ports and VNIs it has. Else standard error has
-where its first fault is, what stands there and what is allowed.
+a line for each fault: where it is, what was found and what is allowed.
 
 With --run it is checked whether it can be run: each port needs `local` and `remote`, and no two
 sockets may hinder each other. Standard error has what hinders a run. If nothing does, standard
@@ -265,7 +265,9 @@ Example:
             }
             Subcommand::Version => {
                 "\
-Standard output has `evpnd` and the version. Nothing is read.
+Standard output has `evpnd` and the version, and a second line: `proved` if the program was built by
+`rt run`, which builds only what its checker has proved, or `unproved` if tools/try built it without
+a proof. Nothing is read.
 
 Status, the greatest that applies:
   0  it was written

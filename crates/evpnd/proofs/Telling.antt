@@ -31,6 +31,14 @@ put_behind a b c text more (Ok x) first h =
     (text, h ∙ ap (λ (e : End). with_text e more) first ∙ with_text_twice a text more)
 put_behind a b c text more (Err d) first h = (text, h ∙ ap (λ (e : End). e.failures + 1) first)
 
+-- a text was put, and then some other one
+pub put_before : (a b c : End) (text : Text) (r : Result (Unit {0}) Device) → b ≡ with_text a text
+    → (t : Text) × Puts b c t r
+    → (t : Text) × Puts a c (text ++ t) r
+put_before a b c text (Ok x) first (t, h) =
+    (t, h ∙ ap (λ (e : End). with_text e t) first ∙ with_text_twice a text t)
+put_before a b c text (Err d) first (t, h) = (t, h ∙ ap (λ (e : End). e.failures + 1) first)
+
 pub sums_with : (more : Text) (a b : End) (r : Result (Unit {0}) Device) (status : ℕ) → (t : Text)
     × Puts a b (t ++ more) r
     → ◌≡◌ {A = ℕ} status (cond (is_ok r) 0 4) → SumsWith more a b status

@@ -11,11 +11,15 @@ use Rattle.ev_report.specs.Usage.{TellsUsage}
 abbrev pub config_text : Text → Text
 config_text key = codes "config " ++ key ++ codes "\n"
 
+-- `config KEY`, and behind it the lines that a check writes of the faults; nothing was read, nothing else written
+abbrev pub TellsKey : Text → Devices → Devices → ℕ → Type 0
+TellsKey key before after status = (more : Text) × TellsUsage (config_text key ++ more) before after status
+
 -- There is no configuration: its first faulty key is reported, or that its text is no document (2); or there was no
 -- memory to read it (3), and no device was called.
 abbrev pub Refuses : ConfigRefusal → Devices → Devices → ℕ → Type 0
-Refuses (refusal.Key key) before after status = TellsUsage (config_text (string_bytes key)) before after status
-Refuses refusal.Text before after status = TellsUsage (config_text (codes "text")) before after status
+Refuses (refusal.Key key) before after status = TellsKey (string_bytes key) before after status
+Refuses refusal.Text before after status = TellsKey (codes "text") before after status
 Refuses refusal.NoMemory before after status = (after ≡ before) × (status ≡ 3)
 
 -- A configuration is used, or there is none.

@@ -3,7 +3,7 @@ use Rattle.std.specs.Prelude.{◌≡◌, ℕ, ◌+◌, ◌<◌, ◌^◌, List, �
 use Rattle.std.specs.Prelude.{Result, Ok, Err}
 use Rattle.std.specs.declared.alloc.Global.{Global}
 use Rattle.evpnd.specs.declared.files.Unread.{Unread}
-use Rattle.evpnd.specs.declared.files.Unread.TheVariants.{Missing, Denied, Directory, NotText, Broken}
+use Rattle.evpnd.specs.declared.files.Unread.TheVariants.{Missing, Denied, Directory, Irregular, NotText, Broken}
 use Rattle.evpnd.specs.declared.files.Named.{Named}
 use Rattle.evpnd.specs.declared.files.Named.TheVariants.{Config, Script}
 use Rattle.evpnd.specs.declared.files.FileFault.{FileFault}
@@ -39,6 +39,7 @@ abbrev pub reason_of : Unread → Text
 reason_of Missing = codes "' isn't there\n"
 reason_of Denied = codes "' may not be read\n"
 reason_of Directory = codes "' is a directory\n"
+reason_of Irregular = codes "' isn't a regular file\n"
 reason_of NotText = codes "' isn't UTF-8\n"
 reason_of Broken = codes "' couldn't be read\n"
 

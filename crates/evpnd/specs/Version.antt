@@ -4,7 +4,7 @@ use Rattle.ev_report.specs.Ends.{Devices, has_failed, Holds}
 use Rattle.evpnd.specs.Files.{Text}
 
 abbrev pub version_text : Text
-version_text = codes "evpnd 0.1.0\n"
+version_text = codes "evpnd 0.1.0\nproved\n"
 
 -- It is written on the output, or a call of that failed; nothing was read, nothing noted.
 pub record TellsVersion (before after : Devices) (status : ℕ) : Type 0 where

@@ -1,9 +1,9 @@
 //! The configuration in a file, and the message if there is none.
-ghost use Rattle.std.specs.Prelude.{IfOk};
+ghost use Rattle.std.specs.Prelude.{◌++◌, IfOk};
 ghost use Rattle.ether_wire.specs.Ends.{End, Source, IsOpen, Puts};
 ghost use Rattle.ev_config.specs.Config.{ConfigOf, ServedOf};
 ghost use Rattle.ev_fabric.specs.Opening.{AreConfigs};
-ghost use Rattle.evpnd.specs.Files.{HasRoom};
+ghost use Rattle.evpnd.specs.Files.{Text, HasRoom};
 ghost use Rattle.ev_report.specs.Usage.{IsTold};
 ghost use Rattle.ev_report.specs.Ends.{devices};
 ghost use Rattle.evpnd.specs.Configured.{config_text, Refuses};
@@ -11,7 +11,7 @@ ghost use Rattle.evpnd.specs.Inner.Configured.{TextGives, FileGives};
 
 use crate::files::{Files, Named, text_at};
 use ether_wire::{Device, Out};
-use ev_config::{Config, ConfigRefusal, Served, config_of, served_config_of};
+use ev_config::{Config, ConfigRefusal, Served, Use, config_of, put_refusal, served_config_of};
 use ev_report::{MEMORY, usage_status};
 use std::alloc::Global;
 
@@ -26,24 +26,49 @@ fn put_key<N: Out>(notes: &mut N, key: &[u8]) -> Result<(), Device>
     notes.put(b"\n")
 }
 
-/// Tells which key of a configuration is faulty.
-fn tell_key<N: Out>(key: &[u8], notes: &mut N) -> u8
-    requires { IsOpen (N.end notes.old) }
-    ensures { IsTold (config_text key.now) (N.end notes.old) (N.end notes.new) result }
-{
-    usage_status(put_key(notes, key))
+/// A text that is no configuration for a use.
+#[derive(Clone, Copy)]
+struct Refused<'a> {
+    alloc: Global,
+    wanted: Use,
+    text: &'a str,
 }
 
-/// Tells why there is no configuration, and answers the status.
-fn tell_refusal<N: Out>(refusal: &ConfigRefusal, notes: &mut N) -> u8
+/// Writes `config KEY`, and then a line for each fault, as `evpnd check` writes them.
+fn put_faults<N: Out>(refused: Refused<'_>, key: &str, notes: &mut N) -> Result<(), Device>
+    requires { IsOpen (N.end notes.old) }
+    ensures { (more : Text) × Puts (N.end notes.old) (N.end notes.new)
+        (config_text key.now ++ more) result }
+{
+    put_key(notes, key.as_bytes())?;
+    put_refusal(
+        notes,
+        refused.alloc,
+        refused.wanted,
+        refused.text,
+        Some(key),
+    )
+}
+
+/// Tells which key of a configuration is faulty, and what is wrong with it.
+fn tell_key<N: Out>(refused: Refused<'_>, key: &str, notes: &mut N) -> u8
+    requires { IsOpen (N.end notes.old) }
+    ensures { (more : Text) × IsTold (config_text key.now ++ more) (N.end notes.old)
+        (N.end notes.new) result }
+{
+    usage_status(put_faults(refused, key, notes))
+}
+
+/// Tells why a text is no configuration, and returns the status.
+fn tell_refusal<N: Out>(refused: Refused<'_>, refusal: &ConfigRefusal, notes: &mut N) -> u8
     requires { IsOpen (N.end notes.old) }
     ensures { (input : Source) → (out : End) → Refuses refusal.now
         (devices input out (N.end notes.old)) (devices input out (N.end notes.new)) result }
 {
     match refusal {
         ConfigRefusal::NoMemory => MEMORY,
-        ConfigRefusal::Text => tell_key(b"text", notes),
-        ConfigRefusal::Key(key) => tell_key(key.as_bytes(), notes),
+        ConfigRefusal::Text => tell_key(refused, "text", notes),
+        ConfigRefusal::Key(key) => tell_key(refused, key.as_str(), notes),
     }
 }
 
@@ -61,7 +86,15 @@ fn configured_by<N: Out>(
 {
     match config_of(alloc, text, for_run) {
         Ok(config) => Ok(config),
-        Err(refusal) => Err(tell_refusal(&refusal, notes)),
+        Err(refusal) => {
+            let wanted = if for_run { Use::Run } else { Use::Any };
+            let refused = Refused {
+                alloc,
+                wanted,
+                text,
+            };
+            Err(tell_refusal(refused, &refusal, notes))
+        }
     }
 }
 
@@ -73,7 +106,14 @@ fn served_by<N: Out>(alloc: Global, text: &str, notes: &mut N) -> Result<Served,
 {
     match served_config_of(alloc, text) {
         Ok(served) => Ok(served),
-        Err(refusal) => Err(tell_refusal(&refusal, notes)),
+        Err(refusal) => {
+            let refused = Refused {
+                alloc,
+                wanted: Use::Serve,
+                text,
+            };
+            Err(tell_refusal(refused, &refusal, notes))
+        }
     }
 }
 
@@ -82,7 +122,7 @@ fn served_by<N: Out>(alloc: Global, text: &str, notes: &mut N) -> Result<Served,
 /// # Errors
 ///
 /// The status, if memory is refused, if the file can't be read, or if its text is no configuration.
-/// The last two are reported, the latter by its first faulty key.
+/// The last two are reported, the latter by its first faulty key and a line for each fault.
 pub(crate) fn configured<F: Files, N: Out>(
     alloc: Global,
     files: &mut F,

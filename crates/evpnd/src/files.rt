@@ -19,6 +19,8 @@ pub(crate) enum Unread {
     Denied,
     /// It is a directory.
     Directory,
+    /// It is a device, a pipe or a socket: it may have no end.
+    Irregular,
     /// Its content isn't UTF-8.
     NotText,
     /// Anything else.
@@ -94,14 +96,31 @@ fn fault_of(kind: io::ErrorKind) -> FileFault {
     }
 }
 
+/// The text of a file, which is read only if it is a regular one: a device may have no end.
+fn read_regular(rt: &HostRuntime, path: &str) -> Result<String, FileFault> {
+    let found = match fs::metadata(rt, path) {
+        Ok(found) => found,
+        Err(error) => return Err(fault_of(error.kind())),
+    };
+    if found.is_dir() {
+        return Err(FileFault::Unread(Unread::Directory));
+    }
+    if !found.is_file() {
+        return Err(FileFault::Unread(Unread::Irregular));
+    }
+    match fs::read_to_string(rt, path) {
+        Ok(text) => Ok(text),
+        Err(error) => Err(fault_of(error.kind())),
+    }
+}
+
 impl Files for SystemFiles<'_> {
     ghost shelf = { λ f. shelf_of None f.refusals f.failures };
 
     fn text_of(&mut self, path: &str) -> Result<String, FileFault> {
-        match fs::read_to_string(self.rt, path) {
+        match read_regular(self.rt, path) {
             Ok(text) => Ok(text),
-            Err(error) => {
-                let fault = fault_of(error.kind());
+            Err(fault) => {
                 match fault {
                     FileFault::NoMemory => self.refusals += 1,
                     FileFault::Unread(_) => self.failures += 1,
@@ -121,6 +140,7 @@ impl Unread {
             Unread::Missing => b"' isn't there\n",
             Unread::Denied => b"' may not be read\n",
             Unread::Directory => b"' is a directory\n",
+            Unread::Irregular => b"' isn't a regular file\n",
             Unread::NotText => b"' isn't UTF-8\n",
             Unread::Broken => b"' couldn't be read\n",
         }
