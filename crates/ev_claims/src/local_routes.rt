@@ -211,8 +211,8 @@ impl LocalRoutes {
     ///
     /// # Errors
     ///
-    /// `AllocError` if the edge has made no update of the station in this incarnation, and memory is
-    /// refused. Then nothing has changed.
+    /// `AllocError` if the edge has made no update of the station in this incarnation, and memory
+    /// is refused. Then nothing has changed.
     pub fn advertise(
         &mut self,
         station: &Station,
@@ -259,8 +259,8 @@ impl LocalRoutes {
     ///
     /// # Errors
     ///
-    /// `AllocError` if the edge has made no update of the station in this incarnation, and memory is
-    /// refused. Then nothing has changed.
+    /// `AllocError` if the edge has made no update of the station in this incarnation, and memory
+    /// is refused. Then nothing has changed.
     pub fn pin(&mut self, station: &Station, port: u8) -> Result<(), AllocError>
         requires individual { is_group station.now.mac ≡ false }
         requires port { vni_at self.old.ports port ≡ Some station.now.vni }

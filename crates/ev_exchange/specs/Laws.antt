@@ -80,8 +80,9 @@ BothAgree =
 abbrev pub TookBack : ℕ → Table → List Fields → Type 0
 TookBack o held own = (u : Fields) → Contains (own_updates held o) u → Contains own u
 
--- A table had taken anything, of earlier lives of o too. It takes what o's process writes, and o takes what is said back
--- of that table. Then the table has each register of o as o's own table has it, and no advert of o besides.
+-- A table had taken any updates, also of earlier lives of o. It takes the records that o's process writes, and o takes
+-- what the table's process sends back. Then the table has each register of o as o's own table has it, and no other
+-- advert of o.
 abbrev pub MeetingAgrees : Type 0
 MeetingAgrees =
     (o : ℕ) (us since written ws : List Fields) (start now before after : Table) → IsTableOf us start

@@ -10,7 +10,7 @@ ghost use Rattle.ev_run.specs.Inner.Sockets.{bound_at};
 ghost use Rattle.ev_run.specs.RunEdges.{ReadsOut, sends_failed, link_failed, was_out_of_memory, all_lost, system_text, noted_text, Ran, start_text, RunsEdges};
 ghost use Rattle.ev_run.specs.Inner.RunEdges.{EachConfig, PutsRest, TellsMeanwhile, TellsRest};
 
-use crate::begun::{begun_in, second_of_start};
+use crate::begun::{begun_in, first_incarnation};
 use crate::bound::{PortSocket, Sockets, wake_all};
 use crate::clients::read_out;
 use crate::control_socket::ControlSocket;
@@ -97,7 +97,7 @@ fn ready<'x, R: Clock>(
     ))
 }
 
-/// All edges over their sockets, in this incarnation where their configuration names none.
+/// Returns all edges over their sockets, in this incarnation if their configuration names none.
 fn all_ready<'x, R: Clock>(
     rt: &'x R,
     alloc: Global,
@@ -253,17 +253,6 @@ impl<'x, R> Host<'x, R> {
     }
 }
 
-impl<R: Clock> Host<'_, R> {
-    /// The incarnation of edges whose configuration names none: the second of their start if
-    /// clients may ask them, since others may have heard of an earlier life. Else 0.
-    fn incarnation(&self) -> u32 {
-        match self.control {
-            Some(_) => second_of_start(self.rt),
-            None => 0,
-        }
-    }
-}
-
 /// Runs edges until the reader ends, and stops them then. Clients of a socket may ask them
 /// meanwhile.
 fn run_reading<'x, R: Threads + Wait + Clock + Sync, E: In>(
@@ -327,7 +316,7 @@ fn run_bound<R: Threads + Wait + Files + Clock + Sync, E: In, W: Out, N: Out + S
 {
     let (rt, alloc) = (host.rt, host.alloc);
     let stop = AtomicBool::new(false);
-    let incarnation = host.incarnation();
+    let incarnation = first_incarnation(rt, host.control.is_some());
     let setups = all_ready(rt, alloc, incarnation, configs, sockets, &stop)?;
     let boards = Boards::new(alloc, setups.len())?;
     let start = Start::new(alloc, setups)?;

@@ -14,21 +14,20 @@ vni_in (Some port) = port.vni
 abbrev pub vni_at : List PortConfig → ℕ → ℕ
 vni_at ports place = vni_in (slice_get ports place)
 
-module _ {I O : Type 0} where
-  -- the task of each of these links, that of the last port first: the port's number, its network, its link
-  abbrev pub port_tasks : List PortConfig → List (Link I O) → List (Task I)
-  port_tasks ports [] = []
-  port_tasks ports (link ∷ before) =
-      Port (length before + 1) (vni_at ports (length before)) link.input ∷ port_tasks ports before
+-- the task of each of these links, that of the last port first: the port's number, its network, its link
+abbrev pub port_tasks : {I O : Type 0} → List PortConfig → List (Link I O) → List (Task I)
+port_tasks ports [] = []
+port_tasks ports (link ∷ before) =
+    Port (length before + 1) (vni_at ports (length before)) link.input ∷ port_tasks ports before
 
-  -- that of the clock, that of the tunnel, and those of the ports, the last port first
-  abbrev pub tasks_of : List PortConfig → I → I → List (Link I O) → List (Task I)
-  tasks_of ports clock tunnel links = Clock clock ∷ Tunnel tunnel ∷ port_tasks ports (reverse links)
+-- that of the clock, that of the tunnel, and those of the ports, the last port first
+abbrev pub tasks_of : {I O : Type 0} → List PortConfig → I → I → List (Link I O) → List (Task I)
+tasks_of ports clock tunnel links = Clock clock ∷ Tunnel tunnel ∷ port_tasks ports (reverse links)
 
-  -- the links that are sent over at ports, the last port first
-  abbrev pub outputs_back : List (Link I O) → List O
-  outputs_back links = map (λ link. link.output) (reverse links)
+-- the outgoing links of ports, the last port first
+abbrev pub outputs_back : {I O : Type 0} → List (Link I O) → List O
+outputs_back links = map (λ link. link.output) (reverse links)
 
-  -- what is sent over: the tunnel's link, and behind it those of the ports, port 1 first
-  abbrev pub outputs_of : O → List (Link I O) → List O
-  outputs_of tunnel links = tunnel ∷ map (λ link. link.output) links
+-- the outgoing links: the tunnel's, then those of the ports, port 1 first
+abbrev pub outputs_of : {I O : Type 0} → O → List (Link I O) → List O
+outputs_of tunnel links = tunnel ∷ map (λ link. link.output) links
