@@ -1,4 +1,5 @@
 """Reads Rattle sources as far as these tools need it: where a function's body is, and how a check calls the function."""
+import collections
 import os
 import re
 
@@ -107,11 +108,21 @@ def sources_in(folder):
     return found
 
 
+def with_argument(end, proved):
+    """Returns the proved functions of this end's trait with an argument: of two `impl From<A> for Ty` a check prints TyFromA::from."""
+    kind, _, name = end.rpartition("::")
+    pattern = re.compile(rf"(?:^|::){re.escape(kind)}[A-Z]\w*::{re.escape(name)}$")
+    return [it for it in proved if kind and pattern.search(it)]
+
+
 def unproved(folder, crate, proved):
     """Returns the ends of the names of the functions in a crate's sources, tests left out, that no check has called proved."""
-    lacking = []
+    ends = collections.Counter()
     for path, shape in sources_in(folder).items():
         shape = without_tests(shape)
-        ends = [name_of(path, name, shape[:head]) for name, head, *_ in bodies(shape)]
-        lacking += [end for end in ends if not any(is_end_of(end, it, crate) for it in proved)]
+        ends.update(name_of(path, name, shape[:head]) for name, head, *_ in bodies(shape))
+    lacking = []
+    for end, count in ends.items():
+        if not any(is_end_of(end, it, crate) for it in proved):
+            lacking += [end] * (count - min(count, len(with_argument(end, proved))))
     return sorted(lacking)
